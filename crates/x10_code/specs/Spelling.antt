@@ -1,0 +1,47 @@
+-- An instruction as eight bytes: the operation's code, the operands a, b and c, and x in four bytes, the highest first.
+use Rattle.std.specs.Prelude.{◌≡◌, ℕ, ◌+◌, ◌<◌, ◌^◌, Bool, true, false, ◌==◌, ◌&&◌, ◌||◌, List, [], ◌∷◌, ◌++◌, length, take, drop, Option, Some, None, Result, Ok, Err, if◌then◌else◌, IsTrue, slice_index, find}
+use Rattle.std.specs.Int.{w32, to_be_bytes, from_be_bytes}
+use Rattle.x10_code.specs.declared.op.Op.{Op}
+use Rattle.x10_code.specs.declared.op.Op.TheVariants as op
+use Rattle.x10_code.specs.declared.form.Operand.{Operand}
+use Rattle.x10_code.specs.declared.form.Operand.TheVariants as operand
+use Rattle.x10_code.specs.declared.instr.Instr.{Instr}
+use Rattle.x10_code.specs.declared.instr.CodeFault.{CodeFault}
+use Rattle.x10_code.specs.declared.instr.CodeFault.TheVariants.{UnknownOp, UnusedNotZero}
+use Rattle.x10_code.specs.Table.{operations, code_of, form_of}
+
+-- an operand that the form doesn't use is 0
+abbrev pub fits_operand : Operand → ℕ → Bool
+fits_operand operand.Unused n = n == 0
+fits_operand _ n = true
+
+-- no operand says what its operation doesn't ask
+abbrev pub fits_form : Instr → Bool
+fits_form i = fits_operand (form_of i.op).a i.a && fits_operand (form_of i.op).b i.b && fits_operand (form_of i.op).c i.c && fits_operand (form_of i.op).x i.x
+
+-- the instructions that have a spelling
+pub record IsInstr (i : Instr) : Type 0 where
+  pub a : i.a < 256
+  pub b : i.b < 256
+  pub c : i.c < 256
+  pub x : i.x < 2 ^ 32
+  pub form : IsTrue (fits_form i)
+
+unfoldable pub spelling : Instr → List ℕ
+spelling i = code_of i.op ∷ i.a ∷ i.b ∷ i.c ∷ to_be_bytes w32 i.x
+
+-- the operation with a code
+abbrev pub op_of : ℕ → Option Op
+op_of n = find (λ o. code_of o == n) operations
+
+-- the operands, where the operation asks for no others
+abbrev pub fitted : Instr → Result Instr CodeFault
+fitted i = if fits_form i then Ok i else Err UnusedNotZero
+
+abbrev pub decoded_as : Option Op → List ℕ → Result Instr CodeFault
+decoded_as None bytes = Err UnknownOp
+decoded_as (Some o) bytes = fitted (record { op = o; a = slice_index bytes 1; b = slice_index bytes 2; c = slice_index bytes 3; x = from_be_bytes w32 (take 4 (drop 4 bytes)) })
+
+-- the instruction that eight bytes spell, or their first fault
+unfoldable pub decoded : List ℕ → Result Instr CodeFault
+decoded bytes = decoded_as (op_of (slice_index bytes 0)) bytes
