@@ -1,2 +1,6 @@
 //! The definitions of the machine, and laws about them.
 #![tactic(auto)]
+
+mod event;
+
+pub use event::Event;

@@ -1,0 +1,197 @@
+-- What is known of the registers before an instruction, and when that is consistent over a whole function: the data-flow
+-- scheme of Kildall without its algorithm.
+use Rattle.std.specs.Prelude.{◌≡◌, ℕ, ◌+◌, ◌<◌, ◌⊎◌, Bool, true, false, IsTrue, List, [], ◌∷◌, length, Option, Some, None, if◌then◌else◌, slice_get}
+use Rattle.x10_kinds.specs.declared.kind.Kind.{Kind}
+use Rattle.x10_kinds.specs.declared.kind.Kind.TheVariants.{Int, Place, Text, Rail, Obj, Opt, GRef}
+use Rattle.x10_kinds.specs.declared.homes.Term.{Term}
+use Rattle.x10_kinds.specs.declared.homes.Term.TheVariants as term
+use Rattle.x10_kinds.specs.Kinds.{Fits, has_place}
+use Rattle.x10_kinds.specs.Equations.{Equations, IsTerm, IsEquivalence, alone, joined, written}
+use Rattle.x10_code.specs.declared.op.Op.{Op}
+use Rattle.x10_code.specs.declared.op.Op.TheVariants as op
+use Rattle.x10_code.specs.declared.instr.Instr.{Instr}
+use Rattle.x10_model.specs.Maps.{IsIn, with_entry}
+use Rattle.x10_model.specs.Modules.{Module, Function, Slot}
+use Rattle.x10_model.specs.Ranges.{function_at, IsInRange}
+
+-- the kinds of registers, where they are known, and which places are known to be the same
+pub record State : Type 0 where
+  pub kinds : ℕ → Option Kind
+  pub homes : Equations
+
+abbrev pub holds_place : Option Kind → Bool
+holds_place None = false
+holds_place (Some kind) = has_place kind
+
+-- the equations are an equivalence, and say nothing of a register that holds no place
+pub record IsState (s : State) : Type 0 where
+  pub equivalence : IsEquivalence s.homes
+  pub alone : (r : ℕ) (t : Term) → r < 64 → holds_place (s.kinds r) ≡ false → IsTerm t → IsTrue (s.homes (term.Reg r) t) → t ≡ term.Reg r
+
+-- the register is set to a kind that fits
+abbrev pub IsKind : State → ℕ → Kind → Type 0
+IsKind s r want = (have : Kind) × (s.kinds r ≡ Some have) × Fits have want
+
+-- s knows all that t knows
+pub record IsBelow (s t : State) : Type 0 where
+  pub kinds : (r : ℕ) (want : Kind) → t.kinds r ≡ Some want → IsKind s r want
+  pub homes : (v w : Term) → IsTerm v → IsTerm w → IsTrue (t.homes v w) → IsTrue (s.homes v w)
+
+-- ---- the entry state
+
+abbrev pub parameter_kind : Option Slot → Option Kind
+parameter_kind None = None
+parameter_kind (Some slot) = Some slot.kind
+
+-- the parameters from register r on that are said to have their home here
+abbrev pub homes_here : ℕ → List Slot → Equations
+homes_here r [] = alone
+homes_here r (slot ∷ slots) = if slot.home_here then joined (homes_here (r + 1) slots) (term.Reg r) term.Here else homes_here (r + 1) slots
+
+abbrev pub entry_state : Function → State
+entry_state f = record { kinds = λ r. parameter_kind (slice_get f.parameters r); homes = homes_here 0 f.parameters }
+
+-- ---- rules
+
+-- an instruction of a function of a module, with its number
+pub record Point : Type 0 where
+  pub program : Module
+  pub function : Function
+  pub pc : ℕ
+  pub instr : Instr
+
+-- the instructions that may follow, each with what is known there
+abbrev pub Edges : Type 0
+Edges = List (ℕ × State)
+
+abbrev pub set : State → ℕ → Kind → Option Term → State
+set s r kind like = record { kinds = with_entry s.kinds r (Some kind); homes = written s.homes r like }
+
+abbrev pub onward : Point → State → Edges
+onward p s = (p.pc + 1, s) ∷ []
+
+-- goes on, or to x with nothing changed
+abbrev pub onward_or : Point → State → State → Edges
+onward_or p s unchanged = (p.pc + 1, s) ∷ (p.instr.x, unchanged) ∷ []
+
+-- writes a kind to register a
+abbrev pub gives : Point → State → Kind → Option Term → State
+gives p s kind like = set s p.instr.a kind like
+
+-- two numbers to a number
+abbrev pub AreInts : Point → State → Type 0
+AreInts p s = IsKind s p.instr.b Int × IsKind s p.instr.c Int
+
+-- where a kind stands for a place, the term whose place it has
+abbrev pub like_if : Bool → Term → Option Term
+like_if true t = Some t
+like_if false t = None
+
+-- the register holds a place, or a reference with a home
+abbrev pub IsPlaced : State → ℕ → Type 0
+IsPlaced s r = IsKind s r Place ⊎ ((class : ℕ) × IsKind s r (GRef class))
+
+-- the registers from r on have the kinds
+abbrev pub KindsFit : State → ℕ → List Kind → Type 0
+KindsFit s r [] = Unit {0}
+KindsFit s r (kind ∷ kinds) = IsKind s r kind × KindsFit s (r + 1) kinds
+
+-- the register has the slot's kind, and its home is the place of a term where the slot asks for that
+abbrev pub FitsAs : State → Term → ℕ → Slot → Type 0
+FitsAs s at r slot = IsKind s r slot.kind × (IsTrue slot.home_here → IsTrue (s.homes (term.Reg r) at))
+
+-- the registers from r on fit the parameters
+abbrev pub SlotsFit : State → Term → ℕ → List Slot → Type 0
+SlotsFit s at r [] = Unit {0}
+SlotsFit s at r (slot ∷ slots) = FitsAs s at r slot × SlotsFit s at (r + 1) slots
+
+-- what is known after a call: the result, if there is one, is in register a; else a is 0
+abbrev pub GivesResult : Point → State → Term → Option Slot → State → Type 0
+GivesResult p s at None t = (p.instr.a ≡ 0) × (t ≡ s)
+GivesResult p s at (Some slot) t = t ≡ gives p s slot.kind (like_if slot.home_here at)
+
+-- the function's result is in register a; where it has none, a is 0
+abbrev pub ReturnsWell : Point → State → Option Slot → Type 0
+ReturnsWell p s None = p.instr.a ≡ 0
+ReturnsWell p s (Some slot) = FitsAs s term.Here p.instr.a slot
+
+-- what function x asks for, at the place of a term
+abbrev pub CallsWell : Point → State → Term → Function → Type 0
+CallsWell p s at callee = (function_at p.program p.instr.x ≡ Some callee) × SlotsFit s at p.instr.b callee.parameters
+
+-- What an instruction asks of the state before it, and the states that it gives to those that may follow.
+abbrev pub Permits : Op → Point → State → Edges → Type 0
+-- numbers
+Permits op.Intk p s out = out ≡ onward p (gives p s Int None)
+Permits op.Add p s out = AreInts p s × (out ≡ onward p (gives p s Int None))
+Permits op.Sub p s out = AreInts p s × (out ≡ onward p (gives p s Int None))
+Permits op.Mul p s out = AreInts p s × (out ≡ onward p (gives p s Int None))
+Permits op.Div p s out = AreInts p s × (out ≡ onward_or p (gives p s Int None) s)
+Permits op.Rem p s out = AreInts p s × (out ≡ onward_or p (gives p s Int None) s)
+Permits op.Lt p s out = AreInts p s × (out ≡ onward p (gives p s Int None))
+Permits op.Eq p s out = AreInts p s × (out ≡ onward p (gives p s Int None))
+-- control
+Permits op.Move p s out = (kind : Kind) × (s.kinds p.instr.b ≡ Some kind) × (out ≡ onward p (gives p s kind (like_if (has_place kind) (term.Reg p.instr.b))))
+Permits op.Jmp p s out = out ≡ (p.instr.x, s) ∷ []
+Permits op.Jz p s out = IsKind s p.instr.a Int × (out ≡ onward_or p s s)
+Permits op.Loop p s out = out ≡ onward p s
+Permits op.Endl p s out = out ≡ onward_or p s s
+Permits op.Call p s out = (callee : Function) × (t : State) × CallsWell p s term.Here callee × GivesResult p s term.Here callee.result t × (out ≡ onward p t)
+Permits op.Ret p s out = ReturnsWell p s p.function.result × (out ≡ [])
+-- text
+Permits op.Textk p s out = out ≡ onward p (gives p s Text None)
+Permits op.Tlen p s out = IsKind s p.instr.b Text × (out ≡ onward p (gives p s Int None))
+Permits op.Tcat p s out = IsKind s p.instr.b Text × IsKind s p.instr.c Text × (out ≡ onward_or p (gives p s Text None) s)
+-- objects
+Permits op.New p s out = (kinds : List Kind) × (slice_get p.program.classes p.instr.x ≡ Some kinds) × KindsFit s p.instr.b kinds × (out ≡ onward p (gives p s (Obj p.instr.x) None))
+Permits op.Get p s out = (class : ℕ) × (kinds : List Kind) × (kind : Kind) × IsKind s p.instr.b (Obj class) × (slice_get p.program.classes class ≡ Some kinds) × (slice_get kinds p.instr.c ≡ Some kind) × (out ≡ onward p (gives p s kind None))
+Permits op.Put p s out = (class : ℕ) × (kinds : List Kind) × (kind : Kind) × IsKind s p.instr.a (Obj class) × (slice_get p.program.classes class ≡ Some kinds) × (slice_get kinds p.instr.c ≡ Some kind) × IsKind s p.instr.b kind × (out ≡ onward p s)
+Permits op.Null p s out = out ≡ onward p (gives p s (Opt p.instr.x) None)
+Permits op.Ifobj p s out = (class : ℕ) × IsKind s p.instr.b (Opt class) × (out ≡ onward_or p (gives p s (Obj class) None) s)
+-- rails
+Permits op.Rail p s out = IsKind s p.instr.b Int × (out ≡ onward_or p (gives p s Rail None) s)
+Permits op.Rget p s out = IsKind s p.instr.b Rail × IsKind s p.instr.c Int × (out ≡ onward_or p (gives p s Int None) s)
+Permits op.Rset p s out = IsKind s p.instr.a Rail × IsKind s p.instr.b Int × IsKind s p.instr.c Int × (out ≡ onward_or p s s)
+Permits op.Rlen p s out = IsKind s p.instr.b Rail × (out ≡ onward p (gives p s Int None))
+-- places
+Permits op.Here p s out = out ≡ onward p (gives p s Place (Some term.Here))
+Permits op.Placek p s out = out ≡ onward p (gives p s Place (Some (term.Place p.instr.x)))
+Permits op.Placen p s out = IsKind s p.instr.b Int × (out ≡ onward_or p (gives p s Place None) s)
+Permits op.Placei p s out = IsKind s p.instr.b Place × (out ≡ onward p (gives p s Int None))
+Permits op.Nextp p s out = IsKind s p.instr.b Place × (out ≡ onward p (gives p s Place None))
+Permits op.Count p s out = out ≡ onward p (gives p s Int None)
+Permits op.Home p s out = (class : ℕ) × IsKind s p.instr.b (GRef class) × (out ≡ onward p (gives p s Place (Some (term.Reg p.instr.b))))
+Permits op.Gnew p s out = (class : ℕ) × IsKind s p.instr.b (Obj class) × (out ≡ onward p (gives p s (GRef class) (Some term.Here)))
+Permits op.Gopen p s out = (class : ℕ) × IsKind s p.instr.b (GRef class) × IsTrue (s.homes (term.Reg p.instr.b) term.Here) × (out ≡ onward p (gives p s (Obj class) None))
+Permits op.Ifhere p s out = IsPlaced s p.instr.a × (out ≡ onward_or p (record s { homes = joined s.homes (term.Reg p.instr.a) term.Here }) s)
+Permits op.Ifsame p s out = IsPlaced s p.instr.a × IsPlaced s p.instr.b × (out ≡ onward_or p (record s { homes = joined s.homes (term.Reg p.instr.a) (term.Reg p.instr.b) }) s)
+-- activities
+Permits op.Async p s out = (callee : Function) × CallsWell p s term.Here callee × (callee.result ≡ None) × (out ≡ onward p s)
+Permits op.At p s out = (callee : Function) × (t : State) × IsKind s p.instr.c Place × CallsWell p s (term.Reg p.instr.c) callee × GivesResult p s (term.Reg p.instr.c) callee.result t × (out ≡ onward p t)
+Permits op.Ata p s out = (callee : Function) × IsKind s p.instr.c Place × CallsWell p s (term.Reg p.instr.c) callee × (callee.result ≡ None) × (out ≡ onward p s)
+Permits op.Finb p s out = out ≡ onward p s
+Permits op.Fine p s out = out ≡ onward p s
+-- output
+Permits op.Print p s out = (IsKind s p.instr.a Int ⊎ IsKind s p.instr.a Text) × (out ≡ onward p s)
+
+-- ---- assignments
+
+-- the state at an instruction that follows knows no more than it is given
+abbrev pub Reaches : (ℕ → Option State) → ℕ × State → Type 0
+Reaches states edge = (known : State) × (states edge.0 ≡ Some known) × IsBelow edge.1 known
+
+-- States at some instructions of a function, the first among them, such that each rule holds and each instruction that
+-- follows one with a state has one that knows no more.
+pub record IsConsistent (program : Module) (function : Function) (states : ℕ → Option State) : Type 0 where
+  pub entry : Reaches states (0, entry_state function)
+  pub valid : (pc : ℕ) (s : State) → states pc ≡ Some s → IsState s
+  pub permitted : (pc : ℕ) (s : State) → states pc ≡ Some s → (instr : Instr) × (out : Edges) × (slice_get function.code pc ≡ Some instr)
+    × Permits instr.op (record { program = program; function = function; pc = pc; instr = instr }) s out
+    × ((edge : ℕ × State) → IsIn edge out → Reaches states edge)
+
+abbrev pub HasAssignment : Module → Function → Type 0
+HasAssignment program function = (states : ℕ → Option State) × IsConsistent program function states
+
+-- every instruction names what is there
+abbrev pub AreInRange : Module → Type 0
+AreInRange program = (f pc : ℕ) (function : Function) (instr : Instr) → function_at program f ≡ Some function → slice_get function.code pc ≡ Some instr → IsInRange program function instr

@@ -1,0 +1,36 @@
+-- Logs of turns, the events that they stand for, and the history of one place.
+use Rattle.std.specs.Prelude.{◌≡◌, ℕ, List, [], ◌∷◌, ◌++◌, map, Option, Some, None}
+use Rattle.std.specs.List.{flat_map}
+use Rattle.x10_model.specs.declared.event.Event.{Event}
+use Rattle.x10_model.specs.declared.event.Event.TheVariants.{Step, Deliver}
+use Rattle.x10_model.specs.Places as places
+use Rattle.x10_model.specs.Places.{Setting, Line, Message, Effect}
+use Rattle.x10_model.specs.Moves.{Moves}
+use Rattle.x10_model.specs.Deliveries.{Receives}
+use Rattle.x10_model.specs.Worlds.{sent}
+
+-- one turn of a place: the numbers of the messages that it took in, and then the keys that it stepped
+pub record Turn : Type 0 where
+  pub place : ℕ
+  pub taken : List ℕ
+  pub keys : List ℕ
+
+-- a turn's messages are taken in one by one, and then each key is stepped once
+abbrev pub events_of_turn : Turn → List Event
+events_of_turn t = map Deliver t.taken ++ map (Step t.place) t.keys
+
+-- the events that a log stands for, turn by turn
+abbrev pub events_of : List Turn → List Event
+events_of turns = flat_map events_of_turn turns
+
+-- the messages that an effect puts out
+abbrev pub as_messages : Option Message → List Message
+as_messages None = []
+as_messages (Some message) = message ∷ []
+
+-- What one place does by itself, from its first state to its last: the messages that it takes in, those that it puts
+-- out, and nothing else of the world.
+pub data Local (setting : Setting) (here : ℕ) : places.Place → (taken put_out : List Message) → places.Place → Type 0 where
+  nothing : (p : places.Place) → Local setting here p [] [] p
+  stepped : (p q r : places.Place) (key : ℕ) (effect : Effect) (taken put_out : List Message) → Moves setting here p key q effect → Local setting here q taken put_out r → Local setting here p taken (as_messages (sent effect) ++ put_out) r
+  took : (p q r : places.Place) (key : ℕ) (message : Message) (taken put_out : List Message) → Receives setting here p message key q → Local setting here q taken put_out r → Local setting here p (message ∷ taken) put_out r
