@@ -1,5 +1,5 @@
 -- Finite and infinite maps as functions, and members of lists.
-use Rattle.std.specs.Prelude.{◌≡◌, ◌≢◌, ℕ, Bool, ◌==◌, ◌&&◌, List, Option, Some, None, if◌then◌else◌, slice_get}
+use Rattle.std.specs.Prelude.{◌≡◌, ◌≢◌, ℕ, Bool, ◌==◌, ◌&&◌, List, [], ◌∷◌, Option, Some, None, if◌then◌else◌, slice_get}
 
 -- the map with another value at one number
 abbrev pub with_entry : {V : Type 0} → (ℕ → V) → ℕ → V → ℕ → V
@@ -16,3 +16,9 @@ IsIn x xs = (i : ℕ) × (slice_get xs i ≡ Some x)
 -- no two places of the list have the same number
 abbrev pub AreDistinct : List ℕ → Type 0
 AreDistinct xs = (i j x : ℕ) → slice_get xs i ≡ Some x → slice_get xs j ≡ Some x → i ≡ j
+
+-- as many of one list as of the other, and the relation holds of each two in their places
+abbrev pub Pairwise : {X Y : Type 0} → (X → Y → Type 0) → List X → List Y → Type 0
+Pairwise R [] [] = Unit {0}
+Pairwise R (x ∷ xs) (y ∷ ys) = R x y × Pairwise R xs ys
+Pairwise R _ _ = ⊥

@@ -1,6 +1,7 @@
 -- Which values fit a signature or a class, by whatever says of which kind a value is.
-use Rattle.std.specs.Prelude.{◌≡◌, ℕ, Bool, IsTrue, List, [], ◌∷◌}
+use Rattle.std.specs.Prelude.{◌≡◌, ℕ, Bool, IsTrue, List}
 use Rattle.x10_kinds.specs.declared.kind.Kind.{Kind}
+use Rattle.x10_model.specs.Maps.{Pairwise}
 use Rattle.x10_model.specs.Modules.{Slot}
 use Rattle.x10_model.specs.Values.{Value, Ref}
 
@@ -16,12 +17,8 @@ pub record FitsSlotAt (of_kind : Value → Kind → Type 0) (at : ℕ) (v : Valu
 
 -- one value for each slot, and each fits
 abbrev pub FitSlots : (Value → Kind → Type 0) → ℕ → List Value → List Slot → Type 0
-FitSlots of_kind at [] [] = Unit {0}
-FitSlots of_kind at (v ∷ vs) (slot ∷ slots) = FitsSlotAt of_kind at v slot × FitSlots of_kind at vs slots
-FitSlots of_kind at _ _ = ⊥
+FitSlots of_kind at values slots = Pairwise (FitsSlotAt of_kind at) values slots
 
 -- one value for each kind, and each is of it
 abbrev pub AreOfKinds : (Value → Kind → Type 0) → List Value → List Kind → Type 0
-AreOfKinds of_kind [] [] = Unit {0}
-AreOfKinds of_kind (v ∷ vs) (kind ∷ kinds) = of_kind v kind × AreOfKinds of_kind vs kinds
-AreOfKinds of_kind _ _ = ⊥
+AreOfKinds of_kind values kinds = Pairwise of_kind values kinds

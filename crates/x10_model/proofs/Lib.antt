@@ -1,0 +1,6 @@
+pub mod Finishes
+pub mod NotWrong
+pub mod Decided
+pub mod Able
+pub mod Ready
+pub mod Balance
