@@ -4,3 +4,5 @@ pub mod Decided
 pub mod Able
 pub mod Ready
 pub mod Balance
+pub mod Events
+pub mod Worked

@@ -9,7 +9,8 @@ use Rattle.x10_model.specs.Signatures.{FitSlots}
 use Rattle.x10_model.specs.Values.{Value, IsOfKind}
 use Rattle.x10_model.specs.Copies.{Snapshot, Captures}
 use Rattle.x10_model.specs.Modules.{Slot}
-use Rattle.x10_model.specs.Worlds.{World, IsWithin, Governs}
+use Rattle.x10_model.specs.Worlds.{World, IsWithin, Governs, Rule, Happens, GoesWrong}
+use Rattle.x10_model.specs.declared.event.Event.{Event}
 use Rattle.x10_model.specs.Totals.{Cut, IsBalanced, is_balanced}
 
 -- what stands within a finish that stands within another stands within that one too
@@ -42,3 +43,7 @@ ReadyIsAbleOrWrong = (setting : Setting) (here key : ℕ) (old : places.Place) (
 -- comparing each pair of places tells whether a cut balances
 abbrev pub BalanceIsTested : Type 0
 BalanceIsTested = (places : ℕ) (cut : Cut) → IsTrue (is_balanced places cut) ↔ IsBalanced places cut
+
+-- what happens at an event is not wrong
+abbrev pub EventsAreNotWrong : Type 0
+EventsAreNotWrong = (rule : Rule) (setting : Setting) (w v : World) (event : Event) → Happens rule setting w event v → GoesWrong setting w event → ⊥

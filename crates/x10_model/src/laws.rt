@@ -1,4 +1,4 @@
-ghost use Rattle.x10_model.specs.Laws.{EnclosingIsTransitive, GoverningIsTransitive, MovesAreNotWrong, DeliveriesAreNotWrong, ReadyIsAbleOrWrong, BalanceIsTested};
+ghost use Rattle.x10_model.specs.Laws.{EnclosingIsTransitive, GoverningIsTransitive, MovesAreNotWrong, DeliveriesAreNotWrong, ReadyIsAbleOrWrong, BalanceIsTested, EventsAreNotWrong};
 
 /// Enclosing finishes lead on: what stands within a finish that stands within another stands within
 /// that one too.
@@ -35,5 +35,12 @@ pub fn ready_is_able_or_wrong()
 /// Whether a cut balances is told by comparing each pair of places.
 pub fn balance_is_tested()
     ensures { BalanceIsTested }
+{
+}
+
+/// What happens at an event is never wrong, whether something moves, a message is taken in or nothing
+/// is there that could.
+pub fn events_are_not_wrong()
+    ensures { EventsAreNotWrong }
 {
 }
