@@ -3,12 +3,14 @@
 
 mod codes;
 mod instr;
+mod names;
 mod op;
 mod operands;
 mod table;
 
 pub use codes::{code, op_with_code};
 pub use instr::{CodeFault, Instr};
+pub use names::{name, op_named};
 pub use op::Op;
 pub use operands::{Form, Operand};
 pub use table::form;
