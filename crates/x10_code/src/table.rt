@@ -1,12 +1,12 @@
 ghost use Rattle.std.specs.Prelude.{◌≡◌};
 ghost use Rattle.x10_code.specs.Table.{form_of};
 
+use crate::op::Op;
 use crate::operands::Form;
 use crate::operands::Operand::{
     self, Arguments, Class, Count, Field, Function, Int, Place, Register, Result, Slot, Target,
     Text, Unused,
 };
-use crate::op::Op;
 
 /// What the operands of an operation name.
 pub fn form(op: Op) -> Form
