@@ -3,6 +3,7 @@
 
 mod codes;
 mod instr;
+pub mod laws;
 mod names;
 mod op;
 mod operands;
