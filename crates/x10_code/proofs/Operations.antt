@@ -1,4 +1,4 @@
--- A code names one operation, and so does a name.
+-- A code has one operation, and so has a name.
 use Rattle.std.proofs.Common.{◌≡◌, ℕ, suc, Bool, true, false, cond, eqb, List, [], ◌∷◌, Option, Some, None, refl, sym, ap, ◌∙◌, arith}
 use Rattle.std.specs.Prelude.{find, Contains, IfSome}
 use Rattle.std.specs.Str.{bytes_eq}
@@ -9,6 +9,7 @@ use Rattle.x10_code.specs.declared.op.Op.TheVariants as op
 use Rattle.x10_code.specs.Table.{operations, code_of, name_of, op_of_name}
 use Rattle.x10_code.specs.Spelling.{op_of}
 
+-- each operation computes to itself, so a new one needs no line here
 pub op_of-code_of : (o : Op) → op_of (code_of o) ≡ Some o
 op_of-code_of op.Intk = refl
 op_of-code_of _ = refl
@@ -17,7 +18,7 @@ pub op_of_name-name_of : (o : Op) → op_of_name (name_of o) ≡ Some o
 op_of_name-name_of op.Intk = refl
 op_of_name-name_of _ = refl
 
-abbrev some_of : {X : Type 0} → X → Option X
+abbrev pub some_of : {X : Type 0} → X → Option X
 some_of x = Some x
 
 some_is : {X : Type 0} (x y : X) → some_of x ≡ some_of y → x ≡ y

@@ -56,7 +56,7 @@ pub fn name(op: Op) -> &'static str
     }
 }
 
-/// The operation with a name, which is in capitals. It looks through the names of all.
+/// The operation with a name, which is in capitals. It compares the names one by one.
 pub fn op_named(name: &str) -> Option<Op>
     ensures found { IfSome result (λ o. name.now ≡ name_of o) }
     ensures only { (o : Op) → name.now ≡ name_of o → result ≡ Some o }

@@ -11,7 +11,8 @@ use crate::operands::Operand;
 use crate::table::form;
 use byteorder::{BigEndian, ByteOrder};
 
-/// The instruction that eight bytes spell. The code is looked at before the operands.
+/// The instruction that eight bytes spell: the code, a, b and c in a byte each, and x in four, the
+/// highest first. An unknown code comes before an unused operand that isn't 0. Constant time.
 pub fn decode(bytes: &[u8; 8]) -> Result<Instr, CodeFault>
     ensures exact { result ≡ decoded bytes.now }
     ensures found { IfOk result (λ i. IsInstr i × (bytes.now ≡ spelling i)) }
@@ -21,7 +22,7 @@ pub fn decode(bytes: &[u8; 8]) -> Result<Instr, CodeFault>
     decode_slice(bytes)
 }
 
-/// The instruction that eight bytes of a longer text spell, as `decode` finds it.
+/// The instruction that eight bytes spell where they lie, as in a slice of a function's code.
 pub fn decode_slice(bytes: &[u8]) -> Result<Instr, CodeFault>
     requires { length bytes.now ≡ 8 }
     ensures exact { result ≡ decoded bytes.now }

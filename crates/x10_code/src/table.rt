@@ -8,7 +8,8 @@ use crate::operands::Operand::{
     Text, Unused,
 };
 
-/// What the operands of an operation name.
+/// What the operands of an operation name. Reading, writing, assembling and listing an instruction
+/// all go by this table.
 pub fn form(op: Op) -> Form
     ensures value { result ≡ form_of op }
 {

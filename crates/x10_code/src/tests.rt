@@ -49,6 +49,12 @@ const TABLE: [(u8, &str, [u8; 4]); 44] = [
     (0x2e, "FINE", [0, 0, 0, 0]),
 ];
 
+/// The operations that can jump.
+const JUMPS: [&str; 13] = [
+    "DIV", "REM", "JMP", "JZ", "ENDL", "PLACEN", "IFHERE", "IFSAME", "IFOBJ", "RAIL", "RGET",
+    "RSET", "TCAT",
+];
+
 /// The eight bytes with 1 for each operand that an operation has.
 fn spelled(code: u8, has: [u8; 4]) -> [u8; 8] {
     let [a, b, c, x] = has;
@@ -117,9 +123,22 @@ fn no_operation(rt: HostRuntime) {
 
 #[test]
 fn forms(rt: HostRuntime) {
-    let form = form(Op::Ata);
-    assert_eq!(rt; form.a, Operand::Unused);
-    assert_eq!(rt; form.b, Operand::Arguments);
-    assert_eq!(rt; form.c, Operand::Register);
-    assert_eq!(rt; form.x, Operand::Function);
+    let ata = form(Op::Ata);
+    assert_eq!(rt; ata.a, Operand::Unused);
+    assert_eq!(rt; ata.b, Operand::Arguments);
+    assert_eq!(rt; ata.c, Operand::Register);
+    assert_eq!(rt; ata.x, Operand::Function);
+    assert_eq!(rt; form(Op::Loop).x, Operand::Count);
+    assert_eq!(rt; form(Op::Get).c, Operand::Field);
+    assert_eq!(rt; form(Op::Ret).a, Operand::Result);
+}
+
+#[test]
+fn jumps(rt: HostRuntime) -> Result<(), Fail> {
+    for (byte, text, _) in TABLE {
+        let op = op_with_code(byte).ok_or("the code is an operation's")?;
+        let jumps = JUMPS.iter().any(|jump| *jump == text);
+        assert_eq!(rt; form(op).x == Operand::Target, jumps, "{byte}");
+    }
+    Ok(())
 }
