@@ -1,10 +1,9 @@
 -- An instruction as eight bytes: the operation's code, the operands a, b and c, and x in four bytes, the highest first.
-use Rattle.std.specs.Prelude.{◌≡◌, ℕ, ◌+◌, ◌<◌, ◌^◌, Bool, true, false, ◌==◌, ◌&&◌, ◌||◌, List, [], ◌∷◌, ◌++◌, length, take, drop, Option, Some, None, Result, Ok, Err, if◌then◌else◌, IsTrue, slice_index, find}
+use Rattle.std.specs.Prelude.{ℕ, ◌<◌, ◌^◌, Bool, true, ◌==◌, ◌&&◌, List, ◌∷◌, take, drop, Option, Some, None, Result, Ok, Err, if◌then◌else◌, IsTrue, slice_index, find}
 use Rattle.std.specs.Int.{w32, to_be_bytes, from_be_bytes}
 use Rattle.x10_code.specs.declared.op.Op.{Op}
-use Rattle.x10_code.specs.declared.op.Op.TheVariants as op
-use Rattle.x10_code.specs.declared.form.Operand.{Operand}
-use Rattle.x10_code.specs.declared.form.Operand.TheVariants as operand
+use Rattle.x10_code.specs.declared.operands.Operand.{Operand}
+use Rattle.x10_code.specs.declared.operands.Operand.TheVariants as operand
 use Rattle.x10_code.specs.declared.instr.Instr.{Instr}
 use Rattle.x10_code.specs.declared.instr.CodeFault.{CodeFault}
 use Rattle.x10_code.specs.declared.instr.CodeFault.TheVariants.{UnknownOp, UnusedNotZero}

@@ -1,10 +1,10 @@
 -- The table of operations: for each its code, its name and what its operands name.
-use Rattle.std.specs.Prelude.{ℕ, List, [], ◌∷◌, Option, Some, None, codes}
+use Rattle.std.specs.Prelude.{ℕ, List, [], ◌∷◌, codes}
 use Rattle.x10_code.specs.declared.op.Op.{Op}
 use Rattle.x10_code.specs.declared.op.Op.TheVariants as op
-use Rattle.x10_code.specs.declared.form.Operand.{Operand}
-use Rattle.x10_code.specs.declared.form.Operand.TheVariants.{Unused, Register, Result, Arguments, Slot, Count, Field, Int, Text, Place, Class, Function, Target}
-use Rattle.x10_code.specs.declared.form.Form.{Form}
+use Rattle.x10_code.specs.declared.operands.Operand.{Operand}
+use Rattle.x10_code.specs.declared.operands.Operand.TheVariants.{Unused, Register, Result, Arguments, Slot, Count, Field, Int, Text, Place, Class, Function, Target}
+use Rattle.x10_code.specs.declared.operands.Form.{Form}
 
 -- every operation, by rising code
 abbrev pub operations : List Op

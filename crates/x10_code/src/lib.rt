@@ -1,10 +1,16 @@
 //! The instructions of the machine, and their eight bytes.
 #![tactic(auto)]
 
-mod form;
+mod codes;
 mod instr;
+mod names;
 mod op;
+mod operands;
+mod table;
 
-pub use form::{Form, Operand};
+pub use codes::{code, op_with_code};
 pub use instr::{CodeFault, Instr};
+pub use names::{name, op_named};
 pub use op::Op;
+pub use operands::{Form, Operand};
+pub use table::form;
