@@ -1,2 +1,4 @@
 //! The definitions of the machine, and laws about them.
 #![tactic(auto)]
+
+mod images;

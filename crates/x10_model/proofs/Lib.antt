@@ -1,0 +1,5 @@
+pub mod ReaderLaws
+pub mod PartLaws
+pub mod KindLaws
+pub mod ImageParts
+pub mod FunctionLaws

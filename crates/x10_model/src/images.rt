@@ -1,0 +1,4 @@
+//! Laws about images.
+
+/// Nothing yet.
+pub fn nothing() {}
