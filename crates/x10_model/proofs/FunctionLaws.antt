@@ -1,24 +1,17 @@
 -- A function of an image is read again, and what is read of it is spelled so.
-use Rattle.std.proofs.Common.{◌≡◌, ℕ, zero, suc, ◌+◌, ◌*◌, ◌^◌, ◌<◌, ◌≤◌, Bool, true, false, cond, ◌&&◌, eqb, ltb, leb, List, [], ◌∷◌, ◌++◌, length, Option, Some, None, IfSome, Result, Ok, Err, refl, sym, ap, subst, ◌∙◌, arith, eqb-true, eq-eqb, ltb-true, lt-ltb, leb-true, le-leb, flat_map, length-append, get_or}
-use Rattle.std.specs.Prelude.{FitsSigned, IsUtf8}
+use Rattle.std.proofs.Common.{◌≡◌, ℕ, suc, ◌+◌, ◌*◌, ◌^◌, ◌<◌, ◌≤◌, true, ◌&&◌, leb, List, [], ◌∷◌, ◌++◌, length, Option, IfSome, refl, arith, leb-true, le-leb, flat_map, length-append}
 use Rattle.std.specs.List.{AllByRecursion}
-use Rattle.std.specs.Int.{w16, w32, w64, to_be_bytes}
-use Rattle.std.specs.Str.{is_utf8}
-use Rattle.std.proofs.lemmas.Str.{IsUtf8-from_is_utf8, is_utf8-from_IsUtf8}
-use Rattle.std.proofs.lemmas.List.Concat.{flat_map-cons}
-use Rattle.x10_kinds.specs.declared.kind.Kind.{Kind as ValueKind}
+use Rattle.std.specs.Int.{w16, to_be_bytes}
 use Rattle.x10_code.specs.declared.instr.Instr.{Instr}
-use Rattle.x10_code.specs.declared.instr.CodeFault.{CodeFault}
-use Rattle.x10_code.specs.Spelling.{decoded, IsInstr, spelling as instruction}
-use Rattle.x10_code.proofs.Instructions.{decoded_again, decoded_takes, length-spelling}
-use Rattle.x10_model.specs.Modules.{Slot, Function, Module, NamesClassBelow, FitsSlot, FitsClass, FitsText, FitsFunction, IsBrought, is_brought}
-use Rattle.x10_model.specs.Images.{magic, Header, kind_bytes, slot_bytes, result_bytes, class_bytes, text_bytes, function_bytes, header_bytes}
-use Rattle.x10_model.specs.Readers.{Reader, IsBytes, times, numbered, many, part, given, bind, done}
-use Rattle.x10_model.specs.ReadingImages.{ImageFault, Short, Magic, Version, Count, Kind, Text, Reserved, Code, is_within, kind_at, slot_at, result_at, class_at, text_at, brought, instruction_at, function_at, header_at}
-use Rattle.x10_model.proofs.ReaderLaws.{if_some, Reads, and_both, and_of, then_reads, last_reads, given_reads, check_reads, need_reads, done_reads, such_that_reads, expect_reads, fits_as, spelled_as}
-use Rattle.x10_model.proofs.PartLaws.{bytes_below, IsBytes-cons, part_reads, part_reads_any, byte_reads, number_reads, each_reads, wide16, wide32}
+use Rattle.x10_code.specs.Spelling.{spelling as instruction}
+use Rattle.x10_code.proofs.Instructions.{length-spelling}
+use Rattle.x10_model.specs.Modules.{Slot, Function, FitsSlot, FitsFunction, IsBrought}
+use Rattle.x10_model.specs.Images.{slot_bytes, result_bytes, function_bytes}
+use Rattle.x10_model.specs.ReadingImages.{Short, Count, Reserved, is_within, function_at}
+use Rattle.x10_model.proofs.ReaderLaws.{Reads, and_both, and_of, then_reads, last_reads, need_reads, such_that_reads, expect_reads}
+use Rattle.x10_model.proofs.PartLaws.{byte_reads, number_reads, each_reads, wide16}
 use Rattle.x10_model.proofs.ImageParts.{within_of, of_within, length-items, instruction_reads}
-use Rattle.x10_model.proofs.KindLaws.{kind_reads, slot_reads, result_reads, length-kind_bytes, length-slot_bytes, length-result_bytes}
+use Rattle.x10_model.proofs.KindLaws.{slot_reads, result_reads, length-slot_bytes, length-result_bytes}
 
 -- what follows each field
 abbrev from_zero : Function → List ℕ
@@ -84,20 +77,20 @@ unfolding function_at function_bytes fn
 function_reads classes few function =
     need_reads 4 Short (λ f g. omega arith)
     (then_reads (λ f. length f.parameters) from_registers (such_that_reads (is_within 0 16) Count (byte_reads Short))
-      (λ f g. (omega (arith, g.parameters), within_of 0 16 (length f.parameters) (omega arith) g.parameters)) (λ n hn.
+    (λ f g. (omega (arith, g.parameters), within_of 0 16 (length f.parameters) (omega arith) g.parameters)) (λ n hn.
     then_reads (λ f. f.registers) from_loops (such_that_reads (λ r. is_within 1 64 r && leb n r) Count (byte_reads Short))
-      (λ f g. (omega (arith, g.1.registers), and_of (is_within 1 64 f.registers) (leb n f.registers) (within_of 1 64 f.registers g.1.registers.0 g.1.registers.1) (le-leb n f.registers (omega (arith, g.0, g.1.room))))) (λ registers hr.
+    (λ f g. (omega (arith, g.1.registers), and_of (is_within 1 64 f.registers) (leb n f.registers) (within_of 1 64 f.registers g.1.registers.0 g.1.registers.1) (le-leb n f.registers (omega (arith, g.0, g.1.room))))) (λ registers hr.
     then_reads (λ f. f.loops) from_reserved (such_that_reads (is_within 0 8) Count (byte_reads Short))
-      (λ f g. (omega (arith, g.1.1.loops), within_of 0 8 f.loops (omega arith) g.1.1.loops)) (λ loops hl.
+    (λ f g. (omega (arith, g.1.1.loops), within_of 0 8 f.loops (omega arith) g.1.1.loops)) (λ loops hl.
     expect_reads 0 Reserved (byte_reads Short) (omega arith)
     (need_reads (4 * (n + 1)) Short (λ f g. enough_slots f n g.1.1.0)
     (then_reads (λ f. f.parameters) from_result (each_reads (λ s _. s) (λ _. slot_reads classes few) n 0) (λ f g. (g.1.1.0, g.1.1.1.slots)) (λ parameters hp.
     then_reads (λ f. f.result) from_count (result_reads classes few) (λ f g. g.1.1.1.1.result) (λ result ho.
     need_reads 4 Short (λ f g. omega arith)
     (then_reads (λ f. length f.code) from_zero (such_that_reads (is_within 1 4096) Count (number_reads w16 (2 ^ 16) wide16 Short))
-      (λ f g. (omega (arith, g.1.1.1.1.1.length), within_of 1 4096 (length f.code) g.1.1.1.1.1.length.0 g.1.1.1.1.1.length.1)) (λ count hc.
+    (λ f g. (omega (arith, g.1.1.1.1.1.length), within_of 1 4096 (length f.code) g.1.1.1.1.1.length.0 g.1.1.1.1.1.length.1)) (λ count hc.
     expect_reads 0 Reserved (number_reads w16 (2 ^ 16) wide16 Short) (omega arith)
     (need_reads (8 * count) Short (λ f g. enough_code f count g.0)
     (last_reads (fn parameters registers loops result) (λ f. f.code) (each_reads (λ s _. suc s) (λ pc. instruction_reads function pc) count 0)
-      (λ f g. ((g.0, g.1.1.1.1.1.1.code), same_function parameters registers loops result f g.1.1.0 g.1.1.1.1.0 g.1.1.1.0 g.1.0))
-      (λ code hi. (refl, (hi.0, (refl, (refl, (refl, (refl, (hp.0, fits_code classes n registers loops parameters result count code hn.1 hr.1 hl.1 hp ho hc.1 hi))))))))))))))))))))
+    (λ f g. ((g.0, g.1.1.1.1.1.1.code), same_function parameters registers loops result f g.1.1.0 g.1.1.1.1.0 g.1.1.1.0 g.1.0))
+    (λ code hi. (refl, (hi.0, (refl, (refl, (refl, (refl, (hp.0, fits_code classes n registers loops parameters result count code hn.1 hr.1 hl.1 hp ho hc.1 hi))))))))))))))))))))

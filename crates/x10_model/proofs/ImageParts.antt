@@ -1,12 +1,9 @@
 -- The parts of an image are read again, and what is read of them is spelled so.
-use Rattle.std.proofs.Common.{◌≡◌, ℕ, zero, suc, ◌+◌, ◌*◌, ◌^◌, ◌<◌, ◌≤◌, Bool, true, false, cond, ◌&&◌, eqb, ltb, leb, List, [], ◌∷◌, ◌++◌, length, Option, Some, None, IfSome, Result, Ok, Err, refl, sym, ap, subst, ◌∙◌, arith, eqb-true, eq-eqb, ltb-true, lt-ltb, leb-true, le-leb, flat_map, length-append, get_or}
-use Rattle.std.specs.Prelude.{FitsSigned, IsUtf8}
-use Rattle.std.specs.List.{AllByRecursion}
-use Rattle.std.specs.Int.{w16, w32, w64, to_be_bytes}
+use Rattle.std.proofs.Common.{◌≡◌, ℕ, ◌*◌, ◌^◌, ◌<◌, ◌≤◌, true, leb, List, [], ◌∷◌, length, Some, Result, Ok, Err, refl, sym, subst, arith, leb-true, le-leb, flat_map, length-append}
+use Rattle.std.specs.Int.{w16, w32, to_be_bytes}
 use Rattle.std.specs.Str.{is_utf8}
 use Rattle.std.proofs.lemmas.Str.{IsUtf8-from_is_utf8, is_utf8-from_IsUtf8}
 use Rattle.std.proofs.lemmas.List.Concat.{flat_map-cons}
-use Rattle.x10_kinds.specs.declared.kind.Kind.{Kind as ValueKind}
 use Rattle.x10_code.specs.declared.instr.Instr.{Instr}
 use Rattle.x10_code.specs.declared.instr.CodeFault.{CodeFault}
 use Rattle.x10_code.specs.declared.op.Op.{Op}
@@ -14,13 +11,13 @@ use Rattle.x10_code.specs.declared.op.Op.TheVariants as op
 use Rattle.x10_code.specs.Table.{code_of}
 use Rattle.x10_code.specs.Spelling.{decoded, IsInstr, spelling as instruction}
 use Rattle.x10_code.proofs.Instructions.{decoded_again, decoded_takes, length-spelling}
-use Rattle.x10_model.specs.Modules.{Slot, Function, Module, NamesClassBelow, FitsSlot, FitsClass, FitsText, FitsFunction, IsBrought, is_brought}
-use Rattle.x10_model.specs.Images.{magic, Header, kind_bytes, slot_bytes, result_bytes, class_bytes, text_bytes, function_bytes, header_bytes}
-use Rattle.x10_model.specs.Readers.{Reader, IsBytes, times, numbered, many, part, given, bind, done}
-use Rattle.x10_model.specs.ReadingImages.{ImageFault, Short, Magic, Version, Count, Kind, Text, Reserved, Code, is_within, kind_at, slot_at, result_at, class_at, text_at, brought, instruction_at, function_at, header_at}
-use Rattle.x10_model.proofs.ReaderLaws.{if_some, Reads, and_both, and_of, then_reads, last_reads, given_reads, check_reads, need_reads, done_reads, such_that_reads, expect_reads, fits_as, spelled_as}
-use Rattle.x10_model.proofs.PartLaws.{bytes_below, IsBytes-cons, part_reads, part_reads_any, byte_reads, number_reads, each_reads, wide16, wide32}
-use Rattle.x10_model.proofs.KindLaws.{kind_reads, slot_reads, result_reads, length-kind_bytes, length-slot_bytes, length-result_bytes}
+use Rattle.x10_model.specs.Modules.{FitsClass, FitsText, IsBrought, is_brought}
+use Rattle.x10_model.specs.Images.{kind_bytes, class_bytes, text_bytes}
+use Rattle.x10_model.specs.Readers.{IsBytes}
+use Rattle.x10_model.specs.ReadingImages.{Short, Count, Text, Code, is_within, class_at, text_at, brought, instruction_at}
+use Rattle.x10_model.proofs.ReaderLaws.{if_some, Reads, and_both, and_of, then_reads, given_reads, check_reads, need_reads, such_that_reads, fits_as}
+use Rattle.x10_model.proofs.PartLaws.{bytes_below, IsBytes-cons, part_reads, part_reads_any, byte_reads, number_reads, each_reads, wide16}
+use Rattle.x10_model.proofs.KindLaws.{kind_reads, length-kind_bytes}
 
 pub within_of : (least most n : ℕ) → least ≤ n → n ≤ most → is_within least most n ≡ true
 within_of least most n h k = and_of (leb least n) (leb n most) (le-leb least n h) (le-leb n most k)
@@ -42,8 +39,8 @@ class_reads classes few =
     need_reads (3 * n) Short (λ fields g. omega (arith, g.0, length-items kind_bytes 3 length-kind_bytes fields))
     (check_reads (leb n 16) Count (λ fields g. le-leb n 16 (omega (arith, g.0, g.1.count))) (λ small.
     fits_as (each_reads (λ s _. s) (λ _. kind_reads classes few) n 0)
-      (λ fields h. (h.0, record { count = omega (arith, h.0, leb-true n 16 small); kinds = h.1 }))
-      (λ fields h. (h.0, h.1.kinds)))))
+    (λ fields h. (h.0, record { count = omega (arith, h.0, leb-true n 16 small); kinds = h.1 }))
+    (λ fields h. (h.0, h.1.kinds)))))
 
 -- ---- texts
 
@@ -52,8 +49,8 @@ unfolding text_at text_bytes
 text_reads =
     then_reads (λ text. length text) (λ text. text) (number_reads w16 (2 ^ 16) wide16 Short) (λ text g. g.length) (λ n lt.
     fits_as (such_that_reads is_utf8 Text (part_reads_any n Short))
-      (λ text h. (h.0, record { length = omega (arith, h.0, lt); utf8 = IsUtf8-from_is_utf8 text h.1 }))
-      (λ text h. (h.0, is_utf8-from_IsUtf8 text h.1.utf8)))
+    (λ text h. (h.0, record { length = omega (arith, h.0, lt); utf8 = IsUtf8-from_is_utf8 text h.1 }))
+    (λ text h. (h.0, is_utf8-from_IsUtf8 text h.1.utf8)))
 
 -- ---- instructions
 
@@ -82,5 +79,5 @@ pub instruction_reads : (function pc : ℕ) → Reads (instruction_at function p
 unfolding instruction_at
 instruction_reads function pc =
     given_reads (λ bytes. brought (decoded bytes)) (λ _. Code function pc) instruction (part_reads 8 Short)
-      (λ i fits. ((length-spelling i, instruction_small i fits.instr), brought_again i fits))
-      (λ bytes i h e. brought_means bytes (decoded bytes) i h.0 h.1 refl e)
+    (λ i fits. ((length-spelling i, instruction_small i fits.instr), brought_again i fits))
+    (λ bytes i h e. brought_means bytes (decoded bytes) i h.0 h.1 refl e)

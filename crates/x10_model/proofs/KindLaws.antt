@@ -1,13 +1,12 @@
 -- Kinds, parameters and results are read again, and what is read of them is spelled so.
-use Rattle.std.proofs.Common.{◌≡◌, ℕ, zero, suc, ◌+◌, ◌*◌, ◌^◌, ◌<◌, ◌≤◌, Bool, true, false, cond, ◌&&◌, eqb, ltb, List, [], ◌∷◌, ◌++◌, length, Option, Some, None, IfSome, Result, Ok, Err, refl, sym, ap, subst, ◌∙◌, arith, eqb-true, eq-eqb, ltb-true, lt-ltb}
+use Rattle.std.proofs.Common.{◌≡◌, ℕ, zero, suc, ◌^◌, ◌<◌, Bool, true, false, ◌&&◌, eqb, ltb, [], ◌∷◌, ◌++◌, length, Option, Some, None, IfSome, refl, sym, ap, subst, ◌∙◌, arith, eqb-true, ltb-true, lt-ltb}
 use Rattle.std.specs.Int.{w16, to_be_bytes}
 use Rattle.x10_kinds.specs.declared.kind.Kind.{Kind as ValueKind}
 use Rattle.x10_kinds.specs.declared.kind.Kind.TheVariants as kind
 use Rattle.x10_model.specs.Modules.{Slot, NamesClassBelow, FitsSlot, takes_flag}
 use Rattle.x10_model.specs.Images.{tag_of, class_of, kind_bytes, slot_bytes, result_bytes, flag_byte}
-use Rattle.x10_model.specs.Readers.{Reader, IsBytes}
-use Rattle.x10_model.specs.ReadingImages.{ImageFault, Short, Kind, without_class, with_class, kind_of, flagged, some_result, result_of, kind_at, slot_at, result_at}
-use Rattle.x10_model.proofs.ReaderLaws.{and_both, if_some, Reads, then_reads, given_reads, fits_as, spelled_as}
+use Rattle.x10_model.specs.ReadingImages.{Short, Kind, without_class, with_class, kind_of, flagged, some_result, result_of, kind_at, slot_at, result_at}
+use Rattle.x10_model.proofs.ReaderLaws.{and_both, if_some, Reads, then_reads, given_reads, spelled_as}
 use Rattle.x10_model.proofs.PartLaws.{byte_reads, number_reads, wide16}
 
 -- a kind is the one with its tag and class
@@ -69,8 +68,8 @@ unfolding kind_at kind_bytes
 kind_reads classes few =
     then_reads tag_of (λ k. to_be_bytes w16 (class_of k)) (byte_reads Short) (λ k g. tag_below k) (λ tag _.
     given_reads (kind_of classes tag) (λ _. Kind) class_of (number_reads w16 (2 ^ 16) wide16 Short)
-      (λ k g. (class_below classes k few g.1, ap (λ (t : ℕ). kind_of classes t (class_of k)) (sym g.0) ∙ kind_again classes k g.1))
-      (λ class k lt e. let m = kind_means classes tag class k e in (m.class_is, (m.tag_is, m.below))))
+    (λ k g. (class_below classes k few g.1, ap (λ (t : ℕ). kind_of classes t (class_of k)) (sym g.0) ∙ kind_again classes k g.1))
+    (λ class k lt e. let m = kind_means classes tag class k e in (m.class_is, (m.tag_is, m.below))))
 
 -- ---- parameters
 
@@ -114,8 +113,8 @@ slot_reads classes few =
     then_reads (λ s. tag_of s.kind) (λ s. to_be_bytes w16 (class_of s.kind) ++ flag_byte s.home_here ∷ []) (byte_reads Short) (λ s g. tag_below s.kind) (λ tag _.
     then_reads (λ s. class_of s.kind) (λ s. flag_byte s.home_here ∷ []) (number_reads w16 (2 ^ 16) wide16 Short) (λ s g. class_below classes s.kind few g.1.class) (λ class _.
     given_reads (λ flag. flagged (kind_of classes tag class) flag) (λ _. Kind) (λ s. flag_byte s.home_here) (byte_reads Short)
-      (λ s g. (flag_below s.home_here, rw (← g.0, ← g.1.0) (slot_again classes s g.1.1)))
-      (λ flag s lt e. slot_means classes tag class flag s (flagged_means (kind_of classes tag class) flag s e))))
+    (λ s g. (flag_below s.home_here, rw (← g.0, ← g.1.0) (slot_again classes s g.1.1)))
+    (λ flag s lt e. slot_means classes tag class flag s (flagged_means (kind_of classes tag class) flag s e))))
 
 -- ---- results
 
@@ -179,8 +178,8 @@ result_reads classes few = spelled_as
     (then_reads result_tag (λ r. to_be_bytes w16 (result_class r) ++ (result_flag r ∷ [])) (byte_reads Short) (λ r g. (result_small classes r few g).0) (λ tag _.
     then_reads result_class (λ r. result_flag r ∷ []) (number_reads w16 (2 ^ 16) wide16 Short) (λ r g. (result_small classes r few g.1).1) (λ class _.
     given_reads (λ flag. result_of classes tag class flag) (λ _. Kind) result_flag (byte_reads Short)
-      (λ r g. ((result_small classes r few g.1.1).2, rw (← g.0, ← g.1.0) (result_again classes r g.1.1)))
-      (λ flag r lt e. let m = result_means classes tag class flag r e in (m.flag_is, (m.class_is, (m.tag_is, m.fits)))))))
+    (λ r g. ((result_small classes r few g.1.1).2, rw (← g.0, ← g.1.0) (result_again classes r g.1.1)))
+    (λ flag r lt e. let m = result_means classes tag class flag r e in (m.flag_is, (m.class_is, (m.tag_is, m.fits)))))))
     result_spelled
 
 pub length-kind_bytes : (k : ValueKind) → length (kind_bytes k) ≡ 3

@@ -3,3 +3,4 @@ pub mod PartLaws
 pub mod KindLaws
 pub mod ImageParts
 pub mod FunctionLaws
+pub mod ImageLaws

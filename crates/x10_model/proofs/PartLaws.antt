@@ -1,15 +1,15 @@
 -- The readers of parts: bytes, numbers, and so many items.
-use Rattle.std.proofs.Common.{◌≡◌, ℕ, zero, suc, ◌+◌, ◌*◌, ◌%◌, ◌^◌, ◌<◌, ◌≤◌, Bool, true, false, List, [], ◌∷◌, ◌++◌, length, get_or, take, drop, Option, Some, None, Result, Ok, Err, ℤ, FitsSigned, refl, sym, ap, subst, ◌∙◌, append_assoc, arith, inl, inr, flat_map, ltb, le-ltb, ltb-false, length-append, length-take, take-append-drop, take_at, drop_at, append-nil}
+use Rattle.std.proofs.Common.{◌≡◌, ℕ, zero, suc, ◌+◌, ◌^◌, ◌<◌, ◌≤◌, Bool, true, false, List, [], ◌∷◌, ◌++◌, length, get_or, take, drop, Result, Ok, Err, FitsSigned, refl, sym, ap, subst, ◌∙◌, append_assoc, arith, inl, inr, flat_map, ltb, le-ltb, ltb-false, length-append, length-take, take-append-drop, take_at, drop_at, append-nil}
 use Rattle.std.specs.List.{AllByRecursion}
-use Rattle.std.specs.Int.{Width, w8, w16, w32, w64, byte_len, from_be_bytes, to_be_bytes, cast_signed, cast_unsigned, bytes_high_first, byte_at}
-use Rattle.std.proofs.lemmas.Bool.{cases_lt, eqb-true, eq-eqb}
+use Rattle.std.specs.Int.{Width, w16, w32, w64, byte_len, from_be_bytes, to_be_bytes, cast_signed, cast_unsigned, bytes_high_first, byte_at}
+use Rattle.std.proofs.lemmas.Bool.{cases_lt}
 use Rattle.std.proofs.lemmas.List.{get_or-drop, get_or-take, get_or_past}
 use Rattle.std.proofs.lemmas.List.Concat.{flat_map-cons}
 use Rattle.std.proofs.lemmas.Nat.{be_bytes_2, be_bytes_4, be_bytes_8, from_be_bytes-to_be_bytes_2, from_be_bytes-to_be_bytes_4, from_be_bytes-to_be_bytes_8}
 use Rattle.std.proofs.lemmas.Int.{to_z-of_z, of_z-to_z}
 use Rattle.std.proofs.Math.Facts.{Fits-of_z, Fits-lt-pow, Fits-of_lt, sfits_to_z}
-use Rattle.x10_model.specs.Readers.{int, Reader, IsBytes, bind, done, check, part, byte, number, many, FitsEach, after_all, all_of, ended}
-use Rattle.x10_model.proofs.ReaderLaws.{Reads, Takes, Takes-then, same, bind_is, bind_ok, then_reads, last_reads, check_reads, done_reads, fits_as, spelled_as}
+use Rattle.x10_model.specs.Readers.{int, Reader, IsBytes, bind, done, part, byte, number, many, FitsEach, all_of, ended}
+use Rattle.x10_model.proofs.ReaderLaws.{Reads, Takes, Takes-then, same, bind_is, bind_ok, last_reads, fits_as}
 
 IsBytes-drop : (n : ℕ) (bytes : List ℕ) → IsBytes bytes → IsBytes (drop n bytes)
 IsBytes-drop n bytes h i = rw get_or-drop (h (n + i))
@@ -51,11 +51,12 @@ pub part_reads : {E : Type 0} (n : ℕ) (short : E) → Reads (part n short) (λ
 part_reads {E} n short = record {
   again = λ x rest g. part_is n short (x ++ rest) (omega (arith, length-append x rest, g.0)) ∙ rw (take_at x rest n g.0, drop_at x rest n g.0) refl;
   takes = λ bytes x rest b e.
-    let long : n ≤ length bytes = part_long n short bytes x rest (ltb (length bytes) n) refl e in
-    let is = same {E = E} (take n bytes) x (drop n bytes) rest (sym (part_is n short bytes long) ∙ e) in
-    let whole : Takes bytes (take n bytes) (drop n bytes) = record { parts = sym (take-append-drop n bytes); rest_fits = IsBytes-drop n bytes b } in
-    (subst (λ (t : List ℕ). Takes bytes t rest) is.0 (subst (λ (t : List ℕ). Takes bytes (take n bytes) t) is.1 whole),
-     subst (λ (t : List ℕ). (length t ≡ n) × IsBytes t) is.0 (omega (arith, length-take n bytes), IsBytes-take n bytes b));
+      let long : n ≤ length bytes = part_long n short bytes x rest (ltb (length bytes) n) refl e in
+      let is = same {E = E} (take n bytes) x (drop n bytes) rest (sym (part_is n short bytes long) ∙ e) in
+      let whole : Takes bytes (take n bytes) (drop n bytes) = record { parts = sym (take-append-drop n bytes); rest_fits = IsBytes-drop n bytes b } in (
+        subst (λ (t : List ℕ). Takes bytes t rest) is.0 (subst (λ (t : List ℕ). Takes bytes (take n bytes) t) is.1 whole),
+        subst (λ (t : List ℕ). (length t ≡ n) × IsBytes t) is.0 (omega (arith, length-take n bytes), IsBytes-take n bytes b),
+      );
 }
 
 -- where nothing more is asked of the bytes
@@ -115,15 +116,15 @@ pub number_reads : {E : Type 0} (w : Width) (limit : ℕ) → IsWide w limit →
 unfolding number
 number_reads {E} w limit wide short =
     last_reads (from_be_bytes w) (to_be_bytes w) (part_reads (byte_len w) short)
-      (λ n lt. ((wide.len n, bytes_below (byte_len w) n), wide.again n lt))
-      (λ x g. (wide.back x g.0 g.1, wide.below x g.1))
+    (λ n lt. ((wide.len n, bytes_below (byte_len w) n), wide.again n lt))
+    (λ x g. (wide.back x g.0 g.1, wide.below x g.1))
 
 pub int_reads : {E : Type 0} (short : E) → Reads (int short) (λ z. to_be_bytes w64 (cast_unsigned w64 z)) (FitsSigned w64)
 unfolding int
 int_reads short =
     last_reads (cast_signed w64) (cast_unsigned w64) (number_reads w64 (2 ^ 64) wide64 short)
-      (λ z fits. (Fits-lt-pow {w = w64} (Fits-of_z {w = w64} {z = z} fits), to_z-of_z w64 z fits))
-      (λ n lt. (of_z-to_z w64 n lt, sfits_to_z {w = w64} {n = n} (Fits-of_lt {w = w64} lt)))
+    (λ z fits. (Fits-lt-pow {w = w64} (Fits-of_z {w = w64} {z = z} fits), to_z-of_z w64 z fits))
+    (λ n lt. (of_z-to_z w64 n lt, sfits_to_z {w = w64} {n = n} (Fits-of_lt {w = w64} lt)))
 
 -- ---- so many items
 
@@ -147,7 +148,7 @@ unfolding many done
 many_takes {E} {S} {A} item spell Fits after each zero s bytes xs rest b e =
     let is = same {E = E} [] xs bytes rest e in
     subst (λ (ys : List A). Takes bytes (flat_map spell ys) rest × ((length ys ≡ 0) × FitsEach Fits after s ys)) is.0
-      (record { parts = is.1; rest_fits = subst IsBytes is.1 b }, (refl, tt))
+    (record { parts = is.1; rest_fits = subst IsBytes is.1 b }, (refl, tt))
 many_takes {E} {S} {A} item spell Fits after each (suc n) s bytes xs rest b e =
     let one = bind_ok (item s) (λ first. bind (many item after n (after s first)) (λ others. done (first ∷ others))) bytes xs rest e in
     let two = bind_ok (many item after n (after s one.value)) (λ others. done (one.value ∷ others)) one.middle xs rest one.second in
@@ -157,7 +158,7 @@ many_takes {E} {S} {A} item spell Fits after each (suc n) s bytes xs rest b e =
     let both = Takes-then bytes (spell one.value) one.middle (flat_map spell two.value) two.middle first.0 others.0 in
     subst (λ (t : List ℕ). Takes bytes (flat_map spell xs) t × ((length xs ≡ suc n) × FitsEach Fits after s xs)) is.1
     (subst (λ (ys : List A). Takes bytes (flat_map spell ys) two.middle × ((length ys ≡ suc n) × FitsEach Fits after s ys)) is.0
-      (rw flat_map-cons both, (ap suc others.1.0, (first.1, others.1.1))))
+    (rw flat_map-cons both, (ap suc others.1.0, (first.1, others.1.1))))
 
 pub many_reads : {E S A : Type 0} {item : S → Reader E A} {spell : A → List ℕ} {Fits : S → A → Type 0} (after : S → A → S)
     → ((s : S) → Reads (item s) spell (Fits s))
@@ -181,8 +182,8 @@ pub each_reads : {E S A : Type 0} {item : S → Reader E A} {spell : A → List 
     → (n : ℕ) (s : S) → Reads (many item after n s) (flat_map spell) (λ xs. (length xs ≡ n) × AllByRecursion Fits xs)
 each_reads {Fits = Fits} after each n s =
     fits_as (many_reads {Fits = λ _. Fits} after each n s)
-      (λ xs h. (h.0, all_from_each Fits after s xs h.1))
-      (λ xs h. (h.0, each_from_all Fits after s xs h.1))
+    (λ xs h. (h.0, all_from_each Fits after s xs h.1))
+    (λ xs h. (h.0, each_from_all Fits after s xs h.1))
 
 -- ---- all of the bytes
 

@@ -1,6 +1,6 @@
 -- What a reader is to a spelling: it reads again what is spelled, and what it took from the front is the spelling of what it gave.
-use Rattle.std.proofs.Common.{◌≡◌, ℕ, zero, suc, ◌+◌, ◌^◌, ◌<◌, ◌≤◌, Bool, true, false, cond, ◌&&◌, List, [], ◌∷◌, ◌++◌, length, get_or, take, drop, Option, Some, None, Result, Ok, Err, refl, sym, ap, subst, ◌∙◌, append_assoc, arith, inl, inr, flat_map, eqb, eqb-true, eq-eqb, ltb, le-ltb, ltb-false, length-append}
-use Rattle.x10_model.specs.Readers.{Reader, IsBytes, bind, done, check, such_that, expect, given, need, part, byte, number, many, FitsEach, after_all, all_of}
+use Rattle.std.proofs.Common.{◌≡◌, ℕ, ◌≤◌, Bool, true, false, cond, ◌&&◌, List, [], ◌++◌, length, Option, Some, None, Result, Ok, Err, refl, sym, ap, subst, ◌∙◌, append_assoc, arith, eqb, eqb-true, eq-eqb, ltb, le-ltb, length-append}
+use Rattle.x10_model.specs.Readers.{Reader, IsBytes, bind, done, check, such_that, expect, given, need}
 
 abbrev outcome : {E A : Type 0} → A → List ℕ → Result (A × List ℕ) E
 outcome x rest = Ok (x, rest)
@@ -63,15 +63,15 @@ pub then_reads : {E A B : Type 0} {r : Reader E A} {next : A → Reader E B} {sp
     → Reads (bind r next) (λ y. spell (proj y) ++ tail y) G
 then_reads {E} {A} {B} {r} {next} {spell} {Fits} {G} proj tail first fits second = record {
   again = λ y rest g.
-    ap (bind r next) (append_assoc (spell (proj y)) (tail y) rest)
-    ∙ bind_is r next (spell (proj y) ++ (tail y ++ rest)) (proj y) (tail y ++ rest) (first.again (proj y) (tail y ++ rest) (fits y g))
-    ∙ (second (proj y) (fits y g)).again y rest (refl, g);
+      ap (bind r next) (append_assoc (spell (proj y)) (tail y) rest)
+      ∙ bind_is r next (spell (proj y) ++ (tail y ++ rest)) (proj y) (tail y ++ rest) (first.again (proj y) (tail y ++ rest) (fits y g))
+      ∙ (second (proj y) (fits y g)).again y rest (refl, g);
   takes = λ bytes y rest b e.
-    let s = bind_ok r next bytes y rest e in
-    let one = first.takes bytes s.value s.middle b s.first in
-    let two = (second s.value one.1).takes s.middle y rest one.0.rest_fits s.second in
-    let front : Takes bytes (spell (proj y)) s.middle = subst (λ (x : A). Takes bytes (spell x) s.middle) (sym two.1.0) one.0 in
-    (Takes-then bytes (spell (proj y)) s.middle (tail y) rest front two.0, two.1.1);
+      let s = bind_ok r next bytes y rest e in
+      let one = first.takes bytes s.value s.middle b s.first in
+      let two = (second s.value one.1).takes s.middle y rest one.0.rest_fits s.second in
+      let front : Takes bytes (spell (proj y)) s.middle = subst (λ (x : A). Takes bytes (spell x) s.middle) (sym two.1.0) one.0 in
+      (Takes-then bytes (spell (proj y)) s.middle (tail y) rest front two.0, two.1.1);
 }
 
 -- the last reader of a chain
@@ -83,15 +83,15 @@ pub last_reads : {E A B : Type 0} {r : Reader E A} {spell : A → List ℕ} {Fit
 unfolding done
 last_reads {E} {A} {B} {r} {spell} {Fits} {G} make proj first fits made = record {
   again = λ y rest g.
-    bind_is r (λ x. done (make x)) (spell (proj y) ++ rest) (proj y) rest (first.again (proj y) rest (fits y g).0)
-    ∙ ap (λ (z : B). outcome {E = E} z rest) (fits y g).1;
+      bind_is r (λ x. done (make x)) (spell (proj y) ++ rest) (proj y) rest (first.again (proj y) rest (fits y g).0)
+      ∙ ap (λ (z : B). outcome {E = E} z rest) (fits y g).1;
   takes = λ bytes y rest b e.
-    let s = bind_ok r (λ x. done (make x)) bytes y rest e in
-    let one = first.takes bytes s.value s.middle b s.first in
-    let is = same {E = E} (make s.value) y s.middle rest s.second in
-    let m = made s.value one.1 in
-    let front : Takes bytes (spell (proj (make s.value))) s.middle = subst (λ (x : A). Takes bytes (spell x) s.middle) (sym m.0) one.0 in
-    (subst (λ (z : B). Takes bytes (spell (proj z)) rest) is.0 (subst (λ (t : List ℕ). Takes bytes (spell (proj (make s.value))) t) is.1 front), subst G is.0 m.1);
+      let s = bind_ok r (λ x. done (make x)) bytes y rest e in
+      let one = first.takes bytes s.value s.middle b s.first in
+      let is = same {E = E} (make s.value) y s.middle rest s.second in
+      let m = made s.value one.1 in
+      let front : Takes bytes (spell (proj (make s.value))) s.middle = subst (λ (x : A). Takes bytes (spell x) s.middle) (sym m.0) one.0 in
+      (subst (λ (z : B). Takes bytes (spell (proj z)) rest) is.0 (subst (λ (t : List ℕ). Takes bytes (spell (proj (make s.value))) t) is.1 front), subst G is.0 m.1);
 }
 
 given_is : {E B : Type 0} (o : Option B) (y : B) (f : E) (rest : List ℕ) → o ≡ Some y → given o f rest ≡ Ok (y, rest)
@@ -111,15 +111,15 @@ pub given_reads : {E A B : Type 0} {r : Reader E A} {spell : A → List ℕ} {Fi
     → Reads (bind r (λ x. given (make x) (fault x))) (λ y. spell (code y)) G
 given_reads {E} {A} {B} {r} {spell} {Fits} {G} make fault code first fits made = record {
   again = λ y rest g.
-    bind_is r (λ x. given (make x) (fault x)) (spell (code y) ++ rest) (code y) rest (first.again (code y) rest (fits y g).0)
-    ∙ given_is (make (code y)) y (fault (code y)) rest (fits y g).1;
+      bind_is r (λ x. given (make x) (fault x)) (spell (code y) ++ rest) (code y) rest (first.again (code y) rest (fits y g).0)
+      ∙ given_is (make (code y)) y (fault (code y)) rest (fits y g).1;
   takes = λ bytes y rest b e.
-    let s = bind_ok r (λ x. given (make x) (fault x)) bytes y rest e in
-    let one = first.takes bytes s.value s.middle b s.first in
-    let is = given_ok (make s.value) (fault s.value) s.middle y rest s.second in
-    let m = made s.value y one.1 is.0 in
-    let front : Takes bytes (spell (code y)) s.middle = subst (λ (x : A). Takes bytes (spell x) s.middle) (sym m.0) one.0 in
-    (subst (λ (t : List ℕ). Takes bytes (spell (code y)) t) is.1 front, m.1);
+      let s = bind_ok r (λ x. given (make x) (fault x)) bytes y rest e in
+      let one = first.takes bytes s.value s.middle b s.first in
+      let is = given_ok (make s.value) (fault s.value) s.middle y rest s.second in
+      let m = made s.value y one.1 is.0 in
+      let front : Takes bytes (spell (code y)) s.middle = subst (λ (x : A). Takes bytes (spell x) s.middle) (sym m.0) one.0 in
+      (subst (λ (t : List ℕ). Takes bytes (spell (code y)) t) is.1 front, m.1);
 }
 
 -- nothing more is read
@@ -205,13 +205,13 @@ unfolding such_that
 such_that_reads {E} {A} {r} {spell} {Fits} holds fault first = record {
   again = λ x rest g. such_that_again r holds fault (spell x ++ rest) x rest (first.again x rest g.0) g.1;
   takes = λ bytes x rest b e.
-    let s = bind_ok r (λ z. bind (check (holds z) fault) (λ _. done z)) bytes x rest e in
-    let one = first.takes bytes s.value s.middle b s.first in
-    let t = bind_ok (check (holds s.value) fault) (λ _. done s.value) s.middle x rest s.second in
-    let is = check_ok (holds s.value) fault s.middle t.value t.middle t.first in
-    let end = done_same {E = E} s.value t.middle x rest t.second in
-    let here : Takes bytes (spell s.value) rest = subst (λ (m : List ℕ). Takes bytes (spell s.value) m) (is.1 ∙ end.1) one.0 in
-    subst (λ (z : A). Takes bytes (spell z) rest × (Fits z × (holds z ≡ true))) end.0 (here, (one.1, is.0));
+      let s = bind_ok r (λ z. bind (check (holds z) fault) (λ _. done z)) bytes x rest e in
+      let one = first.takes bytes s.value s.middle b s.first in
+      let t = bind_ok (check (holds s.value) fault) (λ _. done s.value) s.middle x rest s.second in
+      let is = check_ok (holds s.value) fault s.middle t.value t.middle t.first in
+      let end = done_same {E = E} s.value t.middle x rest t.second in
+      let here : Takes bytes (spell s.value) rest = subst (λ (m : List ℕ). Takes bytes (spell s.value) m) (is.1 ∙ end.1) one.0 in
+      subst (λ (z : A). Takes bytes (spell z) rest × (Fits z × (holds z ≡ true))) end.0 (here, (one.1, is.0));
 }
 
 -- nothing but a number
@@ -219,15 +219,15 @@ pub expect_reads : {E B : Type 0} {r : Reader E ℕ} {next : Reader E B} {spell 
     → Reads r spell Fits → Fits n → Reads next tail G → Reads (bind (expect r n fault) (λ _. next)) (λ y. spell n ++ tail y) G
 expect_reads {E} {B} {r} {next} {spell} {Fits} {tail} {G} n fault first fits second = record {
   again = λ y rest g.
-    ap (bind (expect r n fault) (λ _. next)) (append_assoc (spell n) (tail y) rest)
-    ∙ bind_is (expect r n fault) (λ _. next) (spell n ++ (tail y ++ rest)) tt (tail y ++ rest) (expect_again r n fault (spell n ++ (tail y ++ rest)) (tail y ++ rest) (first.again n (tail y ++ rest) fits))
-    ∙ second.again y rest g;
+      ap (bind (expect r n fault) (λ _. next)) (append_assoc (spell n) (tail y) rest)
+      ∙ bind_is (expect r n fault) (λ _. next) (spell n ++ (tail y ++ rest)) tt (tail y ++ rest) (expect_again r n fault (spell n ++ (tail y ++ rest)) (tail y ++ rest) (first.again n (tail y ++ rest) fits))
+      ∙ second.again y rest g;
   takes = λ bytes y rest b e.
-    let s = bind_ok (expect r n fault) (λ _. next) bytes y rest e in
-    let t = expect_step r n fault bytes s.value s.middle s.first in
-    let one = first.takes bytes t.value t.middle b t.first in
-    let is = check_ok (eqb t.value n) fault t.middle s.value s.middle t.second in
-    let front : Takes bytes (spell n) s.middle = subst (λ (x : ℕ). Takes bytes (spell x) s.middle) (eqb-true t.value n is.0) (subst (λ (m : List ℕ). Takes bytes (spell t.value) m) is.1 one.0) in
-    let two = second.takes s.middle y rest front.rest_fits s.second in
-    (Takes-then bytes (spell n) s.middle (tail y) rest front two.0, two.1);
+      let s = bind_ok (expect r n fault) (λ _. next) bytes y rest e in
+      let t = expect_step r n fault bytes s.value s.middle s.first in
+      let one = first.takes bytes t.value t.middle b t.first in
+      let is = check_ok (eqb t.value n) fault t.middle s.value s.middle t.second in
+      let front : Takes bytes (spell n) s.middle = subst (λ (x : ℕ). Takes bytes (spell x) s.middle) (eqb-true t.value n is.0) (subst (λ (m : List ℕ). Takes bytes (spell t.value) m) is.1 one.0) in
+      let two = second.takes s.middle y rest front.rest_fits s.second in
+      (Takes-then bytes (spell n) s.middle (tail y) rest front two.0, two.1);
 }
