@@ -4,3 +4,4 @@ pub mod KindLaws
 pub mod ImageParts
 pub mod FunctionLaws
 pub mod ImageLaws
+pub mod ItemLaws

@@ -178,6 +178,13 @@ spelled_as {E} {A} {r} {spell} {other} {G} h is = record {
   takes = λ bytes x rest b e. let t = h.takes bytes x rest b e in (subst (λ (u : List ℕ). Takes bytes u rest) (is x) t.0, t.1);
 }
 
+-- the same where the two spellings agree on what fits
+pub spelled_where : {E A : Type 0} {r : Reader E A} {spell other : A → List ℕ} {G : A → Type 0} → Reads r spell G → ((x : A) → G x → spell x ≡ other x) → Reads r other G
+spelled_where {E} {A} {r} {spell} {other} {G} h is = record {
+  again = λ x rest g. ap (λ (t : List ℕ). r (t ++ rest)) (sym (is x g)) ∙ h.again x rest g;
+  takes = λ bytes x rest b e. let t = h.takes bytes x rest b e in (subst (λ (u : List ℕ). Takes bytes u rest) (is x t.1) t.0, t.1);
+}
+
 check_ok : {E : Type 0} (b : Bool) (fault : E) (bytes : List ℕ) (u : Unit {0}) (rest : List ℕ) → check b fault bytes ≡ Ok (u, rest) → (b ≡ true) × (bytes ≡ rest)
 unfolding check
 check_ok {E} true fault bytes u rest e = (refl, (same {E = E} tt u bytes rest e).1)
@@ -186,6 +193,10 @@ check_ok false fault bytes u rest e = absurd cc
 done_same : {E A : Type 0} (z : A) (middle : List ℕ) (x : A) (rest : List ℕ) → done {E = E} z middle ≡ Ok (x, rest) → (z ≡ x) × (middle ≡ rest)
 unfolding done
 done_same {E} z middle x rest e = same {E = E} z x middle rest e
+
+done_is : {E A : Type 0} (z x : A) (rest : List ℕ) → z ≡ x → done {E = E} z rest ≡ Ok (x, rest)
+unfolding done
+done_is {E} {A} z x rest e = ap (λ (t : A). outcome {E = E} t rest) e
 
 such_that_again : {E A : Type 0} (r : Reader E A) (holds : A → Bool) (fault : E) (bytes : List ℕ) (x : A) (rest : List ℕ) → r bytes ≡ Ok (x, rest) → holds x ≡ true → such_that r holds fault bytes ≡ Ok (x, rest)
 unfolding such_that bind check done
@@ -230,4 +241,25 @@ expect_reads {E} {B} {r} {next} {spell} {Fits} {tail} {G} n fault first fits sec
       let front : Takes bytes (spell n) s.middle = subst (λ (x : ℕ). Takes bytes (spell x) s.middle) (eqb-true t.value n is.0) (subst (λ (m : List ℕ). Takes bytes (spell t.value) m) is.1 one.0) in
       let two = second.takes s.middle y rest front.rest_fits s.second in
       (Takes-then bytes (spell n) s.middle (tail y) rest front two.0, two.1);
+}
+
+-- one case of a type: the values that are made from the reader's
+pub made_reads : {E A B : Type 0} {r : Reader E A} {spell : A → List ℕ} {Fits : A → Type 0} {whole : B → List ℕ} {G : B → Type 0} (make : A → B)
+    → Reads r spell Fits
+    → ((x : A) → Fits x → G (make x))
+    → ((y : B) → G y → (x : A) × (make x ≡ y) × Fits x)
+    → ((x : A) → spell x ≡ whole (make x))
+    → Reads (bind r (λ x. done (make x))) whole G
+made_reads {E} {A} {B} {r} {spell} {Fits} {whole} {G} make first fits case spelled = record {
+  again = λ y rest g.
+    let c = case y g in
+    ap (λ (t : List ℕ). bind r (λ x. done (make x)) (t ++ rest)) (sym (spelled c.0 ∙ ap whole c.1))
+    ∙ bind_is r (λ x. done (make x)) (spell c.0 ++ rest) c.0 rest (first.again c.0 rest c.2)
+    ∙ done_is (make c.0) y rest c.1;
+  takes = λ bytes y rest b e.
+    let s = bind_ok r (λ x. done (make x)) bytes y rest e in
+    let one = first.takes bytes s.value s.middle b s.first in
+    let is = done_same {E = E} (make s.value) s.middle y rest s.second in
+    let here : Takes bytes (whole (make s.value)) rest = subst (λ (t : List ℕ). Takes bytes t rest) (spelled s.value) (subst (λ (m : List ℕ). Takes bytes (spell s.value) m) is.1 one.0) in
+    subst (λ (z : B). Takes bytes (whole z) rest × G z) is.0 (here, fits s.value one.1);
 }
