@@ -5,7 +5,7 @@ use Rattle.std.proofs.lemmas.Bool.{cases_lt}
 use Rattle.x10_kinds.specs.declared.kind.Kind.{Kind}
 use Rattle.x10_kinds.specs.declared.kind.Kind.TheVariants as kind
 use Rattle.x10_model.specs.Maps.{Pairwise}
-use Rattle.x10_model.specs.Modules.{Slot}
+use Rattle.x10_model.specs.declared.slot.Slot.{Slot}
 use Rattle.x10_model.specs.Values.{Value, Int, Place, Text, Rail, Object, Null, Ref, Cell, Fields, Bytes, Cells, IsObjectOf, IsRail, IsOfKindBy, IsOfKind}
 use Rattle.x10_model.specs.Signatures.{HasHome, FitsSlotAt, FitSlots, AreOfKinds}
 use Rattle.x10_model.specs.Moves.{Situation, Holds, HoldsFrom, GivesBack}

@@ -6,3 +6,10 @@ pub mod Ready
 pub mod Balance
 pub mod Events
 pub mod Worked
+pub mod ReaderLaws
+pub mod PartLaws
+pub mod KindLaws
+pub mod ImageParts
+pub mod FunctionLaws
+pub mod ImageLaws
+pub mod ItemLaws

@@ -6,7 +6,8 @@ use Rattle.x10_code.specs.declared.op.Op.{Op}
 use Rattle.x10_code.specs.declared.op.Op.TheVariants as op
 use Rattle.x10_code.specs.declared.instr.Instr.{Instr}
 use Rattle.x10_model.specs.Maps.{IsIn}
-use Rattle.x10_model.specs.Modules.{Function, Slot}
+use Rattle.x10_model.specs.Modules.{Function}
+use Rattle.x10_model.specs.declared.slot.Slot.{Slot}
 use Rattle.x10_model.specs.Ranges.{function_at, instr_at, instr_in, IsInRange, parameters_of, result_of, fields_of}
 use Rattle.x10_model.specs.Values.{Value, Int, Place, Text, Rail, Object, Null, Ref, Cell, Fields, Bytes, Cells, IsOfKind}
 use Rattle.x10_model.specs.Signatures.{FitSlots, AreOfKinds}

@@ -3,10 +3,11 @@ use Rattle.std.proofs.Common.{◌≡◌, ◌≢◌, ◌⊎◌, ℕ, zero, suc, �
 use Rattle.std.specs.Prelude.{slice_get}
 use Rattle.std.proofs.lemmas.Bool.{cases_lt}
 use Rattle.x10_code.specs.declared.instr.Instr.{Instr}
-use Rattle.x10_code.specs.declared.form.Operand.{Operand}
-use Rattle.x10_code.specs.declared.form.Operand.TheVariants as operand
+use Rattle.x10_code.specs.declared.operands.Operand.{Operand}
+use Rattle.x10_code.specs.declared.operands.Operand.TheVariants as operand
 use Rattle.x10_code.specs.Table.{form_of}
-use Rattle.x10_model.specs.Modules.{Module, Function, Slot}
+use Rattle.x10_model.specs.Modules.{Module, Function}
+use Rattle.x10_model.specs.declared.slot.Slot.{Slot}
 use Rattle.x10_model.specs.Ranges.{function_at, instr_at, instr_in, IsThere, IsResultRegister, AreArgumentRegisters, IsInRange, result_for, argument_count}
 use Rattle.x10_model.specs.Places as places
 use Rattle.x10_model.specs.Places.{Setting, Finish, Stay, Effect, Message, Spawn, Shift, Back, Origin}

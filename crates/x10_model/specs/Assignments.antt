@@ -11,7 +11,8 @@ use Rattle.x10_code.specs.declared.op.Op.{Op}
 use Rattle.x10_code.specs.declared.op.Op.TheVariants as op
 use Rattle.x10_code.specs.declared.instr.Instr.{Instr}
 use Rattle.x10_model.specs.Maps.{IsIn, with_entry}
-use Rattle.x10_model.specs.Modules.{Module, Function, Slot}
+use Rattle.x10_model.specs.Modules.{Module, Function}
+use Rattle.x10_model.specs.declared.slot.Slot.{Slot}
 use Rattle.x10_model.specs.Ranges.{function_at, IsInRange}
 
 -- the kinds of registers, where they are known, and which places are known to be the same

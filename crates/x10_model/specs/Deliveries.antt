@@ -4,7 +4,8 @@ use Rattle.x10_kinds.specs.declared.kind.Kind.{Kind}
 use Rattle.x10_code.specs.declared.op.Op.TheVariants as op
 use Rattle.x10_code.specs.declared.instr.Instr.{Instr}
 use Rattle.x10_model.specs.Maps.{IsIn}
-use Rattle.x10_model.specs.Modules.{Module, Function, Slot}
+use Rattle.x10_model.specs.Modules.{Module, Function}
+use Rattle.x10_model.specs.declared.slot.Slot.{Slot}
 use Rattle.x10_model.specs.Ranges.{function_at, instr_at}
 use Rattle.x10_model.specs.Values.{Value, Place, Ref, Cells}
 use Rattle.x10_model.specs.Signatures.{FitsSlotAt, FitSlots, AreOfKinds}

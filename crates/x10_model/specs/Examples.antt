@@ -8,7 +8,8 @@ use Rattle.x10_code.specs.declared.instr.Instr.{Instr}
 use Rattle.x10_model.specs.declared.event.Event.{Event}
 use Rattle.x10_model.specs.declared.event.Event.TheVariants.{Step, Deliver}
 use Rattle.x10_model.specs.Maps.{with_entry}
-use Rattle.x10_model.specs.Modules.{Module, Function, Slot}
+use Rattle.x10_model.specs.Modules.{Module, Function}
+use Rattle.x10_model.specs.declared.slot.Slot.{Slot}
 use Rattle.x10_model.specs.Structure.{BoundFault, Nesting, Jump, LoopSlot, CallOrder, TooLarge, bounds_of}
 use Rattle.x10_model.specs.Values.{Value, Int, Place, Text, Rail, Object, Null, Ref, Cell, Fields, Bytes, Cells}
 use Rattle.x10_model.specs.Copies.{Snapshot, Names, Captures, IsCopy}

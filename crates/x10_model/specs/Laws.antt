@@ -8,7 +8,7 @@ use Rattle.x10_model.specs.Deliveries.{Receives}
 use Rattle.x10_model.specs.Signatures.{FitSlots}
 use Rattle.x10_model.specs.Values.{Value, IsOfKind}
 use Rattle.x10_model.specs.Copies.{Snapshot, Captures}
-use Rattle.x10_model.specs.Modules.{Slot}
+use Rattle.x10_model.specs.declared.slot.Slot.{Slot}
 use Rattle.x10_model.specs.Worlds.{World, IsWithin, Governs, Rule, Happens, GoesWrong}
 use Rattle.x10_model.specs.declared.event.Event.{Event}
 use Rattle.x10_model.specs.Totals.{Cut, IsBalanced, is_balanced}

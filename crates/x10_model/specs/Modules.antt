@@ -9,11 +9,7 @@ use Rattle.x10_code.specs.declared.instr.Instr.{Instr}
 use Rattle.x10_code.specs.declared.op.Op.{Op}
 use Rattle.x10_code.specs.declared.op.Op.TheVariants as op
 use Rattle.x10_code.specs.Spelling.{IsInstr}
-
--- what is said of a parameter or a result: its kind, and whether it is a global reference whose home is here
-pub record Slot : Type 0 where
-  pub kind : Kind
-  pub home_here : Bool
+use Rattle.x10_model.specs.declared.slot.Slot.{Slot}
 
 pub record Function : Type 0 where
   pub parameters : List Slot

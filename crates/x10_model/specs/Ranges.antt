@@ -4,10 +4,11 @@ use Rattle.x10_kinds.specs.declared.kind.Kind.{Kind}
 use Rattle.x10_code.specs.declared.op.Op.{Op}
 use Rattle.x10_code.specs.declared.op.Op.TheVariants as op
 use Rattle.x10_code.specs.declared.instr.Instr.{Instr}
-use Rattle.x10_code.specs.declared.form.Operand.{Operand}
-use Rattle.x10_code.specs.declared.form.Operand.TheVariants as operand
+use Rattle.x10_code.specs.declared.operands.Operand.{Operand}
+use Rattle.x10_code.specs.declared.operands.Operand.TheVariants as operand
 use Rattle.x10_code.specs.Table.{form_of}
-use Rattle.x10_model.specs.Modules.{Module, Function, Slot}
+use Rattle.x10_model.specs.Modules.{Module, Function}
+use Rattle.x10_model.specs.declared.slot.Slot.{Slot}
 
 abbrev pub function_at : Module → ℕ → Option Function
 function_at m f = slice_get m.functions f

@@ -3,8 +3,8 @@ use Rattle.std.specs.Prelude.{◌≡◌, ℕ, zero, suc, ◌+◌, ◌-◌, ◌*�
 use Rattle.x10_code.specs.declared.op.Op.{Op}
 use Rattle.x10_code.specs.declared.op.Op.TheVariants as op
 use Rattle.x10_code.specs.declared.instr.Instr.{Instr}
-use Rattle.x10_code.specs.declared.form.Operand.{Operand}
-use Rattle.x10_code.specs.declared.form.Operand.TheVariants as operand
+use Rattle.x10_code.specs.declared.operands.Operand.{Operand}
+use Rattle.x10_code.specs.declared.operands.Operand.TheVariants as operand
 use Rattle.x10_code.specs.Table.{form_of}
 use Rattle.x10_model.specs.Modules.{Module, Function}
 

@@ -1,0 +1,118 @@
+-- The values of a frame are read again, and what is read of them is spelled so.
+use Rattle.std.proofs.Common.{◌≡◌, ℕ, ℤ, zero, suc, ◌+◌, ◌*◌, ◌^◌, ◌<◌, ◌≤◌, Bool, true, false, cond, ◌&&◌, eqb, ltb, leb, List, [], ◌∷◌, ◌++◌, length, Option, Some, None, IfSome, Result, Ok, Err, refl, sym, ap, subst, ◌∙◌, arith, eqb-true, eq-eqb, ltb-true, lt-ltb, leb-true, le-leb, flat_map, length-append}
+use Rattle.std.specs.Prelude.{FitsSigned}
+use Rattle.std.specs.Int.{w16, w32, w64, to_be_bytes}
+use Rattle.x10_model.specs.Frames.{Item, IntItem, PlaceItem, TextItem, RailItem, ObjectItem, NullItem, RefItem, Tables, uses, FitsIndex, FitsItem, tag_of_item, untagged, item_bytes}
+use Rattle.x10_model.specs.Images.{int_bytes}
+use Rattle.x10_model.specs.Readers.{Reader, IsBytes, number, byte, bind, done}
+use Rattle.x10_model.specs.ReadingFrames.{FrameFault, Short, Tag, Place, Order, place_at, index_at, untagged_at, item_at}
+use Rattle.x10_model.proofs.ReaderLaws.{Reads, and_both, and_of, then_reads, last_reads, made_reads, done_reads, such_that_reads, fits_as, spelled_where}
+use Rattle.x10_model.proofs.PartLaws.{byte_reads, number_reads, int_reads, wide16, wide32}
+
+pub place_reads : (places : ℕ) → places < 2 ^ 16 → Reads (place_at places) (to_be_bytes w16) (λ p. p < places)
+unfolding place_at
+place_reads places few = fits_as (such_that_reads (λ p. ltb p places) Place (number_reads w16 (2 ^ 16) wide16 Short))
+  (λ p h. ltb-true p places h.1)
+  (λ p h. (omega arith, lt-ltb p places h))
+
+pub index_reads : (used table : ℕ) → table < 2 ^ 16 → Reads (index_at used table) (to_be_bytes w16) (FitsIndex used table)
+unfolding index_at
+index_reads used table few = fits_as (such_that_reads (λ i. leb i used && ltb i table) Order (number_reads w16 (2 ^ 16) wide16 Short))
+  (λ i h. let b = and_both (leb i used) (ltb i table) h.1 in record { order = leb-true i used b.0; below = ltb-true i table b.1 })
+  (λ i h. (omega (arith, h.below), and_of (leb i used) (ltb i table) (le-leb i used h.order) (lt-ltb i table h.below)))
+
+-- tables of a frame: their lengths have a field of 16 bits
+pub record Few (all : Tables) : Type 0 where
+  pub texts : all.texts < 2 ^ 16
+  pub rails : all.rails < 2 ^ 16
+  pub nodes : all.nodes < 2 ^ 16
+
+-- an item of a tag that fits
+abbrev Tagged : ℕ → Tables → Tables → ℕ → Item → Type 0
+Tagged places all used tag y = (tag_of_item y ≡ tag) × FitsItem places all used y
+
+int_item : (places : ℕ) (all used : Tables) (y : Item) → Tagged places all used 1 y → (z : ℤ) × (IntItem z ≡ y) × FitsSigned w64 z
+int_item places all used (IntItem z) h = (z, refl, h.1)
+int_item places all used _ h = absurd (omega (arith, h.0))
+
+place_item : (places : ℕ) (all used : Tables) (y : Item) → Tagged places all used 2 y → (p : ℕ) × (PlaceItem p ≡ y) × (p < places)
+place_item places all used (PlaceItem p) h = (p, refl, h.1)
+place_item places all used _ h = absurd (omega (arith, h.0))
+
+text_item : (places : ℕ) (all used : Tables) (y : Item) → Tagged places all used 3 y → (i : ℕ) × (TextItem i ≡ y) × FitsIndex used.texts all.texts i
+text_item places all used (TextItem i) h = (i, refl, h.1)
+text_item places all used _ h = absurd (omega (arith, h.0))
+
+rail_item : (places : ℕ) (all used : Tables) (y : Item) → Tagged places all used 4 y → (i : ℕ) × (RailItem i ≡ y) × FitsIndex used.rails all.rails i
+rail_item places all used (RailItem i) h = (i, refl, h.1)
+rail_item places all used _ h = absurd (omega (arith, h.0))
+
+object_item : (places : ℕ) (all used : Tables) (y : Item) → Tagged places all used 5 y → (i : ℕ) × (ObjectItem i ≡ y) × FitsIndex used.nodes all.nodes i
+object_item places all used (ObjectItem i) h = (i, refl, h.1)
+object_item places all used _ h = absurd (omega (arith, h.0))
+
+null_item : (places : ℕ) (all used : Tables) (y : Item) → Tagged places all used 6 y → NullItem ≡ y
+null_item places all used NullItem h = refl
+null_item places all used _ h = absurd (omega (arith, h.0))
+
+null_is_empty : (y : Item) → tag_of_item y ≡ 6 → [] ≡ untagged y
+null_is_empty NullItem h = refl
+null_is_empty _ h = absurd (omega (arith, h))
+
+-- the parts of a reference, and 0 of other items
+abbrev home_of : Item → ℕ
+home_of (RefItem home id class) = home
+home_of _ = 0
+
+abbrev id_of : Item → ℕ
+id_of (RefItem home id class) = id
+id_of _ = 0
+
+abbrev class_of : Item → ℕ
+class_of (RefItem home id class) = class
+class_of _ = 0
+
+is_ref : (places : ℕ) (all used : Tables) (y : Item) → Tagged places all used 7 y → (home_of y < places) × (id_of y < 2 ^ 32) × (class_of y < 2 ^ 16)
+is_ref places all used (RefItem home id class) h = h.1
+is_ref places all used _ h = absurd (omega (arith, h.0))
+
+same_ref : (home id class : ℕ) (y : Item) → tag_of_item y ≡ 7 → home_of y ≡ home → id_of y ≡ id → class_of y ≡ class → RefItem home id class ≡ y
+same_ref home id class (RefItem a b c) t h i k = rw (← h, ← i, ← k) refl
+same_ref home id class _ t h i k = absurd (omega (arith, t))
+
+ref_bytes : (y : Item) → tag_of_item y ≡ 7 → to_be_bytes w16 (home_of y) ++ (to_be_bytes w32 (id_of y) ++ to_be_bytes w16 (class_of y)) ≡ untagged y
+ref_bytes (RefItem home id class) t = refl
+ref_bytes _ t = absurd (omega (arith, t))
+
+ref_reads : (places : ℕ) (all used : Tables) → places < 2 ^ 16 → Reads (untagged_at places all used 7) untagged (Tagged places all used 7)
+unfolding untagged_at
+ref_reads places all used few = spelled_where
+    (then_reads home_of (λ y. to_be_bytes w32 (id_of y) ++ to_be_bytes w16 (class_of y)) (place_reads places few) (λ y g. (is_ref places all used y g).0) (λ home hh.
+    then_reads id_of (λ y. to_be_bytes w16 (class_of y)) (number_reads w32 (2 ^ 32) wide32 Short) (λ y g. (is_ref places all used y g.1).1) (λ id hi.
+    last_reads (λ class. RefItem home id class) class_of (number_reads w16 (2 ^ 16) wide16 Short)
+      (λ y g. ((is_ref places all used y g.1.1).2, same_ref home id (class_of y) y g.1.1.0 g.1.0 g.0 refl))
+      (λ class hc. (refl, (refl, (refl, (refl, (hh, hi, hc)))))))))
+    (λ y h. ref_bytes y h.0)
+
+untagged_reads : (places : ℕ) (all used : Tables) → places < 2 ^ 16 → Few all → (tag : ℕ) → 1 ≤ tag → tag ≤ 7 → Reads (untagged_at places all used tag) untagged (Tagged places all used tag)
+unfolding untagged_at
+untagged_reads places all used few ok zero low high = absurd (omega (arith, low))
+untagged_reads places all used few ok (suc zero) low high = made_reads IntItem (int_reads Short) (λ z h. (refl, h)) (int_item places all used) (λ z. refl)
+untagged_reads places all used few ok (suc (suc zero)) low high = made_reads PlaceItem (place_reads places few) (λ p h. (refl, h)) (place_item places all used) (λ p. refl)
+untagged_reads places all used few ok (suc (suc (suc zero))) low high = made_reads TextItem (index_reads used.texts all.texts ok.texts) (λ i h. (refl, h)) (text_item places all used) (λ i. refl)
+untagged_reads places all used few ok (suc (suc (suc (suc zero)))) low high = made_reads RailItem (index_reads used.rails all.rails ok.rails) (λ i h. (refl, h)) (rail_item places all used) (λ i. refl)
+untagged_reads places all used few ok (suc (suc (suc (suc (suc zero))))) low high = made_reads ObjectItem (index_reads used.nodes all.nodes ok.nodes) (λ i h. (refl, h)) (object_item places all used) (λ i. refl)
+untagged_reads places all used few ok (suc (suc (suc (suc (suc (suc zero)))))) low high = spelled_where (done_reads NullItem (refl, tt) (null_item places all used)) (λ y h. null_is_empty y h.0)
+untagged_reads places all used few ok (suc (suc (suc (suc (suc (suc (suc zero))))))) low high = ref_reads places all used few
+untagged_reads places all used few ok (suc (suc (suc (suc (suc (suc (suc (suc tag)))))))) low high = absurd (omega (arith, high))
+
+tag_small : (y : Item) → (1 ≤ tag_of_item y) × (tag_of_item y ≤ 7)
+tag_small (IntItem z) = (omega arith, omega arith)
+tag_small _ = (omega arith, omega arith)
+
+pub item_reads : (places : ℕ) (all : Tables) → places < 2 ^ 16 → Few all → (used : Tables) → Reads (item_at places all used) item_bytes (FitsItem places all used)
+unfolding item_at item_bytes
+item_reads places all few ok used =
+    then_reads tag_of_item untagged (such_that_reads (λ n. leb 1 n && leb n 7) Tag (byte_reads Short))
+      (λ y g. let s = tag_small y in (omega (arith, s), and_of (leb 1 (tag_of_item y)) (leb (tag_of_item y) 7) (le-leb 1 (tag_of_item y) s.0) (le-leb (tag_of_item y) 7 s.1)))
+      (λ tag h. let b = and_both (leb 1 tag) (leb tag 7) h.1 in untagged_reads places all used few ok tag (leb-true 1 tag b.0) (leb-true tag 7 b.1))
