@@ -3,8 +3,9 @@
 
 mod homes;
 mod kind;
+pub mod laws;
 mod stop;
 
 pub use homes::{Homes, Term};
-pub use kind::Kind;
+pub use kind::{fits, meet, Kind};
 pub use stop::Stop;
