@@ -3,6 +3,7 @@
 
 mod homes;
 mod kind;
+mod labels;
 pub mod laws;
 mod stop;
 
