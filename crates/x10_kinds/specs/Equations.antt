@@ -26,6 +26,14 @@ same_term _ _ = false
 abbrev pub Equations : Type 0
 Equations = Term → Term → Bool
 
+-- two equivalences say the same of every two terms
+abbrev pub SameEquations : Equations → Equations → Type 0
+SameEquations r s = (v w : Term) → IsTerm v → IsTerm w → r v w ≡ s v w
+
+-- each equation of the second holds in the first too
+abbrev pub Includes : Equations → Equations → Type 0
+Includes r s = (v w : Term) → IsTerm v → IsTerm w → IsTrue (s v w) → IsTrue (r v w)
+
 -- no two
 abbrev pub alone : Equations
 alone v w = same_term v w
