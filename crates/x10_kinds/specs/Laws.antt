@@ -1,5 +1,5 @@
 -- Laws of the definitions: fitting is an order with least common kinds, and equations are equivalences.
-use Rattle.std.specs.Prelude.{◌≡◌, ℕ, Option, Some, None, IsTrue}
+use Rattle.std.specs.Prelude.{◌≡◌, ℕ, Some, None, IsTrue}
 use Rattle.x10_kinds.specs.declared.kind.Kind.{Kind}
 use Rattle.x10_kinds.specs.declared.homes.Term.{Term}
 use Rattle.x10_kinds.specs.declared.homes.Homes.{Homes}
@@ -73,3 +73,15 @@ WriteOfATermIsAnEquivalence = (r : Equations) (reg : ℕ) (t : Term) → IsTerm 
 -- and so does one of a place that nothing is known of
 abbrev pub WriteOfAnyPlaceIsAnEquivalence : Type 0
 WriteOfAnyPlaceIsAnEquivalence = (r : Equations) (reg : ℕ) → IsEquivalence r → IsEquivalence (written r reg None)
+
+-- a join of what knows more knows more
+abbrev pub JoinIsMonotone : Type 0
+JoinIsMonotone = (r s : Equations) (t u : Term) → IsTerm t → IsTerm u → Includes r s → Includes (joined r t u) (joined s t u)
+
+-- so does a write of a place that a term stands for
+abbrev pub WriteOfATermIsMonotone : Type 0
+WriteOfATermIsMonotone = (r s : Equations) (reg : ℕ) (t : Term) → IsTerm t → Includes r s → Includes (written r reg (Some t)) (written s reg (Some t))
+
+-- and one of a place that nothing is known of
+abbrev pub WriteOfAnyPlaceIsMonotone : Type 0
+WriteOfAnyPlaceIsMonotone = (r s : Equations) (reg : ℕ) → Includes r s → Includes (written r reg None) (written s reg None)

@@ -38,9 +38,8 @@ pub fn meet(a: Kind, b: Kind) -> Option<Kind>
     ensures { result ≡ meet_of a b }
 {
     match (a, b) {
-        (Kind::Obj(class), Kind::Opt(other)) | (Kind::Opt(class), Kind::Obj(other)) if class == other => {
-            Some(Kind::Opt(class))
-        }
+        (Kind::Obj(class), Kind::Opt(other)) | (Kind::Opt(class), Kind::Obj(other))
+            if class == other => { Some(Kind::Opt(class)) }
         _ if a == b => Some(a),
         _ => None,
     }

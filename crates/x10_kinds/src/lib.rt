@@ -6,7 +6,9 @@ mod kind;
 mod labels;
 pub mod laws;
 mod stop;
+#[cfg(test)]
+mod tests;
 
 pub use homes::{Homes, Term};
-pub use kind::{fits, meet, Kind};
+pub use kind::{Kind, fits, meet};
 pub use stop::Stop;

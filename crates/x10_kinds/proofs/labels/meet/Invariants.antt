@@ -1,4 +1,4 @@
-use Rattle.std.proofs.Common.{◌≡◌, ℕ, ◌<◌, slice_index}
+use Rattle.std.proofs.Common.{ℕ, ◌<◌, slice_index}
 use Rattle.x10_kinds.specs.Labels.{IsFirstAlike}
 use Rattle.x10_kinds.proofs.labels.meet.Given as goal
 

@@ -1,4 +1,4 @@
-use Rattle.std.proofs.Common.{◌≡◌, ◌≢◌, ℕ, ◌<◌, slice_index}
+use Rattle.std.proofs.Common.{◌≢◌, ℕ, ◌<◌, slice_index}
 use Rattle.x10_kinds.proofs.labels.next_of.Given as goal
 
 abbrev pub invariant-loop-next : goal.invariant-loop-next
