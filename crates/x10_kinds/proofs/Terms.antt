@@ -1,10 +1,10 @@
 -- Lemmas on terms and their numbers.
-use Rattle.std.proofs.Common.{◌≡◌, ◌≢◌, ℕ, ◌<◌, ◌+◌, ◌-◌, Bool, true, ◌==◌, ◌&&◌, ◌||◌, not, List, Some, None, if◌then◌else◌, slice_index, refl, sym, ◌∙◌, ap, subst, arith, inl, inr}
+use Rattle.std.proofs.Common.{◌≡◌, ◌≢◌, ℕ, ◌<◌, ◌+◌, ◌-◌, true, ◌==◌, ◌&&◌, ◌||◌, List, Some, None, if◌then◌else◌, slice_index, refl, sym, ◌∙◌, ap, subst, arith, inl, inr}
 use Rattle.std.proofs.lemmas.Bool.{eq-eqb, eqb-true, cases_lt, cases_eq, cases_Bool}
 use Rattle.std.proofs.lemmas.Bool.Decides.{nat_tests}
 use Rattle.x10_kinds.specs.declared.homes.Term.{Term}
 use Rattle.x10_kinds.specs.declared.homes.Term.TheVariants.{Here, Place, Reg}
-use Rattle.x10_kinds.specs.Labels.{alike}
+use Rattle.x10_kinds.specs.Labels.{alike, parted_row}
 use Rattle.x10_kinds.specs.Equations.{IsTerm, index_of, same_term, read_as, Equations, SameEquations, joined, written}
 
 -- the number of a term is below 129
@@ -61,13 +61,9 @@ known_of_numbers row less all i k i_within k_within =
     let P : ℕ → ℕ → Type 0 = λ x y. alike less x y ≡ true → alike row x y ≡ true in
     subst (λ x. P x k) at_i.2 (subst (λ y. P (index_of at_i.0) y) at_k.2 (all at_i.0 at_k.0 at_i.1 at_k.1))
 
--- what two labels say once a term has left its class
-abbrev pub parted : ℕ → List ℕ → ℕ → ℕ → Bool
-parted at row i k = (i == k) || (not (i == at) && not (k == at) && alike row i k)
-
 -- a term that is parted from its class and put into another has the other's label
 pub moved : (row : List ℕ) (at to i k : ℕ) → to ≢ at
-    → (parted at row i k || (parted at row i at && parted at row to k) || (parted at row i to && parted at row at k))
+    → (parted_row row at i k || (parted_row row at i at && parted_row row at to k) || (parted_row row at i to && parted_row row at at k))
     ≡ alike row (if i == at then to else i) (if k == at then to else k)
 moved row at to i k other =
     elim (cases_eq i at) [
@@ -83,7 +79,7 @@ moved row at to i k other =
 
 -- a register that has left its class, by the numbers and by the terms
 pub parted-terms : (old new : List ℕ) (reg at : ℕ) → reg < 64 → at ≡ reg + 65
-    → ((i k : ℕ) → i < 129 → k < 129 → alike new i k ≡ parted at old i k)
+    → ((i k : ℕ) → i < 129 → k < 129 → alike new i k ≡ parted_row old at i k)
     → SameEquations (λ v w. alike new (index_of v) (index_of w)) (written (λ v w. alike old (index_of v) (index_of w)) reg None)
 parted-terms old new reg at register at_is numbers v w v_term w_term =
     let one = same_term-index_of v w v_term w_term in
@@ -95,7 +91,7 @@ parted-terms old new reg at register at_is numbers v w v_term w_term =
 -- what two terms say once a register has left its class
 pub parted-written : (row : List ℕ) (mid : Equations) (reg : ℕ) → reg < 64
     → SameEquations mid (written (λ v w. alike row (index_of v) (index_of w)) reg None)
-    → (v w : Term) → IsTerm v → IsTerm w → mid v w ≡ parted (reg + 65) row (index_of v) (index_of w)
+    → (v w : Term) → IsTerm v → IsTerm w → mid v w ≡ parted_row row (reg + 65) (index_of v) (index_of w)
 parted-written row mid reg register same v w v_term w_term =
     let one = same_term-index_of v w v_term w_term in
     let two = same_term-index_of v (Reg reg) v_term register in
@@ -115,7 +111,7 @@ pub rejoined : (row : List ℕ) (mid : Equations) (reg : ℕ) (t : Term) → reg
     → SameEquations mid (written (λ v w. alike row (index_of v) (index_of w)) reg None)
     → SameEquations (joined mid (Reg reg) t) (written (λ v w. alike row (index_of v) (index_of w)) reg (Some t))
 rejoined row mid reg t register t_term other same v w v_term w_term =
-    let parts : (v w : Term) → IsTerm v → IsTerm w → mid v w ≡ parted (reg + 65) row (index_of v) (index_of w) = parted-written row mid reg register same in
+    let parts : (v w : Term) → IsTerm v → IsTerm w → mid v w ≡ parted_row row (reg + 65) (index_of v) (index_of w) = parted-written row mid reg register same in
     let number : index_of t ≢ reg + 65 = λ e. other (index_of-injective t (Reg reg) t_term register e) in
     rw (
       index_of-read_as reg t v register v_term,

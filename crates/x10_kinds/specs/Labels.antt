@@ -1,5 +1,5 @@
 -- Labels: the terms in one row, each labelled by the first term that it is known to be equal to.
-use Rattle.std.specs.Prelude.{◌≡◌, ◌≢◌, ℕ, ◌<◌, ◌≤◌, Bool, ◌==◌, List, slice_index, if◌then◌else◌}
+use Rattle.std.specs.Prelude.{◌≡◌, ◌≢◌, ℕ, ◌<◌, ◌≤◌, Bool, ◌==◌, ◌&&◌, ◌||◌, not, IsTrue, List, slice_index, if◌then◌else◌}
 
 -- each label is the number of the first term of its class, so one equivalence has one row of labels
 pub record IsCanonical (labels : List ℕ) : Type 0 where
@@ -10,9 +10,27 @@ pub record IsCanonical (labels : List ℕ) : Type 0 where
 abbrev pub alike : List ℕ → ℕ → ℕ → Bool
 alike labels i k = slice_index labels i == slice_index labels k
 
+-- the row says of every two terms what r says
+abbrev pub Says : List ℕ → (ℕ → ℕ → Bool) → Type 0
+Says labels r = (i k : ℕ) → i < 129 → k < 129 → alike labels i k ≡ r i k
+
+-- the row has each equation of the other
+abbrev pub ContainsRow : List ℕ → List ℕ → Type 0
+ContainsRow labels less = (i k : ℕ) → i < 129 → k < 129 → IsTrue (alike less i k) → IsTrue (alike labels i k)
+
+-- two terms are equal once the classes of two others are one
+abbrev pub joined_row : List ℕ → ℕ → ℕ → ℕ → ℕ → Bool
+joined_row labels at other i k =
+    alike labels i k || (alike labels i at && alike labels other k) || (alike labels i other && alike labels at k)
+
+-- two terms are equal once another has left its class
+abbrev pub parted_row : List ℕ → ℕ → ℕ → ℕ → Bool
+parted_row labels at i k = (i == k) || (not (i == at) && not (k == at) && alike labels i k)
+
 -- a label is replaced by another wherever it stands
 abbrev pub Relabels : List ℕ → List ℕ → ℕ → ℕ → Type 0
-Relabels old new from to = (i : ℕ) → i < 129 → slice_index new i ≡ (if slice_index old i == from then to else slice_index old i)
+Relabels old new from to =
+    (i : ℕ) → i < 129 → slice_index new i ≡ (if slice_index old i == from then to else slice_index old i)
 
 -- the first number above that of a term at which the term's number is the label
 pub record IsNextOf (labels : List ℕ) (at next : ℕ) : Type 0 where

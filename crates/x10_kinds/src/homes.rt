@@ -32,8 +32,9 @@ impl Term {
     }
 }
 
-/// An equivalence on the 129 terms: which of them are known to be the same place. Every operation is one pass over
-/// 129 bytes and takes no memory.
+/// An equivalence on the 129 terms: which of them are known to be the same place. It is 129 bytes, and no operation
+/// takes memory. `same` takes constant time, every other operation one pass over the bytes; in that of `meet`, a term
+/// that is the first of its class on neither side looks for its class among at most 129 terms before it.
 #[derive(Clone, Copy, Debug)]
 pub struct Homes {
     labels: Labels,
@@ -83,7 +84,7 @@ impl Homes {
         }
     }
 
-    /// What is known on both of two ways to the same point.
+    /// What is known on both of two ways to the same point: the equations that hold in both.
     pub fn meet(&self, other: &Homes) -> Homes
         ensures { SameEquations (equations result) (met (equations self.now) (equations other.now)) }
     {

@@ -1,4 +1,5 @@
 ghost use Rattle.std.specs.Prelude.{◌≡◌, ◌↔◌, IsTrue};
+ghost use Rattle.x10_kinds.specs.Kinds.{Fits, meet_of};
 
 /// What a register, a field, a parameter or a result holds. Classes are numbered from 0 in their module.
 #[derive(Clone, Copy, Debug, PartialEq, Eq)]
@@ -18,8 +19,6 @@ pub enum Kind {
     /// A global reference to an object of the class (X10 2.2, 13.2 `GlobalRef`).
     GRef(u16),
 }
-
-ghost use Rattle.x10_kinds.specs.Kinds.{Fits, meet_of};
 
 /// Whether a value of kind `have` may stand where a `want` is asked for: the kinds are the same, or the object
 /// of a class stands where an object of that class or null is asked for.

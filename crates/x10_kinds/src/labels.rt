@@ -1,7 +1,8 @@
 //! Rows of labels: an equivalence on the terms by their numbers. Each term has as its label the number of the first
 //! term that it is known to be equal to. Every function here is a pass over the row.
-ghost use Rattle.std.specs.Prelude.{◌≡◌, ◌≢◌, ◌↔◌, ℕ, ◌<◌, Bool, ◌==◌, ◌&&◌, ◌||◌, not, MatchOption, IsTrue, slice_index};
-ghost use Rattle.x10_kinds.specs.Labels.{IsCanonical, IsFirstAlike, IsNextOf, HasNoNext, Relabels, alike};
+ghost use Rattle.std.specs.Prelude.{◌≡◌, ◌↔◌, ◌<◌, ◌==◌, ◌&&◌, MatchOption, IsTrue};
+ghost use Rattle.x10_kinds.specs.Labels.{IsCanonical, IsFirstAlike, IsNextOf, HasNoNext, Relabels};
+ghost use Rattle.x10_kinds.specs.Labels.{Says, ContainsRow, alike, joined_row, parted_row};
 
 /// How many terms there are: here, the places 0 to 63, the registers 0 to 63.
 pub const TERMS: usize = 129;
@@ -12,7 +13,7 @@ pub type Labels = [u8; TERMS];
 /// Each term alone.
 pub fn apart() -> Labels
     ensures canonical { IsCanonical result }
-    ensures alone { (i k : ℕ) → i < 129 → k < 129 → alike result i k ≡ (i == k) }
+    ensures alone { Says result (λ i k. i == k) }
 {
     let mut labels = [0; TERMS];
     for (at, label) in labels.iter_mut().enumerate() {
@@ -27,7 +28,7 @@ pub fn join(labels: &mut Labels, at: usize, other: usize)
     requires at_within { at < 129 }
     requires other_within { other < 129 }
     ensures canonical { IsCanonical labels.new }
-    ensures joined { (i k : ℕ) → i < 129 → k < 129 → alike labels.new i k ≡ (alike labels.old i k || (alike labels.old i at && alike labels.old other k) || (alike labels.old i other && alike labels.old at k)) }
+    ensures joined { Says labels.new (joined_row labels.old at other) }
 {
     let (one, two) = (labels[at], labels[other]);
     relabel(labels, one.max(two), one.min(two));
@@ -38,7 +39,7 @@ pub fn leave(labels: &mut Labels, at: usize)
     requires canonical { IsCanonical labels.old }
     requires within { at < 129 }
     ensures canonical { IsCanonical labels.new }
-    ensures left { (i k : ℕ) → i < 129 → k < 129 → alike labels.new i k ≡ ((i == k) || (not (i == at) && not (k == at) && alike labels.old i k)) }
+    ensures left { Says labels.new (parted_row labels.old at) }
 {
     if let Some(next) = next_of(labels, at) {
         relabel(labels, at as u8, next as u8);
@@ -51,7 +52,7 @@ pub fn meet(a: &Labels, b: &Labels) -> Labels
     requires left { IsCanonical a.now }
     requires right { IsCanonical b.now }
     ensures canonical { IsCanonical result }
-    ensures met { (i k : ℕ) → i < 129 → k < 129 → alike result i k ≡ (alike a.now i k && alike b.now i k) }
+    ensures met { Says result (λ i k. alike a.now i k && alike b.now i k) }
 {
     let mut labels = [0; TERMS];
     for (at, label) in labels.iter_mut().enumerate() {
@@ -63,7 +64,7 @@ pub fn meet(a: &Labels, b: &Labels) -> Labels
 /// Whether terms that are equal by the one row are equal by the other too.
 pub fn contains(labels: &Labels, less: &Labels) -> bool
     requires { IsCanonical less.now }
-    ensures { IsTrue result ↔ ((i k : ℕ) → i < 129 → k < 129 → IsTrue (alike less.now i k) → IsTrue (alike labels.now i k)) }
+    ensures { IsTrue result ↔ ContainsRow labels.now less.now }
 {
     for (at, label) in less.iter().enumerate() {
         if labels[at] != labels[*label as usize] {

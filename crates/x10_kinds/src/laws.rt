@@ -1,5 +1,11 @@
 //! Laws of the definitions that the contracts cite. The functions do nothing: their contracts are the laws.
-ghost use Rattle.x10_kinds.specs.Laws.{FittingIsReflexive, FittingIsTransitive, FittingIsAntisymmetric, MeetIsAbove, MeetIsLeast, NoMeetIsNone, EquationsAreAnEquivalence, AloneIsLeast, JoinKeeps, JoinEquates, JoinIsAnEquivalence, JoinIsLeast, MetIsAnEquivalence, MetIsBelow, MetIsGreatest, WriteOfATermIsAnEquivalence, WriteOfAnyPlaceIsAnEquivalence, JoinIsMonotone, WriteOfATermIsMonotone, WriteOfAnyPlaceIsMonotone};
+ghost use Rattle.x10_kinds.specs.Laws.{FittingIsReflexive, FittingIsTransitive, FittingIsAntisymmetric};
+ghost use Rattle.x10_kinds.specs.Laws.{MeetIsAbove, MeetIsLeast, NoMeetIsNone};
+ghost use Rattle.x10_kinds.specs.Laws.{EquationsAreAnEquivalence, AloneIsLeast};
+ghost use Rattle.x10_kinds.specs.Laws.{JoinKeeps, JoinEquates, JoinIsAnEquivalence, JoinIsLeast, JoinIsMonotone};
+ghost use Rattle.x10_kinds.specs.Laws.{MetIsAnEquivalence, MetIsBelow, MetIsGreatest};
+ghost use Rattle.x10_kinds.specs.Laws.{WriteOfATermIsAnEquivalence, WriteOfAnyPlaceIsAnEquivalence};
+ghost use Rattle.x10_kinds.specs.Laws.{WriteOfATermIsMonotone, WriteOfAnyPlaceIsMonotone};
 
 /// `fits` is an order: each kind fits itself, and what fits a kind fits each kind that this one fits.
 pub fn fitting_is_an_order()
