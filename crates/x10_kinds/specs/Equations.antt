@@ -61,5 +61,5 @@ pub record IsEquivalence (r : Equations) : Type 0 where
   pub transitive : (u v w : Term) → IsTerm u → IsTerm v → IsTerm w → IsTrue (r u v) → IsTrue (r v w) → IsTrue (r u w)
 
 -- what a value of the program says: two terms are equal where their labels are
-abbrev pub equations : Homes → Equations
+unfoldable pub equations : Homes → Equations
 equations h v w = slice_index h.labels (index_of v) == slice_index h.labels (index_of w)

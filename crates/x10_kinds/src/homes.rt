@@ -45,6 +45,7 @@ impl Homes {
     ghost use Rattle.x10_kinds.specs.Equations.{IsTerm, Includes, SameEquations, alone, equations, joined, met, written};
 
     /// Nothing is known: every term is equal to itself alone.
+    #[tactic(auto, unfolding(crate::specs::Equations::equations))]
     pub fn new() -> Homes
         ensures { SameEquations (equations result) alone }
     {
@@ -54,6 +55,7 @@ impl Homes {
     }
 
     /// Whether the two terms are known to be the same place.
+    #[tactic(auto, unfolding(crate::specs::Equations::equations))]
     pub fn same(&self, t: Term, u: Term) -> bool
         requires left { IsTerm t }
         requires right { IsTerm u }
@@ -63,6 +65,7 @@ impl Homes {
     }
 
     /// Learns that the two terms are the same place, and what follows from it.
+    #[tactic(auto, unfolding(crate::specs::Equations::equations))]
     pub fn join(&mut self, t: Term, u: Term)
         requires left { IsTerm t }
         requires right { IsTerm u }
@@ -85,6 +88,7 @@ impl Homes {
     }
 
     /// What is known on both of two ways to the same point: the equations that hold in both.
+    #[tactic(auto, unfolding(crate::specs::Equations::equations))]
     pub fn meet(&self, other: &Homes) -> Homes
         ensures { SameEquations (equations result) (met (equations self.now) (equations other.now)) }
     {
@@ -101,6 +105,7 @@ impl Homes {
     }
 
     // The register stands for the place of the term.
+    #[tactic(auto, unfolding(crate::specs::Equations::equations))]
     fn follow(&mut self, reg: u8, term: Term)
         requires register { reg < 64 }
         requires term { IsTerm term }
