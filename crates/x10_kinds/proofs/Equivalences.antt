@@ -1,10 +1,24 @@
 -- Joins, meets and writes of equivalences are equivalences, and a join is the least one.
-use Rattle.std.proofs.Common.{◌≡◌, ℕ, true, false, ◌&&◌, ◌||◌, ◌⊎◌, inl, inr, Some, None, not, sym, if◌then◌else◌, subst}
-use Rattle.std.proofs.lemmas.Bool.{or_cases, or_left, or_right, and_parts, and_from}
+use Rattle.std.proofs.Common.{◌≡◌, ℕ, true, false, ◌&&◌, ◌||◌, ◌⊎◌, inl, inr, Some, None, not, sym, if◌then◌else◌, subst, refl, ◌∙◌}
+use Rattle.std.proofs.lemmas.Bool.{eq-eqb, eqb-true, or_cases, or_left, or_right, and_parts, and_from}
+use Rattle.x10_kinds.specs.declared.homes.Homes.{Homes}
 use Rattle.x10_kinds.specs.declared.homes.Term.{Term}
 use Rattle.x10_kinds.specs.declared.homes.Term.TheVariants.{Reg}
-use Rattle.x10_kinds.specs.Equations.{Equations, IsTerm, IsEquivalence, Includes, joined, met, written, same_term, read_as}
+use Rattle.x10_kinds.specs.Equations.{Equations, IsTerm, IsEquivalence, Includes, alone, equations, joined, met, written, same_term, read_as}
 use Rattle.x10_kinds.proofs.Terms.{same_term-is, same_term-same}
+
+-- what labels say is an equivalence
+pub equations_is : (h : Homes) → IsEquivalence (equations h)
+unfolding equations
+equations_is h = record {
+  reflexive = λ v _. eq-eqb _ _ refl;
+  symmetric = λ v w _ _ e. eq-eqb _ _ (sym (eqb-true _ _ e));
+  transitive = λ u v w _ _ _ a b. eq-eqb _ _ (eqb-true _ _ a ∙ eqb-true _ _ b);
+}
+
+-- every equivalence has the equations of a term with itself
+pub alone_within : (r : Equations) → IsEquivalence r → Includes r alone
+alone_within r is v w v_term w_term e = subst (λ x. r v x ≡ true) (same_term-is v w e) (is.reflexive v v_term)
 
 -- the three ways in which two terms are joined
 abbrev pub Ways : Equations → Term → Term → Term → Term → Type 0
@@ -73,6 +87,21 @@ within_ways r s t u v w t_term u_term v_term w_term is more equal (inr (inr a)) 
 pub joined_within : (r s : Equations) (t u : Term) → IsTerm t → IsTerm u → IsEquivalence s → Includes s r → s t u ≡ true → Includes s (joined r t u)
 joined_within r s t u t_term u_term is more equal v w v_term w_term e =
     within_ways r s t u v w t_term u_term v_term w_term is more equal (ways r t u v w e)
+
+-- a join keeps what was known
+pub joined_keeps : (r : Equations) (t u : Term) → Includes (joined r t u) r
+joined_keeps r t u v w v_term w_term e = from_ways r t u v w (inl e)
+
+-- a join makes the two terms equal
+pub joined_equates : (r : Equations) (t u : Term) → IsTerm t → IsTerm u → IsEquivalence r → joined r t u t u ≡ true
+joined_equates r t u t_term u_term is = from_ways r t u t u (inr (inl (is.reflexive t t_term, is.reflexive u u_term)))
+
+-- what holds in both of two equivalences holds in each, and what holds in each holds in both
+pub met_below : (r s : Equations) → Includes r (met r s) × Includes s (met r s)
+met_below r s = (λ v w _ _ e. (and_parts (r v w) (s v w) e).0, λ v w _ _ e. (and_parts (r v w) (s v w) e).1)
+
+pub met_greatest : (r s q : Equations) → Includes r q → Includes s q → Includes (met r s) q
+met_greatest r s q left right v w v_term w_term e = and_from _ _ (left v w v_term w_term e) (right v w v_term w_term e)
 
 -- what two equivalences have in common is an equivalence
 pub met_is : (r s : Equations) → IsEquivalence r → IsEquivalence s → IsEquivalence (met r s)

@@ -22,7 +22,6 @@ pub fn meet_is_least()
 {}
 
 /// What a `Homes` says is an equivalence on the terms.
-#[tactic(auto, unfolding(crate::specs::Equations::equations))]
 pub fn homes_are_equivalences()
     ensures { EquationsAreAnEquivalence }
 {}
