@@ -55,6 +55,7 @@ written r reg None v w = same_term v w || (not (same_term v (Reg reg)) && not (s
 abbrev pub met : Equations → Equations → Equations
 met r s v w = r v w && s v w
 
+-- equality, as far as it is known: of each term with itself, both ways, and along a third term
 pub record IsEquivalence (r : Equations) : Type 0 where
   pub reflexive : (v : Term) → IsTerm v → IsTrue (r v v)
   pub symmetric : (v w : Term) → IsTerm v → IsTerm w → IsTrue (r v w) → IsTrue (r w v)
