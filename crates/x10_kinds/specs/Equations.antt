@@ -26,6 +26,14 @@ same_term _ _ = false
 abbrev pub Equations : Type 0
 Equations = Term → Term → Bool
 
+-- two equivalences say the same of every two terms
+abbrev pub SameEquations : Equations → Equations → Type 0
+SameEquations r s = (v w : Term) → IsTerm v → IsTerm w → r v w ≡ s v w
+
+-- each equation of the second holds in the first too
+abbrev pub Includes : Equations → Equations → Type 0
+Includes r s = (v w : Term) → IsTerm v → IsTerm w → IsTrue (s v w) → IsTrue (r v w)
+
 -- no two
 abbrev pub alone : Equations
 alone v w = same_term v w
@@ -47,11 +55,12 @@ written r reg None v w = same_term v w || (not (same_term v (Reg reg)) && not (s
 abbrev pub met : Equations → Equations → Equations
 met r s v w = r v w && s v w
 
+-- equality, as far as it is known: of each term with itself, both ways, and along a third term
 pub record IsEquivalence (r : Equations) : Type 0 where
   pub reflexive : (v : Term) → IsTerm v → IsTrue (r v v)
   pub symmetric : (v w : Term) → IsTerm v → IsTerm w → IsTrue (r v w) → IsTrue (r w v)
   pub transitive : (u v w : Term) → IsTerm u → IsTerm v → IsTerm w → IsTrue (r u v) → IsTrue (r v w) → IsTrue (r u w)
 
 -- what a value of the program says: two terms are equal where their labels are
-abbrev pub equations : Homes → Equations
+unfoldable pub equations : Homes → Equations
 equations h v w = slice_index h.labels (index_of v) == slice_index h.labels (index_of w)

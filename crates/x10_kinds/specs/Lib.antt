@@ -1,2 +1,4 @@
 pub mod Kinds
+pub mod Labels
 pub mod Equations
+pub mod Laws

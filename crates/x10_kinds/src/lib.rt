@@ -3,8 +3,12 @@
 
 mod homes;
 mod kind;
+mod labels;
+pub mod laws;
 mod stop;
+#[cfg(test)]
+mod tests;
 
 pub use homes::{Homes, Term};
-pub use kind::Kind;
+pub use kind::{Kind, fits, meet};
 pub use stop::Stop;
