@@ -5,3 +5,4 @@ pub mod ImageParts
 pub mod FunctionLaws
 pub mod ImageLaws
 pub mod ItemLaws
+pub mod GraphLaws
