@@ -6,3 +6,4 @@ pub mod FunctionLaws
 pub mod ImageLaws
 pub mod ItemLaws
 pub mod GraphLaws
+pub mod FrameLaws
