@@ -1,11 +1,10 @@
 -- A frame is read again, and what is read is spelled so.
-use Rattle.std.proofs.Common.{◌≡◌, ℕ, zero, suc, ◌+◌, ◌^◌, ◌<◌, ◌≤◌, Bool, true, false, ◌&&◌, leb, List, [], ◌∷◌, ◌++◌, length, Option, Some, None, Result, Ok, Err, refl, sym, ap, subst, ◌∙◌, arith, leb-true, le-leb, flat_map}
-use Rattle.std.specs.List.{AllByRecursion}
+use Rattle.std.proofs.Common.{◌≡◌, ℕ, zero, suc, ◌^◌, ◌<◌, ◌≤◌, ◌&&◌, leb, List, [], ◌++◌, Result, Ok, refl, sym, ap, subst, ◌∙◌, arith, leb-true, le-leb}
 use Rattle.std.specs.Int.{w16, w32, to_be_bytes}
 use Rattle.x10_model.specs.Frames.{Graph, Launch, launch, Frame, Spawn, Shift, Back, Report, FitsGraph, FitsLaunch, FitsCounts, FitsBody, FitsFrame, graph_bytes, launch_bytes, counts_bytes, type_of, from_of, to_of, body_bytes, spelling}
-use Rattle.x10_model.specs.Readers.{Reader, IsBytes, number, byte, times, bind, done, all_of}
-use Rattle.x10_model.specs.ReadingFrames.{FrameFault, Short, Version, FrameType, Place, Trailing, place_at, graph_at, launch_at, body_at, parts_at, frame_at}
-use Rattle.x10_model.proofs.ReaderLaws.{Reads, and_both, and_of, then_reads, last_reads, made_reads, such_that_reads, expect_reads, spelled_as, spelled_where}
+use Rattle.x10_model.specs.Readers.{IsBytes, number, times}
+use Rattle.x10_model.specs.ReadingFrames.{FrameFault, Short, Version, FrameType, Place, Trailing, launch_at, body_at, parts_at, frame_at}
+use Rattle.x10_model.proofs.ReaderLaws.{Reads, and_both, and_of, then_reads, last_reads, made_reads, such_that_reads, expect_reads, spelled_where}
 use Rattle.x10_model.proofs.PartLaws.{byte_reads, number_reads, each_reads, all_again, all_takes, wide16, wide32}
 use Rattle.x10_model.proofs.ItemLaws.{place_reads}
 use Rattle.x10_model.proofs.GraphLaws.{graph_reads}
@@ -20,8 +19,8 @@ launch_reads places few =
     then_reads (λ l. l.number) (λ l. to_be_bytes w16 l.function ++ graph_bytes l.graph) (number_reads w32 (2 ^ 32) wide32 Short) (λ l g. g.1.number) (λ finish hn.
     then_reads (λ l. l.function) (λ l. graph_bytes l.graph) (number_reads w16 (2 ^ 16) wide16 Short) (λ l g. g.1.1.function) (λ function hf.
     last_reads (launch home finish function) (λ l. l.graph) (graph_reads places 16 few (omega arith))
-      (λ l g. (g.1.1.1.graph, same_launch home finish function l g.1.1.0 g.1.0 g.0))
-      (λ graph hg. (refl, (refl, (refl, (refl, record { home = hh; number = hn; function = hf; graph = hg }))))))))
+    (λ l g. (g.1.1.1.graph, same_launch home finish function l g.1.1.0 g.1.0 g.0))
+    (λ graph hg. (refl, (refl, (refl, (refl, record { home = hh; number = hn; function = hf; graph = hg }))))))))
 
 -- a frame that fits, of a type, from one place to another
 abbrev Headed : (places type from to : ℕ) → Frame → Type 0
@@ -134,8 +133,8 @@ report_reads places from to few hf ht = spelled_where
     expect_reads places Place (number_reads w16 (2 ^ 16) wide16 Short) few
     (then_reads sent_of (λ y. counts_bytes (received_of y)) (counts_read places) (λ y g. (is_report places from to y g.1).sent) (λ sent hs.
     last_reads (Report from to finish sent) received_of (counts_read places)
-      (λ y g. let r = is_report places from to y g.1.1 in (r.received, report_is from to finish sent y r.same g.1.0 g.0))
-      (λ received hr. (refl, (refl, (refl, headed places from to (Report from to finish sent received) hf ht refl refl (hn, hs, hr)))))))))
+    (λ y g. let r = is_report places from to y g.1.1 in (r.received, report_is from to finish sent y r.same g.1.0 g.0))
+    (λ received hr. (refl, (refl, (refl, headed places from to (Report from to finish sent received) hf ht refl refl (hn, hs, hr)))))))))
     (λ y g. (is_report places from to y g).spelled)
 
 -- ---- the whole
@@ -157,7 +156,7 @@ unfolding parts_at spelling
 parts_read places few =
     expect_reads 1 Version (byte_reads Short) (omega arith)
     (then_reads type_of (λ y. to_be_bytes w16 (from_of y) ++ (to_be_bytes w16 (to_of y) ++ body_bytes y)) (such_that_reads (λ n. leb 1 n && leb n 4) FrameType (byte_reads Short))
-      (λ y g. let s = type_small y in (omega (arith, s), and_of (leb 1 (type_of y)) (leb (type_of y) 4) (le-leb 1 (type_of y) s.0) (le-leb (type_of y) 4 s.1))) (λ type h.
+    (λ y g. let s = type_small y in (omega (arith, s), and_of (leb 1 (type_of y)) (leb (type_of y) 4) (le-leb 1 (type_of y) s.0) (le-leb (type_of y) 4 s.1))) (λ type h.
     then_reads from_of (λ y. to_be_bytes w16 (to_of y) ++ body_bytes y) (place_reads places few) (λ y g. g.1.from) (λ from hf.
     then_reads to_of body_bytes (place_reads places few) (λ y g. g.1.1.to) (λ to ht.
     let b = and_both (leb 1 type) (leb type 4) h.1 in

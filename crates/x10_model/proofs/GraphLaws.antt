@@ -1,38 +1,38 @@
 -- The graph of a frame is read again, and what is read of it is spelled so.
-use Rattle.std.proofs.Common.{◌≡◌, ℕ, ℤ, zero, suc, ◌+◌, ◌*◌, ◌^◌, ◌<◌, ◌≤◌, Bool, true, false, cond, ◌&&◌, eqb, ltb, leb, List, [], ◌∷◌, ◌++◌, length, Option, Some, None, IfSome, Result, Ok, Err, refl, sym, ap, subst, ◌∙◌, arith, eqb-true, eq-eqb, ltb-true, lt-ltb, leb-true, le-leb, flat_map, length-append}
+use Rattle.std.proofs.Common.{◌≡◌, ℕ, ◌^◌, ◌<◌, ◌≤◌, true, ◌&&◌, eqb, ltb, leb, List, ◌∷◌, ◌++◌, length, refl, subst, arith, eqb-true, eq-eqb, ltb-true, lt-ltb, leb-true, le-leb, flat_map}
 use Rattle.std.specs.List.{AllByRecursion}
-use Rattle.std.specs.Int.{w16, w32, w64, to_be_bytes}
+use Rattle.std.specs.Int.{w16, w32, to_be_bytes}
 use Rattle.std.specs.Str.{is_utf8}
 use Rattle.std.proofs.lemmas.Str.{IsUtf8-from_is_utf8, is_utf8-from_IsUtf8}
 use Rattle.x10_model.specs.Modules.{FitsText}
-use Rattle.x10_model.specs.Frames.{Item, Node, Graph, Tables, tables, tables_of, none, uses, used_after, Turn, turn, next_turn, used_in_all, FitsItem, FitsItems, FitsNode, FitsRail, FitsGraph, item_bytes, blob_bytes, node_bytes, graph_bytes}
-use Rattle.x10_model.specs.Readers.{Reader, IsBytes, FitsEach, number, byte, part, many, times, bind, done}
-use Rattle.x10_model.specs.ReadingFrames.{FrameFault, Short, Order, Text, length_at, text_at, rail_at, item_at, node_at, same_tables, graph_at}
-use Rattle.x10_model.proofs.ReaderLaws.{Reads, and_both, and_of, then_reads, last_reads, check_reads, such_that_reads, fits_as, spelled_as}
+use Rattle.x10_model.specs.Frames.{Item, Node, Graph, Tables, tables, tables_of, none, uses, used_after, Turn, turn, next_turn, used_in_all, FitsItems, FitsNode, FitsRail, FitsGraph, item_bytes, blob_bytes, node_bytes, graph_bytes}
+use Rattle.x10_model.specs.Readers.{FitsEach}
+use Rattle.x10_model.specs.ReadingFrames.{Short, Order, Text, length_at, text_at, rail_at, node_at, same_tables, graph_at}
+use Rattle.x10_model.proofs.ReaderLaws.{Reads, and_both, and_of, then_reads, last_reads, check_reads, such_that_reads, fits_as}
 use Rattle.x10_model.proofs.PartLaws.{byte_reads, number_reads, part_reads, part_reads_any, many_reads, each_reads, wide16, wide32}
 use Rattle.x10_model.proofs.ItemLaws.{Few, item_reads}
 
 length_reads : Reads length_at (to_be_bytes w32) (λ n. n < 2 ^ 16)
 unfolding length_at
 length_reads = fits_as (such_that_reads (λ n. leb n 65535) Order (number_reads w32 (2 ^ 32) wide32 Short))
-  (λ n h. omega (arith, leb-true n 65535 h.1))
-  (λ n h. (omega arith, le-leb n 65535 (omega arith)))
+    (λ n h. omega (arith, leb-true n 65535 h.1))
+    (λ n h. (omega arith, le-leb n 65535 (omega arith)))
 
 text_reads : Reads text_at blob_bytes FitsText
 unfolding text_at blob_bytes
 text_reads =
     then_reads (λ text. length text) (λ text. text) length_reads (λ text g. g.length) (λ n lt.
     fits_as (such_that_reads is_utf8 Text (part_reads_any n Short))
-      (λ text h. (h.0, record { length = omega (arith, h.0, lt); utf8 = IsUtf8-from_is_utf8 text h.1 }))
-      (λ text h. (h.0, is_utf8-from_IsUtf8 text h.1.utf8)))
+    (λ text h. (h.0, record { length = omega (arith, h.0, lt); utf8 = IsUtf8-from_is_utf8 text h.1 }))
+    (λ text h. (h.0, is_utf8-from_IsUtf8 text h.1.utf8)))
 
 rail_reads : Reads rail_at blob_bytes FitsRail
 unfolding rail_at blob_bytes
 rail_reads =
     then_reads (λ rail. length rail) (λ rail. rail) length_reads (λ rail g. g.length) (λ n lt.
     fits_as (part_reads n Short)
-      (λ rail h. (h.0, record { length = omega (arith, h.0, lt); bytes = h.1 }))
-      (λ rail h. (h.0, h.1.bytes)))
+    (λ rail h. (h.0, record { length = omega (arith, h.0, lt); bytes = h.1 }))
+    (λ rail h. (h.0, h.1.bytes)))
 
 -- ---- nodes
 
@@ -49,8 +49,8 @@ node_reads places all few ok t =
     check_reads (ltb t.number t.used.nodes) Order (λ n g. lt-ltb t.number t.used.nodes g.1.used) (λ used.
     then_reads (λ n. length n.fields) (λ n. flat_map item_bytes n.fields) (such_that_reads (λ k. leb k 16) Order (byte_reads Short)) (λ n g. (omega (arith, g.1.count), le-leb (length n.fields) 16 g.1.count)) (λ count hn.
     last_reads (node_of class) (λ n. n.fields) (many_reads uses (item_reads places all few ok) count t.used)
-      (λ n g. ((g.0, g.1.1.fields), same_node class n g.1.0))
-      (λ fields h. (refl, (h.0, (refl, record { class = hc; used = ltb-true t.number t.used.nodes used; count = omega (arith, leb-true count 16 hn.1, h.0); fields = h.1 })))))))
+    (λ n g. ((g.0, g.1.1.fields), same_node class n g.1.0))
+    (λ fields h. (refl, (h.0, (refl, record { class = hc; used = ltb-true t.number t.used.nodes used; count = omega (arith, leb-true count 16 hn.1, h.0); fields = h.1 })))))))
 
 -- ---- graphs
 
@@ -136,7 +136,7 @@ graph_reads places most few small =
     then_reads (λ g. g.texts) from_rails (each_reads (λ s _. s) (λ _. text_reads) t 0) (λ g h. (h.1.1.1.0, h.1.1.1.1.1.texts.1)) (λ texts htexts.
     then_reads (λ g. g.rails) from_nodes (each_reads (λ s _. s) (λ _. rail_reads) r 0) (λ g h. (h.1.1.1.0, h.1.1.1.1.1.1.rails.1)) (λ rails hrails.
     last_reads (graph_of roots texts rails) (λ g. g.nodes)
-      (such_that_reads (λ nodes. same_tables (used_in_all roots nodes) (tables t r n)) Order (many_reads next_turn (node_reads places (tables t r n) few ok) n (turn 0 (used_after none roots))))
-      (λ g h. let c = counted places most t r n g h.1.1.1.1.1.0 h.1.1.1.1.0 h.1.1.1.0 h.1.1.1.1.1.1.1 in (((h.1.1.1.0, on_roots places (tables t r n) roots g h.1.1.0 c.nodes), of_same_tables (used_in_all roots g.nodes) (tables t r n) (rw (← h.1.1.0) c.used)), same_graph roots texts rails g h.1.1.0 h.1.0 h.0))
-      (λ nodes h. let c : Counted places most (tables t r n) (graph_of roots texts rails nodes) = record { roots = hroots.1; nodes = h.0.1; used = same_tables_of (used_in_all roots nodes) (tables t r n) h.1 } in
-        (refl, (refl, (refl, (refl, (h.0.0, (hrails.0, (htexts.0, (hroots.0, fits_graph places most k t r n (graph_of roots texts rails nodes) (leb-true k most hk.1) hroots.0 htexts.0 hrails.0 h.0.0 ok htexts.1 hrails.1 c))))))))))))))))
+    (such_that_reads (λ nodes. same_tables (used_in_all roots nodes) (tables t r n)) Order (many_reads next_turn (node_reads places (tables t r n) few ok) n (turn 0 (used_after none roots))))
+    (λ g h. let c = counted places most t r n g h.1.1.1.1.1.0 h.1.1.1.1.0 h.1.1.1.0 h.1.1.1.1.1.1.1 in (((h.1.1.1.0, on_roots places (tables t r n) roots g h.1.1.0 c.nodes), of_same_tables (used_in_all roots g.nodes) (tables t r n) (rw (← h.1.1.0) c.used)), same_graph roots texts rails g h.1.1.0 h.1.0 h.0))
+    (λ nodes h. let c : Counted places most (tables t r n) (graph_of roots texts rails nodes) = record { roots = hroots.1; nodes = h.0.1; used = same_tables_of (used_in_all roots nodes) (tables t r n) h.1 } in
+    (refl, (refl, (refl, (refl, (h.0.0, (hrails.0, (htexts.0, (hroots.0, fits_graph places most k t r n (graph_of roots texts rails nodes) (leb-true k most hk.1) hroots.0 htexts.0 hrails.0 h.0.0 ok htexts.1 hrails.1 c))))))))))))))))

@@ -1,6 +1,6 @@
 -- Laws of frames, and worked examples.
-use Rattle.std.specs.Prelude.{◌≡◌, ℕ, ◌<◌, ◌^◌, List, [], ◌∷◌, ◌++◌, Result, Ok, Err, slice_index}
-use Rattle.x10_model.specs.Frames.{Item, ObjectItem, RailItem, RefItem, Node, Graph, Frame, Spawn, Report, FitsFrame, spelling}
+use Rattle.std.specs.Prelude.{◌≡◌, ℕ, ◌<◌, ◌^◌, List, [], ◌∷◌, ◌++◌, Ok, Err, slice_index}
+use Rattle.x10_model.specs.Frames.{ObjectItem, RailItem, RefItem, Node, Graph, Frame, Spawn, Report, FitsFrame, spelling}
 use Rattle.x10_model.specs.ReadingFrames.{FrameFault, Short, Version, FrameType, Place, Tag, Text, Order, Trailing, frame_at}
 
 -- what is spelled is read again

@@ -5,20 +5,17 @@ ghost use Rattle.x10_model.specs.LawsOfFrames.{IsReadAgain, IsOneFrame, IsSpelle
 /// Reading the bytes of a frame gives that frame.
 pub fn spelled_is_read()
     ensures again { IsReadAgain }
-{
-}
+{}
 
 /// No two frames have the same bytes.
 pub fn one_frame_for_its_bytes()
     ensures same { IsOneFrame }
-{
-}
+{}
 
 /// Bytes that are read as a frame are its spelling.
 pub fn read_is_spelled()
     ensures fits_and_spelled { IsSpelledSo }
-{
-}
+{}
 
 /// Four frames and their bytes, both ways.
 pub fn examples()
@@ -26,8 +23,7 @@ pub fn examples()
     ensures least { IsLeast }
     ensures report { IsReport }
     ensures cycle { IsCycle }
-{
-}
+{}
 
 /// Bytes that are refused, each with its first fault.
 pub fn refusals()
@@ -47,5 +43,4 @@ pub fn refusals()
     ensures version { IsVersion }
     ensures frame_type { IsFrameType }
     ensures other_places { IsOtherPlaces }
-{
-}
+{}

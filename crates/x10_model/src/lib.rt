@@ -1,5 +1,5 @@
 //! The definitions of the machine, and laws about them.
 #![tactic(auto)]
 
-mod frames;
-mod images;
+pub mod frames;
+pub mod images;

@@ -1,7 +1,6 @@
 -- By computation.
 use Rattle.std.proofs.Common.{refl}
 use Rattle.std.specs.Str.{is_utf8, chars}
-use Rattle.x10_model.specs.Frames.{item_bytes, blob_bytes, node_bytes, graph_bytes, launch_bytes, spelling}
 use Rattle.x10_model.specs.Readers.{bind, done, check, such_that, expect, given, part, byte, number, int, many, all_of}
 use Rattle.x10_model.specs.ReadingFrames.{place_at, index_at, untagged_at, item_at, length_at, text_at, rail_at, node_at, graph_at, launch_at, body_at, parts_at, frame_at}
 use Rattle.x10_model.proofs.frames.refusals.Goals as goal
