@@ -7,3 +7,4 @@ pub mod ImageLaws
 pub mod ItemLaws
 pub mod GraphLaws
 pub mod FrameLaws
+pub mod Loops
