@@ -1,4 +1,4 @@
--- Laws of frames, and worked examples.
+-- Laws of frames, and worked examples. The number of places is any that 16 bits hold.
 use Rattle.std.specs.Prelude.{◌≡◌, ℕ, ◌<◌, ◌^◌, List, [], ◌∷◌, ◌++◌, Ok, Err, slice_index}
 use Rattle.x10_model.specs.Frames.{ObjectItem, RailItem, RefItem, Node, Graph, Frame, Spawn, Report, FitsFrame, spelling}
 use Rattle.x10_model.specs.ReadingFrames.{FrameFault, Short, Version, FrameType, Place, Tag, Text, Order, Trailing, frame_at}
