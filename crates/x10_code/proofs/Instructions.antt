@@ -17,7 +17,7 @@ unfolding spelling
 length-spelling i = refl
 
 -- `fitted` by the test's answer
-abbrev if_fits : Bool → Instr → Result Instr CodeFault
+abbrev pub if_fits : Bool → Instr → Result Instr CodeFault
 if_fits b i = cond b (Ok i) (Err UnusedNotZero)
 
 -- an instruction that its form fits is its own answer
@@ -29,7 +29,7 @@ fitted_ok : (made i : Instr) (b : Bool) → fits_form made ≡ b → if_fits b m
 fitted_ok made i true fits e = (fits, cc)
 fitted_ok made i false fits e = absurd cc
 
-abbrev instr : Op → (a b c x : ℕ) → Instr
+abbrev pub instr : Op → (a b c x : ℕ) → Instr
 instr o a b c x = record { op = o; a = a; b = b; c = c; x = x }
 
 pub decoded_again : (i : Instr) → IsInstr i → decoded (spelling i) ≡ Ok i

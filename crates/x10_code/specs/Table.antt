@@ -1,5 +1,6 @@
 -- The table of operations: for each its code, its name and what its operands name.
-use Rattle.std.specs.Prelude.{ℕ, List, [], ◌∷◌, codes}
+use Rattle.std.specs.Prelude.{ℕ, List, [], ◌∷◌, Option, find, codes}
+use Rattle.std.specs.Str.{bytes_eq}
 use Rattle.x10_code.specs.declared.op.Op.{Op}
 use Rattle.x10_code.specs.declared.op.Op.TheVariants as op
 use Rattle.x10_code.specs.declared.operands.Operand.{Operand}
@@ -103,6 +104,10 @@ name_of op.At = codes "AT"
 name_of op.Ata = codes "ATA"
 name_of op.Finb = codes "FINB"
 name_of op.Fine = codes "FINE"
+
+-- the operation with a name
+abbrev pub op_of_name : List ℕ → Option Op
+op_of_name text = find (λ o. bytes_eq (name_of o) text) operations
 
 abbrev pub form : (a b c x : Operand) → Form
 form a b c x = record { a = a; b = b; c = c; x = x }

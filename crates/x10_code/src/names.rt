@@ -1,6 +1,6 @@
-ghost use Rattle.std.specs.Prelude.{◌≡◌, IfSome};
+ghost use Rattle.std.specs.Prelude.{◌≡◌, Some, IfSome};
 ghost use Rattle.x10_code.specs.declared.op.Op.{Op};
-ghost use Rattle.x10_code.specs.Table.{name_of};
+ghost use Rattle.x10_code.specs.Table.{name_of, op_of_name};
 
 use crate::op::Op;
 
@@ -56,56 +56,63 @@ pub fn name(op: Op) -> &'static str
     }
 }
 
-/// The operation with a name, which is in capitals.
+/// The operation with a name, which is in capitals. It compares the names one by one.
 pub fn op_named(name: &str) -> Option<Op>
     ensures found { IfSome result (λ o. name.now ≡ name_of o) }
     ensures only { (o : Op) → name.now ≡ name_of o → result ≡ Some o }
 {
-    Some(match name {
-        "INTK" => Op::Intk,
-        "TEXTK" => Op::Textk,
-        "MOVE" => Op::Move,
-        "ADD" => Op::Add,
-        "SUB" => Op::Sub,
-        "MUL" => Op::Mul,
-        "DIV" => Op::Div,
-        "REM" => Op::Rem,
-        "LT" => Op::Lt,
-        "EQ" => Op::Eq,
-        "JMP" => Op::Jmp,
-        "JZ" => Op::Jz,
-        "LOOP" => Op::Loop,
-        "ENDL" => Op::Endl,
-        "PRINT" => Op::Print,
-        "HERE" => Op::Here,
-        "PLACEK" => Op::Placek,
-        "PLACEN" => Op::Placen,
-        "PLACEI" => Op::Placei,
-        "NEXTP" => Op::Nextp,
-        "COUNT" => Op::Count,
-        "HOME" => Op::Home,
-        "GNEW" => Op::Gnew,
-        "GOPEN" => Op::Gopen,
-        "IFHERE" => Op::Ifhere,
-        "IFSAME" => Op::Ifsame,
-        "NEW" => Op::New,
-        "GET" => Op::Get,
-        "PUT" => Op::Put,
-        "NULL" => Op::Null,
-        "IFOBJ" => Op::Ifobj,
-        "RAIL" => Op::Rail,
-        "RGET" => Op::Rget,
-        "RSET" => Op::Rset,
-        "RLEN" => Op::Rlen,
-        "TLEN" => Op::Tlen,
-        "TCAT" => Op::Tcat,
-        "CALL" => Op::Call,
-        "RET" => Op::Ret,
-        "ASYNC" => Op::Async,
-        "AT" => Op::At,
-        "ATA" => Op::Ata,
-        "FINB" => Op::Finb,
-        "FINE" => Op::Fine,
-        _ => return None,
-    })
+    first_named(name)
 }
+
+fn first_named(text: &str) -> Option<Op>
+    ensures { result ≡ op_of_name text.now }
+{
+    OPERATIONS.iter().copied().find(|op| name(*op) == text)
+}
+
+const OPERATIONS: [Op; 44] = [
+    Op::Intk,
+    Op::Textk,
+    Op::Move,
+    Op::Add,
+    Op::Sub,
+    Op::Mul,
+    Op::Div,
+    Op::Rem,
+    Op::Lt,
+    Op::Eq,
+    Op::Jmp,
+    Op::Jz,
+    Op::Loop,
+    Op::Endl,
+    Op::Print,
+    Op::Here,
+    Op::Placek,
+    Op::Placen,
+    Op::Placei,
+    Op::Nextp,
+    Op::Count,
+    Op::Home,
+    Op::Gnew,
+    Op::Gopen,
+    Op::Ifhere,
+    Op::Ifsame,
+    Op::New,
+    Op::Get,
+    Op::Put,
+    Op::Null,
+    Op::Ifobj,
+    Op::Rail,
+    Op::Rget,
+    Op::Rset,
+    Op::Rlen,
+    Op::Tlen,
+    Op::Tcat,
+    Op::Call,
+    Op::Ret,
+    Op::Async,
+    Op::At,
+    Op::Ata,
+    Op::Finb,
+    Op::Fine,
+];

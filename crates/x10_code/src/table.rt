@@ -1,14 +1,15 @@
 ghost use Rattle.std.specs.Prelude.{◌≡◌};
 ghost use Rattle.x10_code.specs.Table.{form_of};
 
+use crate::op::Op;
 use crate::operands::Form;
 use crate::operands::Operand::{
     self, Arguments, Class, Count, Field, Function, Int, Place, Register, Result, Slot, Target,
     Text, Unused,
 };
-use crate::op::Op;
 
-/// What the operands of an operation name.
+/// What the operands of an operation name. Reading, writing, assembling and listing an instruction
+/// all go by this table.
 pub fn form(op: Op) -> Form
     ensures value { result ≡ form_of op }
 {
