@@ -13,3 +13,6 @@ pub mod ImageParts
 pub mod FunctionLaws
 pub mod ImageLaws
 pub mod ItemLaws
+pub mod GraphLaws
+pub mod FrameLaws
+pub mod Loops

@@ -252,14 +252,14 @@ pub made_reads : {E A B : Type 0} {r : Reader E A} {spell : A → List ℕ} {Fit
     → Reads (bind r (λ x. done (make x))) whole G
 made_reads {E} {A} {B} {r} {spell} {Fits} {whole} {G} make first fits case spelled = record {
   again = λ y rest g.
-    let c = case y g in
-    ap (λ (t : List ℕ). bind r (λ x. done (make x)) (t ++ rest)) (sym (spelled c.0 ∙ ap whole c.1))
-    ∙ bind_is r (λ x. done (make x)) (spell c.0 ++ rest) c.0 rest (first.again c.0 rest c.2)
-    ∙ done_is (make c.0) y rest c.1;
+      let c = case y g in
+      ap (λ (t : List ℕ). bind r (λ x. done (make x)) (t ++ rest)) (sym (spelled c.0 ∙ ap whole c.1))
+      ∙ bind_is r (λ x. done (make x)) (spell c.0 ++ rest) c.0 rest (first.again c.0 rest c.2)
+      ∙ done_is (make c.0) y rest c.1;
   takes = λ bytes y rest b e.
-    let s = bind_ok r (λ x. done (make x)) bytes y rest e in
-    let one = first.takes bytes s.value s.middle b s.first in
-    let is = done_same {E = E} (make s.value) s.middle y rest s.second in
-    let here : Takes bytes (whole (make s.value)) rest = subst (λ (t : List ℕ). Takes bytes t rest) (spelled s.value) (subst (λ (m : List ℕ). Takes bytes (spell s.value) m) is.1 one.0) in
-    subst (λ (z : B). Takes bytes (whole z) rest × G z) is.0 (here, fits s.value one.1);
+      let s = bind_ok r (λ x. done (make x)) bytes y rest e in
+      let one = first.takes bytes s.value s.middle b s.first in
+      let is = done_same {E = E} (make s.value) s.middle y rest s.second in
+      let here : Takes bytes (whole (make s.value)) rest = subst (λ (t : List ℕ). Takes bytes t rest) (spelled s.value) (subst (λ (m : List ℕ). Takes bytes (spell s.value) m) is.1 one.0) in
+      subst (λ (z : B). Takes bytes (whole z) rest × G z) is.0 (here, fits s.value one.1);
 }

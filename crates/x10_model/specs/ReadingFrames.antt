@@ -1,5 +1,5 @@
 -- Reading a frame field by field from front to back, with the first fault that is met: a field that isn't there whole is short, and then comes its rule.
-use Rattle.std.specs.Prelude.{ℕ, zero, suc, Bool, true, false, ◌&&◌, ◌==◌, nat_lt, nat_le, List, Option, Some, None, Result}
+use Rattle.std.specs.Prelude.{ℕ, zero, suc, Bool, ◌&&◌, ◌==◌, nat_lt, nat_le, List, None, Result}
 use Rattle.std.specs.Int.{w16, w32}
 use Rattle.std.specs.Str.{is_utf8}
 use Rattle.x10_model.specs.Frames.{Item, IntItem, PlaceItem, TextItem, RailItem, ObjectItem, NullItem, RefItem, Node, Graph, Launch, launch, Frame, Spawn, Shift, Back, Report, Tables, tables, none, uses, used_after, Turn, turn, next_turn, used_in_all}
