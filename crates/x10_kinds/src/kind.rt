@@ -16,7 +16,7 @@ pub enum Kind {
     Obj(u16),
     /// An object of the class, or null.
     Opt(u16),
-    /// A global reference to an object of the class (X10 2.2, 13.2 `GlobalRef`).
+    /// A global reference to an object of the class (X10 2.2, chapter Places, `GlobalRef`).
     GRef(u16),
 }
 

@@ -1,10 +1,10 @@
 -- Logs of turns, the events that they stand for, and the history of one place.
-use Rattle.std.specs.Prelude.{◌≡◌, ℕ, List, [], ◌∷◌, ◌++◌, map, Option, Some, None}
+use Rattle.std.specs.Prelude.{◌≡◌, ℕ, true, List, [], ◌∷◌, ◌++◌, map, Option, Some, None}
 use Rattle.std.specs.List.{flat_map}
 use Rattle.x10_model.specs.declared.event.Event.{Event}
 use Rattle.x10_model.specs.declared.event.Event.TheVariants.{Step, Deliver}
 use Rattle.x10_model.specs.Places as places
-use Rattle.x10_model.specs.Places.{Setting, Line, Message, Effect}
+use Rattle.x10_model.specs.Places.{Setting, Stay, Message, Effect}
 use Rattle.x10_model.specs.Moves.{Moves}
 use Rattle.x10_model.specs.Deliveries.{Receives}
 use Rattle.x10_model.specs.Worlds.{sent}
@@ -28,9 +28,20 @@ abbrev pub as_messages : Option Message → List Message
 as_messages None = []
 as_messages (Some message) = message ∷ []
 
--- What one place does by itself, from its first state to its last: the messages that it takes in, those that it puts
--- out, and nothing else of the world.
-pub data Local (setting : Setting) (here : ℕ) : places.Place → (taken put_out : List Message) → places.Place → Type 0 where
+-- what a place does by itself: it steps a key, or takes in a message, or a report, which is no affair of the machine
+pub data LocalEvent : Type 0 where
+  Steps : (key : ℕ) → LocalEvent
+  Takes : Message → LocalEvent
+  TakesReport : LocalEvent
+
+-- nothing is there under the key that could move
+abbrev pub IsIdleAt : places.Place → ℕ → Type 0
+IsIdleAt p key = (stay : Stay) → p.stays key ≡ Some stay → stay.away ≡ true
+
+-- What one place does by itself, from its first state to its last, event by event, with the messages that it puts out.
+pub data Local (setting : Setting) (here : ℕ) : places.Place → List LocalEvent → List Message → places.Place → Type 0 where
   nothing : (p : places.Place) → Local setting here p [] [] p
-  stepped : (p q r : places.Place) (key : ℕ) (effect : Effect) (taken put_out : List Message) → Moves setting here p key q effect → Local setting here q taken put_out r → Local setting here p taken (as_messages (sent effect) ++ put_out) r
-  took : (p q r : places.Place) (key : ℕ) (message : Message) (taken put_out : List Message) → Receives setting here p message key q → Local setting here q taken put_out r → Local setting here p (message ∷ taken) put_out r
+  stepped : (p q r : places.Place) (key : ℕ) (effect : Effect) (events : List LocalEvent) (put_out : List Message) → Moves setting here p key q effect → Local setting here q events put_out r → Local setting here p (Steps key ∷ events) (as_messages (sent effect) ++ put_out) r
+  idle : (p r : places.Place) (key : ℕ) (events : List LocalEvent) (put_out : List Message) → IsIdleAt p key → Local setting here p events put_out r → Local setting here p (Steps key ∷ events) put_out r
+  took : (p q r : places.Place) (key : ℕ) (message : Message) (events : List LocalEvent) (put_out : List Message) → Receives setting here p message key q → Local setting here q events put_out r → Local setting here p (Takes message ∷ events) put_out r
+  took_report : (p r : places.Place) (events : List LocalEvent) (put_out : List Message) → Local setting here p events put_out r → Local setting here p (TakesReport ∷ events) put_out r

@@ -2,7 +2,7 @@
 -- termination detection (Mattern, 1987).
 use Rattle.std.specs.Prelude.{◌≡◌, ◌≢◌, ℕ, zero, suc, ◌+◌, ◌-◌, ◌<◌, ◌≤◌, ◌⊎◌, max, Bool, true, false, ◌==◌, ◌&&◌, not, List, [], ◌∷◌, ◌++◌, length, Option, Some, None, if◌then◌else◌, slice_get, slice_index}
 use Rattle.x10_model.specs.Maps.{with_entry}
-use Rattle.x10_model.specs.Places.{Finish, Message, Spawn, Shift, Back, Effect, Waits, Works, Begins, Spawns, Shifts, Opens, Closes, Ends, receiver}
+use Rattle.x10_model.specs.Places.{Finish, root, Message, Spawn, Shift, Back, Effect, Waits, Works, Begins, Spawns, Shifts, Opens, Closes, Ends, receiver}
 use Rattle.x10_model.specs.Worlds.{same_finish}
 
 -- what one place has counted for one finish: the stays that inherited it and live, what was sent to each place under it,
@@ -19,6 +19,10 @@ pub data Happening : Type 0 where
 
 abbrev pub nothing : Totals
 nothing = record { live = 0; sent = λ p. 0; received = λ p. 0 }
+
+-- the totals at the beginning: main's stay is live under the root at place 0
+abbrev pub first_totals : ℕ → Finish → Totals
+first_totals here f = if same_finish f root && (here == 0) then record nothing { live = 1 } else nothing
 
 abbrev pub sends_to : Totals → ℕ → Totals
 sends_to t p = record t { sent = with_entry t.sent p (t.sent p + 1) }
@@ -107,6 +111,10 @@ is_balanced places cut = all_below (λ p. all_below (λ q. (cut p).sent q == (cu
 -- what the home looks at: its own totals as they are now, and of each other place what it kept
 abbrev pub seen_from : ℕ → Entry → Cut → Cut
 seen_from home own kept = with_entry kept home own
+
+-- the home lets its finish end: nothing under it lives there, and what it sees balances
+abbrev pub IsDoneAt : ℕ → ℕ → Totals → Cut → Type 0
+IsDoneAt places home own kept = (own.live ≡ 0) × IsBalanced places (seen_from home (entry_of own) kept)
 
 -- an earlier entry of a place has numbers no larger than its totals now
 pub record IsEarlier (e : Entry) (now : Totals) : Type 0 where

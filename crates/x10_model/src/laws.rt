@@ -7,7 +7,7 @@ pub fn enclosing_is_transitive()
 {
 }
 
-/// A finish governs each activity that a finish within it governs (X10 2.2, 14.3 `finish`: all
+/// A finish governs each activity that a finish within it governs (X10 2.2, chapter Activities, `finish`: all
 /// activities that the body started, directly or through others).
 pub fn governing_is_transitive()
     ensures { GoverningIsTransitive }
