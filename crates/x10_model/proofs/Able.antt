@@ -1,5 +1,5 @@
 -- A ready activity moves or goes wrong: for each operation, what it asks is there, or its lack is a cause.
-use Rattle.std.proofs.Common.{◌≡◌, ◌≢◌, ◌⊎◌, ℕ, zero, suc, ℤ, pos, ◌+◌, ◌+ℤ◌, ◌-ℤ◌, ◌*ℤ◌, ◌-◌, ◌%◌, ◌<◌, Bool, true, false, ◌==◌, List, [], ◌∷◌, ◌++◌, length, replicate, Option, Some, None, refl, sym, ap, subst, ◌∙◌, inl, inr, arith}
+use Rattle.std.proofs.Common.{◌≡◌, ◌⊎◌, ℕ, zero, suc, ℤ, pos, ◌+◌, ◌+ℤ◌, ◌-ℤ◌, ◌*ℤ◌, ◌-◌, ◌%◌, ◌<◌, true, ◌==◌, List, [], ◌∷◌, ◌++◌, length, replicate, Option, Some, None, refl, sym, ap, subst, ◌∙◌, inl, inr, arith}
 use Rattle.std.specs.Bool.{if◌then◌else◌}
 use Rattle.std.specs.Prelude.{slice_get, slice_set, int_lt, nat_lt}
 use Rattle.std.specs.Ordering.{int_eq}
@@ -10,18 +10,18 @@ use Rattle.x10_code.specs.declared.op.Op.TheVariants as op
 use Rattle.x10_code.specs.declared.instr.Instr.{Instr}
 use Rattle.x10_code.specs.Table.{form_of}
 use Rattle.x10_model.specs.Maps.{IsIn, with_entry}
-use Rattle.x10_model.specs.Modules.{Module, Function}
+use Rattle.x10_model.specs.Modules.{Function}
 use Rattle.x10_model.specs.declared.slot.Slot.{Slot}
 use Rattle.x10_model.specs.Ranges.{function_at, instr_at, IsThere, IsInRange, parameters_of, result_of, fields_of}
-use Rattle.x10_model.specs.Values.{Value, Int, Place, Text, Rail, Object, Null, Ref, Cell, Fields, Bytes, Cells, IsOfKind}
-use Rattle.x10_model.specs.Signatures.{FitsSlotAt, FitSlots, AreOfKinds}
+use Rattle.x10_model.specs.Values.{Value, Int, Place, Text, Rail, Object, Null, Ref, Fields, Bytes, Cells, IsOfKind}
+use Rattle.x10_model.specs.Signatures.{FitSlots, AreOfKinds}
 use Rattle.x10_model.specs.Copies.{Snapshot, Captures}
 use Rattle.x10_model.specs.Places as places
 use Rattle.x10_model.specs.Places.{Setting, CallFrame, Origin, Stay, Export, Message, Spawn, Shift, Back, innermost, Effect, Waits, Works, Begins, Spawns, Shifts, Opens, Closes, Ends, with_stay, goes, next, writes}
-use Rattle.x10_model.specs.Moves.{Situation, Holds, HoldsFrom, Passes, GivesBack, SendsBack, Returns, as_list, resumed, entry_frame, new_stay, writes_or_goes, next_or_goes, is_zero, wrapped, quotient, remainder, truth, joined_text, rail_length, byte_at, byte_value, place_number, place_of, line_of, with_line, with_cell, MakesRail, SetsByte, index_of, Does, Moves}
-use Rattle.x10_model.specs.Wrong.{Want, Anything, AnInt, APlace, AText, ARail, AnObject, AReference, AnIntOrText, AnObjectOrNull, APlaceOrReference, Meets, asked, IsTarget, IsDetached, IsFieldOwner, IsWrongAt, out_of_range, operand, argument, result_dropped, new_field, no_field, put_field, away, no_export, result, finish_open, no_call, no_finish, IsWrong, no_instruction, wrong_at}
+use Rattle.x10_model.specs.Moves.{Situation, Holds, Passes, GivesBack, SendsBack, Returns, as_list, resumed, entry_frame, new_stay, writes_or_goes, next_or_goes, is_zero, wrapped, quotient, remainder, truth, joined_text, rail_length, byte_at, byte_value, place_number, place_of, line_of, with_line, with_cell, MakesRail, SetsByte, index_of, Does}
+use Rattle.x10_model.specs.Wrong.{Want, Anything, AnInt, APlace, AText, ARail, AnObject, AReference, AnIntOrText, AnObjectOrNull, APlaceOrReference, Meets, asked, IsTarget, IsDetached, IsFieldOwner, IsWrongAt, operand, argument, result_dropped, new_field, no_field, put_field, away, no_export, result, finish_open, no_call, no_finish}
 use Rattle.x10_model.specs.Laws.{HasRoom}
-use Rattle.x10_model.proofs.NotWrong.{some_is, none_some, same_some, Met}
+use Rattle.x10_model.proofs.NotWrong.{none_some, same_some, Met}
 use Rattle.x10_model.proofs.Decided.{and_then, same_or_not, get_below, met_or_not, slots_or_not, kinds_or_not, kind_or_not, gives_or_not}
 
 -- the operation can be done in the situation
@@ -35,9 +35,9 @@ Result o s = Able o s ⊎ IsWrongAt s
 
 ask : (o : Op) (s : Situation) → s.instr.op ≡ o → (r : ℕ) (want : Want) → IsIn (r, want) (asked o s.instr) → Met s r want ⊎ IsWrongAt s
 ask o s e r want m = elim (met_or_not s r want) [
-    | inl h ↦ inl h
-    | inr never ↦ inr (operand r want (subst (λ p. IsIn (r, want) (asked p s.instr)) (sym e) m) never)
-  ]
+  | inl h ↦ inl h
+  | inr never ↦ inr (operand r want (subst (λ p. IsIn (r, want) (asked p s.instr)) (sym e) m) never)
+]
 
 is_int : (cells : Cells) (v : Value) → Meets cells AnInt v → (z : ℤ) × (v ≡ Int z)
 is_int cells (Int z) m = (z, refl)
@@ -207,9 +207,9 @@ ends_stay s room v (n ∷ ns) e g callers f = inr (finish_open n ns e callers f)
 ends_call : (s : Situation) (v : Option Value) (caller : CallFrame) (callers : List CallFrame) (call : Option Instr) → s.instr.op ≡ op.Ret → s.stay.callers ≡ caller ∷ callers → instr_at s.setting.program caller.function caller.pc ≡ call → CanReturn s (caller ∷ callers) v ⊎ IsWrongAt s
 ends_call s v caller callers None e cs none = inr (no_call caller callers e cs (λ call f o. none_some (instr_at s.setting.program caller.function caller.pc) call none f))
 ends_call s v caller callers (Some call) e cs found = elim (call_or_not call.op) [
-    | inl is ↦ inl (with_stay s.place s.key (Some (record s.stay { top = resumed caller call.a v; callers = callers })), Works, (call, found, is, refl, refl))
-    | inr never ↦ inr (no_call caller callers e cs (λ other f o. never (ap (λ (i : Instr). i.op) (same_some (instr_at s.setting.program caller.function caller.pc) call other found f) ∙ o)))
-  ]
+  | inl is ↦ inl (with_stay s.place s.key (Some (record s.stay { top = resumed caller call.a v; callers = callers })), Works, (call, found, is, refl, refl))
+  | inr never ↦ inr (no_call caller callers e cs (λ other f o. never (ap (λ (i : Instr). i.op) (same_some (instr_at s.setting.program caller.function caller.pc) call other found f) ∙ o)))
+]
 
 returns_to : (s : Situation) (room : HasRoom s.place) (v : Option Value) (callers : List CallFrame) → s.instr.op ≡ op.Ret → GivesBack s s.function.result v → s.stay.callers ≡ callers → CanReturn s callers v ⊎ IsWrongAt s
 returns_to s room v [] e g cs = ends_stay s room v s.stay.finishes e g cs refl
@@ -231,9 +231,9 @@ put_kind : (s : Situation) (r class : ℕ) (fields : List Value) (v : Value) (ki
 put_kind s r class fields v kinds None e h c hv lt k f =
     inr (put_field r class fields v e h c hv (λ kind g t. none_some (slice_get kinds s.instr.c) kind f (subst (λ (o : Option (List Kind)). slice_get (fields_of o) s.instr.c ≡ Some kind) k g)))
 put_kind s r class fields v kinds (Some kind) e h c hv lt k f = elim (kind_or_not s.place.cells v kind) [
-    | inl t ↦ inl (on_at s (with_cell s.place r (Fields class (slice_set fields s.instr.c v))) (next s.stay.top), Works, (r, class, fields, v, kinds, kind, h, c, hv, k, f, t, lt, (refl, refl)))
-    | inr never ↦ inr (put_field r class fields v e h c hv (λ other g t. never (subst (λ w. IsOfKind s.place.cells v w) (same_some (slice_get kinds s.instr.c) other kind (subst (λ (o : Option (List Kind)). slice_get (fields_of o) s.instr.c ≡ Some other) k g) f) t)))
-  ]
+  | inl t ↦ inl (on_at s (with_cell s.place r (Fields class (slice_set fields s.instr.c v))) (next s.stay.top), Works, (r, class, fields, v, kinds, kind, h, c, hv, k, f, t, lt, (refl, refl)))
+  | inr never ↦ inr (put_field r class fields v e h c hv (λ other g t. never (subst (λ w. IsOfKind s.place.cells v w) (same_some (slice_get kinds s.instr.c) other kind (subst (λ (o : Option (List Kind)). slice_get (fields_of o) s.instr.c ≡ Some other) k g) f) t)))
+]
 
 put_class : (s : Situation) (r class : ℕ) (fields : List Value) (v : Value) (kinds : Option (List Kind)) → s.instr.op ≡ op.Put → Holds s s.instr.a (Object r) → s.place.cells r ≡ Some (Fields class fields) → Holds s s.instr.b v
     → s.instr.c < length fields → slice_get s.setting.program.classes class ≡ kinds → Result op.Put s
@@ -247,15 +247,15 @@ put_value s r class fields v (Some old) e h c hv f = put_class s r class fields 
 open_export : (s : Situation) (id class : ℕ) (found : Option Export) → s.instr.op ≡ op.Gopen → Holds s s.instr.b (Ref s.here id class) → slice_get s.place.exports id ≡ found → Result op.Gopen s
 open_export s id class None e h f = inr (no_export id class e h (λ object g. none_some (slice_get s.place.exports id) (record { class = class; object = object }) f g))
 open_export s id class (Some x) e h f = elim (same_or_not x.class class) [
-    | inl same ↦ inl (on s (put s (Object x.object)), Works, (id, class, x.object, h, f ∙ ap (λ k. Some (record { class = k; object = x.object })) same, (refl, refl)))
-    | inr never ↦ inr (no_export id class e h (λ object g. never (ap (λ (y : Export). y.class) (same_some (slice_get s.place.exports id) x (record { class = class; object = object }) f g))))
-  ]
+  | inl same ↦ inl (on s (put s (Object x.object)), Works, (id, class, x.object, h, f ∙ ap (λ k. Some (record { class = k; object = x.object })) same, (refl, refl)))
+  | inr never ↦ inr (no_export id class e h (λ object g. never (ap (λ (y : Export). y.class) (same_some (slice_get s.place.exports id) x (record { class = class; object = object }) f g))))
+]
 
 opens : (s : Situation) (home id class : ℕ) → s.instr.op ≡ op.Gopen → Holds s s.instr.b (Ref home id class) → Result op.Gopen s
 opens s home id class e h = elim (same_or_not home s.here) [
-    | inl same ↦ open_export s id class (slice_get s.place.exports id) e (subst (λ p. Holds s s.instr.b (Ref p id class)) same h) refl
-    | inr never ↦ inr (away home id class e h never)
-  ]
+  | inl same ↦ open_export s id class (slice_get s.place.exports id) e (subst (λ p. Holds s s.instr.b (Ref p id class)) same h) refl
+  | inr never ↦ inr (away home id class e h never)
+]
 
 -- ---- rails and finishes
 
@@ -311,17 +311,17 @@ step op.Ifhere s e range room = and_then (ask_placed op.Ifhere s e s.instr.a (0,
 step op.Ifsame s e range room = and_then (ask_placed op.Ifsame s e s.instr.a (0, refl)) (λ h. and_then (ask_placed op.Ifsame s e s.instr.b (1, refl)) (λ k.
     inl (on s (next_or_goes s (h.1 == k.1)), Works, (h.0, k.0, h.1, k.1, h.2, k.2, h.3, k.3, (refl, refl)))))
 step op.New s e range room = let kinds = get_below s.setting.program.classes s.instr.x (x_there op.New s e range) in elim (kinds_or_not s s.instr.b kinds.0) [
-    | inl h ↦ inl (on_at s (with_cell s.place room.reference.0 (Fields s.instr.x h.0)) (put s (Object room.reference.0)), Works, (kinds.0, h.0, room.reference.0, kinds.1, h.1, h.2, room.reference.1, (refl, refl)))
-    | inr never ↦ inr (new_field e (λ vs held fit. never vs held (subst (λ (g : Option (List Kind)). AreOfKinds (IsOfKind s.place.cells) vs (fields_of g)) kinds.1 fit)))
-  ]
+  | inl h ↦ inl (on_at s (with_cell s.place room.reference.0 (Fields s.instr.x h.0)) (put s (Object room.reference.0)), Works, (kinds.0, h.0, room.reference.0, kinds.1, h.1, h.2, room.reference.1, (refl, refl)))
+  | inr never ↦ inr (new_field e (λ vs held fit. never vs held (subst (λ (g : Option (List Kind)). AreOfKinds (IsOfKind s.place.cells) vs (fields_of g)) kinds.1 fit)))
+]
 step op.Get s e range room = and_then (ask_object op.Get s e s.instr.b (0, refl)) (λ h. get_field s h.0 h.1 h.2 (slice_get h.2 s.instr.c) e h.3 h.4 refl)
 step op.Put s e range room = and_then (ask_object op.Put s e s.instr.a (0, refl)) (λ h. and_then (ask op.Put s e s.instr.b Anything (1, refl)) (λ v.
     put_value s h.0 h.1 h.2 v.0 (slice_get h.2 s.instr.c) e h.3 h.4 v.1 refl))
 step op.Null s e range room = inl (on s (put s Null), Works, (refl, refl))
 step op.Ifobj s e range room = and_then (ask op.Ifobj s e s.instr.b AnObjectOrNull (0, refl)) (λ h. elim (is_object_or_null s.place.cells h.0 h.2) [
-    | inl r ↦ inl (on s (put s (Object r.0)), Works, inl (r.0, holds s s.instr.b h.0 (Object r.0) h.1 r.1, (refl, refl)))
-    | inr null ↦ inl (on s (goes s.stay.top s.instr.x), Works, inr (holds s s.instr.b h.0 Null h.1 null, (refl, refl)))
-  ])
+  | inl r ↦ inl (on s (put s (Object r.0)), Works, inl (r.0, holds s s.instr.b h.0 (Object r.0) h.1 r.1, (refl, refl)))
+  | inr null ↦ inl (on s (goes s.stay.top s.instr.x), Works, inr (holds s s.instr.b h.0 Null h.1 null, (refl, refl)))
+])
 step op.Rail s e range room = and_then (ask_int op.Rail s e s.instr.b (0, refl)) (λ z. let m = makes_rail s room (rail_length z.0) in inl (m.0, m.1, (z.0, z.1, m.2)))
 step op.Rget s e range room = and_then (ask_rail op.Rget s e s.instr.b (0, refl)) (λ r. and_then (ask_int op.Rget s e s.instr.c (1, refl)) (λ z.
     inl (on s (writes_or_goes s (byte_value (byte_at r.1 z.0))), Works, (r.0, r.1, z.0, r.2, r.3, z.1, (refl, refl)))))
@@ -334,19 +334,28 @@ step op.Tcat s e range room = and_then (ask_text op.Tcat s e s.instr.b (0, refl)
 step op.Call s e range room = and_then (calls op.Call s s.here e (x_there op.Call s e range) refl) (λ h.
     inl (with_stay s.place s.key (Some (record s.stay { top = entry_frame s.instr.x h.1; callers = s.stay.top ∷ s.stay.callers })), Works, (h.0, h.1, h.2, refl, refl)))
 step op.Ret s e range room = elim (gives_or_not s s.function.result) [
-    | inl g ↦ and_then (returns_to s room g.0 s.stay.callers e g.1 refl) (λ r. inl (r.0, r.1, (g.0, g.1, r.2)))
-    | inr never ↦ inr (result e never)
-  ]
+  | inl g ↦ and_then (returns_to s room g.0 s.stay.callers e g.1 refl) (λ r. inl (r.0, r.1, (g.0, g.1, r.2)))
+  | inr never ↦ inr (result e never)
+]
 step op.Async s e range room = and_then (calls op.Async s s.here e (x_there op.Async s e range) refl) (λ h. and_then (detached op.Async s h.0 e tt h.2.callee_is) (λ none.
-    inl (with_stay (with_stay s.place s.key (Some (record s.stay { top = next s.stay.top }))) room.key.0 (Some (new_stay s.instr.x h.1 (innermost s.here s.stay) None)), Begins room.key.0 s.instr.x (innermost s.here s.stay),
-    (h.0, h.1, room.key.0, h.2, none, room.key.1, refl, refl))))
+    inl (
+      with_stay (with_stay s.place s.key (Some (record s.stay { top = next s.stay.top }))) room.key.0 (Some (new_stay s.instr.x h.1 (innermost s.here s.stay) None)),
+      Begins room.key.0 s.instr.x (innermost s.here s.stay),
+      (h.0, h.1, room.key.0, h.2, none, room.key.1, refl, refl),
+    )))
 step op.At s e range room = and_then (ask_place op.At s e s.instr.c (0, refl)) (λ to. and_then (calls op.At s to.0 e (x_there op.At s e range) to.1) (λ h.
     let graph = room.captures to.0 h.1 h.0.parameters h.2.fit in
-    inl (with_stay s.place s.key (Some (record s.stay { away = true })), Shifts (Shift s.here to.0 s.key (innermost s.here s.stay) s.instr.x graph.0) (innermost s.here s.stay),
-    (h.0, h.1, to.0, graph.0, to.1, h.2, graph.1, refl, refl))))
+    inl (
+      with_stay s.place s.key (Some (record s.stay { away = true })),
+      Shifts (Shift s.here to.0 s.key (innermost s.here s.stay) s.instr.x graph.0) (innermost s.here s.stay),
+      (h.0, h.1, to.0, graph.0, to.1, h.2, graph.1, refl, refl),
+    )))
 step op.Ata s e range room = and_then (ask_place op.Ata s e s.instr.c (0, refl)) (λ to. and_then (calls op.Ata s to.0 e (x_there op.Ata s e range) to.1) (λ h. and_then (detached op.Ata s h.0 e tt h.2.callee_is) (λ none.
     let graph = room.captures to.0 h.1 h.0.parameters h.2.fit in
-    inl (with_stay s.place s.key (Some (record s.stay { top = next s.stay.top })), Spawns (Spawn s.here to.0 (innermost s.here s.stay) s.instr.x graph.0) s.instr.x (innermost s.here s.stay),
-    (h.0, h.1, to.0, graph.0, to.1, h.2, none, graph.1, refl, refl)))))
+    inl (
+      with_stay s.place s.key (Some (record s.stay { top = next s.stay.top })),
+      Spawns (Spawn s.here to.0 (innermost s.here s.stay) s.instr.x graph.0) s.instr.x (innermost s.here s.stay),
+      (h.0, h.1, to.0, graph.0, to.1, h.2, none, graph.1, refl, refl),
+    ))))
 step op.Finb s e range room = inl (with_stay (record s.place { opened = s.place.opened + 1 }) s.key (Some (record s.stay { top = next s.stay.top; finishes = s.place.opened ∷ s.stay.finishes })), Opens s.place.opened (innermost s.here s.stay), (refl, refl))
 step op.Fine s e range room = leaves s s.stay.finishes e refl

@@ -1,8 +1,8 @@
 -- The test of balance.
-use Rattle.std.proofs.Common.{◌≡◌, ◌↔◌, ◌⊎◌, ℕ, zero, suc, ◌+◌, ◌<◌, ◌≤◌, Bool, true, false, ◌==◌, ◌&&◌, refl, sym, ap, subst, ◌∙◌, inl, inr, arith}
+use Rattle.std.proofs.Common.{◌≡◌, ◌↔◌, ◌⊎◌, ℕ, zero, suc, ◌<◌, Bool, true, false, ◌==◌, ◌&&◌, refl, sym, subst, inl, inr, arith}
 use Rattle.std.specs.Prelude.{IsTrue}
 use Rattle.std.proofs.lemmas.Bool.{eqb-true, eq-eqb}
-use Rattle.x10_model.specs.Totals.{Cut, Entry, all_below, IsBalanced, is_balanced}
+use Rattle.x10_model.specs.Totals.{Cut, all_below, IsBalanced, is_balanced}
 
 both_true : (a b : Bool) → (a && b) ≡ true → (a ≡ true) × (b ≡ true)
 both_true true b e = (refl, e)
@@ -27,5 +27,6 @@ all_pass test (suc n) h = true_both (all_below test n) (test n) (all_pass test n
 
 pub balance_is_tested : (places : ℕ) (cut : Cut) → IsTrue (is_balanced places cut) ↔ IsBalanced places cut
 balance_is_tested places cut = (
-    (λ t p q lp lq. eqb-true ((cut p).sent q) ((cut q).received p) (passes (λ q. (cut p).sent q == (cut q).received p) places q (passes (λ p. all_below (λ q. (cut p).sent q == (cut q).received p) places) places p t lp) lq)),
-    (λ h. all_pass (λ p. all_below (λ q. (cut p).sent q == (cut q).received p) places) places (λ p lp. all_pass (λ q. (cut p).sent q == (cut q).received p) places (λ q lq. eq-eqb ((cut p).sent q) ((cut q).received p) (h p q lp lq)))))
+  (λ t p q lp lq. eqb-true ((cut p).sent q) ((cut q).received p) (passes (λ q. (cut p).sent q == (cut q).received p) places q (passes (λ p. all_below (λ q. (cut p).sent q == (cut q).received p) places) places p t lp) lq)),
+  (λ h. all_pass (λ p. all_below (λ q. (cut p).sent q == (cut q).received p) places) places (λ p lp. all_pass (λ q. (cut p).sent q == (cut q).received p) places (λ q lq. eq-eqb ((cut p).sent q) ((cut q).received p) (h p q lp lq)))),
+)

@@ -1,13 +1,13 @@
 -- What can be decided of registers and values.
-use Rattle.std.proofs.Common.{◌≡◌, ◌⊎◌, ℕ, zero, suc, ◌+◌, ◌<◌, ◌≤◌, Bool, true, false, List, [], ◌∷◌, length, Option, Some, None, refl, sym, ap, subst, ◌∙◌, inl, inr, arith}
+use Rattle.std.proofs.Common.{◌≡◌, ◌⊎◌, ℕ, zero, suc, ◌+◌, ◌<◌, Bool, true, false, List, [], ◌∷◌, length, Option, Some, None, refl, ap, subst, inl, inr, arith}
 use Rattle.std.specs.Prelude.{IsTrue, slice_get}
 use Rattle.std.proofs.lemmas.Bool.{cases_lt}
 use Rattle.x10_kinds.specs.declared.kind.Kind.{Kind}
 use Rattle.x10_kinds.specs.declared.kind.Kind.TheVariants as kind
 use Rattle.x10_model.specs.Maps.{Pairwise}
 use Rattle.x10_model.specs.declared.slot.Slot.{Slot}
-use Rattle.x10_model.specs.Values.{Value, Int, Place, Text, Rail, Object, Null, Ref, Cell, Fields, Bytes, Cells, IsObjectOf, IsRail, IsOfKindBy, IsOfKind}
-use Rattle.x10_model.specs.Signatures.{HasHome, FitsSlotAt, FitSlots, AreOfKinds}
+use Rattle.x10_model.specs.Values.{Value, Int, Place, Text, Rail, Object, Null, Ref, Cell, Fields, Bytes, Cells, IsOfKind}
+use Rattle.x10_model.specs.Signatures.{HasHome, FitsSlotAt}
 use Rattle.x10_model.specs.Moves.{Situation, Holds, HoldsFrom, GivesBack}
 use Rattle.x10_model.specs.Wrong.{Want, Anything, AnInt, APlace, AText, ARail, AnObject, AReference, AnIntOrText, AnObjectOrNull, APlaceOrReference, Meets}
 use Rattle.x10_model.proofs.NotWrong.{some_is, none_some, same_some, Met}
@@ -52,9 +52,9 @@ class_cell : (o : Option Cell) (c : ℕ) → ((fields : List Value) × (o ≡ So
 class_cell None c = inr (λ h. none_some None (Fields c h.0) refl h.1)
 class_cell (Some (Bytes bytes)) c = inr (λ h. absurd (let e = some_is (Bytes bytes) (Fields c h.0) h.1 in cc))
 class_cell (Some (Fields d fields)) c = elim (same_or_not d c) [
-    | inl e ↦ inl (fields, ap (λ k. Some (Fields k fields)) e)
-    | inr n ↦ inr (λ h. n (class_is d c fields h.0 (some_is (Fields d fields) (Fields c h.0) h.1)))
-  ]
+  | inl e ↦ inl (fields, ap (λ k. Some (Fields k fields)) e)
+  | inr n ↦ inr (λ h. n (class_is d c fields h.0 (some_is (Fields d fields) (Fields c h.0) h.1)))
+]
 
 -- ---- what is asked of a register
 
@@ -83,9 +83,9 @@ meets_or_not cells _ _ = inr (λ h. h)
 held_or_not : (s : Situation) (r : ℕ) (want : Want) (o : Option Value) → s.stay.top.registers r ≡ o → Met s r want ⊎ ((v : Value) → Holds s r v → Meets s.place.cells want v → ⊥)
 held_or_not s r want None e = inr (λ v h m. none_some (s.stay.top.registers r) v e h)
 held_or_not s r want (Some v) e = elim (meets_or_not s.place.cells want v) [
-    | inl m ↦ inl (v, e, m)
-    | inr n ↦ inr (λ w h m. n (subst (λ u. Meets s.place.cells want u) (same_some (s.stay.top.registers r) w v h e) m))
-  ]
+  | inl m ↦ inl (v, e, m)
+  | inr n ↦ inr (λ w h m. n (subst (λ u. Meets s.place.cells want u) (same_some (s.stay.top.registers r) w v h e) m))
+]
 
 pub met_or_not : (s : Situation) (r : ℕ) (want : Want) → Met s r want ⊎ ((v : Value) → Holds s r v → Meets s.place.cells want v → ⊥)
 met_or_not s r want = held_or_not s r want (s.stay.top.registers r) refl
@@ -113,9 +113,9 @@ flag_or_not at v true = elim (home_or_not at v) [ inl h ↦ inl (λ t. h) | inr 
 
 pub fits_or_not : (cells : Cells) (at : ℕ) (v : Value) (slot : Slot) → FitsSlotAt (IsOfKind cells) at v slot ⊎ (FitsSlotAt (IsOfKind cells) at v slot → ⊥)
 fits_or_not cells at v slot = elim (both_or_not (of_kind_or_not cells v slot.kind) (flag_or_not at v slot.home_here)) [
-    | inl p ↦ inl (record { kind = p.0; home = p.1 })
-    | inr n ↦ inr (λ f. n (f.kind, f.home))
-  ]
+  | inl p ↦ inl (record { kind = p.0; home = p.1 })
+  | inr n ↦ inr (λ f. n (f.kind, f.home))
+]
 
 -- the registers from r on hold values that fit, or they don't
 abbrev pub Held : {Y : Type 0} → Situation → (Value → Y → Type 0) → ℕ → List Y → Type 0

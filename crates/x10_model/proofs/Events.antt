@@ -1,12 +1,12 @@
 -- What happens at an event is not wrong.
-use Rattle.std.proofs.Common.{◌≡◌, ◌≢◌, ℕ, Bool, true, false, List, Option, Some, None, refl, sym, ap, subst, ◌∙◌}
+use Rattle.std.proofs.Common.{◌≡◌, ℕ, Bool, true, false, Some, None, sym, ap, subst, ◌∙◌}
 use Rattle.x10_model.specs.declared.event.Event.{Event}
 use Rattle.x10_model.specs.declared.event.Event.TheVariants.{Step, Deliver}
 use Rattle.x10_model.specs.Places as places
 use Rattle.x10_model.specs.Places.{Setting, Stay, Message, Spawn, Shift, Back, receiver}
 use Rattle.x10_model.specs.Deliveries.{Receives}
 use Rattle.x10_model.specs.Wrong.{IsWrong, no_instruction, wrong_at, IsMisfit}
-use Rattle.x10_model.specs.Worlds.{Post, Flying, World, Rule, Steps, Delivers, IsIdle, no_place, no_stay, is_away, not_flying, Happens, steps, delivers, idle, GoesWrong, step, delivery, nowhere}
+use Rattle.x10_model.specs.Worlds.{Flying, World, Rule, Steps, Delivers, IsIdle, no_place, no_stay, is_away, not_flying, Happens, steps, delivers, idle, GoesWrong, step, delivery, nowhere}
 use Rattle.x10_model.proofs.NotWrong.{none_some, same_some, moves_not_wrong}
 use Rattle.x10_model.proofs.Ready.{received_fits}
 

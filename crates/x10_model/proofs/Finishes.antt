@@ -1,7 +1,7 @@
 -- Enclosing finishes.
-use Rattle.std.proofs.Common.{◌≡◌, ℕ, Option, Some}
+use Rattle.std.proofs.Common.{Option}
 use Rattle.x10_model.specs.Places.{Finish}
-use Rattle.x10_model.specs.Worlds.{World, IsWithin, itself, enclosed, Governs}
+use Rattle.x10_model.specs.Worlds.{IsWithin, itself, enclosed}
 
 pub IsWithin-trans : (enclosing : Finish → Option Finish) (outer middle inner : Finish) → IsWithin enclosing outer middle → IsWithin enclosing middle inner → IsWithin enclosing outer inner
 IsWithin-trans enclosing outer middle inner h itself = h

@@ -1,5 +1,5 @@
 -- A move is not wrong: what each operation found is what the list of causes asks for.
-use Rattle.std.proofs.Common.{◌≡◌, ◌≢◌, ◌⊎◌, ℕ, zero, suc, ◌+◌, ◌<◌, Bool, true, false, List, [], ◌∷◌, length, Option, Some, None, refl, sym, ap, subst, ◌∙◌, inl, inr, arith}
+use Rattle.std.proofs.Common.{◌≡◌, ℕ, zero, suc, ◌<◌, List, [], ◌∷◌, length, Option, Some, None, refl, sym, ap, subst, ◌∙◌, inl, inr, arith}
 use Rattle.std.specs.Prelude.{slice_get}
 use Rattle.x10_kinds.specs.declared.kind.Kind.{Kind}
 use Rattle.x10_code.specs.declared.op.Op.{Op}
@@ -9,13 +9,12 @@ use Rattle.x10_model.specs.Maps.{IsIn}
 use Rattle.x10_model.specs.Modules.{Function}
 use Rattle.x10_model.specs.declared.slot.Slot.{Slot}
 use Rattle.x10_model.specs.Ranges.{function_at, instr_at, instr_in, IsInRange, parameters_of, result_of, fields_of}
-use Rattle.x10_model.specs.Values.{Value, Int, Place, Text, Rail, Object, Null, Ref, Cell, Fields, Bytes, Cells, IsOfKind}
+use Rattle.x10_model.specs.Values.{Value, Int, Place, Text, Rail, Object, Null, Ref, Fields, Cells, IsOfKind}
 use Rattle.x10_model.specs.Signatures.{FitSlots, AreOfKinds}
-use Rattle.x10_model.specs.Copies.{Snapshot}
 use Rattle.x10_model.specs.Places as places
 use Rattle.x10_model.specs.Places.{Setting, Stay, CallFrame, Effect}
-use Rattle.x10_model.specs.Moves.{Situation, Holds, HoldsFrom, Passes, GivesBack, Returns, Does, Moves, place_of, line_of}
-use Rattle.x10_model.specs.Wrong.{Want, Anything, AnInt, APlace, AText, ARail, AnObject, AReference, AnIntOrText, AnObjectOrNull, APlaceOrReference, Meets, asked, IsTarget, IsDetached, IsFieldOwner, IsWrongAt, out_of_range, operand, argument, result_dropped, new_field, no_field, put_field, away, no_export, result, finish_open, no_call, no_finish, IsWrong, no_instruction, wrong_at}
+use Rattle.x10_model.specs.Moves.{Situation, Holds, HoldsFrom, Passes, Returns, Does, Moves, place_of, line_of}
+use Rattle.x10_model.specs.Wrong.{Want, AnIntOrText, APlaceOrReference, Meets, asked, IsTarget, IsDetached, IsFieldOwner, IsWrongAt, out_of_range, operand, argument, result_dropped, new_field, no_field, put_field, away, no_export, result, finish_open, no_call, no_finish, IsWrong, no_instruction, wrong_at}
 
 -- ---- options
 

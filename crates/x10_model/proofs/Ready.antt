@@ -1,5 +1,5 @@
 -- A ready activity moves or goes wrong, wherever it stands; and a message that is taken in fits.
-use Rattle.std.proofs.Common.{◌≡◌, ◌≢◌, ◌⊎◌, ℕ, zero, suc, ◌+◌, ◌<◌, ◌≤◌, Bool, true, false, List, [], ◌∷◌, length, Option, Some, None, refl, sym, ap, subst, ◌∙◌, inl, inr, arith}
+use Rattle.std.proofs.Common.{◌≡◌, ◌⊎◌, ℕ, ◌+◌, ◌≤◌, false, length, Option, Some, None, refl, ap, subst, ◌∙◌, inl, inr, arith}
 use Rattle.std.specs.Prelude.{slice_get}
 use Rattle.std.proofs.lemmas.Bool.{cases_lt}
 use Rattle.x10_code.specs.declared.instr.Instr.{Instr}
@@ -8,13 +8,12 @@ use Rattle.x10_code.specs.declared.operands.Operand.TheVariants as operand
 use Rattle.x10_code.specs.Table.{form_of}
 use Rattle.x10_model.specs.Modules.{Module, Function}
 use Rattle.x10_model.specs.declared.slot.Slot.{Slot}
-use Rattle.x10_model.specs.Ranges.{function_at, instr_at, instr_in, IsThere, IsResultRegister, AreArgumentRegisters, IsInRange, result_for, argument_count}
+use Rattle.x10_model.specs.Ranges.{function_at, instr_in, IsThere, IsResultRegister, IsInRange, result_for, argument_count}
 use Rattle.x10_model.specs.Places as places
 use Rattle.x10_model.specs.Places.{Setting, Finish, Stay, Effect, Message, Spawn, Shift, Back, Origin}
-use Rattle.x10_model.specs.Copies.{Snapshot}
-use Rattle.x10_model.specs.Moves.{Situation, Does, Moves}
-use Rattle.x10_model.specs.Deliveries.{FitsPlace, Begins, Resumes, WaitsFor, Receives}
-use Rattle.x10_model.specs.Wrong.{IsWrongAt, out_of_range, IsWrong, no_instruction, wrong_at, IsMisfit, not_here, graph, spawn, shift, back}
+use Rattle.x10_model.specs.Moves.{Situation, Moves}
+use Rattle.x10_model.specs.Deliveries.{WaitsFor, Receives}
+use Rattle.x10_model.specs.Wrong.{out_of_range, IsWrong, no_instruction, wrong_at, IsMisfit, not_here, graph, spawn, shift, back}
 use Rattle.x10_model.specs.Laws.{HasRoom}
 use Rattle.x10_model.proofs.Decided.{same_or_not, below_or_not, both_or_not}
 use Rattle.x10_model.proofs.Able.{step}
@@ -27,9 +26,9 @@ result_or_not f (Some slot) n = below_or_not n f.registers
 
 first_or_not : (count n : ℕ) → (count ≡ 0 → n ≡ 0) ⊎ ((count ≡ 0 → n ≡ 0) → ⊥)
 first_or_not count n = elim (same_or_not n 0) [
-    | inl e ↦ inl (λ c. e)
-    | inr n-not ↦ elim (same_or_not count 0) [ inl e ↦ inr (λ h. n-not (h e)) | inr c-not ↦ inl (λ e. absurd (c-not e)) ]
-  ]
+  | inl e ↦ inl (λ c. e)
+  | inr n-not ↦ elim (same_or_not count 0) [ inl e ↦ inr (λ h. n-not (h e)) | inr c-not ↦ inl (λ e. absurd (c-not e)) ]
+]
 
 at_most_or_not : (m n : ℕ) → (m ≤ n) ⊎ (m ≤ n → ⊥)
 at_most_or_not m n = elim (cases_lt n m) [ inl lt ↦ inr (λ le. omega arith) | inr le ↦ inl le ]
@@ -66,12 +65,12 @@ sited setting here old key stay function instr = record { setting = setting; her
 
 with_instr : (setting : Setting) (here key : ℕ) (old : places.Place) (stay : Stay) (function : Function) (instr : Instr) → HasRoom old → old.stays key ≡ Some stay → stay.away ≡ false → function_at setting.program stay.top.function ≡ Some function → slice_get function.code stay.top.pc ≡ Some instr → MovesOrWrong setting here old key
 with_instr setting here key old stay function instr room e ready f i = elim (range_or_not setting.program function instr) [
-    | inr never ↦ inr (wrong_at stay function instr e ready f i (out_of_range never))
-    | inl range ↦ elim (step instr.op (sited setting here old key stay function instr) refl range room) [
-        | inl h ↦ inl (h.0, h.1, record { stay = stay; function = function; instr = instr; is_there = e; is_ready = ready; function_is = f; instr_is = i; in_range = range; does = h.2 })
-        | inr w ↦ inr (wrong_at stay function instr e ready f i w)
-      ]
+  | inr never ↦ inr (wrong_at stay function instr e ready f i (out_of_range never))
+  | inl range ↦ elim (step instr.op (sited setting here old key stay function instr) refl range room) [
+    | inl h ↦ inl (h.0, h.1, record { stay = stay; function = function; instr = instr; is_there = e; is_ready = ready; function_is = f; instr_is = i; in_range = range; does = h.2 })
+    | inr w ↦ inr (wrong_at stay function instr e ready f i w)
   ]
+]
 
 with_function : (setting : Setting) (here key : ℕ) (old : places.Place) (stay : Stay) (function : Function) (instr : Option Instr) → HasRoom old → old.stays key ≡ Some stay → stay.away ≡ false → function_at setting.program stay.top.function ≡ Some function → slice_get function.code stay.top.pc ≡ instr → MovesOrWrong setting here old key
 with_function setting here key old stay function None room e ready f i = inr (no_instruction stay e ready (ap (λ g. instr_in g stay.top.pc) f ∙ i))

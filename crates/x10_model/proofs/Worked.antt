@@ -1,12 +1,11 @@
 -- The worked examples that the check doesn't compute by itself.
-use Rattle.std.proofs.Common.{◌≡◌, ◌⊎◌, ℕ, zero, suc, ◌+◌, ◌<◌, ◌≤◌, ℤ, pos, negsuc, Bool, true, false, List, [], ◌∷◌, length, map, Option, Some, None, refl, sym, ap, subst, ◌∙◌, inl, inr, arith, lit<, lit≤}
+use Rattle.std.proofs.Common.{◌≡◌, ◌⊎◌, ℕ, zero, suc, ◌<◌, ◌≤◌, pos, negsuc, false, List, [], ◌∷◌, map, Option, Some, None, refl, sym, ap, subst, ◌∙◌, inl, inr, arith, lit<, lit≤}
 use Rattle.std.specs.Prelude.{slice_get, slice_index}
 use Rattle.std.specs.Int.{int_wrap}
-use Rattle.x10_code.specs.declared.op.Op.TheVariants as op
-use Rattle.x10_model.specs.declared.event.Event.TheVariants.{Step, Deliver}
+use Rattle.x10_model.specs.declared.event.Event.TheVariants.{Step}
 use Rattle.x10_model.specs.Maps.{IsIn, AreDistinct}
-use Rattle.x10_model.specs.Values.{Value, Int, Place, Text, Rail, Object, Null, Ref, Cell, Fields, Bytes}
-use Rattle.x10_model.specs.Copies.{Node, Snapshot, Names, named, IsInside, IsReached, root, field, IsWhole, AreNamesOf, IsCopy}
+use Rattle.x10_model.specs.Values.{Value, Int, Rail, Object, Null, Fields, Bytes}
+use Rattle.x10_model.specs.Copies.{Node, Names, named, IsInside, IsReached, root, field, IsWhole}
 use Rattle.x10_model.specs.Places as places
 use Rattle.x10_model.specs.Places.{Effect, Works, Opens, Ends, Number}
 use Rattle.x10_model.specs.declared.event.Event.{Event}
@@ -21,44 +20,108 @@ use Rattle.x10_model.proofs.Events.{happens_right}
 
 add_wraps : AddWraps
 unfolding int_wrap
-add_wraps = record { stay = _; function = _; instr = _; is_there = refl; is_ready = refl; function_is = refl; instr_is = refl;
+add_wraps = record {
+  stay = _;
+  function = _;
+  instr = _;
+  is_there = refl;
+  is_ready = refl;
+  function_is = refl;
+  instr_is = refl;
   in_range = record { a = lit< tt; b = lit< tt; c = lit< tt; x = tt };
-  does = (pos 9223372036854775807, pos 1, refl, refl, (refl, refl)) }
+  does = (pos 9223372036854775807, pos 1, refl, refl, (refl, refl));
+}
 
 loop_sets : LoopSetsItsSlot
-loop_sets = record { stay = _; function = _; instr = _; is_there = refl; is_ready = refl; function_is = refl; instr_is = refl;
+loop_sets = record {
+  stay = _;
+  function = _;
+  instr = _;
+  is_there = refl;
+  is_ready = refl;
+  function_is = refl;
+  instr_is = refl;
   in_range = record { a = lit< tt; b = tt; c = tt; x = tt };
-  does = (refl, refl) }
+  does = (refl, refl);
+}
 
 texts_join : TextsAreJoined
-texts_join = record { stay = _; function = _; instr = _; is_there = refl; is_ready = refl; function_is = refl; instr_is = refl;
+texts_join = record {
+  stay = _;
+  function = _;
+  instr = _;
+  is_there = refl;
+  is_ready = refl;
+  function_is = refl;
+  instr_is = refl;
   in_range = record { a = lit< tt; b = lit< tt; c = lit< tt; x = lit< tt };
-  does = (72 ∷ [], 105 ∷ [], refl, refl, (refl, refl)) }
+  does = (72 ∷ [], 105 ∷ [], refl, refl, (refl, refl));
+}
 
 field_read : FieldIsRead
-field_read = record { stay = _; function = _; instr = _; is_there = refl; is_ready = refl; function_is = refl; instr_is = refl;
+field_read = record {
+  stay = _;
+  function = _;
+  instr = _;
+  is_there = refl;
+  is_ready = refl;
+  function_is = refl;
+  instr_is = refl;
   in_range = record { a = lit< tt; b = lit< tt; c = tt; x = tt };
-  does = (5, 0, Int (pos 3) ∷ Null ∷ [], Null, refl, refl, refl, (refl, refl)) }
+  does = (5, 0, Int (pos 3) ∷ Null ∷ [], Null, refl, refl, refl, (refl, refl));
+}
 
 byte_set : ByteIsSet
-byte_set = record { stay = _; function = _; instr = _; is_there = refl; is_ready = refl; function_is = refl; instr_is = refl;
+byte_set = record {
+  stay = _;
+  function = _;
+  instr = _;
+  is_there = refl;
+  is_ready = refl;
+  function_is = refl;
+  instr_is = refl;
   in_range = record { a = lit< tt; b = lit< tt; c = lit< tt; x = lit< tt };
-  does = (5, 0 ∷ 0 ∷ [], pos 1, negsuc 0, refl, refl, refl, refl, (refl, refl)) }
+  does = (5, 0 ∷ 0 ∷ [], pos 1, negsuc 0, refl, refl, refl, refl, (refl, refl));
+}
 
 places_round : PlacesGoRound
-places_round = record { stay = _; function = _; instr = _; is_there = refl; is_ready = refl; function_is = refl; instr_is = refl;
+places_round = record {
+  stay = _;
+  function = _;
+  instr = _;
+  is_there = refl;
+  is_ready = refl;
+  function_is = refl;
+  instr_is = refl;
   in_range = record { a = lit< tt; b = lit< tt; c = tt; x = tt };
-  does = (2, refl, (refl, refl)) }
+  does = (2, refl, (refl, refl));
+}
 
 finish_opens : FinishIsOpened
-finish_opens = record { stay = _; function = _; instr = _; is_there = refl; is_ready = refl; function_is = refl; instr_is = refl;
+finish_opens = record {
+  stay = _;
+  function = _;
+  instr = _;
+  is_there = refl;
+  is_ready = refl;
+  function_is = refl;
+  instr_is = refl;
   in_range = record { a = tt; b = tt; c = tt; x = tt };
-  does = (refl, refl) }
+  does = (refl, refl);
+}
 
 number_prints : NumberIsPrinted
-number_prints = record { stay = _; function = _; instr = _; is_there = refl; is_ready = refl; function_is = refl; instr_is = refl;
+number_prints = record {
+  stay = _;
+  function = _;
+  instr = _;
+  is_there = refl;
+  is_ready = refl;
+  function_is = refl;
+  instr_is = refl;
   in_range = record { a = lit< tt; b = tt; c = tt; x = tt };
-  does = (Int (pos 7), Number (pos 7), refl, refl, (refl, refl)) }
+  does = (Int (pos 7), Number (pos 7), refl, refl, (refl, refl));
+}
 
 pub each_group : EachGroupMoves
 each_group = record { numbers = add_wraps; control = loop_sets; text = texts_join; objects = field_read; rails = byte_set; places = places_round; activities = finish_opens; output = number_prints }
@@ -104,9 +167,9 @@ inside_node w node v h e m = inside_fields w v m.0 h (subst (λ (n : Node). slic
 
 inside_both : (k : ℕ) (node : Node) (v : Value) → slice_get pair_snapshot.nodes k ≡ Some node → IsIn v node.fields → IsInside pair_snapshot v
 inside_both k node v e m = elim (two_are (node_of (Object 1)) (node_of (Object 0)) node k e) [
-    | inl s ↦ inside_node (Object 1) node v (lit< tt) s m
-    | inr s ↦ inside_node (Object 0) node v (lit< tt) s m
-  ]
+  | inl s ↦ inside_node (Object 1) node v (lit< tt) s m
+  | inr s ↦ inside_node (Object 0) node v (lit< tt) s m
+]
 
 root_reached : IsReached pair_snapshot (Object 0)
 root_reached = root (Object 0) (0, refl)
@@ -116,7 +179,7 @@ pair_whole = record {
   roots = λ v m. subst (λ u. IsInside pair_snapshot u) (one_is (Object 0) v m.0 m.1) (lit< tt);
   fields = inside_both;
   nodes_reached = below_two (λ k. IsReached pair_snapshot (Object k)) root_reached (field (Object 1) 0 (node_of (Object 1)) root_reached refl (0, refl));
-  rails_reached = below_one (λ i. IsReached pair_snapshot (Rail i)) (field (Rail 0) 0 (node_of (Object 1)) root_reached refl (1, refl))
+  rails_reached = below_one (λ i. IsReached pair_snapshot (Rail i)) (field (Rail 0) 0 (node_of (Object 1)) root_reached refl (1, refl));
 }
 
 abbrev pair_names : Names
@@ -141,7 +204,7 @@ cycle_is_copied = record {
   names = record { objects = refl; rails = refl; objects_distinct = two_distinct 3 5 (λ e. omega arith); rails_distinct = one_distinct 8 };
   roots = refl;
   nodes = lies_at;
-  bytes = bytes_at
+  bytes = bytes_at;
 }
 
 -- ---- a run
@@ -183,19 +246,43 @@ world_after zero = opening setting 0
 world_after (suc n) = record { net = net_after (world_after n).net 0 (place_after (suc n)) (effect_of n) 0; book = book_after (world_after n).book ((world_after n).book.belongs 0 0) 0 (effect_of n) 0 }
 
 first_move : Moves setting 0 (place_after 0) 0 (place_after 1) Works
-first_move = record { stay = _; function = _; instr = _; is_there = refl; is_ready = refl; function_is = refl; instr_is = refl;
+first_move = record {
+  stay = _;
+  function = _;
+  instr = _;
+  is_there = refl;
+  is_ready = refl;
+  function_is = refl;
+  instr_is = refl;
   in_range = record { a = lit< tt; b = tt; c = tt; x = lit< tt };
-  does = (pos 7, refl, (refl, refl)) }
+  does = (pos 7, refl, (refl, refl));
+}
 
 second_move : Moves setting 0 (place_after 1) 0 (place_after 2) Works
-second_move = record { stay = _; function = _; instr = _; is_there = refl; is_ready = refl; function_is = refl; instr_is = refl;
+second_move = record {
+  stay = _;
+  function = _;
+  instr = _;
+  is_there = refl;
+  is_ready = refl;
+  function_is = refl;
+  instr_is = refl;
   in_range = record { a = lit< tt; b = tt; c = tt; x = tt };
-  does = (Int (pos 7), Number (pos 7), refl, refl, (refl, refl)) }
+  does = (Int (pos 7), Number (pos 7), refl, refl, (refl, refl));
+}
 
 third_move : Moves setting 0 (place_after 2) 0 (place_after 3) (Ends places.root None)
-third_move = record { stay = _; function = _; instr = _; is_there = refl; is_ready = refl; function_is = refl; instr_is = refl;
+third_move = record {
+  stay = _;
+  function = _;
+  instr = _;
+  is_there = refl;
+  is_ready = refl;
+  function_is = refl;
+  instr_is = refl;
   in_range = record { a = tt; b = tt; c = tt; x = tt };
-  does = (None, tt, (None, refl, refl, refl, refl)) }
+  does = (None, tt, (None, refl, refl, refl, refl));
+}
 
 first_step : Steps Ideal setting (world_after 0) 0 0 (world_after 1)
 first_step = record { old = _; new = _; effect = _; number = 0; place_is = refl; moves = first_move; allowed = tt; unused = refl; net_is = refl; book_is = refl }
@@ -222,9 +309,11 @@ made n rest s bound more = then (world_after n) (world_after (suc n)) (world_aft
     (steps 0 0 (world_after (suc n)) s) more
 
 pub seven_runs : SevenRuns
-seven_runs = (world_after 3,
-    made 0 (Step 0 0 ∷ Step 0 0 ∷ []) first_step (within (world_after 0) 0 refl refl refl (lit≤ tt))
-    (made 1 (Step 0 0 ∷ []) second_step (within (world_after 1) 1 refl refl refl (lit≤ tt))
-    (made 2 [] third_step (within (world_after 2) 2 refl refl refl (lit≤ tt))
-    (done (world_after 3) (within (world_after 3) 3 refl refl refl (lit≤ tt))))),
-    (place_after 3, refl, refl, refl))
+seven_runs = (
+  world_after 3,
+  made 0 (Step 0 0 ∷ Step 0 0 ∷ []) first_step (within (world_after 0) 0 refl refl refl (lit≤ tt))
+      (made 1 (Step 0 0 ∷ []) second_step (within (world_after 1) 1 refl refl refl (lit≤ tt))
+      (made 2 [] third_step (within (world_after 2) 2 refl refl refl (lit≤ tt))
+      (done (world_after 3) (within (world_after 3) 3 refl refl refl (lit≤ tt))))),
+  (place_after 3, refl, refl, refl),
+)

@@ -1,6 +1,6 @@
 -- What is known of the registers before an instruction, and when that is consistent over a whole function: the data-flow
 -- scheme of Kildall without its algorithm.
-use Rattle.std.specs.Prelude.{◌≡◌, ℕ, ◌+◌, ◌<◌, ◌⊎◌, Bool, true, false, IsTrue, List, [], ◌∷◌, length, Option, Some, None, if◌then◌else◌, slice_get}
+use Rattle.std.specs.Prelude.{◌≡◌, ℕ, ◌+◌, ◌<◌, ◌⊎◌, Bool, true, false, IsTrue, List, [], ◌∷◌, Option, Some, None, if◌then◌else◌, slice_get}
 use Rattle.x10_kinds.specs.declared.kind.Kind.{Kind}
 use Rattle.x10_kinds.specs.declared.kind.Kind.TheVariants.{Int, Place, Text, Rail, Obj, Opt, GRef}
 use Rattle.x10_kinds.specs.declared.homes.Term.{Term}
@@ -187,8 +187,8 @@ pub record IsConsistent (program : Module) (function : Function) (states : ℕ �
   pub entry : Reaches states (0, entry_state function)
   pub valid : (pc : ℕ) (s : State) → states pc ≡ Some s → IsState s
   pub permitted : (pc : ℕ) (s : State) → states pc ≡ Some s → (instr : Instr) × (out : Edges) × (slice_get function.code pc ≡ Some instr)
-    × Permits instr.op (record { program = program; function = function; pc = pc; instr = instr }) s out
-    × ((edge : ℕ × State) → IsIn edge out → Reaches states edge)
+      × Permits instr.op (record { program = program; function = function; pc = pc; instr = instr }) s out
+      × ((edge : ℕ × State) → IsIn edge out → Reaches states edge)
 
 abbrev pub HasAssignment : Module → Function → Type 0
 HasAssignment program function = (states : ℕ → Option State) × IsConsistent program function states

@@ -1,8 +1,8 @@
 -- Deep copies: a snapshot holds what some values reach, with sharing and cycles kept.
-use Rattle.std.specs.Prelude.{◌≡◌, ◌≢◌, ◌⊎◌, ℕ, ◌<◌, List, map, length, Option, Some, None, slice_get, slice_index}
+use Rattle.std.specs.Prelude.{◌≡◌, ◌⊎◌, ℕ, ◌<◌, List, map, length, Some, None, slice_get, slice_index}
 use Rattle.x10_model.specs.Maps.{IsIn, AreDistinct}
 use Rattle.x10_kinds.specs.declared.kind.Kind.{Kind}
-use Rattle.x10_model.specs.Values.{Value, Int, Place, Text, Rail, Object, Null, Ref, Cell, Fields, Bytes, Cells, IsOfKindBy}
+use Rattle.x10_model.specs.Values.{Value, Int, Place, Text, Rail, Object, Null, Ref, Fields, Bytes, Cells, IsOfKindBy}
 
 -- an object of a snapshot
 pub record Node : Type 0 where

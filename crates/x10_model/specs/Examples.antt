@@ -1,22 +1,18 @@
 -- Worked examples of the definitions. Each is a law that the check computes.
-use Rattle.std.specs.Prelude.{◌≡◌, ℕ, zero, suc, ◌+◌, ◌-◌, ◌*◌, ◌^◌, ℤ, pos, negsuc, Bool, true, false, ◌==◌, List, [], ◌∷◌, ◌++◌, length, map, Option, Some, None, Result, Ok, Err, slice_get, slice_index}
-use Rattle.x10_kinds.specs.declared.kind.Kind.{Kind}
-use Rattle.x10_kinds.specs.declared.kind.Kind.TheVariants as kind
+use Rattle.std.specs.Prelude.{◌≡◌, ℕ, ℤ, pos, negsuc, Bool, true, false, List, [], ◌∷◌, Option, Some, None, Ok, Err, slice_get, slice_index}
 use Rattle.x10_code.specs.declared.op.Op.{Op}
 use Rattle.x10_code.specs.declared.op.Op.TheVariants as op
 use Rattle.x10_code.specs.declared.instr.Instr.{Instr}
-use Rattle.x10_model.specs.declared.event.Event.{Event}
-use Rattle.x10_model.specs.declared.event.Event.TheVariants.{Step, Deliver}
+use Rattle.x10_model.specs.declared.event.Event.TheVariants.{Step}
 use Rattle.x10_model.specs.Maps.{with_entry}
 use Rattle.x10_model.specs.Modules.{Module, Function}
-use Rattle.x10_model.specs.declared.slot.Slot.{Slot}
-use Rattle.x10_model.specs.Structure.{BoundFault, Nesting, Jump, LoopSlot, CallOrder, TooLarge, bounds_of}
-use Rattle.x10_model.specs.Values.{Value, Int, Place, Text, Rail, Object, Null, Ref, Cell, Fields, Bytes, Cells}
-use Rattle.x10_model.specs.Copies.{Snapshot, Names, Captures, IsCopy}
+use Rattle.x10_model.specs.Structure.{Jump, TooLarge, bounds_of}
+use Rattle.x10_model.specs.Values.{Value, Int, Place, Text, Rail, Object, Null, Fields, Bytes, Cells}
+use Rattle.x10_model.specs.Copies.{Snapshot, IsCopy}
 use Rattle.x10_model.specs.Places as places
 use Rattle.x10_model.specs.Places.{Setting, Finish, root, CallFrame, Stay, Line, Number, Words, Message, Effect, Works, Opens, with_stay, writes, next}
-use Rattle.x10_model.specs.Moves.{Moves, new_stay, with_cell, with_line}
-use Rattle.x10_model.specs.Worlds.{Rule, Loose, Quiet, Ideal, World, Net, Run, WithinBounds, opening}
+use Rattle.x10_model.specs.Moves.{Moves, with_cell, with_line}
+use Rattle.x10_model.specs.Worlds.{Ideal, World, Run, WithinBounds, opening}
 use Rattle.x10_model.specs.Totals.{Entry, Cut, Report, zeros, merged, seen_from, is_balanced}
 
 -- ---- modules

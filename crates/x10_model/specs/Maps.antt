@@ -1,5 +1,5 @@
 -- Finite and infinite maps as functions, and members of lists.
-use Rattle.std.specs.Prelude.{◌≡◌, ◌≢◌, ℕ, Bool, ◌==◌, ◌&&◌, List, [], ◌∷◌, Option, Some, None, if◌then◌else◌, slice_get}
+use Rattle.std.specs.Prelude.{◌≡◌, ℕ, ◌==◌, ◌&&◌, List, [], ◌∷◌, Some, if◌then◌else◌, slice_get}
 
 -- the map with another value at one number
 abbrev pub with_entry : {V : Type 0} → (ℕ → V) → ℕ → V → ℕ → V

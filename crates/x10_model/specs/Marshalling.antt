@@ -1,5 +1,5 @@
 -- Which frame carries which message: a frame's graph stands for a snapshot, where texts are values and no table.
-use Rattle.std.specs.Prelude.{◌≡◌, ℕ, List, [], map, Option, Some, None, slice_get}
+use Rattle.std.specs.Prelude.{ℕ, List, [], map, Option, Some, None, slice_get}
 use Rattle.x10_model.specs.Values.{Value, Int, Place, Text, Rail, Object, Null, Ref}
 use Rattle.x10_model.specs.Copies.{Node, Snapshot}
 use Rattle.x10_model.specs.Places as places

@@ -1,5 +1,5 @@
 -- Which values fit a signature or a class, by whatever says of which kind a value is.
-use Rattle.std.specs.Prelude.{◌≡◌, ℕ, Bool, IsTrue, List}
+use Rattle.std.specs.Prelude.{◌≡◌, ℕ, IsTrue, List}
 use Rattle.x10_kinds.specs.declared.kind.Kind.{Kind}
 use Rattle.x10_model.specs.Maps.{Pairwise}
 use Rattle.x10_model.specs.declared.slot.Slot.{Slot}

@@ -1,8 +1,8 @@
 -- Counting what a finish waits for: totals at each place, reports of them, and when they balance. The counting family of
 -- termination detection (Mattern, 1987).
-use Rattle.std.specs.Prelude.{◌≡◌, ◌≢◌, ℕ, zero, suc, ◌+◌, ◌-◌, ◌<◌, ◌≤◌, ◌⊎◌, max, Bool, true, false, ◌==◌, ◌&&◌, not, List, [], ◌∷◌, ◌++◌, length, Option, Some, None, if◌then◌else◌, slice_get, slice_index}
+use Rattle.std.specs.Prelude.{◌≡◌, ℕ, zero, suc, ◌+◌, ◌-◌, ◌<◌, ◌≤◌, max, Bool, true, false, ◌==◌, ◌&&◌, not, List, [], ◌∷◌, if◌then◌else◌, slice_index}
 use Rattle.x10_model.specs.Maps.{with_entry}
-use Rattle.x10_model.specs.Places.{Finish, root, Message, Spawn, Shift, Back, Effect, Waits, Works, Begins, Spawns, Shifts, Opens, Closes, Ends, receiver}
+use Rattle.x10_model.specs.Places.{Finish, root, Message, Spawn, Shift, Back, Effect, Begins, Spawns, Shifts, Ends, receiver}
 use Rattle.x10_model.specs.Worlds.{same_finish}
 
 -- what one place has counted for one finish: the stays that inherited it and live, what was sent to each place under it,

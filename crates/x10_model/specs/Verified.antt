@@ -1,5 +1,5 @@
 -- The modules that the verifier accepts.
-use Rattle.std.specs.Prelude.{◌≡◌, ℕ, List, Result, Ok, Some}
+use Rattle.std.specs.Prelude.{◌≡◌, ℕ, List, Ok, Some}
 use Rattle.x10_model.specs.Modules.{Module, Function}
 use Rattle.x10_model.specs.Ranges.{function_at}
 use Rattle.x10_model.specs.Structure.{bounds_of}

@@ -1,9 +1,8 @@
 -- The world: the net of places with the messages in flight, and the book of activities. Runs of it, event by event.
-use Rattle.std.specs.Prelude.{◌≡◌, ◌≢◌, ℕ, ◌+◌, ◌<◌, ◌≤◌, ◌⊎◌, ◌==◌, Bool, true, false, List, [], ◌∷◌, Option, Some, None, if◌then◌else◌, nat_lt, slice_get}
+use Rattle.std.specs.Prelude.{◌≡◌, ◌≢◌, ℕ, ◌+◌, ◌<◌, ◌≤◌, ◌==◌, Bool, true, false, List, [], ◌∷◌, Option, Some, None, if◌then◌else◌, nat_lt, slice_get}
 use Rattle.x10_model.specs.declared.event.Event.{Event}
 use Rattle.x10_model.specs.declared.event.Event.TheVariants.{Step, Deliver}
 use Rattle.x10_model.specs.Maps.{with_entry, with_pair}
-use Rattle.x10_model.specs.Modules.{Module}
 use Rattle.x10_model.specs.Copies.{Snapshot}
 use Rattle.x10_model.specs.Places as places
 use Rattle.x10_model.specs.Places.{Setting, Finish, root, Stay, Message, Spawn, Shift, Back, receiver, Effect, Waits, Works, Begins, Spawns, Shifts, Opens, Closes, Ends}
@@ -241,7 +240,7 @@ opening_places setting key p = if nat_lt p setting.places then Some (if p == 0 t
 abbrev pub opening : Setting → ℕ → World
 opening setting key = record {
   net = record { places = opening_places setting key; posts = λ n. Unused; enclosing = λ f. None };
-  book = record { begun = 1; activities = λ a. record { function = setting.program.entry; under = root; steps = 0; stays = (0, key) ∷ [] }; belongs = λ p k. 0; carries = λ n. 0 }
+  book = record { begun = 1; activities = λ a. record { function = setting.program.entry; under = root; steps = 0; stays = (0, key) ∷ [] }; belongs = λ p k. 0; carries = λ n. 0 };
 }
 
 -- no activity lives

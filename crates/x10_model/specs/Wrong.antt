@@ -1,16 +1,16 @@
 -- When a move or a delivery goes wrong: a list of causes of its own, apart from what moves do.
-use Rattle.std.specs.Prelude.{◌≡◌, ◌≢◌, ℕ, ◌+◌, ◌<◌, ◌⊎◌, Bool, true, false, List, [], ◌∷◌, length, Option, Some, None, slice_get}
+use Rattle.std.specs.Prelude.{◌≡◌, ◌≢◌, ℕ, false, List, [], ◌∷◌, Option, Some, None, slice_get}
 use Rattle.x10_kinds.specs.declared.kind.Kind.{Kind}
 use Rattle.x10_code.specs.declared.op.Op.{Op}
 use Rattle.x10_code.specs.declared.op.Op.TheVariants as op
 use Rattle.x10_code.specs.declared.instr.Instr.{Instr}
 use Rattle.x10_model.specs.Maps.{IsIn}
-use Rattle.x10_model.specs.Modules.{Module, Function}
+use Rattle.x10_model.specs.Modules.{Function}
 use Rattle.x10_model.specs.declared.slot.Slot.{Slot}
 use Rattle.x10_model.specs.Ranges.{function_at, instr_at, IsInRange, parameters_of, result_of, fields_of}
-use Rattle.x10_model.specs.Values.{Value, Int, Place, Text, Rail, Object, Null, Ref, Cell, Fields, Bytes, Cells, IsOfKind, IsObjectOf, IsRail}
+use Rattle.x10_model.specs.Values.{Value, Int, Place, Text, Rail, Object, Null, Ref, Fields, Cells, IsOfKind, IsObjectOf, IsRail}
 use Rattle.x10_model.specs.Signatures.{FitSlots, AreOfKinds}
-use Rattle.x10_model.specs.Copies.{Snapshot, IsOfKindIn}
+use Rattle.x10_model.specs.Copies.{Snapshot}
 use Rattle.x10_model.specs.Places as places
 use Rattle.x10_model.specs.Places.{Setting, CallFrame, Stay, Export, Message, Spawn, Shift, Back}
 use Rattle.x10_model.specs.Moves.{Situation, Holds, HoldsFrom, GivesBack}
@@ -105,7 +105,7 @@ pub data IsWrongAt (s : Situation) : Type 0 where
   no_field : (reference class : ℕ) (fields : List Value) → IsFieldOwner s s.instr.op reference → s.place.cells reference ≡ Some (Fields class fields) → slice_get fields s.instr.c ≡ None → IsWrongAt s
   -- the value that is put doesn't fit the field's kind, or the class has no such field
   put_field : (reference class : ℕ) (fields : List Value) (v : Value) → s.instr.op ≡ op.Put → Holds s s.instr.a (Object reference) → s.place.cells reference ≡ Some (Fields class fields) → Holds s s.instr.b v
-    → ((kind : Kind) → slice_get (fields_of (slice_get s.setting.program.classes class)) s.instr.c ≡ Some kind → IsOfKind s.place.cells v kind → ⊥) → IsWrongAt s
+      → ((kind : Kind) → slice_get (fields_of (slice_get s.setting.program.classes class)) s.instr.c ≡ Some kind → IsOfKind s.place.cells v kind → ⊥) → IsWrongAt s
   -- a global reference is opened away from its home
   away : (home id class : ℕ) → s.instr.op ≡ op.Gopen → Holds s s.instr.b (Ref home id class) → home ≢ s.here → IsWrongAt s
   -- a global reference is opened that names no export of its class
@@ -123,7 +123,7 @@ pub data IsWrongAt (s : Situation) : Type 0 where
 pub data IsWrong (setting : Setting) (here : ℕ) (place : places.Place) (key : ℕ) : Type 0 where
   no_instruction : (stay : Stay) → place.stays key ≡ Some stay → stay.away ≡ false → instr_at setting.program stay.top.function stay.top.pc ≡ None → IsWrong setting here place key
   wrong_at : (stay : Stay) (function : Function) (instr : Instr) → place.stays key ≡ Some stay → stay.away ≡ false → function_at setting.program stay.top.function ≡ Some function → slice_get function.code stay.top.pc ≡ Some instr
-    → IsWrongAt (record { setting = setting; here = here; place = place; key = key; stay = stay; function = function; instr = instr }) → IsWrong setting here place key
+      → IsWrongAt (record { setting = setting; here = here; place = place; key = key; stay = stay; function = function; instr = instr }) → IsWrong setting here place key
 
 abbrev pub graph_of : Message → Snapshot
 graph_of (Spawn from to under function graph) = graph
