@@ -1,0 +1,12 @@
+pub mod Numbers
+pub mod Loops
+pub mod Texts
+pub mod TableLoops
+pub mod Whole
+pub mod Access
+pub mod Functions
+pub mod Decoded
+pub mod Instructions
+pub mod Accessors
+pub mod FunctionAccess
+pub mod WrittenLaws

@@ -1,0 +1,67 @@
+-- Reading items one after the other, with the place of each.
+use Rattle.std.proofs.Common.{◌≡◌, ℕ, ◌-◌, ◌+◌, ◌≤◌, ◌<◌, List, [], ◌∷◌, ◌++◌, length, drop, Option, Result, Ok, refl, sym, ap, subst, ◌∙◌, append_assoc, arith, length-append, drop_at, get_or, get_or-append-add}
+use Rattle.x10_model.specs.Maps.{Pairwise}
+use Rattle.x10_model.specs.Readers.{Reader, IsBytes, many}
+use Rattle.x10_model.specs.ReadingImages.{ImageFault}
+use Rattle.x10_model.proofs.ReaderLaws.{Reads}
+use Rattle.x10_image.specs.Faults.{IsFault, IsFaultOrMemory}
+use Rattle.x10_image.specs.Places.{StandsAt, EndsWith, AreAt, IsTable}
+use Rattle.x10_image.proofs.Loops.{Along, along_begin, along_next, along_fault, along_end, lenient}
+
+-- a part at the front of the image's end, and what follows it
+pub place_is : (image bytes part rest : List ℕ) → EndsWith image bytes → bytes ≡ part ++ rest → StandsAt image (length image - length bytes) part
+place_is image bytes part rest e is =
+    let at : length image - length bytes ≡ length e.before = omega (arith, ap length e.is, length-append e.before bytes) in
+    record { rest = rest; is = rw at (ap (drop (length e.before)) e.is ∙ drop_at e.before bytes (length e.before) refl ∙ is) }
+
+pub still_ends : (image bytes part rest : List ℕ) → EndsWith image bytes → bytes ≡ part ++ rest → EndsWith image rest
+still_ends image bytes part rest e is = record { before = e.before ++ part; is = e.is ∙ ap (λ (t : List ℕ). e.before ++ t) is ∙ sym (append_assoc e.before part rest) }
+
+pub Pairwise-push : {X Y : Type 0} (R : X → Y → Type 0) (xs : List X) (ys : List Y) (x : X) (y : Y) → Pairwise R xs ys → R x y → Pairwise R (xs ++ x ∷ []) (ys ++ y ∷ [])
+Pairwise-push R [] [] x y h r = (r, tt)
+Pairwise-push R (a ∷ xs) (b ∷ ys) x y h r = (h.0, Pairwise-push R xs ys x y h.1 r)
+Pairwise-push R [] (b ∷ ys) x y h r = absurd h
+Pairwise-push R (a ∷ xs) [] x y h r = absurd h
+
+-- with k items left, the places of those before are in the table
+pub record Placed {S A : Type 0} (item : S → Reader ImageFault A) (after : S → A → S) (spell : A → List ℕ) (image : List ℕ) (k : ℕ) (s : S) (bytes table : List ℕ) (all : Result (List A × List ℕ) ImageFault) : Type 0 where
+  pub along : Along item after k s bytes all
+  pub places : AreAt spell image table along.front
+  pub ends : EndsWith image bytes
+
+pub placed_start : {S A : Type 0} (item : S → Reader ImageFault A) (after : S → A → S) (spell : A → List ℕ) (image : List ℕ) (n : ℕ) (s : S) (bytes table : List ℕ) → table ≡ [] → EndsWith image bytes → Placed item after spell image (n - 0) s bytes table (many item after n s bytes)
+unfolding along_begin
+placed_start item after spell image n s bytes table empty e =
+    let k : n - 0 ≡ n = omega arith in
+    rw (empty, k) (record { along = along_begin item after n s bytes; places = tt; ends = e })
+
+pub placed_next : {S A : Type 0} (item : S → Reader ImageFault A) (after : S → A → S) (spell : A → List ℕ) (Fits : A → Type 0) → ((s : S) → Reads (item s) spell Fits)
+    → (image : List ℕ) (n i : ℕ) (s t : S) (bytes table new : List ℕ) (x : A) (rest : List ℕ) (all : Result (List A × List ℕ) ImageFault)
+    → i < n → IsBytes bytes → Placed item after spell image (n - i) s bytes table all → item s bytes ≡ Ok (x, rest) → t ≡ after s x → new ≡ table ++ (length image - length bytes) ∷ []
+    → Placed item after spell image (n - (i + 1)) t rest new all
+unfolding along_next
+placed_next item after spell Fits laws image n i s t bytes table new x rest all lt b p h e is =
+    let took = (laws s).takes bytes x rest b h in
+    let stands = place_is image bytes (spell x) rest p.ends took.0.parts in
+    rw is (record {
+      along = along_next item after n i s t bytes x rest all lt p.along h e;
+      places = Pairwise-push (λ (at : ℕ) (y : _). StandsAt image at (spell y)) table p.along.front (length image - length bytes) x p.places stands;
+      ends = still_ends image bytes (spell x) rest p.ends took.0.parts;
+    })
+
+pub placed_fault : {S A : Type 0} (item : S → Reader ImageFault A) (after : S → A → S) (spell : A → List ℕ) (image : List ℕ) (n i : ℕ) (s : S) (bytes table : List ℕ) (all : Result (List A × List ℕ) ImageFault) (f : Option ImageFault)
+    → i < n → Placed item after spell image (n - i) s bytes table all → IsFault f (item s bytes) → IsFaultOrMemory f all
+placed_fault item after spell image n i s bytes table all f lt p h = lenient f all (along_fault item after n i s bytes all f lt p.along h)
+
+pub placed_end : {S A : Type 0} (item : S → Reader ImageFault A) (after : S → A → S) (spell : A → List ℕ) (image : List ℕ) (n i : ℕ) (s : S) (bytes table : List ℕ) (all : Result (List A × List ℕ) ImageFault)
+    → n ≤ i → Placed item after spell image (n - i) s bytes table all → IsTable spell image table bytes all
+placed_end item after spell image n i s bytes table all le p =
+    record { items = p.along.front; reads = along_end item after n i s bytes all le p.along; places = p.places; ends = p.ends }
+
+pub ends_small : (image bytes : List ℕ) → EndsWith image bytes → length bytes ≤ length image
+ends_small image bytes e = omega (arith, ap length e.is, length-append e.before bytes)
+
+pub ends_bytes : (image bytes : List ℕ) → IsBytes image → EndsWith image bytes → IsBytes bytes
+ends_bytes image bytes b e k =
+    let same : get_or image (length e.before + k) 0 ≡ get_or bytes k 0 = ap (λ (t : List ℕ). get_or t (length e.before + k) 0) e.is ∙ get_or-append-add e.before bytes k 0 in
+    subst (λ (n : ℕ). n < 256) same (b (length e.before + k))

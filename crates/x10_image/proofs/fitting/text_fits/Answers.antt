@@ -1,0 +1,5 @@
+use Rattle.x10_image.proofs.Texts.{text_fits_by}
+use Rattle.x10_image.proofs.fitting.text_fits.Goals as goal
+
+pub returns : goal.returns
+returns c = text_fits_by c.args.text.now _ c.utf8.text

@@ -1,0 +1,69 @@
+-- The parts of a module that a view hands out.
+use Rattle.std.specs.Prelude.{◌≡◌, ℕ, zero, suc, ◌+◌, ◌≤◌, ◌==◌, List, [], ◌∷◌, length, Option, Some, None, IfSome, slice_index, slice_range}
+use Rattle.std.specs.List.{AllByRecursion}
+use Rattle.std.specs.Int.{w16, from_be_bytes}
+use Rattle.x10_kinds.specs.declared.kind.Kind.{Kind}
+use Rattle.x10_kinds.specs.declared.kind.Kind.TheVariants as kind
+use Rattle.x10_code.specs.declared.instr.Instr.{Instr}
+use Rattle.x10_model.specs.Modules.{Module, Function, FitsSlot}
+use Rattle.x10_model.specs.Ranges.{function_at}
+use Rattle.x10_model.specs.declared.slot.Slot.{Slot}
+
+-- a function without its code
+pub record Signature : Type 0 where
+  pub parameters : List Slot
+  pub registers : ℕ
+  pub loops : ℕ
+  pub result : Option Slot
+
+abbrev pub signature_of : Function → Signature
+signature_of f = record { parameters = f.parameters; registers = f.registers; loops = f.loops; result = f.result }
+
+-- what holds of each function's signature, in a module with so many classes
+pub record FitsSignature (classes : ℕ) (s : Signature) : Type 0 where
+  pub parameters_fit : length s.parameters ≤ 16
+  pub registers_fit : (1 ≤ s.registers) × (s.registers ≤ 64)
+  pub room : length s.parameters ≤ s.registers
+  pub loops_fit : s.loops ≤ 8
+  pub slots : AllByRecursion (FitsSlot classes) s.parameters
+  pub result_fits : IfSome s.result (FitsSlot classes)
+
+abbrev pub code_in : Option Function → List Instr
+code_in None = []
+code_in (Some f) = f.code
+
+-- the instructions of function f
+abbrev pub code_at : Module → ℕ → List Instr
+code_at m f = code_in (function_at m f)
+
+-- some of the bytes, from one place on
+pub record IsPart (bytes part : List ℕ) : Type 0 where
+  pub from : ℕ
+  pub end : from + length part ≤ length bytes
+  pub is : part ≡ slice_range bytes from (from + length part)
+
+-- ---- kinds and slots from their bytes
+
+abbrev pub kind_with : ℕ → ℕ → Kind
+kind_with zero class = kind.Int
+kind_with (suc zero) class = kind.Int
+kind_with (suc (suc zero)) class = kind.Place
+kind_with (suc (suc (suc zero))) class = kind.Text
+kind_with (suc (suc (suc (suc zero)))) class = kind.Rail
+kind_with (suc (suc (suc (suc (suc zero))))) class = kind.Obj class
+kind_with (suc (suc (suc (suc (suc (suc zero)))))) class = kind.Opt class
+kind_with (suc (suc (suc (suc (suc (suc (suc tag))))))) class = kind.GRef class
+
+-- the kinds that their bytes spell
+unfoldable pub kinds_in : List ℕ → List Kind
+kinds_in (tag ∷ high ∷ low ∷ rest) = kind_with tag (from_be_bytes w16 (high ∷ low ∷ [])) ∷ kinds_in rest
+kinds_in _ = []
+
+-- the slots that their bytes spell
+unfoldable pub slots_in : List ℕ → List Slot
+slots_in (tag ∷ high ∷ low ∷ flag ∷ rest) = record { kind = kind_with tag (from_be_bytes w16 (high ∷ low ∷ [])); home_here = flag == 1 } ∷ slots_in rest
+slots_in _ = []
+
+-- the slot that the four bytes from a place on spell
+abbrev pub slot_at : List ℕ → ℕ → Slot
+slot_at bytes at = record { kind = kind_with (slice_index bytes at) (from_be_bytes w16 (slice_index bytes (at + 1) ∷ slice_index bytes (at + 2) ∷ [])); home_here = slice_index bytes (at + 3) == 1 }

@@ -1,0 +1,32 @@
+-- Where the parts of an image stand in its bytes.
+use Rattle.std.specs.Prelude.{◌≡◌, ℕ, List, ◌++◌, drop, Result, Ok, Err}
+use Rattle.x10_model.specs.Maps.{Pairwise}
+use Rattle.x10_model.specs.ReadingImages as reading
+use Rattle.x10_image.specs.declared.fault.ImageFault.{ImageFault}
+use Rattle.x10_image.specs.Faults.{named, IsFaultOrMemory}
+
+-- the part stands at this place of the bytes
+pub record StandsAt (bytes : List ℕ) (at : ℕ) (part : List ℕ) : Type 0 where
+  pub rest : List ℕ
+  pub is : drop at bytes ≡ part ++ rest
+
+-- the bytes end so
+pub record EndsWith (bytes rest : List ℕ) : Type 0 where
+  pub before : List ℕ
+  pub is : bytes ≡ before ++ rest
+
+-- the place of each item's spelling
+abbrev pub AreAt : {A : Type 0} → (A → List ℕ) → List ℕ → List ℕ → List A → Type 0
+AreAt spell bytes table xs = Pairwise (λ at x. StandsAt bytes at (spell x)) table xs
+
+-- what reading gives, with the places of the items in the whole image
+pub record IsTable {A : Type 0} (spell : A → List ℕ) (image table rest : List ℕ) (read : Result (List A × List ℕ) reading.ImageFault) : Type 0 where
+  pub items : List A
+  pub reads : read ≡ Ok (items, rest)
+  pub places : AreAt spell image table items
+  pub ends : EndsWith image rest
+
+-- a table and the bytes after its items are what reading gives, unless memory ran out
+abbrev pub GivesTable : {A X : Type 0} → (A → List ℕ) → List ℕ → (X → List ℕ) → (X → List ℕ) → Result X ImageFault → Result (List A × List ℕ) reading.ImageFault → Type 0
+GivesTable spell image table rest (Ok x) read = IsTable spell image (table x) (rest x) read
+GivesTable spell image table rest (Err e) read = IsFaultOrMemory (named e) read

@@ -1,0 +1,103 @@
+-- A module to be written, as the model's module, and the tests that say whether it has an image.
+use Rattle.std.specs.Prelude.{◌≡◌, ℕ, ◌^◌, Bool, true, false, not, ◌&&◌, ◌||◌, nat_lt, nat_le, List, length, map, Option, Some, None, slice_get}
+use Rattle.std.specs.List.{list_all}
+use Rattle.std.specs.String.{string_bytes}
+use Rattle.std.specs.Str.{is_utf8}
+use Rattle.x10_kinds.specs.declared.kind.Kind.{Kind}
+use Rattle.x10_kinds.specs.declared.kind.Kind.TheVariants as kind
+use Rattle.x10_code.specs.declared.instr.Instr.{Instr}
+use Rattle.x10_code.specs.Spelling.{fits_form}
+use Rattle.x10_model.specs.Modules as model
+use Rattle.x10_model.specs.Modules.{is_brought, takes_flag}
+use Rattle.x10_model.specs.ReadingImages.{is_within, is_entry}
+use Rattle.x10_model.specs.declared.slot.Slot.{Slot}
+use Rattle.x10_model.specs.Ranges.{instr_at}
+use Rattle.x10_image.specs.declared.fault.ImageFault.{ImageFault}
+use Rattle.x10_image.specs.declared.fault.ImageFault.TheVariants as fault
+use Rattle.x10_image.specs.declared.module.Module.{Module}
+use Rattle.x10_image.specs.declared.module.Function.{Function}
+
+abbrev pub function_shown : Function → model.Function
+function_shown f = record { parameters = f.parameters.items; registers = f.registers; loops = f.loops; result = f.result; code = f.code.items }
+
+-- the module that is to be written
+abbrev pub shown : Module → model.Module
+shown m = record { least_places = m.least_places; classes = map (λ c. c.items) m.classes.items; ints = m.ints.items; texts = map string_bytes m.texts.items; functions = map function_shown m.functions.items; entry = m.entry }
+
+-- ---- tests
+
+abbrev pub names_below : ℕ → Kind → Bool
+names_below classes (kind.Obj c) = nat_lt c classes
+names_below classes (kind.Opt c) = nat_lt c classes
+names_below classes (kind.GRef c) = nat_lt c classes
+names_below classes _ = true
+
+abbrev pub slot_fits : ℕ → Slot → Bool
+slot_fits classes s = names_below classes s.kind && (not s.home_here || takes_flag s.kind)
+
+abbrev pub result_fits : ℕ → Option Slot → Bool
+result_fits classes None = true
+result_fits classes (Some s) = slot_fits classes s
+
+abbrev pub instr_fits : Instr → Bool
+instr_fits i = nat_lt i.a 256 && nat_lt i.b 256 && nat_lt i.c 256 && nat_lt i.x (2 ^ 32) && fits_form i && is_brought i.op
+
+abbrev pub text_fits : List ℕ → Bool
+text_fits text = nat_lt (length text) (2 ^ 16) && is_utf8 text
+
+abbrev pub counts_of_function : model.Function → Bool
+counts_of_function f = nat_le (length f.parameters) 16 && is_within 1 64 f.registers && nat_le (length f.parameters) f.registers && nat_le f.loops 8 && is_within 1 4096 (length f.code)
+
+-- the numbers of the header are in their ranges
+abbrev pub tables_fit : Module → Bool
+tables_fit m =
+    is_within 1 64 m.least_places
+    && nat_lt (length m.classes.items) (2 ^ 16)
+    && nat_lt (length m.ints.items) (2 ^ 16)
+    && nat_lt (length m.texts.items) (2 ^ 16)
+    && is_within 1 256 (length m.functions.items)
+
+-- those of the classes, texts and functions are
+abbrev pub items_fit : Module → Bool
+items_fit m =
+    list_all (λ c. nat_le (length c.items) 16) m.classes.items
+    && list_all (λ t. text_fits (string_bytes t)) m.texts.items
+    && list_all (λ f. counts_of_function (function_shown f)) m.functions.items
+
+abbrev pub kinds_of_function : ℕ → model.Function → Bool
+kinds_of_function classes f = list_all (slot_fits classes) f.parameters && result_fits classes f.result
+
+-- every kind names a class that is there, and only a global reference is said to have its home here
+abbrev pub kinds_fit : Module → Bool
+kinds_fit m =
+    list_all (λ c. list_all (names_below (length m.classes.items)) c.items) m.classes.items
+    && list_all (λ f. kinds_of_function (length m.classes.items) (function_shown f)) m.functions.items
+
+-- every instruction is one that an image may have
+abbrev pub code_fits : Module → Bool
+code_fits m = list_all (λ f. list_all instr_fits f.code.items) m.functions.items
+
+abbrev pub entry_fits : Module → Bool
+entry_fits m = is_entry (slice_get (map function_shown m.functions.items) m.entry)
+
+-- what a fault says of a module that is to be written
+abbrev pub Hinders : ImageFault → Module → Type 0
+Hinders fault.Count m = (tables_fit m && items_fit m) ≡ false
+Hinders fault.Kind m = kinds_fit m ≡ false
+Hinders (fault.Code function pc) m = (i : Instr) × (instr_at (shown m) function pc ≡ Some i) × (instr_fits i ≡ false)
+Hinders fault.Entry m = entry_fits m ≡ false
+Hinders fault.Memory m = ⊥
+Hinders fault.Short m = ⊥
+Hinders fault.Magic m = ⊥
+Hinders fault.Version m = ⊥
+Hinders fault.Text m = ⊥
+Hinders fault.Trailing m = ⊥
+Hinders fault.Reserved m = ⊥
+
+-- nothing hinders an image
+pub record Passes (m : Module) : Type 0 where
+  pub tables : tables_fit m ≡ true
+  pub items : items_fit m ≡ true
+  pub kinds : kinds_fit m ≡ true
+  pub code : code_fits m ≡ true
+  pub entry_is : entry_fits m ≡ true

@@ -1,0 +1,14 @@
+ghost use Rattle.std.specs.Prelude.{◌≡◌};
+ghost use Rattle.x10_model.specs.Modules as model;
+
+use x10_code::Op;
+
+/// Whether an image may have instructions of the operation. Constant time.
+pub fn is_brought(op: Op) -> bool
+    ensures value { result ≡ model.is_brought op }
+{
+    matches!(
+        op,
+        Op::Intk | Op::Add | Op::Sub | Op::Mul | Op::Print | Op::Ret
+    )
+}

@@ -1,0 +1,28 @@
+//! Images of modules: reading them in place, and writing them.
+#![tactic(auto)]
+
+mod brought;
+mod class_view;
+mod fault;
+mod fields;
+mod fitting;
+mod header;
+mod kinds;
+mod module;
+mod parts;
+mod places;
+mod sig_view;
+mod tables;
+mod view;
+mod writing;
+
+pub use brought::is_brought;
+pub use class_view::ClassView;
+pub use fault::ImageFault;
+pub use module::{Function, Module};
+pub use sig_view::SigView;
+pub use view::ImageView;
+pub use writing::write;
+
+#[cfg(test)]
+mod tests;

@@ -1,0 +1,71 @@
+//! The places of the classes, texts and functions of an image.
+
+ghost use Rattle.x10_model.specs.Images.{class_bytes, text_bytes, function_bytes};
+ghost use Rattle.x10_model.specs.Readers.{times, numbered};
+ghost use Rattle.x10_model.specs.ReadingImages.{class_at, text_at, function_at};
+ghost use Rattle.x10_image.specs.Places.{EndsWith, GivesTable};
+
+use crate::fault::ImageFault;
+use crate::parts::{past_class, past_function, past_text};
+use std::alloc::Global;
+
+/// Where each of so many classes stands in the image that the bytes end, and the bytes after them.
+pub fn class_table<'a>(
+    alloc: Global,
+    image: &[u8],
+    bytes: &'a [u8],
+    count: u16,
+) -> Result<(Vec<usize>, &'a [u8]), ImageFault>
+    requires { EndsWith image.now bytes.now }
+    ensures exact { GivesTable class_bytes image.now (λ x. x.0.items) (λ x. x.1.now) result (times count (class_at count) bytes.now) }
+{
+    let mut table = Vec::new(alloc);
+    let mut rest = bytes;
+    for _ in 0..count {
+        let at = image.len() - rest.len();
+        rest = past_class(rest, count)?;
+        table.push(at)?;
+    }
+    Ok((table, rest))
+}
+
+/// Where each of so many texts stands in the image that the bytes end, and the bytes after them.
+pub fn text_table<'a>(
+    alloc: Global,
+    image: &[u8],
+    bytes: &'a [u8],
+    count: u16,
+) -> Result<(Vec<usize>, &'a [u8]), ImageFault>
+    requires { EndsWith image.now bytes.now }
+    ensures exact { GivesTable text_bytes image.now (λ x. x.0.items) (λ x. x.1.now) result (times count text_at bytes.now) }
+{
+    let mut table = Vec::new(alloc);
+    let mut rest = bytes;
+    for _ in 0..count {
+        let at = image.len() - rest.len();
+        rest = past_text(rest)?;
+        table.push(at)?;
+    }
+    Ok((table, rest))
+}
+
+/// Where each of so many functions stands in the image that the bytes end, and the bytes after them.
+pub fn function_table<'a>(
+    alloc: Global,
+    image: &[u8],
+    bytes: &'a [u8],
+    classes: u16,
+    count: u16,
+) -> Result<(Vec<usize>, &'a [u8]), ImageFault>
+    requires { EndsWith image.now bytes.now }
+    ensures exact { GivesTable function_bytes image.now (λ x. x.0.items) (λ x. x.1.now) result (numbered count (function_at classes) bytes.now) }
+{
+    let mut table = Vec::new(alloc);
+    let mut rest = bytes;
+    for function in 0..count {
+        let at = image.len() - rest.len();
+        rest = past_function(rest, classes, function)?;
+        table.push(at)?;
+    }
+    Ok((table, rest))
+}

@@ -1,0 +1,311 @@
+ghost use Rattle.std.specs.Prelude.{◌<◌, length};
+
+use super::*;
+use std::alloc::{AllocError, Global};
+use std::test::*;
+use x10_code::{Instr, Op};
+use x10_kinds::Kind;
+use x10_model::Slot;
+
+/// One function that prints the constant number 7.
+const SEVEN: [u8; 64] = [
+    0x58, 0x31, 0x30, 0x50, 0, 1, 0, 1, 0, 0, 0, 1, 0, 0, 0, 1, 0, 0, 0, 0, 0, 0, 0, 0, 0, 0, 0, 7,
+    0, 1, 0, 0, 0, 0, 0, 0, 0, 3, 0, 0, 0x01, 0, 0, 0, 0, 0, 0, 0, 0x0f, 0, 0, 0, 0, 0, 0, 0, 0x29,
+    0, 0, 0, 0, 0, 0, 0,
+];
+
+fn instr(op: Op, a: u8, x: u32) -> Instr {
+    Instr {
+        op,
+        a,
+        b: 0,
+        c: 0,
+        x,
+    }
+}
+
+/// The fault of the bytes, if they have one.
+fn fault(rt: &HostRuntime, bytes: &[u8]) -> Option<ImageFault> {
+    ImageView::read(rt.alloc(), bytes).err()
+}
+
+/// The fault of the bytes of `SEVEN` with one of them changed.
+fn changed(rt: &HostRuntime, at: usize, byte: u8) -> Option<ImageFault> {
+    let mut bytes = SEVEN;
+    if let Some(place) = bytes.get_mut(at) {
+        *place = byte;
+    }
+    fault(rt, &bytes)
+}
+
+/// The module that a view shows, taken from it part by part.
+fn rebuilt(alloc: Global, view: &ImageView<'_>) -> Result<Module, AllocError> {
+    let mut module = Module {
+        least_places: view.least(),
+        classes: Vec::new(alloc),
+        ints: Vec::new(alloc),
+        texts: Vec::new(alloc),
+        functions: Vec::new(alloc),
+        entry: view.entry(),
+    };
+    for c in 0..view.classes() {
+        let class = view.class(c);
+        let mut fields = Vec::new(alloc);
+        for i in 0..class.len() {
+            fields.push(class.field(i))?;
+        }
+        module.classes.push(fields)?;
+    }
+    for i in 0..view.ints() {
+        module.ints.push(view.int(i))?;
+    }
+    for i in 0..view.texts() {
+        module.texts.push(String::from_str(alloc, view.text(i))?)?;
+    }
+    for f in 0..view.functions() {
+        module.functions.push(function_of(alloc, view, f)?)?;
+    }
+    Ok(module)
+}
+
+fn function_of(alloc: Global, view: &ImageView<'_>, f: usize) -> Result<Function, AllocError>
+    requires { f < length view.now.functions }
+{
+    let signature = view.signature(f);
+    let mut function = Function {
+        parameters: Vec::new(alloc),
+        registers: signature.registers(),
+        loops: signature.loops(),
+        result: signature.result(),
+        code: Vec::new(alloc),
+    };
+    for i in 0..signature.parameters() {
+        function.parameters.push(signature.parameter(i))?;
+    }
+    for pc in 0..view.code_len(f) {
+        function.code.push(view.instr(f, pc))?;
+    }
+    Ok(function)
+}
+
+/// A function that takes and gives nothing.
+fn plain(alloc: Global) -> Result<Function, AllocError> {
+    Ok(Function {
+        parameters: Vec::new(alloc),
+        registers: 1,
+        loops: 0,
+        result: None,
+        code: Vec::from_slice(alloc, &[instr(Op::Ret, 0, 0)])?,
+    })
+}
+
+/// A function with the most of everything.
+fn largest(alloc: Global) -> Result<Function, AllocError> {
+    let slot = Slot {
+        kind: Kind::GRef(1),
+        home_here: true,
+    };
+    let mut function = Function {
+        parameters: Vec::new(alloc),
+        registers: 64,
+        loops: 8,
+        result: Some(slot),
+        code: Vec::new(alloc),
+    };
+    for _ in 0..16 {
+        function.parameters.push(slot)?;
+    }
+    for x in 0..4095 {
+        function.code.push(instr(Op::Intk, 63, x))?;
+    }
+    function.code.push(instr(Op::Ret, 0, 0))?;
+    Ok(function)
+}
+
+/// A module with the most functions and the longest text, and classes that name later ones.
+fn full(alloc: Global) -> Result<Module, AllocError> {
+    let mut long = String::new(alloc);
+    for _ in 0..65_535 {
+        long.push('a')?;
+    }
+    let mut module = Module {
+        least_places: 64,
+        classes: Vec::new(alloc),
+        ints: Vec::from_slice(alloc, &[i64::MIN, -1, 0, i64::MAX])?,
+        texts: Vec::new(alloc),
+        functions: Vec::new(alloc),
+        entry: 255,
+    };
+    module.classes.push(Vec::from_slice(alloc, &[Kind::Obj(1), Kind::Opt(1), Kind::GRef(1)])?)?;
+    module.classes.push(Vec::from_slice(
+        alloc,
+        &[Kind::Int, Kind::Place, Kind::Text, Kind::Rail],
+    )?)?;
+    module.texts.push(String::new(alloc))?;
+    module.texts.push(long)?;
+    module.functions.push(largest(alloc)?)?;
+    for _ in 1..256 {
+        module.functions.push(plain(alloc)?)?;
+    }
+    Ok(module)
+}
+
+#[test]
+fn seven_is_read(rt: HostRuntime) -> Result<(), Fail> {
+    let view = ImageView::read(rt.alloc(), &SEVEN)
+        .ok()
+        .ok_or("it is an image")?;
+    assert_eq!(rt; view.least(), 1);
+    assert_eq!(rt; view.entry(), 0);
+    assert_eq!(rt; view.classes(), 0);
+    assert_eq!(rt; view.ints(), 1);
+    assert_eq!(rt; view.texts(), 0);
+    assert_eq!(rt; view.functions(), 1);
+    let module = rebuilt(rt.alloc(), &view)?;
+    assert_eq!(rt; module.ints.as_slice(), [7].as_slice());
+    for function in &module.functions {
+        assert_eq!(rt; function.registers, 1);
+        assert_eq!(rt; function.loops, 0);
+        assert_eq!(rt; function.result, None);
+        assert_eq!(rt; function.parameters.len(), 0);
+        assert_eq!(rt;
+            function.code.as_slice(),
+            [
+                instr(Op::Intk, 0, 0),
+                instr(Op::Print, 0, 0),
+                instr(Op::Ret, 0, 0)
+            ]
+            .as_slice()
+        );
+    }
+    for f in 0..view.functions() {
+        assert_eq!(rt; view.code(f), &SEVEN[40..]);
+    }
+    Ok(())
+}
+
+#[test]
+fn beginnings_are_short(rt: HostRuntime) {
+    for n in 0..64 {
+        assert_eq!(rt; fault(&rt, &SEVEN[..n]), Some(ImageFault::Short));
+    }
+}
+
+#[test]
+fn each_fault_is_met(rt: HostRuntime) {
+    assert_eq!(rt; changed(&rt, 0, 0x59), Some(ImageFault::Magic));
+    assert_eq!(rt; changed(&rt, 5, 2), Some(ImageFault::Version));
+    assert_eq!(rt; changed(&rt, 7, 64), None);
+    assert_eq!(rt; changed(&rt, 7, 65), Some(ImageFault::Count));
+    assert_eq!(rt; changed(&rt, 7, 0), Some(ImageFault::Count));
+    assert_eq!(rt; changed(&rt, 32, 8), Some(ImageFault::Kind));
+    assert_eq!(rt; changed(&rt, 32, 5), Some(ImageFault::Kind));
+    assert_eq!(rt; changed(&rt, 19, 1), Some(ImageFault::Reserved));
+    assert_eq!(rt; changed(&rt, 31, 1), Some(ImageFault::Reserved));
+    assert_eq!(rt; changed(&rt, 17, 1), Some(ImageFault::Entry));
+    assert_eq!(rt; changed(&rt, 32, 1), Some(ImageFault::Entry));
+    assert_eq!(rt; changed(&rt, 42, 1), Some(ImageFault::Code(0, 0)));
+    assert_eq!(rt; changed(&rt, 56, 0x28), Some(ImageFault::Code(0, 2)));
+    assert_eq!(rt; changed(&rt, 4, 9), Some(ImageFault::Version));
+    assert_eq!(rt; changed(&rt, 3, 9), Some(ImageFault::Magic));
+}
+
+/// A text of one byte after the constant number, and the rest of `SEVEN`.
+fn with_text(alloc: Global, byte: u8) -> Result<Vec<u8>, AllocError> {
+    let mut bytes = Vec::from_slice(alloc, &SEVEN[..28])?;
+    bytes.extend_from_slice(&[0, 1, byte])?;
+    bytes.extend_from_slice(&SEVEN[28..])?;
+    if let Some(texts) = bytes.get_mut(13) {
+        *texts = 1;
+    }
+    Ok(bytes)
+}
+
+#[test]
+fn texts_are_utf8(rt: HostRuntime) -> Result<(), Fail> {
+    assert_eq!(rt; fault(&rt, &with_text(rt.alloc(), b'A')?), None);
+    assert_eq!(rt;
+        fault(&rt, &with_text(rt.alloc(), 0xff)?),
+        Some(ImageFault::Text)
+    );
+    let mut longer = Vec::from_slice(rt.alloc(), &SEVEN)?;
+    longer.push(0)?;
+    assert_eq!(rt; fault(&rt, &longer), Some(ImageFault::Trailing));
+    Ok(())
+}
+
+#[test]
+fn changed_bytes_are_refused_or_spelled(rt: HostRuntime) -> Result<(), Fail> {
+    for at in 0..64 {
+        for byte in 0..=255 {
+            let mut bytes = SEVEN;
+            bytes[at] = byte;
+            match ImageView::read(rt.alloc(), &bytes) {
+                Ok(view) => {
+                    let again = write(rt.alloc(), &rebuilt(rt.alloc(), &view)?)
+                        .ok()
+                        .ok_or("it was read")?;
+                    assert_eq!(rt; again.as_slice(), bytes.as_slice());
+                }
+                Err(fault) => assert!(rt; fault != ImageFault::Memory),
+            }
+        }
+    }
+    Ok(())
+}
+
+#[test]
+fn written_is_read_and_written_again(rt: HostRuntime) -> Result<(), Fail> {
+    let module = full(rt.alloc())?;
+    let bytes = write(rt.alloc(), &module).ok().ok_or("it has an image")?;
+    let view = ImageView::read(rt.alloc(), &bytes)
+        .ok()
+        .ok_or("it was written")?;
+    let read = rebuilt(rt.alloc(), &view)?;
+    assert_eq!(rt; read.functions.len(), 256);
+    let again = write(rt.alloc(), &read).ok().ok_or("it was read")?;
+    assert_eq!(rt; again.as_slice(), bytes.as_slice());
+    Ok(())
+}
+
+#[test]
+fn modules_without_image_are_refused(rt: HostRuntime) -> Result<(), Fail> {
+    let mut module = full(rt.alloc())?;
+    module.entry = 0;
+    assert_eq!(rt; write(rt.alloc(), &module).err(), Some(ImageFault::Entry));
+    module.functions.push(plain(rt.alloc())?)?;
+    assert_eq!(rt; write(rt.alloc(), &module).err(), Some(ImageFault::Count));
+    let mut module = full(rt.alloc())?;
+    module
+        .classes
+        .push(Vec::from_slice(rt.alloc(), &[Kind::Obj(3)])?)?;
+    assert_eq!(rt; write(rt.alloc(), &module).err(), Some(ImageFault::Kind));
+    let mut module = full(rt.alloc())?;
+    for function in &mut module.functions {
+        function.code.push(instr(Op::Fine, 0, 0))?;
+    }
+    assert_eq!(rt; write(rt.alloc(), &module).err(), Some(ImageFault::Count));
+    let mut module = full(rt.alloc())?;
+    let mut bad = plain(rt.alloc())?;
+    bad.code.push(instr(Op::Fine, 0, 0))?;
+    module.functions.pop();
+    module.functions.push(bad)?;
+    assert_eq!(rt;
+        write(rt.alloc(), &module).err(),
+        Some(ImageFault::Code(255, 1))
+    );
+    Ok(())
+}
+
+#[test]
+fn faults_show_their_names(rt: HostRuntime) -> Result<(), Fail> {
+    assert_eq!(rt;
+        format!(in rt.alloc(); "{}", ImageFault::Code(3, 7))?.as_str(),
+        "Code 3 7"
+    );
+    assert_eq!(rt;
+        format!(in rt.alloc(); "{}", ImageFault::Trailing)?.as_str(),
+        "Trailing"
+    );
+    Ok(())
+}

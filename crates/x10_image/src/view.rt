@@ -1,0 +1,224 @@
+ghost use Rattle.std.specs.Prelude.{◌≡◌, ◌^◌, ◌<◌, ◌≤◌, List, Ok, Some, IfOk, length, slice_get};
+ghost use Rattle.std.specs.List.{flat_map};
+ghost use Rattle.x10_code.specs.Spelling.{spelling as instruction};
+ghost use Rattle.x10_model.specs.Modules.{Module, Function, FitsImage, FitsText, FitsClass, IsEntry, IsBrought};
+ghost use Rattle.x10_model.specs.Ranges.{function_at, instr_at};
+ghost use Rattle.x10_model.specs.Images.{function_bytes, spelling};
+ghost use Rattle.x10_model.specs.ReadingImages.{module_at, is_entry};
+ghost use Rattle.x10_image.specs.Faults.{Gives};
+ghost use Rattle.x10_image.specs.Places.{AreAt};
+ghost use Rattle.x10_image.specs.Parts.{IsPart, FitsSignature, signature_of, code_at};
+
+use crate::class_view::ClassView;
+use crate::fault::ImageFault;
+use crate::header::{Header, read_header};
+use crate::parts::past_ints;
+use crate::places::{class_in, code_len_in, code_place, instr_in, int_in, signature_in, text_in};
+use crate::sig_view::SigView;
+use crate::tables::{class_table, function_table, text_table};
+use std::alloc::Global;
+use std::marker::Model;
+use x10_code::Instr;
+
+/// A module's image, read in place: the bytes themselves, and where each class, text and function
+/// begins. Clauses see the module.
+#[derive(Drop)]
+pub struct ImageView<'a> {
+    bytes: &'a [u8],
+    header: Header,
+    ints: usize,
+    classes: Vec<usize>,
+    texts: Vec<usize>,
+    functions: Vec<usize>,
+}
+
+impl<'a> Model for ImageView<'a> {
+    ghost use Rattle.x10_model.specs.Modules.{Module};
+
+    ghost Value = { Module };
+
+    ghost use Rattle.x10_image.specs.Views.{IsView, module_in};
+
+    ghost view = { λ a. module_in a.bytes.now };
+
+    ghost invariant = { λ a. IsView a.bytes.now a.header a.ints a.classes.items a.texts.items a.functions.items };
+}
+
+/// Whether a function with the entry's number is there and takes and gives nothing, by its first
+/// bytes.
+fn has_entry(bytes: &[u8], functions: &[usize], entry: u16) -> bool
+    requires { (all : List Function) × AreAt function_bytes bytes.now functions.now all }
+    ensures { (all : List Function) → AreAt function_bytes bytes.now functions.now all → result ≡ is_entry (slice_get all entry) }
+{
+    let entry = usize::from(entry);
+    if functions.len() <= entry {
+        return false;
+    }
+    let at = functions[entry];
+    bytes[at] == 0 && bytes[at + 4] == 0
+}
+
+fn whole<'a>(alloc: Global, bytes: &'a [u8]) -> Result<ImageView<'a>, ImageFault>
+    ensures exact { Gives (λ v. v) result (module_at bytes.now) }
+{
+    let (header, rest) = read_header(bytes)?;
+    let (classes, rest) = class_table(alloc, bytes, rest, header.classes)?;
+    let ints = bytes.len() - rest.len();
+    let rest = past_ints(rest, header.ints)?;
+    let (texts, rest) = text_table(alloc, bytes, rest, header.texts)?;
+    let (functions, rest) = function_table(alloc, bytes, rest, header.classes, header.functions)?;
+    if !rest.is_empty() {
+        return Err(ImageFault::Trailing);
+    }
+    if !has_entry(bytes, &functions, header.entry) {
+        return Err(ImageFault::Entry);
+    }
+    Ok(ImageView {
+        bytes,
+        header,
+        ints,
+        classes,
+        texts,
+        functions,
+    })
+}
+
+impl<'a> ImageView<'a> {
+    /// The view of an image. A fault is the first one from front to back. One pass over the bytes;
+    /// the memory taken is 8 bytes for each class, text and function that is there.
+    pub fn read(alloc: Global, bytes: &'a [u8]) -> Result<ImageView<'a>, ImageFault>
+        ensures found { IfOk result (λ m. FitsImage m × (bytes.now ≡ spelling m)) }
+        ensures only { (m : Module) → FitsImage m → bytes.now ≡ spelling m → Gives (λ v. v) result (Ok m) }
+        ensures exact { Gives (λ v. v) result (module_at bytes.now) }
+    {
+        whole(alloc, bytes)
+    }
+
+    /// What every image's module meets, for callers whose own clauses rest on it. It does nothing.
+    pub fn fits(&self)
+        ensures { FitsImage self.now }
+    {
+        let _ = &self.bytes;
+    }
+
+    /// The least number of places that the module asks for, 1 to 64. Constant time, as all that
+    /// follow, and without memory.
+    pub fn least(&self) -> u16
+        ensures value { result ≡ self.now.least_places }
+        ensures range { (1 ≤ result) × (result ≤ 64) }
+    {
+        self.header.least_places
+    }
+
+    /// The number of the function that a run begins with, which takes and gives nothing.
+    pub fn entry(&self) -> u16
+        ensures value { result ≡ self.now.entry }
+        ensures below { result < length self.now.functions }
+        ensures there { (f : Function) × (function_at self.now result ≡ Some f) × IsEntry f }
+    {
+        self.header.entry
+    }
+
+    /// How many classes there are.
+    pub fn classes(&self) -> usize
+        ensures value { result ≡ length self.now.classes }
+        ensures few { result < 2 ^ 16 }
+    {
+        self.classes.len()
+    }
+
+    /// How many constant numbers there are.
+    pub fn ints(&self) -> usize
+        ensures value { result ≡ length self.now.ints }
+        ensures few { result < 2 ^ 16 }
+    {
+        usize::from(self.header.ints)
+    }
+
+    /// How many constant texts there are.
+    pub fn texts(&self) -> usize
+        ensures value { result ≡ length self.now.texts }
+        ensures few { result < 2 ^ 16 }
+    {
+        self.texts.len()
+    }
+
+    /// How many functions there are, 1 to 256.
+    pub fn functions(&self) -> usize
+        ensures value { result ≡ length self.now.functions }
+        ensures range { (1 ≤ result) × (result ≤ 256) }
+    {
+        self.functions.len()
+    }
+
+    /// A constant number.
+    pub fn int(&self, i: usize) -> i64
+        requires { i < length self.now.ints }
+        ensures value { slice_get self.now.ints i ≡ Some result }
+    {
+        int_in(self.bytes, self.ints + 8 * i)
+    }
+
+    /// A constant text, in the image's bytes.
+    pub fn text(&self, i: usize) -> &'a str
+        requires { i < length self.now.texts }
+        ensures value { slice_get self.now.texts i ≡ Some result.now }
+        ensures fits { FitsText result.now }
+        ensures part { IsPart (spelling self.now) result.now }
+    {
+        let bytes = self.bytes;
+        text_in(bytes, self.texts[i])
+    }
+
+    /// The fields of a class.
+    pub fn class(&self, c: usize) -> ClassView<'a>
+        requires { c < length self.now.classes }
+        ensures value { slice_get self.now.classes c ≡ Some result }
+        ensures fits { FitsClass (length self.now.classes) result }
+    {
+        let bytes = self.bytes;
+        class_in(bytes, self.classes[c])
+    }
+
+    /// What a function takes, gives and needs.
+    pub fn signature(&self, f: usize) -> SigView<'a>
+        requires { f < length self.now.functions }
+        ensures value { (g : Function) × (function_at self.now f ≡ Some g) × (result ≡ signature_of g) }
+        ensures fits { FitsSignature (length self.now.classes) result }
+    {
+        let bytes = self.bytes;
+        signature_in(bytes, self.functions[f])
+    }
+
+    /// How many instructions a function has, 1 to 4,096.
+    pub fn code_len(&self, f: usize) -> usize
+        requires { f < length self.now.functions }
+        ensures value { result ≡ length (code_at self.now f) }
+        ensures range { (1 ≤ result) × (result ≤ 4096) }
+    {
+        code_len_in(self.bytes, self.functions[f])
+    }
+
+    /// A function's instructions, 8 bytes each, in the image's bytes.
+    pub fn code(&self, f: usize) -> &'a [u8]
+        requires { f < length self.now.functions }
+        ensures value { result.now ≡ flat_map instruction (code_at self.now f) }
+        ensures part { IsPart (spelling self.now) result.now }
+    {
+        let bytes = self.bytes;
+        let at = self.functions[f];
+        let start = code_place(bytes, at);
+        &bytes[start..start + 8 * code_len_in(bytes, at)]
+    }
+
+    /// An instruction of a function.
+    pub fn instr(&self, f: usize, pc: usize) -> Instr
+        requires function { f < length self.now.functions }
+        requires pc { pc < length (code_at self.now f) }
+        ensures value { instr_at self.now f pc ≡ Some result }
+        ensures brought { IsBrought result }
+    {
+        let start = code_place(self.bytes, self.functions[f]);
+        instr_in(self.bytes, start + 8 * pc)
+    }
+}
