@@ -1,0 +1,9 @@
+pub mod Around
+pub mod Capped
+pub mod Closed
+pub mod Closers
+pub mod Failing
+pub mod InOrder
+pub mod SpotTests
+pub mod Spots
+pub mod Sums

@@ -1,0 +1,4 @@
+pub mod Faults
+pub mod Regions
+pub mod Shapes
+pub mod Spots

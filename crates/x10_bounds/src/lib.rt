@@ -1,0 +1,17 @@
+//! How many steps each function of a module takes at most, and what its regions are.
+#![tactic(auto)]
+
+mod fault;
+mod functions;
+mod region;
+mod rules;
+mod shape;
+mod spot;
+mod steps;
+
+pub use fault::{BoundCause, BoundFault};
+pub use functions::{bounds, regions};
+pub use region::Region;
+
+#[cfg(test)]
+mod tests;
