@@ -1,0 +1,4 @@
+pub mod Words
+pub mod StandsFor
+pub mod Numbers
+pub mod Opening

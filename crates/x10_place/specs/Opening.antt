@@ -1,0 +1,44 @@
+-- The activities with which a place begins.
+use Rattle.std.specs.Prelude.{◌≡◌, ◌≢◌, ℕ, ◌<◌, ◌≤◌, false, ◌==◌, [], length, Some, None, if◌then◌else◌}
+use Rattle.slab.specs.Slab.{Slab, get}
+use Rattle.x10_model.specs.Modules.{Module, Function, IsEntry}
+use Rattle.x10_model.specs.Ranges.{function_at}
+use Rattle.x10_model.specs.Places as machine
+use Rattle.x10_model.specs.Places.{Setting}
+use Rattle.x10_model.specs.Worlds.{first_place, empty_place}
+use Rattle.x10_verify.specs.Certified.{Certified}
+use Rattle.x10_place.specs.declared.activity.Activity.{Activity}
+use Rattle.x10_place.specs.StandsFor.{PlaceState}
+
+-- the entry function at its first instruction
+pub record IsMain (program : Module) (a : Activity) : Type 0 where
+  pub function_is : a.function ≡ program.entry
+  pub pc : a.pc ≡ 0
+  pub function : Function
+  pub is_function : function_at program a.function ≡ Some function
+  pub is_entry : IsEntry function
+  pub registers : length a.registers.items ≡ function.registers
+
+-- one activity, and no other
+pub record HoldsOnly (slab : Slab Activity) (key : ℕ) (a : Activity) : Type 0 where
+  pub here : get slab key ≡ Some a
+  pub others : (other : ℕ) → other ≢ key → get slab other ≡ None
+
+-- the machine's place at the beginning: main at place 0, nothing at the others
+abbrev pub opening_place : Setting → ℕ → ℕ → machine.Place
+opening_place setting key id = if id == 0 then first_place setting key else empty_place 0
+
+-- a place as it was asked for, with no output
+pub record IsNew (verified : Certified) (id places : ℕ) (p : PlaceState) : Type 0 where
+  pub program : p.program ≡ verified.program
+  pub bounds : p.bounds ≡ verified.bounds
+  pub id_is : p.id ≡ id
+  pub places_is : p.places ≡ places
+  pub lines : p.lines ≡ []
+  pub stopped : p.stopped ≡ false
+
+-- the key is in use, and none from a number up to it is
+pub record IsNextKey (slab : Slab Activity) (from key : ℕ) : Type 0 where
+  pub least : from ≤ key
+  pub used : (a : Activity) × (get slab key ≡ Some a)
+  pub before : (k : ℕ) → from ≤ k → k < key → get slab k ≡ None

@@ -1,0 +1,39 @@
+//! The activities with which a place begins.
+ghost use Rattle.std.specs.Prelude.{◌≡◌, ℕ, IfOk, None};
+ghost use Rattle.slab.specs.Slab.{get};
+ghost use Rattle.x10_place.specs.Opening.{IsMain, HoldsOnly};
+ghost use Rattle.x10_place.specs.declared.activity.Activity.{Activity};
+
+use crate::activity::Activity;
+use slab::Slab;
+use smallvec::SmallVec;
+use std::alloc::{AllocError, Global};
+use x10_verify::Verified;
+
+/// Main: the entry function at its first instruction, its registers 0.
+fn main(alloc: Global, verified: &Verified) -> Result<Activity, AllocError>
+    ensures { IfOk result (IsMain verified.now.program) }
+{
+    let function = verified.image().entry();
+    let registers = usize::from(
+        verified
+            .image()
+            .signature(usize::from(function))
+            .registers(),
+    );
+    Ok(Activity {
+        function,
+        pc: 0,
+        registers: SmallVec::from_elem(alloc, 0, registers)?,
+    })
+}
+
+/// Main alone, under some key.
+pub(crate) fn with_main(alloc: Global, verified: &Verified) -> Result<Slab<Activity>, AllocError>
+    ensures { IfOk result (λ slab. (key : ℕ) × (a : Activity) × IsMain verified.now.program a × HoldsOnly slab key a) }
+{
+    let mut activities = Slab::new(alloc);
+    let main = main(alloc, verified)?;
+    activities.insert(main)?;
+    Ok(activities)
+}

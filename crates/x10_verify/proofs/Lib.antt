@@ -1,0 +1,9 @@
+pub mod Monotone
+pub mod Straight
+pub mod Rows
+pub mod Validity
+pub mod Rules
+pub mod Structured
+pub mod Entries
+pub mod Wholes
+pub mod Refuted

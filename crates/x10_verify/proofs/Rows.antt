@@ -1,0 +1,33 @@
+-- Rows of kinds as functions of registers.
+use Rattle.std.proofs.Common.{◌≡◌, ℕ, zero, suc, ◌<◌, List, [], ◌∷◌, length, set, Option, Some, refl, sym, ap, subst, ◌∙◌, inl, inr, arith}
+use Rattle.x10_kinds.specs.declared.kind.Kind.{Kind}
+use Rattle.x10_kinds.specs.declared.homes.Term.{Term}
+use Rattle.x10_kinds.specs.declared.homes.Homes.{Homes}
+use Rattle.x10_kinds.specs.Equations.{SameEquations, equations, written}
+use Rattle.x10_model.specs.Maps.{with_entry}
+use Rattle.x10_model.specs.Assignments.{set as set_kind}
+use Rattle.x10_verify.specs.Known.{kind_in, state_of}
+use Rattle.x10_verify.specs.Knowledge.{SameState}
+use Rattle.x10_verify.proofs.Monotone.{entry_cases}
+
+set_here : (xs : List (Option Kind)) (i : ℕ) (x : Option Kind) → i < length xs → kind_in (set xs i x) i ≡ x
+set_here [] i x lt = absurd (omega arith)
+set_here (y ∷ ys) zero x lt = refl
+set_here (y ∷ ys) (suc i) x lt = set_here ys i x (omega arith)
+
+set_elsewhere : (xs : List (Option Kind)) (i j : ℕ) (x : Option Kind) → (j ≡ i → ⊥) → kind_in (set xs i x) j ≡ kind_in xs j
+set_elsewhere [] i j x ne = refl
+set_elsewhere (y ∷ ys) zero zero x ne = absurd (ne refl)
+set_elsewhere (y ∷ ys) zero (suc j) x ne = refl
+set_elsewhere (y ∷ ys) (suc i) zero x ne = refl
+set_elsewhere (y ∷ ys) (suc i) (suc j) x ne = set_elsewhere ys i j x (λ e. ne (ap suc e))
+
+pub kind_in-set : (xs : List (Option Kind)) (i : ℕ) (x : Option Kind) → i < length xs → (j : ℕ) → kind_in (set xs i x) j ≡ with_entry (kind_in xs) i x j
+kind_in-set xs i x lt j = elim (entry_cases (Option Kind) i j) [
+  | inl at ↦ subst (λ q. kind_in (set xs i x) q ≡ x) (sym at.0) (set_here xs i x lt) ∙ sym (at.1 (kind_in xs) x)
+  | inr off ↦ set_elsewhere xs i j x off.0 ∙ sym (off.1 (kind_in xs) x)
+]
+
+pub same_set : (kinds : List (Option Kind)) (homes after : Homes) (r : ℕ) (k : Kind) (like : Option Term) → r < length kinds → SameEquations (equations after) (written (equations homes) r like)
+    → SameState (state_of (record { kinds = set kinds r (Some k); homes = after })) (set_kind (state_of (record { kinds = kinds; homes = homes })) r k like)
+same_set kinds homes after r k like lt same = record { kinds = kind_in-set kinds r (Some k) lt; homes = same }

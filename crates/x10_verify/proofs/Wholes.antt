@@ -1,0 +1,170 @@
+-- All instructions of a function, and all functions of a module.
+use Rattle.std.proofs.Common.{◌≡◌, ◌≢◌, ◌⊎◌, ℕ, zero, suc, ◌+◌, ◌<◌, ◌≤◌, ◌==◌, ◌&&◌, true, List, [], ◌∷◌, length, get_or, Option, Some, None, refl, sym, ap, subst, ◌∙◌, inl, inr, arith}
+use Rattle.std.specs.Prelude.{IsTrue, slice_get}
+use Rattle.std.specs.List.{AllByRecursion}
+use Rattle.std.proofs.lemmas.Bool.{cases_lt, eqb-true, and_parts}
+use Rattle.x10_code.specs.declared.op.Op.{Op}
+use Rattle.x10_code.specs.declared.op.Op.TheVariants as op
+use Rattle.x10_code.specs.declared.instr.Instr.{Instr}
+use Rattle.x10_code.specs.Table.{form_of}
+use Rattle.x10_code.specs.Spelling.{fits_operand, fits_form}
+use Rattle.x10_model.specs.declared.slot.Slot.{Slot}
+use Rattle.x10_model.specs.Modules.{Module, Function, IsBrought, is_brought, FitsFunction, FitsImage}
+use Rattle.x10_model.specs.Ranges.{function_at, instr_at, instr_in, IsThere, IsInRange, IsResultRegister, result_for}
+use Rattle.x10_model.specs.Assignments.{AreInRange, HasAssignment}
+use Rattle.x10_verify.specs.Knowledge.{AreRegisters, IsResultNamed, HasRegisters}
+use Rattle.x10_verify.specs.Verdict.{AreInRangeTo, IsOutAt, IsFirstOut, IsFirstWithout}
+use Rattle.std.specs.Prelude.{Ok, slice_index}
+use Rattle.x10_image.specs.Parts.{code_in, code_at}
+use Rattle.x10_model.specs.Structure.{bounds_of}
+use Rattle.x10_verify.proofs.Structured.{bounds_each, has_next}
+use Rattle.x10_verify.proofs.Straight.{in_function}
+
+some_is : {X : Type 0} (x y : X) → Some x ≡ Some y → x ≡ y
+some_is x y e = cc
+
+pub get_below : {X : Type 0} (xs : List X) (i : ℕ) → i < length xs → (x : X) × (slice_get xs i ≡ Some x)
+get_below [] i lt = absurd (omega arith)
+get_below (x ∷ xs) zero lt = (x, refl)
+get_below (x ∷ xs) (suc i) lt = get_below xs i (omega arith)
+
+pub some_below : {X : Type 0} (xs : List X) (i : ℕ) (x : X) → slice_get xs i ≡ Some x → i < length xs
+some_below [] i x e = absurd cc
+some_below (y ∷ ys) zero x e = omega arith
+some_below (y ∷ ys) (suc i) x e = let h : i < length ys = some_below ys i x e in omega arith
+
+pub all_at : {X : Type 0} (P : X → Type 0) (xs : List X) (i : ℕ) (x : X) → AllByRecursion P xs → slice_get xs i ≡ Some x → P x
+all_at P [] i x h e = absurd cc
+all_at P (y ∷ ys) zero x h e = subst P (some_is y x e) h.0
+all_at P (y ∷ ys) (suc i) x h e = all_at P ys i x h.1 e
+
+below_or_at : (q pc : ℕ) → q < pc + 1 → (q < pc) ⊎ (q ≡ pc)
+below_or_at q pc lt = elim (cases_lt q pc) [ inl less ↦ inl less | inr le ↦ inr (omega arith) ]
+
+-- ---- ranges
+
+pub range_more : (m : Module) (f pc : ℕ) (function : Function) (i : Instr) → function_at m f ≡ Some function → instr_at m f pc ≡ Some i → AreInRangeTo m function pc → IsInRange m function i → AreInRangeTo m function (pc + 1)
+range_more m f pc function i e is before here q j lt g = elim (below_or_at q pc lt) [
+  | inl less ↦ before q j less g
+  | inr at ↦ subst (λ k. IsInRange m function k) (some_is i j (sym (in_function m f pc function i e is) ∙ subst (λ n. slice_get function.code n ≡ Some j) at g)) here
+]
+
+pub range_out : (m : Module) (f pc : ℕ) (function : Function) (i : Instr) → function_at m f ≡ Some function → instr_at m f pc ≡ Some i → AreInRangeTo m function pc → (IsInRange m function i → ⊥) → IsOutAt m function pc
+range_out m f pc function i e is before out = record { before = before; instr = i; is_instr = in_function m f pc function i e is; out = out }
+
+pub functions_more : (m : Module) (P : Function → Type 0) (f : ℕ) → ((g : ℕ) (function : Function) → g < f → function_at m g ≡ Some function → P function) → ((function : Function) → function_at m f ≡ Some function → P function) → (g : ℕ) (function : Function) → g < f + 1 → function_at m g ≡ Some function → P function
+functions_more m P f before here g function lt e = elim (below_or_at g f lt) [
+  | inl less ↦ before g function less e
+  | inr at ↦ here function (subst (λ n. function_at m n ≡ Some function) at e)
+]
+
+pub first_out_is : (m : Module) (f pc : ℕ) → f < length m.functions → ((g : ℕ) (function : Function) → g < f → function_at m g ≡ Some function → AreInRangeTo m function (length function.code)) → ((function : Function) → function_at m f ≡ Some function → IsOutAt m function pc) → IsFirstOut m f pc
+first_out_is m f pc lt before out = let g = get_below m.functions f lt in record { before = before; function = g.0; is_function = g.1; out = out g.0 g.1 }
+
+pub first_without_is : (m : Module) (f : ℕ) → f < length m.functions → ((g : ℕ) (function : Function) → g < f → function_at m g ≡ Some function → HasAssignment m function) → ((function : Function) → function_at m f ≡ Some function → HasAssignment m function → ⊥) → IsFirstWithout m f
+first_without_is m f lt before without = let g = get_below m.functions f lt in record { before = before; function = g.0; is_function = g.1; without = without g.0 g.1 }
+
+pub all_in_range : (m : Module) (n : ℕ) → length m.functions ≤ n → ((g : ℕ) (function : Function) → g < n → function_at m g ≡ Some function → AreInRangeTo m function (length function.code)) → AreInRange m
+all_in_range m n le h f pc function instr e i =
+    let lt = some_below m.functions f function e in
+    h f function (omega arith) e pc instr (some_below function.code pc instr i) i
+
+pub all_functions : (m : Module) (P : Function → Type 0) (n : ℕ) → length m.functions ≤ n → ((g : ℕ) (function : Function) → g < n → function_at m g ≡ Some function → P function) → (f : ℕ) (function : Function) → function_at m f ≡ Some function → P function
+all_functions m P n le h f function e = let lt = some_below m.functions f function e in h f function (omega arith) e
+
+-- ---- registers
+
+-- the parts of a form that fits
+fits_a : (i : Instr) → IsTrue (fits_form i) → fits_operand (form_of i.op).a i.a ≡ true
+fits_a i e = (and_parts (fits_operand (form_of i.op).a i.a) (fits_operand (form_of i.op).b i.b) (and_parts (fits_operand (form_of i.op).a i.a && fits_operand (form_of i.op).b i.b) (fits_operand (form_of i.op).c i.c) (and_parts (fits_operand (form_of i.op).a i.a && fits_operand (form_of i.op).b i.b && fits_operand (form_of i.op).c i.c) (fits_operand (form_of i.op).x i.x) e).0).0).0
+
+fits_b : (i : Instr) → IsTrue (fits_form i) → fits_operand (form_of i.op).b i.b ≡ true
+fits_b i e = (and_parts (fits_operand (form_of i.op).a i.a) (fits_operand (form_of i.op).b i.b) (and_parts (fits_operand (form_of i.op).a i.a && fits_operand (form_of i.op).b i.b) (fits_operand (form_of i.op).c i.c) (and_parts (fits_operand (form_of i.op).a i.a && fits_operand (form_of i.op).b i.b && fits_operand (form_of i.op).c i.c) (fits_operand (form_of i.op).x i.x) e).0).0).1
+
+fits_c : (i : Instr) → IsTrue (fits_form i) → fits_operand (form_of i.op).c i.c ≡ true
+fits_c i e = (and_parts (fits_operand (form_of i.op).a i.a && fits_operand (form_of i.op).b i.b) (fits_operand (form_of i.op).c i.c) (and_parts (fits_operand (form_of i.op).a i.a && fits_operand (form_of i.op).b i.b && fits_operand (form_of i.op).c i.c) (fits_operand (form_of i.op).x i.x) e).0).1
+
+-- operands that are in range and fit their form are registers that there may be
+abbrev pub Named : Module → Function → Instr → Op → Type 0
+Named m f i o = IsThere m f i (form_of o).a i.a × IsThere m f i (form_of o).b i.b × IsThere m f i (form_of o).c i.c × (fits_operand (form_of o).a i.a ≡ true) × (fits_operand (form_of o).b i.b ≡ true) × (fits_operand (form_of o).c i.c ≡ true)
+
+-- each is below the number of registers
+pub record AreBelow (registers : ℕ) (i : Instr) : Type 0 where
+  pub a : i.a < registers
+  pub b : i.b < registers
+  pub c : i.c < registers
+
+no_operand_below : (n registers : ℕ) → 1 ≤ registers → (n == 0) ≡ true → n < registers
+no_operand_below n registers le e = let z = eqb-true n 0 e in omega arith
+
+named_below : (o : Op) (m : Module) (f : Function) (i : Instr) → is_brought o ≡ true → o ≢ op.Ret → 1 ≤ f.registers → Named m f i o → AreBelow f.registers i
+named_below op.Intk m f i b ne le n = record { a = n.0; b = no_operand_below i.b f.registers le n.4; c = no_operand_below i.c f.registers le n.5 }
+named_below op.Add m f i b ne le n = record { a = n.0; b = n.1; c = n.2 }
+named_below op.Sub m f i b ne le n = record { a = n.0; b = n.1; c = n.2 }
+named_below op.Mul m f i b ne le n = record { a = n.0; b = n.1; c = n.2 }
+named_below op.Print m f i b ne le n = record { a = n.0; b = no_operand_below i.b f.registers le n.4; c = no_operand_below i.c f.registers le n.5 }
+named_below op.Ret m f i b ne le n = absurd (ne refl)
+named_below _ m f i b ne le n = absurd cc
+
+-- the registers of an instruction that goes on, in a module that has an image
+pub registers_below : (m : Module) (f : Function) (i : Instr) → FitsFunction (length m.classes) f → IsBrought i → IsInRange m f i → i.op ≢ op.Ret → AreBelow f.registers i
+registers_below m f i fits b r ne = named_below i.op m f i b.brought ne fits.registers.0 (r.a, r.b, r.c, fits_a i b.instr.form, fits_b i b.instr.form, fits_c i b.instr.form)
+
+result_named : (m : Module) (f : Function) (i : Instr) (slot : Option Slot) → f.registers ≤ 64 → i.op ≡ op.Ret → f.result ≡ slot → IsThere m f i (form_of i.op).a i.a → IsResultNamed slot i.a
+result_named m f i None le e r t = tt
+result_named m f i (Some slot) le e r t =
+    let h : IsThere m f i (form_of op.Ret).a i.a = subst (λ o. IsThere m f i (form_of o).a i.a) e t in
+    let g : IsResultRegister f (result_for m f i op.Ret) i.a = subst (λ o. IsResultRegister f (result_for m f i o) i.a) e h in
+    let lt : i.a < f.registers = subst (λ s. IsResultRegister f s i.a) r g in
+    omega (arith, lt, le)
+
+pub function_fits : (m : Module) (f : ℕ) (function : Function) → FitsImage m → function_at m f ≡ Some function → FitsFunction (length m.classes) function
+function_fits m f function fits e = all_at (FitsFunction (length m.classes)) m.functions f function fits.functions.2 e
+
+-- an instruction of a function, by its number
+instr_of : (m : Module) (f pc : ℕ) (o : Option Function) (i : Instr) → function_at m f ≡ o → instr_in o pc ≡ Some i → (function : Function) × (function_at m f ≡ Some function) × (slice_get function.code pc ≡ Some i)
+instr_of m f pc None i e g = absurd cc
+instr_of m f pc (Some function) i e g = (function, e, g)
+
+onward_registers : (m : Module) (f pc : ℕ) (i : Instr) → FitsImage m → AreInRange m → instr_at m f pc ≡ Some i → i.op ≢ op.Ret → AreRegisters i
+onward_registers m f pc i fits range is ne =
+    let g = instr_of m f pc (function_at m f) i refl is in
+    let ff = function_fits m f g.0 fits g.1 in
+    let b = all_at IsBrought g.0.code pc i ff.code g.2 in
+    let r = range f pc g.0 i g.1 g.2 in
+    let below = registers_below m g.0 i ff b r ne in
+    record { a = omega (arith, below.a, ff.registers.1); b = omega (arith, below.b, ff.registers.1); c = omega (arith, below.c, ff.registers.1) }
+
+-- each instruction of an image's function names registers alone that there may be
+pub has_registers : (m : Module) (f : ℕ) → FitsImage m → AreInRange m → HasRegisters m f
+has_registers m f fits range = record {
+  onward = λ pc i is ne. onward_registers m f pc i fits range is ne;
+  ret = λ function pc i e is ret. result_named m function i function.result (function_fits m f function fits e).registers.1 ret refl (range f pc function i e (in_function m f pc function i e is)).a;
+}
+
+-- ---- what a certificate says of an instruction
+
+pub fetched_in_range : (m : Module) (f pc : ℕ) (i : Instr) → AreInRange m → instr_at m f pc ≡ Some i → (function : Function) → function_at m f ≡ Some function → IsInRange m function i
+fetched_in_range m f pc i range is function e = range f pc function i e (in_function m f pc function i e is)
+
+pub fetched_follows : (m : Module) (bounds : List ℕ) (f pc : ℕ) (i : Instr) → bounds_of m ≡ Ok bounds → instr_at m f pc ≡ Some i → i.op ≢ op.Ret → pc + 1 < length (code_at m f)
+fetched_follows m bounds f pc i e is ne =
+    let g = instr_of m f pc (function_at m f) i refl is in
+    let b = bounds_each m bounds f g.0 e g.1 in
+    subst (λ o. pc + 1 < length (code_in o)) (sym g.1) (has_next g.0.code pc i b.2.1 g.2 ne)
+
+pub bound_below : (m : Module) (bounds : List ℕ) (f : ℕ) → bounds_of m ≡ Ok bounds → f < length m.functions → f < length bounds
+bound_below m bounds f e lt =
+    let g = get_below m.functions f lt in
+    let b = bounds_each m bounds f g.0 e g.1 in
+    some_below bounds f b.0 b.1
+
+pub bound_there : (bounds : List ℕ) (f : ℕ) → f < length bounds → slice_get bounds f ≡ Some (slice_index bounds f)
+bound_there [] f lt = absurd (omega arith)
+bound_there (b ∷ bs) zero lt = refl
+bound_there (b ∷ bs) (suc f) lt = bound_there bs f (omega arith)
+
+pub read_is : (xs : List ℕ) (f r : ℕ) → f < length xs → r ≡ get_or xs f r → slice_get xs f ≡ Some r
+read_is [] f r lt e = absurd (omega arith)
+read_is (x ∷ xs) zero r lt e = ap Some (sym e)
+read_is (x ∷ xs) (suc f) r lt e = read_is xs f r (omega arith) e

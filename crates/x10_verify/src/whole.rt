@@ -1,0 +1,62 @@
+//! All functions of a module, one after another.
+ghost use Rattle.std.specs.Prelude.{◌≡◌, ◌<◌, ℕ, length, MatchOption, MatchResult, Some, IfOk, IfErr, IfSome, ◌≤◌};
+ghost use Rattle.x10_model.specs.Modules.{Function};
+ghost use Rattle.x10_model.specs.Ranges.{function_at};
+ghost use Rattle.x10_model.specs.Assignments.{AreInRange, HasAssignment};
+ghost use Rattle.x10_verify.specs.Verdict.{AreInRangeTo, IsOutAt, IsFirstOut, IsFirstWithout};
+
+use crate::check::{FlowFault, check_function};
+use crate::ranges::in_range;
+use x10_image::ImageView;
+
+/// Where something stands: a function, and an instruction of it.
+#[derive(Clone, Copy, Debug, PartialEq, Eq)]
+pub(crate) struct Position {
+    pub(crate) function: usize,
+    pub(crate) pc: usize,
+}
+
+// The first instruction of a function that names what isn't there.
+fn first_out(image: &ImageView, f: usize) -> Option<usize>
+    requires { f < length image.now.functions }
+    ensures first { (function : Function) → function_at image.now f ≡ Some function → MatchOption result (AreInRangeTo image.now function (length function.code)) (λ pc. IsOutAt image.now function pc) }
+    ensures small { IfSome result (λ pc. pc < 4096) }
+{
+    let signature = image.signature(f);
+    for pc in 0..image.code_len(f) {
+        if !in_range(image, f, &signature, image.instr(f, pc)) {
+            return Some(pc);
+        }
+    }
+    None
+}
+
+/// Whether all that the module's instructions name is there; else the first that names what isn't.
+pub(crate) fn check_ranges(image: &ImageView) -> Result<(), Position>
+    ensures ok { IfOk result (λ _. AreInRange image.now) }
+    ensures err { IfErr result (λ at. IsFirstOut image.now at.function at.pc) }
+    ensures small { IfErr result (λ at. (at.function < 256) × (at.pc < 4096)) }
+{
+    for function in 0..image.functions() {
+        if let Some(pc) = first_out(image, function) {
+            return Err(Position { function, pc });
+        }
+    }
+    Ok(())
+}
+
+/// Whether each function has a consistent assignment; else the first that has none.
+pub(crate) fn check_flow(image: &ImageView) -> Result<(), (usize, FlowFault)>
+    requires { AreInRange image.now }
+    ensures ok { IfOk result (λ _. (f : ℕ) (function : Function) → function_at image.now f ≡ Some function → HasAssignment image.now function) }
+    ensures err { IfErr result (λ at. IsFirstWithout image.now at.0) }
+    ensures small { IfErr result (λ at. (at.0 < 256) × (at.1.pc ≤ 4096)) }
+{
+    image.fits();
+    for function in 0..image.functions() {
+        if let Err(fault) = check_function(image, function) {
+            return Err((function, fault));
+        }
+    }
+    Ok(())
+}

@@ -1,0 +1,63 @@
+-- The ending of a run of the program is that of a run of the machine.
+use Rattle.std.proofs.Common.{◌≡◌, ◌↔◌, ℕ, zero, suc, List, [], ◌∷◌, length, map, Option, Some, None, refl, sym, ap, subst, ◌∙◌}
+use Rattle.std.specs.Prelude.{IsTrue, slice_get, take}
+use Rattle.x10_model.specs.declared.event.Event.{Event}
+use Rattle.x10_model.specs.Places as machine
+use Rattle.x10_model.specs.Places.{Setting}
+use Rattle.x10_model.specs.Worlds.{World, Ideal, Run, WithinBounds, opening}
+use Rattle.x10_verify.specs.Certified.{Certified}
+use Rattle.x10_place.specs.StandsFor.{PlaceState, line_as}
+use Rattle.x10_world.specs.declared.ending.Ending.{Ending}
+use Rattle.x10_world.specs.Queries.{HasEnded}
+use Rattle.x10_world.specs.Opening.{IsOpenedWorld}
+use Rattle.x10_world.specs.Endings.{IsEndingOf, AreLinesOf, lines_at}
+use Rattle.x10_world.specs.StandsForWorld.{WorldState, KeepsSetting, setting_of, StandsForWorld, Runs}
+
+some_is : {X : Type 0} (x y : X) → Some x ≡ Some y → x ≡ y
+some_is x y e = cc
+
+none_some : {X : Type 0} (o : Option X) (x : X) → o ≡ None → o ≡ Some x → ⊥
+none_some o x e f = cc
+
+get_map : {X Y : Type 0} (f : X → Y) (xs : List X) (i : ℕ) (x : X) → slice_get xs i ≡ Some x → slice_get (map f xs) i ≡ Some (f x)
+get_map f [] i x e = absurd cc
+get_map f (y ∷ ys) zero x e = ap (λ z. Some (f z)) (some_is y x e)
+get_map f (y ∷ ys) (suc i) x e = get_map f ys i x e
+
+map_length : {X Y : Type 0} (f : X → Y) (xs : List X) → length (map f xs) ≡ length xs
+map_length f [] = refl
+map_length f (x ∷ xs) = ap suc (map_length f xs)
+
+-- the places' lines are those of the machine's places
+lines_are : (y : WorldState) (w : World) → StandsForWorld y w → AreLinesOf (lines_at y.places) w
+lines_are y w stand id m there = go (slice_get y.places id) refl
+  where
+    go : (o : Option PlaceState) → slice_get y.places id ≡ o → slice_get (lines_at y.places) id ≡ Some m.lines
+    go None none = absurd (none_some (w.net.places id) m (stand.none id none) there)
+    go (Some p) is =
+        let old = stand.some id p is in
+        let same = some_is old.0 m (sym old.1 ∙ there) in
+        get_map (λ q. map line_as q.lines) y.places id p is ∙ ap Some (sym old.2.lines ∙ ap (λ (n : machine.Place). n.lines) same)
+
+pub ending_is : (c : Certified) (count : ℕ) (events : List Event) (x y : WorldState) (outputs : List (List machine.Line)) (e : Ending) → IsOpenedWorld c count x
+    → ((w : World) → StandsForWorld x w → Runs x w e.done events y) → (e.stop ≡ None → e.done ≡ length events) → KeepsSetting x y → outputs ≡ lines_at y.places
+    → ((w : World) → StandsForWorld y w → IsTrue e.closed ↔ HasEnded w) → IsEndingOf c count events outputs e
+ending_is c count events x y outputs e opened runs all kept lines closed = record {
+  key = key;
+  last = made.0;
+  run = subst (λ s. Run Ideal s (WithinBounds c.bounds) (opening s key) (take e.done events) made.0) setting
+      (subst (λ bs. Run Ideal (setting_of x) (WithinBounds bs) (opening (setting_of x) key) (take e.done events) made.0) opened.bounds made.1);
+  all = all;
+  count_is = ap (λ ls. length ls) lines ∙ map_length (λ q. map line_as q.lines) y.places ∙ kept.count ∙ opened.places.count_is;
+  lines = subst (λ ls. AreLinesOf ls made.0) (sym lines) (lines_are y made.0 made.2);
+  closed = closed made.0 made.2;
+}
+  where
+    key : ℕ
+    key = opened.stands.0
+
+    made : Runs x (opening (setting_of x) key) e.done events y
+    made = runs (opening (setting_of x) key) opened.stands.1
+
+    setting : setting_of x ≡ record { program = c.program; places = count }
+    setting = ap (λ m. record { program = m; places = length x.places }) opened.program ∙ ap (λ n. record { program = c.program; places = n }) opened.places.count_is

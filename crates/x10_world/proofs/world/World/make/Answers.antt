@@ -1,0 +1,22 @@
+use Rattle.std.proofs.Common.{subst, arith}
+use Rattle.std.proofs.lemmas.List.{take_more}
+use Rattle.x10_model.specs.Worlds as machine
+use Rattle.x10_world.specs.StandsForWorld.{StandsForWorld, Runs}
+use Rattle.x10_world.proofs.Running.{runs_none, runs_more, runs_still, keeps_more, keeps_self, if_ok}
+use Rattle.x10_world.proofs.world.World.make.Goals as goal
+
+pub loop-done-init : goal.loop-done-init
+loop-done-init c = record { kept = keeps_self c.args.self.now; runs = runs_none c.args.self.now c.args.events.now }
+
+pub returns-in-Err-clause-runs : goal.returns-in-Err-clause-runs
+returns-in-Err-clause-runs c = runs_still c.args.self.now c.loop-done.self c.happen.new.self c.args.events.now c.loop-done.done c.loop-done.invariant.runs c.in-Err.ensures.err
+
+pub loop-done-preserved : goal.loop-done-preserved
+loop-done-preserved c = record {
+  kept = keeps_more c.args.self.now c.loop-done.self c.happen.new.self c.loop-done.invariant.kept c.happen.ensures.kept;
+  runs = runs_more c.args.self.now c.loop-done.self c.happen.new.self c.args.events.now c.loop-done.done _ c.loop-done.invariant.kept c.happen.ensures.kept
+      (take_more c.args.events.now c.loop-done.done _ c.loop-done-test.true) c.loop-done.invariant.runs (if_ok c.happen.result _ c.happen.ensures.ok c.in_default.not-Err);
+}
+
+pub returns-clause-runs : goal.returns-clause-runs
+returns-clause-runs c = subst (λ n. (w : machine.World) → StandsForWorld c.args.self.now w → Runs c.args.self.now w n c.args.events.now c.loop-done.self) (omega (arith, c.loop-done-test.false, c.loop-done.auto.done-end)) c.loop-done.invariant.runs

@@ -1,0 +1,5 @@
+pub mod Tied
+pub mod StandsForWorld
+pub mod Opening
+pub mod Queries
+pub mod Endings

@@ -1,0 +1,30 @@
+-- A world at the beginning.
+use Rattle.std.specs.Prelude.{◌≡◌, ◌⊎◌, ℕ, ◌<◌, false, List, length, Some, slice_get}
+use Rattle.x10_model.specs.Worlds.{opening}
+use Rattle.x10_verify.specs.Certified.{Certified}
+use Rattle.x10_place.specs.StandsFor.{PlaceState, StandsFor, setting_of}
+use Rattle.x10_place.specs.Opening.{IsNew, opening_place}
+use Rattle.x10_world.specs.StandsForWorld as world
+use Rattle.x10_world.specs.StandsForWorld.{WorldState, StandsForWorld}
+
+-- a place at the beginning, and the machine's that it stands for
+pub record IsOpened (verified : Certified) (count id : ℕ) (p : PlaceState) : Type 0 where
+  pub is_new : IsNew verified id count p
+  pub stands : (key : ℕ) × StandsFor p (opening_place (setting_of p) key id)
+
+-- so many places, each at the beginning
+pub record AreOpened (verified : Certified) (count : ℕ) (places : List PlaceState) : Type 0 where
+  pub count_is : length places ≡ count
+  pub each : (id : ℕ) (p : PlaceState) → slice_get places id ≡ Some p → IsOpened verified count id p
+
+-- a number of places that the module, or the machine, does not permit
+abbrev pub IsForbidden : Certified → ℕ → Type 0
+IsForbidden verified count = (count < verified.program.least_places) ⊎ (64 < count)
+
+-- a world of so many places at the beginning, that stands for the machine's opening
+pub record IsOpenedWorld (verified : Certified) (count : ℕ) (x : WorldState) : Type 0 where
+  pub program : x.program ≡ verified.program
+  pub bounds : x.bounds ≡ verified.bounds
+  pub places : AreOpened verified count x.places
+  pub stopped : x.stopped ≡ false
+  pub stands : (key : ℕ) × StandsForWorld x (opening (world.setting_of x) key)

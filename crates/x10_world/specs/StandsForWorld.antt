@@ -1,0 +1,68 @@
+-- When a world of the program stands for a world of the machine.
+use Rattle.std.specs.Prelude.{◌≡◌, ℕ, Bool, List, length, Some, None, Result, Ok, IfOk, IfErr, true, slice_get, slice_set, take}
+use Rattle.slab.specs.Slab.{get}
+use Rattle.x10_kinds.specs.declared.stop.Stop.{Stop}
+use Rattle.x10_model.specs.Modules.{Module}
+use Rattle.x10_model.specs.declared.event.Event.{Event}
+use Rattle.x10_model.specs.Places as machine
+use Rattle.x10_model.specs.Places.{Setting, Effect}
+use Rattle.x10_model.specs.Worlds.{World, Ideal, Happens, Run, WithinBounds}
+use Rattle.x10_place.specs.declared.activity.Activity.{Activity}
+use Rattle.x10_place.specs.StandsFor.{PlaceState, StandsFor, Leads, Keeps}
+use Rattle.x10_world.specs.Tied.{Tied}
+
+-- what callers see of a world: the module with the bounds of its functions, the places, and whether it has stopped
+pub record WorldState : Type 0 where
+  pub program : Module
+  pub bounds : List ℕ
+  pub places : List PlaceState
+  pub stopped : Bool
+
+-- a place of the world: of its module, with its own number, one of so many
+pub record BelongsTo (program : Module) (bounds : List ℕ) (count id : ℕ) (p : PlaceState) : Type 0 where
+  pub program_is : p.program ≡ program
+  pub bounds_are : p.bounds ≡ bounds
+  pub id_is : p.id ≡ id
+  pub places_are : p.places ≡ count
+
+abbrev pub BelongTo : Module → List ℕ → ℕ → List PlaceState → Type 0
+BelongTo program bounds count places = (id : ℕ) (p : PlaceState) → slice_get places id ≡ Some p → BelongsTo program bounds count id p
+
+-- what does not change in a run
+abbrev pub setting_of : WorldState → Setting
+setting_of x = record { program = x.program; places = length x.places }
+
+-- what an event does not change
+pub record KeepsSetting (x y : WorldState) : Type 0 where
+  pub program : y.program ≡ x.program
+  pub bounds : y.bounds ≡ x.bounds
+  pub count : length y.places ≡ length x.places
+
+-- each place of the program stands for the one of the machine with its number, and there are no others; no message
+-- flies, and each activity is within its bound
+pub record StandsForWorld (x : WorldState) (w : World) : Type 0 where
+  pub some : (id : ℕ) (p : PlaceState) → slice_get x.places id ≡ Some p → (m : machine.Place) × (w.net.places id ≡ Some m) × StandsFor p m
+  pub none : (id : ℕ) → slice_get x.places id ≡ None → w.net.places id ≡ None
+  pub tied : Tied x.program x.bounds w
+
+-- What a step of a place does: nothing where it has no such activity, else a move of each place of the machine that it
+-- stands for. Where it was refused, what it stands for is as it was.
+pub record IsStepped (p q : PlaceState) (key : ℕ) (result : Result (Unit {0}) Stop) : Type 0 where
+  pub kept : Keeps p q
+  pub idle : IfOk result (λ u. get p.activities key ≡ None → q ≡ p)
+  pub some : IfOk result (λ u. (m : machine.Place) (a : Activity) → get p.activities key ≡ Some a → StandsFor p m → (effect : Effect) × Leads p m key effect q)
+  pub stop : IfErr result (λ s. q ≡ record p { stopped = true })
+
+-- what a step of one place of a list does
+pub record StepsOne (old new : List PlaceState) (id key : ℕ) (result : Result (Unit {0}) Stop) : Type 0 where
+  pub gone : slice_get old id ≡ None → (result ≡ Ok tt) × (new ≡ old)
+  pub there : (p : PlaceState) → slice_get old id ≡ Some p → (q : PlaceState) × (new ≡ slice_set old id q) × IsStepped p q key result
+
+-- An event of the machine, to a world that the new state stands for.
+abbrev pub Makes : WorldState → World → Event → WorldState → Type 0
+Makes x w event y = (v : World) × Happens Ideal (setting_of x) w event v × StandsForWorld y v
+
+-- The events before number n, in their turn: none goes wrong, and no activity takes more steps than its bound. They lead
+-- to a world that the new state stands for.
+abbrev pub Runs : WorldState → World → ℕ → List Event → WorldState → Type 0
+Runs x w n events y = (v : World) × Run Ideal (setting_of x) (WithinBounds x.bounds) w (take n events) v × StandsForWorld y v

@@ -1,0 +1,114 @@
+ghost use Rattle.std.specs.Prelude.{◌≡◌, List, IfOk, IfErr, map};
+ghost use Rattle.x10_place.specs.StandsFor.{line_as};
+ghost use Rattle.x10_verify.specs.Certified.{Certified};
+ghost use Rattle.x10_world.specs.declared.ending.RunFault.TheVariants as fault;
+ghost use Rattle.x10_world.specs.Endings.{IsImageOf, IsEndingOf, Explains, lines_in, lines_at};
+
+use crate::fault::OpenFault;
+use crate::world::World;
+use std::alloc::{AllocError, Global};
+use thiserror::Error;
+use x10_image::{ImageFault, ImageView};
+use x10_kinds::Stop;
+use x10_model::Event;
+use x10_place::{Line, Place};
+use x10_verify::{VerifyFault, verify};
+
+/// What is left of a run.
+#[derive(Debug, Drop)]
+pub struct Ending {
+    /// The lines of each place.
+    pub outputs: Vec<Vec<Line>>,
+    /// Whether no activity is left.
+    pub closed: bool,
+    /// How many of the events were made.
+    pub done: usize,
+    /// Why the next was not, if not all were made.
+    pub stop: Option<Stop>,
+}
+
+/// Why an image does not run.
+#[derive(Clone, Copy, Debug, PartialEq, Eq, Error)]
+pub enum RunFault {
+    /// The bytes are no image.
+    #[error("Image {0}")]
+    Image(ImageFault),
+    /// The verifier refuses the module.
+    #[error("Verify {0}")]
+    Verify(VerifyFault),
+    /// The module does not run at so many places.
+    #[error("Open {0}")]
+    Open(OpenFault),
+    /// Memory for the outputs was refused.
+    #[error("Memory")]
+    Memory,
+}
+
+/// A copy of a line.
+fn copied(alloc: Global, line: &Line) -> Result<Line, AllocError>
+    ensures { IfOk result (λ copy. line_as copy ≡ line_as line.now) }
+{
+    match line {
+        Line::Int(number) => Ok(Line::Int(*number)),
+        Line::Text(text) => Ok(Line::Text(String::from_str(alloc, text)?)),
+    }
+}
+
+/// A copy of lines.
+fn copied_lines(alloc: Global, lines: &[Line]) -> Result<Vec<Line>, AllocError>
+    ensures { IfOk result (λ copy. map line_as copy.items ≡ map line_as lines.now) }
+{
+    let mut copy = Vec::with_capacity(alloc, lines.len())?;
+    for line in lines {
+        let line = copied(alloc, line)?;
+        copy.push(line)?;
+    }
+    Ok(copy)
+}
+
+/// A copy of the lines of each place.
+pub(crate) fn copied_outputs(alloc: Global, places: &[Place]) -> Result<Vec<Vec<Line>>, AllocError>
+    ensures { IfOk result (λ outputs. lines_in outputs.items ≡ lines_at places.now) }
+{
+    let mut outputs = Vec::with_capacity(alloc, places.len())?;
+    for place in places {
+        let lines = copied_lines(alloc, place.output())?;
+        outputs.push(lines)?;
+    }
+    Ok(outputs)
+}
+
+/// Reads an image, verifies its module, and runs it at so many places under the events, to the first that is refused.
+pub fn run_image(
+    alloc: Global,
+    bytes: &[u8],
+    places: u16,
+    events: &[Event],
+) -> Result<Ending, RunFault>
+    ensures ending { IfOk result (λ e. (c : Certified) × IsImageOf bytes.now c × IsEndingOf c places events.now (lines_in e.outputs.items) e) }
+    ensures fault { IfErr result (Explains bytes.now places) }
+{
+    let image = match ImageView::read(alloc, bytes) {
+        Ok(image) => image,
+        Err(fault) => return Err(RunFault::Image(fault)),
+    };
+    let verified = match verify(alloc, image) {
+        Ok(verified) => verified,
+        Err(fault) => return Err(RunFault::Verify(fault)),
+    };
+    let mut world = match World::open(alloc, &verified, places) {
+        Ok(world) => world,
+        Err(fault) => return Err(RunFault::Open(fault)),
+    };
+    let (done, stop) = world.make(events);
+    let Ok(outputs) = world.outputs(alloc) else {
+        return Err(RunFault::Memory);
+    };
+    let closed = world.closed();
+    Ok(Ending {
+        outputs,
+        closed,
+        done,
+        stop,
+    })
+}

@@ -1,0 +1,13 @@
+//! Worlds: all places of a run, and the events that happen to them, in the order that the caller gives.
+#![tactic(auto)]
+
+mod ending;
+mod fault;
+mod opening;
+#[cfg(test)]
+mod tests;
+mod world;
+
+pub use ending::{Ending, RunFault, run_image};
+pub use fault::OpenFault;
+pub use world::World;

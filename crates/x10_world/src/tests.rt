@@ -1,0 +1,92 @@
+use super::*;
+use std::test::*;
+use x10_image::{ImageFault, ImageView};
+use x10_kinds::Stop;
+use x10_model::Event;
+use x10_place::Line;
+use x10_verify::{VerifyCause, VerifyFault, verify};
+
+/// INTK r0 7, PRINT r0, RET; least number of places 1.
+const SEVEN: [u8; 64] = [
+    0x58, 0x31, 0x30, 0x50, 0, 1, 0, 1, 0, 0, 0, 1, 0, 0, 0, 1, 0, 0, 0, 0, // header
+    0, 0, 0, 0, 0, 0, 0, 7, // the number 7
+    0, 1, 0, 0, 0, 0, 0, 0, 0, 3, 0, 0, // one register, three instructions
+    1, 0, 0, 0, 0, 0, 0, 0, 0x0f, 0, 0, 0, 0, 0, 0, 0, 0x29, 0, 0, 0, 0, 0, 0, 0,
+];
+
+/// The same with another byte at a place.
+fn with_byte(at: usize, byte: u8) -> [u8; 64] {
+    let mut bytes = SEVEN;
+    if let Some(place) = bytes.get_mut(at) {
+        *place = byte;
+    }
+    bytes
+}
+
+/// INTK r0 7, PRINT r1, RET, with two registers.
+fn prints_r1() -> [u8; 64] {
+    let mut bytes = with_byte(29, 2);
+    bytes[49] = 1;
+    bytes
+}
+
+#[test]
+fn runs_of_events(rt: HostRuntime) -> Result<(), Fail> {
+    let steps = [Event::Step(0, 0); 100];
+    let none = run_image(rt.alloc(), &SEVEN, 1, &[])?;
+    assert!(rt; !none.closed && none.done == 0 && none.stop.is_none());
+    let two = run_image(rt.alloc(), &SEVEN, 1, &steps[..2])?;
+    assert!(rt; !two.closed && two.done == 2 && two.stop.is_none());
+    assert!(rt; matches!(&two.outputs[0][..], [Line::Int(7)]));
+    let all = run_image(rt.alloc(), &SEVEN, 1, &steps)?;
+    assert!(rt; all.closed && all.done == 100 && all.stop.is_none());
+    assert!(rt; matches!(&all.outputs[0][..], [Line::Int(7)]));
+    Ok(())
+}
+
+#[test]
+fn refusals(rt: HostRuntime) -> Result<(), Fail> {
+    let short = run_image(rt.alloc(), &SEVEN[..63], 1, &[]).err();
+    assert_eq!(rt; short, Some(RunFault::Image(ImageFault::Short)));
+    let unset = VerifyFault {
+        cause: VerifyCause::Unset,
+        function: 0,
+        pc: 1,
+    };
+    let fault = run_image(rt.alloc(), &prints_r1(), 1, &[]).err();
+    assert_eq!(rt; fault, Some(RunFault::Verify(unset)));
+    let least_two = with_byte(7, 2);
+    for places in [0, 1, 65] {
+        let fault = run_image(rt.alloc(), &least_two, places, &[]).err();
+        assert_eq!(rt; fault, Some(RunFault::Open(OpenFault::Places)));
+    }
+    assert_eq!(rt;
+        run_image(rt.alloc(), &least_two, 64, &[])?.outputs.len(),
+        64
+    );
+    Ok(())
+}
+
+#[test]
+fn a_world(rt: HostRuntime) -> Result<(), Fail> {
+    let verified = verify(rt.alloc(), ImageView::read(rt.alloc(), &SEVEN)?)?;
+    let mut world = World::open(rt.alloc(), &verified, 2)?;
+    let key = world.next_key(0, 0).ok_or("main is there")?;
+    assert_eq!(rt; world.next_key(1, 0), None);
+    assert_eq!(rt; world.next_key(2, 0), None);
+    assert!(rt; world.output(2).is_none());
+    assert!(rt; !world.closed());
+    let events = [
+        Event::Step(1, 0),
+        Event::Deliver(0),
+        Event::Step(2, 0),
+        Event::Step(0, key),
+    ];
+    assert_eq!(rt; world.run(&events), Ok::<(), Stop>(()));
+    assert_eq!(rt; world.run(&[Event::Step(0, key); 2]), Ok::<(), Stop>(()));
+    assert!(rt; matches!(world.output(0), Some([Line::Int(7)])));
+    assert!(rt; matches!(world.output(1), Some([])));
+    assert!(rt; world.closed());
+    assert_eq!(rt; world.next_key(0, 0), None);
+    Ok(())
+}

@@ -1,0 +1,161 @@
+ghost use Rattle.std.specs.Prelude.{◌≡◌, ◌<◌, ◌↔◌, ℕ, true, IsTrue, IfOk, IfErr, IsErrOf, IfSome, MatchOption, Ok, Err, None, length};
+ghost use Rattle.x10_kinds.specs.declared.stop.Stop.TheVariants as stop;
+ghost use Rattle.x10_model.specs.Worlds as machine;
+ghost use Rattle.x10_world.specs.declared.fault.OpenFault.TheVariants as fault;
+ghost use Rattle.x10_place.specs.Opening.{IsNextKey};
+ghost use Rattle.x10_world.specs.Endings.{lines_in, lines_at};
+ghost use Rattle.x10_world.specs.Queries.{IsNoPlace, HasPlace, HasNoKey, HasEnded};
+ghost use Rattle.x10_world.specs.Opening.{IsOpenedWorld, IsForbidden};
+ghost use Rattle.x10_world.specs.StandsForWorld.{StandsForWorld, KeepsSetting, StepsOne, Makes, Runs};
+
+use crate::ending::copied_outputs;
+use crate::fault::OpenFault;
+use crate::opening::places_of;
+use std::alloc::{AllocError, Global};
+use std::marker::Model;
+use x10_kinds::Stop;
+use x10_model::Event;
+use x10_place::{Line, Place};
+use x10_verify::Verified;
+
+/// A world: the places of a run.
+#[derive(Drop)]
+pub struct World<'a> {
+    verified: &'a Verified<'a>,
+    places: Vec<Place<'a>>,
+    stopped: bool,
+}
+
+impl<'a> Model for World<'a> {
+    ghost use Rattle.std.specs.Prelude.{length};
+    ghost use Rattle.x10_world.specs.StandsForWorld.{WorldState, BelongTo};
+
+    ghost Value = { WorldState };
+
+    ghost view = { λ a. record { program = a.verified.now.program; bounds = a.verified.now.bounds; places = a.places.items; stopped = a.stopped } };
+
+    ghost invariant = { λ a. BelongTo a.verified.now.program a.verified.now.bounds (length a.places.items) a.places.items };
+}
+
+/// One step of the activity with a key at a place, if they are there.
+fn step_one(places: &mut Vec<Place>, id: usize, key: usize) -> Result<(), Stop>
+    ensures { StepsOne places.old.items places.new.items id key result }
+{
+    if id < places.len() {
+        places[id].step(key)?;
+    }
+    Ok(())
+}
+
+impl<'a> World<'a> {
+    /// One event.
+    fn happen(&mut self, event: Event) -> Result<(), Stop>
+        ensures ok { IfOk result (λ _. (w : machine.World) → StandsForWorld self.old w → Makes self.old w event self.new) }
+        ensures err { IfErr result (λ _. (w : machine.World) → StandsForWorld self.old w → StandsForWorld self.new w) }
+        ensures stop { IfErr result (λ _. self.new.stopped ≡ true) }
+        ensures kept { KeepsSetting self.old self.new }
+    {
+        let verified = self.verified;
+        verified.certificate();
+        match event {
+            Event::Step(id, key) => {
+                let done = step_one(&mut self.places, usize::from(id), key);
+                self.stopped = done.is_err();
+                done
+            }
+            Event::Deliver(_) => Ok(()),
+        }
+    }
+}
+
+impl<'a> World<'a> {
+    /// The events in their turn, to the first that is refused: how many were made, and why the next was not.
+    pub(crate) fn make(&mut self, events: &[Event]) -> (usize, Option<Stop>)
+        ensures runs { (w : machine.World) → StandsForWorld self.old w → Runs self.old w result.0 events.now self.new }
+        ensures all { result.1 ≡ None → result.0 ≡ length events.now }
+        ensures stop { IfSome result.1 (λ _. self.new.stopped ≡ true) }
+        ensures kept { KeepsSetting self.old self.new }
+    {
+        for done in 0..events.len() {
+            if let Err(stop) = self.happen(events[done]) {
+                return (done, Some(stop));
+            }
+        }
+        (events.len(), None)
+    }
+}
+
+impl<'a> World<'a> {
+    /// A world of so many places at the beginning: main is at place 0, and nothing at the others.
+    pub fn open(
+        alloc: Global,
+        verified: &'a Verified<'a>,
+        places: u16,
+    ) -> Result<World<'a>, OpenFault>
+        ensures opened { IfOk result (IsOpenedWorld verified.now places) }
+        ensures places { IsErrOf result fault.Places ↔ IsForbidden verified.now places }
+    {
+        verified.certificate();
+        if places < verified.image().least() || places > 64 {
+            return Err(OpenFault::Places);
+        }
+        let list = places_of(alloc, verified, places)?;
+        Ok(World {
+            verified,
+            places: list,
+            stopped: false,
+        })
+    }
+
+    /// The events in their turn. After a Stop every later call answers Stopped, and the output is that of the events
+    /// before the one that was refused.
+    pub fn run(&mut self, events: &[Event]) -> Result<(), Stop>
+        ensures all { IfOk result (λ _. (w : machine.World) → StandsForWorld self.old w → Runs self.old w (length events.now) events.now self.new) }
+        ensures some { (w : machine.World) → StandsForWorld self.old w → (n : ℕ) × Runs self.old w n events.now self.new }
+        ensures stopped { self.old.stopped ≡ true → (result ≡ Err stop.Stopped) × (self.new ≡ self.old) }
+        ensures stop { IfErr result (λ _. self.new.stopped ≡ true) }
+    {
+        if self.stopped {
+            return Err(Stop::Stopped);
+        }
+        match self.make(events) {
+            (_, Some(stop)) => Err(stop),
+            (_, None) => Ok(()),
+        }
+    }
+}
+
+impl<'a> World<'a> {
+    /// The lines of a place so far; none where there is no such place.
+    pub fn output(&self, place: u16) -> Option<&[Line]>
+        ensures { MatchOption result (IsNoPlace self.now.places place) (λ lines. HasPlace self.now.places place (λ p. lines.now ≡ p.lines)) }
+    {
+        let place = self.places.get(usize::from(place))?;
+        Some(place.output())
+    }
+
+    /// A copy of the lines of each place.
+    pub(crate) fn outputs(&self, alloc: Global) -> Result<Vec<Vec<Line>>, AllocError>
+        ensures { IfOk result (λ outputs. lines_in outputs.items ≡ lines_at self.now.places) }
+    {
+        copied_outputs(alloc, &self.places)
+    }
+
+    /// The least key in use at a place that is not below a number; none where there is no such key, or no such place.
+    pub fn next_key(&self, place: u16, from: usize) -> Option<usize>
+        ensures { MatchOption result (HasNoKey self.now.places place from) (λ key. HasPlace self.now.places place (λ p. IsNextKey p.activities from key)) }
+    {
+        let place = self.places.get(usize::from(place))?;
+        place.next_key(from)
+    }
+
+    /// Whether the run has ended: no activity is at place 0.
+    pub fn closed(&self) -> bool
+        ensures { (w : machine.World) → StandsForWorld self.now w → IsTrue result ↔ HasEnded w }
+    {
+        match self.places.first() {
+            Some(place) => place.closed(),
+            None => true,
+        }
+    }
+}
