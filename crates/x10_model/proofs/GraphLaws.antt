@@ -18,7 +18,7 @@ length_reads = fits_as (such_that_reads (λ n. leb n 65535) Order (number_reads 
     (λ n h. omega (arith, leb-true n 65535 h.1))
     (λ n h. (omega arith, le-leb n 65535 (omega arith)))
 
-text_reads : Reads text_at blob_bytes FitsText
+pub text_reads : Reads text_at blob_bytes FitsText
 unfolding text_at blob_bytes
 text_reads =
     then_reads (λ text. length text) (λ text. text) length_reads (λ text g. g.length) (λ n lt.
@@ -26,7 +26,7 @@ text_reads =
     (λ text h. (h.0, record { length = omega (arith, h.0, lt); utf8 = IsUtf8-from_is_utf8 text h.1 }))
     (λ text h. (h.0, is_utf8-from_IsUtf8 text h.1.utf8)))
 
-rail_reads : Reads rail_at blob_bytes FitsRail
+pub rail_reads : Reads rail_at blob_bytes FitsRail
 unfolding rail_at blob_bytes
 rail_reads =
     then_reads (λ rail. length rail) (λ rail. rail) length_reads (λ rail g. g.length) (λ n lt.
@@ -42,7 +42,7 @@ node_of class fields = record { class = class; fields = fields }
 same_node : (class : ℕ) (n : Node) → n.class ≡ class → node_of class n.fields ≡ n
 same_node class n e = rw (← e) refl
 
-node_reads : (places : ℕ) (all : Tables) → places < 2 ^ 16 → Few all → (t : Turn) → Reads (node_at places all t) node_bytes (FitsNode places all t)
+pub node_reads : (places : ℕ) (all : Tables) → places < 2 ^ 16 → Few all → (t : Turn) → Reads (node_at places all t) node_bytes (FitsNode places all t)
 unfolding node_at node_bytes
 node_reads places all few ok t =
     then_reads (λ n. n.class) (λ n. length n.fields ∷ flat_map item_bytes n.fields) (number_reads w16 (2 ^ 16) wide16 Short) (λ n g. g.class) (λ class hc.

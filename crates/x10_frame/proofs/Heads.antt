@@ -1,0 +1,98 @@
+-- A frame is read as its head, and then what follows.
+use Rattle.std.proofs.Common.{◌≡◌, ℕ, zero, suc, ◌^◌, ◌<◌, List, None, refl}
+use Rattle.std.specs.Int.{w16, w32}
+use Rattle.x10_model.specs.Frames.{Launch, launch, Frame, Spawn, Shift}
+use Rattle.x10_model.specs.Readers.{bind, done, given, number}
+use Rattle.x10_model.specs.ReadingFrames.{FrameFault, Short, Version, FrameType, Place, place_at, graph_at, launch_at, body_at, parts_at}
+use Rattle.x10_model.proofs.PartLaws.{byte_reads, number_reads, wide16, wide32}
+use Rattle.x10_model.proofs.ItemLaws.{place_reads}
+use Rattle.x10_frame.specs.declared.head.Head.{Head}
+use Rattle.x10_frame.specs.declared.head.Head.TheVariants as head
+use Rattle.x10_frame.specs.Heads.{spawn_at, shift_at, back_at, report_at, numbers_at, head_at, counts_at, after_head}
+use Rattle.x10_frame.proofs.Readers.{split, alike, done_next, made_twice, Drops, drops_reads, drops_done, drops_bind, drops_expect, drops_such_that}
+
+abbrev spawned : ℕ → ℕ → Launch → Frame
+spawned from to l = Spawn from to l.home l.number l.function l.graph
+
+spawn_is : (places from to : ℕ) (bytes : List ℕ) → body_at places 1 from to bytes ≡ bind (spawn_at places from to) (after_head places) bytes
+unfolding body_at launch_at spawn_at
+spawn_is places from to bytes =
+    alike _ _ (λ l. done (spawned from to l)) _ (after_head places) (λ home.
+    alike _ _ (λ l. done (spawned from to l)) _ (after_head places) (λ number.
+    alike _ _ (λ l. done (spawned from to l)) _ (after_head places) (λ function rest.
+    made_twice (graph_at places 16) (launch home number function) (spawned from to) (head.Spawn from to home number function) (after_head places) rest refl))) bytes
+
+abbrev shifted : ℕ → ℕ → ℕ → Launch → Frame
+shifted from to waiting l = Shift from to waiting l.home l.number l.function l.graph
+
+shift_is : (places from to : ℕ) (bytes : List ℕ) → body_at places 2 from to bytes ≡ bind (shift_at places from to) (after_head places) bytes
+unfolding body_at launch_at shift_at
+shift_is places from to bytes =
+    split _ _ _ (after_head places) (λ waiting.
+    alike _ _ (λ l. done (shifted from to waiting l)) _ (after_head places) (λ home.
+    alike _ _ (λ l. done (shifted from to waiting l)) _ (after_head places) (λ number.
+    alike _ _ (λ l. done (shifted from to waiting l)) _ (after_head places) (λ function rest.
+    made_twice (graph_at places 16) (launch home number function) (shifted from to waiting) (head.Shift from to waiting home number function) (after_head places) rest refl)))) bytes
+
+back_is : (places from to : ℕ) (bytes : List ℕ) → body_at places 3 from to bytes ≡ bind (back_at from to) (after_head places) bytes
+unfolding body_at back_at
+back_is places from to bytes = split _ _ _ (after_head places) (λ waiting rest. done_next (head.Back from to waiting) (after_head places) rest) bytes
+
+report_is : (places from to : ℕ) (bytes : List ℕ) → body_at places 4 from to bytes ≡ bind (report_at places from to) (after_head places) bytes
+unfolding body_at report_at counts_at
+report_is places from to bytes = split _ _ _ (after_head places) (λ finish. split _ _ _ (after_head places) (λ u rest. done_next (head.Report from to finish) (after_head places) rest)) bytes
+
+none_is : (places type from to : ℕ) (bytes : List ℕ) → given {A = Frame} None FrameType bytes ≡ bind (given {A = Head} None FrameType) (after_head places) bytes
+unfolding bind given
+none_is places type from to bytes = refl
+
+body_is : (places type from to : ℕ) (bytes : List ℕ) → body_at places type from to bytes ≡ bind (numbers_at places type from to) (after_head places) bytes
+unfolding body_at numbers_at
+body_is places zero from to bytes = none_is places 0 from to bytes
+body_is places (suc zero) from to bytes = spawn_is places from to bytes
+body_is places (suc (suc zero)) from to bytes = shift_is places from to bytes
+body_is places (suc (suc (suc zero))) from to bytes = back_is places from to bytes
+body_is places (suc (suc (suc (suc zero)))) from to bytes = report_is places from to bytes
+body_is places (suc (suc (suc (suc (suc type))))) from to bytes = none_is places (suc (suc (suc (suc (suc type))))) from to bytes
+
+pub parts_is : (places : ℕ) (bytes : List ℕ) → parts_at places bytes ≡ bind (head_at places) (after_head places) bytes
+unfolding parts_at head_at
+parts_is places bytes =
+    split _ _ _ (after_head places) (λ u.
+    split _ _ _ (after_head places) (λ type.
+    split _ _ _ (after_head places) (λ from.
+    split _ _ _ (after_head places) (λ to rest. body_is places type from to rest)))) bytes
+
+-- ---- what a head leaves
+
+drops16 : Drops (number {E = FrameFault} w16 Short)
+drops16 = drops_reads (number_reads w16 (2 ^ 16) wide16 Short)
+
+drops32 : Drops (number {E = FrameFault} w32 Short)
+drops32 = drops_reads (number_reads w32 (2 ^ 32) wide32 Short)
+
+drops_place : (places : ℕ) → places < 2 ^ 16 → Drops (place_at places)
+drops_place places few = drops_reads (place_reads places few)
+
+drops_none : {A : Type 0} → Drops (given {E = FrameFault} {A = A} None FrameType)
+unfolding given
+drops_none bytes x rest b e = absurd cc
+
+drops_numbers : (places : ℕ) → places < 2 ^ 16 → (type from to : ℕ) → Drops (numbers_at places type from to)
+unfolding numbers_at spawn_at shift_at back_at report_at
+drops_numbers places few zero from to = drops_none
+drops_numbers places few (suc zero) from to =
+    drops_bind _ _ (drops_place places few) (λ home. drops_bind _ _ drops32 (λ finish. drops_bind _ _ drops16 (λ function. drops_done _)))
+drops_numbers places few (suc (suc zero)) from to =
+    drops_bind _ _ drops32 (λ waiting. drops_bind _ _ (drops_place places few) (λ home. drops_bind _ _ drops32 (λ finish. drops_bind _ _ drops16 (λ function. drops_done _))))
+drops_numbers places few (suc (suc (suc zero))) from to = drops_bind _ _ drops32 (λ waiting. drops_done _)
+drops_numbers places few (suc (suc (suc (suc zero)))) from to = drops_bind _ _ drops32 (λ finish. drops_bind _ _ (drops_expect _ places Place drops16) (λ u. drops_done _))
+drops_numbers places few (suc (suc (suc (suc (suc type))))) from to = drops_none
+
+pub head_drops : (places : ℕ) → places < 2 ^ 16 → Drops (head_at places)
+unfolding head_at
+head_drops places few =
+    drops_bind _ _ (drops_expect _ 1 Version (drops_reads (byte_reads Short))) (λ u.
+    drops_bind _ _ (drops_such_that _ _ FrameType (drops_reads (byte_reads Short))) (λ type.
+    drops_bind _ _ (drops_place places few) (λ from.
+    drops_bind _ _ (drops_place places few) (λ to. drops_numbers places few type from to))))

@@ -1,0 +1,16 @@
+pub mod Numbers
+pub mod Loops
+pub mod TableLoops
+pub mod Texts
+pub mod Counts
+pub mod Turns
+pub mod Readers
+pub mod Graphs
+pub mod Heads
+pub mod Bodies
+pub mod Whole
+pub mod Access
+pub mod ReadAgain
+pub mod Shows
+pub mod Spelling
+pub mod Drafts

@@ -1,0 +1,66 @@
+//! Where the parts of a frame stand in its bytes.
+
+ghost use Rattle.std.specs.Prelude.{ℕ};
+ghost use Rattle.x10_frame.specs.declared.head.Head.TheVariants as variant;
+ghost use Rattle.x10_frame.specs.Heads.{counts_at, after_head};
+ghost use Rattle.x10_frame.specs.Places.{EndsWith};
+ghost use Rattle.x10_frame.specs.Bodies.{GivesBody};
+
+use crate::fault::FrameFault;
+use crate::graph::read_graph;
+use crate::head::Head;
+use crate::parts::past_counts;
+use std::alloc::Global;
+
+/// Where the roots begin, how many there are, and where each text, rail and node begins. In a report
+/// `start` is where the counts begin, and there is nothing else.
+#[derive(Debug, Drop)]
+pub struct Body {
+    pub start: usize,
+    pub roots: u16,
+    pub texts: Vec<usize>,
+    pub rails: Vec<usize>,
+    pub nodes: Vec<usize>,
+}
+
+fn read_counts<'a>(
+    alloc: Global,
+    frame: &[u8],
+    bytes: &'a [u8],
+    places: u16,
+) -> Result<(Body, &'a [u8]), FrameFault>
+    requires { EndsWith frame.now bytes.now }
+    ensures exact { (from : ℕ) (to : ℕ) (finish : ℕ) → GivesBody frame.now (variant.Report from to finish) (λ x. x.0) (λ x. x.1.now) result (counts_at places from to finish bytes.now) }
+{
+    let start = frame.len() - bytes.len();
+    let rest = past_counts(bytes, places)?;
+    let rest = past_counts(rest, places)?;
+    let body = Body {
+        start,
+        roots: 0,
+        texts: Vec::new(alloc),
+        rails: Vec::new(alloc),
+        nodes: Vec::new(alloc),
+    };
+    Ok((body, rest))
+}
+
+/// Where the parts of a frame with such a head stand in the frame that the bytes end, and the bytes
+/// after it.
+pub fn read_body<'a>(
+    alloc: Global,
+    frame: &[u8],
+    bytes: &'a [u8],
+    places: u16,
+    head: &Head,
+) -> Result<(Body, &'a [u8]), FrameFault>
+    requires { EndsWith frame.now bytes.now }
+    ensures exact { GivesBody frame.now head.now (λ x. x.0) (λ x. x.1.now) result (after_head places head.now bytes.now) }
+{
+    match *head {
+        Head::Spawn { .. } => read_graph(alloc, frame, bytes, places, 16),
+        Head::Shift { .. } => read_graph(alloc, frame, bytes, places, 16),
+        Head::Back { .. } => read_graph(alloc, frame, bytes, places, 1),
+        Head::Report { .. } => read_counts(alloc, frame, bytes, places),
+    }
+}

@@ -1,0 +1,102 @@
+//! The graph of a frame: where its parts stand.
+
+ghost use Rattle.std.specs.Prelude.{◌^◌, ◌<◌, IfOk, nat_le};
+ghost use Rattle.std.specs.Int.{w16};
+ghost use Rattle.x10_model.specs.Readers.{number, such_that};
+ghost use Rattle.x10_model.specs.ReadingFrames.{Short, Order, graph_at};
+ghost use Rattle.x10_frame.specs.Faults.{Answers};
+ghost use Rattle.x10_frame.specs.Items.{tables_in};
+ghost use Rattle.x10_frame.specs.Places.{EndsWith};
+ghost use Rattle.x10_frame.specs.Graphs.{counts_at, graph_from};
+ghost use Rattle.x10_frame.specs.Bodies.{GivesGraph};
+
+use crate::body::Body;
+use crate::fault::FrameFault;
+use crate::fields::u16_at;
+use crate::parts::past_items;
+use crate::tables::{node_table, rail_table, text_table};
+use crate::used::Used;
+use std::alloc::Global;
+
+/// How many roots, texts, rails and nodes a graph has.
+#[derive(Clone, Copy, Debug)]
+struct Counts {
+    roots: u16,
+    all: Used,
+}
+
+#[tactic(auto, unfolding(x10_model::specs::Readers::such_that, x10_model::specs::Readers::bind, x10_model::specs::Readers::check, x10_model::specs::Readers::done))]
+fn root_count_at(bytes: &[u8], most: u16) -> Result<(u16, &[u8]), FrameFault>
+    ensures exact { Answers (λ x. (x.0, x.1.now)) result (such_that (number w16 Short) (λ n. nat_le n most) Order bytes.now) }
+{
+    let (count, bytes) = u16_at(bytes)?;
+    if count > most {
+        return Err(FrameFault::Order);
+    }
+    Ok((count, bytes))
+}
+
+#[tactic(auto, unfolding(crate::specs::Graphs::counts_at, x10_model::specs::Readers::bind, x10_model::specs::Readers::done))]
+fn counts_at(bytes: &[u8], most: u16) -> Result<(Counts, &[u8]), FrameFault>
+    ensures exact { Answers (λ x. ((x.0.roots, tables_in x.0.all), x.1.now)) result (counts_at most bytes.now) }
+    ensures few { IfOk result (λ x. (x.0.all.texts < 2 ^ 16) × (x.0.all.rails < 2 ^ 16) × (x.0.all.nodes < 2 ^ 16)) }
+{
+    let (roots, bytes) = root_count_at(bytes, most)?;
+    let (texts, bytes) = u16_at(bytes)?;
+    let (rails, bytes) = u16_at(bytes)?;
+    let (nodes, bytes) = u16_at(bytes)?;
+    let all = Used {
+        texts: u32::from(texts),
+        rails: u32::from(rails),
+        nodes: u32::from(nodes),
+    };
+    Ok((Counts { roots, all }, bytes))
+}
+
+fn parts_of<'a>(
+    alloc: Global,
+    frame: &[u8],
+    bytes: &'a [u8],
+    places: u16,
+    roots: u16,
+    all: &Used,
+) -> Result<(Body, &'a [u8]), FrameFault>
+    requires ends { EndsWith frame.now bytes.now }
+    requires texts { all.now.texts < 2 ^ 16 }
+    requires rails { all.now.rails < 2 ^ 16 }
+    requires nodes { all.now.nodes < 2 ^ 16 }
+    ensures exact { GivesGraph frame.now (λ x. x.0) (λ x. x.1.now) result (graph_from places roots (tables_in all.now) bytes.now) }
+{
+    let start = frame.len() - bytes.len();
+    let (used, rest) = past_items(bytes, roots, places, all, &Used::none())?;
+    let (texts, rest) = text_table(alloc, frame, rest, all.texts)?;
+    let (rails, rest) = rail_table(alloc, frame, rest, all.rails)?;
+    let (nodes, used, rest) = node_table(alloc, frame, rest, all.nodes, places, all, &used)?;
+    if !used.is_all(all) {
+        return Err(FrameFault::Order);
+    }
+    let body = Body {
+        start,
+        roots,
+        texts,
+        rails,
+        nodes,
+    };
+    Ok((body, rest))
+}
+
+/// Where the parts of a graph of so many roots at most stand in the frame that the bytes end, and the
+/// bytes after it.
+pub fn read_graph<'a>(
+    alloc: Global,
+    frame: &[u8],
+    bytes: &'a [u8],
+    places: u16,
+    most: u16,
+) -> Result<(Body, &'a [u8]), FrameFault>
+    requires { EndsWith frame.now bytes.now }
+    ensures exact { GivesGraph frame.now (λ x. x.0) (λ x. x.1.now) result (graph_at places most bytes.now) }
+{
+    let (counts, rest) = counts_at(bytes, most)?;
+    parts_of(alloc, frame, rest, places, counts.roots, &counts.all)
+}

@@ -1,0 +1,166 @@
+//! The numbers that stand before the graph of a frame, or before the counts of a report.
+
+ghost use Rattle.std.specs.Prelude.{nat_le, ◌&&◌};
+ghost use Rattle.std.specs.Int.{w16};
+ghost use Rattle.x10_model.specs.Readers.{byte, number, such_that, expect};
+ghost use Rattle.x10_model.specs.ReadingFrames.{Short, Version, FrameType, Place};
+ghost use Rattle.x10_frame.specs.Faults.{Answers};
+ghost use Rattle.x10_frame.specs.Heads.{head_at, numbers_at};
+ghost use Rattle.x10_frame.specs.Heads as spec;
+
+use crate::fault::FrameFault;
+use crate::fields::{byte_at, place_at, u16_at, u32_at};
+
+/// What a frame is, from which place to which, and its other numbers.
+#[derive(Clone, Copy, Debug, PartialEq, Eq)]
+pub enum Head {
+    /// A new activity: the home and number of its finish, and its function.
+    Spawn {
+        from: u16,
+        to: u16,
+        home: u16,
+        number: u32,
+        function: u16,
+    },
+    /// An activity that goes on elsewhere: the segment that waits for it, the home and number of its
+    /// finish, and the function.
+    Shift {
+        from: u16,
+        to: u16,
+        waiting: u32,
+        home: u16,
+        number: u32,
+        function: u16,
+    },
+    /// The way back of such an activity: the segment that waits for it.
+    Back {
+        from: u16,
+        to: u16,
+        waiting: u32,
+    },
+    /// Counts of a finish, whose home is the receiver: its number.
+    Report {
+        from: u16,
+        to: u16,
+        number: u32,
+    },
+}
+
+#[tactic(auto, unfolding(x10_model::specs::Readers::expect, x10_model::specs::Readers::bind, x10_model::specs::Readers::check))]
+fn after_version(bytes: &[u8]) -> Result<&[u8], FrameFault>
+    ensures exact { Answers (λ x. (tt, x.now)) result (expect (byte Short) 1 Version bytes.now) }
+{
+    let (version, bytes) = byte_at(bytes)?;
+    if version != 1 {
+        return Err(FrameFault::Version);
+    }
+    Ok(bytes)
+}
+
+#[tactic(auto, unfolding(x10_model::specs::Readers::such_that, x10_model::specs::Readers::bind, x10_model::specs::Readers::check, x10_model::specs::Readers::done))]
+fn type_at(bytes: &[u8]) -> Result<(u8, &[u8]), FrameFault>
+    ensures exact { Answers (λ x. (x.0, x.1.now)) result (such_that (byte Short) (λ n. nat_le 1 n && nat_le n 4) FrameType bytes.now) }
+{
+    let (kind, bytes) = byte_at(bytes)?;
+    if !(1..=4).contains(&kind) {
+        return Err(FrameFault::FrameType);
+    }
+    Ok((kind, bytes))
+}
+
+/// The bytes after the number of places, which is this one.
+#[tactic(auto, unfolding(x10_model::specs::Readers::expect, x10_model::specs::Readers::bind, x10_model::specs::Readers::check))]
+fn after_places(bytes: &[u8], places: u16) -> Result<&[u8], FrameFault>
+    ensures exact { Answers (λ x. (tt, x.now)) result (expect (number w16 Short) places Place bytes.now) }
+{
+    let (number, bytes) = u16_at(bytes)?;
+    if number != places {
+        return Err(FrameFault::Place);
+    }
+    Ok(bytes)
+}
+
+#[tactic(auto, unfolding(crate::specs::Heads::spawn_at, x10_model::specs::Readers::bind, x10_model::specs::Readers::done))]
+fn spawn_at(bytes: &[u8], places: u16, from: u16, to: u16) -> Result<(Head, &[u8]), FrameFault>
+    ensures exact { Answers (λ x. (x.0, x.1.now)) result (spec.spawn_at places from to bytes.now) }
+{
+    let (home, bytes) = place_at(bytes, places)?;
+    let (number, bytes) = u32_at(bytes)?;
+    let (function, bytes) = u16_at(bytes)?;
+    let head = Head::Spawn {
+        from,
+        to,
+        home,
+        number,
+        function,
+    };
+    Ok((head, bytes))
+}
+
+#[tactic(auto, unfolding(crate::specs::Heads::shift_at, x10_model::specs::Readers::bind, x10_model::specs::Readers::done))]
+fn shift_at(bytes: &[u8], places: u16, from: u16, to: u16) -> Result<(Head, &[u8]), FrameFault>
+    ensures exact { Answers (λ x. (x.0, x.1.now)) result (spec.shift_at places from to bytes.now) }
+{
+    let (waiting, bytes) = u32_at(bytes)?;
+    let (home, bytes) = place_at(bytes, places)?;
+    let (number, bytes) = u32_at(bytes)?;
+    let (function, bytes) = u16_at(bytes)?;
+    let head = Head::Shift {
+        from,
+        to,
+        waiting,
+        home,
+        number,
+        function,
+    };
+    Ok((head, bytes))
+}
+
+#[tactic(auto, unfolding(crate::specs::Heads::back_at, x10_model::specs::Readers::bind, x10_model::specs::Readers::done))]
+fn back_at(bytes: &[u8], from: u16, to: u16) -> Result<(Head, &[u8]), FrameFault>
+    ensures exact { Answers (λ x. (x.0, x.1.now)) result (spec.back_at from to bytes.now) }
+{
+    let (waiting, bytes) = u32_at(bytes)?;
+    Ok((Head::Back { from, to, waiting }, bytes))
+}
+
+#[tactic(auto, unfolding(crate::specs::Heads::report_at, x10_model::specs::Readers::bind, x10_model::specs::Readers::done))]
+fn report_at(bytes: &[u8], places: u16, from: u16, to: u16) -> Result<(Head, &[u8]), FrameFault>
+    ensures exact { Answers (λ x. (x.0, x.1.now)) result (spec.report_at places from to bytes.now) }
+{
+    let (number, bytes) = u32_at(bytes)?;
+    let bytes = after_places(bytes, places)?;
+    Ok((Head::Report { from, to, number }, bytes))
+}
+
+#[tactic(auto, unfolding(crate::specs::Heads::numbers_at, x10_model::specs::Readers::given))]
+fn numbers_at(
+    bytes: &[u8],
+    places: u16,
+    kind: u8,
+    from: u16,
+    to: u16,
+) -> Result<(Head, &[u8]), FrameFault>
+    ensures exact { Answers (λ x. (x.0, x.1.now)) result (numbers_at places kind from to bytes.now) }
+{
+    match kind {
+        1 => spawn_at(bytes, places, from, to),
+        2 => shift_at(bytes, places, from, to),
+        3 => back_at(bytes, from, to),
+        4 => report_at(bytes, places, from, to),
+        _ => Err(FrameFault::FrameType),
+    }
+}
+
+/// The numbers before the graph of a frame, or before the counts of a report, and the bytes after
+/// them.
+#[tactic(auto, unfolding(crate::specs::Heads::head_at, x10_model::specs::Readers::bind))]
+pub fn read_head(bytes: &[u8], places: u16) -> Result<(Head, &[u8]), FrameFault>
+    ensures exact { Answers (λ x. (x.0, x.1.now)) result (head_at places bytes.now) }
+{
+    let bytes = after_version(bytes)?;
+    let (kind, bytes) = type_at(bytes)?;
+    let (from, bytes) = place_at(bytes, places)?;
+    let (to, bytes) = place_at(bytes, places)?;
+    numbers_at(bytes, places, kind, from, to)
+}

@@ -1,0 +1,29 @@
+//! Frames, which places exchange: reading them in place, and writing them.
+#![tactic(auto)]
+
+mod body;
+mod fault;
+mod fields;
+mod graph;
+mod head;
+mod item;
+mod node_view;
+mod parts;
+mod places;
+mod report;
+mod spell;
+mod tables;
+mod used;
+mod view;
+mod writer;
+
+pub use fault::FrameFault;
+pub use head::Head;
+pub use item::Item;
+pub use node_view::NodeView;
+pub use report::Report;
+pub use view::FrameView;
+pub use writer::{FrameWriter, Sizes, write_report};
+
+#[cfg(test)]
+mod tests;

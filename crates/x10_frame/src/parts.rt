@@ -1,0 +1,109 @@
+//! The parts of a frame, each at the front of bytes: the bytes after it, or its first fault.
+
+ghost use Rattle.std.specs.Int.{w32};
+ghost use Rattle.std.specs.Prelude.{nat_le};
+ghost use Rattle.x10_model.specs.Frames.{uses, turn};
+ghost use Rattle.x10_model.specs.Readers.{byte, such_that, many, times};
+ghost use Rattle.x10_model.specs.Readers as readers;
+ghost use Rattle.x10_model.specs.ReadingFrames.{Short, Order, item_at, node_at, text_at, rail_at};
+ghost use Rattle.x10_frame.specs.Faults.{Answers, Passes};
+ghost use Rattle.x10_frame.specs.Items.{tables_in};
+ghost use Rattle.x10_frame.specs.Places.{Walks, PassesNode};
+
+use crate::fault::FrameFault;
+use crate::fields::{byte_at, length_at, u16_at};
+use crate::item::item_at;
+use crate::used::Used;
+
+/// What was used after so many values, and the bytes after them.
+pub fn past_items<'a>(
+    bytes: &'a [u8],
+    count: u16,
+    places: u16,
+    all: &Used,
+    used: &Used,
+) -> Result<(Used, &'a [u8]), FrameFault>
+    ensures exact { Walks uses (tables_in used.now) (λ x. tables_in x.0) (λ x. x.1.now) result (many (item_at places (tables_in all.now)) uses count (tables_in used.now) bytes.now) }
+{
+    let mut met = *used;
+    let mut rest = bytes;
+    for _ in 0..count {
+        let (item, after) = item_at(rest, places, all, &met)?;
+        met = met.with(&item);
+        rest = after;
+    }
+    Ok((met, rest))
+}
+
+#[tactic(auto, unfolding(x10_model::specs::Readers::such_that, x10_model::specs::Readers::bind, x10_model::specs::Readers::check, x10_model::specs::Readers::done))]
+fn field_count_at(bytes: &[u8]) -> Result<(u8, &[u8]), FrameFault>
+    ensures exact { Answers (λ x. (x.0, x.1.now)) result (such_that (byte Short) (λ n. nat_le n 16) Order bytes.now) }
+{
+    let (count, bytes) = byte_at(bytes)?;
+    if count > 16 {
+        return Err(FrameFault::Order);
+    }
+    Ok((count, bytes))
+}
+
+/// What was used after a node whose turn it is, and the bytes after it.
+#[tactic(auto, unfolding(x10_model::specs::ReadingFrames::node_at, x10_model::specs::Readers::bind, x10_model::specs::Readers::check, x10_model::specs::Readers::done))]
+pub fn past_node<'a>(
+    bytes: &'a [u8],
+    number: u32,
+    places: u16,
+    all: &Used,
+    used: &Used,
+) -> Result<(Used, &'a [u8]), FrameFault>
+    ensures exact { PassesNode (tables_in used.now) (λ x. tables_in x.0) (λ x. x.1.now) result (node_at places (tables_in all.now) (turn number (tables_in used.now)) bytes.now) }
+{
+    let (_, bytes) = u16_at(bytes)?;
+    if number >= used.nodes {
+        return Err(FrameFault::Order);
+    }
+    let (count, bytes) = field_count_at(bytes)?;
+    past_items(bytes, u16::from(count), places, all, used)
+}
+
+/// The bytes after a text.
+#[tactic(auto, unfolding(x10_model::specs::ReadingFrames::text_at, x10_model::specs::Readers::such_that, x10_model::specs::Readers::bind, x10_model::specs::Readers::part, x10_model::specs::Readers::check, x10_model::specs::Readers::done))]
+pub fn past_text(bytes: &[u8]) -> Result<&[u8], FrameFault>
+    ensures exact { Passes (λ x. x.now) result (text_at bytes.now) }
+{
+    let (length, bytes) = length_at(bytes)?;
+    let length = length as usize;
+    if bytes.len() < length {
+        return Err(FrameFault::Short);
+    }
+    let (text, rest) = bytes.split_at(length);
+    match str::from_utf8(text) {
+        Ok(_) => Ok(rest),
+        Err(_) => Err(FrameFault::Text),
+    }
+}
+
+/// The bytes after a rail.
+#[tactic(auto, unfolding(x10_model::specs::ReadingFrames::rail_at, x10_model::specs::Readers::bind, x10_model::specs::Readers::part))]
+pub fn past_rail(bytes: &[u8]) -> Result<&[u8], FrameFault>
+    ensures exact { Passes (λ x. x.now) result (rail_at bytes.now) }
+{
+    let (length, bytes) = length_at(bytes)?;
+    let length = length as usize;
+    if bytes.len() < length {
+        return Err(FrameFault::Short);
+    }
+    let (_, rest) = bytes.split_at(length);
+    Ok(rest)
+}
+
+/// The bytes after so many counts of a report.
+pub fn past_counts(bytes: &[u8], count: u16) -> Result<&[u8], FrameFault>
+    ensures exact { Passes (λ x. x.now) result (times count (readers.number w32 Short) bytes.now) }
+{
+    let length = 4 * usize::from(count);
+    if bytes.len() < length {
+        return Err(FrameFault::Short);
+    }
+    let (_, rest) = bytes.split_at(length);
+    Ok(rest)
+}

@@ -1,0 +1,84 @@
+//! The places of the texts, rails and nodes of a frame.
+
+ghost use Rattle.std.specs.Prelude.{◌^◌, ◌<◌};
+ghost use Rattle.x10_model.specs.Frames.{blob_bytes, node_bytes, next_turn, turn};
+ghost use Rattle.x10_model.specs.Readers.{many, times};
+ghost use Rattle.x10_model.specs.ReadingFrames.{text_at, rail_at, node_at};
+ghost use Rattle.x10_model.specs.ReadingFrames as reading;
+ghost use Rattle.x10_frame.specs.Items.{tables_in};
+ghost use Rattle.x10_frame.specs.Places.{EndsWith, GivesTable, GivesNodes};
+
+use crate::fault::FrameFault;
+use crate::parts::{past_node, past_rail, past_text};
+use crate::used::Used;
+use std::alloc::Global;
+
+/// Where each of so many texts stands in the frame that the bytes end, and the bytes after them.
+pub fn text_table<'a>(
+    alloc: Global,
+    frame: &[u8],
+    bytes: &'a [u8],
+    count: u32,
+) -> Result<(Vec<usize>, &'a [u8]), FrameFault>
+    requires { EndsWith frame.now bytes.now }
+    ensures exact { GivesTable blob_bytes frame.now (λ x. x.0.items) (λ x. x.1.now) result (times count text_at bytes.now) }
+{
+    let mut table = Vec::new(alloc);
+    let mut rest = bytes;
+    for _ in 0..count {
+        let at = frame.len() - rest.len();
+        rest = past_text(rest)?;
+        table.push(at)?;
+    }
+    Ok((table, rest))
+}
+
+/// Where each of so many rails stands in the frame that the bytes end, and the bytes after them.
+pub fn rail_table<'a>(
+    alloc: Global,
+    frame: &[u8],
+    bytes: &'a [u8],
+    count: u32,
+) -> Result<(Vec<usize>, &'a [u8]), FrameFault>
+    requires { EndsWith frame.now bytes.now }
+    ensures exact { GivesTable blob_bytes frame.now (λ x. x.0.items) (λ x. x.1.now) result (times count rail_at bytes.now) }
+{
+    let mut table = Vec::new(alloc);
+    let mut rest = bytes;
+    for _ in 0..count {
+        let at = frame.len() - rest.len();
+        rest = past_rail(rest)?;
+        table.push(at)?;
+    }
+    Ok((table, rest))
+}
+
+/// Where each node stands in the frame that the bytes end, what was used after them, and the bytes
+/// after them.
+pub fn node_table<'a>(
+    alloc: Global,
+    frame: &[u8],
+    bytes: &'a [u8],
+    count: u32,
+    places: u16,
+    all: &Used,
+    used: &Used,
+) -> Result<(Vec<usize>, Used, &'a [u8]), FrameFault>
+    requires ends { EndsWith frame.now bytes.now }
+    requires texts { all.now.texts < 2 ^ 16 }
+    requires rails { all.now.rails < 2 ^ 16 }
+    requires nodes { all.now.nodes < 2 ^ 16 }
+    ensures exact { GivesNodes (tables_in used.now) node_bytes frame.now (λ x. x.0.items) (λ x. tables_in x.1) (λ x. x.2.now) result (many (reading.node_at places (tables_in all.now)) next_turn count (turn 0 (tables_in used.now)) bytes.now) }
+{
+    let mut table = Vec::new(alloc);
+    let mut met = *used;
+    let mut rest = bytes;
+    for number in 0..count {
+        let at = frame.len() - rest.len();
+        let (after, left) = past_node(rest, number, places, all, &met)?;
+        met = after;
+        rest = left;
+        table.push(at)?;
+    }
+    Ok((table, met, rest))
+}

@@ -1,0 +1,299 @@
+ghost use Rattle.x10_frame.specs.Heads.{IsGraphHead};
+
+use super::*;
+use std::alloc::Global;
+use std::process::Abort;
+use std::test::*;
+
+/// An activity that goes on at place 1.
+const SHIFT: [u8; 26] = [
+    1, 2, 0, 0, 0, 1, 0, 0, 0, 0, 0, 0, 0, 0, 0, 1, 0, 1, 0, 0, 0, 0, 0, 0, 0, 0,
+];
+
+/// A new activity with nothing passed.
+const SPAWN: [u8; 22] = [
+    1, 1, 0, 1, 0, 2, 0, 0, 0, 0, 0, 1, 0, 0, 0, 0, 0, 0, 0, 0, 0, 0,
+];
+
+/// The way back, with no result.
+const BACK: [u8; 18] = [1, 3, 0, 1, 0, 0, 0, 0, 0, 0, 0, 0, 0, 0, 0, 0, 0, 0];
+
+/// One sent to place 2, one received from place 0.
+const REPORT: [u8; 36] = [
+    1, 4, 0, 1, 0, 0, 0, 0, 0, 1, 0, 3, 0, 0, 0, 0, 0, 0, 0, 0, 0, 0, 0, 1, 0, 0, 0, 1, 0, 0, 0, 0,
+    0, 0, 0, 0,
+];
+
+/// None sent, one received from place 1.
+const OTHER_REPORT: [u8; 36] = [
+    1, 4, 0, 2, 0, 0, 0, 0, 0, 1, 0, 3, 0, 0, 0, 0, 0, 0, 0, 0, 0, 0, 0, 0, 0, 0, 0, 0, 0, 0, 0, 1,
+    0, 0, 0, 0,
+];
+
+/// A new activity with two objects that hold one another: a object, a rail that they share, and a global
+/// reference each.
+const CYCLE: [u8; 67] = [
+    1, 1, 0, 0, 0, 1, 0, 0, 0, 0, 0, 1, 0, 0, 0, 1, 0, 0, 0, 1, 0, 2, 5, 0, 0, 0, 0, 0, 2, 0, 0, 0,
+    0, 3, 5, 0, 1, 4, 0, 0, 7, 0, 0, 0, 0, 0, 0, 0, 1, 0, 0, 3, 5, 0, 0, 4, 0, 0, 7, 0, 0, 0, 0, 0,
+    0, 0, 1,
+];
+
+/// A new activity at the only place.
+const ALONE: [u8; 22] = [
+    1, 1, 0, 0, 0, 0, 0, 0, 0, 0, 0, 0, 0, 0, 0, 0, 0, 0, 0, 0, 0, 0,
+];
+
+/// A new activity with an empty text, a rail of two bytes, -2, place 1, null and a text of one
+/// character.
+const VALUES: [u8; 61] = [
+    1, 1, 0, 0, 0, 1, 0, 0, 0, 0, 0, 1, 0, 0, 0, 6, 0, 2, 0, 1, 0, 0, 3, 0, 0, 4, 0, 0, 1, 255,
+    255, 255, 255, 255, 255, 255, 254, 2, 0, 1, 6, 3, 0, 1, 0, 0, 0, 0, 0, 0, 0, 3, 226, 130, 172,
+    0, 0, 0, 2, 128, 0,
+];
+
+/// What stands before the counts of a graph in the frames that are refused.
+const HEAD: [u8; 14] = [1, 1, 0, 0, 0, 1, 0, 0, 0, 0, 0, 1, 0, 0];
+
+fn fault(alloc: Global, bytes: &[u8], places: u16) -> Option<FrameFault> {
+    FrameView::read(alloc, bytes, places).err()
+}
+
+/// The fault of the head and these bytes, where there are two places.
+fn graph_fault(alloc: Global, graph: &[u8]) -> Result<Option<FrameFault>, Fail> {
+    let mut bytes = Vec::new(alloc);
+    bytes.extend_from_slice(&HEAD)?;
+    bytes.extend_from_slice(graph)?;
+    Ok(fault(alloc, &bytes, 2))
+}
+
+fn node_again(
+    alloc: Global,
+    rt: &impl Abort,
+    writer: FrameWriter,
+    node: &NodeView,
+) -> Result<FrameWriter, Fail> {
+    let mut fields = Vec::new(alloc);
+    for j in 0..node.fields() {
+        fields.push(node.field(j))?;
+    }
+    assert!(rt; fields.len() <= 16);
+    Ok(writer.node(node.class(), &fields)?)
+}
+
+fn graph_again(
+    alloc: Global,
+    rt: &impl Abort,
+    view: &FrameView,
+    head: &Head,
+) -> Result<Vec<u8>, Fail>
+    requires { IsGraphHead head.now }
+{
+    let sizes = Sizes {
+        roots: view.roots() as u16,
+        texts: view.texts() as u16,
+        rails: view.rails() as u16,
+        nodes: view.nodes() as u16,
+    };
+    let mut roots = Vec::new(alloc);
+    for i in 0..view.roots() {
+        roots.push(view.root(i))?;
+    }
+    let mut writer = FrameWriter::new(alloc, head, &sizes)?.roots(&roots)?;
+    for i in 0..view.texts() {
+        writer = writer.text(view.text(i))?;
+    }
+    for i in 0..view.rails() {
+        writer = writer.rail(view.rail(i))?;
+    }
+    for i in 0..view.nodes() {
+        writer = node_again(alloc, rt, writer, &view.node(i))?;
+    }
+    Ok(writer.finish())
+}
+
+fn report_again(
+    alloc: Global,
+    rt: &impl Abort,
+    view: &FrameView,
+    from: u16,
+    to: u16,
+    number: u32,
+) -> Result<Vec<u8>, Fail> {
+    let mut sent = Vec::new(alloc);
+    let mut received = Vec::new(alloc);
+    for place in 0..view.counts() {
+        sent.push(view.sent(place))?;
+        received.push(view.received(place))?;
+    }
+    let report = Report {
+        place: from,
+        number,
+        sent,
+        received,
+    };
+    assert!(rt; report.sent.len() < 65_536);
+    Ok(write_report(alloc, to, &report)?)
+}
+
+/// The frame that a view shows, written again.
+fn again(alloc: Global, rt: &impl Abort, view: &FrameView) -> Result<Vec<u8>, Fail> {
+    let head = view.head();
+    match head {
+        Head::Spawn { .. } => graph_again(alloc, rt, view, &head),
+        Head::Shift { .. } => graph_again(alloc, rt, view, &head),
+        Head::Back { .. } => graph_again(alloc, rt, view, &head),
+        Head::Report { from, to, number } => report_again(alloc, rt, view, from, to, number),
+    }
+}
+
+fn is_written_again(alloc: Global, rt: &impl Abort, bytes: &[u8], places: u16) -> Result<(), Fail> {
+    let view = FrameView::read(alloc, bytes, places)?;
+    assert!(rt; again(alloc, rt, &view)?.as_slice() == bytes);
+    Ok(())
+}
+
+#[test]
+fn each_frame_both_ways(rt: HostRuntime) -> Result<(), Fail> {
+    let alloc = rt.alloc();
+    is_written_again(alloc, &rt, &SHIFT, 3)?;
+    is_written_again(alloc, &rt, &SPAWN, 3)?;
+    is_written_again(alloc, &rt, &BACK, 3)?;
+    is_written_again(alloc, &rt, &REPORT, 3)?;
+    is_written_again(alloc, &rt, &OTHER_REPORT, 3)?;
+    is_written_again(alloc, &rt, &CYCLE, 2)?;
+    is_written_again(alloc, &rt, &ALONE, 1)?;
+    is_written_again(alloc, &rt, &VALUES, 2)
+}
+
+#[test]
+fn parts_of_a_cycle(rt: HostRuntime) -> Result<(), Fail> {
+    let view = FrameView::read(rt.alloc(), &CYCLE, 2)?;
+    let head = Head::Spawn {
+        from: 0,
+        to: 1,
+        home: 0,
+        number: 1,
+        function: 0,
+    };
+    assert_eq!(rt; view.head(), head);
+    assert_eq!(rt; view.counts(), 0);
+    assert_eq!(rt;
+        (view.roots(), view.texts(), view.rails(), view.nodes()),
+        (1, 0, 1, 2)
+    );
+    assert!(rt; view.roots() == 1 && view.rails() == 1 && view.nodes() == 2);
+    assert!(rt; view.rail(0) == &[0, 0][..]);
+    assert_eq!(rt; view.root(0), Item::Object(0));
+    let node = view.node(0);
+    assert!(rt; node.class() == 0 && node.fields() == 3);
+    assert_eq!(rt;
+        (node.field(0), node.field(1)),
+        (Item::Object(1), Item::Rail(0))
+    );
+    let here = Item::Ref {
+        home: 0,
+        id: 0,
+        class: 1,
+    };
+    assert_eq!(rt; node.field(2), here);
+    Ok(())
+}
+
+#[test]
+fn parts_of_a_report(rt: HostRuntime) -> Result<(), Fail> {
+    let view = FrameView::read(rt.alloc(), &REPORT, 3)?;
+    let head = Head::Report {
+        from: 1,
+        to: 0,
+        number: 1,
+    };
+    assert_eq!(rt; view.head(), head);
+    assert!(rt; view.counts() == 3);
+    assert_eq!(rt; (view.sent(0), view.sent(1), view.sent(2)), (0, 0, 1));
+    assert_eq!(rt;
+        (view.received(0), view.received(1), view.received(2)),
+        (1, 0, 0)
+    );
+    Ok(())
+}
+
+#[test]
+fn each_beginning_is_short(rt: HostRuntime) {
+    for length in 0..67usize {
+        assert_eq!(rt;
+            fault(rt.alloc(), &CYCLE[..length], 2),
+            Some(FrameFault::Short),
+            "of {length} bytes"
+        );
+    }
+}
+
+#[test]
+fn each_other_byte(rt: HostRuntime) -> Result<(), Fail> {
+    for place in 0..67usize {
+        let mut bytes = CYCLE;
+        for value in 0..=255u8 {
+            bytes[place] = value;
+            match FrameView::read(rt.alloc(), &bytes, 2) {
+                Ok(view) => assert!(rt; again(rt.alloc(), &rt, &view)?.as_slice() == &bytes[..]),
+                Err(fault) => assert!(rt; fault != FrameFault::Memory && value != CYCLE[place]),
+            }
+        }
+    }
+    Ok(())
+}
+
+#[test]
+fn refusals_of_heads(rt: HostRuntime) {
+    let alloc = rt.alloc();
+    assert_eq!(rt; fault(alloc, &[], 2), Some(FrameFault::Short));
+    assert_eq!(rt; fault(alloc, &[2], 2), Some(FrameFault::Version));
+    assert_eq!(rt; fault(alloc, &[1, 0], 2), Some(FrameFault::FrameType));
+    assert_eq!(rt; fault(alloc, &[1, 5], 2), Some(FrameFault::FrameType));
+    assert_eq!(rt; fault(alloc, &[1, 1, 0, 2], 2), Some(FrameFault::Place));
+    assert_eq!(rt; fault(alloc, &REPORT, 2), Some(FrameFault::Place));
+    assert_eq!(rt; fault(alloc, &REPORT, 4), Some(FrameFault::Place));
+}
+
+#[test]
+fn refused_for_their_order(rt: HostRuntime) -> Result<(), Fail> {
+    let graphs: [&[u8]; 7] = [
+        &[0, 17, 0, 0, 0, 0, 0, 0],
+        &[0, 1, 0, 0, 0, 0, 0, 1, 5, 0, 1],
+        &[0, 1, 0, 0, 0, 0, 0, 2, 5, 0, 1],
+        &[0, 0, 0, 0, 0, 0, 0, 1, 0, 0],
+        &[0, 1, 0, 0, 0, 0, 0, 1, 5, 0, 0, 0, 0, 17],
+        &[0, 1, 0, 1, 0, 0, 0, 0, 3, 0, 0, 0, 1, 0, 0],
+        &[0, 0, 0, 1, 0, 0, 0, 0, 0, 0, 0, 0],
+    ];
+    for graph in graphs {
+        assert_eq!(rt; graph_fault(rt.alloc(), graph)?, Some(FrameFault::Order));
+    }
+    Ok(())
+}
+
+#[test]
+fn refused_for_other_faults(rt: HostRuntime) -> Result<(), Fail> {
+    let graphs: [(&[u8], FrameFault); 7] = [
+        (&[0, 0, 0, 0, 0, 0, 0, 1, 0], FrameFault::Short),
+        (&[0, 0, 0, 0, 0, 0, 255, 255], FrameFault::Short),
+        (&[0, 1, 0, 0, 0, 0, 0, 0, 8], FrameFault::Tag),
+        (&[0, 1, 0, 0, 0, 0, 0, 0, 2, 0, 2], FrameFault::Place),
+        (&[0, 1, 0, 0, 0, 0, 0, 0, 7, 0, 2], FrameFault::Place),
+        (&[0, 0, 0, 0, 0, 0, 0, 0, 0], FrameFault::Trailing),
+        (
+            &[0, 1, 0, 1, 0, 0, 0, 0, 3, 0, 0, 0, 0, 0, 1, 255],
+            FrameFault::Text,
+        ),
+    ];
+    for (graph, fault) in graphs {
+        assert_eq!(rt; graph_fault(rt.alloc(), graph)?, Some(fault));
+    }
+    Ok(())
+}
+
+#[test]
+fn a_fault_is_shown_by_its_name(rt: HostRuntime) -> Result<(), Fail> {
+    assert!(rt; format!(in rt.alloc(); "{}", FrameFault::FrameType)?.as_str() == "FrameType");
+    Ok(())
+}

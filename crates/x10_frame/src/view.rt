@@ -1,0 +1,186 @@
+ghost use Rattle.std.specs.Prelude.{◌≡◌, ◌^◌, ◌<◌, ◌≤◌, IfOk, Ok, Some, length, slice_get};
+ghost use Rattle.x10_model.specs.Modules.{FitsText};
+ghost use Rattle.x10_model.specs.Frames.{Frame, FitsFrame, FitsRail, spelling};
+ghost use Rattle.x10_model.specs.ReadingFrames.{frame_at};
+ghost use Rattle.x10_frame.specs.Faults.{Gives};
+ghost use Rattle.x10_frame.specs.Heads.{head_of, graph_of, sent_of, received_of};
+ghost use Rattle.x10_frame.specs.Items.{item_of};
+ghost use Rattle.x10_frame.specs.Places.{IsPart};
+
+use crate::body::{Body, read_body};
+use crate::fault::FrameFault;
+use crate::head::{Head, read_head};
+use crate::item::{Item, nth_item};
+use crate::node_view::NodeView;
+use crate::places::{blob_in, bytes_from, count_in, node_in};
+use std::alloc::Global;
+use std::marker::Model;
+
+/// A frame, read in place: the bytes themselves, and where its parts begin. Clauses see the frame.
+#[derive(Drop)]
+pub struct FrameView<'a> {
+    bytes: &'a [u8],
+    places: u16,
+    head: Head,
+    body: Body,
+}
+
+impl<'a> Model for FrameView<'a> {
+    ghost use Rattle.x10_model.specs.Frames.{Frame};
+
+    ghost Value = { Frame };
+
+    ghost use Rattle.x10_frame.specs.Views.{IsView, frame_in};
+
+    ghost view = { λ a. frame_in a.places a.bytes.now };
+
+    ghost invariant = { λ a. IsView a.bytes.now a.places a.head a.body.start a.body.roots a.body.texts.items a.body.rails.items a.body.nodes.items };
+}
+
+fn whole<'a>(alloc: Global, bytes: &'a [u8], places: u16) -> Result<FrameView<'a>, FrameFault>
+    ensures exact { Gives (λ v. v) result (frame_at places bytes.now) }
+{
+    let (head, rest) = read_head(bytes, places)?;
+    let (body, rest) = read_body(alloc, bytes, rest, places, &head)?;
+    if !rest.is_empty() {
+        return Err(FrameFault::Trailing);
+    }
+    Ok(FrameView {
+        bytes,
+        places,
+        head,
+        body,
+    })
+}
+
+impl<'a> FrameView<'a> {
+    /// The view of a frame where there are so many places. A fault is the first one from front to
+    /// back. One pass over the bytes; the memory taken is 8 bytes for each text, rail and node that is
+    /// there.
+    pub fn read(alloc: Global, bytes: &'a [u8], places: u16) -> Result<FrameView<'a>, FrameFault>
+        ensures found { IfOk result (λ f. FitsFrame places f × (bytes.now ≡ spelling f)) }
+        ensures only { (f : Frame) → FitsFrame places f → bytes.now ≡ spelling f → Gives (λ v. v) result (Ok f) }
+        ensures exact { Gives (λ v. v) result (frame_at places bytes.now) }
+    {
+        whole(alloc, bytes, places)
+    }
+
+    /// What the frame is, and the numbers that stand before its graph or its counts. Constant time, as
+    /// all that follow but for a walk over at most 16 values, and without memory.
+    pub fn head(&self) -> Head
+        ensures value { result ≡ head_of self.now }
+    {
+        self.head
+    }
+
+    /// How many places a report counts; 0 in another frame.
+    pub fn counts(&self) -> usize
+        ensures sent { result ≡ length (sent_of self.now) }
+        ensures received { result ≡ length (received_of self.now) }
+    {
+        match self.head {
+            Head::Report { .. } => usize::from(self.places),
+            Head::Spawn { .. } => 0,
+            Head::Shift { .. } => 0,
+            Head::Back { .. } => 0,
+        }
+    }
+
+    /// How many activities a report says were sent to a place.
+    pub fn sent(&self, place: usize) -> u32
+        requires { place < length (sent_of self.now) }
+        ensures value { slice_get (sent_of self.now) place ≡ Some result }
+    {
+        count_in(self.bytes, self.body.start, place)
+    }
+
+    /// How many activities a report says were received from a place.
+    pub fn received(&self, place: usize) -> u32
+        requires { place < length (received_of self.now) }
+        ensures value { slice_get (received_of self.now) place ≡ Some result }
+    {
+        count_in(
+            self.bytes,
+            self.body.start,
+            usize::from(self.places) + place,
+        )
+    }
+
+    /// How many values are passed, at most 16; none by a report.
+    pub fn roots(&self) -> usize
+        ensures value { result ≡ length (graph_of self.now).roots }
+        ensures few { result ≤ 16 }
+    {
+        usize::from(self.body.roots)
+    }
+
+    /// How many texts there are.
+    pub fn texts(&self) -> usize
+        ensures value { result ≡ length (graph_of self.now).texts }
+        ensures few { result < 2 ^ 16 }
+    {
+        self.body.texts.len()
+    }
+
+    /// How many rails there are.
+    pub fn rails(&self) -> usize
+        ensures value { result ≡ length (graph_of self.now).rails }
+        ensures few { result < 2 ^ 16 }
+    {
+        self.body.rails.len()
+    }
+
+    /// How many objects there are.
+    pub fn nodes(&self) -> usize
+        ensures value { result ≡ length (graph_of self.now).nodes }
+        ensures few { result < 2 ^ 16 }
+    {
+        self.body.nodes.len()
+    }
+
+    /// A value that is passed.
+    pub fn root(&self, i: usize) -> Item
+        requires { i < length (graph_of self.now).roots }
+        ensures value { slice_get (graph_of self.now).roots i ≡ Some (item_of result) }
+    {
+        nth_item(
+            bytes_from(self.bytes, self.body.start),
+            self.places,
+            self.body.roots,
+            i,
+        )
+    }
+
+    /// A text, in the frame's bytes.
+    pub fn text(&self, i: usize) -> &'a str
+        requires { i < length (graph_of self.now).texts }
+        ensures value { slice_get (graph_of self.now).texts i ≡ Some result.now }
+        ensures fits { FitsText result.now }
+        ensures part { IsPart (spelling self.now) result.now }
+    {
+        let bytes = self.bytes;
+        let text = blob_in(bytes, self.body.texts[i]);
+        unsafe { str::from_utf8_unchecked(text) }
+    }
+
+    /// A rail, in the frame's bytes.
+    pub fn rail(&self, i: usize) -> &'a [u8]
+        requires { i < length (graph_of self.now).rails }
+        ensures value { slice_get (graph_of self.now).rails i ≡ Some result.now }
+        ensures fits { FitsRail result.now }
+        ensures part { IsPart (spelling self.now) result.now }
+    {
+        let bytes = self.bytes;
+        blob_in(bytes, self.body.rails[i])
+    }
+
+    /// An object, in the frame's bytes.
+    pub fn node(&self, i: usize) -> NodeView<'a>
+        requires { i < length (graph_of self.now).nodes }
+        ensures value { slice_get (graph_of self.now).nodes i ≡ Some result }
+        ensures few { length result.fields ≤ 16 }
+    {
+        let bytes = self.bytes;
+        node_in(bytes, self.body.nodes[i], self.places)
+    }
+}

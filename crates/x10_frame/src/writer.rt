@@ -1,0 +1,127 @@
+//! Writing frames.
+
+ghost use Rattle.std.specs.Prelude.{◌≡◌, ◌++◌, ◌^◌, ◌<◌, ◌≤◌, IfOk, OnOk, length};
+ghost use Rattle.x10_model.specs.Frames as frames;
+ghost use Rattle.x10_model.specs.Frames.{Graph, blob_bytes, node_bytes, spelling};
+ghost use Rattle.x10_frame.specs.declared.head.Head.{Head as head};
+ghost use Rattle.x10_frame.specs.Heads.{IsGraphHead, with_graph};
+ghost use Rattle.x10_frame.specs.Writing.{head_bytes, sizes_bytes, values_bytes, node_of, draft};
+
+use crate::head::Head;
+use crate::item::Item;
+use crate::report::Report;
+use crate::spell::{put_blob, put_counts, put_head, put_items, put_node};
+use std::alloc::{AllocError, Global};
+use std::marker::Model;
+
+/// How many roots, texts, rails and objects a frame has.
+#[derive(Clone, Copy, Debug, PartialEq, Eq)]
+pub struct Sizes {
+    pub roots: u16,
+    pub texts: u16,
+    pub rails: u16,
+    pub nodes: u16,
+}
+
+/// A frame that is being written: the head and the sizes, and then the roots, the texts, the rails and
+/// the objects, each in the order of their numbers. Clauses see the bytes so far.
+#[derive(Debug, Drop)]
+pub struct FrameWriter {
+    bytes: Vec<u8>,
+}
+
+impl Model for FrameWriter {
+    ghost use Rattle.std.specs.Prelude.{ℕ, List};
+
+    ghost Value = { List ℕ };
+
+    ghost view = { λ w. w.bytes.items };
+}
+
+fn put_sizes(out: &mut Vec<u8>, sizes: &Sizes) -> Result<(), AllocError>
+    ensures { OnOk result (out.new.items ≡ out.old.items ++ sizes_bytes sizes.now.roots sizes.now.texts sizes.now.rails sizes.now.nodes) }
+{
+    out.extend_from_slice(&sizes.roots.to_be_bytes())?;
+    out.extend_from_slice(&sizes.texts.to_be_bytes())?;
+    out.extend_from_slice(&sizes.rails.to_be_bytes())?;
+    out.extend_from_slice(&sizes.nodes.to_be_bytes())
+}
+
+impl FrameWriter {
+    /// A frame with such a head, no report's, and with so much of everything.
+    pub fn new(alloc: Global, head: &Head, sizes: &Sizes) -> Result<FrameWriter, AllocError>
+        requires graph { IsGraphHead head.now }
+        ensures value { IfOk result (λ w. w ≡ head_bytes head.now ++ sizes_bytes sizes.now.roots sizes.now.texts sizes.now.rails sizes.now.nodes) }
+    {
+        let mut bytes = Vec::new(alloc);
+        put_head(&mut bytes, head)?;
+        put_sizes(&mut bytes, sizes)?;
+        Ok(FrameWriter { bytes })
+    }
+
+    /// The values that are passed.
+    pub fn roots(self, roots: &[Item]) -> Result<FrameWriter, AllocError>
+        ensures value { IfOk result (λ w. w ≡ self ++ values_bytes roots.now) }
+    {
+        let mut bytes = self.bytes;
+        put_items(&mut bytes, roots)?;
+        Ok(FrameWriter { bytes })
+    }
+
+    /// The next text, copied once.
+    pub fn text(self, text: &str) -> Result<FrameWriter, AllocError>
+        requires { length text.now < 2 ^ 16 }
+        ensures value { IfOk result (λ w. w ≡ self ++ blob_bytes text.now) }
+    {
+        let mut bytes = self.bytes;
+        put_blob(&mut bytes, text.as_bytes())?;
+        Ok(FrameWriter { bytes })
+    }
+
+    /// The next rail, copied once.
+    pub fn rail(self, rail: &[u8]) -> Result<FrameWriter, AllocError>
+        requires { length rail.now < 2 ^ 16 }
+        ensures value { IfOk result (λ w. w ≡ self ++ blob_bytes rail.now) }
+    {
+        let mut bytes = self.bytes;
+        put_blob(&mut bytes, rail)?;
+        Ok(FrameWriter { bytes })
+    }
+
+    /// The next object: the number of its class, and its fields.
+    pub fn node(self, class: u16, fields: &[Item]) -> Result<FrameWriter, AllocError>
+        requires { length fields.now ≤ 16 }
+        ensures value { IfOk result (λ w. w ≡ self ++ node_bytes (node_of class fields.now)) }
+    {
+        let mut bytes = self.bytes;
+        put_node(&mut bytes, class, fields)?;
+        Ok(FrameWriter { bytes })
+    }
+
+    /// The bytes. Where all of a graph was written they spell its frame.
+    pub fn finish(self) -> Vec<u8>
+        ensures value { result.items ≡ self }
+        ensures spelled { (h : head) (g : Graph) → IsGraphHead h → self ≡ draft h g → result.items ≡ spelling (with_graph h g) }
+    {
+        self.bytes
+    }
+}
+
+/// The frame that takes a report to the home of its finish.
+pub fn write_report(alloc: Global, to: u16, report: &Report) -> Result<Vec<u8>, AllocError>
+    requires { length report.now.sent.items < 2 ^ 16 }
+    ensures value { IfOk result (λ bytes. bytes.items ≡ spelling (frames.Report report.now.place to report.now.number report.now.sent.items report.now.received.items)) }
+{
+    let mut bytes = Vec::new(alloc);
+    let head = Head::Report {
+        from: report.place,
+        to,
+        number: report.number,
+    };
+    put_head(&mut bytes, &head)?;
+    let places = report.sent.len() as u16;
+    bytes.extend_from_slice(&places.to_be_bytes())?;
+    put_counts(&mut bytes, &report.sent)?;
+    put_counts(&mut bytes, &report.received)?;
+    Ok(bytes)
+}
