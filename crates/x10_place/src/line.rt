@@ -1,9 +1,8 @@
-use std::alloc::{AllocError, Global};
-
 /// A line of output.
 #[derive(Debug, Drop)]
 pub enum Line {
+    /// A number, to be shown in decimal.
     Int(i64),
-    /// In UTF-8.
+    /// A text, in UTF-8.
     Text(String),
 }
