@@ -1,0 +1,26 @@
+#!/usr/bin/env bash
+# Runs a benchmark, on a copy of the crates outside the repository: run.sh read_image, or run.sh frames. RT names the
+# command, where it isn't `rt`. The crates that the benchmark stands on are proved first, which takes a minute or two.
+set -euo pipefail
+
+name="${1:-}"
+case "$name" in
+read_image) library=x10_image ;;
+frames) library=x10_frame ;;
+*)
+    echo "usage: bench/run.sh read_image|frames" >&2
+    exit 2
+    ;;
+esac
+
+rt="${RT:-rt}"
+top="$(cd "$(dirname "${BASH_SOURCE[0]}")/.." && pwd)"
+scratch="$(mktemp -d)"
+trap 'rm -rf "$scratch"' EXIT
+
+cp -R "$top/crates.txt" "$top/HANDLES" "$top/crates" "$scratch/"
+mkdir -p "$scratch/crates/$name/src"
+cp "$top/bench/$name.rt.txt" "$scratch/crates/$name/src/main.rt"
+printf '\n%s: %s\n' "$name" "$library" >>"$scratch/crates.txt"
+cd "$scratch/crates/$name"
+"$rt" run
