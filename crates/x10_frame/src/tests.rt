@@ -30,8 +30,8 @@ const OTHER_REPORT: [u8; 36] = [
     0, 0, 0, 0,
 ];
 
-/// A new activity with two objects that hold one another: a object, a rail that they share, and a global
-/// reference each.
+/// A new activity with two objects, each of which holds the other, a rail that they share, and a global
+/// reference.
 const CYCLE: [u8; 67] = [
     1, 1, 0, 0, 0, 1, 0, 0, 0, 0, 0, 1, 0, 0, 0, 1, 0, 0, 0, 1, 0, 2, 5, 0, 0, 0, 0, 0, 2, 0, 0, 0,
     0, 3, 5, 0, 1, 4, 0, 0, 7, 0, 0, 0, 0, 0, 0, 0, 1, 0, 0, 3, 5, 0, 0, 4, 0, 0, 7, 0, 0, 0, 0, 0,
@@ -163,6 +163,16 @@ fn each_frame_both_ways(rt: HostRuntime) -> Result<(), Fail> {
     is_written_again(alloc, &rt, &CYCLE, 2)?;
     is_written_again(alloc, &rt, &ALONE, 1)?;
     is_written_again(alloc, &rt, &VALUES, 2)
+}
+
+#[test]
+fn most_roots_and_fields(rt: HostRuntime) -> Result<(), Fail> {
+    let mut bytes = Vec::from_slice(rt.alloc(), &HEAD)?;
+    bytes.extend_from_slice(&[0, 16, 0, 0, 0, 0, 0, 1, 5, 0, 0])?;
+    bytes.extend_from_slice(&[6; 15])?;
+    bytes.extend_from_slice(&[0, 0, 16])?;
+    bytes.extend_from_slice(&[6; 16])?;
+    is_written_again(rt.alloc(), &rt, &bytes, 2)
 }
 
 #[test]
