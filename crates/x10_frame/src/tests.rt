@@ -175,6 +175,85 @@ fn most_roots_and_fields(rt: HostRuntime) -> Result<(), Fail> {
     is_written_again(rt.alloc(), &rt, &bytes, 2)
 }
 
+/// The fields of an object among 8,738, each of which names the next: 15 of 65,535 texts and 65,535 rails, one after
+/// another.
+fn fields_of(alloc: Global, object: u16) -> Result<Vec<Item>, Fail> {
+    let mut fields = Vec::new(alloc);
+    for j in 0..15u32 {
+        let used = u32::from(object) * 15 + j;
+        let number = (used % 65_535) as u16;
+        fields.push(if used < 65_535 {
+            Item::Text(number)
+        } else {
+            Item::Rail(number)
+        })?;
+    }
+    if object < 8_737 {
+        fields.push(Item::Object(object + 1))?;
+    }
+    Ok(fields)
+}
+
+/// The frame of as many texts and as many rails as there can be, the last of each as long as it can be.
+fn greatest(alloc: Global, rt: &impl Abort) -> Result<Vec<u8>, Fail> {
+    let mut long = String::new(alloc);
+    for _ in 0..65_535u32 {
+        long.push('a')?;
+    }
+    assert!(rt; long.len() == 65_535);
+    let head = Head::Back {
+        from: 0,
+        to: 1,
+        waiting: 0,
+    };
+    let sizes = Sizes {
+        roots: 1,
+        texts: 65_535,
+        rails: 65_535,
+        nodes: 8_738,
+    };
+    let mut writer = FrameWriter::new(alloc, &head, &sizes)?.roots(&[Item::Object(0)])?;
+    for _ in 1..65_535u32 {
+        writer = writer.text("")?;
+    }
+    writer = writer.text(&long)?;
+    for _ in 1..65_535u32 {
+        writer = writer.rail(&[])?;
+    }
+    writer = writer.rail(long.as_bytes())?;
+    for object in 0..8_738u16 {
+        let fields = fields_of(alloc, object)?;
+        assert!(rt; fields.len() <= 16);
+        writer = writer.node(object, &fields)?;
+    }
+    Ok(writer.finish())
+}
+
+#[test]
+fn most_texts_and_rails(rt: HostRuntime) -> Result<(), Fail> {
+    let bytes = greatest(rt.alloc(), &rt)?;
+    let view = FrameView::read(rt.alloc(), &bytes, 2)?;
+    assert_eq!(rt;
+        (view.texts(), view.rails(), view.nodes()),
+        (65_535, 65_535, 8_738)
+    );
+    assert!(rt; view.texts() == 65_535 && view.rails() == 65_535);
+    assert_eq!(rt; view.text(65_534).len(), 65_535);
+    assert_eq!(rt; view.rail(65_534).len(), 65_535);
+    is_written_again(rt.alloc(), &rt, &bytes, 2)
+}
+
+// Takes no memory at all, as `rt try --test --fail-alloc 1` shows: the tables grow with what is there.
+#[test]
+fn counts_without_bytes(rt: HostRuntime) {
+    for at in [17usize, 19, 21] {
+        let mut bytes = SPAWN;
+        bytes[at - 1] = 255;
+        bytes[at] = 255;
+        assert_eq!(rt; fault(rt.alloc(), &bytes, 3), Some(FrameFault::Short));
+    }
+}
+
 #[test]
 fn parts_of_a_cycle(rt: HostRuntime) -> Result<(), Fail> {
     let view = FrameView::read(rt.alloc(), &CYCLE, 2)?;

@@ -58,6 +58,7 @@ impl<'a> Place<'a> {
         ensures stopped { self.old.stopped ≡ true → result ≡ Err stop.Stopped }
         ensures memory { self.old.stopped ≢ true → IfErr result (λ why. why ≡ stop.Memory) }
         ensures stop { IfErr result (λ _. self.new ≡ record self.old { stopped = true }) }
+        ensures goes { IfOk result (λ _. self.new.stopped ≢ true) }
         ensures kept { Keeps self.old self.new }
     {
         if self.stopped {

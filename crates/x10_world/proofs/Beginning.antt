@@ -16,7 +16,7 @@ use Rattle.x10_place.specs.Opening.{opening_place}
 use Rattle.x10_world.specs.Tied.{length_of, left_of, IsAt, Tied}
 use Rattle.x10_world.specs.StandsForWorld.{WorldState, setting_of, StandsForWorld}
 use Rattle.x10_world.specs.Opening.{IsOpened, AreOpened}
-use Rattle.x10_world.proofs.Ties.{entry_cases}
+use Rattle.x10_world.proofs.Ties.{at_key as main_key, entry_cases, first_is}
 use Rattle.x10_world.proofs.Happening.{straight_is}
 
 some_is : {X : Type 0} (x y : X) → Some x ≡ Some y → x ≡ y
@@ -94,16 +94,26 @@ entry_bound c bound certified is =
 
 -- ---- the opening
 
-tied_opening : (c : Certified) (setting : Setting) (key : ℕ) → IsCertified c → setting.program ≡ c.program → Tied c.program c.bounds (opening setting key)
-tied_opening c setting key certified same = record {
+-- main is there
+main_there : (setting : Setting) (key : ℕ) → 0 < setting.places → IsAt (opening setting key) 0 key (new_stay setting.program.entry [] root None)
+main_there setting key some = (first_place setting key, ap (λ b. if b then Some (first_place setting key) else None) (lt-ltb 0 setting.places some), main_key (λ (n : ℕ). None) key (Some (new_stay setting.program.entry [] root None)))
+
+tied_opening : (c : Certified) (setting : Setting) (key : ℕ) → IsCertified c → 0 < setting.places → setting.program ≡ c.program → Tied c.program c.bounds (opening setting key)
+tied_opening c setting key certified some same = record {
   begun = λ p k s at. omega arith;
   left = left;
   apart = λ p k q other s t at to e. let a = at_opening setting key p k s at in let b = at_opening setting key q other t to in (a.place ∙ sym b.place, a.key_is ∙ sym b.key_is);
   plain = λ p k s at. let a = at_opening setting key p k s at in (ap (λ (x : Stay). x.callers) a.stay, ap (λ (x : Stay). x.back) a.stay);
+  first = λ p k s at. (at_opening setting key p k s at).place;
+  listed = λ p k s at. let a = at_opening setting key p k s at in ap (λ q. (q, key) ∷ []) (sym a.place) ∙ ap (λ q. (p, q) ∷ []) (sym a.key_is);
+  there = there;
   within = λ a bound lt is. omega arith;
   silent = λ n. refl;
 }
   where
+    there : (a : ℕ) (stay : ℕ × ℕ) (rest : List (ℕ × ℕ)) → a < 1 → (0, key) ∷ [] ≡ stay ∷ rest → (s : Stay) × IsAt (opening setting key) stay.0 stay.1 s × (0 ≡ a)
+    there a stay rest lt e = subst (λ (x : ℕ × ℕ). (s : Stay) × IsAt (opening setting key) x.0 x.1 s × (0 ≡ a)) (first_is (0, key) stay [] rest e) (new_stay setting.program.entry [] root None, main_there setting key some, omega (arith, lt))
+
     left : (p k : ℕ) (s : Stay) (bound : ℕ) → IsAt (opening setting key) p k s → slice_get c.bounds setting.program.entry ≡ Some bound → 0 + left_of c.program s ≤ bound
     left p k s bound at is =
         let a = at_opening setting key p k s at in
@@ -150,7 +160,7 @@ opening_stands c count x certified some program bounds opened = (key, record { s
         not_below true e = absurd (let h = none_past x.places id is in let l = ltb-true id (length x.places) e in omega (arith, h, l))
 
     tied : Tied x.program x.bounds (opening (setting_of x) key)
-    tied = subst (λ m. Tied m x.bounds (opening (setting_of x) key)) (sym program) (subst (λ bs. Tied c.program bs (opening (setting_of x) key)) (sym bounds) (tied_opening c (setting_of x) key certified program))
+    tied = subst (λ m. Tied m x.bounds (opening (setting_of x) key)) (sym program) (subst (λ bs. Tied c.program bs (opening (setting_of x) key)) (sym bounds) (tied_opening c (setting_of x) key certified (omega (arith, some, opened.count_is)) program))
 
 -- ---- one place more
 

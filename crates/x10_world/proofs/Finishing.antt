@@ -4,11 +4,10 @@ use Rattle.std.specs.Prelude.{IsTrue, slice_get, take}
 use Rattle.x10_model.specs.declared.event.Event.{Event}
 use Rattle.x10_model.specs.Places as machine
 use Rattle.x10_model.specs.Places.{Setting}
-use Rattle.x10_model.specs.Worlds.{World, Ideal, Run, WithinBounds, opening}
+use Rattle.x10_model.specs.Worlds.{World, Ideal, Run, WithinBounds, IsOver, opening}
 use Rattle.x10_verify.specs.Certified.{Certified}
 use Rattle.x10_place.specs.StandsFor.{PlaceState, line_as}
 use Rattle.x10_world.specs.declared.ending.Ending.{Ending}
-use Rattle.x10_world.specs.Queries.{HasEnded}
 use Rattle.x10_world.specs.Opening.{IsOpenedWorld}
 use Rattle.x10_world.specs.Endings.{IsEndingOf, AreLinesOf, lines_at}
 use Rattle.x10_world.specs.StandsForWorld.{WorldState, KeepsSetting, setting_of, StandsForWorld, Runs}
@@ -41,7 +40,7 @@ lines_are y w stand id m there = go (slice_get y.places id) refl
 
 pub ending_is : (c : Certified) (count : ℕ) (events : List Event) (x y : WorldState) (outputs : List (List machine.Line)) (e : Ending) → IsOpenedWorld c count x
     → ((w : World) → StandsForWorld x w → Runs x w e.done events y) → (e.stop ≡ None → e.done ≡ length events) → KeepsSetting x y → outputs ≡ lines_at y.places
-    → ((w : World) → StandsForWorld y w → IsTrue e.closed ↔ HasEnded w) → IsEndingOf c count events outputs e
+    → ((w : World) → StandsForWorld y w → IsTrue e.closed ↔ IsOver w) → IsEndingOf c count events outputs e
 ending_is c count events x y outputs e opened runs all kept lines closed = record {
   key = key;
   last = made.0;

@@ -1,9 +1,11 @@
 -- An event of a world is an event of each world of the machine that it stands for.
 use Rattle.std.proofs.Common.{◌≡◌, ◌≢◌, ◌⊎◌, ℕ, zero, suc, ◌==◌, Bool, true, false, List, [], ◌∷◌, length, Option, Some, None, Result, Ok, Err, refl, sym, ap, subst, ◌∙◌, inl, inr}
 use Rattle.std.specs.Prelude.{IfOk, IfErr, slice_get, slice_set}
+use Rattle.std.specs.Result.{is_err}
 use Rattle.std.proofs.lemmas.Bool.{eqb-true, eqb-false}
 use Rattle.slab.specs.Slab.{get}
 use Rattle.x10_kinds.specs.declared.stop.Stop.{Stop}
+use Rattle.x10_kinds.specs.declared.stop.Stop.TheVariants as refusal
 use Rattle.x10_model.specs.Modules.{Module, Function, FitsImage, is_brought}
 use Rattle.x10_model.specs.Ranges.{function_at, instr_in}
 use Rattle.x10_model.specs.declared.event.Event.{Event}
@@ -17,7 +19,7 @@ use Rattle.x10_place.specs.declared.activity.Activity.{Activity}
 use Rattle.x10_place.specs.StandsFor as place
 use Rattle.x10_place.specs.StandsFor.{PlaceState, StandsFor, Leads, Keeps}
 use Rattle.x10_world.specs.Tied.{IsStraight, Tied}
-use Rattle.x10_world.specs.StandsForWorld.{WorldState, BelongsTo, BelongTo, setting_of, KeepsSetting, StandsForWorld, IsStepped, StepsOne, Makes}
+use Rattle.x10_world.specs.StandsForWorld.{WorldState, BelongsTo, BelongTo, IsWorld, NoneStopped, setting_of, KeepsSetting, StandsForWorld, IsStepped, StepsOne, Makes}
 use Rattle.x10_world.proofs.Advance.{Advances, advances}
 use Rattle.x10_world.proofs.Ties.{at_key, off_key, world_after, tied_after}
 
@@ -201,6 +203,39 @@ belong_after program bounds old new here key result belong one = at_place (slice
     at_place (Some p) is =
         let t = one.there p is in
         subst (λ ps. BelongTo program bounds (length ps) ps) (sym t.1) (subst (λ n. BelongTo program bounds n (slice_set old here t.0)) (sym (set_length old here t.0)) (changed p t.0 is t.2.kept))
+
+-- after a step no place has stopped unless the step was refused
+none_stopped_after : (old new : List PlaceState) (here key : ℕ) → NoneStopped old → StepsOne old new here key (Ok tt) → NoneStopped new
+none_stopped_after old new here key none one = at_place (slice_get old here) refl
+  where
+    changed : (p q : PlaceState) → slice_get old here ≡ Some p → q.stopped ≢ true → NoneStopped (slice_set old here q)
+    changed p q is goes id r e = elim (same_or_not id here) [
+      | inl same ↦ subst (λ (t : PlaceState). t.stopped ≢ true) (some_is q r (sym (set_here old here q p is) ∙ ap (λ i. slice_get (slice_set old here q) i) (sym same) ∙ e)) goes
+      | inr ne ↦ none id r (sym (set_off old here id q ne) ∙ e)
+    ]
+
+    at_place : (o : Option PlaceState) → slice_get old here ≡ o → NoneStopped new
+    at_place None gone = subst (λ ps. NoneStopped ps) (sym (one.gone gone).1) none
+    at_place (Some p) is = let t = one.there p is in subst (λ ps. NoneStopped ps) (sym t.1) (changed p t.0 is t.2.goes)
+
+pub world_after_step : (program : Module) (bounds : List ℕ) (old new : List PlaceState) (here key : ℕ) (result : Result (Unit {0}) Stop) (before after : Bool) → IsWorld program bounds old before → before ≢ true → StepsOne old new here key result → after ≡ is_err result → IsWorld program bounds new after
+world_after_step program bounds old new here key (Ok u) before after world goes one is = record {
+  belong = belong_after program bounds old new here key (Ok u) world.belong one;
+  none_stopped = λ on. none_stopped_after old new here key (world.none_stopped goes) one;
+}
+world_after_step program bounds old new here key (Err stop) before after world goes one is = record {
+  belong = belong_after program bounds old new here key (Err stop) world.belong one;
+  none_stopped = λ on. absurd (on is);
+}
+
+-- a step of a world that has not stopped is refused for want of memory alone
+pub step_memory : (program : Module) (bounds : List ℕ) (old new : List PlaceState) (here key : ℕ) (result : Result (Unit {0}) Stop) (before : Bool) → IsWorld program bounds old before → before ≢ true → StepsOne old new here key result → IfErr result (λ why. why ≡ refusal.Memory)
+step_memory program bounds old new here key (Ok u) before world goes one = tt
+step_memory program bounds old new here key (Err why) before world goes one = at_place (slice_get old here) refl
+  where
+    at_place : (o : Option PlaceState) → slice_get old here ≡ o → why ≡ refusal.Memory
+    at_place None none = absurd (let e = (one.gone none).0 in cc)
+    at_place (Some p) is = let t = one.there p is in t.2.memory (world.none_stopped goes here p is)
 
 -- ---- an event, as a function answers it
 

@@ -34,11 +34,12 @@ pub one_there : {T : Type 0} (old : List PlaceState) (id key : ℕ) (p q : Place
     → (p.stopped ≢ true → get p.activities key ≡ None → X × (q ≡ p))
     → ((m : machine.Place) (a : Activity) → get p.activities key ≡ Some a → StandsFor p m → (effect : Effect) × Leads p m key effect q)
     → (p.stopped ≡ true → Ok s ≡ Err stop.Stopped)
+    → q.stopped ≢ true
     → StepsOne old (slice_set old id q) id key (Ok tt)
-one_there old id key p q s X is kept idle some stopped = record {
+one_there old id key p q s X is kept idle some stopped goes = record {
   gone = λ e. absurd (none_some (slice_get old id) p e is);
   there = λ r e. (q, refl, subst (λ x. IsStepped x q key (Ok tt)) (some_is p r (sym is ∙ e)) stepped);
 }
   where
     stepped : IsStepped p q key (Ok tt)
-    stepped = record { kept = kept; idle = λ e. (idle (λ f. absurd (let g = stopped f in cc)) e).1; some = some; stop = tt }
+    stepped = record { kept = kept; idle = λ e. (idle (λ f. absurd (let g = stopped f in cc)) e).1; some = some; goes = goes; memory = λ on. tt; stop = tt }

@@ -35,34 +35,38 @@ at_key map key value = elim (entry_cases map key value key) [ inl h ↦ h.1 | in
 pub off_key : {V : Type 0} (map : ℕ → V) (key : ℕ) (value : V) (other : ℕ) → (other ≡ key → ⊥) → with_entry map key value other ≡ map other
 off_key map key value other ne = elim (entry_cases map key value other) [ inl h ↦ absurd (ne h.0) | inr h ↦ h.1 ]
 
+pub first_is : {X : Type 0} (x y : X) (xs ys : List X) → x ∷ xs ≡ y ∷ ys → x ≡ y
+first_is x y xs ys e = cc
+
 -- ---- the book
 
--- one activity has made a step more, and all else that counts is as it was
-pub record IsCounted (old new : Book) (a : ℕ) : Type 0 where
+-- one activity has made a step more, its stays are what becomes of them, and all else that counts is as it was
+pub record IsCounted (old new : Book) (a : ℕ) (becomes : List (ℕ × ℕ) → List (ℕ × ℕ)) : Type 0 where
   pub begun : new.begun ≡ old.begun
   pub belongs : new.belongs ≡ old.belongs
   pub function : (new.activities a).function ≡ (old.activities a).function
   pub steps : (new.activities a).steps ≡ (old.activities a).steps + 1
+  pub stays : (new.activities a).stays ≡ becomes (old.activities a).stays
   pub others : (b : ℕ) → (b ≡ a → ⊥) → new.activities b ≡ old.activities b
 
-counted_is : (book : Book) (a : ℕ) → IsCounted book (counted book a) a
+counted_is : (book : Book) (a : ℕ) → IsCounted book (counted book a) a (λ stays. stays)
 counted_is book a =
     let one : Activity = record (book.activities a) { steps = (book.activities a).steps + 1 } in
     let e : (counted book a).activities a ≡ one = at_key book.activities a one in
-    record { begun = refl; belongs = refl; function = ap (λ (x : Activity). x.function) e; steps = ap (λ (x : Activity). x.steps) e; others = λ b ne. off_key book.activities a one b ne }
+    record { begun = refl; belongs = refl; function = ap (λ (x : Activity). x.function) e; steps = ap (λ (x : Activity). x.steps) e; stays = ap (λ (x : Activity). x.stays) e; others = λ b ne. off_key book.activities a one b ne }
 
-left_is : (book : Book) (a : ℕ) → IsCounted book (left (counted book a) a) a
+left_is : (book : Book) (a : ℕ) → IsCounted book (left (counted book a) a) a rest_of
 left_is book a =
     let c = counted_is book a in
     let after : Book = counted book a in
     let e = at_key after.activities a ((left after a).activities a) in
     left_from book after a c
   where
-    left_from : (book after : Book) (a : ℕ) → IsCounted book after a → IsCounted book (left after a) a
+    left_from : (book after : Book) (a : ℕ) → IsCounted book after a (λ stays. stays) → IsCounted book (left after a) a rest_of
     left_from book after a c =
         let gone : Activity = (record (after.activities a) { stays = rest_of (after.activities a).stays }) in
         let e : (left after a).activities a ≡ gone = at_key after.activities a gone in
-        record { begun = c.begun; belongs = c.belongs; function = ap (λ (x : Activity). x.function) e ∙ c.function; steps = ap (λ (x : Activity). x.steps) e ∙ c.steps; others = λ b ne. off_key after.activities a gone b ne ∙ c.others b ne }
+        record { begun = c.begun; belongs = c.belongs; function = ap (λ (x : Activity). x.function) e ∙ c.function; steps = ap (λ (x : Activity). x.steps) e ∙ c.steps; stays = ap (λ (x : Activity). x.stays) e ∙ ap rest_of c.stays; others = λ b ne. off_key after.activities a gone b ne ∙ c.others b ne }
 
 -- ---- stays before and after
 
@@ -91,7 +95,21 @@ found w v here key old new stay st p k s at =
       | inr off ↦ inr ((at.0, sym off.1 ∙ e, at.2), λ both. off.0 both.0)
     ]
 
+-- a stay that isn't the one that changed is still there
+kept : (w v : World) (here key : ℕ) (old new : places.Place) (stay : Option Stay) → IsStepped w v here key old new stay → (p k : ℕ) (s : Stay) → IsAt w p k s → ((p ≡ here) × (k ≡ key) → ⊥) → IsAt v p k s
+kept w v here key old new stay st p k s at ne = elim (entry_cases w.net.places here (Some new) p) [
+  | inl same ↦
+      let was : old.stays k ≡ Some s = subst (λ (m : places.Place). m.stays k ≡ Some s) (some_is at.0 old (sym at.1 ∙ ap w.net.places same.0 ∙ st.place_is)) at.2 in
+      (new, ap (λ (m : ℕ → Option places.Place). m p) st.places ∙ same.1, ap (λ (m : ℕ → Option Stay). m k) st.stays ∙ off_key old.stays key stay k (λ e. ne (same.0, e)) ∙ was)
+  | inr off ↦ (at.0, ap (λ (m : ℕ → Option places.Place). m p) st.places ∙ off.1 ∙ at.1, at.2)
+]
+
 -- ---- ties
+
+-- what becomes of the stays of an activity whose stay goes on or ends
+abbrev pub stays_after : Option Stay → List (ℕ × ℕ) → List (ℕ × ℕ)
+stays_after None stays = rest_of stays
+stays_after (Some s) stays = stays
 
 -- what the stay that changed owes: it goes forward, and stays plain
 abbrev pub IsForward : Module → Stay → Option Stay → Type 0
@@ -102,12 +120,15 @@ forward_is : (program : Module) (s t : Stay) (stay : Option Stay) → IsForward 
 forward_is program s t stay h e = subst (λ o. IsForward program s o) e h
 
 pub tied_step : (program : Module) (bounds : List ℕ) (w v : World) (here key : ℕ) (old new : places.Place) (s : Stay) (stay : Option Stay) → Tied program bounds w → IsStepped w v here key old new stay
-    → old.stays key ≡ Some s → 1 ≤ left_of program s → IsForward program s stay → IsCounted w.book v.book (w.book.belongs here key) → Tied program bounds v
+    → old.stays key ≡ Some s → 1 ≤ left_of program s → IsForward program s stay → IsCounted w.book v.book (w.book.belongs here key) (stays_after stay) → Tied program bounds v
 tied_step program bounds w v here key old new s stay tied st s-is some-left forward c = record {
   begun = begun;
   left = left';
   apart = apart;
   plain = plain;
+  first = first;
+  listed = listed;
+  there = there;
   within = within;
   silent = λ n. subst (λ (f : ℕ → _). f n ≡ Unused) (sym st.posts) (tied.silent n);
 }
@@ -166,6 +187,37 @@ tied_step program bounds w v here key old new s stay tied st s-is some-left forw
     plain p k t h = elim (found w v here key old new stay st p k t h) [
       | inl f ↦ (let g = forward_is program s t stay forward f.2 in (g.1, g.2))
       | inr f ↦ tied.plain p k t f.0
+    ]
+
+    first : (p k : ℕ) (t : Stay) → IsAt v p k t → p ≡ 0
+    first p k t h = elim (found w v here key old new stay st p k t h) [
+      | inl f ↦ f.0 ∙ tied.first here key s at
+      | inr f ↦ tied.first p k t f.0
+    ]
+
+    -- the stays of the activity that made the step
+    own : (v.book.activities a).stays ≡ stays_after stay ((here, key) ∷ [])
+    own = c.stays ∙ ap (λ stays. stays_after stay stays) (tied.listed here key s at)
+
+    listed : (p k : ℕ) (t : Stay) → IsAt v p k t → (v.book.activities (v.book.belongs p k)).stays ≡ (p, k) ∷ []
+    listed p k t h = elim (found w v here key old new stay st p k t h) [
+      | inl f ↦ ap (λ b. (v.book.activities b).stays) (owner p k f.0 f.1) ∙ own ∙ ap (λ o. stays_after o ((here, key) ∷ [])) f.2 ∙ ap (λ q. (q, key) ∷ []) (sym f.0) ∙ ap (λ q. (p, q) ∷ []) (sym f.1)
+      | inr f ↦ ap (λ b. (v.book.activities b).stays) (same p k) ∙ ap (λ (x : Activity). x.stays) (c.others (w.book.belongs p k) (other p k t f.0 f.1)) ∙ tied.listed p k t f.0
+    ]
+
+    there_own : (o : Option Stay) → stay ≡ o → (b : ℕ) (x : ℕ × ℕ) (rest : List (ℕ × ℕ)) → b ≡ a → stays_after o ((here, key) ∷ []) ≡ x ∷ rest → (t : Stay) × IsAt v x.0 x.1 t × (v.book.belongs x.0 x.1 ≡ b)
+    there_own None is b x rest e listed = absurd cc
+    there_own (Some t) is b x rest e listed =
+        let x-is : (here, key) ≡ x = first_is (here, key) x [] rest listed in
+        subst (λ (y : ℕ × ℕ). (u : Stay) × IsAt v y.0 y.1 u × (v.book.belongs y.0 y.1 ≡ b)) x-is
+        (t, (new, ap (λ (m : ℕ → Option places.Place). m here) st.places ∙ at_key w.net.places here (Some new), ap (λ (m : ℕ → Option Stay). m key) st.stays ∙ at_key old.stays key stay ∙ is), same here key ∙ sym e)
+
+    there : (b : ℕ) (x : ℕ × ℕ) (rest : List (ℕ × ℕ)) → b < v.book.begun → (v.book.activities b).stays ≡ x ∷ rest → (t : Stay) × IsAt v x.0 x.1 t × (v.book.belongs x.0 x.1 ≡ b)
+    there b x rest lt e = elim (entry_cases {V = ℕ} (λ n. 0) a 1 b) [
+      | inl is ↦ there_own stay refl b x rest is.0 (sym own ∙ ap (λ n. (v.book.activities n).stays) (sym is.0) ∙ e)
+      | inr off ↦
+          let was = tied.there b x rest (subst (λ n. b < n) c.begun lt) (ap (λ (y : Activity). y.stays) (sym (c.others b off.0)) ∙ e) in
+          (was.0, kept w v here key old new stay st x.0 x.1 was.0 was.1 (λ both. off.0 (sym was.2 ∙ ap₂ w.book.belongs both.0 both.1)), same x.0 x.1 ∙ was.2)
     ]
 
     within_own : (bound : ℕ) → slice_get bounds (v.book.activities a).function ≡ Some bound → (v.book.activities a).steps ≤ bound

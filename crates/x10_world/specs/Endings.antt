@@ -7,7 +7,7 @@ use Rattle.x10_model.specs.Images.{spelling}
 use Rattle.x10_model.specs.ReadingImages.{module_at}
 use Rattle.x10_model.specs.Places as machine
 use Rattle.x10_model.specs.Places.{Setting}
-use Rattle.x10_model.specs.Worlds.{World, Ideal, Run, WithinBounds, opening}
+use Rattle.x10_model.specs.Worlds.{World, Ideal, Run, WithinBounds, IsOver, opening}
 use Rattle.x10_image.specs.Faults.{named, IsFaultOrMemory}
 use Rattle.x10_verify.specs.Certified.{Certified, IsCertified}
 use Rattle.x10_verify.specs.Faults.{Refutes}
@@ -17,7 +17,6 @@ use Rattle.x10_world.specs.declared.fault.OpenFault.TheVariants as opened
 use Rattle.x10_world.specs.declared.ending.Ending.{Ending}
 use Rattle.x10_world.specs.declared.ending.RunFault.{RunFault}
 use Rattle.x10_world.specs.declared.ending.RunFault.TheVariants as fault
-use Rattle.x10_world.specs.Queries.{HasEnded}
 use Rattle.x10_world.specs.Opening.{IsForbidden}
 
 -- lists of lines as the machine has them
@@ -46,7 +45,7 @@ pub record IsEndingOf (c : Certified) (count : ℕ) (events : List Event) (outpu
   pub all : e.stop ≡ None → e.done ≡ length events
   pub count_is : length outputs ≡ count
   pub lines : AreLinesOf outputs last
-  pub closed : IsTrue e.closed ↔ HasEnded last
+  pub closed : IsTrue e.closed ↔ IsOver last
 
 -- why there is no run: the bytes are no image, the verifier refuses their module, or it does not run at so many places;
 -- where memory ran out, nothing is said

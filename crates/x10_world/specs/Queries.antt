@@ -1,8 +1,8 @@
 -- What a world answers of its places.
-use Rattle.std.specs.Prelude.{◌≡◌, ℕ, ◌≤◌, List, Some, None, slice_get}
+use Rattle.std.specs.Prelude.{◌≡◌, ◌≢◌, ◌↔◌, ℕ, ◌<◌, ◌≤◌, List, Some, None, slice_get}
 use Rattle.slab.specs.Slab.{get}
-use Rattle.x10_model.specs.Places as machine
-use Rattle.x10_model.specs.Worlds.{World}
+use Rattle.x10_model.specs.Places.{Message, receiver}
+use Rattle.x10_model.specs.Worlds.{World, Unused, Flying}
 use Rattle.x10_place.specs.StandsFor.{PlaceState}
 
 -- no place has the number
@@ -17,6 +17,14 @@ HasPlace places id P = (p : PlaceState) × (slice_get places id ≡ Some p) × P
 abbrev pub HasNoKey : List PlaceState → ℕ → ℕ → Type 0
 HasNoKey places id from = (p : PlaceState) → slice_get places id ≡ Some p → (key : ℕ) → from ≤ key → get p.activities key ≡ None
 
--- no activity is at place 0, at which alone activities are so far
-abbrev pub HasEnded : World → Type 0
-HasEnded w = (m : machine.Place) → w.net.places 0 ≡ Some m → (key : ℕ) → m.stays key ≡ None
+-- the message with a number is not in flight
+abbrev pub IsNotFlying : World → ℕ → Type 0
+IsNotFlying w number = (message : Message) → w.net.posts number ≢ Flying message
+
+-- the message with a number is in flight, for a place
+abbrev pub IsFlyingTo : World → ℕ → ℕ → Type 0
+IsFlyingTo w number place = (message : Message) × (w.net.posts number ≡ Flying message) × (receiver message ≡ place)
+
+-- numbers below it are those that messages have had
+abbrev pub IsPosted : World → ℕ → Type 0
+IsPosted w count = (number : ℕ) → (number < count) ↔ (w.net.posts number ≢ Unused)

@@ -1,7 +1,8 @@
 -- When a world of the program stands for a world of the machine.
-use Rattle.std.specs.Prelude.{◌≡◌, ℕ, Bool, List, length, Some, None, Result, Ok, IfOk, IfErr, true, slice_get, slice_set, take}
+use Rattle.std.specs.Prelude.{◌≡◌, ◌≢◌, ℕ, Bool, List, length, Some, None, Result, Ok, IfOk, IfErr, true, slice_get, slice_set, take}
 use Rattle.slab.specs.Slab.{get}
 use Rattle.x10_kinds.specs.declared.stop.Stop.{Stop}
+use Rattle.x10_kinds.specs.declared.stop.Stop.TheVariants as stop
 use Rattle.x10_model.specs.Modules.{Module}
 use Rattle.x10_model.specs.declared.event.Event.{Event}
 use Rattle.x10_model.specs.Places as machine
@@ -28,6 +29,15 @@ pub record BelongsTo (program : Module) (bounds : List ℕ) (count id : ℕ) (p 
 abbrev pub BelongTo : Module → List ℕ → ℕ → List PlaceState → Type 0
 BelongTo program bounds count places = (id : ℕ) (p : PlaceState) → slice_get places id ≡ Some p → BelongsTo program bounds count id p
 
+-- no place has stopped
+abbrev pub NoneStopped : List PlaceState → Type 0
+NoneStopped places = (id : ℕ) (p : PlaceState) → slice_get places id ≡ Some p → p.stopped ≢ true
+
+-- places of one module, of which none has stopped unless the world has
+pub record IsWorld (program : Module) (bounds : List ℕ) (places : List PlaceState) (stopped : Bool) : Type 0 where
+  pub belong : BelongTo program bounds (length places) places
+  pub none_stopped : stopped ≢ true → NoneStopped places
+
 -- what does not change in a run
 abbrev pub setting_of : WorldState → Setting
 setting_of x = record { program = x.program; places = length x.places }
@@ -51,6 +61,8 @@ pub record IsStepped (p q : PlaceState) (key : ℕ) (result : Result (Unit {0}) 
   pub kept : Keeps p q
   pub idle : IfOk result (λ u. get p.activities key ≡ None → q ≡ p)
   pub some : IfOk result (λ u. (m : machine.Place) (a : Activity) → get p.activities key ≡ Some a → StandsFor p m → (effect : Effect) × Leads p m key effect q)
+  pub goes : IfOk result (λ u. q.stopped ≢ true)
+  pub memory : p.stopped ≢ true → IfErr result (λ s. s ≡ stop.Memory)
   pub stop : IfErr result (λ s. q ≡ record p { stopped = true })
 
 -- what a step of one place of a list does

@@ -1,6 +1,6 @@
--- Activities and their stays: each stay belongs to one activity, whose steps so far, with those that the stay can still
--- take, are within its bound.
-use Rattle.std.specs.Prelude.{◌≡◌, ℕ, ◌+◌, ◌-◌, ◌<◌, ◌≤◌, true, List, [], length, Option, Some, None, slice_get}
+-- Activities and their stays: each stay is the only one of one activity, whose steps so far, with those that the stay can
+-- still take, are within its bound. All are at the first place.
+use Rattle.std.specs.Prelude.{◌≡◌, ℕ, ◌+◌, ◌-◌, ◌<◌, ◌≤◌, true, List, [], ◌∷◌, length, Option, Some, None, slice_get}
 use Rattle.x10_code.specs.declared.instr.Instr.{Instr}
 use Rattle.x10_model.specs.Modules.{Module, Function, is_brought}
 use Rattle.x10_model.specs.Ranges.{function_at, instr_at}
@@ -29,5 +29,8 @@ pub record Tied (program : Module) (bounds : List ℕ) (w : World) : Type 0 wher
   pub left : (p key : ℕ) (s : Stay) (bound : ℕ) → IsAt w p key s → slice_get bounds (w.book.activities (w.book.belongs p key)).function ≡ Some bound → (w.book.activities (w.book.belongs p key)).steps + left_of program s ≤ bound
   pub apart : (p key q other : ℕ) (s t : Stay) → IsAt w p key s → IsAt w q other t → w.book.belongs p key ≡ w.book.belongs q other → (p ≡ q) × (key ≡ other)
   pub plain : (p key : ℕ) (s : Stay) → IsAt w p key s → (s.callers ≡ []) × (s.back ≡ None)
+  pub first : (p key : ℕ) (s : Stay) → IsAt w p key s → p ≡ 0
+  pub listed : (p key : ℕ) (s : Stay) → IsAt w p key s → (w.book.activities (w.book.belongs p key)).stays ≡ (p, key) ∷ []
+  pub there : (a : ℕ) (stay : ℕ × ℕ) (rest : List (ℕ × ℕ)) → a < w.book.begun → (w.book.activities a).stays ≡ stay ∷ rest → (s : Stay) × IsAt w stay.0 stay.1 s × (w.book.belongs stay.0 stay.1 ≡ a)
   pub within : WithinBounds bounds w
   pub silent : (number : ℕ) → w.net.posts number ≡ Unused

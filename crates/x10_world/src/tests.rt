@@ -88,5 +88,45 @@ fn a_world(rt: HostRuntime) -> Result<(), Fail> {
     assert!(rt; matches!(world.output(1), Some([])));
     assert!(rt; world.closed());
     assert_eq!(rt; world.next_key(0, 0), None);
+    assert_eq!(rt; world.posted(), 0);
+    assert!(rt; world.frame(0).is_none());
+    Ok(())
+}
+
+// Under `rt try --test --fail-alloc N` each allocation fails in turn: it is told by name, and after a Stop the world
+// stays as it is.
+#[test]
+fn memory_refused(rt: HostRuntime) -> Result<(), Fail> {
+    let image = match ImageView::read(rt.alloc(), &SEVEN) {
+        Ok(image) => image,
+        Err(fault) => return fails_for(fault == ImageFault::Memory),
+    };
+    let verified = match verify(rt.alloc(), image) {
+        Ok(verified) => verified,
+        Err(fault) => return fails_for(fault.cause == VerifyCause::Memory),
+    };
+    let mut world = match World::open(rt.alloc(), &verified, 1) {
+        Ok(world) => world,
+        Err(fault) => return fails_for(fault == OpenFault::Memory),
+    };
+    let events = [Event::Step(0, 0); 3];
+    if let Err(stop) = world.run(&events) {
+        assert_eq!(rt; stop, Stop::Memory);
+        assert_eq!(rt; world.run(&[]), Err(Stop::Stopped));
+        assert_eq!(rt; world.run(&events), Err(Stop::Stopped));
+        assert!(rt; matches!(world.output(0), Some([])));
+        assert_eq!(rt; world.next_key(0, 0), Some(0));
+        assert!(rt; !world.closed());
+        return Ok(());
+    }
+    assert!(rt; world.closed());
+    assert!(rt; matches!(world.output(0), Some([Line::Int(7)])));
+    Ok(())
+}
+
+fn fails_for(memory: bool) -> Result<(), Fail> {
+    memory
+        .then_some(())
+        .ok_or("a fault that is not want of memory")?;
     Ok(())
 }

@@ -1,10 +1,10 @@
-ghost use Rattle.std.specs.Prelude.{◌≡◌, ◌<◌, ◌↔◌, ℕ, true, IsTrue, IfOk, IfErr, IsErrOf, IfSome, MatchOption, Ok, Err, None, length};
+ghost use Rattle.std.specs.Prelude.{◌≡◌, ◌≢◌, ◌<◌, ◌↔◌, ℕ, true, IsTrue, IfOk, IfErr, IsErrOf, IfSome, MatchOption, Ok, Err, None, length};
 ghost use Rattle.x10_kinds.specs.declared.stop.Stop.TheVariants as stop;
 ghost use Rattle.x10_model.specs.Worlds as machine;
 ghost use Rattle.x10_world.specs.declared.fault.OpenFault.TheVariants as fault;
 ghost use Rattle.x10_place.specs.Opening.{IsNextKey};
 ghost use Rattle.x10_world.specs.Endings.{lines_in, lines_at};
-ghost use Rattle.x10_world.specs.Queries.{IsNoPlace, HasPlace, HasNoKey, HasEnded};
+ghost use Rattle.x10_world.specs.Queries.{IsNoPlace, HasPlace, HasNoKey, IsNotFlying, IsFlyingTo, IsPosted};
 ghost use Rattle.x10_world.specs.Opening.{IsOpenedWorld, IsForbidden};
 ghost use Rattle.x10_world.specs.StandsForWorld.{StandsForWorld, KeepsSetting, StepsOne, Makes, Runs};
 
@@ -28,13 +28,13 @@ pub struct World<'a> {
 
 impl<'a> Model for World<'a> {
     ghost use Rattle.std.specs.Prelude.{length};
-    ghost use Rattle.x10_world.specs.StandsForWorld.{WorldState, BelongTo};
+    ghost use Rattle.x10_world.specs.StandsForWorld.{WorldState, IsWorld};
 
     ghost Value = { WorldState };
 
     ghost view = { λ a. record { program = a.verified.now.program; bounds = a.verified.now.bounds; places = a.places.items; stopped = a.stopped } };
 
-    ghost invariant = { λ a. BelongTo a.verified.now.program a.verified.now.bounds (length a.places.items) a.places.items };
+    ghost invariant = { λ a. IsWorld a.verified.now.program a.verified.now.bounds a.places.items a.stopped };
 }
 
 /// One step of the activity with a key at a place, if they are there.
@@ -50,9 +50,12 @@ fn step_one(places: &mut Vec<Place>, id: usize, key: usize) -> Result<(), Stop>
 impl<'a> World<'a> {
     /// One event.
     fn happen(&mut self, event: Event) -> Result<(), Stop>
+        requires { self.old.stopped ≢ true }
         ensures ok { IfOk result (λ _. (w : machine.World) → StandsForWorld self.old w → Makes self.old w event self.new) }
         ensures err { IfErr result (λ _. (w : machine.World) → StandsForWorld self.old w → StandsForWorld self.new w) }
+        ensures goes { IfOk result (λ _. self.new.stopped ≢ true) }
         ensures stop { IfErr result (λ _. self.new.stopped ≡ true) }
+        ensures memory { IfErr result (λ why. why ≡ stop.Memory) }
         ensures kept { KeepsSetting self.old self.new }
     {
         let verified = self.verified;
@@ -71,9 +74,11 @@ impl<'a> World<'a> {
 impl<'a> World<'a> {
     /// The events in their turn, to the first that is refused: how many were made, and why the next was not.
     pub(crate) fn make(&mut self, events: &[Event]) -> (usize, Option<Stop>)
+        requires { self.old.stopped ≢ true }
         ensures runs { (w : machine.World) → StandsForWorld self.old w → Runs self.old w result.0 events.now self.new }
         ensures all { result.1 ≡ None → result.0 ≡ length events.now }
         ensures stop { IfSome result.1 (λ _. self.new.stopped ≡ true) }
+        ensures memory { IfSome result.1 (λ why. why ≡ stop.Memory) }
         ensures kept { KeepsSetting self.old self.new }
     {
         for done in 0..events.len() {
@@ -107,12 +112,13 @@ impl<'a> World<'a> {
         })
     }
 
-    /// The events in their turn. After a Stop every later call answers Stopped, and the output is that of the events
-    /// before the one that was refused.
+    /// The events in their turn. A Stop comes only where a growth was refused. After it every later call answers Stopped,
+    /// and the output is that of the events before the one that was refused.
     pub fn run(&mut self, events: &[Event]) -> Result<(), Stop>
         ensures all { IfOk result (λ _. (w : machine.World) → StandsForWorld self.old w → Runs self.old w (length events.now) events.now self.new) }
         ensures some { (w : machine.World) → StandsForWorld self.old w → (n : ℕ) × Runs self.old w n events.now self.new }
         ensures stopped { self.old.stopped ≡ true → (result ≡ Err stop.Stopped) × (self.new ≡ self.old) }
+        ensures memory { self.old.stopped ≢ true → IfErr result (λ why. why ≡ stop.Memory) }
         ensures stop { IfErr result (λ _. self.new.stopped ≡ true) }
     {
         if self.stopped {
@@ -149,9 +155,23 @@ impl<'a> World<'a> {
         place.next_key(from)
     }
 
-    /// Whether the run has ended: no activity is at place 0.
+    /// How many messages have been sent so far: they are numbered from 0.
+    pub fn posted(&self) -> u64
+        ensures { (w : machine.World) → StandsForWorld self.now w → IsPosted w result }
+    {
+        0
+    }
+
+    /// The place that a message in flight is for, and its bytes; none where no message with the number is in flight.
+    pub fn frame(&self, _number: u64) -> Option<(u16, &[u8])>
+        ensures { (w : machine.World) → StandsForWorld self.now w → MatchOption result (IsNotFlying w _number) (λ frame. IsFlyingTo w _number frame.0) }
+    {
+        None
+    }
+
+    /// Whether the run has ended: no activity lives.
     pub fn closed(&self) -> bool
-        ensures { (w : machine.World) → StandsForWorld self.now w → IsTrue result ↔ HasEnded w }
+        ensures { (w : machine.World) → StandsForWorld self.now w → IsTrue result ↔ machine.IsOver w }
     {
         match self.places.first() {
             Some(place) => place.closed(),

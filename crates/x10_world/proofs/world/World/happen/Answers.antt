@@ -1,13 +1,13 @@
-use Rattle.std.proofs.Common.{refl, subst, sym}
-use Rattle.x10_world.specs.StandsForWorld.{Makes}
-use Rattle.x10_world.proofs.Happening.{step_ok, step_err, deliver_makes}
+use Rattle.std.proofs.Common.{refl, ap, subst, sym, ◌∙◌}
+use Rattle.x10_world.specs.StandsForWorld.{WorldState, Makes}
+use Rattle.x10_world.proofs.Happening.{step_ok, step_err, deliver_makes, world_after_step}
 use Rattle.x10_world.proofs.world.World.happen.Goals as goal
 
 pub returns-in-Step-clause-ok : goal.returns-in-Step-clause-ok
 returns-in-Step-clause-ok c = step_ok
     (record { program = c.self.inside.verified.now.program; bounds = c.self.inside.verified.now.bounds; places = c.self.inside.places.items; stopped = c.self.inside.stopped })
     (record { program = c.self.inside.verified.now.program; bounds = c.self.inside.verified.now.bounds; places = c.step_one-done.new.places.items; stopped = c.is_err-self-inside.result })
-    c.args.self.now c.args.event c.in-Step.id c.from.result c.in-Step.key c.step_one-done.result c.self.view_is c.in-Step.is c.from.ensures (record { program = refl; bounds = refl }) c.certificate.ensures.fits c.self.invariant
+    c.args.self.now c.args.event c.in-Step.id c.from.result c.in-Step.key c.step_one-done.result c.self.view_is c.in-Step.is c.from.ensures (record { program = refl; bounds = refl }) c.certificate.ensures.fits c.self.invariant.belong
     c.step_one-done.ensures
 
 pub returns-in-Step-clause-err : goal.returns-in-Step-clause-err
@@ -19,3 +19,7 @@ returns-in-Step-clause-err c = step_err
 
 pub returns-in-Deliver-clause-ok : goal.returns-in-Deliver-clause-ok
 returns-in-Deliver-clause-ok c = λ w stand. subst (λ e. Makes c.args.self.now w e c.args.self.now) (sym c.in-Deliver.is) (deliver_makes c.args.self.now w c.in-Deliver.field-0 stand)
+
+pub invariant_of-self : goal.invariant_of-self
+invariant_of-self c = world_after_step c.self.inside.verified.now.program c.self.inside.verified.now.bounds c.self.inside.places.items c.step_one-done.new.places.items c.from.result c.in-Step.key c.step_one-done.result c.self.inside.stopped c.is_err-self-inside.result
+    c.self.invariant (λ on. c.requires (ap (λ (x : WorldState). x.stopped) (sym c.self.view_is) ∙ on)) c.step_one-done.ensures c.is_err-self-inside.ensures.value

@@ -5,14 +5,18 @@ use Rattle.x10_world.specs.StandsForWorld.{StandsForWorld, Runs}
 use Rattle.x10_world.proofs.Running.{runs_none, runs_more, runs_still, keeps_more, keeps_self, if_ok}
 use Rattle.x10_world.proofs.world.World.make.Goals as goal
 
+pub happen-requires : goal.happen-requires
+happen-requires c = c.loop-done.invariant.goes
+
 pub loop-done-init : goal.loop-done-init
-loop-done-init c = record { kept = keeps_self c.args.self.now; runs = runs_none c.args.self.now c.args.events.now }
+loop-done-init c = record { goes = c.requires; kept = keeps_self c.args.self.now; runs = runs_none c.args.self.now c.args.events.now }
 
 pub returns-in-Err-clause-runs : goal.returns-in-Err-clause-runs
 returns-in-Err-clause-runs c = runs_still c.args.self.now c.loop-done.self c.happen.new.self c.args.events.now c.loop-done.done c.loop-done.invariant.runs c.in-Err.ensures.err
 
 pub loop-done-preserved : goal.loop-done-preserved
 loop-done-preserved c = record {
+  goes = if_ok c.happen.result _ c.happen.ensures.goes c.in_default.not-Err;
   kept = keeps_more c.args.self.now c.loop-done.self c.happen.new.self c.loop-done.invariant.kept c.happen.ensures.kept;
   runs = runs_more c.args.self.now c.loop-done.self c.happen.new.self c.args.events.now c.loop-done.done _ c.loop-done.invariant.kept c.happen.ensures.kept
       (take_more c.args.events.now c.loop-done.done _ c.loop-done-test.true) c.loop-done.invariant.runs (if_ok c.happen.result _ c.happen.ensures.ok c.in_default.not-Err);

@@ -1,0 +1,119 @@
+ghost use Rattle.std.specs.Prelude.{◌≡◌};
+ghost use Rattle.x10_cli.specs.Answers.{status_of};
+
+use std::alloc::{AllocError, AllocFailed};
+use std::io;
+use thiserror::Error;
+use x10_bounds::{BoundCause, BoundFault};
+use x10_image::ImageFault;
+use x10_kinds::Stop;
+use x10_verify::{VerifyCause, VerifyFault};
+use x10_world::OpenFault;
+
+/// Why a command was not done. Its text is what the program prints of it.
+#[derive(Clone, Copy, Debug, PartialEq, Eq, Error)]
+pub enum Fault {
+    /// The bytes are no image.
+    #[error("image: {0}")]
+    Image(ImageFault),
+    /// The verifier refuses the module.
+    #[error("verify: {0}")]
+    Verify(VerifyFault),
+    /// A rule of structure is broken, so that there are no bounds.
+    #[error("verify: Structure {0}")]
+    Bounds(BoundFault),
+    /// The module does not run at so many places.
+    #[error("places")]
+    Places,
+    /// Memory was refused, outside a run.
+    #[error("memory")]
+    Memory,
+    /// Memory was refused to a place that ran.
+    #[error("stop: Memory")]
+    StopMemory,
+    /// A count of a place that ran would have passed its greatest value.
+    #[error("stop: Limit {0}")]
+    StopLimit(u8),
+    /// As many events were made as there may be, and the run had not ended.
+    #[error("limit")]
+    Limit,
+    /// A file can't be read, or what was printed can't be written.
+    #[error("file")]
+    File,
+}
+
+impl Fault {
+    /// The exit status of the program: 1 where the input is refused, 2 where the work was stopped, 4 for files.
+    pub fn status(self) -> u8
+        ensures { result ≡ status_of self }
+    {
+        match self {
+            Fault::Image(_) | Fault::Verify(_) | Fault::Bounds(_) | Fault::Places => 1,
+            Fault::Memory | Fault::StopMemory | Fault::StopLimit(_) | Fault::Limit => 2,
+            Fault::File => 4,
+        }
+    }
+}
+
+impl From<ImageFault> for Fault {
+    fn from(fault: ImageFault) -> Fault {
+        match fault {
+            ImageFault::Memory => Fault::Memory,
+            fault => Fault::Image(fault),
+        }
+    }
+}
+
+impl From<VerifyFault> for Fault {
+    fn from(fault: VerifyFault) -> Fault {
+        match fault.cause {
+            VerifyCause::Memory => Fault::Memory,
+            _ => Fault::Verify(fault),
+        }
+    }
+}
+
+impl From<BoundFault> for Fault {
+    fn from(fault: BoundFault) -> Fault {
+        match fault.cause {
+            BoundCause::Memory => Fault::Memory,
+            _ => Fault::Bounds(fault),
+        }
+    }
+}
+
+impl From<OpenFault> for Fault {
+    fn from(fault: OpenFault) -> Fault {
+        match fault {
+            OpenFault::Places => Fault::Places,
+            OpenFault::Memory => Fault::Memory,
+        }
+    }
+}
+
+impl From<Stop> for Fault {
+    fn from(stop: Stop) -> Fault {
+        match stop {
+            Stop::Limit(which) => Fault::StopLimit(which),
+            Stop::Memory | Stop::Stopped => Fault::StopMemory,
+        }
+    }
+}
+
+impl From<AllocError> for Fault {
+    fn from(_error: AllocError) -> Fault {
+        Fault::Memory
+    }
+}
+
+impl<T: Drop> From<AllocFailed<T>> for Fault {
+    fn from(_error: AllocFailed<T>) -> Fault {
+        Fault::Memory
+    }
+}
+
+impl From<io::Error> for Fault {
+    fn from(_error: io::Error) -> Fault {
+        Fault::File
+    }
+}

@@ -1,0 +1,14 @@
+//! The program's commands: what the words of a command line ask for, and the work that is asked for, over bytes and
+//! writers.
+#![tactic(auto)]
+
+mod commands;
+mod fault;
+mod rounds;
+mod task;
+mod usage;
+
+pub use commands::{execute, tell};
+pub use fault::Fault;
+pub use task::{Task, Verb};
+pub use usage::{Usage, parse};

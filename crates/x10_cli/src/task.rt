@@ -1,0 +1,22 @@
+/// What is to be done with an image.
+#[derive(Clone, Copy, Debug, PartialEq, Eq)]
+pub enum Verb {
+    /// Verify it, and tell how many functions it has and the bound of its entry function.
+    Verify,
+    /// Tell the bound of each function.
+    Bounds,
+    /// Verify it, run it, and print what it prints.
+    Run,
+}
+
+/// What the words of a command line ask for.
+#[derive(Clone, Copy, Debug, PartialEq, Eq)]
+pub struct Task<'a> {
+    pub verb: Verb,
+    /// The name of the file to read.
+    pub input: &'a str,
+    /// How many places; left out, the module's least number.
+    pub places: Option<u16>,
+    /// How many events at most, those in which nothing moves too.
+    pub limit: u64,
+}

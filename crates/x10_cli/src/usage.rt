@@ -1,0 +1,126 @@
+//! The words of a command line.
+use crate::task::{Task, Verb};
+use clap::error::ErrorKind;
+use clap::{Arg, ArgMatches, Command, Error, value_parser};
+use std::alloc::{AllocError, Global};
+
+/// What is printed instead of doing something: help that was asked for, or what is wrong with the words.
+#[derive(Debug, Drop)]
+pub struct Usage {
+    // None for want of memory.
+    text: Option<String>,
+    /// The exit status: 0 for help, to be printed on standard output; 3 for a fault of usage and 2 for want of memory, on
+    /// standard error.
+    pub status: u8,
+}
+
+impl Usage {
+    /// What to print, with its line ends.
+    pub fn text(&self) -> &str {
+        match &self.text {
+            Some(text) => text.as_str(),
+            None => "x10p: memory\n",
+        }
+    }
+}
+
+const ABOUT: &str =
+    "Runs programs that are spread over places, after it has proved that they can't go wrong";
+
+const STATUS: &str = "Exit status:
+  0  done
+  1  refused: the image, its module, or the number of places
+  2  stopped: want of memory, a limit of the machine, or --limit
+  3  these words aren't understood
+  4  a file can't be read, or the output can't be written";
+
+/// Reads the words of a command line, of which the program's name is the first.
+pub fn parse<'a>(alloc: Global, words: &'a [String]) -> Result<Task<'a>, Usage> {
+    match matched(alloc, words) {
+        Ok(task) => Ok(task),
+        Err(error) => Err(refusal(alloc, &error)),
+    }
+}
+
+fn refusal(alloc: Global, error: &Error) -> Usage {
+    let text = format!(in alloc; "{error}");
+    let status = if error.use_stderr() { 3 } else { 0 };
+    match text {
+        Ok(text) if error.kind() != ErrorKind::OutOfMemory => Usage {
+            text: Some(text),
+            status,
+        },
+        _ => Usage {
+            text: None,
+            status: 2,
+        },
+    }
+}
+
+fn matched<'a>(alloc: Global, words: &'a [String]) -> Result<Task<'a>, Error> {
+    let mut command = program(alloc)?;
+    let matches = command.try_get_matches_from_mut(words)?;
+    match task_of(&matches) {
+        Some(task) => Ok(task),
+        None => Err(command.error(ErrorKind::MissingSubcommand, "no command was given")?),
+    }
+}
+
+fn task_of<'a>(matches: &ArgMatches<'a>) -> Option<Task<'a>> {
+    let (name, matches) = matches.subcommand()?;
+    let verb = match name {
+        "verify" => Verb::Verify,
+        "bounds" => Verb::Bounds,
+        _ => Verb::Run,
+    };
+    Some(Task {
+        verb,
+        input: matches.get_str("IMAGE")?,
+        places: matches.get_one("places"),
+        limit: matches.get_one("limit").unwrap_or(1_000_000),
+    })
+}
+
+fn program<'a>(alloc: Global) -> Result<Command<'a>, AllocError> {
+    let verify = Command::new(alloc, "verify")
+        .about(
+            "Verify a module: print how many functions it has and the bound of its entry function",
+        )
+        .arg(image_name(alloc))?;
+    let bounds = Command::new(alloc, "bounds")
+        .about("Print the most steps that each function takes, a line `FUNCTION STEPS` each")
+        .arg(image_name(alloc))?;
+    Command::new(alloc, "x10p")
+        .about(ABOUT)
+        .after_help(STATUS)
+        .subcommand_required(true)
+        .subcommand(verify)?
+        .subcommand(bounds)?
+        .subcommand(run_words(alloc)?)
+}
+
+fn image_name<'a>(alloc: Global) -> Arg<'a> {
+    Arg::new(alloc, "IMAGE")
+        .help("The file of the module's image")
+        .required(true)
+}
+
+fn run_words<'a>(alloc: Global) -> Result<Command<'a>, AllocError> {
+    let places = Arg::new(alloc, "places")
+        .long("places")
+        .value_name("N")
+        .help("How many places, 1 to 64 [default: the module's least number]")
+        .value_parser(value_parser!(u16).range(1..=64));
+    let limit = Arg::new(alloc, "limit")
+        .long("limit")
+        .value_name("N")
+        .help("How many events at most, 1 to 1000000000")
+        .default_value("1000000")
+        .value_parser(value_parser!(u64).range(1..=1_000_000_000));
+    Command::new(alloc, "run")
+        .about("Verify a module, run it, and print each place's lines, `PLACE: LINE` each")
+        .after_help(STATUS)
+        .arg(image_name(alloc))?
+        .arg(places)?
+        .arg(limit)
+}

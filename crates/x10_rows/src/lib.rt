@@ -1,0 +1,11 @@
+//! Tests that go through all crates: command lines and images in, what is printed and the exit status out.
+#![tactic(auto)]
+
+#[cfg(test)]
+mod outcome;
+#[cfg(test)]
+mod seven;
+#[cfg(test)]
+mod usage;
+#[cfg(test)]
+mod writers;
