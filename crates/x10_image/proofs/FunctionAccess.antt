@@ -14,7 +14,7 @@ use Rattle.x10_model.proofs.ImageParts.{length-items}
 use Rattle.x10_model.proofs.KindLaws.{length-slot_bytes}
 use Rattle.x10_image.specs.declared.header.Header.{Header as KeptHeader}
 use Rattle.x10_image.specs.Places.{StandsAt}
-use Rattle.x10_image.specs.Parts.{Signature, signature_of, FitsSignature, slots_in, slot_at, code_at}
+use Rattle.x10_image.specs.Parts.{Signature, signature_of, FitsSignature, slots_in, slot_at, code_at, parameters_in}
 use Rattle.x10_image.proofs.Access.{byte_is, first_is, range_is, item_at}
 use Rattle.x10_image.proofs.Functions.{function_parts, function_small, tag_is}
 use Rattle.x10_image.proofs.Decoded.{slots_again, slot_again}
@@ -35,6 +35,9 @@ function_here bytes header ints classes texts functions m f at s lt e =
 
 pub parameters_are : (bytes : List ℕ) (at : ℕ) (m : Module) (f : ℕ) → (h : IsHere bytes at m f) → slice_index bytes at ≡ length h.function.parameters
 parameters_are bytes at m f h = first_is bytes at (length h.function.parameters) _ (function_parts bytes at h.function h.here).head
+
+pub parameters_of : (bytes : List ℕ) (at : ℕ) (m : Module) (f : ℕ) → (h : IsHere bytes at m f) → length (parameters_in (function_at m f)) ≡ length h.function.parameters
+parameters_of bytes at m f h = rw h.is refl
 
 pub room_is : (bytes : List ℕ) (at : ℕ) (m : Module) (f : ℕ) → (h : IsHere bytes at m f) → at + 12 + 4 * slice_index bytes at + 8 * length h.function.code ≤ length bytes
 room_is bytes at m f h = omega (arith, parameters_are bytes at m f h, function_small bytes at h.function h.here)

@@ -1,11 +1,12 @@
 -- The parts of a module that a view hands out.
-use Rattle.std.specs.Prelude.{◌≡◌, ℕ, zero, suc, ◌+◌, ◌≤◌, ◌==◌, List, [], ◌∷◌, length, Option, Some, None, IfSome, slice_index, slice_range}
-use Rattle.std.specs.List.{AllByRecursion}
+use Rattle.std.specs.Prelude.{◌≡◌, ℕ, zero, suc, ◌+◌, ◌*◌, ◌≤◌, ◌==◌, List, [], ◌∷◌, length, Option, Some, None, IfSome, slice_index, slice_range, take}
+use Rattle.std.specs.List.{AllByRecursion, flat_map}
 use Rattle.std.specs.Int.{w16, from_be_bytes}
 use Rattle.x10_kinds.specs.declared.kind.Kind.{Kind}
 use Rattle.x10_kinds.specs.declared.kind.Kind.TheVariants as kind
 use Rattle.x10_code.specs.declared.instr.Instr.{Instr}
 use Rattle.x10_model.specs.Modules.{Module, Function, FitsSlot}
+use Rattle.x10_model.specs.Images.{header_of, header_bytes, class_bytes, int_bytes, text_bytes, function_bytes}
 use Rattle.x10_model.specs.Ranges.{function_at}
 use Rattle.x10_model.specs.declared.slot.Slot.{Slot}
 
@@ -36,11 +37,34 @@ code_in (Some f) = f.code
 abbrev pub code_at : Module → ℕ → List Instr
 code_at m f = code_in (function_at m f)
 
--- some of the bytes, from one place on
-pub record IsPart (bytes part : List ℕ) : Type 0 where
-  pub from : ℕ
+-- the bytes from one place on
+pub record IsPart (bytes : List ℕ) (from : ℕ) (part : List ℕ) : Type 0 where
   pub end : from + length part ≤ length bytes
   pub is : part ≡ slice_range bytes from (from + length part)
+
+-- ---- places in a module's spelling
+
+-- where the classes, the texts and the functions begin
+abbrev pub classes_from : Module → ℕ
+classes_from m = length (header_bytes (header_of m))
+
+abbrev pub texts_from : Module → ℕ
+texts_from m = classes_from m + length (flat_map class_bytes m.classes) + length (flat_map int_bytes m.ints)
+
+abbrev pub functions_from : Module → ℕ
+functions_from m = texts_from m + length (flat_map text_bytes m.texts)
+
+-- where the bytes of text i begin: behind its length, in two bytes
+abbrev pub place_of_text : Module → ℕ → ℕ
+place_of_text m i = texts_from m + length (flat_map text_bytes (take i m.texts)) + 2
+
+abbrev pub parameters_in : Option Function → List Slot
+parameters_in None = []
+parameters_in (Some f) = f.parameters
+
+-- where the instructions of function f begin: behind its head, its parameters and result with 4 bytes each, and its count
+abbrev pub place_of_code : Module → ℕ → ℕ
+place_of_code m f = functions_from m + length (flat_map function_bytes (take f m.functions)) + 12 + 4 * length (parameters_in (function_at m f))
 
 -- ---- kinds and slots from their bytes
 

@@ -17,7 +17,7 @@ pub fn class_table<'a>(
     count: u16,
 ) -> Result<(Vec<usize>, &'a [u8]), ImageFault>
     requires { EndsWith image.now bytes.now }
-    ensures exact { GivesTable class_bytes image.now (λ x. x.0.items) (λ x. x.1.now) result (times count (class_at count) bytes.now) }
+    ensures exact { GivesTable class_bytes image.now bytes.now (λ x. x.0.items) (λ x. x.1.now) result (times count (class_at count) bytes.now) }
 {
     let mut table = Vec::new(alloc);
     let mut rest = bytes;
@@ -37,7 +37,7 @@ pub fn text_table<'a>(
     count: u16,
 ) -> Result<(Vec<usize>, &'a [u8]), ImageFault>
     requires { EndsWith image.now bytes.now }
-    ensures exact { GivesTable text_bytes image.now (λ x. x.0.items) (λ x. x.1.now) result (times count text_at bytes.now) }
+    ensures exact { GivesTable text_bytes image.now bytes.now (λ x. x.0.items) (λ x. x.1.now) result (times count text_at bytes.now) }
 {
     let mut table = Vec::new(alloc);
     let mut rest = bytes;
@@ -58,7 +58,7 @@ pub fn function_table<'a>(
     count: u16,
 ) -> Result<(Vec<usize>, &'a [u8]), ImageFault>
     requires { EndsWith image.now bytes.now }
-    ensures exact { GivesTable function_bytes image.now (λ x. x.0.items) (λ x. x.1.now) result (numbered count (function_at classes) bytes.now) }
+    ensures exact { GivesTable function_bytes image.now bytes.now (λ x. x.0.items) (λ x. x.1.now) result (numbered count (function_at classes) bytes.now) }
 {
     let mut table = Vec::new(alloc);
     let mut rest = bytes;

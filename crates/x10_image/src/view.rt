@@ -7,7 +7,7 @@ ghost use Rattle.x10_model.specs.Images.{function_bytes, spelling};
 ghost use Rattle.x10_model.specs.ReadingImages.{module_at, is_entry};
 ghost use Rattle.x10_image.specs.Faults.{Gives};
 ghost use Rattle.x10_image.specs.Places.{AreAt};
-ghost use Rattle.x10_image.specs.Parts.{IsPart, FitsSignature, signature_of, code_at};
+ghost use Rattle.x10_image.specs.Parts.{IsPart, place_of_text, place_of_code, FitsSignature, signature_of, code_at};
 
 use crate::class_view::ClassView;
 use crate::fault::ImageFault;
@@ -159,12 +159,12 @@ impl<'a> ImageView<'a> {
         int_in(self.bytes, self.ints + 8 * i)
     }
 
-    /// A constant text, in the image's bytes.
+    /// A constant text, in the image's bytes: behind its length there.
     pub fn text(&self, i: usize) -> &'a str
         requires { i < length self.now.texts }
         ensures value { slice_get self.now.texts i ≡ Some result.now }
         ensures fits { FitsText result.now }
-        ensures part { IsPart (spelling self.now) result.now }
+        ensures part { IsPart (spelling self.now) (place_of_text self.now i) result.now }
     {
         let bytes = self.bytes;
         text_in(bytes, self.texts[i])
@@ -203,7 +203,7 @@ impl<'a> ImageView<'a> {
     pub fn code(&self, f: usize) -> &'a [u8]
         requires { f < length self.now.functions }
         ensures value { result.now ≡ flat_map instruction (code_at self.now f) }
-        ensures part { IsPart (spelling self.now) result.now }
+        ensures part { IsPart (spelling self.now) (place_of_code self.now f) result.now }
     {
         let bytes = self.bytes;
         let at = self.functions[f];

@@ -6,4 +6,4 @@ use Rattle.x10_image.proofs.TableLoops.{Placed}
 use Rattle.x10_image.proofs.tables.class_table.Given as goal
 
 abbrev pub invariant-loop : goal.invariant-loop
-invariant-loop l = Placed (λ (_ : ℕ). class_at l.count) (λ s _. s) class_bytes l.image (l.count - l.counter) 0 l.rest l.table.items (times l.count (class_at l.count) l.bytes)
+invariant-loop l = Placed (λ (_ : ℕ). class_at l.count) (λ s _. s) class_bytes l.image l.bytes (l.count - l.counter) 0 l.rest l.table.items (times l.count (class_at l.count) l.bytes)

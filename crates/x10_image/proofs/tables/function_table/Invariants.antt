@@ -6,4 +6,4 @@ use Rattle.x10_image.proofs.TableLoops.{Placed}
 use Rattle.x10_image.proofs.tables.function_table.Given as goal
 
 abbrev pub invariant-loop-function : goal.invariant-loop-function
-invariant-loop-function l = Placed (function_at l.classes) (λ s _. suc s) function_bytes l.image (l.count - l.function) l.function l.rest l.table.items (numbered l.count (function_at l.classes) l.bytes)
+invariant-loop-function l = Placed (function_at l.classes) (λ s _. suc s) function_bytes l.image l.bytes (l.count - l.function) l.function l.rest l.table.items (numbered l.count (function_at l.classes) l.bytes)

@@ -1,8 +1,8 @@
-use Rattle.std.proofs.Common.{arith, refl, sym}
+use Rattle.std.proofs.Common.{◌+◌, arith, refl, sym, ap}
 use Rattle.x10_model.specs.Modules.{FitsText}
 use Rattle.x10_model.specs.Images.{text_bytes}
 use Rattle.x10_image.proofs.Access.{same_length}
-use Rattle.x10_image.proofs.Accessors.{shows, all_at, item_in, text_at, part_of}
+use Rattle.x10_image.proofs.Accessors.{shows, all_at, item_in, text_at, part_of, from_at}
 use Rattle.x10_image.proofs.view.ImageView.text.Goals as goal
 
 pub index-requires : goal.index-requires
@@ -50,4 +50,4 @@ returns-clause-part c =
     let v = shows _ _ _ _ _ _ _ c.self.invariant c.self.view_is in
     let found = item_in text_bytes _ _ _ c.args.i c.index.result.now v.texts_at c.requires c.index.ensures in
     let t = text_at _ _ found.0 (all_at FitsText _ c.args.i found.0 v.fits.texts.1 found.1) found.2 in
-    rw (c.text_in.ensures, t.count, t.range) (part_of _ _ _ _ found.0 v.spelled refl t.room (sym t.range))
+    rw (c.text_in.ensures, t.count, t.range) (part_of _ _ _ _ _ found.0 v.spelled (ap (λ n. n + 2) (from_at text_bytes _ _ _ c.args.i c.index.result.now v.texts_start c.requires c.index.ensures)) refl t.room (sym t.range))
