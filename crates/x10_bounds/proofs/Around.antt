@@ -39,7 +39,7 @@ chain code (suc pc) = passed_chain code pc (slice_get code pc) (chain code pc)
 -- ---- from one instruction to a later one
 
 -- what is left after the innermost k regions
-abbrev left : ℕ → List Region → List Region
+abbrev pub left : ℕ → List Region → List Region
 left zero rs = rs
 left (suc k) rs = left k (outside rs)
 
@@ -47,16 +47,16 @@ outside-left : (k : ℕ) (rs : List Region) → outside (left k rs) ≡ left (su
 outside-left zero rs = refl
 outside-left (suc k) rs = outside-left k (outside rs)
 
-abbrev AllFrom : ℕ → List Region → Type 0
+abbrev pub AllFrom : ℕ → List Region → Type 0
 AllFrom pc [] = Unit {0}
 AllFrom pc (r ∷ rs) = (pc ≤ opener_of r) × AllFrom pc rs
 
 -- some innermost regions are left, and others entered from an instruction on
-record IsLater (pc : ℕ) (from to : List Region) : Type 0 where
-  entered : List Region
-  count : ℕ
-  is : to ≡ entered ++ left count from
-  later : AllFrom pc entered
+pub record IsLater (pc : ℕ) (from to : List Region) : Type 0 where
+  pub entered : List Region
+  pub count : ℕ
+  pub is : to ≡ entered ++ left count from
+  pub later : AllFrom pc entered
 
 outside_later : (pc : ℕ) (from entered : List Region) (count : ℕ) → AllFrom pc entered → IsLater pc from (outside (entered ++ left count from))
 outside_later pc from [] count a = record { entered = []; count = suc count; is = outside-left count from; later = tt }
@@ -79,7 +79,7 @@ same_or_below pc x le = grind arith
 here_later : (pc : ℕ) (from : List Region) → IsLater pc from from
 here_later pc from = record { entered = []; count = 0; is = refl; later = tt }
 
-is_later : (code : List Instr) (pc x : ℕ) → pc ≤ x → IsLater pc (around code pc) (around code x)
+pub is_later : (code : List Instr) (pc x : ℕ) → pc ≤ x → IsLater pc (around code pc) (around code x)
 is_later code pc zero le = let e : pc ≡ 0 = omega arith in subst (λ n. IsLater pc (around code pc) (around code n)) e (here_later pc (around code pc))
 is_later code pc (suc x) le = elim (same_or_below pc x le) [
   | inl e ↦ subst (λ n. IsLater pc (around code pc) (around code n)) e (here_later pc (around code pc))

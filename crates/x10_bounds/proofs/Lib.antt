@@ -3,7 +3,10 @@ pub mod Capped
 pub mod Closed
 pub mod Closers
 pub mod Failing
+pub mod Falls
 pub mod InOrder
+pub mod Levels
 pub mod SpotTests
 pub mod Spots
 pub mod Sums
+pub mod Turns

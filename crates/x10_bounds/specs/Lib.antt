@@ -1,4 +1,5 @@
 pub mod Faults
+pub mod Potential
 pub mod Regions
 pub mod Shapes
 pub mod Spots

@@ -3,6 +3,7 @@
 
 mod fault;
 mod functions;
+pub mod laws;
 mod region;
 mod rules;
 mod shape;

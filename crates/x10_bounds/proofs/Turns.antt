@@ -1,0 +1,67 @@
+-- What the levels at an instruction have in common with those where the loops around it begin.
+use Rattle.std.proofs.Common.{◌≡◌, ℕ, zero, suc, ◌+◌, ◌≤◌, true, List, [], ◌∷◌, length, Option, Some, None, refl, sym, ap, subst, ◌∙◌, add-one, arith}
+use Rattle.std.specs.Prelude.{slice_get}
+use Rattle.x10_code.specs.declared.op.Op.{Op}
+use Rattle.x10_code.specs.declared.op.Op.TheVariants as op
+use Rattle.x10_code.specs.declared.instr.Instr.{Instr}
+use Rattle.x10_model.specs.Structure.{Region, Turning, Waiting, opener_of, outside, regions_after, passed, around, nests}
+use Rattle.x10_model.proofs.Decided.{get_below}
+use Rattle.x10_bounds.specs.Potential.{outer, levels_before, levels_from}
+use Rattle.x10_bounds.proofs.Levels.{AllNest, levels-at}
+use Rattle.x10_bounds.proofs.Spots.{around-more}
+
+-- for each loop around, the levels past it are those past its first instruction
+abbrev pub IsTail : List ℕ → List Instr → List ℕ → List Region → Type 0
+IsTail earlier code ls [] = Unit {0}
+IsTail earlier code ls (Turning opener limit ∷ rs) = (outer ls ≡ outer (levels_from earlier code (opener + 1))) × IsTail earlier code (outer ls) rs
+IsTail earlier code ls (Waiting opener ∷ rs) = IsTail earlier code ls rs
+
+tail_same : (earlier : List ℕ) (code : List Instr) (ls ms : List ℕ) (rs : List Region) → outer ls ≡ outer ms → IsTail earlier code ls rs → IsTail earlier code ms rs
+tail_same earlier code ls ms [] e h = tt
+tail_same earlier code ls ms (Turning o l ∷ rs) e h = (sym e ∙ h.0, subst (λ t. IsTail earlier code t rs) e h.1)
+tail_same earlier code ls ms (Waiting o ∷ rs) e h = tail_same earlier code ls ms rs e h
+
+tail_after : (earlier : List ℕ) (code : List Instr) (o : Op) (pc : ℕ) (i : Instr) (rs : List Region) (ls : List ℕ) → nests o rs ≡ true → ls ≡ levels_from earlier code (pc + 1) → IsTail earlier code (levels_before earlier o i ls) rs → IsTail earlier code ls (regions_after o pc i rs)
+tail_after earlier code op.Loop pc i rs ls n e h = (ap outer e, tail_same earlier code (levels_before earlier op.Loop i ls) (outer ls) rs refl h)
+tail_after earlier code op.Endl pc i (Turning o l ∷ rs) ls n e h = h.1
+tail_after earlier code op.Endl pc i [] ls n e h = absurd cc
+tail_after earlier code op.Endl pc i (Waiting o ∷ rs) ls n e h = absurd cc
+tail_after earlier code op.Fine pc i (Waiting o ∷ rs) ls n e h = tail_same earlier code (levels_before earlier op.Fine i ls) ls rs refl h
+tail_after earlier code op.Fine pc i [] ls n e h = absurd cc
+tail_after earlier code op.Fine pc i (Turning o l ∷ rs) ls n e h = absurd cc
+tail_after earlier code op.Finb pc i rs ls n e h = tail_same earlier code (levels_before earlier op.Finb i ls) ls rs refl h
+tail_after earlier code o pc i rs ls n e h = tail_same earlier code (levels_before earlier o i ls) ls rs refl h
+
+pub tails : (earlier : List ℕ) (code : List Instr) (pc : ℕ) → AllNest code → pc ≤ length code → IsTail earlier code (levels_from earlier code pc) (around code pc)
+tails earlier code zero fit le = tt
+tails earlier code (suc pc) fit le =
+    let at = get_below code pc (omega (arith, le)) in
+    let here : IsTail earlier code (levels_from earlier code pc) (around code pc) = tails earlier code pc fit (omega (arith, le)) in
+    subst (λ n. IsTail earlier code (levels_from earlier code n) (around code n)) (add-one pc)
+    (subst (λ rs. IsTail earlier code (levels_from earlier code (pc + 1)) rs) (sym (around-more code pc at.0 at.1))
+    (tail_after earlier code at.0.op pc at.0 (around code pc) (levels_from earlier code (pc + 1)) (fit pc at.0 at.1) refl (subst (λ ls. IsTail earlier code ls (around code pc)) (levels-at earlier code pc at.0 at.1) here)))
+
+-- ---- where the regions around an instruction were opened
+
+abbrev pub AreOpened : List Instr → List Region → Type 0
+AreOpened code [] = Unit {0}
+AreOpened code (r ∷ rs) = (around code (suc (opener_of r)) ≡ r ∷ rs) × AreOpened code rs
+
+outside_opened : (code : List Instr) (rs : List Region) → AreOpened code rs → AreOpened code (outside rs)
+outside_opened code [] h = tt
+outside_opened code (r ∷ rs) h = h.1
+
+opened_after : (code : List Instr) (o : Op) (pc : ℕ) (i : Instr) (rs : List Region) → around code (suc pc) ≡ regions_after o pc i rs → AreOpened code rs → AreOpened code (regions_after o pc i rs)
+opened_after code op.Loop pc i rs e h = (e, h)
+opened_after code op.Finb pc i rs e h = (e, h)
+opened_after code op.Endl pc i rs e h = outside_opened code rs h
+opened_after code op.Fine pc i rs e h = outside_opened code rs h
+opened_after code _ pc i rs e h = h
+
+opened_next : (code : List Instr) (pc : ℕ) (o : Option Instr) → slice_get code pc ≡ o → AreOpened code (around code pc) → AreOpened code (passed o pc (around code pc))
+opened_next code pc None e h = h
+opened_next code pc (Some i) e h = opened_after code i.op pc i (around code pc) (ap (λ o. passed o pc (around code pc)) e) h
+
+pub all_opened : (code : List Instr) (pc : ℕ) → AreOpened code (around code pc)
+all_opened code zero = tt
+all_opened code (suc pc) = opened_next code pc (slice_get code pc) refl (all_opened code pc)
