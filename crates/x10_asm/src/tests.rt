@@ -7,7 +7,7 @@ use x10_kinds::Kind;
 use x10_model::Slot;
 
 /// A module with a line of every sort, and its listing.
-const WHOLE: &str = "places 64
+pub const WHOLE: &str = "places 64
 class
 class int place text rail obj:0 opt:1 gref:1
 int 0
@@ -103,7 +103,7 @@ fn whole(alloc: Global) -> Result<Module, AllocError> {
 }
 
 /// The image of `WHOLE`'s module.
-fn image(rt: &HostRuntime) -> Result<Vec<u8>, Fail> {
+pub fn image(rt: &HostRuntime) -> Result<Vec<u8>, Fail> {
     Ok(write(rt.alloc(), &whole(rt.alloc())?)?)
 }
 

@@ -1,4 +1,4 @@
-use Rattle.std.proofs.Common.{◌≡◌, ap, ◌∙◌, sym, ℕ, ◌<◌, List, ◌++◌, arith, refl}
+use Rattle.std.proofs.Common.{ap, ◌∙◌, sym, ℕ, List, ◌++◌, arith}
 use Rattle.std.specs.String.{string_bytes}
 use Rattle.x10_asm.proofs.Escapes.{none_pushed, one_kept, one_escaped, run_between, all_pushed}
 use Rattle.x10_asm.proofs.escape.push_escaped.Goals as goal

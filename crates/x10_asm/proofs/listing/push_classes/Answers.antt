@@ -1,7 +1,7 @@
 use Rattle.std.proofs.Common.{arith}
 use Rattle.std.specs.String.{string_bytes}
 use Rattle.x10_asm.specs.Listing.{class_line}
-use Rattle.x10_asm.proofs.Items.{none_listed, one_more_listed, all_listed, word_at}
+use Rattle.x10_asm.proofs.Items.{none_listed, one_more_listed, all_listed}
 use Rattle.x10_asm.proofs.listing.push_classes.Goals as goal
 
 pub loop-c-init : goal.loop-c-init

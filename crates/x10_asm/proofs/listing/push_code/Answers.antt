@@ -4,7 +4,7 @@ use Rattle.x10_image.specs.Parts.{code_at}
 use Rattle.x10_asm.specs.Listing.{instruction_line}
 use Rattle.x10_model.specs.Ranges.{function_at}
 use Rattle.x10_asm.proofs.Reached.{instr_reached}
-use Rattle.x10_asm.proofs.Items.{none_listed, one_more_listed, all_listed, word_at}
+use Rattle.x10_asm.proofs.Items.{none_listed, one_more_listed, all_listed}
 use Rattle.x10_asm.proofs.listing.push_code.Goals as goal
 
 pub loop-pc-init : goal.loop-pc-init
