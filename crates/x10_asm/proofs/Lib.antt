@@ -9,3 +9,6 @@ pub mod Names
 pub mod LabelTables
 pub mod Taking
 pub mod Passing
+pub mod SpelledLines
+pub mod SpelledWords
+pub mod SpelledTexts

@@ -67,11 +67,11 @@ pub from_space_is : (cs : List ℕ) → from_space cs ≡ drop (count_before 32 
 from_space_is [] = refl
 from_space_is (c ∷ cs) = elim (c == 32) as (λ t. (if t then c ∷ cs else from_space cs) ≡ drop (if t then 0 else suc (count_before 32 cs)) (c ∷ cs)) [ true ↦ refl | false ↦ from_space_is cs ]
 
-word_ends : (c : ℕ) (cs : List ℕ) → c ≢ 32 → is_word_end cs ≡ true → words (c ∷ cs) ≡ (c ∷ []) ∷ words cs
+pub word_ends : (c : ℕ) (cs : List ℕ) → c ≢ 32 → is_word_end cs ≡ true → words (c ∷ cs) ≡ (c ∷ []) ∷ words cs
 unfolding words
 word_ends c cs ne e = rw (ne_eqb c 32 ne, e) refl
 
-word_goes_on : (c : ℕ) (cs : List ℕ) → c ≢ 32 → is_word_end cs ≡ false → words (c ∷ cs) ≡ grown c (words cs)
+pub word_goes_on : (c : ℕ) (cs : List ℕ) → c ≢ 32 → is_word_end cs ≡ false → words (c ∷ cs) ≡ grown c (words cs)
 unfolding words
 word_goes_on c cs ne e = rw (ne_eqb c 32 ne, e) refl
 
@@ -95,11 +95,11 @@ no_words cs e = words_after_spaces cs ∙ ap words (nil_of (after_spaces cs) e)
 
 -- ---- lines
 
-line_ends : (c : ℕ) (cs : List ℕ) → c ≡ 10 → lines (c ∷ cs) ≡ [] ∷ lines cs
+pub line_ends : (c : ℕ) (cs : List ℕ) → c ≡ 10 → lines (c ∷ cs) ≡ [] ∷ lines cs
 unfolding lines
 line_ends c cs e = rw (eq-eqb c 10 e) refl
 
-line_goes_on : (c : ℕ) (cs : List ℕ) → c ≢ 10 → (c == 13 && begins 10 cs) ≡ false → lines (c ∷ cs) ≡ grown c (lines cs)
+pub line_goes_on : (c : ℕ) (cs : List ℕ) → c ≢ 10 → (c == 13 && begins 10 cs) ≡ false → lines (c ∷ cs) ≡ grown c (lines cs)
 unfolding lines
 line_goes_on c cs ne e = rw (ne_eqb c 10 ne, e) refl
 

@@ -10,3 +10,4 @@ pub mod Statements
 pub mod LabelLines
 pub mod Reading
 pub mod Sources
+pub mod LawsOfTexts

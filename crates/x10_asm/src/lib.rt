@@ -7,6 +7,7 @@ mod fault;
 mod judge;
 mod kind;
 mod label;
+pub mod laws;
 mod listing;
 mod literal;
 mod mark;
