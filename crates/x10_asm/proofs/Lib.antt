@@ -1,0 +1,14 @@
+pub mod Items
+pub mod Escapes
+pub mod Reached
+pub mod Splitting
+pub mod Numbers
+pub mod KindWords
+pub mod Scanning
+pub mod Names
+pub mod LabelTables
+pub mod Taking
+pub mod Passing
+pub mod SpelledLines
+pub mod SpelledWords
+pub mod SpelledTexts

@@ -1,0 +1,12 @@
+use Rattle.std.specs.Str.{IsUtf8}
+use Rattle.std.proofs.Common.{length}
+use Rattle.x10_asm.specs.Lines.{words}
+use Rattle.x10_asm.specs.Kinds.{slot_of}
+use Rattle.x10_asm.proofs.KindWords.{AreRead}
+use Rattle.x10_asm.proofs.kind.slots_of.Given as goal
+
+abbrev pub invariant-loop-word : goal.invariant-loop-word
+invariant-loop-word l = record { utf8 : IsUtf8 l.rest; left : AreRead (slot_of l.classes) l.slots.items (words l.rest) (words l.line) }
+
+abbrev pub decreases-loop-word : goal.decreases-loop-word
+decreases-loop-word l = length (words l.rest)

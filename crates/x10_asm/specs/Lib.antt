@@ -1,0 +1,13 @@
+pub mod Listing
+pub mod Lines
+pub mod Checks
+pub mod Kinds
+pub mod Literals
+pub mod Labels
+pub mod Operands
+pub mod Tables
+pub mod Statements
+pub mod LabelLines
+pub mod Reading
+pub mod Sources
+pub mod LawsOfTexts

@@ -1,0 +1,42 @@
+-- What a line says, by its first word.
+use Rattle.std.specs.Prelude.{ℕ, List, [], ◌∷◌, Option, Some, None, if◌then◌else◌, codes}
+use Rattle.std.specs.Str.{bytes_eq}
+use Rattle.x10_code.specs.declared.op.Op.{Op}
+use Rattle.x10_asm.specs.declared.statement.Statement.{Statement}
+use Rattle.x10_asm.specs.declared.statement.Statement.TheVariants.{Silent, Places, Class, Int, Text, Func, End, Entry, Label, Instruction, Unknown}
+use Rattle.x10_asm.specs.Lines.{begins}
+use Rattle.x10_asm.specs.Labels.{ends_in_colon, op_of_word}
+
+abbrev pub instruction_or_unknown : Option Op → Statement
+instruction_or_unknown (Some o) = Instruction o
+instruction_or_unknown None = Unknown
+
+-- a label ends in a colon; else it is an instruction's name, or nothing that is known
+abbrev pub label_or_instruction : List ℕ → Statement
+label_or_instruction word = if ends_in_colon word then Label else instruction_or_unknown (op_of_word word)
+
+-- the statement that a first word begins; a comment says nothing
+unfoldable pub statement_of : List ℕ → Statement
+statement_of word =
+    if begins 59 word then Silent
+    else (if bytes_eq word (codes "places") then Places
+    else (if bytes_eq word (codes "class") then Class
+    else (if bytes_eq word (codes "int") then Int
+    else (if bytes_eq word (codes "text") then Text
+    else (if bytes_eq word (codes "func") then Func
+    else (if bytes_eq word (codes "end") then End
+    else (if bytes_eq word (codes "entry") then Entry
+    else label_or_instruction word)))))))
+
+-- what a line of words says; a blank line says nothing
+abbrev pub said : List (List ℕ) → Statement
+said [] = Silent
+said (first ∷ others) = statement_of first
+
+abbrev pub first_word : List (List ℕ) → List ℕ
+first_word [] = []
+first_word (first ∷ others) = first
+
+abbrev pub other_words : List (List ℕ) → List (List ℕ)
+other_words [] = []
+other_words (first ∷ others) = others

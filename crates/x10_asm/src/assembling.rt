@@ -1,0 +1,93 @@
+//! The image that a text spells.
+
+ghost use Rattle.std.specs.Prelude.{◌≡◌, ◌≢◌, IfOk, IfErr};
+ghost use Rattle.x10_model.specs.Modules as model;
+ghost use Rattle.x10_model.specs.Modules.{FitsImage};
+ghost use Rattle.x10_model.specs.Images.{spelling};
+ghost use Rattle.x10_image.specs.Written.{shown};
+ghost use Rattle.x10_asm.specs.declared.fault.AsmCause.TheVariants.{Memory};
+ghost use Rattle.x10_asm.specs.Lines.{lines};
+ghost use Rattle.x10_asm.specs.Reading as reading;
+ghost use Rattle.x10_asm.specs.Reading.{module_of};
+ghost use Rattle.x10_asm.specs.Sources.{GivesAll, GivesImage};
+
+use crate::fault::{AsmCause, AsmFault};
+use crate::order::is_finished;
+use crate::said::line_of;
+use crate::source::{Source, nothing_read};
+use crate::split::next_line;
+use crate::statement::Statement;
+use std::alloc::Global;
+use x10_image::{Module, write};
+
+fn is_class(statement: Statement) -> bool
+    ensures { result ≡ reading.is_class statement }
+{
+    statement == Statement::Class
+}
+
+/// How many lines of a text are classes.
+fn classes_in(text: &str) -> usize
+    ensures { result ≡ reading.classes_in (lines text.now) }
+{
+    let mut count = 0;
+    let mut rest = text;
+    while let Some((line, after)) = next_line(rest) {
+        if is_class(line_of(line).statement) {
+            count += 1;
+        }
+        rest = after;
+    }
+    count
+}
+
+/// The fault of a line; want of memory is no line's.
+fn fault_at(line: usize, cause: AsmCause) -> AsmFault
+    ensures line { cause ≢ Memory → result ≡ reading.fault_at line cause }
+    ensures cause { result.cause ≡ cause }
+    ensures memory { cause ≡ Memory → result.line ≡ 0 }
+{
+    let line = if cause == AsmCause::Memory { 0 } else { line };
+    AsmFault { line, cause }
+}
+
+/// The module that a text spells, in two passes over it, one for the number of classes. The lines of a
+/// function are passed a third time, for its labels.
+#[tactic(auto, unfolding(crate::specs::Reading::module_of))]
+fn module_in(alloc: Global, text: &str) -> Result<Module, AsmFault>
+    ensures exact { GivesAll shown result (module_of text.now) }
+    ensures memory { IfErr result (λ e. e.cause ≡ Memory → e.line ≡ 0) }
+{
+    let classes = classes_in(text);
+    let mut source = nothing_read(alloc);
+    let mut number = 1;
+    let mut rest = text;
+    while let Some((line, after)) = next_line(rest) {
+        if let Err(cause) = source.take(alloc, classes, number, line, after) {
+            return Err(fault_at(number, cause));
+        }
+        number += 1;
+        rest = after;
+    }
+    let Source { stage, so_far, .. } = source;
+    if !is_finished(stage) {
+        return Err(fault_at(number, AsmCause::Order));
+    }
+    Ok(so_far)
+}
+
+/// The image of the module that a text spells. Else the first line that has a fault, counted from 1,
+/// and on it the first cause in the order of `AsmCause`; a missing `end` or `entry` names the line
+/// after the last. Linear in the text, but for the look-up of labels, which takes the logarithm of
+/// their number; the memory is that of the module and its image, and of a function's labels.
+pub fn assemble(alloc: Global, text: &str) -> Result<Vec<u8>, AsmFault>
+    ensures exact { GivesImage (λ v. v.items) result (module_of text.now) }
+    ensures fits { IfOk result (λ v. (m : model.Module) × FitsImage m × (v.items ≡ spelling m)) }
+    ensures memory { IfErr result (λ e. e.cause ≡ Memory → e.line ≡ 0) }
+{
+    let module = module_in(alloc, text)?;
+    match write(alloc, &module) {
+        Ok(image) => Ok(image),
+        Err(_) => Err(fault_at(0, AsmCause::Memory)),
+    }
+}

@@ -1,0 +1,31 @@
+//! Assembler text: the listing of an image, and the image that a text spells.
+#![tactic(auto)]
+
+mod assembling;
+mod escape;
+mod fault;
+mod judge;
+mod kind;
+mod label;
+pub mod laws;
+mod listing;
+mod literal;
+mod mark;
+mod number;
+mod operand;
+mod order;
+mod said;
+mod source;
+mod split;
+mod stage;
+mod statement;
+mod words;
+
+pub use assembling::assemble;
+pub use fault::{AsmCause, AsmFault};
+pub use listing::list;
+
+#[cfg(test)]
+mod assembling_tests;
+#[cfg(test)]
+mod tests;

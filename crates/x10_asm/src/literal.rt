@@ -1,0 +1,89 @@
+//! Texts between quotes.
+
+ghost use Rattle.std.specs.Prelude.{◌≡◌, false, ◌≢◌};
+ghost use Rattle.std.specs.String.{string_bytes};
+ghost use Rattle.x10_asm.specs.declared.fault.AsmCause.TheVariants.{Text};
+ghost use Rattle.x10_asm.specs.Literals as literals;
+ghost use Rattle.x10_asm.specs.Checks.{Gives, given};
+
+use crate::fault::AsmCause;
+use crate::number::no_more;
+use crate::split::{begins, stripped};
+use std::alloc::Global;
+
+/// The byte that an escape stands for.
+fn unescaped(byte: u8) -> Option<u8>
+    ensures { result ≡ literals.unescaped byte }
+{
+    match byte {
+        b'"' => Some(b'"'),
+        b'\\' => Some(b'\\'),
+        b'n' => Some(b'\n'),
+        _ => None,
+    }
+}
+
+/// The bytes up to the closing quote, and what follows that.
+fn scan(alloc: Global, quoted: &str) -> Result<(Vec<u8>, &str), AsmCause>
+    ensures { Gives (λ x. (x.0.items, x.1.now)) result (given (literals.scan false quoted.now) Text) }
+{
+    let bytes = quoted.as_bytes();
+    let mut text = Vec::new(alloc);
+    let mut after_backslash = false;
+    for at in 0..bytes.len() {
+        let byte = bytes[at];
+        if after_backslash {
+            let Some(meant) = unescaped(byte) else {
+                return Err(AsmCause::Text);
+            };
+            text.push(meant)?;
+            after_backslash = false;
+        } else if byte == b'"' {
+            return Ok((text, &quoted[at + 1..]));
+        } else if byte == b'\\' {
+            after_backslash = true;
+        } else {
+            text.push(byte)?;
+        }
+    }
+    Err(AsmCause::Text)
+}
+
+/// A text of at most 65,535 bytes.
+fn fitting(text: Vec<u8>) -> Result<String, AsmCause>
+    ensures { Gives string_bytes result (literals.fitting text.items) }
+{
+    if text.len() > 65535 {
+        return Err(AsmCause::Text);
+    }
+    match String::from_utf8(text) {
+        Ok(text) => Ok(text),
+        Err(_) => Err(AsmCause::Text),
+    }
+}
+
+/// A text, by what follows its closing quote.
+fn closed(text: Vec<u8>, rest: &str) -> Result<String, AsmCause>
+    ensures { Gives string_bytes result (literals.closed text.items rest.now) }
+{
+    if !rest.is_empty() && !begins(rest, b' ') {
+        return Err(AsmCause::Text);
+    }
+    no_more(rest)?;
+    fitting(text)
+}
+
+/// The text that the rest of a line spells.
+#[tactic(auto, unfolding(crate::specs::Literals::literal))]
+pub fn literal(alloc: Global, rest: &str) -> Result<String, AsmCause>
+    ensures { Gives string_bytes result (literals.literal rest.now) }
+{
+    if rest.is_empty() {
+        return Err(AsmCause::Count);
+    }
+    let Some(quoted) = stripped(rest, "\"") else {
+        return Err(AsmCause::Text);
+    };
+    let (text, after) = scan(alloc, quoted)?;
+    closed(text, after)
+}
