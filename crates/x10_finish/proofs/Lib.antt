@@ -1,0 +1,5 @@
+pub mod Ledgers
+pub mod Sums
+pub mod Squares
+pub mod Merging
+pub mod Balances

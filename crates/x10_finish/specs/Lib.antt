@@ -1,0 +1,4 @@
+pub mod Counts
+pub mod Ledgers
+pub mod Pairs
+pub mod Books
