@@ -2,3 +2,4 @@ pub mod Counts
 pub mod Ledgers
 pub mod Pairs
 pub mod Books
+pub mod Detection

@@ -5,6 +5,7 @@
 mod book;
 mod count;
 mod finish;
+pub mod laws;
 mod pairs;
 mod tally;
 
