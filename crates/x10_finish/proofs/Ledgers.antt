@@ -1,0 +1,95 @@
+-- Ledgers: what a change of one count does to the totals of all finishes.
+use Rattle.std.proofs.Common.{◌≡◌, ℕ, ◌==◌, Bool, true, false, cond, if◌then◌else◌, List, Option, Some, is_some, Result, Ok, Err, OnOk, OnErr, IfErr, inl, inr, refl, sym, ◌∙◌, ap, subst, arith}
+use Rattle.std.proofs.lemmas.Bool.{eqb-true}
+use Rattle.std.specs.Ordering.{nat_cmp, ordering_then, is_eq}
+use Rattle.std.specs.declared.cmp.Ordering.{Ordering}
+use Rattle.std.specs.declared.cmp.Ordering.TheVariants.{Less, Equal, Greater}
+use Rattle.std.specs.BTreeMap.{is_at}
+use Rattle.x10_kinds.specs.declared.stop.Stop.{Stop}
+use Rattle.x10_kinds.specs.declared.stop.Stop.TheVariants.{Memory, Limit}
+use Rattle.x10_model.specs.Places as machine
+use Rattle.x10_model.specs.Worlds.{same_finish}
+use Rattle.x10_model.specs.Totals.{Totals, nothing, if_same}
+use Rattle.x10_finish.specs.declared.finish.Finish.{Finish}
+use Rattle.x10_finish.specs.declared.count.Count.{Count}
+use Rattle.x10_finish.specs.declared.count.Change.{Change}
+use Rattle.x10_finish.specs.declared.count.Change.TheVariants.{Begins, Sends, Receives}
+use Rattle.x10_finish.specs.Counts.{counted, IsWhole, IsLargest, IsFull}
+use Rattle.x10_finish.specs.Ledgers.{named, key_of, finish_cmp, count_of, counted_or_nothing, Ledger, totals_of, is_met, AreWhole, Counts, Refuses}
+
+equal_then : (o p : Ordering) → is_eq (ordering_then o p) ≡ (if is_eq o then is_eq p else false)
+equal_then Less p = refl
+equal_then Equal p = refl
+equal_then Greater p = refl
+
+equal_numbers : (x y : ℕ) → is_eq (nat_cmp x y) ≡ (y == x)
+equal_numbers x y = grind arith
+
+-- a finish is found under its own key alone
+pub at_is_same : (k : Finish) (f : machine.Finish) → is_at (finish_cmp k) (key_of f) ≡ same_finish f (named k)
+at_is_same k f = equal_then (nat_cmp k.home f.home) (nat_cmp k.number f.number) ∙ rw (equal_numbers k.home f.home, equal_numbers k.number f.number) refl
+
+true_if : (a b : Bool) → (if a then b else false) ≡ true → (a ≡ true) × (b ≡ true)
+true_if true b e = (refl, e)
+true_if false b e = absurd cc
+
+pub same_is : (f g : machine.Finish) → same_finish f g ≡ true → f ≡ g
+same_is f g e =
+    let both = true_if (f.home == g.home) (f.number == g.number) e in
+    let p : f.home ≡ g.home = eqb-true f.home g.home both.0 in
+    let q : f.number ≡ g.number = eqb-true f.number g.number both.1 in
+    λ i. record { home = p i; number = q i }
+
+-- one count is written or entered
+abbrev pub Writes : List (Finish × Count) → Finish → Count → List (Finish × Count) → Type 0
+Writes old k w new = (q : Finish) → count_of new q ≡ cond (is_at (finish_cmp k) q) (Some w) (count_of old q)
+
+picked : (b : Bool) (w : Count) (o : Option Count) (t : Totals) → (b ≡ true → counted w ≡ t) → counted_or_nothing (cond b (Some w) o) ≡ (if b then t else counted_or_nothing o)
+picked true w o t h = h refl
+picked false w o t h = refl
+
+met_then : (b : Bool) (w : Count) (o : Option Count) → is_some (cond b (Some w) o) ≡ (if b then true else is_some o)
+met_then true w o = refl
+met_then false w o = refl
+
+pub Counts-by : (old new : Ledger) (k : Finish) (w : Count) (change : Totals → Totals) → new.place ≡ old.place → new.places ≡ old.places → Writes old.counts k w new.counts
+    → counted w ≡ change (totals_of old (named k)) → Counts old (named k) change new
+Counts-by old new k w change e p h t = record {
+  place = e;
+  places = p;
+  totals = λ g. ap counted_or_nothing (h (key_of g)) ∙ subst (λ b. counted_or_nothing (cond b (Some w) (count_of old.counts (key_of g))) ≡ if_same g (named k) (change (totals_of old g)) (totals_of old g)) (sym (at_is_same k g))
+      (picked (same_finish g (named k)) w (count_of old.counts (key_of g)) (change (totals_of old g)) (λ s. t ∙ ap (λ f. change (totals_of old f)) (sym (same_is g (named k) s))));
+  met = λ g. ap is_some (h (key_of g)) ∙ subst (λ b. is_some (cond b (Some w) (count_of old.counts (key_of g))) ≡ (if same_finish g (named k) then true else is_met old g)) (sym (at_is_same k g))
+      (met_then (same_finish g (named k)) w (count_of old.counts (key_of g)));
+}
+
+whole_then : (places : ℕ) (b : Bool) (w c : Count) (o : Option Count) → IsWhole places w → (o ≡ Some c → IsWhole places c) → cond b (Some w) o ≡ Some c → IsWhole places c
+whole_then places true w c o h g e = let same : w ≡ c = cc in subst (IsWhole places) same h
+whole_then places false w c o h g e = g e
+
+pub AreWhole-by : (places : ℕ) (old new : List (Finish × Count)) (k : Finish) (w : Count) → Writes old k w new → IsWhole places w → AreWhole places old → AreWhole places new
+AreWhole-by places old new k w h g all f c e = whole_then places (is_at (finish_cmp k) f) w c (count_of old f) g (all f c) (sym (h f) ∙ e)
+
+-- what was not counted yet is not full
+pub not_full : (change : Change) (t : Totals) → t ≡ nothing → IsFull change t → ⊥
+not_full Begins t e f = let g : IsLargest 0 = subst (λ u. IsFull Begins u) e f in omega arith
+not_full (Sends to) t e f = let g : IsLargest 0 = subst (λ u. IsFull (Sends to) u) e f in omega arith
+not_full (Receives from) t e f = elim (subst (λ u. IsFull (Receives from) u) e f) [ inl g ↦ omega arith | inr g ↦ omega arith ]
+
+pub on_ok : {T E : Type 0} {A B : Type 0} (r : Result T E) → OnOk r A → (A → B) → OnOk r B
+on_ok (Ok x) a f = f a
+on_ok (Err e) a f = tt
+
+pub if_err : {T E : Type 0} {A B : E → Type 0} (r : Result T E) → IfErr r A → ((e : E) → A e → B e) → IfErr r B
+if_err (Ok x) a f = tt
+if_err (Err e) a f = f e a
+
+pub if_both : {T E : Type 0} {A : E → Type 0} {B : Type 0} {C : E → Type 0} (r : Result T E) → IfErr r A → OnErr r B → ((e : E) → A e → B → C e) → IfErr r C
+if_both (Ok x) a b f = tt
+if_both (Err e) a b f = f e a b
+
+pub Refuses-full : (met : Bool) (full : Type 0) (why : Stop) → why ≡ Limit 6 → full → Refuses met full why
+Refuses-full met full why e h = subst (Refuses met full) (sym e) (h, refl)
+
+pub Refuses-memory : (met : Bool) (full : Type 0) (why : Stop) → why ≡ Memory → met ≡ false → Refuses met full why
+Refuses-memory met full why e h = subst (Refuses met full) (sym e) h

@@ -1,0 +1,88 @@
+-- What callers see of a tally: the totals of each finish.
+use Rattle.std.specs.Prelude.{◌≡◌, ℕ, ◌-◌, ◌==◌, ◌&&◌, not, Bool, true, false, List, Option, Some, None, if◌then◌else◌, length, is_some}
+use Rattle.std.specs.Ordering.{nat_cmp, ordering_then}
+use Rattle.std.specs.declared.cmp.Ordering.{Ordering}
+use Rattle.std.specs.BTreeMap.{is_at}
+use Rattle.std.specs.Map.{lookup}
+use Rattle.x10_kinds.specs.declared.stop.Stop.{Stop}
+use Rattle.x10_kinds.specs.declared.stop.Stop.TheVariants.{Memory, Limit, Stopped}
+use Rattle.x10_model.specs.Places as machine
+use Rattle.x10_model.specs.Worlds.{same_finish}
+use Rattle.x10_model.specs.Totals as totals
+use Rattle.x10_model.specs.Totals.{Totals, Entry, nothing, if_same, entry_of, reported}
+use Rattle.x10_frame.specs.declared.report.Report.{Report}
+use Rattle.x10_finish.specs.declared.finish.Finish.{Finish}
+use Rattle.x10_finish.specs.declared.count.Count.{Count}
+use Rattle.x10_finish.specs.Counts.{counted, IsWhole}
+
+-- the finish of the machine that a finish is
+abbrev pub named : Finish → machine.Finish
+named f = record { home = f.home; number = f.number }
+
+-- and back
+abbrev pub key_of : machine.Finish → Finish
+key_of f = record { home = f.home; number = f.number }
+
+-- finishes in order of their homes, and of their numbers there
+abbrev pub finish_cmp : Finish → Finish → Ordering
+finish_cmp f g = ordering_then (nat_cmp f.home g.home) (nat_cmp f.number g.number)
+
+-- the count of a finish
+abbrev pub count_of : List (Finish × Count) → Finish → Option Count
+count_of counts f = lookup (is_at (finish_cmp f)) counts
+
+abbrev pub counted_or_nothing : Option Count → Totals
+counted_or_nothing None = nothing
+counted_or_nothing (Some c) = counted c
+
+-- which place counts, of how many, and what it counted of each finish that it met
+pub record Ledger : Type 0 where
+  pub place : ℕ
+  pub places : ℕ
+  pub counts : List (Finish × Count)
+
+-- the totals of a finish: nothing where the place has not met it
+abbrev pub totals_of : Ledger → machine.Finish → Totals
+totals_of l f = counted_or_nothing (count_of l.counts (key_of f))
+
+-- the place has met the finish
+abbrev pub is_met : Ledger → machine.Finish → Bool
+is_met l f = is_some (count_of l.counts (key_of f))
+
+abbrev pub AreWhole : ℕ → List (Finish × Count) → Type 0
+AreWhole places counts = (f : Finish) (c : Count) → count_of counts f ≡ Some c → IsWhole places c
+
+-- the totals of one finish change, and it is met now; all else stays
+pub record Counts (old : Ledger) (f : machine.Finish) (change : Totals → Totals) (new : Ledger) : Type 0 where
+  pub place : new.place ≡ old.place
+  pub places : new.places ≡ old.places
+  pub totals : (g : machine.Finish) → totals_of new g ≡ if_same g f (change (totals_of old g)) (totals_of old g)
+  pub met : (g : machine.Finish) → is_met new g ≡ (if same_finish g f then true else is_met old g)
+
+-- why something is not counted: a growth was refused, which only a finish that was not met asks for, or a count that
+-- would have grown has its largest value
+abbrev pub Refuses : Bool → Type 0 → Stop → Type 0
+Refuses met full Memory = met ≡ false
+Refuses met full (Limit n) = full × (n ≡ 6)
+Refuses met full Stopped = ⊥
+
+-- a report as the machine has it
+abbrev pub report_of : Report → totals.Report
+report_of r = record { place = r.place; number = r.number; sent = r.sent.items; received = r.received.items }
+
+-- a report is due where the last activity of a finish ends away from its home
+abbrev pub gives_report : Ledger → machine.Finish → Bool
+gives_report l f = not (f.home == l.place) && ((totals_of l f).live - 1 == 0)
+
+-- the place's report of its totals of the finish, one number for each place
+pub record IsReportDue (l : Ledger) (f : machine.Finish) (r : Report) : Type 0 where
+  pub place : r.place ≡ l.place
+  pub number : r.number ≡ f.number
+  pub entry : reported (report_of r) ≡ entry_of (totals_of l f)
+  pub sent : length r.sent.items ≡ l.places
+  pub received : length r.received.items ≡ l.places
+
+-- the report that is due, or none
+abbrev pub IsAnswer : Ledger → machine.Finish → Option Report → Type 0
+IsAnswer l f None = gives_report l f ≡ false
+IsAnswer l f (Some r) = (gives_report l f ≡ true) × IsReportDue l f r

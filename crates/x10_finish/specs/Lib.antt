@@ -1,0 +1,5 @@
+pub mod Counts
+pub mod Ledgers
+pub mod Pairs
+pub mod Books
+pub mod Detection

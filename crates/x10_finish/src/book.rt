@@ -1,0 +1,121 @@
+ghost use Rattle.std.specs.Prelude.{◌≡◌, ◌↔◌, ◌<◌, ◌*◌, ◌^◌, ◌≤◌, ℕ, IsTrue, IfOk, IfErr, length, slice_index};
+ghost use Rattle.x10_kinds.specs.declared.stop.Stop.TheVariants as stop;
+ghost use Rattle.x10_model.specs.Totals.{IsBalanced, IsDoneAt, entry_of, seen_from};
+ghost use Rattle.x10_finish.specs.Ledgers.{named, totals_of};
+ghost use Rattle.x10_finish.specs.Books.{Kept, finish_of, kept_of, IsOpened, Merges};
+
+use crate::finish::Finish;
+use crate::pairs::{Pair, agrees, first_apart, merge};
+use crate::tally::Tally;
+use std::alloc::Global;
+use std::cell::Cell;
+use std::marker::Model;
+use x10_frame::Report;
+use x10_kinds::Stop;
+
+/// What the home of a finish keeps of the reports of other places. It is open from `open` to `close`.
+#[derive(Drop)]
+pub struct Book {
+    finish: Finish,
+    places: u16,
+    pairs: Vec<Pair>,
+    unequal: usize,
+    hint: Cell<u16>,
+}
+
+impl Model for Book {
+    ghost use Rattle.x10_finish.specs.Books.{Kept, AreKept};
+
+    ghost Value = { Kept };
+
+    ghost view = { λ b. record { home = b.finish.home; number = b.finish.number; places = b.places; pairs = b.pairs.items } };
+
+    ghost invariant = { λ b. AreKept b.finish.home b.places b.unequal b.pairs.items };
+}
+
+impl Book {
+    /// Of a finish that was opened at its home, one of so many places; nothing was reported yet. Takes all the memory
+    /// that the book will need: two numbers for each pair of places.
+    pub fn open(alloc: Global, finish: Finish, places: u16) -> Result<Book, Stop>
+        requires { finish.home < places }
+        ensures ok { IfOk result (IsOpened finish places) }
+        ensures err { IfErr result (λ why. why ≡ stop.Memory) }
+    {
+        let size = usize::from(places) * usize::from(places);
+        let none = Pair {
+            sent: 0,
+            received: 0,
+        };
+        let Ok(pairs) = vec![in alloc; none; size] else {
+            return Err(Stop::Memory);
+        };
+        Ok(Book {
+            finish,
+            places,
+            pairs,
+            unequal: 0,
+            hint: Cell::new(0),
+        })
+    }
+
+    /// The finish whose book it is. Constant time.
+    pub fn finish(&self) -> Finish
+        ensures { named result ≡ finish_of self.now }
+    {
+        self.finish
+    }
+
+    /// How many places there are. Constant time.
+    pub fn places(&self) -> u16
+        ensures { result ≡ self.now.places }
+    {
+        self.places
+    }
+
+    /// Takes in a report of the finish, in whatever order they come: the larger of each number is kept. Linear in the
+    /// number of places, and without memory.
+    pub fn merge(&mut self, report: &Report)
+        requires place { report.now.place < self.old.places }
+        requires sent { length report.now.sent.items ≡ self.old.places }
+        requires received { length report.now.received.items ≡ self.old.places }
+        ensures { Merges self.old report.now self.new }
+    {
+        let (home, places) = (usize::from(self.finish.home), usize::from(self.places));
+        self.unequal = merge(&mut self.pairs, self.unequal, home, places, report);
+    }
+
+    /// Whether what each place sent to another is what the other received from it: by the home's own totals as they are
+    /// now, and by what was reported of the other places. Beside finding the totals it takes constant time where the
+    /// answer is no and neither the totals nor the book has changed since it was no the last time, else it is linear in the number of places.
+    pub fn balanced(&self, tally: &Tally) -> bool
+        ensures { IsTrue result ↔ IsBalanced self.now.places (seen_from self.now.home (entry_of (totals_of tally.now (finish_of self.now))) (kept_of self.now)) }
+    {
+        if self.unequal != 0 {
+            return false;
+        }
+        let (home, places) = (usize::from(self.finish.home), usize::from(self.places));
+        let (sent, received) = (tally.sent(self.finish), tally.received(self.finish));
+        let hint = usize::from(self.hint.get());
+        if hint < places && !agrees(&self.pairs, home, places, sent, received, hint) {
+            return false;
+        }
+        match first_apart(&self.pairs, home, self.places, sent, received) {
+            Some(apart) => {
+                self.hint.set(apart);
+                false
+            }
+            None => true,
+        }
+    }
+
+    /// Whether the finish may end: none of its activities lives at its home, and the book is balanced. Takes the time of
+    /// `balanced`.
+    pub fn done(&self, tally: &Tally) -> bool
+        ensures { IsTrue result ↔ IsDoneAt self.now.places self.now.home (totals_of tally.now (finish_of self.now)) (kept_of self.now) }
+    {
+        tally.live(self.finish) == 0 && self.balanced(tally)
+    }
+
+    /// The finish has ended: its book is given back.
+    pub fn close(self) {}
+}

@@ -1,0 +1,144 @@
+//! What the home of a finish keeps of reports: for each pair of places two numbers, and how many pairs differ.
+
+ghost use Rattle.std.specs.Prelude.{◌≡◌, ◌+◌, ◌*◌, ◌<◌, ◌≤◌, ◌^◌, ℕ, true, false, IfNone, IfSome, length, slice_index};
+ghost use Rattle.x10_finish.specs.Pairs.{pair_at, difference, unequal_in, raised_at, merged_to, agreed};
+
+use x10_frame::Report;
+
+/// How many activities one place has reported that it sent to another, and the other that it received from the one.
+#[derive(Clone, Copy, Debug, PartialEq, Eq)]
+pub struct Pair {
+    pub sent: u32,
+    pub received: u32,
+}
+
+/// 1 where the numbers of a pair differ and neither place is the home, whose own numbers are looked up in its tally.
+fn differs(home: usize, from: usize, to: usize, pair: Pair) -> usize
+    ensures value { result ≡ difference home from to pair }
+    ensures small { result ≤ 1 }
+{
+    if from == home || to == home {
+        return 0;
+    }
+    usize::from(pair.sent != pair.received)
+}
+
+/// The larger of each number for one pair. Takes how many pairs differ and gives how many do then. Constant time.
+pub fn raise(
+    pairs: &mut Vec<Pair>,
+    unequal: usize,
+    home: usize,
+    places: usize,
+    from: usize,
+    to: usize,
+    by: Pair,
+) -> usize
+    requires few { places < 2 ^ 16 }
+    requires from { from < places }
+    requires to { to < places }
+    requires whole { length pairs.old.items ≡ places * places }
+    requires unequal { unequal ≡ unequal_in home places pairs.old.items }
+    ensures whole { length pairs.new.items ≡ places * places }
+    ensures unequal { result ≡ unequal_in home places pairs.new.items }
+    ensures pairs { (a b : ℕ) → pair_at places pairs.new.items a b ≡ raised_at from to by (pair_at places pairs.old.items) a b }
+{
+    let i = from * places + to;
+    let old = pairs[i];
+    let new = Pair {
+        sent: old.sent.max(by.sent),
+        received: old.received.max(by.received),
+    };
+    pairs[i] = new;
+    unequal + differs(home, from, to, new) - differs(home, from, to, old)
+}
+
+/// Takes in the numbers of a report, the larger of each. Takes how many pairs differ and gives how many do then.
+/// Linear in the number of places.
+pub fn merge(
+    pairs: &mut Vec<Pair>,
+    mut unequal: usize,
+    home: usize,
+    places: usize,
+    report: &Report,
+) -> usize
+    requires few { places < 2 ^ 16 }
+    requires place { report.now.place < places }
+    requires sent { length report.now.sent.items ≡ places }
+    requires received { length report.now.received.items ≡ places }
+    requires whole { length pairs.old.items ≡ places * places }
+    requires unequal { unequal ≡ unequal_in home places pairs.old.items }
+    ensures whole { length pairs.new.items ≡ places * places }
+    ensures unequal { result ≡ unequal_in home places pairs.new.items }
+    ensures pairs { (a b : ℕ) → pair_at places pairs.new.items a b ≡ merged_to report.now.place report.now.sent.items report.now.received.items places (pair_at places pairs.old.items) a b }
+{
+    let place = usize::from(report.place);
+    for q in 0..places {
+        let sent = Pair {
+            sent: report.sent[q],
+            received: 0,
+        };
+        unequal = raise(pairs, unequal, home, places, place, q, sent);
+        let received = Pair {
+            sent: 0,
+            received: report.received[q],
+        };
+        unequal = raise(pairs, unequal, home, places, q, place, received);
+    }
+    unequal
+}
+
+fn number(counts: &[u32], q: usize) -> u32
+    ensures { result ≡ slice_index counts.now q }
+{
+    if q < counts.len() { counts[q] } else { 0 }
+}
+
+/// Whether the home and a place agree on what they sent each other, by the home's own numbers and the pairs.
+pub fn agrees(
+    pairs: &[Pair],
+    home: usize,
+    places: usize,
+    sent: &[u32],
+    received: &[u32],
+    q: usize,
+) -> bool
+    requires few { places < 2 ^ 16 }
+    requires home { home < places }
+    requires place { q < places }
+    requires whole { length pairs.now ≡ places * places }
+    ensures { result ≡ agreed home (pair_at places pairs.now) sent.now received.now q }
+{
+    if q == home {
+        return number(sent, home) == number(received, home);
+    }
+    let (to, from) = (pairs[home * places + q], pairs[q * places + home]);
+    number(sent, q) == to.received && from.sent == number(received, q)
+}
+
+/// The first place that doesn't agree with the home. Linear in the number of places.
+pub fn first_apart(
+    pairs: &[Pair],
+    home: usize,
+    places: u16,
+    sent: &[u32],
+    received: &[u32],
+) -> Option<u16>
+    requires home { home < places }
+    requires whole { length pairs.now ≡ places * places }
+    ensures none { IfNone result ((q : ℕ) → q < places → agreed home (pair_at places pairs.now) sent.now received.now q ≡ true) }
+    ensures some { IfSome result (λ q. (q < places) × (agreed home (pair_at places pairs.now) sent.now received.now q ≡ false)) }
+{
+    for q in 0..places {
+        if !agrees(
+            pairs,
+            home,
+            usize::from(places),
+            sent,
+            received,
+            usize::from(q),
+        ) {
+            return Some(q);
+        }
+    }
+    None
+}

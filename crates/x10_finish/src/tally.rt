@@ -1,0 +1,216 @@
+ghost use Rattle.std.specs.Prelude.{◌≡◌, ◌+◌, ◌^◌, ◌<◌, ◌⊎◌, ℕ, true, false, IfErr, IfOk, OnOk, OnErr, Err, None, Some, slice_index};
+ghost use Rattle.std.specs.BTreeMap.{Updates};
+ghost use Rattle.x10_kinds.specs.declared.stop.Stop.TheVariants as stop;
+ghost use Rattle.x10_model.specs.Places as machine;
+ghost use Rattle.x10_model.specs.Totals.{nothing, begins_one, ends_one, sends_to, receives_from};
+ghost use Rattle.x10_finish.specs.Counts.{Fits, IsFull, IsLargest, changed};
+ghost use Rattle.x10_finish.specs.declared.count.Change.TheVariants as change;
+ghost use Rattle.x10_finish.specs.Ledgers.{Ledger, finish_cmp, count_of, totals_of, is_met, named, Counts, Refuses, gives_report, IsAnswer};
+
+use crate::count::{Change, Count, apply, no_count};
+use crate::finish::Finish;
+use std::alloc::Global;
+use std::collections::BTreeMap;
+use std::marker::Model;
+use x10_frame::Report;
+use x10_kinds::Stop;
+
+/// What one place counts of each finish that it met. Clauses see the totals of each finish. A finish is found in
+/// logarithmic time, and each call takes that time unless it says otherwise. A finish is met where it is counted for the first
+/// time, which takes memory for two numbers for each place; afterwards counting takes none.
+#[derive(Drop)]
+pub struct Tally {
+    alloc: Global,
+    place: u16,
+    places: u16,
+    counts: BTreeMap<Finish, Count>,
+}
+
+impl Model for Tally {
+    ghost use Rattle.x10_finish.specs.Ledgers.{Ledger, AreWhole};
+
+    ghost Value = { Ledger };
+
+    ghost view = { λ t. record { place = t.place; places = t.places; counts = t.counts.entries } };
+
+    ghost invariant = { λ t. AreWhole t.places t.counts.entries };
+}
+
+fn put(counts: &mut BTreeMap<Finish, Count>, finish: Finish, count: Count) -> Result<(), Stop>
+    ensures ok { OnOk result (Updates finish_cmp counts.old counts.new finish (Some count)) }
+    ensures absent { OnErr result (count_of counts.old.entries finish ≡ None) }
+    ensures err { IfErr result (λ why. (why ≡ stop.Memory) × (counts.new.entries ≡ counts.old.entries)) }
+{
+    match counts.insert(finish, count) {
+        Ok(_) => Ok(()),
+        Err(_) => Err(Stop::Memory),
+    }
+}
+
+impl Tally {
+    /// A place that has counted nothing, one of so many.
+    pub fn new(alloc: Global, place: u16, places: u16) -> Tally
+        ensures place { result.place ≡ place }
+        ensures places { result.places ≡ places }
+        ensures totals { (f : machine.Finish) → totals_of result f ≡ nothing }
+        ensures met { (f : machine.Finish) → is_met result f ≡ false }
+    {
+        Tally {
+            alloc,
+            place,
+            places,
+            counts: BTreeMap::new(alloc),
+        }
+    }
+
+    /// The number of the place. Constant time.
+    pub fn place(&self) -> u16
+        ensures { result ≡ self.now.place }
+    {
+        self.place
+    }
+
+    /// How many places there are. Constant time.
+    pub fn places(&self) -> u16
+        ensures { result ≡ self.now.places }
+    {
+        self.places
+    }
+
+    fn count(&mut self, finish: Finish, change: Change) -> Result<(), Stop>
+        requires { Fits change self.old.places }
+        ensures ok { OnOk result (Counts self.old (named finish) (changed change) self.new) }
+        ensures full { IsFull change (totals_of self.old (named finish)) → result ≡ Err (stop.Limit 6) }
+        ensures err { IfErr result (λ why. (self.new ≡ self.old) × Refuses (is_met self.old (named finish)) (IsFull change (totals_of self.old (named finish))) why) }
+    {
+        if let Some(count) = self.counts.get_mut(&finish) {
+            return apply(count, change);
+        }
+        let Ok(mut count) = no_count(self.alloc, self.places) else {
+            return Err(Stop::Memory);
+        };
+        apply(&mut count, change)?;
+        put(&mut self.counts, finish, count)
+    }
+
+    /// Makes room to count a finish: afterwards counting it is refused by a limit alone. Nothing is counted.
+    pub fn meet(&mut self, finish: Finish) -> Result<(), Stop>
+        ensures ok { OnOk result (Counts self.old (named finish) (λ t. t) self.new) }
+        ensures err { IfErr result (λ why. (self.new ≡ self.old) × (why ≡ stop.Memory) × (is_met self.old (named finish) ≡ false)) }
+    {
+        if self.counts.contains_key(&finish) {
+            return Ok(());
+        }
+        let Ok(count) = no_count(self.alloc, self.places) else {
+            return Err(Stop::Memory);
+        };
+        put(&mut self.counts, finish, count)
+    }
+
+    /// An activity is put out to a place under a finish, or shifts there.
+    pub fn spawned(&mut self, finish: Finish, to: u16) -> Result<(), Stop>
+        requires { to < self.old.places }
+        ensures ok { OnOk result (Counts self.old (named finish) (λ t. sends_to t to) self.new) }
+        ensures full { IsLargest ((totals_of self.old (named finish)).sent to) → result ≡ Err (stop.Limit 6) }
+        ensures err { IfErr result (λ why. (self.new ≡ self.old) × Refuses (is_met self.old (named finish)) (IsLargest ((totals_of self.old (named finish)).sent to)) why) }
+    {
+        self.count(finish, Change::Sends(to))
+    }
+
+    /// An activity that a place put out under a finish, or that shifted from there, arrives and begins.
+    pub fn came(&mut self, finish: Finish, from: u16) -> Result<(), Stop>
+        requires { from < self.old.places }
+        ensures ok { OnOk result (Counts self.old (named finish) (λ t. receives_from t from) self.new) }
+        ensures full { IsFull (change.Receives from) (totals_of self.old (named finish)) → result ≡ Err (stop.Limit 6) }
+        ensures err { IfErr result (λ why. (self.new ≡ self.old) × Refuses (is_met self.old (named finish)) (IsFull (change.Receives from) (totals_of self.old (named finish))) why) }
+    {
+        self.count(finish, Change::Receives(from))
+    }
+
+    /// An activity begins here under a finish, put out by this place.
+    pub fn began(&mut self, finish: Finish) -> Result<(), Stop>
+        ensures ok { OnOk result (Counts self.old (named finish) begins_one self.new) }
+        ensures full { IsLargest (totals_of self.old (named finish)).live → result ≡ Err (stop.Limit 6) }
+        ensures err { IfErr result (λ why. (self.new ≡ self.old) × Refuses (is_met self.old (named finish)) (IsLargest (totals_of self.old (named finish)).live) why) }
+    {
+        self.count(finish, Change::Begins)
+    }
+
+    /// What goes to the home of a finish when one more activity ends here: the totals, where that is the last one and
+    /// the home is elsewhere. Nothing is counted yet. The report takes memory for two numbers for each place.
+    pub fn leaving(&self, finish: Finish) -> Result<Option<Report>, Stop>
+        requires { 0 < (totals_of self.now (named finish)).live }
+        ensures ok { IfOk result (IsAnswer self.now (named finish)) }
+        ensures err { IfErr result (λ why. (why ≡ stop.Memory) × (gives_report self.now (named finish) ≡ true)) }
+    {
+        let count = &self.counts[&finish];
+        if finish.home == self.place || count.live != 1 {
+            return Ok(None);
+        }
+        let Ok(sent) = Vec::from_slice(self.alloc, &count.sent) else {
+            return Err(Stop::Memory);
+        };
+        let Ok(received) = Vec::from_slice(self.alloc, &count.received) else {
+            return Err(Stop::Memory);
+        };
+        Ok(Some(Report {
+            place: self.place,
+            number: finish.number,
+            sent,
+            received,
+        }))
+    }
+
+    /// An activity under a finish ends here. Takes no memory and sends nothing.
+    pub fn left(&mut self, finish: Finish)
+        requires { 0 < (totals_of self.old (named finish)).live }
+        ensures { Counts self.old (named finish) ends_one self.new }
+    {
+        let Some(count) = self.counts.get_mut(&finish) else {
+            return;
+        };
+        count.live -= 1;
+    }
+
+    /// An activity under a finish ends here; the answer is what `leaving` answers.
+    pub fn ended(&mut self, finish: Finish) -> Result<Option<Report>, Stop>
+        requires { 0 < (totals_of self.old (named finish)).live }
+        ensures counted { OnOk result (Counts self.old (named finish) ends_one self.new) }
+        ensures report { IfOk result (IsAnswer self.old (named finish)) }
+        ensures err { IfErr result (λ why. (self.new ≡ self.old) × (why ≡ stop.Memory) × (gives_report self.old (named finish) ≡ true)) }
+    {
+        let report = self.leaving(finish)?;
+        self.left(finish);
+        Ok(report)
+    }
+
+    /// How many activities under a finish live here.
+    pub fn live(&self, finish: Finish) -> u32
+        ensures { result ≡ (totals_of self.now (named finish)).live }
+    {
+        match self.counts.get(&finish) {
+            Some(count) => count.live,
+            None => 0,
+        }
+    }
+
+    /// How many were sent to each place, or no numbers where none was counted yet.
+    pub fn sent(&self, finish: Finish) -> &[u32]
+        ensures { (p : ℕ) → slice_index result.now p ≡ (totals_of self.now (named finish)).sent p }
+    {
+        match self.counts.get(&finish) {
+            Some(count) => &count.sent,
+            None => &[],
+        }
+    }
+
+    /// How many came from each place, or no numbers where none was counted yet.
+    pub fn received(&self, finish: Finish) -> &[u32]
+        ensures { (p : ℕ) → slice_index result.now p ≡ (totals_of self.now (named finish)).received p }
+    {
+        match self.counts.get(&finish) {
+            Some(count) => &count.received,
+            None => &[],
+        }
+    }
+}

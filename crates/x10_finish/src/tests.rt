@@ -1,0 +1,179 @@
+use super::*;
+use crate::count::{Change, Count, apply};
+use std::alloc::{AllocError, Global};
+use std::process::Abort;
+use std::test::*;
+use x10_frame::Report;
+use x10_kinds::Stop;
+
+const FINISH: Finish = Finish { home: 0, number: 1 };
+
+fn report(
+    alloc: Global,
+    place: u16,
+    sent: [u32; 3],
+    received: [u32; 3],
+) -> Result<Report, AllocError> {
+    Ok(Report {
+        place,
+        number: 1,
+        sent: Vec::from_slice(alloc, &sent)?,
+        received: Vec::from_slice(alloc, &received)?,
+    })
+}
+
+/// The reports of two places: the first sent nothing and received one, the second sent one to it, and then it received
+/// that one too.
+fn reports(alloc: Global) -> Result<[Report; 3], AllocError> {
+    Ok([
+        report(alloc, 1, [0, 0, 0], [1, 0, 0])?,
+        report(alloc, 2, [0, 1, 0], [1, 0, 0])?,
+        report(alloc, 1, [0, 0, 0], [1, 0, 1])?,
+    ])
+}
+
+fn take(rt: &impl Abort, book: &mut Book, report: &Report) {
+    let places = book.places();
+    assert!(rt; report.place < places);
+    assert!(rt; report.sent.len() == usize::from(places));
+    assert!(rt; report.received.len() == usize::from(places));
+    book.merge(report);
+}
+
+/// Whether the book balances after each of some reports, in an order.
+fn balances(rt: &impl Abort, alloc: Global, order: &[usize]) -> Result<Vec<bool>, Fail> {
+    let mut tally = Tally::new(alloc, 0, 3);
+    tally.spawned(FINISH, 1)?;
+    tally.spawned(FINISH, 2)?;
+    let mut book = Book::open(alloc, FINISH, 3)?;
+    assert!(rt; !book.balanced(&tally));
+    let reports = reports(alloc)?;
+    let mut answers = Vec::new(alloc);
+    for i in order {
+        assert!(rt; *i < 3);
+        take(rt, &mut book, &reports[*i]);
+        let balanced = book.balanced(&tally);
+        assert_eq!(rt; book.balanced(&tally), balanced);
+        assert_eq!(rt; book.done(&tally), balanced);
+        answers.push(balanced)?;
+    }
+    book.close();
+    Ok(answers)
+}
+
+#[test]
+fn reports_in_every_order(rt: HostRuntime) -> Result<(), Fail> {
+    let alloc = rt.alloc();
+    for (order, want) in [
+        ([0, 1, 2], [false, false, true]),
+        ([0, 2, 1], [false, false, true]),
+        ([1, 0, 2], [false, false, true]),
+        ([1, 2, 0], [false, true, true]),
+        ([2, 0, 1], [false, false, true]),
+        ([2, 1, 0], [false, true, true]),
+    ] {
+        let answers = balances(&rt, alloc, &order)?;
+        assert_eq!(rt; answers.as_slice(), want.as_slice());
+    }
+    Ok(())
+}
+
+#[test]
+fn without_the_first_report(rt: HostRuntime) -> Result<(), Fail> {
+    let answers = balances(&rt, rt.alloc(), &[1, 2])?;
+    assert_eq!(rt; answers.as_slice(), [false, true].as_slice());
+    Ok(())
+}
+
+#[test]
+fn last_to_end_reports(rt: HostRuntime) -> Result<(), Fail> {
+    let mut tally = Tally::new(rt.alloc(), 2, 3);
+    tally.came(FINISH, 0)?;
+    tally.began(FINISH)?;
+    tally.spawned(FINISH, 1)?;
+    assert_eq!(rt; tally.live(FINISH), 2);
+    assert!(rt; tally.ended(FINISH)?.is_none());
+    assert!(rt; tally.live(FINISH) > 0);
+    let Some(report) = tally.ended(FINISH)? else {
+        return Err(Fail::from("no report"));
+    };
+    assert_eq!(rt; (report.place, report.number), (2, 1));
+    assert_eq!(rt; report.sent.as_slice(), [0, 1, 0].as_slice());
+    assert_eq!(rt; report.received.as_slice(), [1, 0, 0].as_slice());
+    assert_eq!(rt; tally.live(FINISH), 0);
+    Ok(())
+}
+
+#[test]
+fn home_reports_nothing(rt: HostRuntime) -> Result<(), Fail> {
+    let mut tally = Tally::new(rt.alloc(), 0, 3);
+    let book = Book::open(rt.alloc(), FINISH, 3)?;
+    assert!(rt; book.done(&tally));
+    tally.began(FINISH)?;
+    assert!(rt; book.balanced(&tally));
+    assert!(rt; !book.done(&tally));
+    assert!(rt; tally.live(FINISH) > 0);
+    assert!(rt; tally.ended(FINISH)?.is_none());
+    assert!(rt; book.done(&tally));
+    assert_eq!(rt; (tally.place(), tally.places()), (0, 3));
+    assert_eq!(rt; (book.finish(), book.places()), (FINISH, 3));
+    Ok(())
+}
+
+#[test]
+fn finishes_are_counted_apart(rt: HostRuntime) -> Result<(), Fail> {
+    let mut tally = Tally::new(rt.alloc(), 1, 4);
+    let finishes = [(3, 0), (0, 7), (1, 2), (0, 6), (1, 3), (2, 4_294_967_295)];
+    for (home, number) in finishes {
+        let finish = Finish { home, number };
+        tally.meet(finish)?;
+        assert_eq!(rt; tally.live(finish), 0);
+        assert_eq!(rt; tally.sent(finish).len(), 4);
+    }
+    let finish = Finish { home: 1, number: 2 };
+    tally.began(finish)?;
+    for (home, number) in finishes {
+        let live = u32::from(home == 1 && number == 2);
+        assert_eq!(rt; tally.live(Finish { home, number }), live);
+    }
+    assert_eq!(rt; tally.received(Finish { home: 0, number: 8 }).len(), 0);
+    Ok(())
+}
+
+#[test]
+fn counts_meet_their_limit(rt: HostRuntime) -> Result<(), Fail> {
+    let (alloc, most) = (rt.alloc(), u32::MAX);
+    let (begins, sends, receives) = (Change::Begins, Change::Sends(1), Change::Receives(1));
+    for (change, before, after) in [
+        (begins, (65_535, 7, 7), Some((65_536, 7, 7))),
+        (begins, (most - 1, 7, 7), Some((most, 7, 7))),
+        (begins, (most, 7, 7), None),
+        (sends, (most, 65_535, 7), Some((most, 65_536, 7))),
+        (sends, (7, most - 1, 7), Some((7, most, 7))),
+        (sends, (7, most, 7), None),
+        (receives, (65_535, 7, 65_535), Some((65_536, 7, 65_536))),
+        (receives, (most - 1, 7, most - 1), Some((most, 7, most))),
+        (receives, (7, 7, most), None),
+        (receives, (most, 7, 7), None),
+    ] {
+        let mut count = Count {
+            live: before.0,
+            sent: Vec::from_slice(alloc, &[most, before.1])?,
+            received: Vec::from_slice(alloc, &[most, before.2])?,
+        };
+        let answer = apply(&mut count, change);
+        assert_eq!(rt;
+            answer.err(),
+            if after.is_some() {
+                None
+            } else {
+                Some(Stop::Limit(6))
+            }
+        );
+        let (live, sent, received) = after.unwrap_or(before);
+        assert_eq!(rt; count.live, live);
+        assert_eq!(rt; count.sent.as_slice(), [most, sent].as_slice());
+        assert_eq!(rt; count.received.as_slice(), [most, received].as_slice());
+    }
+    Ok(())
+}
