@@ -1,12 +1,13 @@
 //! What each command does, over an image's bytes and a writer.
 ghost use Rattle.std.specs.Prelude.{◌≡◌, ◌≢◌, ◌⊎◌, IfOk};
-ghost use Rattle.x10_cli.specs.Answers.{IsVerifiedImage, status_of};
+ghost use Rattle.x10_cli.specs.Answers.{IsVerifiedImage, IsVerifying, status_of};
 
 use crate::fault::Fault;
 use crate::rounds;
 use crate::task::{Task, Verb};
 use std::alloc::Global;
 use std::io::Write;
+use x10_asm::{assemble, list};
 use x10_bounds::bounds;
 use x10_image::ImageView;
 use x10_place::Line;
@@ -14,8 +15,9 @@ use x10_verify::verify;
 use x10_world::World;
 
 /// Does what a task asks for with the bytes of its file, and tells the exit status: 0 done, 1 refused, 2 stopped, 4
-/// where a write failed. What is printed goes to `out`; a fault is one line on `err`, `x10p: ` and its text. Where a run
-/// stops, what it printed until then stands on `out` before that.
+/// where a write failed or a text isn't UTF-8. What is printed goes to `out`, of `asm` the image, which is nothing where
+/// the text is refused; a fault is one line on `err`, `x10p: ` and its text. Where a run stops, what it printed until then
+/// stands on `out` before that.
 pub fn execute<O: Write, E: Write>(
     alloc: Global,
     task: &Task,
@@ -23,9 +25,11 @@ pub fn execute<O: Write, E: Write>(
     out: &mut O,
     err: &mut E,
 ) -> u8
-    ensures verified { result ≡ 0 → task.now.verb ≢ Verb.Bounds → IsVerifiedImage bytes.now }
+    ensures verified { result ≡ 0 → IsVerifying task.now.verb → IsVerifiedImage bytes.now }
 {
     let done = match task.verb {
+        Verb::Asm => print_image(alloc, bytes, out),
+        Verb::List => print_listing(alloc, bytes, out),
         Verb::Verify => print_verdict(alloc, bytes, out),
         Verb::Bounds => print_bounds(alloc, bytes, out),
         Verb::Run => print_run(alloc, task, bytes, out),
@@ -47,6 +51,21 @@ pub fn tell<E: Write>(fault: Fault, err: &mut E) -> u8
         Ok(()) => fault.status(),
         Err(_) => Fault::File.status(),
     }
+}
+
+/// The image that a text spells.
+fn print_image<O: Write>(alloc: Global, bytes: &[u8], out: &mut O) -> Result<(), Fault> {
+    let Ok(text) = str::from_utf8(bytes) else {
+        return Err(Fault::File);
+    };
+    out.write_all(&assemble(alloc, text)?)?;
+    Ok(())
+}
+
+fn print_listing<O: Write>(alloc: Global, bytes: &[u8], out: &mut O) -> Result<(), Fault> {
+    let listing = list(alloc, &ImageView::read(alloc, bytes)?)?;
+    out.write_all(listing.as_bytes())?;
+    Ok(())
 }
 
 fn print_verdict<O: Write>(alloc: Global, bytes: &[u8], out: &mut O) -> Result<(), Fault>

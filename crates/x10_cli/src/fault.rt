@@ -4,6 +4,7 @@ ghost use Rattle.x10_cli.specs.Answers.{status_of};
 use std::alloc::{AllocError, AllocFailed};
 use std::io;
 use thiserror::Error;
+use x10_asm::{AsmCause, AsmFault};
 use x10_bounds::{BoundCause, BoundFault};
 use x10_image::ImageFault;
 use x10_kinds::Stop;
@@ -13,6 +14,9 @@ use x10_world::OpenFault;
 /// Why a command was not done. Its text is what the program prints of it.
 #[derive(Clone, Copy, Debug, PartialEq, Eq, Error)]
 pub enum Fault {
+    /// The text spells no module.
+    #[error("asm: {0}")]
+    Asm(AsmFault),
     /// The bytes are no image.
     #[error("image: {0}")]
     Image(ImageFault),
@@ -48,9 +52,19 @@ impl Fault {
         ensures { result ≡ status_of self }
     {
         match self {
-            Fault::Image(_) | Fault::Verify(_) | Fault::Bounds(_) | Fault::Places => 1,
+            Fault::Asm(_) | Fault::Image(_) | Fault::Verify(_) | Fault::Bounds(_) => 1,
+            Fault::Places => 1,
             Fault::Memory | Fault::StopMemory | Fault::StopLimit(_) | Fault::Limit => 2,
             Fault::File => 4,
+        }
+    }
+}
+
+impl From<AsmFault> for Fault {
+    fn from(fault: AsmFault) -> Fault {
+        match fault.cause {
+            AsmCause::Memory => Fault::Memory,
+            _ => Fault::Asm(fault),
         }
     }
 }

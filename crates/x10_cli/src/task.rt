@@ -1,6 +1,10 @@
-/// What is to be done with an image.
+/// What is to be done with a file.
 #[derive(Clone, Copy, Debug, PartialEq, Eq)]
 pub enum Verb {
+    /// Assemble a text into an image.
+    Asm,
+    /// Print the canonical listing of an image.
+    List,
     /// Verify it, and tell how many functions it has and the bound of its entry function.
     Verify,
     /// Tell the bound of each function.
@@ -15,6 +19,8 @@ pub struct Task<'a> {
     pub verb: Verb,
     /// The name of the file to read.
     pub input: &'a str,
+    /// The name of the file to write, of `asm` alone.
+    pub output: Option<&'a str>,
     /// How many places; left out, the module's least number.
     pub places: Option<u16>,
     /// How many events at most, those in which nothing moves too.

@@ -29,7 +29,7 @@ const ABOUT: &str =
 
 const STATUS: &str = "Exit status:
   0  done
-  1  refused: the image, its module, or the number of places
+  1  refused: the text, the image, its module, or the number of places
   2  stopped: want of memory, a limit of the machine, or --limit
   3  these words aren't understood
   4  a file can't be read, or the output can't be written";
@@ -69,19 +69,35 @@ fn matched<'a>(alloc: Global, words: &'a [String]) -> Result<Task<'a>, Error> {
 fn task_of<'a>(matches: &ArgMatches<'a>) -> Option<Task<'a>> {
     let (name, matches) = matches.subcommand()?;
     let verb = match name {
+        "asm" => Verb::Asm,
+        "list" => Verb::List,
         "verify" => Verb::Verify,
         "bounds" => Verb::Bounds,
         _ => Verb::Run,
     };
     Some(Task {
         verb,
-        input: matches.get_str("IMAGE")?,
+        input: matches.get_str("INPUT")?,
+        output: matches.get_str("OUTPUT"),
         places: matches.get_one("places"),
         limit: matches.get_one("limit").unwrap_or(1_000_000),
     })
 }
 
 fn program<'a>(alloc: Global) -> Result<Command<'a>, AllocError> {
+    let output = Arg::new(alloc, "OUTPUT")
+        .value_name("IMAGE")
+        .help("The file to write, the module's image")
+        .required(true);
+    let asm = Command::new(alloc, "asm")
+        .about(
+            "Assemble a text into a module's image; where the text is refused, nothing is written",
+        )
+        .arg(input(alloc, "TEXT", "The file of the assembler text"))?
+        .arg(output)?;
+    let list = Command::new(alloc, "list")
+        .about("Print a module as assembler text, which assembles to the same image")
+        .arg(image_name(alloc))?;
     let verify = Command::new(alloc, "verify")
         .about(
             "Verify a module: print how many functions it has and the bound of its entry function",
@@ -94,14 +110,21 @@ fn program<'a>(alloc: Global) -> Result<Command<'a>, AllocError> {
         .about(ABOUT)
         .after_help(STATUS)
         .subcommand_required(true)
+        .subcommand(asm)?
+        .subcommand(list)?
         .subcommand(verify)?
         .subcommand(bounds)?
         .subcommand(run_words(alloc)?)
 }
 
 fn image_name<'a>(alloc: Global) -> Arg<'a> {
-    Arg::new(alloc, "IMAGE")
-        .help("The file of the module's image")
+    input(alloc, "IMAGE", "The file of the module's image")
+}
+
+fn input<'a>(alloc: Global, name: &'a str, help: &'a str) -> Arg<'a> {
+    Arg::new(alloc, "INPUT")
+        .value_name(name)
+        .help(help)
         .required(true)
 }
 

@@ -6,6 +6,8 @@ mod outcome;
 #[cfg(test)]
 mod seven;
 #[cfg(test)]
+mod texts;
+#[cfg(test)]
 mod usage;
 #[cfg(test)]
 mod writers;

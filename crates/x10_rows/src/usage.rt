@@ -9,6 +9,7 @@ fn words(rt: HostRuntime) -> Result<(), Fail> {
     let task = Task {
         verb: Verb::Run,
         input: "a",
+        output: None,
         places: Some(64),
         limit: 1_000_000,
     };
@@ -21,11 +22,12 @@ fn words(rt: HostRuntime) -> Result<(), Fail> {
 
 #[test]
 fn not_understood(rt: HostRuntime) -> Result<(), Fail> {
-    let rows: [&[&str]; 12] = [
+    let rows: [&[&str]; 13] = [
         &[],
         &["walk", "F"],
         &["run"],
         &["verify"],
+        &["asm", "F"],
         &["run", "F", "G"],
         &["verify", "F", "--places", "1"],
         &["run", "F", "--places", "0"],

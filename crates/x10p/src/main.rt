@@ -29,9 +29,25 @@ fn perform(rt: &HostRuntime, task: &Task) -> u8 {
         }
         Err(_) => return tell(Fault::File, &mut rt.stderr()),
     };
+    if let Some(output) = task.output {
+        return write_image(rt, task, &bytes, output);
+    }
     match BufWriter::new(rt.alloc(), rt.stdout()) {
         Ok(mut out) => execute(rt.alloc(), task, &bytes, &mut out, &mut rt.stderr()),
         Err(_) => tell(Fault::Memory, &mut rt.stderr()),
+    }
+}
+
+/// Assembles, and writes the image once it is whole.
+fn write_image(rt: &HostRuntime, task: &Task, text: &[u8], output: &str) -> u8 {
+    let mut image = Vec::new(rt.alloc());
+    let status = execute(rt.alloc(), task, text, &mut image, &mut rt.stderr());
+    if status != 0 {
+        return status;
+    }
+    match fs::write(rt, output, &image) {
+        Ok(()) => status,
+        Err(_) => tell(Fault::File, &mut rt.stderr()),
     }
 }
 
