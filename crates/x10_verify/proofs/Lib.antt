@@ -7,3 +7,6 @@ pub mod Structured
 pub mod Entries
 pub mod Wholes
 pub mod Refuted
+pub mod Below
+pub mod Parts
+pub mod Effects

@@ -5,3 +5,6 @@ pub mod Ranges
 pub mod Verdict
 pub mod Faults
 pub mod Certified
+pub mod Named
+pub mod Rules
+pub mod Effects

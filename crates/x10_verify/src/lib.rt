@@ -7,6 +7,8 @@ mod fault;
 mod flow;
 mod known;
 mod ranges;
+mod table;
+
 mod verified;
 mod whole;
 
