@@ -10,3 +10,5 @@ pub mod Refuted
 pub mod Below
 pub mod Parts
 pub mod Effects
+pub mod Settling
+pub mod Tables
