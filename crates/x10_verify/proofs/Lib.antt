@@ -1,8 +1,4 @@
-pub mod Monotone
-pub mod Straight
 pub mod Rows
-pub mod Validity
-pub mod Rules
 pub mod Structured
 pub mod Entries
 pub mod Wholes
@@ -12,3 +8,10 @@ pub mod Parts
 pub mod Effects
 pub mod Settling
 pub mod Tables
+pub mod Deciding
+pub mod Merging
+pub mod Tabled
+pub mod Solving
+pub mod Stepped
+pub mod InFunction
+pub mod Solved

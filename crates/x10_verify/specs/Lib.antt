@@ -1,6 +1,5 @@
 pub mod Knowledge
 pub mod Known
-pub mod Flow
 pub mod Ranges
 pub mod Verdict
 pub mod Faults
@@ -8,3 +7,6 @@ pub mod Certified
 pub mod Named
 pub mod Rules
 pub mod Effects
+pub mod Merging
+pub mod States
+pub mod Solving
