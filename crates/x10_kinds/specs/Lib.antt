@@ -2,3 +2,4 @@ pub mod Kinds
 pub mod Labels
 pub mod Equations
 pub mod Laws
+pub mod Ranks

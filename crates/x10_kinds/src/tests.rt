@@ -98,6 +98,21 @@ fn two_ways_meet_in_what_both_know(rt: HostRuntime) {
 }
 
 #[test]
+fn equations_are_given_up(rt: HostRuntime) {
+    let mut one = Homes::new();
+    one.join(Term::Reg(1), Term::Here);
+    one.join(Term::Reg(2), Term::Here);
+    let mut two = Homes::new();
+    two.join(Term::Reg(1), Term::Reg(2));
+
+    let before = one;
+    assert!(rt; !two.weaken(&one));
+    assert!(rt; one.weaken(&two));
+    assert!(rt; one.same(Term::Reg(1), Term::Reg(2)) && !one.same(Term::Reg(1), Term::Here));
+    assert!(rt; !one.weaken(&before));
+}
+
+#[test]
 fn causes_are_told_apart(rt: HostRuntime) {
     assert!(rt; Stop::Limit(7) != Stop::Limit(8) && Stop::Memory != Stop::Stopped);
     assert_eq!(rt; Stop::Limit(7), Stop::Limit(7));

@@ -19,7 +19,7 @@ use Rattle.x10_model.specs.Assignments.{IsState, holds_place, parameter_kind, ho
 use Rattle.x10_verify.specs.declared.known.Known.{Known}
 use Rattle.x10_verify.specs.Known.{kind_in, state_of, entered, FlagsFit}
 use Rattle.x10_verify.specs.Knowledge.{SameState}
-use Rattle.x10_verify.proofs.Monotone.{entry_cases}
+use Rattle.x10_verify.proofs.Below.{entry_cases}
 use Rattle.x10_verify.proofs.Rows.{kind_in-set}
 
 -- ---- kinds

@@ -1,5 +1,5 @@
 -- Rows of kinds as functions of registers.
-use Rattle.std.proofs.Common.{◌≡◌, ℕ, zero, suc, ◌<◌, List, [], ◌∷◌, length, set, Option, Some, refl, sym, ap, subst, ◌∙◌, inl, inr, arith}
+use Rattle.std.proofs.Common.{◌≡◌, ℕ, zero, suc, ◌<◌, List, [], ◌∷◌, length, set, Option, Some, None, refl, sym, ap, subst, ◌∙◌, inl, inr, arith}
 use Rattle.x10_kinds.specs.declared.kind.Kind.{Kind}
 use Rattle.x10_kinds.specs.declared.homes.Term.{Term}
 use Rattle.x10_kinds.specs.declared.homes.Homes.{Homes}
@@ -8,7 +8,8 @@ use Rattle.x10_model.specs.Maps.{with_entry}
 use Rattle.x10_model.specs.Assignments.{set as set_kind}
 use Rattle.x10_verify.specs.Known.{kind_in, state_of}
 use Rattle.x10_verify.specs.Knowledge.{SameState}
-use Rattle.x10_verify.proofs.Monotone.{entry_cases}
+use Rattle.x10_verify.specs.Merging.{parted}
+use Rattle.x10_verify.proofs.Below.{entry_cases}
 
 set_here : (xs : List (Option Kind)) (i : ℕ) (x : Option Kind) → i < length xs → kind_in (set xs i x) i ≡ x
 set_here [] i x lt = absurd (omega arith)
@@ -31,3 +32,7 @@ kind_in-set xs i x lt j = elim (entry_cases (Option Kind) i j) [
 pub same_set : (kinds : List (Option Kind)) (homes after : Homes) (r : ℕ) (k : Kind) (like : Option Term) → r < length kinds → SameEquations (equations after) (written (equations homes) r like)
     → SameState (state_of (record { kinds = set kinds r (Some k); homes = after })) (set_kind (state_of (record { kinds = kinds; homes = homes })) r k like)
 same_set kinds homes after r k like lt same = record { kinds = kind_in-set kinds r (Some k) lt; homes = same }
+
+pub same_parted : (kinds : List (Option Kind)) (homes after : Homes) (r : ℕ) (k : Option Kind) → r < length kinds → SameEquations (equations after) (written (equations homes) r None)
+    → SameState (state_of (record { kinds = set kinds r k; homes = after })) (parted (state_of (record { kinds = kinds; homes = homes })) r k)
+same_parted kinds homes after r k lt same = record { kinds = kind_in-set kinds r k lt; homes = same }

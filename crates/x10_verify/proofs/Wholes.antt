@@ -1,24 +1,26 @@
 -- All instructions of a function, and all functions of a module.
-use Rattle.std.proofs.Common.{◌≡◌, ◌≢◌, ◌⊎◌, ℕ, zero, suc, ◌+◌, ◌<◌, ◌≤◌, ◌==◌, ◌&&◌, true, List, [], ◌∷◌, length, get_or, Option, Some, None, refl, sym, ap, subst, ◌∙◌, inl, inr, arith}
+use Rattle.std.proofs.Common.{◌≡◌, ◌≢◌, ◌⊎◌, ℕ, zero, suc, ◌+◌, ◌<◌, ◌≤◌, ◌==◌, ◌&&◌, true, List, [], ◌∷◌, length, get_or, max, Option, Some, None, refl, sym, ap, subst, ◌∙◌, inl, inr, arith}
 use Rattle.std.specs.Prelude.{IsTrue, slice_get}
 use Rattle.std.specs.List.{AllByRecursion}
 use Rattle.std.proofs.lemmas.Bool.{cases_lt, eqb-true, and_parts}
 use Rattle.x10_code.specs.declared.op.Op.{Op}
 use Rattle.x10_code.specs.declared.op.Op.TheVariants as op
 use Rattle.x10_code.specs.declared.instr.Instr.{Instr}
+use Rattle.x10_code.specs.declared.operands.Operand.{Operand}
+use Rattle.x10_code.specs.declared.operands.Operand.TheVariants as operand
 use Rattle.x10_code.specs.Table.{form_of}
 use Rattle.x10_code.specs.Spelling.{fits_operand, fits_form}
 use Rattle.x10_model.specs.declared.slot.Slot.{Slot}
 use Rattle.x10_model.specs.Modules.{Module, Function, IsBrought, is_brought, FitsFunction, FitsImage}
-use Rattle.x10_model.specs.Ranges.{function_at, instr_at, instr_in, IsThere, IsInRange, IsResultRegister, result_for}
+use Rattle.x10_model.specs.Ranges.{function_at, instr_at, instr_in, IsThere, IsInRange, IsResultRegister, result_for, result_of}
 use Rattle.x10_model.specs.Assignments.{AreInRange, HasAssignment}
-use Rattle.x10_verify.specs.Knowledge.{AreRegisters, IsResultNamed, HasRegisters}
+use Rattle.x10_verify.specs.Named.{IsNamed, IsResultNamed, HasNames}
 use Rattle.x10_verify.specs.Verdict.{AreInRangeTo, IsOutAt, IsFirstOut, IsFirstWithout}
 use Rattle.std.specs.Prelude.{Ok, slice_index}
 use Rattle.x10_image.specs.Parts.{code_in, code_at}
-use Rattle.x10_model.specs.Structure.{bounds_of}
+use Rattle.x10_model.specs.Structure.{bounds_of, is_call}
 use Rattle.x10_verify.proofs.Structured.{bounds_each, has_next}
-use Rattle.x10_verify.proofs.Straight.{in_function}
+use Rattle.x10_verify.proofs.InFunction.{in_function}
 
 some_is : {X : Type 0} (x y : X) → Some x ≡ Some y → x ≡ y
 some_is x y e = cc
@@ -110,14 +112,6 @@ named_below _ m f i b ne le n = absurd cc
 pub registers_below : (m : Module) (f : Function) (i : Instr) → FitsFunction (length m.classes) f → IsBrought i → IsInRange m f i → i.op ≢ op.Ret → AreBelow f.registers i
 registers_below m f i fits b r ne = named_below i.op m f i b.brought ne fits.registers.0 (r.a, r.b, r.c, fits_a i b.instr.form, fits_b i b.instr.form, fits_c i b.instr.form)
 
-result_named : (m : Module) (f : Function) (i : Instr) (slot : Option Slot) → f.registers ≤ 64 → i.op ≡ op.Ret → f.result ≡ slot → IsThere m f i (form_of i.op).a i.a → IsResultNamed slot i.a
-result_named m f i None le e r t = tt
-result_named m f i (Some slot) le e r t =
-    let h : IsThere m f i (form_of op.Ret).a i.a = subst (λ o. IsThere m f i (form_of o).a i.a) e t in
-    let g : IsResultRegister f (result_for m f i op.Ret) i.a = subst (λ o. IsResultRegister f (result_for m f i o) i.a) e h in
-    let lt : i.a < f.registers = subst (λ s. IsResultRegister f s i.a) r g in
-    omega (arith, lt, le)
-
 pub function_fits : (m : Module) (f : ℕ) (function : Function) → FitsImage m → function_at m f ≡ Some function → FitsFunction (length m.classes) function
 function_fits m f function fits e = all_at (FitsFunction (length m.classes)) m.functions f function fits.functions.2 e
 
@@ -126,21 +120,56 @@ instr_of : (m : Module) (f pc : ℕ) (o : Option Function) (i : Instr) → funct
 instr_of m f pc None i e g = absurd cc
 instr_of m f pc (Some function) i e g = (function, e, g)
 
-onward_registers : (m : Module) (f pc : ℕ) (i : Instr) → FitsImage m → AreInRange m → instr_at m f pc ≡ Some i → i.op ≢ op.Ret → AreRegisters i
-onward_registers m f pc i fits range is ne =
-    let g = instr_of m f pc (function_at m f) i refl is in
-    let ff = function_fits m f g.0 fits g.1 in
-    let b = all_at IsBrought g.0.code pc i ff.code g.2 in
-    let r = range f pc g.0 i g.1 g.2 in
-    let below = registers_below m g.0 i ff b r ne in
-    record { a = omega (arith, below.a, ff.registers.1); b = omega (arith, below.b, ff.registers.1); c = omega (arith, below.c, ff.registers.1) }
+-- ---- what an instruction names
 
--- each instruction of an image's function names registers alone that there may be
-pub has_registers : (m : Module) (f : ℕ) → FitsImage m → AreInRange m → HasRegisters m f
-has_registers m f fits range = record {
-  onward = λ pc i is ne. onward_registers m f pc i fits range is ne;
-  ret = λ function pc i e is ret. result_named m function i function.result (function_fits m f function fits e).registers.1 ret refl (range f pc function i e (in_function m f pc function i e is)).a;
+-- an operand that is there, by what its form says that it is
+there_as : (m : Module) (f : Function) (i : Instr) (o p : Operand) (n : ℕ) → o ≡ p → IsThere m f i o n → IsThere m f i p n
+there_as m f i o p n e h = subst (λ q. IsThere m f i q n) e h
+
+result_register : (f : Function) (o : Option Slot) (n : ℕ) → f.registers ≤ 64 → IsResultRegister f o n → IsResultNamed o n
+result_register f None n le h = tt
+result_register f (Some slot) n le h = omega (arith, h)
+
+-- the register of a call's result
+call_result : (o : Op) (m : Module) (f : Function) (i : Instr) → is_call o ≡ true → f.registers ≤ 64 → i.op ≡ o → IsThere m f i (form_of i.op).a i.a → IsResultNamed (result_of (function_at m i.x)) i.a
+call_result op.Call m f i c le e h = result_register f (result_of (function_at m i.x)) i.a le (subst (λ o. IsResultRegister f (result_for m f i o) i.a) e (subst (λ o. IsThere m f i (form_of o).a i.a) e h))
+call_result op.At m f i c le e h = result_register f (result_of (function_at m i.x)) i.a le (subst (λ o. IsResultRegister f (result_for m f i o) i.a) e (subst (λ o. IsThere m f i (form_of o).a i.a) e h))
+call_result _ m f i c le e h = absurd cc
+
+named_in : (m : Module) (f : Function) (i : Instr) → FitsImage m → FitsFunction (length m.classes) f → IsInRange m f i → IsNamed m i
+named_in m f i image fits r = record {
+  small = record {
+    class = λ e. (let h : i.x < length m.classes = there_as m f i (form_of i.op).x operand.Class i.x e r.x in omega (arith, image.classes));
+    place = λ e. (let h : i.x < m.least_places = there_as m f i (form_of i.op).x operand.Place i.x e r.x in omega (arith, image.least_places.1));
+  };
+  a = λ e. (let h : i.a < f.registers = there_as m f i (form_of i.op).a operand.Register i.a e r.a in omega (arith, fits.registers.1));
+  result = λ e. call_result i.op m f i e fits.registers.1 refl r.a;
 }
+
+-- all that the instructions of an image's function name is there
+pub has_names : (m : Module) (f : ℕ) → FitsImage m → AreInRange m → HasNames m f
+has_names m f fits range pc i is =
+    let g = instr_of m f pc (function_at m f) i refl is in
+    named_in m g.0 i fits (function_fits m f g.0 fits g.1) (range f pc g.0 i g.1 g.2)
+
+-- ---- the longest function
+
+pub length_more : (m : Module) (f longest len : ℕ) → ((g : ℕ) → g < f → length (code_at m g) ≤ longest) → len ≡ length (code_at m f) → (g : ℕ) → g < f + 1 → length (code_at m g) ≤ max longest len
+length_more m f longest len before here g lt = elim (below_or_at g f lt) [
+  | inl less ↦ (let h : length (code_at m g) ≤ longest = before g less in omega arith)
+  | inr at ↦ (let h : length (code_at m g) ≡ len = ap (λ n. length (code_at m n)) at ∙ sym here in omega arith)
+]
+
+none_past : {X : Type 0} (xs : List X) (n : ℕ) → length xs ≤ n → slice_get xs n ≡ None
+none_past [] n le = refl
+none_past (x ∷ xs) zero le = absurd (omega arith)
+none_past (x ∷ xs) (suc n) le = none_past xs n (omega arith)
+
+pub all_lengths : (m : Module) (n longest : ℕ) → length m.functions ≤ n → ((g : ℕ) → g < n → length (code_at m g) ≤ longest) → (g : ℕ) → length (code_at m g) ≤ longest
+all_lengths m n longest le h g = elim (cases_lt g n) [
+  | inl lt ↦ h g lt
+  | inr ge ↦ (let e : length (code_at m g) ≡ 0 = ap (λ o. length (code_in o)) (none_past m.functions g (omega arith)) in omega arith)
+]
 
 -- ---- what a certificate says of an instruction
 

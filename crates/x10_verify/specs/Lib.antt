@@ -1,7 +1,12 @@
 pub mod Knowledge
 pub mod Known
-pub mod Flow
 pub mod Ranges
 pub mod Verdict
 pub mod Faults
 pub mod Certified
+pub mod Named
+pub mod Rules
+pub mod Effects
+pub mod Merging
+pub mod States
+pub mod Solving

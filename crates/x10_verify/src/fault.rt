@@ -83,3 +83,16 @@ pub(crate) fn structure(fault: BoundFault) -> VerifyFault
         pc: fault.pc,
     }
 }
+
+/// Memory ran out.
+pub(crate) fn memory() -> VerifyFault
+    ensures cause { result.cause ≡ VerifyCause.Memory }
+    ensures function { result.function ≡ 0 }
+    ensures pc { result.pc ≡ 0 }
+{
+    VerifyFault {
+        cause: VerifyCause::Memory,
+        function: 0,
+        pc: 0,
+    }
+}

@@ -1,28 +1,42 @@
-ghost use Rattle.std.specs.Prelude.{◌≡◌, ◌<◌, MatchResult, slice_get};
+ghost use Rattle.std.specs.Prelude.{◌≡◌, ◌<◌, MatchResult, IfOk, slice_get};
 ghost use Rattle.std.specs.Option.{ForSome};
 ghost use Rattle.x10_kinds.specs.Equations.{IsTerm, equations};
 ghost use Rattle.x10_model.specs.Assignments.{IsKind, set};
-ghost use Rattle.x10_verify.specs.Known.{state_of};
+ghost use Rattle.x10_verify.specs.Effects.{CanApply, IsNarrow};
+ghost use Rattle.x10_verify.specs.Known.{state_of, kind_in};
 ghost use Rattle.x10_verify.specs.Knowledge.{SameState};
+ghost use Rattle.x10_verify.specs.Rules.{after};
 
 use crate::fault::FlowCause;
+use crate::table::Effect;
 use x10_kinds::{Homes, Kind, Term, fits};
 
 /// What is known before an instruction: the kind of each register that is set, and which places are known to be the
 /// same. It takes no memory.
-#[derive(Clone, Copy)]
+#[derive(Clone, Copy, Debug)]
 pub(crate) struct Known {
     pub(crate) kinds: [Option<Kind>; 64],
     pub(crate) homes: Homes,
 }
 
 impl Known {
+    /// The kind that a register is set to; of one that there can't be, none.
+    pub(crate) fn kind(&self, register: u8) -> Option<Kind>
+        ensures value { result ≡ kind_in self.now.kinds register }
+    {
+        if register < 64 {
+            self.kinds[register as usize]
+        } else {
+            None
+        }
+    }
+
     /// Asks that a register is set to a kind that fits.
     pub(crate) fn ask(&self, register: u8, want: Kind) -> Result<(), FlowCause>
-        requires { register < 64 }
-        ensures { MatchResult result (λ _. IsKind (state_of self.now) register want) (λ _. IsKind (state_of self.now) register want → ⊥) }
+        ensures asked { MatchResult result (λ _. IsKind (state_of self.now) register want) (λ _. IsKind (state_of self.now) register want → ⊥) }
+        ensures within { IfOk result (λ _. register < 64) }
     {
-        match self.kinds[register as usize] {
+        match self.kind(register) {
             None => Err(FlowCause::Unset),
             Some(have) => {
                 if fits(have, want) {
@@ -34,13 +48,32 @@ impl Known {
         }
     }
 
-    /// Sets a register to a kind, with the place of a term or one that nothing is known of.
-    pub(crate) fn set(&mut self, register: u8, kind: Kind, like: Option<Term>)
+    /// What an instruction does to the state that goes on, where `register` is its operand a.
+    pub(crate) fn apply(&mut self, register: u8, effect: Effect)
+        requires { CanApply register effect }
+        ensures { SameState (state_of self.new) (after register (state_of self.old) effect) }
+    {
+        match effect {
+            Effect::Keeps => {}
+            Effect::Sets(kind, like) => self.set(register, kind, like),
+            Effect::Joins(one, other) => self.homes.join(one, other),
+        }
+    }
+
+    // Sets a register to a kind, with the place of a term or one that nothing is known of.
+    fn set(&mut self, register: u8, kind: Kind, like: Option<Term>)
         requires register { register < 64 }
         requires like { ForSome like IsTerm }
         ensures { SameState (state_of self.new) (set (state_of self.old) register kind like) }
     {
         self.kinds[register as usize] = Some(kind);
         self.homes.write(register, like);
+    }
+
+    /// Only the 64 registers that there may be are set. It does nothing.
+    pub(crate) fn narrow(&self)
+        ensures { IsNarrow (state_of self.now) }
+    {
+        let _ = &self.kinds;
     }
 }

@@ -1,12 +1,20 @@
 //! The verifier: whether a module's activities can ever go wrong, found before any of them runs.
 #![tactic(auto)]
 
+mod calls;
 mod check;
+mod decide;
 mod entry;
 mod fault;
-mod flow;
 mod known;
+mod merge;
+mod objects;
+mod places;
 mod ranges;
+mod solve;
+mod states;
+mod table;
+
 mod verified;
 mod whole;
 

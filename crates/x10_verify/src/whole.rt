@@ -3,10 +3,13 @@ ghost use Rattle.std.specs.Prelude.{◌≡◌, ◌<◌, ℕ, length, MatchOption
 ghost use Rattle.x10_model.specs.Modules.{Function};
 ghost use Rattle.x10_model.specs.Ranges.{function_at};
 ghost use Rattle.x10_model.specs.Assignments.{AreInRange, HasAssignment};
+ghost use Rattle.x10_image.specs.Parts.{code_at};
+ghost use Rattle.x10_verify.specs.States.{IsFresh};
 ghost use Rattle.x10_verify.specs.Verdict.{AreInRangeTo, IsOutAt, IsFirstOut, IsFirstWithout};
 
 use crate::check::{FlowFault, check_function};
 use crate::ranges::in_range;
+use crate::states::Entry;
 use x10_image::ImageView;
 
 /// Where something stands: a function, and an instruction of it.
@@ -45,16 +48,32 @@ pub(crate) fn check_ranges(image: &ImageView) -> Result<(), Position>
     Ok(())
 }
 
-/// Whether each function has a consistent assignment; else the first that has none.
-pub(crate) fn check_flow(image: &ImageView) -> Result<(), (usize, FlowFault)>
-    requires { AreInRange image.now }
+/// How many instructions the longest function has.
+pub(crate) fn longest(image: &ImageView) -> usize
+    ensures { (f : ℕ) → length (code_at image.now f) ≤ result }
+{
+    let mut longest = 0;
+    for function in 0..image.functions() {
+        longest = longest.max(image.code_len(function));
+    }
+    longest
+}
+
+/// Whether each function has a consistent assignment; else the first that has none. The table has room for the longest.
+pub(crate) fn check_flow(
+    image: &ImageView,
+    table: &mut Vec<Entry>,
+) -> Result<(), (usize, FlowFault)>
+    requires range { AreInRange image.now }
+    requires room { (f : ℕ) → length (code_at image.now f) ≤ length table.old.items }
+    requires fresh { IsFresh table.old.items }
     ensures ok { IfOk result (λ _. (f : ℕ) (function : Function) → function_at image.now f ≡ Some function → HasAssignment image.now function) }
     ensures err { IfErr result (λ at. IsFirstWithout image.now at.0) }
     ensures small { IfErr result (λ at. (at.0 < 256) × (at.1.pc ≤ 4096)) }
 {
     image.fits();
     for function in 0..image.functions() {
-        if let Err(fault) = check_function(image, function) {
+        if let Err(fault) = check_function(image, function, table) {
             return Err((function, fault));
         }
     }

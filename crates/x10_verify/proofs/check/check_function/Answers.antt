@@ -1,17 +1,18 @@
-use Rattle.std.proofs.Common.{arith}
+use Rattle.std.proofs.Common.{◌≡◌, ◌<◌, length, arith}
 use Rattle.x10_verify.specs.Known.{state_of}
-use Rattle.x10_verify.proofs.Straight.{begins_at, same_result, walked_past}
+use Rattle.x10_verify.proofs.InFunction.{code_length, same_entry, same_result}
+use Rattle.x10_verify.proofs.Solved.{begins, solved, measure_falls}
+use Rattle.x10_verify.proofs.Tabled.{arrives_size}
 use Rattle.x10_verify.proofs.check.check_function.Goals as goal
 
-pub loop-pc-init : goal.loop-pc-init
-loop-pc-init c = λ function there. begins_at c.args.image.now c.args.f function c.signature-signature.result (state_of c.entry-known.result) c.signature-signature.ensures.value c.entry-known.ensures.same c.entry-known.ensures.valid there
-
-pub loop-pc-preserved : goal.loop-pc-preserved
-loop-pc-preserved c = λ function there. let step = rw c.in-Ok-Onward.field-0-is at c.in-Ok-Onward.ensures in
-    step function there (c.loop-pc.invariant function there)
-
-pub pass-requires-clause-slot : goal.pass-requires-clause-slot
-pass-requires-clause-slot c = λ function there. same_result c.args.image.now c.args.f function c.signature-signature.result c.result-slot.result c.signature-signature.ensures.value c.result-slot.ensures.value there
+pub loop-at-init : goal.loop-at-init
+loop-at-init c = record {
+  solves = λ function there.
+    let size : length function.code ≡ c.code_len-len.result = code_length c.args.image.now c.args.f c.code_len-len.result function there c.code_len-len.ensures.value in
+    begins c.args.image.now function c.entry-first.result c.args.table.now.items c.arrive.new.table.items c.arrive.result (omega arith) c.requires.fresh c.arrive.ensures
+      (same_entry c.args.image.now c.args.f function c.signature-signature.result (state_of c.entry-first.result) c.signature-signature.ensures.value there c.entry-first.ensures.same) c.entry-first.ensures.valid c.narrow.ensures;
+  size = arrives_size c.args.table.now.items 0 c.entry-first.result c.arrive.new.table.items c.arrive.result c.arrive.ensures;
+}
 
 pub returns-clause-decides : goal.returns-clause-decides
-returns-clause-decides c = λ function there. walked_past c.args.image.now c.args.f c.loop-pc.pc function (state_of c.loop-pc.known) there (omega (arith, c.code_len-len.ensures.value)) (c.loop-pc.invariant function there)
+returns-clause-decides c = λ function there. solved c.args.image.now function c.loop-at.at c.code_len-len.result c.loop-at.table.items (code_length c.args.image.now c.args.f c.code_len-len.result function there c.code_len-len.ensures.value) (omega arith) (c.loop-at.invariant.solves function there)

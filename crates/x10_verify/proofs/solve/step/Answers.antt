@@ -1,0 +1,32 @@
+use Rattle.std.proofs.Common.{refl, []}
+use Rattle.x10_model.specs.Modules.{Function}
+use Rattle.x10_verify.specs.Known.{state_of}
+use Rattle.x10_verify.specs.Knowledge.{point}
+use Rattle.x10_verify.proofs.Stepped.{refused, step_on, step_refused, step_jumps_out, step_runs_out, step_total}
+use Rattle.x10_verify.proofs.Tables.{can_apply, results_fit}
+use Rattle.x10_verify.proofs.solve.step.Goals as goal
+
+pub returns-in_err-effect-clause-steps : goal.returns-in_err-effect-clause-steps
+returns-in_err-effect-clause-steps c = λ function same is size. refused c.args.image.now function c.args.at c.args.table.now.items c.from_residual.result _ c.from_residual.ensures.0
+    (step_refused c.args.image.now function c.args.at c.args.instr c.take-known.result c.args.table.now.items c.take-known.new.table.items is c.take-known.ensures.taken (c.in_err-effect.ensures function c.args.at same))
+
+pub returns-in_err-next-clause-steps : goal.returns-in_err-next-clause-steps
+returns-in_err-next-clause-steps c = λ function same is size. refused c.args.image.now function c.args.at c.args.table.now.items c.from_residual-in_err-next.result _ c.from_residual-in_err-next.ensures.0
+    (step_jumps_out c.args.image.now function c.args.at c.args.len c.args.instr c.take-known.result c.args.table.now.items c.take-known.new.table.items size is c.take-known.ensures.taken c.in_err-next.ensures.0 c.in_err-next.ensures.1)
+
+pub go_on-requires-clause-can : goal.go_on-requires-clause-can
+go_on-requires-clause-can c =
+    let any : Function = record { parameters = []; registers = 0; loops = 0; result = c.args.slot; code = [] } in
+    can_apply (point c.args.image.now any 0 c.args.instr) (state_of c.take-known.result) c.in_ok-effect.effect c.take-known.ensures.narrow (results_fit c.args.image.now c.fits.ensures) c.requires.named (c.in_ok-effect.ensures any 0 refl)
+
+pub returns-in_err-go_on-clause-steps : goal.returns-in_err-go_on-clause-steps
+returns-in_err-go_on-clause-steps c = λ function same is size. refused c.args.image.now function c.args.at c.args.table.now.items c.from_residual-in_err-go_on.result _ c.from_residual-in_err-go_on.ensures.0
+    (step_runs_out c.args.image.now function c.args.at c.args.len c.args.instr c.take-known.result c.in_ok-effect.effect c.args.table.now.items c.take-known.new.table.items size is (results_fit c.args.image.now c.fits.ensures) c.requires.named.small.place c.take-known.ensures.taken
+      (c.in_ok-effect.ensures function c.args.at same) c.in_err-go_on.ensures.0 c.in_err-go_on.ensures.1)
+
+pub returns-clause-steps : goal.returns-clause-steps
+returns-clause-steps c = λ function same is size. step_on c.args.image.now function c.args.at c.args.len c.args.instr c.take-known.result c.in_ok-effect.effect c.in_ok-next.next c.args.table.now.items c.take-known.new.table.items c.jump.new.table.items c.go_on.new.table.items size is
+    (results_fit c.args.image.now c.fits.ensures) c.requires.named.small.place c.take-known.ensures.taken (c.in_ok-effect.ensures function c.args.at same) c.in_ok-next.ensures c.in_ok-go_on.ensures
+
+pub returns-clause-falls : goal.returns-clause-falls
+returns-clause-falls c = step_total c.args.instr c.args.at c.args.len c.take-known.result c.in_ok-effect.effect c.in_ok-next.next c.args.table.now.items c.take-known.new.table.items c.jump.new.table.items c.go_on.new.table.items c.take-known.ensures.taken c.in_ok-next.ensures c.in_ok-go_on.ensures

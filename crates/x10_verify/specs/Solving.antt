@@ -1,0 +1,54 @@
+-- The states so far of one function, as its instructions are looked at.
+use Rattle.std.specs.Prelude.{◌≡◌, ℕ, ◌+◌, ◌<◌, ◌≤◌, ◌⊎◌, Bool, true, false, List, length, Option, Some, None, Result, Ok, Err, slice_get}
+use Rattle.x10_code.specs.declared.instr.Instr.{Instr}
+use Rattle.x10_code.specs.Table.{form_of}
+use Rattle.x10_model.specs.Maps.{IsIn}
+use Rattle.x10_model.specs.Modules.{Module, Function}
+use Rattle.x10_model.specs.Structure.{is_target}
+use Rattle.x10_model.specs.Assignments.{State, Edges, Permits, Reaches, HasAssignment, entry_state}
+use Rattle.x10_verify.specs.declared.fault.FlowCause.{FlowCause}
+use Rattle.x10_verify.specs.declared.known.Known.{Known}
+use Rattle.x10_verify.specs.declared.states.Entry.{Entry}
+use Rattle.x10_verify.specs.declared.table.Effect.{Effect}
+use Rattle.x10_verify.specs.Knowledge.{LeastAt, SameState, point}
+use Rattle.x10_verify.specs.Known.{state_of}
+use Rattle.x10_verify.specs.Effects.{IsKept, IsNarrow}
+use Rattle.x10_verify.specs.Rules.{after, goes_on_of}
+use Rattle.x10_verify.specs.States.{Arrives, stated, waits}
+
+-- the rule of instruction q holds in a state, and what follows knows no more than it is given
+abbrev pub Holds : Module → Function → (ℕ → Option State) → ℕ → State → Type 0
+Holds program function states q s = (instr : Instr) × (out : Edges) × (slice_get function.code q ≡ Some instr) × Permits instr.op (point program function q instr) s out × ((edge : ℕ × State) → IsIn edge out → Reaches states edge)
+
+-- Sound: each state is one, and the rule of each that doesn't wait holds. Least: every consistent assignment has a state
+-- there that knows no more. Nothing before `at` waits.
+pub record Solves (program : Module) (function : Function) (at : ℕ) (table : List Entry) : Type 0 where
+  pub inside : (q : ℕ) → length function.code ≤ q → stated table q ≡ None
+  pub entry : Reaches (stated table) (0, entry_state function)
+  pub kept : (q : ℕ) (s : State) → stated table q ≡ Some s → IsKept s
+  pub settled : (q : ℕ) (s : State) → stated table q ≡ Some s → waits table q ≡ false → Holds program function (stated table) q s
+  pub least : (q : ℕ) (s : State) → stated table q ≡ Some s → LeastAt program function q s
+  pub behind : (q : ℕ) → q < at → waits table q ≡ false
+
+-- one waiting instruction more: the states so far and where to go on, or no consistent assignment
+abbrev pub Steps : Module → Function → ℕ → List Entry → Result ℕ FlowCause → List Entry → Type 0
+Steps program function at old (Ok next) new = Solves program function at old → Solves program function next new
+Steps program function at old (Err cause) new = Solves program function at old → HasAssignment program function → ⊥
+
+-- what became of the jump to x: its state has changed, and is to be looked at next where it is no later instruction
+abbrev pub JumpsIf : Bool → Instr → ℕ → ℕ → Known → List Entry → ℕ → List Entry → Type 0
+JumpsIf true i at len known old next new = (changed : Bool) × (i.x < len) × Arrives old i.x known new changed × (((changed ≡ true) × (i.x ≤ at) × (next ≡ i.x)) ⊎ ((changed ≡ true → at < i.x) × (next ≡ at + 1)))
+JumpsIf false i at len known old next new = (next ≡ at + 1) × (new ≡ old)
+
+abbrev pub Jumps : Instr → ℕ → ℕ → Known → List Entry → Result ℕ FlowCause → List Entry → Type 0
+Jumps i at len known old (Ok next) new = JumpsIf (is_target (form_of i.op).x) i at len known old next new
+Jumps i at len known old (Err cause) new = (is_target (form_of i.op).x ≡ true) × (len ≤ i.x)
+
+-- what became of the next instruction
+abbrev pub GoesOnIf : Bool → Instr → ℕ → ℕ → Effect → Known → List Entry → List Entry → Type 0
+GoesOnIf true i at len effect known old new = (changed : Bool) × (t : Known) × (at + 1 < len) × IsNarrow (state_of t) × SameState (state_of t) (after i.a (state_of known) effect) × Arrives old (at + 1) t new changed
+GoesOnIf false i at len effect known old new = new ≡ old
+
+abbrev pub GoesOn : Instr → ℕ → ℕ → Effect → Known → List Entry → Result Unit FlowCause → List Entry → Type 0
+GoesOn i at len effect known old (Ok done) new = GoesOnIf (goes_on_of i.op) i at len effect known old new
+GoesOn i at len effect known old (Err cause) new = (goes_on_of i.op ≡ true) × (len ≤ at + 1)

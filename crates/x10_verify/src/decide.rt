@@ -1,0 +1,75 @@
+//! Whether an instruction's rule holds in a state, and with which effect.
+ghost use Rattle.std.specs.Prelude.{◌≡◌, ℕ, MatchResult, Ok, Err, IfOk};
+ghost use Rattle.x10_model.specs.Modules.{Function};
+ghost use Rattle.x10_verify.specs.Known.{state_of};
+ghost use Rattle.x10_verify.specs.Knowledge.{point};
+ghost use Rattle.x10_verify.specs.Named.{NamesSmall};
+ghost use Rattle.x10_verify.specs.Rules.{Allows, Asked, Decides, Settles, rule_for};
+
+use crate::calls::{called, returned, started};
+use crate::fault::FlowCause;
+use crate::known::Known;
+use crate::objects::{exported, got, made, opened, put, unwrapped};
+use crate::places::{copied, found_here, found_same, located, printed};
+use crate::table::{Effect, Outcome, rule_of};
+use x10_code::Instr;
+use x10_image::ImageView;
+use x10_kinds::Kind;
+use x10_model::Slot;
+
+/// The effect of an instruction in a state, if its rule holds there; else the first thing that is missing, by the order of
+/// the operands. `slot` is the result of the function that it stands in.
+pub(crate) fn decide(
+    image: &ImageView,
+    slot: Option<Slot>,
+    instr: Instr,
+    known: &Known,
+) -> Result<Effect, FlowCause>
+    requires { NamesSmall instr }
+    ensures { (function : Function) (pc : ℕ) → function.result ≡ slot → Decides (Allows (rule_for instr.op instr) (point image.now function pc instr) (state_of known.now)) result }
+{
+    let rule = rule_of(instr);
+    asked(instr.a, rule.a, known)?;
+    asked(instr.b, rule.b, known)?;
+    asked(instr.c, rule.c, known)?;
+    settled(image, slot, instr, rule.outcome, known)
+}
+
+// A register is asked for a kind, or for nothing.
+fn asked(register: u8, want: Option<Kind>, known: &Known) -> Result<(), FlowCause>
+    ensures { MatchResult result (λ _. Asked (state_of known.now) register want) (λ _. Asked (state_of known.now) register want → ⊥) }
+{
+    match want {
+        None => Ok(()),
+        Some(want) => known.ask(register, want),
+    }
+}
+
+// What a row asks beside kinds, and the effect.
+fn settled(
+    image: &ImageView,
+    slot: Option<Slot>,
+    instr: Instr,
+    outcome: Outcome,
+    known: &Known,
+) -> Result<Effect, FlowCause>
+    ensures { (function : Function) (pc : ℕ) → function.result ≡ slot → Decides (Settles outcome (point image.now function pc instr) (state_of known.now)) result }
+{
+    match outcome {
+        Outcome::Fixed(effect) => Ok(effect),
+        Outcome::Copies => copied(instr, known),
+        Outcome::Calls(at) => called(image, instr, at, known),
+        Outcome::Returns => returned(slot, instr, known),
+        Outcome::Makes => made(image, instr, known),
+        Outcome::Gets => got(image, instr, known),
+        Outcome::Puts => put(image, instr, known),
+        Outcome::Unwraps => unwrapped(instr, known),
+        Outcome::Locates => located(instr, known),
+        Outcome::Exports => exported(instr, known),
+        Outcome::Opens => opened(instr, known),
+        Outcome::FindsHere => found_here(instr, known),
+        Outcome::FindsSame => found_same(instr, known),
+        Outcome::Starts(at) => started(image, instr, at, known),
+        Outcome::Prints => printed(instr, known),
+    }
+}

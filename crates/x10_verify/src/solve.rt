@@ -1,0 +1,93 @@
+//! One instruction of the work list: its rule, and what it gives to those that may follow.
+ghost use Rattle.std.specs.Prelude.{◌≡◌, ◌⊎◌, ◌+◌, ◌<◌, ◌≤◌, ℕ, IfOk, Some, true, length, slice_get};
+ghost use Rattle.x10_model.specs.Modules.{Function};
+ghost use Rattle.x10_verify.specs.Effects.{CanApply};
+ghost use Rattle.x10_verify.specs.Named.{IsNamed};
+ghost use Rattle.x10_verify.specs.Solving.{GoesOn, Jumps, Steps};
+ghost use Rattle.x10_verify.specs.States.{total, waits};
+
+use crate::decide::decide;
+use crate::fault::FlowCause;
+use crate::known::Known;
+use crate::states::{Entry, arrive, take};
+use crate::table::{Effect, goes_on, jumps};
+use x10_code::Instr;
+use x10_image::ImageView;
+use x10_model::Slot;
+
+/// A waiting instruction of a function of `len` instructions, whose result is `slot`: where to look next, or the first
+/// rule that doesn't hold. Where it jumps back to a state that changes, that is looked at next, else the next instruction.
+pub(crate) fn step(
+    image: &ImageView,
+    slot: Option<Slot>,
+    instr: Instr,
+    at: usize,
+    len: usize,
+    table: &mut Vec<Entry>,
+) -> Result<usize, FlowCause>
+    requires named { IsNamed image.now instr }
+    requires at { at < len }
+    requires room { len ≤ length table.old.items }
+    requires waiting { waits table.old.items at ≡ true }
+    ensures steps { (function : Function) → function.result ≡ slot → slice_get function.code at ≡ Some instr → length function.code ≡ len → Steps image.now function at table.old.items result table.new.items }
+    ensures size { IfOk result (λ _. length table.new.items ≡ length table.old.items) }
+    ensures falls { IfOk result (λ next. ((next ≡ at + 1) × (total table.new.items ≤ total table.old.items)) ⊎ ((next ≤ at) × (total table.new.items < total table.old.items))) }
+{
+    image.fits();
+    let known = take(table, at);
+    let effect = decide(image, slot, instr, &known)?;
+    let next = jump(instr, at, len, &known, table)?;
+    go_on(instr, at, len, effect, known, table)?;
+    Ok(next)
+}
+
+// To instruction x with the state as it was, where the operation jumps. Where to look next.
+fn jump(
+    instr: Instr,
+    at: usize,
+    len: usize,
+    known: &Known,
+    table: &mut Vec<Entry>,
+) -> Result<usize, FlowCause>
+    requires at { at < len }
+    requires room { len ≤ length table.old.items }
+    ensures { Jumps instr at len known.now table.old.items result table.new.items }
+{
+    if !jumps(instr.op) {
+        return Ok(at + 1);
+    }
+    let target = instr.x as usize;
+    if target >= len {
+        return Err(FlowCause::Unset);
+    }
+    if arrive(table, target, known) && target <= at {
+        return Ok(target);
+    }
+    Ok(at + 1)
+}
+
+// To the next instruction with the effect, where the operation goes on.
+fn go_on(
+    instr: Instr,
+    at: usize,
+    len: usize,
+    effect: Effect,
+    mut known: Known,
+    table: &mut Vec<Entry>,
+) -> Result<(), FlowCause>
+    requires at { at < len }
+    requires room { len ≤ length table.old.items }
+    requires can { CanApply instr.a effect }
+    ensures { GoesOn instr at len effect known table.old.items result table.new.items }
+{
+    if !goes_on(instr.op) {
+        return Ok(());
+    }
+    if at + 1 >= len {
+        return Err(FlowCause::Unset);
+    }
+    known.apply(instr.a, effect);
+    known.narrow();
+    arrive(table, at + 1, &known);
+    Ok(())
+}

@@ -1,0 +1,105 @@
+//! The states that are known so far before the instructions of one function.
+ghost use Rattle.std.specs.Prelude.{◌≡◌, ◌<◌, ◌≤◌, ℕ, IfOk, length, slice_get, true};
+ghost use Rattle.x10_verify.specs.Effects.{IsNarrow};
+ghost use Rattle.x10_verify.specs.Known.{state_of};
+ghost use Rattle.x10_verify.specs.States.{Arrives, IsFresh, Receives, Takes, state_in, waits};
+
+use crate::known::Known;
+use std::alloc::{AllocError, Global};
+use x10_kinds::Homes;
+
+/// What has become of an instruction.
+#[derive(Clone, Copy, Debug, PartialEq, Eq)]
+pub(crate) enum Mark {
+    /// Nothing leads to it so far.
+    Unreached,
+    /// Its state has changed since it was last looked at.
+    Waiting,
+    /// It has been looked at in its state.
+    Done,
+}
+
+/// An instruction's mark, and its state once it is reached.
+#[derive(Clone, Copy, Debug)]
+pub(crate) struct Entry {
+    pub(crate) mark: Mark,
+    pub(crate) known: Known,
+}
+
+impl Entry {
+    /// What is known on one way more: kept whole where it is the first, else as far as both ways know it. Tells whether
+    /// that changed anything.
+    pub(crate) fn receive(&mut self, known: &Known) -> bool
+        ensures { Receives self.old known.now self.new result }
+    {
+        if self.mark == Mark::Unreached {
+            self.known = *known;
+            self.mark = Mark::Waiting;
+            return true;
+        }
+        if !self.known.weaken(known) {
+            return false;
+        }
+        self.mark = Mark::Waiting;
+        true
+    }
+}
+
+/// Whether an instruction waits.
+pub(crate) fn is_waiting(table: &Vec<Entry>, at: usize) -> bool
+    requires { at < length table.now.items }
+    ensures { result ≡ waits table.now.items at }
+{
+    table[at].mark == Mark::Waiting
+}
+
+/// The state of a waiting instruction, which is done from then on.
+pub(crate) fn take(table: &mut Vec<Entry>, at: usize) -> Known
+    requires within { at < length table.old.items }
+    requires waiting { waits table.old.items at ≡ true }
+    ensures taken { Takes table.old.items at result table.new.items }
+    ensures narrow { IsNarrow (state_of result) }
+{
+    let entry = &mut table[at];
+    entry.mark = Mark::Done;
+    entry.known.narrow();
+    entry.known
+}
+
+/// One way more to an instruction. Tells whether its state changed.
+pub(crate) fn arrive(table: &mut Vec<Entry>, target: usize, known: &Known) -> bool
+    requires { target < length table.old.items }
+    ensures { Arrives table.old.items target known.now table.new.items result }
+{
+    table[target].receive(known)
+}
+
+/// A table for functions of so many instructions. 0.5 kB for each.
+pub(crate) fn blank(alloc: Global, len: usize) -> Result<Vec<Entry>, AllocError>
+    ensures fresh { IfOk result (λ table. IsFresh table.items) }
+    ensures size { IfOk result (λ table. length table.items ≡ len) }
+{
+    let mut table = Vec::with_capacity(alloc, len)?;
+    for _ in 0..len {
+        table.push(Entry {
+            mark: Mark::Unreached,
+            known: Known {
+                kinds: [None; 64],
+                homes: Homes::new(),
+            },
+        })?;
+    }
+    Ok(table)
+}
+
+/// Forgets the states of a function of so many instructions.
+pub(crate) fn clear(table: &mut Vec<Entry>, len: usize)
+    requires { len ≤ length table.old.items }
+    ensures cleared { (q : ℕ) → q < len → state_in (slice_get table.new.items q) ≡ None }
+    ensures rest { (q : ℕ) → len ≤ q → slice_get table.new.items q ≡ slice_get table.old.items q }
+    ensures size { length table.new.items ≡ length table.old.items }
+{
+    for at in 0..len {
+        table[at].mark = Mark::Unreached;
+    }
+}
