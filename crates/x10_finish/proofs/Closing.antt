@@ -87,10 +87,10 @@ sound_happens setting w v event i (idle e h) = i
 
 -- ---- the opening
 
-abbrev first_stay : Setting → Stay
+abbrev pub first_stay : Setting → Stay
 first_stay setting = new_stay setting.program.entry [] root None
 
-abbrev no_stays : Stays
+abbrev pub no_stays : Stays
 no_stays p k = None
 
 main_row : (setting : Setting) (key k : ℕ) → nat_lt 0 setting.places ≡ true → stays_in (opening_places setting key 0) k ≡ with_pair no_stays 0 key (Some (first_stay setting)) 0 k
@@ -101,13 +101,13 @@ other_row setting key p k true true e = absurd cc
 other_row setting key p k true false e = refl
 other_row setting key p k false t e = refl
 
-opening_row : (setting : Setting) (key p k : ℕ) → 0 < setting.places → stays_in (opening_places setting key p) k ≡ with_pair no_stays 0 key (Some (first_stay setting)) p k
+pub opening_row : (setting : Setting) (key p k : ℕ) → 0 < setting.places → stays_in (opening_places setting key p) k ≡ with_pair no_stays 0 key (Some (first_stay setting)) p k
 opening_row setting key p k lt = elim (cases_eq p 0) [
   | inl e ↦ subst (λ x. stays_in (opening_places setting key x) k ≡ with_pair no_stays 0 key (Some (first_stay setting)) x k) (sym e) (main_row setting key k (lt-ltb 0 setting.places lt))
   | inr apart ↦ other_row setting key p k (nat_lt p setting.places) (p == 0) (ne_eqb p 0 apart) ∙ sym (pair_other no_stays 0 key p k (Some (first_stay setting)) (λ both. apart both.0))
 ]
 
-main_is : (setting : Setting) (key p k : ℕ) (s : Stay) → with_pair no_stays 0 key (Some (first_stay setting)) p k ≡ Some s → (p ≡ 0) × (k ≡ key) × (s ≡ first_stay setting)
+pub main_is : (setting : Setting) (key p k : ℕ) (s : Stay) → with_pair no_stays 0 key (Some (first_stay setting)) p k ≡ Some s → (p ≡ 0) × (k ≡ key) × (s ≡ first_stay setting)
 main_is setting key p k s h = at_stay (λ o. o ≡ Some s → (p ≡ 0) × (k ≡ key) × (s ≡ first_stay setting)) no_stays 0 key p k (Some (first_stay setting)) (λ ep ek is. (ep, ek, sym (one_stay (first_stay setting) s is))) (λ other is. no_stay s is) h
 
 no_finish : {A : Type 0} (setting : Setting) (s : Stay) (i n : ℕ) → s ≡ first_stay setting → nth s.finishes i ≡ Some n → A
@@ -147,7 +147,7 @@ sound_opening setting key lt =
 -- ---- what a finish governs
 
 -- a living activity's finish is used
-lives_used : (w : World) (a : ℕ) → IsSound w.net w.book → Lives w a → IsUsed (stays_of w.net) w.net.posts (unders_of w.book a)
+pub lives_used : (w : World) (a : ℕ) → IsSound w.net w.book → Lives w a → IsUsed (stays_of w.net) w.net.posts (unders_of w.book a)
 lives_used w a i (stays x rest lt chain) =
     let last = chain_inherits (stays_of w.net) (unders_of w.book a) x rest (subst (IsChain (stays_of w.net) (unders_of w.book a)) chain (i.linked.chained a lt)) in
     by_stay last.0 last.1 last.2 last.3 last.4

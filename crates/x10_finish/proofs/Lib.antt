@@ -10,3 +10,4 @@ pub mod Nesting
 pub mod Chains
 pub mod Sound
 pub mod Closing
+pub mod Rooted

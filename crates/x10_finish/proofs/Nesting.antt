@@ -45,7 +45,7 @@ nth_outside (n ∷ ns) (suc i) m ms e = nth_outside ns i m ms e
 -- ---- a quiet finish has nothing inside it
 
 -- used, or not the innermost of its stay
-abbrev IsInside : Stays → (ℕ → Post) → Finish → Type 0
+abbrev pub IsInside : Stays → (ℕ → Post) → Finish → Type 0
 IsInside stays posts f = IsUsed stays posts f ⊎ ((k i : ℕ) × (s : Stay) × (stays f.home k ≡ Some s) × (nth s.finishes (suc i) ≡ Some f.number))
 
 -- the next one outside
@@ -56,12 +56,12 @@ next_outside stays posts p k i s (n ∷ ns) there e = inr (k, i, s, there, nth_o
 one_finish : {f g : Finish} → Some f ≡ Some g → f ≡ g
 one_finish e = cc
 
-enclosed_inside : (stays : Stays) (opened : ℕ → ℕ) (enclosing : Finish → Option Finish) (posts : ℕ → Post) → IsNested stays opened enclosing posts → (f g : Finish) (k i : ℕ) (s : Stay) → stays f.home k ≡ Some s → nth s.finishes i ≡ Some f.number
+pub enclosed_inside : (stays : Stays) (opened : ℕ → ℕ) (enclosing : Finish → Option Finish) (posts : ℕ → Post) → IsNested stays opened enclosing posts → (f g : Finish) (k i : ℕ) (s : Stay) → stays f.home k ≡ Some s → nth s.finishes i ≡ Some f.number
     → enclosing f ≡ Some g → IsInside stays posts g
 enclosed_inside stays opened enclosing posts n f g k i s there at e =
     subst (IsInside stays posts) (one_finish (sym (n.enclosed f.home k i f.number s there at) ∙ e)) (next_outside stays posts f.home k i s (outside s.finishes i) there refl)
 
-used_held : (stays : Stays) (opened : ℕ → ℕ) (enclosing : Finish → Option Finish) (posts : ℕ → Post) → IsNested stays opened enclosing posts → (f : Finish) → IsUsed stays posts f → IsHeld stays f
+pub used_held : (stays : Stays) (opened : ℕ → ℕ) (enclosing : Finish → Option Finish) (posts : ℕ → Post) → IsNested stays opened enclosing posts → (f : Finish) → IsUsed stays posts f → IsHeld stays f
 used_held stays opened enclosing posts n f (by_stay p k s there same) = subst (IsHeld stays) same (n.inherited p k s there)
 used_held stays opened enclosing posts n f (by_post number message flies under) = n.carried number message f flies under
 
@@ -260,17 +260,17 @@ other_if : {X : Type 0} (t : Bool) (x y : X) → (t ≡ true → ⊥) → (if t 
 other_if true x y h = absurd (h refl)
 other_if false x y h = refl
 
-grown : (opened : ℕ → ℕ) (here p : ℕ) → opened p ≤ with_entry opened here (opened here + 1) p
+pub grown : (opened : ℕ → ℕ) (here p : ℕ) → opened p ≤ with_entry opened here (opened here + 1) p
 grown opened here p = at_entry (λ v. opened p ≤ v) opened here p (opened here + 1) (λ same. (let e = ap opened same in omega arith)) (λ apart. omega arith)
 
 -- what was numbered before is not the new one
 not_new : (opened : ℕ → ℕ) (here number p m : ℕ) → p ≡ here → m ≡ number → number ≡ opened here → m < opened p → ⊥
 not_new opened here number p m ep em count lt = (let e = ap opened ep in omega arith)
 
-encloses_new : (enclosing : Finish → Option Finish) (here number : ℕ) (inside f : Finish) → f.home ≡ here → f.number ≡ number → with_enclosing enclosing (record { home = here; number = number }) inside f ≡ Some inside
+pub encloses_new : (enclosing : Finish → Option Finish) (here number : ℕ) (inside f : Finish) → f.home ≡ here → f.number ≡ number → with_enclosing enclosing (record { home = here; number = number }) inside f ≡ Some inside
 encloses_new enclosing here number inside f eh en = (let p = eq-eqb f.home here eh in let q = eq-eqb f.number number en in rw (p, q) refl)
 
-encloses_other : (enclosing : Finish → Option Finish) (here number : ℕ) (inside f : Finish) → (f ≡ record { home = here; number = number } → ⊥) → with_enclosing enclosing (record { home = here; number = number }) inside f ≡ enclosing f
+pub encloses_other : (enclosing : Finish → Option Finish) (here number : ℕ) (inside f : Finish) → (f ≡ record { home = here; number = number } → ⊥) → with_enclosing enclosing (record { home = here; number = number }) inside f ≡ enclosing f
 encloses_other enclosing here number inside f apart = other_if (same_finish f (record { home = here; number = number })) (Some inside) (enclosing f) (λ e. apart (same_is f (record { home = here; number = number }) e))
 
 pub opened_stays : (stays : Stays) (opened : ℕ → ℕ) (enclosing : Finish → Option Finish) (posts : ℕ → Post) (here key number : ℕ) (s t : Stay) → IsNested stays opened enclosing posts → stays here key ≡ Some s → number ≡ opened here → t.finishes ≡ number ∷ s.finishes

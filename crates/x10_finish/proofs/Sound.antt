@@ -17,7 +17,7 @@ use Rattle.x10_finish.proofs.Chains.{ready_first, linked_changes, linked_spawns,
 
 -- ---- maps
 
-entry_self : {V : Type 0} (f : ℕ → V) (k : ℕ) (v : V) → f k ≡ v → with_entry f k v ≡ f
+pub entry_self : {V : Type 0} (f : ℕ → V) (k : ℕ) (v : V) → f k ≡ v → with_entry f k v ≡ f
 entry_self f k v e = fun_ext (λ j. at_entry (λ w. w ≡ f j) f k j v (λ same. sym e ∙ ap f (sym same)) (λ apart. refl))
 
 mapped_if : {V W : Type 0} (t : Bool) (g : V → W) (v w : V) (h : W) → g w ≡ h → g (if t then v else w) ≡ (if t then g v else h)
@@ -40,16 +40,16 @@ stays_row : (net : Net) (here p : ℕ) (new : places.Place) (stays : Stays) → 
 stays_row net here p new stays e other =
     at_entry (λ (o : Option places.Place). stays_in o ≡ stays p) net.places here p (Some new) (λ same. subst (λ x. new.stays ≡ stays x) (sym same) e) other
 
-stays_after : (net : Net) (here key : ℕ) (old new : places.Place) (o : Option Stay) → net.places here ≡ Some old → new.stays ≡ with_entry old.stays key o → (λ p. stays_in (with_entry net.places here (Some new) p)) ≡ with_pair (stays_of net) here key o
+pub stays_after : (net : Net) (here key : ℕ) (old new : places.Place) (o : Option Stay) → net.places here ≡ Some old → new.stays ≡ with_entry old.stays key o → (λ p. stays_in (with_entry net.places here (Some new) p)) ≡ with_pair (stays_of net) here key o
 stays_after net here key old new o e changed =
     fun_ext (λ p. stays_row net here p new (with_pair (stays_of net) here key o)
     (changed ∙ ap (λ (f : ℕ → Option Stay). with_entry f key o) (sym (ap stays_in e)) ∙ sym (row_same (stays_of net) here key o))
     (λ apart. sym (row_other (stays_of net) here key p o apart)))
 
-opened_after : (net : Net) (here n : ℕ) (new : places.Place) → new.opened ≡ n → (λ p. opened_in (with_entry net.places here (Some new) p)) ≡ with_entry (opened_of net) here n
+pub opened_after : (net : Net) (here n : ℕ) (new : places.Place) → new.opened ≡ n → (λ p. opened_in (with_entry net.places here (Some new) p)) ≡ with_entry (opened_of net) here n
 opened_after net here n new e = map_entry opened_in net.places here (Some new) (opened_of net) (λ j. refl) ∙ ap (with_entry (opened_of net) here) e
 
-opened_same : (net : Net) (here : ℕ) (old new : places.Place) → net.places here ≡ Some old → new.opened ≡ old.opened → (λ p. opened_in (with_entry net.places here (Some new) p)) ≡ opened_of net
+pub opened_same : (net : Net) (here : ℕ) (old new : places.Place) → net.places here ≡ Some old → new.opened ≡ old.opened → (λ p. opened_in (with_entry net.places here (Some new) p)) ≡ opened_of net
 opened_same net here old new e same = opened_after net here old.opened new same ∙ entry_self (opened_of net) here old.opened (ap opened_in e)
 
 -- ---- activities after a step
@@ -184,7 +184,7 @@ after_shifts net book here key number function to under message graph old new s 
     (ready_uncarried (stays_of net) book.begun (chains_of book) (unders_of book) book.carries net.posts a here key s first.1 i.carried first.2 there ready) first.0
     (first.1, t, first.2, pair_same (stays_of net) here key (Some t), g.away_is, under_is ∙ sym (same_innermost here s t true g))))
 
-overwritten : {V : Type 0} (f : ℕ → V) (k : ℕ) (v w : V) → with_entry (with_entry f k v) k w ≡ with_entry f k w
+pub overwritten : {V : Type 0} (f : ℕ → V) (k : ℕ) (v w : V) → with_entry (with_entry f k v) k w ≡ with_entry f k w
 overwritten f k v w = fun_ext (λ j. at_entry (λ x. x ≡ with_entry f k w j) (with_entry f k v) k j w (λ same. sym (ap (with_entry f k w) same ∙ entry_same f k w)) (λ apart. entry_other f k j v apart ∙ sym (entry_other f k j w apart)))
 
 free_after : (stays : Stays) (here key other : ℕ) (s t : Stay) → stays here key ≡ Some s → stays here other ≡ None → with_pair stays here key (Some t) here other ≡ None

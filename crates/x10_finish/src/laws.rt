@@ -2,7 +2,7 @@
 
 ghost use Rattle.x10_finish.specs.Detection.{DoneIsAtRest, AtRestIsDone};
 ghost use Rattle.x10_finish.specs.Stays.{StaysChange};
-ghost use Rattle.x10_finish.specs.Closing.{QuietIsIdeal, EndedIsQuiet};
+ghost use Rattle.x10_finish.specs.Closing.{QuietIsIdeal, EndedIsQuiet, RootIsOver};
 
 /// After any events under a finish, reports taken in late and in any order: where nothing lives at its home and the
 /// book balances, nothing under the finish lives anywhere or is in flight.
@@ -32,4 +32,9 @@ pub fn quiet_is_ideal()
 /// in such a run.
 pub fn ended_is_quiet()
     ensures { EndedIsQuiet }
+{}
+
+/// In such a run no activity lives where none under the root has a stay or is in flight.
+pub fn root_is_over()
+    ensures { RootIsOver }
 {}
