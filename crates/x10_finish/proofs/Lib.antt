@@ -5,3 +5,9 @@ pub mod Merging
 pub mod Balances
 pub mod Counting
 pub mod Resting
+pub mod Stays
+pub mod Nesting
+pub mod Chains
+pub mod Sound
+pub mod Closing
+pub mod Rooted

@@ -3,3 +3,7 @@ pub mod Ledgers
 pub mod Pairs
 pub mod Books
 pub mod Detection
+pub mod Stays
+pub mod Nesting
+pub mod Chains
+pub mod Closing

@@ -1,6 +1,8 @@
-//! The law of termination detection. Each function does nothing: its contract is a law, and the check proves it.
+//! Laws of finishes. Each function does nothing: its contract is a law, and the check proves it.
 
 ghost use Rattle.x10_finish.specs.Detection.{DoneIsAtRest, AtRestIsDone};
+ghost use Rattle.x10_finish.specs.Stays.{StaysChange};
+ghost use Rattle.x10_finish.specs.Closing.{QuietIsIdeal, EndedIsQuiet, RootIsOver};
 
 /// After any events under a finish, reports taken in late and in any order: where nothing lives at its home and the
 /// book balances, nothing under the finish lives anywhere or is in flight.
@@ -12,4 +14,27 @@ pub fn done_is_at_rest()
 /// balances.
 pub fn at_rest_is_done()
     ensures { AtRestIsDone }
+{}
+
+/// Each move changes the stays at its place as its effect says.
+pub fn stays_change()
+    ensures { StaysChange }
+{}
+
+/// A run in which each finish closes only where no activity under it has a stay or is in flight is a run in which each
+/// closes only where every activity that it governs has ended, those in finishes inside it too (X10 2.2, chapter
+/// Activities, `finish`).
+pub fn quiet_is_ideal()
+    ensures { QuietIsIdeal }
+{}
+
+/// And where all that a finish governs has ended, no message is in flight and its owner works at its end, it may close
+/// in such a run.
+pub fn ended_is_quiet()
+    ensures { EndedIsQuiet }
+{}
+
+/// In such a run no activity lives where none under the root has a stay or is in flight.
+pub fn root_is_over()
+    ensures { RootIsOver }
 {}
