@@ -12,3 +12,8 @@ pub mod Passing
 pub mod SpelledLines
 pub mod SpelledWords
 pub mod SpelledTexts
+pub mod SpelledInstructions
+pub mod ReadingAgain
+pub mod LinesAgain
+pub mod FunctionsAgain
+pub mod ListingAgain

@@ -20,11 +20,11 @@ pub no_classes : classes_in [] ≡ 0
 unfolding classes_in
 no_classes = refl
 
-class_counted : (text : List ℕ) (others : List (List ℕ)) → is_class (said (words text)) ≡ true → classes_in (text ∷ others) ≡ suc (classes_in others)
+pub class_counted : (text : List ℕ) (others : List (List ℕ)) → is_class (said (words text)) ≡ true → classes_in (text ∷ others) ≡ suc (classes_in others)
 unfolding classes_in
 class_counted text others e = rw e refl
 
-other_passed : (text : List ℕ) (others : List (List ℕ)) → is_class (said (words text)) ≡ false → classes_in (text ∷ others) ≡ classes_in others
+pub other_passed : (text : List ℕ) (others : List (List ℕ)) → is_class (said (words text)) ≡ false → classes_in (text ∷ others) ≡ classes_in others
 unfolding classes_in
 other_passed text others e = rw e refl
 
@@ -36,11 +36,11 @@ pub record IsPassed (kept : Source) (classes line : ℕ) (texts : List (List ℕ
   pub stands : StandsFor kept state
   pub left : read_from classes state line texts ≡ all
 
-step : (classes : ℕ) (s : reading.Source) (line : ℕ) (text : List ℕ) (others : List (List ℕ)) → read_from classes s line (text ∷ others) ≡ go_on (after_line classes s line text others) line (λ t. read_from classes t (suc line) others)
+pub step : (classes : ℕ) (s : reading.Source) (line : ℕ) (text : List ℕ) (others : List (List ℕ)) → read_from classes s line (text ∷ others) ≡ go_on (after_line classes s line text others) line (λ t. read_from classes t (suc line) others)
 unfolding read_from
 step classes s line text others = refl
 
-stop : (classes : ℕ) (s : reading.Source) (line : ℕ) → read_from classes s line [] ≡ ended s line
+pub stop : (classes : ℕ) (s : reading.Source) (line : ℕ) → read_from classes s line [] ≡ ended s line
 unfolding read_from
 stop classes s line = refl
 

@@ -1,10 +1,10 @@
 -- Lines of words are split into their words again.
-use Rattle.std.proofs.Common.{◌≡◌, ◌≢◌, ℕ, zero, suc, ◌+◌, ◌≤◌, ◌<◌, Bool, true, false, not, ◌&&◌, List, [], ◌∷◌, ◌++◌, length, refl, sym, ap, ◌∙◌, append_assoc, append-nil, arith, length-append}
-use Rattle.std.specs.Prelude.{◌==◌, nat_lt, if◌then◌else◌}
+use Rattle.std.proofs.Common.{◌≡◌, ◌≢◌, ℕ, ◌<◌, Bool, true, not, ◌&&◌, List, [], ◌∷◌, ◌++◌, length, refl, sym, ap, ◌∙◌, arith, length-append}
+use Rattle.std.specs.Prelude.{◌==◌, nat_lt}
 use Rattle.std.specs.List.{list_all, flat_map, AllByRecursion}
 use Rattle.std.proofs.lemmas.List.Folds.{list_all-append}
-use Rattle.std.proofs.lemmas.Bool.{ltb-true, lt-ltb, eqb-true, ne_eqb, eq-eqb, and_parts, and_from, and_left, and_right, not_from_false, not-true, true≢false}
-use Rattle.x10_asm.specs.Lines.{grown, begins, lines, is_word_end, words}
+use Rattle.std.proofs.lemmas.Bool.{ltb-true, lt-ltb, ne_eqb, eq-eqb, and_parts, and_from, and_left, and_right, not_from_false, not-true, true≢false}
+use Rattle.x10_asm.specs.Lines.{grown, lines, is_word_end, words}
 use Rattle.x10_asm.specs.Listing.{spaced}
 use Rattle.x10_asm.proofs.Splitting.{word_ends, word_goes_on, line_ends, line_goes_on}
 

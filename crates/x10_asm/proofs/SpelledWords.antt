@@ -1,21 +1,20 @@
 -- Numbers, kinds and operands as words are read again.
-use Rattle.std.proofs.Common.{◌≡◌, ◌≢◌, ℕ, ℤ, pos, negsuc, zero, suc, ◌+◌, ◌-◌, ◌^◌, ◌≤◌, ◌<◌, Bool, true, false, not, ◌&&◌, List, [], ◌∷◌, ◌++◌, length, map, drop, get_or, inl, inr, ◌⊎◌, Option, Some, None, Result, Ok, Err, IfSome, refl, sym, ap, subst, ◌∙◌, append-nil, append_assoc, arith}
-use Rattle.std.specs.Prelude.{◌==◌, nat_lt, nat_le, if◌then◌else◌, codes, decimal, IsTrue, FitsSigned}
+use Rattle.std.proofs.Common.{◌≡◌, ℕ, ℤ, pos, negsuc, suc, ◌-◌, ◌^◌, ◌≤◌, ◌<◌, Bool, true, false, ◌&&◌, List, [], ◌∷◌, ◌++◌, length, map, inl, inr, ◌⊎◌, Option, Some, None, Result, Ok, IfSome, refl, ap, ◌∙◌, arith}
+use Rattle.std.specs.Prelude.{nat_lt, nat_le, if◌then◌else◌, codes, decimal, IsTrue, FitsSigned}
 use Rattle.std.specs.Int.{w64}
 use Rattle.std.specs.Fmt.{signed_decimal}
 use Rattle.std.specs.Str.{all_ascii_digits, bytes_eq}
 use Rattle.std.specs.Str.Parse.{digits_value}
 use Rattle.std.specs.List.{list_all, AllByRecursion}
 use Rattle.std.proofs.lemmas.Fmt.{digits_decimal, digits_value-decimal, decimal_nonempty}
-use Rattle.std.proofs.lemmas.Bool.{ltb-true, lt-ltb, le-leb, eqb-true, ne_eqb, and_parts, and_from, leb-true, false≢true}
+use Rattle.std.proofs.lemmas.Bool.{lt-ltb, le-leb, ne_eqb, and_parts, and_from, leb-true, false≢true}
 use Rattle.x10_kinds.specs.declared.kind.Kind.{Kind}
 use Rattle.x10_kinds.specs.declared.kind.Kind.TheVariants as kind
 use Rattle.x10_model.specs.declared.slot.Slot.{Slot}
 use Rattle.x10_model.specs.Modules.{NamesClassBelow, FitsSlot, takes_flag}
 use Rattle.x10_asm.specs.declared.fault.AsmCause.{AsmCause}
-use Rattle.x10_asm.specs.declared.fault.AsmCause.TheVariants as cause
-use Rattle.x10_asm.specs.Lines.{number_of, int_of, begins, stripped, plus, minus, negative}
-use Rattle.x10_asm.specs.Kinds.{class_of, slot_with, classed, plain, slot_of, field_of, result_of, is_unknown, each, are_known, some_slot}
+use Rattle.x10_asm.specs.Lines.{number_of, int_of, begins, plus, minus}
+use Rattle.x10_asm.specs.Kinds.{class_of, slot_with, plain, slot_of, field_of, result_of, each, are_known, some_slot}
 use Rattle.x10_asm.specs.Checks.{◌>>=◌}
 use Rattle.x10_asm.specs.Listing.{kind_word, flagged_word, slot_word, result_word}
 use Rattle.x10_asm.proofs.Numbers.{own}
