@@ -1,11 +1,10 @@
 -- A Homes that gives up an equation has a lower rank, and no rank is large.
-use Rattle.std.proofs.Common.{◌≡◌, ◌≢◌, ◌⊎◌, ℕ, zero, suc, ◌+◌, ◌-◌, ◌*◌, ◌<◌, ◌≤◌, true, List, slice_index, sym, subst, ◌∙◌, inl, inr, arith}
+use Rattle.std.proofs.Common.{◌≡◌, ◌≢◌, ◌⊎◌, ℕ, zero, suc, ◌-◌, ◌*◌, ◌<◌, ◌≤◌, true, List, slice_index, sym, subst, ◌∙◌, inl, inr, arith}
 use Rattle.std.proofs.Math.Nat.{suc-mul}
-use Rattle.std.proofs.lemmas.Bool.{eq-eqb, eqb-true, cases_eq, cases_lt}
+use Rattle.std.proofs.lemmas.Bool.{eq-eqb, eqb-true, cases_eq}
 use Rattle.x10_kinds.specs.declared.homes.Homes.{Homes}
-use Rattle.x10_kinds.specs.declared.homes.Term.{Term}
 use Rattle.x10_kinds.specs.Labels.{IsCanonical, alike}
-use Rattle.x10_kinds.specs.Equations.{Includes, SameEquations, IsTerm, index_of, equations, met}
+use Rattle.x10_kinds.specs.Equations.{Includes, SameEquations, index_of, equations, met}
 use Rattle.x10_kinds.proofs.Equivalences.{met_below}
 use Rattle.x10_kinds.specs.Ranks.{sum_below, rank}
 use Rattle.x10_kinds.proofs.Terms.{index_of-below, known_of_numbers}
@@ -27,14 +26,14 @@ unfolding sum_below
 sum_below-lt zero f g k each lt less = absurd (omega arith)
 sum_below-lt (suc n) f g k each lt less = elim (cases_eq k n) [
   | inl same ↦ (
-    let here : f n < g n = subst (λ i. f i < g i) same less in
-    let rest : sum_below n f ≤ sum_below n g = sum_below-le n f g (λ i l. each i (omega arith)) in
-    omega arith)
+      let here : f n < g n = subst (λ i. f i < g i) same less in
+      let rest : sum_below n f ≤ sum_below n g = sum_below-le n f g (λ i l. each i (omega arith)) in
+      omega arith)
   | inr other ↦ (
-    let here : f n ≤ g n = each n (omega arith) in
-    let below : k < n = omega arith in
-    let rest : sum_below n f < sum_below n g = sum_below-lt n f g k (λ i l. each i (omega arith)) below less in
-    omega arith)
+      let here : f n ≤ g n = each n (omega arith) in
+      let below : k < n = omega arith in
+      let rest : sum_below n f < sum_below n g = sum_below-lt n f g k (λ i l. each i (omega arith)) below less in
+      omega arith)
 ]
 
 -- a sum of values up to a bound
@@ -90,15 +89,15 @@ unfolding rank equations
 rank-falls more less all not = elim (agree_or_differ 129 (slice_index more.labels) (slice_index less.labels)) [
   | inl same ↦ absurd (not (λ v w v_term w_term e. same_labels more.labels less.labels same (index_of v) (index_of w) (index_of-below v v_term) (index_of-below w w_term) e))
   | inr at ↦ (
-    let lower : (i : ℕ) → i < 129 → slice_index more.labels i ≤ slice_index less.labels i = λ i lt. label-le more.labels less.labels i more.canonical less.canonical lt (known_of_numbers more.labels less.labels all) in
-    let bounded : (i : ℕ) → i < 129 → slice_index less.labels i < 129 = λ i lt. (let low : slice_index less.labels i ≤ i = less.canonical.low i lt in omega arith) in
-    sum_below-lt 129 (λ i. 129 - slice_index less.labels i) (λ i. 129 - slice_index more.labels i) at.0
+      let lower : (i : ℕ) → i < 129 → slice_index more.labels i ≤ slice_index less.labels i = λ i lt. label-le more.labels less.labels i more.canonical less.canonical lt (known_of_numbers more.labels less.labels all) in
+      let bounded : (i : ℕ) → i < 129 → slice_index less.labels i < 129 = λ i lt. (let low : slice_index less.labels i ≤ i = less.canonical.low i lt in omega arith) in
+      sum_below-lt 129 (λ i. 129 - slice_index less.labels i) (λ i. 129 - slice_index more.labels i) at.0
       (λ i lt. (let l : slice_index more.labels i ≤ slice_index less.labels i = lower i lt in omega arith))
       at.1
       (let l : slice_index more.labels at.0 ≤ slice_index less.labels at.0 = lower at.0 at.1 in
-       let b : slice_index less.labels at.0 < 129 = bounded at.0 at.1 in
-       let d : slice_index more.labels at.0 ≢ slice_index less.labels at.0 = at.2 in
-       omega arith))
+      let b : slice_index less.labels at.0 < 129 = bounded at.0 at.1 in
+      let d : slice_index more.labels at.0 ≢ slice_index less.labels at.0 = at.2 in
+      omega arith))
 ]
 
 -- what two know in common is of lower rank than the first, where the second lacks some of it
@@ -106,5 +105,5 @@ pub met-falls : (one two both : Homes) → SameEquations (equations both) (met (
 met-falls one two both same lacks =
     let parts = met_below (equations one) (equations two) in
     rank-falls one both
-      (λ v w v_term w_term e. parts.0 v w v_term w_term (sym (same v w v_term w_term) ∙ e))
-      (λ all. lacks (λ v w v_term w_term e. parts.1 v w v_term w_term (sym (same v w v_term w_term) ∙ all v w v_term w_term e)))
+    (λ v w v_term w_term e. parts.0 v w v_term w_term (sym (same v w v_term w_term) ∙ e))
+    (λ all. lacks (λ v w v_term w_term e. parts.1 v w v_term w_term (sym (same v w v_term w_term) ∙ all v w v_term w_term e)))
