@@ -44,4 +44,3 @@ entry_cases V key other = entry_chosen V key other (other == key) refl
 
 pub some_is : {X : Type 0} (x y : X) → Some x ≡ Some y → x ≡ y
 some_is x y e = cc
-

@@ -70,6 +70,14 @@ weight_falls (Some (Obj c)) None other = omega arith
 weight_falls (Some k) None other = search (rules, arith)
 weight_falls (Some k) (Some l) other = weight_meet k l other
 
+-- a kind that both have is the common one
+pub common_same : (a b : Option Kind) → b ≡ a → common_of a b ≡ a
+common_same None b e = refl
+common_same (Some k) b e = ap (λ x. common_of (Some k) x) e ∙ meet_same k
+  where
+    meet_same : (l : Kind) → meet_of l l ≡ Some l
+    meet_same l = search rules
+
 -- ---- register by register
 
 pub weakened_begins : (v s : Known) (changed : Bool) → changed ≡ false → IsWeakened v s 0 v changed
@@ -155,7 +163,7 @@ weakened_more v s n u t before changed is h lt other same = record {
         free = elim (option_cases (w.kinds n)) [
           | inl none ↦ ap holds_place none
           | inr some ↦ (let k = kinds n some.0 some.1 in
-            ap holds_place some.1 ∙ common_no_place (kind_in u.kinds n) (kind_in s.kinds n) k.0.0 k.1.0 some.0 (here ∙ k.0.1) k.1.1 k.0.2 k.1.2 other)
+              ap holds_place some.1 ∙ common_no_place (kind_in u.kinds n) (kind_in s.kinds n) k.0.0 k.1.0 some.0 (here ∙ k.0.1) k.1.1 k.0.2 k.1.2 other)
         ]
 
         -- register n is alone in w

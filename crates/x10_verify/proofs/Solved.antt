@@ -68,14 +68,17 @@ begins program function known old new changed some fresh arrives same state narr
 
 -- none waits any more
 pub solved : (program : Module) (function : Function) (at len : ℕ) (table : List Entry) → length function.code ≡ len → len ≤ at → Solves program function at table → HasAssignment program function
-solved program function at len table size le h = (stated table, record {
-  entry = h.entry;
-  valid = λ pc s e. (h.kept pc s e).state;
-  permitted = λ pc s e. elim (cases_lt pc len) [
-    | inl lt ↦ h.settled pc s e (h.behind pc (omega arith))
-    | inr ge ↦ absurd (none_some (stated table pc) s (h.inside pc (omega arith)) e)
-  ];
-})
+solved program function at len table size le h = (
+  stated table,
+  record {
+    entry = h.entry;
+    valid = λ pc s e. (h.kept pc s e).state;
+    permitted = λ pc s e. elim (cases_lt pc len) [
+      | inl lt ↦ h.settled pc s e (h.behind pc (omega arith))
+      | inr ge ↦ absurd (none_some (stated table pc) s (h.inside pc (omega arith)) e)
+    ];
+  },
+)
 
 -- and nothing is left of the function
 pub cleared : (program : Module) (function : Function) (at len : ℕ) (old new : List Entry) → length function.code ≡ len → Solves program function at old → ((q : ℕ) → q < len → state_in (slice_get new q) ≡ None) → ((q : ℕ) → len ≤ q → slice_get new q ≡ slice_get old q) → IsFresh new

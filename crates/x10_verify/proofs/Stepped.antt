@@ -131,17 +131,17 @@ go_on_on program function at len instr known effect old new next j false size on
 }
 go_on_on program function at len instr known effect old new next j true size on is kept least allows sound g f = record {
   works = works_on program function at (state_of known) next next old (at + 1) (state_of g.1) new g.0 (state_of g.5.entry.known) a (let l = g.2 in omega arith) kept_t
-    (least_same program function (at + 1) (after instr.a (state_of known) effect) (state_of g.1) g.4 (least_on program function at (state_of known) instr effect kept.narrow is least allows sound on)) (omega arith) (λ e. f.near) f.works;
+      (least_same program function (at + 1) (after instr.a (state_of known) effect) (state_of g.1) (g.4 kept.state) (least_on program function at (state_of known) instr effect kept.narrow is least allows sound on)) (omega arith) (λ e. f.near) f.works;
   jumped = λ e. reaches_on old (at + 1) (state_of g.1) new g.0 (state_of g.5.entry.known) a kept_t f.works.kept (instr.x, state_of known) (f.jumped e);
   onward = λ e. (let r = reaches_here old (at + 1) (state_of g.1) new g.0 (state_of g.5.entry.known) a kept_t f.works.kept in
-    (r.0, r.1, IsBelow-trans (after instr.a (state_of known) effect) (state_of g.1) r.0 (SameState-below (after instr.a (state_of known) effect) (state_of g.1) (SameState-sym (state_of g.1) (after instr.a (state_of known) effect) g.4)) r.2));
+      (r.0, r.1, IsBelow-trans (after instr.a (state_of known) effect) (state_of g.1) r.0 (SameState-below (after instr.a (state_of known) effect) (state_of g.1) (SameState-sym (state_of g.1) (after instr.a (state_of known) effect) (g.4 kept.state))) r.2));
 }
   where
     a : Arrived old (at + 1) (state_of g.1) new g.0 (state_of g.5.entry.known)
     a = arrived old (at + 1) g.1 new g.0 g.5
 
     kept_t : IsKept (state_of g.1)
-    kept_t = kept_state (after instr.a (state_of known) effect) (state_of g.1) g.4 (after_state instr.a (state_of known) effect sound kept.state) g.3
+    kept_t = kept_state (after instr.a (state_of known) effect) (state_of g.1) (g.4 kept.state) (after_state instr.a (state_of known) effect sound kept.state) g.3
 
 -- ---- the rule holds again
 

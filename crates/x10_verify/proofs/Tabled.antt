@@ -79,9 +79,9 @@ total-lt old new k size each lt less = subst (λ n. sum_below n (λ q. height_in
 set_heights : (old : List Entry) (at : ℕ) (before entry : Entry) → slice_get old at ≡ Some before → height_if entry.mark entry.known ≤ height_if before.mark before.known → (q : ℕ) → height_in (slice_get (set old at entry) q) ≤ height_in (slice_get old q)
 set_heights old at before entry was le q = elim (cases_eq q at) [
   | inl here ↦ (
-    let a : height_in (slice_get (set old at entry) q) ≡ height_if entry.mark entry.known = ap (λ n. height_in (slice_get (set old at entry) n)) here ∙ ap height_in (get_set old at entry before was) in
-    let b : height_in (slice_get old q) ≡ height_if before.mark before.known = ap (λ n. height_in (slice_get old n)) here ∙ ap height_in was in
-    omega arith)
+      let a : height_in (slice_get (set old at entry) q) ≡ height_if entry.mark entry.known = ap (λ n. height_in (slice_get (set old at entry) n)) here ∙ ap height_in (get_set old at entry before was) in
+      let b : height_in (slice_get old q) ≡ height_if before.mark before.known = ap (λ n. height_in (slice_get old n)) here ∙ ap height_in was in
+      omega arith)
   | inr ne ↦ (let a : height_in (slice_get (set old at entry) q) ≡ height_in (slice_get old q) = ap height_in (get_other old at q entry ne) in omega arith)
 ]
 
@@ -101,10 +101,11 @@ pub arrives_total : (old : List Entry) (target : ℕ) (known : Known) (new : Lis
 arrives_total old target known new changed a = (
   subst (λ xs. total xs ≤ total old) (sym a.is) (total-le old (set old target a.entry) (set_size old target a.entry) (set_heights old target a.before a.entry a.was le)),
   λ e. subst (λ xs. total xs < total old) (sym a.is) (total-lt old (set old target a.entry) target (set_size old target a.entry) (set_heights old target a.before a.entry a.was le) (some_below old target a.before a.was)
-    (let x : height_in (slice_get (set old target a.entry) target) ≡ height_if a.entry.mark a.entry.known = ap height_in (get_set old target a.entry a.before a.was) in
-     let y : height_in (slice_get old target) ≡ height_if a.before.mark a.before.known = ap height_in a.was in
-     let f : height_if a.entry.mark a.entry.known < height_if a.before.mark a.before.known = a.received.falls e in
-     omega arith)))
+      (let x : height_in (slice_get (set old target a.entry) target) ≡ height_if a.entry.mark a.entry.known = ap height_in (get_set old target a.entry a.before a.was) in
+      let y : height_in (slice_get old target) ≡ height_if a.before.mark a.before.known = ap height_in a.was in
+      let f : height_if a.entry.mark a.entry.known < height_if a.before.mark a.before.known = a.received.falls e in
+      omega arith)),
+)
   where
     le : height_if a.entry.mark a.entry.known ≤ height_if a.before.mark a.before.known
     le = elim (bool_cases changed) [
@@ -119,7 +120,7 @@ waiting_height _ k e = absurd cc
 pub done_total : (old : List Entry) (at : ℕ) (before : Entry) → slice_get old at ≡ Some before → is_waiting before.mark ≡ true → total (set old at (record { mark = Done; known = before.known })) ≤ total old
 done_total old at before was waits =
     total-le old (set old at (record { mark = Done; known = before.known })) (set_size old at (record { mark = Done; known = before.known }))
-      (set_heights old at before (record { mark = Done; known = before.known }) was (let e : height_if before.mark before.known ≡ rank_of before.known = waiting_height before.mark before.known waits in omega arith))
+    (set_heights old at before (record { mark = Done; known = before.known }) was (let e : height_if before.mark before.known ≡ rank_of before.known = waiting_height before.mark before.known waits in omega arith))
 
 pub arrives_size : (old : List Entry) (target : ℕ) (known : Known) (new : List Entry) (changed : Bool) → Arrives old target known new changed → length new ≡ length old
 arrives_size old target known new changed a = ap length a.is ∙ set_size old target a.entry

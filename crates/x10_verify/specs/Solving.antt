@@ -5,7 +5,7 @@ use Rattle.x10_code.specs.Table.{form_of}
 use Rattle.x10_model.specs.Maps.{IsIn}
 use Rattle.x10_model.specs.Modules.{Module, Function}
 use Rattle.x10_model.specs.Structure.{is_target}
-use Rattle.x10_model.specs.Assignments.{State, Edges, Permits, Reaches, HasAssignment, entry_state}
+use Rattle.x10_model.specs.Assignments.{State, IsState, Edges, Permits, Reaches, HasAssignment, entry_state}
 use Rattle.x10_verify.specs.declared.fault.FlowCause.{FlowCause}
 use Rattle.x10_verify.specs.declared.known.Known.{Known}
 use Rattle.x10_verify.specs.declared.states.Entry.{Entry}
@@ -46,7 +46,7 @@ Jumps i at len known old (Err cause) new = (is_target (form_of i.op).x ≡ true)
 
 -- what became of the next instruction
 abbrev pub GoesOnIf : Bool → Instr → ℕ → ℕ → Effect → Known → List Entry → List Entry → Type 0
-GoesOnIf true i at len effect known old new = (changed : Bool) × (t : Known) × (at + 1 < len) × IsNarrow (state_of t) × SameState (state_of t) (after i.a (state_of known) effect) × Arrives old (at + 1) t new changed
+GoesOnIf true i at len effect known old new = (changed : Bool) × (t : Known) × (at + 1 < len) × IsNarrow (state_of t) × (IsState (state_of known) → SameState (state_of t) (after i.a (state_of known) effect)) × Arrives old (at + 1) t new changed
 GoesOnIf false i at len effect known old new = new ≡ old
 
 abbrev pub GoesOn : Instr → ℕ → ℕ → Effect → Known → List Entry → Result Unit FlowCause → List Entry → Type 0

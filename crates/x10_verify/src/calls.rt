@@ -32,12 +32,7 @@ fn fits_as(slot: Slot, register: u8, at: Term, known: &Known) -> Result<(), Flow
 }
 
 // The registers from one on fit the parameters, at the place of a term.
-fn arguments_fit(
-    signature: &SigView,
-    first: u8,
-    at: Term,
-    known: &Known,
-) -> Result<(), FlowCause>
+fn arguments_fit(signature: &SigView, first: u8, at: Term, known: &Known) -> Result<(), FlowCause>
     requires term { IsTerm at }
     requires few { length signature.now.parameters ≤ 16 }
     ensures { MatchResult result (λ _. SlotsAre (state_of known.now) at first signature.now.parameters) (λ _. SlotsAre (state_of known.now) at first signature.now.parameters → ⊥) }
@@ -130,11 +125,7 @@ pub(crate) fn started(
 }
 
 /// RET: register a fits the function's result, whose home is here where it has one; without a result a is 0.
-pub(crate) fn returned(
-    slot: Option<Slot>,
-    instr: Instr,
-    known: &Known,
-) -> Result<Effect, FlowCause>
+pub(crate) fn returned(slot: Option<Slot>, instr: Instr, known: &Known) -> Result<Effect, FlowCause>
     ensures { (program : modules.Module) (function : Function) (pc : ℕ) → function.result ≡ slot → Decides (Settles Outcome.Returns (point program function pc instr) (state_of known.now)) result }
 {
     match slot {

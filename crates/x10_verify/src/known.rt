@@ -1,13 +1,14 @@
 ghost use Rattle.std.specs.Prelude.{◌≡◌, ◌<◌, MatchResult, IfOk, slice_get};
 ghost use Rattle.std.specs.Option.{ForSome};
-ghost use Rattle.x10_kinds.specs.Equations.{IsTerm, equations};
-ghost use Rattle.x10_model.specs.Assignments.{IsKind, set};
+ghost use Rattle.x10_kinds.specs.Equations.{IsTerm, SameEquations, equations, written};
+ghost use Rattle.x10_model.specs.Assignments.{IsKind, IsState, set};
 ghost use Rattle.x10_verify.specs.Effects.{CanApply, IsNarrow};
 ghost use Rattle.x10_verify.specs.Known.{state_of, kind_in};
 ghost use Rattle.x10_verify.specs.Knowledge.{SameState};
 ghost use Rattle.x10_verify.specs.Rules.{after};
 
 use crate::fault::FlowCause;
+use crate::places::holds_place;
 use crate::table::Effect;
 use x10_kinds::{Homes, Kind, Term, fits};
 
@@ -51,7 +52,7 @@ impl Known {
     /// What an instruction does to the state that goes on, where `register` is its operand a.
     pub(crate) fn apply(&mut self, register: u8, effect: Effect)
         requires { CanApply register effect }
-        ensures { SameState (state_of self.new) (after register (state_of self.old) effect) }
+        ensures { IsState (state_of self.old) → SameState (state_of self.new) (after register (state_of self.old) effect) }
     {
         match effect {
             Effect::Keeps => {}
@@ -64,9 +65,22 @@ impl Known {
     fn set(&mut self, register: u8, kind: Kind, like: Option<Term>)
         requires register { register < 64 }
         requires like { ForSome like IsTerm }
-        ensures { SameState (state_of self.new) (set (state_of self.old) register kind like) }
+        ensures { IsState (state_of self.old) → SameState (state_of self.new) (set (state_of self.old) register kind like) }
     {
+        self.relocate(register, like);
         self.kinds[register as usize] = Some(kind);
+    }
+
+    // The register stands for the place of a term, or for one that nothing is known of. One that held none is alone already.
+    fn relocate(&mut self, register: u8, like: Option<Term>)
+        requires register { register < 64 }
+        requires like { ForSome like IsTerm }
+        ensures kinds { self.new.kinds ≡ self.old.kinds }
+        ensures homes { IsState (state_of self.old) → SameEquations (equations self.new.homes) (written (equations self.old.homes) register like) }
+    {
+        if like.is_none() && !holds_place(self.kind(register)) {
+            return;
+        }
         self.homes.write(register, like);
     }
 

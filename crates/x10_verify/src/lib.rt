@@ -14,12 +14,13 @@ mod ranges;
 mod solve;
 mod states;
 mod table;
-
 mod verified;
 mod whole;
 
 pub use fault::{VerifyCause, VerifyFault};
 pub use verified::{Verified, verify};
 
+#[cfg(test)]
+mod flow_tests;
 #[cfg(test)]
 mod tests;

@@ -42,6 +42,9 @@ impl Known {
         ensures changed { result ≡ true → (common_of (kind_in self.old.kinds register) other ≢ kind_in self.old.kinds register) × SameState (state_of self.new) (parted (state_of self.old) register (common_of (kind_in self.old.kinds register) other)) }
     {
         let have = self.kind(register);
+        if is_same(other, have) {
+            return false;
+        }
         let common = common(have, other);
         if is_same(common, have) {
             return false;

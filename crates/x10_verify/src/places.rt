@@ -21,6 +21,16 @@ pub(crate) fn has_place(kind: Kind) -> bool
     matches!(kind, Kind::Place | Kind::GRef(_))
 }
 
+/// Whether a register stands for a place, by its kind.
+pub(crate) fn holds_place(kind: Option<Kind>) -> bool
+    ensures { result ≡ model.holds_place kind }
+{
+    match kind {
+        None => false,
+        Some(kind) => has_place(kind),
+    }
+}
+
 /// A term, where the condition holds.
 pub(crate) fn like_if(holds: bool, term: Term) -> Option<Term>
     ensures { result ≡ model.like_if holds term }
@@ -34,10 +44,7 @@ pub(crate) fn copied(instr: Instr, known: &Known) -> Result<Effect, FlowCause>
 {
     match known.kind(instr.b) {
         None => Err(FlowCause::Unset),
-        Some(kind) => Ok(Effect::Sets(
-            kind,
-            like_if(has_place(kind), Term::Reg(instr.b)),
-        )),
+        Some(kind) => Ok(Effect::Sets(kind, like_if(has_place(kind), Term::Reg(instr.b)))),
     }
 }
 

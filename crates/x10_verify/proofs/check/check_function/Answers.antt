@@ -8,8 +8,8 @@ use Rattle.x10_verify.proofs.check.check_function.Goals as goal
 pub loop-at-init : goal.loop-at-init
 loop-at-init c = record {
   solves = λ function there.
-    let size : length function.code ≡ c.code_len-len.result = code_length c.args.image.now c.args.f c.code_len-len.result function there c.code_len-len.ensures.value in
-    begins c.args.image.now function c.entry-first.result c.args.table.now.items c.arrive.new.table.items c.arrive.result (omega arith) c.requires.fresh c.arrive.ensures
+      let size : length function.code ≡ c.code_len-len.result = code_length c.args.image.now c.args.f c.code_len-len.result function there c.code_len-len.ensures.value in
+      begins c.args.image.now function c.entry-first.result c.args.table.now.items c.arrive.new.table.items c.arrive.result (omega arith) c.requires.fresh c.arrive.ensures
       (same_entry c.args.image.now c.args.f function c.signature-signature.result (state_of c.entry-first.result) c.signature-signature.ensures.value there c.entry-first.ensures.same) c.entry-first.ensures.valid c.narrow.ensures;
   size = arrives_size c.args.table.now.items 0 c.entry-first.result c.arrive.new.table.items c.arrive.result c.arrive.ensures;
 }

@@ -22,7 +22,7 @@ go_on-requires-clause-can c =
 pub returns-in_err-go_on-clause-steps : goal.returns-in_err-go_on-clause-steps
 returns-in_err-go_on-clause-steps c = λ function same is size. refused c.args.image.now function c.args.at c.args.table.now.items c.from_residual-in_err-go_on.result _ c.from_residual-in_err-go_on.ensures.0
     (step_runs_out c.args.image.now function c.args.at c.args.len c.args.instr c.take-known.result c.in_ok-effect.effect c.args.table.now.items c.take-known.new.table.items size is (results_fit c.args.image.now c.fits.ensures) c.requires.named.small.place c.take-known.ensures.taken
-      (c.in_ok-effect.ensures function c.args.at same) c.in_err-go_on.ensures.0 c.in_err-go_on.ensures.1)
+    (c.in_ok-effect.ensures function c.args.at same) c.in_err-go_on.ensures.0 c.in_err-go_on.ensures.1)
 
 pub returns-clause-steps : goal.returns-clause-steps
 returns-clause-steps c = λ function same is size. step_on c.args.image.now function c.args.at c.args.len c.args.instr c.take-known.result c.in_ok-effect.effect c.in_ok-next.next c.args.table.now.items c.take-known.new.table.items c.jump.new.table.items c.go_on.new.table.items size is

@@ -1,6 +1,10 @@
-use Rattle.std.proofs.Common.{arith}
+use Rattle.std.proofs.Common.{Some, arith, set, subst, sym}
+use Rattle.x10_model.specs.Assignments.{set as set_kind}
+use Rattle.x10_verify.specs.Known.{state_of}
+use Rattle.x10_verify.specs.Knowledge.{SameState}
 use Rattle.x10_verify.proofs.Rows.{same_set}
 use Rattle.x10_verify.proofs.known.Known.set.Goals as goal
 
 pub returns : goal.returns
-returns c = same_set c.args.self.now.kinds c.args.self.now.homes c.write.new.self c.args.register c.args.kind c.args.like (omega arith) c.write.ensures
+returns c = λ is. subst (λ ks. SameState (state_of (record { kinds = set ks c.args.register (Some c.args.kind); homes = c.relocate.new.self.homes })) (set_kind (state_of c.args.self.now) c.args.register c.args.kind c.args.like)) (sym c.relocate.ensures.kinds)
+    (same_set c.args.self.now.kinds c.args.self.now.homes c.relocate.new.self.homes c.args.register c.args.kind c.args.like (omega arith) (c.relocate.ensures.homes is))
