@@ -11,3 +11,7 @@ pub mod Chains
 pub mod Sound
 pub mod Closing
 pub mod Rooted
+pub mod HowMany
+pub mod Telling
+pub mod Following
+pub mod Counted

@@ -24,7 +24,7 @@ mapped_if : {V W : Type 0} (t : Bool) (g : V → W) (v w : V) (h : W) → g w �
 mapped_if true g v w h e = refl
 mapped_if false g v w h e = e
 
-map_entry : {V W : Type 0} (g : V → W) (f : ℕ → V) (k : ℕ) (v : V) (h : ℕ → W) → ((j : ℕ) → g (f j) ≡ h j) → (λ j. g (with_entry f k v j)) ≡ with_entry h k (g v)
+pub map_entry : {V W : Type 0} (g : V → W) (f : ℕ → V) (k : ℕ) (v : V) (h : ℕ → W) → ((j : ℕ) → g (f j) ≡ h j) → (λ j. g (with_entry f k v j)) ≡ with_entry h k (g v)
 map_entry g f k v h e = fun_ext (λ j. mapped_if (j == k) g v (f j) (h j) (e j))
 
 -- the row of a map that changed, and another one
@@ -187,7 +187,7 @@ after_shifts net book here key number function to under message graph old new s 
 pub overwritten : {V : Type 0} (f : ℕ → V) (k : ℕ) (v w : V) → with_entry (with_entry f k v) k w ≡ with_entry f k w
 overwritten f k v w = fun_ext (λ j. at_entry (λ x. x ≡ with_entry f k w j) (with_entry f k v) k j w (λ same. sym (ap (with_entry f k w) same ∙ entry_same f k w)) (λ apart. entry_other f k j v apart ∙ sym (entry_other f k j w apart)))
 
-free_after : (stays : Stays) (here key other : ℕ) (s t : Stay) → stays here key ≡ Some s → stays here other ≡ None → with_pair stays here key (Some t) here other ≡ None
+pub free_after : (stays : Stays) (here key other : ℕ) (s t : Stay) → stays here key ≡ Some s → stays here other ≡ None → with_pair stays here key (Some t) here other ≡ None
 free_after stays here key other s t there free =
     at_stay (λ o. o ≡ None) stays here key here other (Some t) (λ a b. no_stay s (sym free ∙ ap (stays here) b ∙ there)) (λ apart. free)
 

@@ -7,3 +7,4 @@ pub mod Stays
 pub mod Nesting
 pub mod Chains
 pub mod Closing
+pub mod Telling

@@ -2,6 +2,7 @@
 
 ghost use Rattle.x10_finish.specs.Detection.{DoneIsAtRest, AtRestIsDone};
 ghost use Rattle.x10_finish.specs.Stays.{StaysChange};
+ghost use Rattle.x10_finish.specs.Telling.{DoneIsQuiet, QuietIsDone, MovesAreCounted, DeliveriesAreCounted, OpeningIsCounted};
 ghost use Rattle.x10_finish.specs.Closing.{QuietIsIdeal, EndedIsQuiet, RootIsOver};
 
 /// After any events under a finish, reports taken in late and in any order: where nothing lives at its home and the
@@ -37,4 +38,30 @@ pub fn ended_is_quiet()
 /// In such a run no activity lives where none under the root has a stay or is in flight.
 pub fn root_is_over()
     ensures { RootIsOver }
+{}
+
+/// Where counts that tell of the machine's net let the home end its finish, the finish is quiet.
+pub fn done_is_quiet()
+    ensures { DoneIsQuiet }
+{}
+
+/// And where it is quiet and no report is in flight, they let it.
+pub fn quiet_is_done()
+    ensures { QuietIsDone }
+{}
+
+/// Counts that tell of the machine's net tell of it after each move: for each finish the move is one event that is
+/// counted, or none, and the totals of its place change as they do by that event.
+pub fn moves_are_counted()
+    ensures { MovesAreCounted }
+{}
+
+/// And after each delivery.
+pub fn deliveries_are_counted()
+    ensures { DeliveriesAreCounted }
+{}
+
+/// And they tell of it at the opening: main's stay lives under the root.
+pub fn opening_is_counted()
+    ensures { OpeningIsCounted }
 {}

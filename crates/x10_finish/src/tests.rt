@@ -177,3 +177,39 @@ fn counts_meet_their_limit(rt: HostRuntime) -> Result<(), Fail> {
     }
     Ok(())
 }
+
+/// Whether a call went through; a refused growth is the only other answer that it may give.
+fn went(rt: &impl Abort, answer: Result<(), Stop>) -> bool {
+    assert!(rt; answer.is_ok() || answer == Err(Stop::Memory));
+    answer.is_ok()
+}
+
+/// Every answer is right, or it is that a growth was refused and nothing has changed: to be run with each allocation
+/// failing in turn.
+#[test]
+fn refused_growth_changes_nothing(rt: HostRuntime) -> Result<(), Fail> {
+    let alloc = rt.alloc();
+    let mut tally = Tally::new(alloc, 1, 3);
+    let met = went(&rt, tally.meet(FINISH));
+    assert_eq!(rt; tally.sent(FINISH).len(), if met { 3 } else { 0 });
+    let began = went(&rt, tally.began(FINISH));
+    assert_eq!(rt; tally.live(FINISH), u32::from(began));
+    let came = went(&rt, tally.came(FINISH, 0));
+    let live = u32::from(began).saturating_add(u32::from(came));
+    assert_eq!(rt; tally.live(FINISH), live);
+    assert_eq!(rt;
+        tally.received(FINISH).first().copied().unwrap_or(0),
+        u32::from(came)
+    );
+    if tally.live(FINISH) > 0 {
+        let ended = tally.ended(FINISH).is_ok();
+        assert!(rt; ended || live == 1);
+        let left = if ended { live.saturating_sub(1) } else { live };
+        assert_eq!(rt; tally.live(FINISH), left);
+    }
+    match Book::open(alloc, FINISH, 3) {
+        Ok(book) => assert!(rt; book.balanced(&Tally::new(alloc, 0, 3))),
+        Err(stop) => assert_eq!(rt; stop, Stop::Memory),
+    }
+    Ok(())
+}

@@ -1,0 +1,5 @@
+use Rattle.x10_finish.proofs.Telling.{done_is_quiet}
+use Rattle.x10_finish.proofs.laws.done_is_quiet.Goals as goal
+
+pub returns : goal.returns
+returns c = done_is_quiet

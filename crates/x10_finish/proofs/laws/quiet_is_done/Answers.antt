@@ -1,0 +1,5 @@
+use Rattle.x10_finish.proofs.Telling.{quiet_is_done}
+use Rattle.x10_finish.proofs.laws.quiet_is_done.Goals as goal
+
+pub returns : goal.returns
+returns c = quiet_is_done
