@@ -21,9 +21,6 @@ use Rattle.x10_asm.specs.Tables.{mark_of, IsTable}
 pub record AreFound (found : List Label) (line index : ℕ) (texts : List (List ℕ)) (all : List Label) : Type 0 where
   pub is : found ++ labels_from line index texts ≡ all
 
-pub none_found : (line : ℕ) (texts : List (List ℕ)) → AreFound [] line 0 texts (labels_from line 0 texts)
-none_found line texts = record { is = refl }
-
 labels_end : (line index : ℕ) (text : List ℕ) (others : List (List ℕ)) → ends_labels (said (words text)) ≡ true → labels_from line index (text ∷ others) ≡ []
 unfolding labels_from
 labels_end line index text others e = rw e refl

@@ -17,3 +17,4 @@ pub mod ReadingAgain
 pub mod LinesAgain
 pub mod FunctionsAgain
 pub mod ListingAgain
+pub mod Answered

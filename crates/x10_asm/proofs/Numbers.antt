@@ -20,9 +20,6 @@ pub record IsReadTo (word : List ℕ) (most at value : ℕ) : Type 0 where
   pub value_is : digits_value 10 (take at word) ≡ value
   pub below : value ≤ most
 
-pub none_read : (word : List ℕ) (most : ℕ) → IsReadTo word most 0 0
-none_read word most = record { digits = tt; value_is = refl; below = omega arith }
-
 pub value_more : (word : List ℕ) (most at value : ℕ) → IsReadTo word most at value → at < length word → IsInRange 48 57 (get_or word at 0) → digits_value 10 (take (at + 1) word) ≡ 10 * value + (get_or word at 0 - 48)
 value_more word most at value r lt d = digits_value_more 10 word at lt ∙ omega (arith, r.value_is, digit_value_digit (get_or word at 0) d)
 

@@ -5,7 +5,7 @@ use Rattle.std.specs.Str.{IsUtf8, is_utf8}
 use Rattle.std.proofs.lemmas.Str.{is_utf8-from_IsUtf8, IsUtf8-from_is_utf8}
 use Rattle.std.proofs.Math.Seq.{drop-cons}
 use Rattle.std.proofs.lemmas.List.{drop_all}
-use Rattle.std.proofs.lemmas.Bool.{ne_eqb, eq-eqb, le-leb, lt-leb, and_from, and_left, and_right, cases_Bool}
+use Rattle.std.proofs.lemmas.Bool.{ne_eqb, eq-eqb, le-leb, and_from, and_right, cases_Bool}
 use Rattle.x10_asm.specs.declared.fault.AsmCause.TheVariants.{Text}
 use Rattle.x10_asm.specs.Literals.{unescaped, onto, onto_escape, scan, fitting}
 
@@ -17,13 +17,6 @@ with_front front (Some p) = Some (front ++ p.0, p.1)
 -- with these bytes read, what scanning all gives is known
 pub record IsScanned (front : List ℕ) (after_backslash : Bool) (bytes all : List ℕ) : Type 0 where
   pub is : with_front front (scan after_backslash bytes) ≡ scan false all
-
-front_nil : (r : Option (List ℕ × List ℕ)) → with_front [] r ≡ r
-front_nil None = refl
-front_nil (Some p) = refl
-
-pub none_scanned : (front all : List ℕ) → front ≡ [] → IsScanned front false all all
-none_scanned front all e = record { is = rw e (front_nil (scan false all)) }
 
 regroup : (front : List ℕ) (c : ℕ) (r : Option (List ℕ × List ℕ)) → with_front front (onto c r) ≡ with_front (front ++ c ∷ []) r
 regroup front c None = refl
@@ -73,9 +66,6 @@ not_closed front bytes b at s le = sym s.is ∙ ap (λ (t : List ℕ). with_fron
 
 pub fitting_gives : (text : List ℕ) → length text ≤ 65535 → IsUtf8 text → fitting text ≡ Ok text
 fitting_gives text le utf8 = rw (and_from (nat_le (length text) 65535) (is_utf8 text) (le-leb (length text) 65535 le) (is_utf8-from_IsUtf8 text utf8)) refl
-
-pub too_long : (text : List ℕ) → 65535 < length text → fitting text ≡ Err Text
-too_long text gt = rw (and_left (nat_le (length text) 65535) (is_utf8 text) (lt-leb (length text) 65535 gt)) refl
 
 pub no_text : (text : List ℕ) → (IsUtf8 text → ⊥) → fitting text ≡ Err Text
 no_text text wrong = elim (cases_Bool (is_utf8 text)) [

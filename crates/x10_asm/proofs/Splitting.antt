@@ -3,9 +3,7 @@ use Rattle.std.proofs.Common.{◌≡◌, ◌≢◌, ℕ, zero, suc, ◌+◌, ◌
 use Rattle.std.specs.Prelude.{◌==◌, if◌then◌else◌, slice_range}
 use Rattle.std.proofs.Math.Seq.{drop-cons}
 use Rattle.std.proofs.lemmas.List.{drop_all}
-use Rattle.std.proofs.lemmas.Bool.{eqb-true, eqb-false, ne_eqb, eq-eqb, cases_Bool, cases_eq, cases_lt, and_from, and_left, and_right}
-use Rattle.std.specs.Str.{IsCharBoundary}
-use Rattle.std.proofs.lemmas.Str.{IsCharBoundary-before_ascii, IsCharBoundary-end}
+use Rattle.std.proofs.lemmas.Bool.{eqb-true, eqb-false, ne_eqb, eq-eqb, cases_Bool, cases_eq, and_from, and_left, and_right}
 use Rattle.x10_asm.specs.Lines.{grown, begins, lines, is_word_end, words, after_spaces, from_space, count_before, without_return}
 
 -- ---- counting
@@ -35,9 +33,6 @@ count_end c bs at le = rw (drop_all at bs le) refl
 
 pub space_passed : (bs : List ℕ) (at : ℕ) → at < length bs → get_or bs at 0 ≡ 32 → after_spaces (drop at bs) ≡ after_spaces (drop (at + 1) bs)
 space_passed bs at lt e = rw (drop-cons bs at 0 lt, add-one, e) refl
-
-pub spaces_end : (bs : List ℕ) (at : ℕ) → at < length bs → get_or bs at 0 ≢ 32 → after_spaces (drop at bs) ≡ drop at bs
-spaces_end bs at lt ne = rw (drop-cons bs at 0 lt, ne_eqb (get_or bs at 0) 32 ne) refl
 
 -- the spaces at the front of a line are no part of a word
 pub words_after_spaces : (cs : List ℕ) → words cs ≡ words (after_spaces cs)
@@ -172,13 +167,6 @@ nothing_dropped (c ∷ d ∷ ds) (suc n) e h = ap (λ (l : List ℕ). c ∷ l) (
 pub empty_line : (l : List ℕ) → length l ≡ 0 → without_return l ≡ l
 empty_line [] e = refl
 empty_line (c ∷ cs) e = absurd (omega arith)
-
--- a text may be cut before the first of an ASCII byte, or at its end
-pub boundary_before : (c : ℕ) (bs : List ℕ) (n : ℕ) → c < 128 → n ≡ count_before c bs → IsCharBoundary bs n
-boundary_before c bs n small e = elim (cases_lt n (length bs)) [
-  | inl lt ↦ IsCharBoundary-before_ascii bs n lt (omega (arith, ap (λ (k : ℕ). get_or bs k 0) e, count_there c bs (omega (arith, e))))
-  | inr le ↦ subst (λ (k : ℕ). IsCharBoundary bs k) (omega (arith, count-within c bs, e)) (IsCharBoundary-end bs)
-]
 
 -- ---- what the calls give
 

@@ -5,7 +5,7 @@ use Rattle.x10_asm.specs.declared.fault.AsmCause.TheVariants.{Memory}
 use Rattle.x10_asm.specs.declared.fault.AsmFault.{AsmFault}
 use Rattle.x10_asm.specs.declared.source.Source.{Source}
 use Rattle.x10_image.specs.Written.{shown, function_shown}
-use Rattle.x10_model.specs.Modules.{Module}
+use Rattle.x10_model.specs.Modules.{Module, FitsImage}
 use Rattle.x10_model.specs.Images.{spelling}
 use Rattle.x10_asm.specs.Tables.{IsTable}
 use Rattle.x10_asm.specs.Reading as reading
@@ -34,3 +34,12 @@ GivesAll view (Err fault) read = IsFaultOrMemory fault read
 abbrev pub GivesImage : {X : Type 0} → (X → List ℕ) → Result X AsmFault → Result Module AsmFault → Type 0
 GivesImage bytes (Ok x) read = (m : Module) × (read ≡ Ok m) × (bytes x ≡ spelling m)
 GivesImage bytes (Err fault) read = IsFaultOrMemory fault read
+
+-- the bytes are the image of the module that was read
+abbrev pub IsImageOf : List ℕ → Result Module AsmFault → Type 0
+IsImageOf bytes read = (m : Module) × FitsImage m × (read ≡ Ok m) × (bytes ≡ spelling m)
+
+-- the answer, seen by view, is the module's image, unless memory ran out
+abbrev pub IsSpelledUnlessMemory : {X : Type 0} → (X → List ℕ) → Result X AsmFault → Module → Type 0
+IsSpelledUnlessMemory bytes (Ok x) m = bytes x ≡ spelling m
+IsSpelledUnlessMemory bytes (Err fault) m = fault.cause ≡ Memory

@@ -1,15 +1,15 @@
 //! The image that a text spells.
 
-ghost use Rattle.std.specs.Prelude.{◌≡◌, ◌≢◌, IfOk, IfErr};
+ghost use Rattle.std.specs.Prelude.{◌≡◌, ◌≢◌, Ok, IfOk, IfErr};
 ghost use Rattle.x10_model.specs.Modules as model;
 ghost use Rattle.x10_model.specs.Modules.{FitsImage};
-ghost use Rattle.x10_model.specs.Images.{spelling};
 ghost use Rattle.x10_image.specs.Written.{shown};
 ghost use Rattle.x10_asm.specs.declared.fault.AsmCause.TheVariants.{Memory};
 ghost use Rattle.x10_asm.specs.Lines.{lines};
 ghost use Rattle.x10_asm.specs.Reading as reading;
 ghost use Rattle.x10_asm.specs.Reading.{module_of};
-ghost use Rattle.x10_asm.specs.Sources.{GivesAll, GivesImage};
+ghost use Rattle.x10_asm.specs.Listing.{listing};
+ghost use Rattle.x10_asm.specs.Sources.{GivesAll, GivesImage, IsImageOf, IsSpelledUnlessMemory};
 
 use crate::fault::{AsmCause, AsmFault};
 use crate::order::is_finished;
@@ -76,13 +76,11 @@ fn module_in(alloc: Global, text: &str) -> Result<Module, AsmFault>
     Ok(so_far)
 }
 
-/// The image of the module that a text spells. Else the first line that has a fault, counted from 1,
-/// and on it the first cause in the order of `AsmCause`; a missing `end` or `entry` names the line
-/// after the last. Linear in the text, but for the look-up of labels, which takes the logarithm of
-/// their number; the memory is that of the module and its image, and of a function's labels.
-pub fn assemble(alloc: Global, text: &str) -> Result<Vec<u8>, AsmFault>
+/// The image of the module that a text spells. A module that was read has an image, so writing it is
+/// refused for want of memory alone.
+fn image_in(alloc: Global, text: &str) -> Result<Vec<u8>, AsmFault>
     ensures exact { GivesImage (λ v. v.items) result (module_of text.now) }
-    ensures fits { IfOk result (λ v. (m : model.Module) × FitsImage m × (v.items ≡ spelling m)) }
+    ensures found { IfOk result (λ v. IsImageOf v.items (module_of text.now)) }
     ensures memory { IfErr result (λ e. e.cause ≡ Memory → e.line ≡ 0) }
 {
     let module = module_in(alloc, text)?;
@@ -90,4 +88,18 @@ pub fn assemble(alloc: Global, text: &str) -> Result<Vec<u8>, AsmFault>
         Ok(image) => Ok(image),
         Err(_) => Err(fault_at(0, AsmCause::Memory)),
     }
+}
+
+/// The image of the module that a text spells. Else the first line that has a fault, counted from 1,
+/// and on it the first cause in the order of `AsmCause`; a missing `end` or `entry` names the line
+/// after the last. Linear in the text, but for the look-up of labels, which takes the logarithm of
+/// their number; the memory is that of the module and its image, and of a function's labels.
+pub fn assemble(alloc: Global, text: &str) -> Result<Vec<u8>, AsmFault>
+    ensures found { IfOk result (λ v. IsImageOf v.items (module_of text.now)) }
+    ensures only { (m : model.Module) → module_of text.now ≡ Ok m → IsSpelledUnlessMemory (λ v. v.items) result m }
+    ensures listed { (m : model.Module) → FitsImage m → text.now ≡ listing m → IsSpelledUnlessMemory (λ v. v.items) result m }
+    ensures exact { GivesImage (λ v. v.items) result (module_of text.now) }
+    ensures memory { IfErr result (λ e. e.cause ≡ Memory → e.line ≡ 0) }
+{
+    image_in(alloc, text)
 }

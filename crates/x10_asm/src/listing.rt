@@ -1,12 +1,13 @@
 //! The listing of an image, line by line.
 
-ghost use Rattle.std.specs.Prelude.{◌≡◌, ℤ, ◌<◌, OnOk, IfOk, ◌++◌, ◌∷◌, [], length, map, slice_get, Some};
+ghost use Rattle.std.specs.Prelude.{◌≡◌, ℤ, ◌<◌, OnOk, IfOk, ◌++◌, ◌∷◌, [], length, map, slice_get, Some, Ok};
 ghost use Rattle.std.specs.String.{string_bytes};
 ghost use Rattle.std.specs.List.{flat_map};
 ghost use Rattle.x10_code.specs.declared.operands.Operand.{Operand};
 ghost use Rattle.x10_model.specs.Modules as model;
 ghost use Rattle.x10_model.specs.Ranges.{function_at};
 ghost use Rattle.x10_image.specs.Parts.{code_at};
+ghost use Rattle.x10_asm.specs.Reading.{module_of};
 ghost use Rattle.x10_asm.specs.Listing as text;
 ghost use Rattle.x10_asm.specs.Listing.{spaced, kind_word, slot_word, operand_word, operand_words, places_line, class_line, int_line, text_line, func_line, instruction_line, end_line, function_lines, entry_line};
 
@@ -200,11 +201,9 @@ fn push_functions(out: &mut String, image: &ImageView<'_>) -> Result<(), AllocEr
     Ok(())
 }
 
-/// The listing of an image's module: its canonical text, which assembles to the same image. One pass
-/// over the image; the memory is that of the text.
 #[tactic(auto, unfolding(crate::specs::Listing::listing))]
-pub fn list(alloc: Global, image: &ImageView<'_>) -> Result<String, AllocError>
-    ensures exact { IfOk result (λ s. string_bytes s ≡ text.listing image.now) }
+fn whole(alloc: Global, image: &ImageView<'_>) -> Result<String, AllocError>
+    ensures { IfOk result (λ s. string_bytes s ≡ text.listing image.now) }
 {
     let mut out = String::new(alloc);
     push_places(&mut out, image.least())?;
@@ -214,4 +213,15 @@ pub fn list(alloc: Global, image: &ImageView<'_>) -> Result<String, AllocError>
     push_functions(&mut out, image)?;
     push_entry(&mut out, image.entry())?;
     Ok(out)
+}
+
+/// The listing of an image's module: its canonical text, which assembles to the same image. One pass
+/// over the image; the memory is that of the text.
+pub fn list(alloc: Global, image: &ImageView<'_>) -> Result<String, AllocError>
+    ensures exact { IfOk result (λ s. string_bytes s ≡ text.listing image.now) }
+    ensures again { IfOk result (λ s. module_of (string_bytes s) ≡ Ok image.now) }
+{
+    image.fits();
+    let text = whole(alloc, image)?;
+    Ok(text)
 }
