@@ -1,12 +1,12 @@
 -- What an effect leaves: a state again, and from a state that knows more one that knows more.
-use Rattle.std.proofs.Common.{◌≡◌, ◌⊎◌, ℕ, ◌<◌, Bool, true, false, not, ◌==◌, Option, Some, None, refl, sym, subst, ap, ◌∙◌, inl, inr}
+use Rattle.std.proofs.Common.{◌≡◌, ℕ, ◌<◌, Bool, true, false, not, ◌==◌, Option, Some, None, refl, sym, subst, ◌∙◌, inl, inr}
 use Rattle.std.proofs.lemmas.Bool.{eq-eqb, eqb-true, cases_Bool}
 use Rattle.x10_kinds.specs.declared.kind.Kind.{Kind}
 use Rattle.x10_kinds.specs.declared.homes.Term.{Term}
 use Rattle.x10_kinds.specs.declared.homes.Term.TheVariants as term
 use Rattle.x10_kinds.specs.Kinds.{Fits, has_place}
-use Rattle.x10_kinds.specs.Equations.{Equations, IsTerm, Includes, IsEquivalence, same_term, read_as, joined, written}
-use Rattle.x10_kinds.proofs.KindLemmas.{Fits-refl, Fits-trans}
+use Rattle.x10_kinds.specs.Equations.{Equations, IsTerm, Includes, same_term, joined, written}
+use Rattle.x10_kinds.proofs.KindLemmas.{Fits-refl}
 use Rattle.x10_kinds.proofs.Equivalences.{alone_ways, ways, joined_is, joined-more, written-None_is, written-Some_is, written-None-more, written-Some-more}
 use Rattle.x10_kinds.proofs.Terms.{same_term-is}
 use Rattle.x10_model.specs.Maps.{with_entry}

@@ -1,5 +1,5 @@
 -- A function of a module, by its number.
-use Rattle.std.proofs.Common.{◌≡◌, ℕ, List, length, Option, Some, refl, sym, ap, subst, ◌∙◌}
+use Rattle.std.proofs.Common.{◌≡◌, ℕ, length, Option, Some, sym, ap, subst, ◌∙◌}
 use Rattle.std.specs.Prelude.{slice_get}
 use Rattle.x10_code.specs.declared.instr.Instr.{Instr}
 use Rattle.x10_image.specs.Parts.{Signature, signature_of, code_in, code_at}

@@ -1,26 +1,23 @@
 -- Weakening a state by another, register by register, gives the least state above both.
 use Rattle.std.proofs.Common.{◌≡◌, ◌≢◌, ◌⊎◌, ℕ, ◌+◌, ◌*◌, ◌<◌, ◌≤◌, Bool, true, false, ◌==◌, ◌||◌, not, Option, Some, None, refl, sym, ap, subst, ◌∙◌, inl, inr, arith, rules}
-use Rattle.std.proofs.lemmas.Bool.{cases_lt, cases_eq, eq-eqb, or_cases, or_parts}
+use Rattle.std.proofs.lemmas.Bool.{cases_lt, eq-eqb}
 use Rattle.x10_kinds.specs.declared.kind.Kind.{Kind}
 use Rattle.x10_kinds.specs.declared.kind.Kind.TheVariants.{Obj}
-use Rattle.x10_kinds.specs.declared.homes.Term.{Term}
 use Rattle.x10_kinds.specs.declared.homes.Term.TheVariants as term
-use Rattle.x10_kinds.specs.declared.homes.Homes.{Homes}
 use Rattle.x10_kinds.specs.Kinds.{Fits, meet_of, has_place}
-use Rattle.x10_kinds.specs.Equations.{Equations, IsTerm, Includes, SameEquations, IsEquivalence, equations, met, same_term, written}
+use Rattle.x10_kinds.specs.Equations.{Includes, SameEquations, IsEquivalence, equations, met, same_term}
 use Rattle.x10_kinds.specs.Ranks.{sum_below, rank}
 use Rattle.x10_kinds.proofs.KindLemmas.{meet_of-above, meet_of-least, meet_of-none}
 use Rattle.x10_kinds.proofs.Equivalences.{equations_is, alone_ways, from_alone_ways, met_below, met_greatest}
 use Rattle.x10_kinds.proofs.Ranks.{sum_below-lt, rank-bound}
 use Rattle.x10_kinds.proofs.Terms.{same_term-is, same_term-same}
-use Rattle.x10_model.specs.Maps.{with_entry}
 use Rattle.x10_model.specs.Assignments.{State, IsState, IsBelow, IsKind, holds_place}
 use Rattle.x10_verify.specs.declared.known.Known.{Known}
 use Rattle.x10_verify.specs.Known.{kind_in, state_of}
 use Rattle.x10_verify.specs.Knowledge.{SameState}
-use Rattle.x10_verify.specs.Effects.{IsKept, IsNarrow}
+use Rattle.x10_verify.specs.Effects.{IsKept}
 use Rattle.x10_verify.specs.Merging.{common_of, parted, weight, rank_of, IsAloneIn, IsMet, IsWeakened}
-use Rattle.x10_verify.proofs.Below.{entry_cases, some_is}
+use Rattle.x10_verify.proofs.Below.{entry_cases}
 
 none_some : {X : Type 0} (o : Option X) (x : X) → o ≡ None → o ≡ Some x → ⊥
 none_some o x e f = cc

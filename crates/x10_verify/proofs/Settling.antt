@@ -1,23 +1,21 @@
 -- What an instruction asks is met in each state that knows more, its effect is the only one, and it is a right one.
-use Rattle.std.proofs.Common.{◌≡◌, ◌⊎◌, ℕ, ◌+◌, ◌<◌, Bool, true, false, List, Option, Some, None, refl, sym, ap, subst, ◌∙◌, inl, inr, rules}
-use Rattle.std.specs.Prelude.{slice_get, IsTrue}
+use Rattle.std.proofs.Common.{◌≡◌, ◌⊎◌, ℕ, ◌+◌, Bool, true, false, Option, Some, None, refl, sym, ap, subst, ◌∙◌, inl, inr, rules}
 use Rattle.x10_kinds.specs.declared.kind.Kind.{Kind}
 use Rattle.x10_kinds.specs.declared.kind.Kind.TheVariants as kind
 use Rattle.x10_kinds.specs.declared.homes.Term.{Term}
 use Rattle.x10_kinds.specs.declared.homes.Term.TheVariants as term
 use Rattle.x10_kinds.specs.Kinds.{Fits, has_place}
 use Rattle.x10_kinds.specs.Equations.{IsTerm}
-use Rattle.x10_kinds.proofs.KindLemmas.{Fits-refl, Fits-trans}
 use Rattle.x10_model.specs.declared.slot.Slot.{Slot}
-use Rattle.x10_model.specs.Modules.{Module, Function, takes_flag, FitsSlot}
+use Rattle.x10_model.specs.Modules.{Module, Function, takes_flag}
 use Rattle.x10_model.specs.Ranges.{function_at}
-use Rattle.x10_model.specs.Assignments.{State, IsState, IsBelow, IsKind, IsPlaced, Point, FitsAs, ReturnsWell, like_if, holds_place}
+use Rattle.x10_model.specs.Assignments.{State, IsBelow, IsKind, IsPlaced, Point, FitsAs, ReturnsWell, like_if, holds_place}
 use Rattle.x10_verify.specs.declared.table.Effect.{Effect}
 use Rattle.x10_verify.specs.declared.table.Effect.TheVariants.{Keeps, Sets, Joins}
 use Rattle.x10_verify.specs.declared.table.Outcome.{Outcome}
 use Rattle.x10_verify.specs.declared.table.Outcome.TheVariants.{Fixed, Copies, Calls, Returns, Makes, Gets, Puts, Unwraps, Locates, Exports, Opens, FindsHere, FindsSame, Starts, Prints}
 use Rattle.x10_verify.specs.declared.table.Rule.{Rule}
-use Rattle.x10_verify.specs.Rules.{Asked, KindsAre, SlotsAre, IsPlaceTerm, IsCalled, GivesBack, Settles, Allows, field_of}
+use Rattle.x10_verify.specs.Rules.{Asked, IsPlaceTerm, IsCalled, GivesBack, Settles, Allows, field_of}
 use Rattle.x10_verify.specs.Effects.{IsNarrow, StandsFor, IsSoundIn, IsSoundFixed, IsSoundOutcome, Leaves}
 use Rattle.x10_verify.proofs.Below.{IsKind-down, some_is}
 

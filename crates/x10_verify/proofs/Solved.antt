@@ -1,17 +1,17 @@
 -- The beginning and the end of the work list, and why it ends.
-use Rattle.std.proofs.Common.{◌≡◌, ◌⊎◌, ℕ, zero, suc, ◌+◌, ◌-◌, ◌*◌, ◌<◌, ◌≤◌, Bool, true, false, List, length, Option, Some, None, Result, Ok, Err, refl, sym, ap, subst, ◌∙◌, inl, inr, arith}
+use Rattle.std.proofs.Common.{◌≡◌, ◌⊎◌, ℕ, zero, suc, ◌+◌, ◌-◌, ◌*◌, ◌<◌, ◌≤◌, Bool, true, false, List, length, Option, Some, None, refl, sym, ap, subst, ◌∙◌, inl, inr, arith}
 use Rattle.std.specs.Prelude.{slice_get}
 use Rattle.std.proofs.Math.Nat.{suc-mul}
 use Rattle.std.proofs.lemmas.Bool.{cases_eq, cases_lt}
 use Rattle.x10_model.specs.Modules.{Module, Function}
-use Rattle.x10_model.specs.Assignments.{State, IsState, IsBelow, Reaches, IsConsistent, HasAssignment, entry_state}
+use Rattle.x10_model.specs.Assignments.{State, IsState, HasAssignment, entry_state}
 use Rattle.x10_verify.specs.declared.known.Known.{Known}
 use Rattle.x10_verify.specs.declared.states.Entry.{Entry}
 use Rattle.x10_verify.specs.Effects.{IsKept, IsNarrow}
 use Rattle.x10_verify.specs.Known.{entered, state_of}
 use Rattle.x10_verify.specs.Knowledge.{LeastAt, SameState}
-use Rattle.x10_verify.specs.Solving.{Solves, Holds}
-use Rattle.x10_verify.specs.States.{state_in, stated, waits, waits_in, IsFresh, IsMetIn, Arrives}
+use Rattle.x10_verify.specs.Solving.{Solves}
+use Rattle.x10_verify.specs.States.{state_in, stated, waits, IsFresh, IsMetIn, Arrives}
 use Rattle.x10_verify.proofs.Below.{IsBelow-trans, SameState-below, SameState-sym}
 use Rattle.x10_verify.proofs.Solving.{Arrived, arrived}
 

@@ -1,31 +1,26 @@
 -- One instruction of the work list keeps the states so far sound and least.
-use Rattle.std.proofs.Common.{◌≡◌, ◌⊎◌, ℕ, zero, suc, ◌+◌, ◌<◌, ◌≤◌, Bool, true, false, List, [], ◌∷◌, ◌++◌, length, set, Option, Some, None, Result, Ok, Err, refl, sym, ap, subst, ◌∙◌, inl, inr, arith}
+use Rattle.std.proofs.Common.{◌≡◌, ◌⊎◌, ℕ, zero, suc, ◌+◌, ◌<◌, ◌≤◌, Bool, true, false, List, [], ◌∷◌, ◌++◌, length, set, Option, Some, None, refl, sym, ap, subst, ◌∙◌, inl, inr, arith}
 use Rattle.std.specs.Prelude.{slice_get}
-use Rattle.std.proofs.lemmas.Bool.{cases_eq, cases_lt}
-use Rattle.x10_code.specs.declared.op.Op.{Op}
+use Rattle.std.proofs.lemmas.Bool.{cases_eq}
 use Rattle.x10_code.specs.declared.instr.Instr.{Instr}
 use Rattle.x10_code.specs.Table.{form_of}
 use Rattle.x10_model.specs.Maps.{IsIn}
 use Rattle.x10_model.specs.Modules.{Module, Function}
 use Rattle.x10_model.specs.Structure.{is_target}
-use Rattle.x10_model.specs.Assignments.{State, IsState, IsBelow, Point, Edges, Permits, Reaches, IsConsistent, HasAssignment, entry_state}
-use Rattle.x10_verify.specs.declared.fault.FlowCause.{FlowCause}
+use Rattle.x10_model.specs.Assignments.{State, IsBelow, Edges, Permits, Reaches, IsConsistent, HasAssignment, entry_state}
 use Rattle.x10_verify.specs.declared.known.Known.{Known}
-use Rattle.x10_verify.specs.declared.states.Mark.TheVariants.{Done}
 use Rattle.x10_verify.specs.declared.states.Entry.{Entry}
 use Rattle.x10_verify.specs.declared.table.Effect.{Effect}
 use Rattle.x10_verify.specs.Knowledge.{LeastAt, SameState, point}
 use Rattle.x10_verify.specs.Known.{state_of}
 use Rattle.x10_verify.specs.Effects.{IsKept, IsNarrow, IsSoundIn, Leaves}
-use Rattle.x10_verify.specs.Merging.{IsMet}
-use Rattle.x10_verify.specs.Rules.{Allows, Decides, rule_for, after, edge_if, edges_of, goes_on_of}
-use Rattle.x10_verify.specs.States.{state_if, state_in, stated, waits, waits_in, is_waiting, IsMetIn, Receives, Arrives}
-use Rattle.x10_verify.specs.Solving.{Holds, Solves, Steps, JumpsIf, GoesOnIf}
-use Rattle.x10_verify.proofs.Below.{IsBelow-refl, IsBelow-trans, SameState-below, SameState-sym}
-use Rattle.x10_verify.proofs.Effects.{after_below, after_state}
-use Rattle.x10_verify.proofs.Parts.{permits_parts, parts_permit}
-use Rattle.x10_verify.proofs.Settling.{allows_down, allows_once, allows_sound, ResultsFit}
-use Rattle.x10_verify.proofs.Tables.{table_sound}
+use Rattle.x10_verify.specs.Rules.{Allows, rule_for, after, edge_if, edges_of, goes_on_of}
+use Rattle.x10_verify.specs.States.{state_in, stated, waits, waits_in, is_waiting, IsMetIn, Arrives}
+use Rattle.x10_verify.specs.Solving.{Holds}
+use Rattle.x10_verify.proofs.Below.{IsBelow-refl, IsBelow-trans, SameState-below}
+use Rattle.x10_verify.proofs.Effects.{after_below}
+use Rattle.x10_verify.proofs.Parts.{permits_parts}
+use Rattle.x10_verify.proofs.Settling.{allows_down, allows_once}
 use Rattle.x10_verify.proofs.Tabled.{get_set, get_other}
 
 some_is : {X : Type 0} (x y : X) → Some x ≡ Some y → x ≡ y

@@ -1,26 +1,25 @@
 -- One waiting instruction more: the states so far stay sound and least, or there is no consistent assignment.
-use Rattle.std.proofs.Common.{◌≡◌, ◌⊎◌, ℕ, zero, suc, ◌+◌, ◌<◌, ◌≤◌, Bool, true, false, List, [], ◌∷◌, ◌++◌, length, set, Option, Some, None, Result, Ok, Err, refl, sym, ap, subst, ◌∙◌, inl, inr, arith}
+use Rattle.std.proofs.Common.{◌≡◌, ◌⊎◌, ℕ, zero, suc, ◌+◌, ◌<◌, ◌≤◌, Bool, true, false, List, ◌++◌, length, Some, Result, Ok, Err, refl, sym, ap, subst, ◌∙◌, inl, inr, arith}
 use Rattle.std.specs.Prelude.{slice_get}
 use Rattle.std.specs.Result.{IsErr}
 use Rattle.std.proofs.lemmas.Bool.{cases_eq}
-use Rattle.x10_code.specs.declared.op.Op.TheVariants as op
 use Rattle.x10_code.specs.declared.instr.Instr.{Instr}
 use Rattle.x10_code.specs.declared.operands.Operand.TheVariants as operand
 use Rattle.x10_code.specs.Table.{form_of}
 use Rattle.x10_model.specs.Maps.{IsIn}
 use Rattle.x10_model.specs.Modules.{Module, Function}
 use Rattle.x10_model.specs.Structure.{is_target}
-use Rattle.x10_model.specs.Assignments.{State, IsState, IsBelow, Edges, Reaches, HasAssignment, entry_state, holds_place}
+use Rattle.x10_model.specs.Assignments.{State, IsState, Reaches, HasAssignment, entry_state, holds_place}
 use Rattle.x10_verify.specs.declared.fault.FlowCause.{FlowCause}
 use Rattle.x10_verify.specs.declared.known.Known.{Known}
 use Rattle.x10_verify.specs.declared.states.Mark.{Mark}
-use Rattle.x10_verify.specs.declared.states.Mark.TheVariants.{Unreached, Waiting, Done}
+use Rattle.x10_verify.specs.declared.states.Mark.TheVariants.{Waiting, Done}
 use Rattle.x10_verify.specs.declared.states.Entry.{Entry}
 use Rattle.x10_verify.specs.declared.table.Effect.{Effect}
 use Rattle.x10_verify.specs.Knowledge.{LeastAt, SameState, point}
 use Rattle.x10_verify.specs.Known.{state_of}
 use Rattle.x10_verify.specs.Effects.{IsKept, IsNarrow, IsSoundIn}
-use Rattle.x10_verify.specs.Rules.{Allows, Decides, rule_for, after, edge_if, edges_of, goes_on_of}
+use Rattle.x10_verify.specs.Rules.{Allows, rule_for, after, edge_if, edges_of, goes_on_of}
 use Rattle.x10_verify.specs.States.{Takes, state_if, state_in, stated, waits, waits_in, is_waiting, total}
 use Rattle.x10_verify.specs.Solving.{Holds, Solves, Steps, JumpsIf, GoesOnIf}
 use Rattle.x10_verify.proofs.Below.{IsBelow-trans, SameState-below, SameState-sym}

@@ -1,20 +1,19 @@
 -- Tables of states: one entry changed, none known, and how often they can change.
-use Rattle.std.proofs.Common.{◌≡◌, ◌≢◌, ◌⊎◌, ℕ, zero, suc, ◌+◌, ◌*◌, ◌<◌, ◌≤◌, Bool, true, false, List, [], ◌∷◌, ◌++◌, length, set, get_or, Option, Some, None, refl, sym, ap, subst, ◌∙◌, inl, inr, arith}
+use Rattle.std.proofs.Common.{◌≡◌, ◌⊎◌, ℕ, zero, suc, ◌*◌, ◌<◌, ◌≤◌, Bool, true, false, List, [], ◌∷◌, ◌++◌, length, set, get_or, Option, Some, None, refl, sym, ap, subst, ◌∙◌, inl, inr, arith}
 use Rattle.std.specs.Prelude.{slice_get}
-use Rattle.std.proofs.lemmas.Bool.{cases_lt, cases_eq}
+use Rattle.std.proofs.lemmas.Bool.{cases_eq}
 use Rattle.std.proofs.Math.ListN.{length-set}
 use Rattle.x10_kinds.specs.declared.kind.Kind.{Kind}
 use Rattle.x10_kinds.specs.declared.kind.Kind.TheVariants.{Obj}
 use Rattle.x10_kinds.specs.Ranks.{sum_below, rank}
 use Rattle.x10_kinds.proofs.Ranks.{sum_below-le, sum_below-lt, sum_below-bound, rank-bound}
-use Rattle.x10_model.specs.Assignments.{State}
 use Rattle.x10_verify.specs.declared.known.Known.{Known}
 use Rattle.x10_verify.specs.declared.states.Mark.{Mark}
 use Rattle.x10_verify.specs.declared.states.Mark.TheVariants.{Unreached, Waiting, Done}
 use Rattle.x10_verify.specs.declared.states.Entry.{Entry}
 use Rattle.x10_verify.specs.Known.{kind_in, state_of}
 use Rattle.x10_verify.specs.Merging.{weight, rank_of}
-use Rattle.x10_verify.specs.States.{state_if, state_in, stated, waits, is_waiting, IsFresh, IsMetIn, Receives, Arrives, height_if, height_in, total}
+use Rattle.x10_verify.specs.States.{state_if, waits, is_waiting, IsFresh, IsMetIn, Receives, Arrives, height_if, height_in, total}
 
 -- ---- entries of a list
 

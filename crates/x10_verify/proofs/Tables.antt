@@ -11,7 +11,7 @@ use Rattle.x10_code.specs.declared.instr.Instr.{Instr}
 use Rattle.x10_code.specs.declared.operands.Operand.TheVariants as operand
 use Rattle.x10_code.specs.Table.{form_of}
 use Rattle.x10_model.specs.declared.slot.Slot.{Slot}
-use Rattle.x10_model.specs.Modules.{Module, Function, FitsSlot, FitsFunction, FitsImage}
+use Rattle.x10_model.specs.Modules.{Module, FitsSlot, FitsFunction, FitsImage}
 use Rattle.x10_model.specs.Ranges.{function_at, result_of}
 use Rattle.x10_model.specs.Structure.{is_call}
 use Rattle.x10_model.specs.Assignments.{State, Point}

@@ -1,5 +1,5 @@
 -- The table of states: a state, or none, before each instruction.
-use Rattle.std.specs.Prelude.{◌≡◌, ℕ, ◌*◌, ◌<◌, ◌≤◌, Bool, true, false, List, length, Option, Some, None, slice_get, slice_set}
+use Rattle.std.specs.Prelude.{◌≡◌, ℕ, ◌*◌, ◌<◌, Bool, true, false, List, length, Option, Some, None, slice_get, slice_set}
 use Rattle.x10_kinds.specs.Ranks.{sum_below}
 use Rattle.x10_model.specs.Assignments.{State}
 use Rattle.x10_verify.specs.declared.known.Known.{Known}

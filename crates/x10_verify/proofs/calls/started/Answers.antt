@@ -1,4 +1,4 @@
-use Rattle.std.proofs.Common.{◌≡◌, sym, ◌∙◌}
+use Rattle.std.proofs.Common.{sym, ◌∙◌}
 use Rattle.x10_verify.specs.Known.{state_of}
 use Rattle.x10_verify.specs.Knowledge.{point}
 use Rattle.x10_verify.proofs.Deciding.{undecided, starts_none, starts_bad}

@@ -1,7 +1,7 @@
-use Rattle.std.proofs.Common.{◌≡◌, ◌<◌, length, arith}
+use Rattle.std.proofs.Common.{◌≡◌, length, arith}
 use Rattle.x10_verify.specs.Known.{state_of}
-use Rattle.x10_verify.proofs.InFunction.{code_length, same_entry, same_result}
-use Rattle.x10_verify.proofs.Solved.{begins, solved, measure_falls}
+use Rattle.x10_verify.proofs.InFunction.{code_length, same_entry}
+use Rattle.x10_verify.proofs.Solved.{begins, solved}
 use Rattle.x10_verify.proofs.Tabled.{arrives_size}
 use Rattle.x10_verify.proofs.check.check_function.Goals as goal
 

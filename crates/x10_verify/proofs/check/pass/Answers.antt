@@ -1,5 +1,3 @@
-use Rattle.std.proofs.Common.{◌≡◌, true}
-use Rattle.x10_verify.specs.States.{waits}
 use Rattle.x10_verify.proofs.InFunction.{code_length, in_function}
 use Rattle.x10_verify.proofs.Solved.{passed_by}
 use Rattle.x10_verify.proofs.check.pass.Goals as goal

@@ -1,7 +1,4 @@
-use Rattle.std.proofs.Common.{arith, refl, sym, subst}
-use Rattle.x10_verify.specs.Known.{kind_in}
-use Rattle.x10_verify.specs.Knowledge.{SameState}
-use Rattle.x10_verify.specs.Merging.{IsWeakened}
+use Rattle.std.proofs.Common.{arith}
 use Rattle.x10_verify.proofs.Merging.{weakened_on_same, weakened_on_more}
 use Rattle.x10_verify.proofs.known.Known.weaken_kinds.Goals.{then-weaken_register, else-weaken_register}
 use Rattle.x10_verify.proofs.known.Known.weaken_kinds.Goals as goal

@@ -1,6 +1,6 @@
 use Rattle.std.proofs.Common.{◌≡◌, arith, ap, subst, set, ◌∙◌}
 use Rattle.std.proofs.lemmas.Bool.{iff_false}
-use Rattle.x10_verify.specs.Known.{kind_in, state_of}
+use Rattle.x10_verify.specs.Known.{state_of}
 use Rattle.x10_verify.specs.Knowledge.{SameState}
 use Rattle.x10_verify.specs.Merging.{common_of, parted}
 use Rattle.x10_verify.proofs.Rows.{same_parted}
