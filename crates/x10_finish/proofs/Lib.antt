@@ -3,6 +3,7 @@ pub mod Sums
 pub mod Squares
 pub mod Merging
 pub mod Balances
+pub mod Entries
 pub mod Counting
 pub mod Resting
 pub mod Stays
