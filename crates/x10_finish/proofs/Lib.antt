@@ -16,3 +16,4 @@ pub mod HowMany
 pub mod Telling
 pub mod Following
 pub mod Counted
+pub mod InRange
