@@ -4,48 +4,7 @@ use Rattle.std.proofs.lemmas.Bool.{eqb-true, ne_eqb, eq-eqb, cases_eq}
 use Rattle.x10_model.specs.Maps.{with_entry, with_pair}
 use Rattle.x10_model.specs.Totals.{Totals, Entry, Cut, zeros, entry_of, larger, sends_to, begins_one, ends_one, receives_from}
 use Rattle.x10_finish.specs.Detection.{Told, Counting, Event, PutsOut, Begins, Ends, Arrives, TakesIn, start, is_last, told_of, taken, after, IsAtWork, IsAble, AreAble, after_all, IsEarlierOf, in_flight, is_kept, IsBelow, IsCutOf, entry_or, entry_in, IsStill, AreStill, Lacks, IsToldNow, IsCounted}
-use Rattle.x10_finish.proofs.Balances.{same_entry}
-
--- ---- maps
-
-pub entry_same : {V : Type 0} (f : ℕ → V) (k : ℕ) (v : V) → with_entry f k v k ≡ v
-entry_same f k v = rw (eq-eqb k k refl) refl
-
-pub entry_other : {V : Type 0} (f : ℕ → V) (k j : ℕ) (v : V) → (j ≡ k → ⊥) → with_entry f k v j ≡ f j
-entry_other f k j v apart = rw (ne_eqb j k apart) refl
-
--- what holds of the new value and of each other one holds of all
-pub at_entry : {V : Type 0} (P : V → Type 0) (f : ℕ → V) (k j : ℕ) (v : V) → (j ≡ k → P v) → ((j ≡ k → ⊥) → P (f j)) → P (with_entry f k v j)
-at_entry P f k j v here there = elim (cases_eq j k) [
-  | inl same ↦ subst P (sym (subst (λ x. with_entry f k v x ≡ v) (sym same) (entry_same f k v))) (here same)
-  | inr apart ↦ subst P (sym (entry_other f k j v apart)) (there apart)
-]
-
-pub at_pair : (P : ℕ → Type 0) (f : ℕ → ℕ → ℕ) (i j a b v : ℕ) → (a ≡ i → b ≡ j → P v) → (((a ≡ i) × (b ≡ j) → ⊥) → P (f a b)) → P (with_pair f i j v a b)
-at_pair P f i j a b v here there = elim (cases_eq a i) [
-  | inl ea ↦ elim (cases_eq b j) [
-    | inl eb ↦ (let p = eq-eqb a i ea in let q = eq-eqb b j eb in rw (p, q) (here ea eb))
-    | inr nb ↦ (let q = ne_eqb b j nb in rw (eq-eqb a i ea, q) (there (λ both. nb both.1)))
-  ]
-  | inr na ↦ (let p = ne_eqb a i na in rw p (there (λ both. na both.0)))
-]
-
-none_some : {V : Type 0} {A : Type 0} (o : Option V) (v : V) → o ≡ None → o ≡ Some v → A
-none_some o v e f = absurd (let x = sym e ∙ f in cc)
-
--- ---- entries
-
-below_itself : (e : Entry) → IsBelow e e
-below_itself e = record { sent = λ q. omega arith; received = λ q. omega arith }
-
-below_same : (e f : Entry) → e ≡ f → IsBelow e f
-below_same e f s = subst (IsBelow e) s (below_itself e)
-
-pub larger_second : (e f : Entry) → IsBelow e f → larger e f ≡ f
-larger_second e f h = same_entry (larger e f) f (λ q. let x = h.sent q in omega arith) (λ q. let x = h.received q in omega arith)
-
-pub larger_first : (e f : Entry) → IsBelow f e → larger e f ≡ e
-larger_first e f h = same_entry (larger e f) e (λ q. let x = h.sent q in omega arith) (λ q. let x = h.received q in omega arith)
+pub use Rattle.x10_finish.proofs.Entries.{entry_same, entry_other, at_entry, at_pair, none_some, below_itself, below_same, larger_second, larger_first}
 
 -- ---- a place that sends more
 

@@ -3,6 +3,7 @@ pub mod Sums
 pub mod Squares
 pub mod Merging
 pub mod Balances
+pub mod Entries
 pub mod Counting
 pub mod Resting
 pub mod Stays
@@ -15,3 +16,4 @@ pub mod HowMany
 pub mod Telling
 pub mod Following
 pub mod Counted
+pub mod InRange

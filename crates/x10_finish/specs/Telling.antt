@@ -10,7 +10,7 @@ use Rattle.x10_model.specs.Totals.{Happening, Did, Took, totals_after, first_tot
 use Rattle.x10_model.specs.Worlds.{same_finish, Post, Unused, Flying, Taken, Net, sent, net_after, IsQuiet, opening}
 use Rattle.x10_finish.specs.Detection as detection
 use Rattle.x10_finish.specs.Detection.{Counting, start, after, AreAble, after_all, IsCounted, IsDone}
-use Rattle.x10_finish.specs.Nesting.{Stays, stays_of}
+use Rattle.x10_finish.specs.Nesting.{stays_in, Stays, stays_of}
 
 -- ---- how many numbers a property has
 
@@ -112,3 +112,15 @@ counting_at_opening f = if same_finish f root then after f.home start (detection
 abbrev pub OpeningIsCounted : Type 0
 OpeningIsCounted = (setting : Setting) (key : ℕ) (f : Finish) → 0 < setting.places → Tells (stays_of (opening setting key).net) (opening setting key).net.posts f (counting_at_opening f) × IsCounted setting.places f.home (counting_at_opening f)
     × ((p : ℕ) → (counting_at_opening f).totals p ≡ first_totals p f)
+
+-- ---- all is in range in every world
+
+abbrev pub OpeningIsInRange : Type 0
+OpeningIsInRange = (setting : Setting) (key : ℕ) → 0 < setting.places → IsInRange setting.places (stays_of (opening setting key).net) (opening setting key).net.posts
+
+abbrev pub MovesStayInRange : Type 0
+MovesStayInRange = (setting : Setting) (places : ℕ) (net : Net) (here key number : ℕ) (old new : machine.Place) (effect : Effect) → IsInRange places (stays_of net) net.posts → Moves setting here old key new effect → here < places → GoesTo places (sent effect)
+    → IsInRange places (stays_of (net_after net here new effect number)) (net_after net here new effect number).posts
+
+abbrev pub DeliveriesStayInRange : Type 0
+DeliveriesStayInRange = (places : ℕ) (net : Net) (here number : ℕ) (new : machine.Place) → IsInRange places (stays_of net) net.posts → here < places → IsInRange places (λ p. stays_in (with_entry net.places here (Some new) p)) (with_entry net.posts number Taken)

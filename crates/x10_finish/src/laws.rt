@@ -2,7 +2,7 @@
 
 ghost use Rattle.x10_finish.specs.Detection.{DoneIsAtRest, AtRestIsDone};
 ghost use Rattle.x10_finish.specs.Stays.{StaysChange};
-ghost use Rattle.x10_finish.specs.Telling.{DoneIsQuiet, QuietIsDone, MovesAreCounted, DeliveriesAreCounted, OpeningIsCounted};
+ghost use Rattle.x10_finish.specs.Telling.{DoneIsQuiet, QuietIsDone, MovesAreCounted, DeliveriesAreCounted, OpeningIsCounted, OpeningIsInRange, MovesStayInRange, DeliveriesStayInRange};
 ghost use Rattle.x10_finish.specs.Closing.{QuietIsIdeal, EndedIsQuiet, RootIsOver};
 
 /// After any events under a finish, reports taken in late and in any order: where nothing lives at its home and the
@@ -64,4 +64,12 @@ pub fn deliveries_are_counted()
 /// And they tell of it at the opening: main's stay lives under the root.
 pub fn opening_is_counted()
     ensures { OpeningIsCounted }
+{}
+
+/// In every world stays are at places, and what flies under a finish goes from place to place: at the opening, and
+/// after each move that sends to a place and each delivery at one.
+pub fn all_is_in_range()
+    ensures opening { OpeningIsInRange }
+    ensures moves { MovesStayInRange }
+    ensures deliveries { DeliveriesStayInRange }
 {}
