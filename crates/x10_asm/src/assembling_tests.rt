@@ -43,6 +43,15 @@ fn seven_both_ways(rt: HostRuntime) -> Result<(), Fail> {
     Ok(())
 }
 
+/// The right answer, or want of memory, which is no line's fault.
+#[test]
+fn want_of_memory(rt: HostRuntime) {
+    match assemble(rt.alloc(), SEVEN) {
+        Ok(bytes) => assert_eq!(rt; bytes.as_slice(), IMAGE_OF_SEVEN.as_slice()),
+        Err(fault) => assert_eq!(rt; Some(fault), at(0, AsmCause::Memory)),
+    }
+}
+
 #[test]
 fn a_listing_is_assembled(rt: HostRuntime) -> Result<(), Fail> {
     let bytes = assemble(rt.alloc(), WHOLE)?;
