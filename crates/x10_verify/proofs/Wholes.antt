@@ -160,6 +160,12 @@ length_more m f longest len before here g lt = elim (below_or_at g f lt) [
   | inr at ↦ (let h : length (code_at m g) ≡ len = ap (λ n. length (code_at m n)) at ∙ sym here in omega arith)
 ]
 
+pub length_one : (m : Module) (f longest len : ℕ) → (g : ℕ) × (length (code_at m g) ≡ longest) → len ≡ length (code_at m f) → (g : ℕ) × (length (code_at m g) ≡ max longest len)
+length_one m f longest len before here = elim (cases_lt longest len) [
+  | inl lt ↦ (f, omega (arith, here))
+  | inr ge ↦ (before.0, omega (arith, before.1))
+]
+
 none_past : {X : Type 0} (xs : List X) (n : ℕ) → length xs ≤ n → slice_get xs n ≡ None
 none_past [] n le = refl
 none_past (x ∷ xs) zero le = absurd (omega arith)

@@ -50,10 +50,12 @@ pub(crate) fn check_ranges(image: &ImageView) -> Result<(), Position>
 
 /// How many instructions the longest function has.
 pub(crate) fn longest(image: &ImageView) -> usize
-    ensures { (f : ℕ) → length (code_at image.now f) ≤ result }
+    ensures each { (f : ℕ) → length (code_at image.now f) ≤ result }
+    ensures one { (f : ℕ) × (length (code_at image.now f) ≡ result) }
 {
-    let mut longest = 0;
-    for function in 0..image.functions() {
+    let functions = image.functions();
+    let mut longest = image.code_len(0);
+    for function in 1..functions {
         longest = longest.max(image.code_len(function));
     }
     longest
