@@ -81,7 +81,6 @@ falls_onward earlier code pc i slots fit at a b =
 
 -- ---- loops
 
-
 loop_numbers : (x h h2 r p q : ℕ) → 1 ≤ x → q ≡ p → (h + (h2 + r)) + ((x - 1) * h + q) + 1 ≤ ((1 + x * h + h2) + r) + p
 loop_numbers zero h h2 r p q some e = absurd (omega (arith, some))
 loop_numbers (suc x) h h2 r p q some e = let n : suc x - 1 ≡ x = omega arith in rw n (loop_sum x h h2 r p q e)
