@@ -1,23 +1,22 @@
 -- The world at the beginning stands for the machine's opening.
-use Rattle.std.proofs.Common.{◌≡◌, ◌≢◌, ◌⊎◌, ℕ, zero, suc, ◌+◌, ◌<◌, ◌≤◌, ◌==◌, Bool, true, false, List, [], ◌∷◌, ◌++◌, length, Some, None, refl, sym, ap, subst, ◌∙◌, inl, inr, arith, length-append}
+use Rattle.std.proofs.Common.{◌≡◌, ◌≢◌, ◌⊎◌, ℕ, zero, suc, ◌+◌, ◌<◌, ◌≤◌, ◌==◌, Bool, true, false, List, [], ◌∷◌, ◌++◌, length, take, Some, None, refl, sym, ap, subst, ◌∙◌, inl, inr, arith, length-append}
 use Rattle.std.specs.Prelude.{slice_get, nat_lt, if◌then◌else◌}
 use Rattle.std.proofs.lemmas.Bool.{eqb-true, eqb-false, ne_eqb, lt-ltb, ltb-true}
-use Rattle.x10_model.specs.Modules.{Function}
-use Rattle.x10_model.specs.Ranges.{function_at, instr_in}
+use Rattle.x10_model.specs.Structure.{bound_of}
 use Rattle.x10_model.specs.Places as machine
 use Rattle.x10_model.specs.Places.{Setting, Stay, root}
 use Rattle.x10_model.specs.Moves.{new_stay}
 use Rattle.x10_model.specs.Worlds.{first_place, empty_place, opening}
+use Rattle.x10_image.specs.Parts.{code_in}
 use Rattle.x10_verify.specs.Certified.{Certified, IsCertified}
-use Rattle.x10_verify.proofs.Structured.{IsStraightCode, bounds_each, straight_bound}
 use Rattle.x10_place.specs.StandsFor as place
 use Rattle.x10_place.specs.StandsFor.{PlaceState, StandsFor}
 use Rattle.x10_place.specs.Opening.{opening_place}
-use Rattle.x10_world.specs.Tied.{length_of, left_of, IsAt, Tied}
+use Rattle.x10_world.specs.Tied.{left_of, IsAt, Tied}
 use Rattle.x10_world.specs.StandsForWorld.{WorldState, setting_of, StandsForWorld}
 use Rattle.x10_world.specs.Opening.{IsOpened, AreOpened}
 use Rattle.x10_world.proofs.Ties.{at_key as main_key, entry_cases, first_is}
-use Rattle.x10_world.proofs.Happening.{straight_is}
+use Rattle.x10_world.proofs.Bounded.{bound_each, falls}
 
 some_is : {X : Type 0} (x y : X) → Some x ≡ Some y → x ≡ y
 some_is x y e = cc
@@ -80,17 +79,16 @@ at_opening setting key p k s at = go (nat_lt p setting.places) (p == 0) refl at.
 
 -- ---- bounds
 
--- main's code is not longer than its bound
-entry_bound : (c : Certified) (bound : ℕ) → IsCertified c → slice_get c.bounds c.program.entry ≡ Some bound → length_of (function_at c.program c.program.entry) ≤ bound
+-- at the beginning main can take as many steps as its bound says
+entry_bound : (c : Certified) (bound : ℕ) → IsCertified c → slice_get c.bounds c.program.entry ≡ Some bound → left_of c.program c.bounds (new_stay c.program.entry [] root None) ≡ bound
 entry_bound c bound certified is =
     let f = certified.fits.entry in
-    let b = bounds_each c.program c.bounds c.program.entry f.0 certified.verified.bounds_are f.1 in
-    let same : b.0 ≡ bound = some_is b.0 bound (sym b.1 ∙ is) in
-    let long : length f.0.code ≡ b.0 = sym (straight_bound b.2.0 f.0.code (straight_code f.0 f.1)) ∙ b.2.2 in
-    subst (λ o. length_of o ≤ bound) (sym f.1) (omega (arith, long, same))
+    let falling = falls c.program c.bounds c.program.entry f.0 certified.verified.bounds_are f.1 in
+    let own : bound_of (take c.program.entry c.bounds) f.0.code ≡ bound = some_is _ bound (sym (bound_each c.program c.bounds c.program.entry f.0 certified.verified.bounds_are f.1).bound ∙ is) in
+    main_only _ bound (falling.begins (λ n. 0) ∙ ap (λ o. bound_of (take c.program.entry c.bounds) (code_in o)) f.1 ∙ own)
   where
-    straight_code : (f : Function) → function_at c.program c.program.entry ≡ Some f → IsStraightCode f.code
-    straight_code f e pc i at = straight_is c.program certified.fits c.program.entry pc i (ap (λ o. instr_in o pc) e ∙ at)
+    main_only : (left bound : ℕ) → left ≡ bound → left + 0 ≡ bound
+    main_only left bound e = omega (arith, e)
 
 -- ---- the opening
 
@@ -103,7 +101,7 @@ tied_opening c setting key certified some same = record {
   begun = λ p k s at. omega arith;
   left = left;
   apart = λ p k q other s t at to e. let a = at_opening setting key p k s at in let b = at_opening setting key q other t to in (a.place ∙ sym b.place, a.key_is ∙ sym b.key_is);
-  plain = λ p k s at. let a = at_opening setting key p k s at in (ap (λ (x : Stay). x.callers) a.stay, ap (λ (x : Stay). x.back) a.stay);
+  plain = λ p k s at. let a = at_opening setting key p k s at in ap (λ (x : Stay). x.back) a.stay;
   first = λ p k s at. (at_opening setting key p k s at).place;
   listed = λ p k s at. let a = at_opening setting key p k s at in ap (λ q. (q, key) ∷ []) (sym a.place) ∙ ap (λ q. (p, q) ∷ []) (sym a.key_is);
   there = there;
@@ -114,12 +112,14 @@ tied_opening c setting key certified some same = record {
     there : (a : ℕ) (stay : ℕ × ℕ) (rest : List (ℕ × ℕ)) → a < 1 → (0, key) ∷ [] ≡ stay ∷ rest → (s : Stay) × IsAt (opening setting key) stay.0 stay.1 s × (0 ≡ a)
     there a stay rest lt e = subst (λ (x : ℕ × ℕ). (s : Stay) × IsAt (opening setting key) x.0 x.1 s × (0 ≡ a)) (first_is (0, key) stay [] rest e) (new_stay setting.program.entry [] root None, main_there setting key some, omega (arith, lt))
 
-    left : (p k : ℕ) (s : Stay) (bound : ℕ) → IsAt (opening setting key) p k s → slice_get c.bounds setting.program.entry ≡ Some bound → 0 + left_of c.program s ≤ bound
+    left : (p k : ℕ) (s : Stay) (bound : ℕ) → IsAt (opening setting key) p k s → slice_get c.bounds setting.program.entry ≡ Some bound → 0 + left_of c.program c.bounds s ≤ bound
     left p k s bound at is =
         let a = at_opening setting key p k s at in
         let h = entry_bound c bound certified (subst (λ m. slice_get c.bounds m.entry ≡ Some bound) same is) in
-        let l : left_of c.program (new_stay c.program.entry [] root None) ≤ bound = omega (arith, h) in
-        subst (λ x. 0 + left_of c.program x ≤ bound) (sym (a.stay ∙ ap (λ m. new_stay m.entry [] root None) same)) (omega (arith, l))
+        subst (λ x. 0 + left_of c.program c.bounds x ≤ bound) (sym (a.stay ∙ ap (λ m. new_stay m.entry [] root None) same)) (within _ bound h)
+      where
+        within : (left bound : ℕ) → left ≡ bound → 0 + left ≤ bound
+        within left bound e = omega (arith, e)
 
 -- the place of the opening with a number, main's key being that of the first place
 chosen : (setting : Setting) (key other id : ℕ) → id ≢ 0 → opening_place setting other id ≡ opening_place setting key id

@@ -6,21 +6,23 @@ use Rattle.std.proofs.lemmas.Bool.{eqb-true, eqb-false}
 use Rattle.slab.specs.Slab.{get}
 use Rattle.x10_kinds.specs.declared.stop.Stop.{Stop}
 use Rattle.x10_kinds.specs.declared.stop.Stop.TheVariants as refusal
-use Rattle.x10_model.specs.Modules.{Module, Function, FitsImage, is_brought}
+use Rattle.x10_code.specs.declared.instr.Instr.{Instr}
+use Rattle.x10_model.specs.Modules.{Module, Function}
 use Rattle.x10_model.specs.Ranges.{function_at, instr_in}
 use Rattle.x10_model.specs.declared.event.Event.{Event}
 use Rattle.x10_model.specs.declared.event.Event.TheVariants.{Step, Deliver}
 use Rattle.x10_model.specs.Places as machine
-use Rattle.x10_model.specs.Places.{Setting, Stay, Effect, Works, Ends, Message}
+use Rattle.x10_model.specs.Places.{Setting, Effect, Message}
 use Rattle.x10_model.specs.Moves.{Moves}
 use Rattle.x10_model.specs.Worlds.{World, Ideal, Allows, steps, idle, no_place, no_stay, not_flying, Post, Unused, Flying}
+use Rattle.x10_verify.specs.Certified.{Certified, IsCertified}
 use Rattle.x10_verify.proofs.Wholes.{all_at, function_fits}
 use Rattle.x10_place.specs.declared.activity.Activity.{Activity}
 use Rattle.x10_place.specs.StandsFor as place
 use Rattle.x10_place.specs.StandsFor.{PlaceState, StandsFor, Leads, Keeps}
-use Rattle.x10_world.specs.Tied.{IsStraight, Tied}
+use Rattle.x10_world.specs.Tied.{stays_put, Tied}
 use Rattle.x10_world.specs.StandsForWorld.{WorldState, BelongsTo, BelongTo, IsWorld, NoneStopped, setting_of, KeepsSetting, StandsForWorld, IsStepped, StepsOne, Makes}
-use Rattle.x10_world.proofs.Advance.{Advances, advances}
+use Rattle.x10_world.proofs.Advance.{IsBounded, brought_stays, move_advances}
 use Rattle.x10_world.proofs.Ties.{at_key, off_key, world_after, tied_after}
 
 none_some : {X : Type 0} (o : Option X) (x : X) → o ≡ None → o ≡ Some x → ⊥
@@ -62,26 +64,22 @@ set_length (z ∷ zs) (suc i) x = ap suc (set_length zs i x)
 
 -- ---- modules
 
--- a module that has an image has straight code
-pub straight_is : (program : Module) → FitsImage program → IsStraight program
-straight_is program fits f pc instr e = go (function_at program f) refl e
+-- a module that the verifier accepts has local operations, and bounds
+pub bounded_is : (c : Certified) → IsCertified c → IsBounded c.program c.bounds
+bounded_is c certified = record { local = λ f pc instr e. local f pc instr (function_at c.program f) refl e; bounds_are = certified.verified.bounds_are }
   where
-    go : (o : Option Function) → function_at program f ≡ o → instr_in o pc ≡ Some instr → is_brought instr.op ≡ true
-    go None is e = absurd cc
-    go (Some function) is e = (all_at _ function.code pc instr (function_fits program f function fits is).code e).brought
+    local : (f pc : ℕ) (instr : Instr) (o : Option Function) → function_at c.program f ≡ o → instr_in o pc ≡ Some instr → stays_put instr.op ≡ true
+    local f pc instr None is e = absurd cc
+    local f pc instr (Some function) is e = brought_stays instr.op (all_at _ function.code pc instr (function_fits c.program f function certified.fits is).code e).brought
 
 -- ---- moves
 
-allows_any : (w : World) (here key : ℕ) (old new : ℕ → Option Stay) (s : Stay) (effect : Effect) → Advances old key s new effect → Allows Ideal w here effect
-allows_any w here key old new s effect (inl g) = subst (λ e. Allows Ideal w here e) (sym g.6) tt
-allows_any w here key old new s effect (inr g) = subst (λ e. Allows Ideal w here e) (sym g.1) tt
-
--- straight code closes no finish
-allowed : (setting : Setting) (bounds : List ℕ) (w : World) (here key : ℕ) (old new : machine.Place) (effect : Effect) → IsStraight setting.program → Tied setting.program bounds w → w.net.places here ≡ Some old → Moves setting here old key new effect → Allows Ideal w here effect
-allowed setting bounds w here key old new effect straight tied is m =
-    let plain = tied.plain here key m.stay (old, is, m.is_there) in
-    let brought = straight m.stay.top.function m.stay.top.pc m.instr (ap (λ f. instr_in f m.stay.top.pc) m.function_is ∙ m.instr_is) in
-    allows_any w here key old.stays new.stays m.stay effect (advances m.instr.op (record { setting = setting; here = here; place = old; key = key; stay = m.stay; function = m.function; instr = m.instr }) new effect brought plain.0 plain.1 m.does)
+-- a local operation closes no finish
+allowed : (setting : Setting) (bounds : List ℕ) (w : World) (here key : ℕ) (old new : machine.Place) (effect : Effect) → IsBounded setting.program bounds → Tied setting.program bounds w → w.net.places here ≡ Some old → Moves setting here old key new effect → Allows Ideal w here effect
+allowed setting bounds w here key old new effect bounded tied is m = elim (move_advances setting bounds here key old new effect bounded m (tied.plain here key m.stay (old, is, m.is_there))) [
+  | inl g ↦ subst (λ e. Allows Ideal w here e) (sym g.effect_is) tt
+  | inr g ↦ subst (λ e. Allows Ideal w here e) (sym g.effect_is) tt
+]
 
 -- ---- worlds
 
@@ -123,13 +121,13 @@ stands_still x y w k e stand = record {
 }
 
 -- a place's move is a move of the world
-move_makes : (x y : WorldState) (w : World) (here key : ℕ) (p q : PlaceState) (m : machine.Place) (effect : Effect) → KeepsModule x y → IsStraight x.program → BelongsTo x.program x.bounds (length x.places) here p → StandsForWorld x w
+move_makes : (x y : WorldState) (w : World) (here key : ℕ) (p q : PlaceState) (m : machine.Place) (effect : Effect) → KeepsModule x y → IsBounded x.program x.bounds → BelongsTo x.program x.bounds (length x.places) here p → StandsForWorld x w
     → slice_get x.places here ≡ Some p → y.places ≡ slice_set x.places here q → w.net.places here ≡ Some m → Leads p m key effect q → Makes x w (Step here key) y
-move_makes x y w here key p q m effect k straight belongs stand is set there leads = (
+move_makes x y w here key p q m effect k bounded belongs stand is set there leads = (
   v,
-  steps here key v (record { old = m; new = leads.0; effect = effect; number = 0; place_is = there; moves = moves; allowed = allowed (setting_of x) x.bounds w here key m leads.0 effect straight stand.tied there moves; unused = stand.tied.silent 0; net_is = refl; book_is = refl }),
+  steps here key v (record { old = m; new = leads.0; effect = effect; number = 0; place_is = there; moves = moves; allowed = allowed (setting_of x) x.bounds w here key m leads.0 effect bounded stand.tied there moves; unused = stand.tied.silent 0; net_is = refl; book_is = refl }),
   stands_after x y w v here p q leads.0 stand is set (at_key w.net.places here (Some leads.0)) (λ id ne. off_key w.net.places here (Some leads.0) id ne) leads.2
-      (tied_in x y v k (tied_after x.program (setting_of x) x.bounds w here key m leads.0 effect refl straight stand.tied there moves)),
+      (tied_in x y v k (tied_after (setting_of x) x.bounds w here key m leads.0 effect bounded stand.tied there moves)),
 )
   where
     v : World
@@ -156,15 +154,15 @@ deliver_makes x w number stand = (w, idle (Deliver number) (not_flying number (�
     flies post message e f = cc
 
 -- a step that was made
-pub step_makes : (x y : WorldState) (here key : ℕ) → KeepsModule x y → IsStraight x.program → BelongTo x.program x.bounds (length x.places) x.places → StepsOne x.places y.places here key (Ok tt) → (w : World) → StandsForWorld x w → Makes x w (Step here key) y
-step_makes x y here key k straight belong one w stand = at_place (slice_get x.places here) refl
+pub step_makes : (x y : WorldState) (here key : ℕ) → KeepsModule x y → IsBounded x.program x.bounds → BelongTo x.program x.bounds (length x.places) x.places → StepsOne x.places y.places here key (Ok tt) → (w : World) → StandsForWorld x w → Makes x w (Step here key) y
+step_makes x y here key k bounded belong one w stand = at_place (slice_get x.places here) refl
   where
     at_stay : (p q : PlaceState) (is : slice_get x.places here ≡ Some p) → y.places ≡ slice_set x.places here q → IsStepped p q key (Ok tt) → (o : Option Activity) → get p.activities key ≡ o → Makes x w (Step here key) y
     at_stay p q is set s None none = idle_makes x y w here key p k stand is (set ∙ ap (λ r. slice_set x.places here r) (s.idle none)) none
     at_stay p q is set s (Some a) some =
         let old = stand.some here p is in
         let led = s.some old.0 a some old.2 in
-        move_makes x y w here key p q old.0 led.0 k straight (belong here p is) stand is set old.1 led.1
+        move_makes x y w here key p q old.0 led.0 k bounded (belong here p is) stand is set old.1 led.1
 
     at_place : (o : Option PlaceState) → slice_get x.places here ≡ o → Makes x w (Step here key) y
     at_place None none = gone_makes x y w here key k stand none (one.gone none).1
@@ -239,12 +237,12 @@ step_memory program bounds old new here key (Err why) before world goes one = at
 
 -- ---- an event, as a function answers it
 
-pub step_ok : (x y z : WorldState) (event : Event) (id here key : ℕ) (result : Result (Unit {0}) Stop) → x ≡ z → event ≡ Step id key → here ≡ id → KeepsModule x y → FitsImage x.program → BelongTo x.program x.bounds (length x.places) x.places
+pub step_ok : (x y z : WorldState) (event : Event) (id here key : ℕ) (result : Result (Unit {0}) Stop) → x ≡ z → event ≡ Step id key → here ≡ id → KeepsModule x y → IsCertified (record { program = x.program; bounds = x.bounds }) → BelongTo x.program x.bounds (length x.places) x.places
     → StepsOne x.places y.places here key result → IfOk result (λ u. (w : World) → StandsForWorld z w → Makes z w event y)
-step_ok x y z event id here key (Err stop) seen is at k fits belong one = tt
-step_ok x y z event id here key (Ok u) seen is at k fits belong one = λ w stand.
+step_ok x y z event id here key (Err stop) seen is at k certified belong one = tt
+step_ok x y z event id here key (Ok u) seen is at k certified belong one = λ w stand.
     subst (λ t. Makes t w event y) seen (subst (λ e. Makes x w e y) (sym is) (subst (λ i. Makes x w (Step i key) y) at
-    (step_makes x y here key k (straight_is x.program fits) belong one w (subst (λ t. StandsForWorld t w) (sym seen) stand))))
+    (step_makes x y here key k (bounded_is (record { program = x.program; bounds = x.bounds }) certified) belong one w (subst (λ t. StandsForWorld t w) (sym seen) stand))))
 
 pub step_err : (x y z : WorldState) (here key : ℕ) (result : Result (Unit {0}) Stop) → x ≡ z → KeepsModule x y → StepsOne x.places y.places here key result → IfErr result (λ s. (w : World) → StandsForWorld z w → StandsForWorld y w)
 step_err x y z here key (Ok u) seen k one = tt

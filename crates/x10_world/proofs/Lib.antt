@@ -1,3 +1,4 @@
+pub mod Bounded
 pub mod Advance
 pub mod Ties
 pub mod Placesteps

@@ -1,17 +1,15 @@
 -- A step keeps activities and stays tied, and each activity within its bound.
-use Rattle.std.proofs.Common.{◌≡◌, ◌⊎◌, ℕ, zero, suc, ◌+◌, ◌<◌, ◌≤◌, ◌==◌, Bool, true, false, List, [], ◌∷◌, length, Option, Some, None, refl, sym, ap, ap₂, subst, ◌∙◌, inl, inr, arith}
+use Rattle.std.proofs.Common.{◌≡◌, ◌⊎◌, ℕ, ◌+◌, ◌<◌, ◌≤◌, ◌==◌, Bool, true, false, List, [], ◌∷◌, Option, Some, None, refl, sym, ap, ap₂, subst, ◌∙◌, inl, inr, arith}
 use Rattle.std.specs.Prelude.{slice_get}
 use Rattle.std.proofs.lemmas.Bool.{eqb-true, eq-eqb}
-use Rattle.x10_code.specs.declared.instr.Instr.{Instr}
 use Rattle.x10_model.specs.Maps.{with_entry}
-use Rattle.x10_model.specs.Modules.{Module, Function, is_brought}
-use Rattle.x10_model.specs.Ranges.{function_at, instr_in}
+use Rattle.x10_model.specs.Modules.{Module}
 use Rattle.x10_model.specs.Places as places
 use Rattle.x10_model.specs.Places.{Setting, Stay, Effect, Works, Ends}
-use Rattle.x10_model.specs.Moves.{Situation, Moves}
+use Rattle.x10_model.specs.Moves.{Moves}
 use Rattle.x10_model.specs.Worlds.{World, Book, Activity, Unused, WithinBounds, counted, left, rest_of, net_after, book_after}
-use Rattle.x10_world.specs.Tied.{length_of, left_of, IsStraight, IsAt, Tied}
-use Rattle.x10_world.proofs.Advance.{Advances, advances}
+use Rattle.x10_world.specs.Tied.{left_of, IsAt, Tied}
+use Rattle.x10_world.proofs.Advance.{IsBounded, Advances, move_advances}
 
 -- ---- maps
 
@@ -111,16 +109,16 @@ abbrev pub stays_after : Option Stay → List (ℕ × ℕ) → List (ℕ × ℕ)
 stays_after None stays = rest_of stays
 stays_after (Some s) stays = stays
 
--- what the stay that changed owes: it goes forward, and stays plain
-abbrev pub IsForward : Module → Stay → Option Stay → Type 0
-IsForward program s None = Unit {0}
-IsForward program s (Some t) = (left_of program t + 1 ≤ left_of program s) × (t.callers ≡ []) × (t.back ≡ None)
+-- what the stay that changed owes: it has fewer steps left, and nothing waits for it
+abbrev pub IsForward : Module → List ℕ → Stay → Option Stay → Type 0
+IsForward program bounds s None = Unit {0}
+IsForward program bounds s (Some t) = (left_of program bounds t + 1 ≤ left_of program bounds s) × (t.back ≡ None)
 
-forward_is : (program : Module) (s t : Stay) (stay : Option Stay) → IsForward program s stay → stay ≡ Some t → (left_of program t + 1 ≤ left_of program s) × (t.callers ≡ []) × (t.back ≡ None)
-forward_is program s t stay h e = subst (λ o. IsForward program s o) e h
+forward_is : (program : Module) (bounds : List ℕ) (s t : Stay) (stay : Option Stay) → IsForward program bounds s stay → stay ≡ Some t → (left_of program bounds t + 1 ≤ left_of program bounds s) × (t.back ≡ None)
+forward_is program bounds s t stay h e = subst (λ o. IsForward program bounds s o) e h
 
 pub tied_step : (program : Module) (bounds : List ℕ) (w v : World) (here key : ℕ) (old new : places.Place) (s : Stay) (stay : Option Stay) → Tied program bounds w → IsStepped w v here key old new stay
-    → old.stays key ≡ Some s → 1 ≤ left_of program s → IsForward program s stay → IsCounted w.book v.book (w.book.belongs here key) (stays_after stay) → Tied program bounds v
+    → old.stays key ≡ Some s → 1 ≤ left_of program bounds s → IsForward program bounds s stay → IsCounted w.book v.book (w.book.belongs here key) (stays_after stay) → Tied program bounds v
 tied_step program bounds w v here key old new s stay tied st s-is some-left forward c = record {
   begun = begun;
   left = left';
@@ -148,16 +146,16 @@ tied_step program bounds w v here key old new s stay tied st s-is some-left forw
     other : (p k : ℕ) (t : Stay) → IsAt w p k t → ((p ≡ here) × (k ≡ key) → ⊥) → w.book.belongs p k ≡ a → ⊥
     other p k t h ne e = ne (tied.apart p k here key t s h at e)
 
-    left_own : (t : Stay) (bound : ℕ) → stay ≡ Some t → slice_get bounds (v.book.activities a).function ≡ Some bound → (v.book.activities a).steps + left_of program t ≤ bound
+    left_own : (t : Stay) (bound : ℕ) → stay ≡ Some t → slice_get bounds (v.book.activities a).function ≡ Some bound → (v.book.activities a).steps + left_of program bounds t ≤ bound
     left_own t bound is e =
         let before = tied.left here key s bound at (subst (λ f. slice_get bounds f ≡ Some bound) c.function e) in
-        let less = (forward_is program s t stay forward is).0 in
+        let less = (forward_is program bounds s t stay forward is).0 in
         omega (arith, before, less, c.steps)
 
-    left_other : (p k : ℕ) (t : Stay) (bound : ℕ) → IsAt w p k t → (w.book.belongs p k ≡ a → ⊥) → slice_get bounds (v.book.activities (w.book.belongs p k)).function ≡ Some bound → (v.book.activities (w.book.belongs p k)).steps + left_of program t ≤ bound
+    left_other : (p k : ℕ) (t : Stay) (bound : ℕ) → IsAt w p k t → (w.book.belongs p k ≡ a → ⊥) → slice_get bounds (v.book.activities (w.book.belongs p k)).function ≡ Some bound → (v.book.activities (w.book.belongs p k)).steps + left_of program bounds t ≤ bound
     left_other p k t bound h ne e =
         let is = c.others (w.book.belongs p k) ne in
-        subst (λ (x : Activity). x.steps + left_of program t ≤ bound) (sym is) (tied.left p k t bound h (subst (λ (x : Activity). slice_get bounds x.function ≡ Some bound) is e))
+        subst (λ (x : Activity). x.steps + left_of program bounds t ≤ bound) (sym is) (tied.left p k t bound h (subst (λ (x : Activity). slice_get bounds x.function ≡ Some bound) is e))
 
     begun : (p k : ℕ) (t : Stay) → IsAt v p k t → v.book.belongs p k < v.book.begun
     begun p k t h = elim (found w v here key old new stay st p k t h) [
@@ -165,10 +163,10 @@ tied_step program bounds w v here key old new s stay tied st s-is some-left forw
       | inr f ↦ subst (λ b. v.book.belongs p k < b) (sym c.begun) (subst (λ b. b < w.book.begun) (sym (same p k)) (tied.begun p k t f.0))
     ]
 
-    left' : (p k : ℕ) (t : Stay) (bound : ℕ) → IsAt v p k t → slice_get bounds (v.book.activities (v.book.belongs p k)).function ≡ Some bound → (v.book.activities (v.book.belongs p k)).steps + left_of program t ≤ bound
+    left' : (p k : ℕ) (t : Stay) (bound : ℕ) → IsAt v p k t → slice_get bounds (v.book.activities (v.book.belongs p k)).function ≡ Some bound → (v.book.activities (v.book.belongs p k)).steps + left_of program bounds t ≤ bound
     left' p k t bound h e = elim (found w v here key old new stay st p k t h) [
-      | inl f ↦ subst (λ b. (v.book.activities b).steps + left_of program t ≤ bound) (sym (owner p k f.0 f.1)) (left_own t bound f.2 (subst (λ b. slice_get bounds (v.book.activities b).function ≡ Some bound) (owner p k f.0 f.1) e))
-      | inr f ↦ subst (λ b. (v.book.activities b).steps + left_of program t ≤ bound) (sym (same p k)) (left_other p k t bound f.0 (other p k t f.0 f.1) (subst (λ b. slice_get bounds (v.book.activities b).function ≡ Some bound) (same p k) e))
+      | inl f ↦ subst (λ b. (v.book.activities b).steps + left_of program bounds t ≤ bound) (sym (owner p k f.0 f.1)) (left_own t bound f.2 (subst (λ b. slice_get bounds (v.book.activities b).function ≡ Some bound) (owner p k f.0 f.1) e))
+      | inr f ↦ subst (λ b. (v.book.activities b).steps + left_of program bounds t ≤ bound) (sym (same p k)) (left_other p k t bound f.0 (other p k t f.0 f.1) (subst (λ b. slice_get bounds (v.book.activities b).function ≡ Some bound) (same p k) e))
     ]
 
     apart : (p k q o : ℕ) (t u : Stay) → IsAt v p k t → IsAt v q o u → v.book.belongs p k ≡ v.book.belongs q o → (p ≡ q) × (k ≡ o)
@@ -183,9 +181,9 @@ tied_step program bounds w v here key old new s stay tied st s-is some-left forw
       ]
     ]
 
-    plain : (p k : ℕ) (t : Stay) → IsAt v p k t → (t.callers ≡ []) × (t.back ≡ None)
+    plain : (p k : ℕ) (t : Stay) → IsAt v p k t → t.back ≡ None
     plain p k t h = elim (found w v here key old new stay st p k t h) [
-      | inl f ↦ (let g = forward_is program s t stay forward f.2 in (g.1, g.2))
+      | inl f ↦ (forward_is program bounds s t stay forward f.2).1
       | inr f ↦ tied.plain p k t f.0
     ]
 
@@ -233,52 +231,25 @@ tied_step program bounds w v here key old new s stay tied st s-is some-left forw
 
 -- ---- one step of the world
 
--- the instruction at which a stay makes its move is one of its function
-some_left : (program : Module) (s : Stay) (function : Function) (instr : Instr) → function_at program s.top.function ≡ Some function → slice_get function.code s.top.pc ≡ Some instr → s.top.pc < length_of (function_at program s.top.function)
-some_left program s function instr f i = subst (λ (o : Option Function). s.top.pc < length_of o) (sym f) (below function.code s.top.pc instr i)
-  where
-    below : (xs : List Instr) (n : ℕ) (x : Instr) → slice_get xs n ≡ Some x → n < length xs
-    below [] n x e = absurd cc
-    below (y ∷ ys) zero x e = omega arith
-    below (y ∷ ys) (suc n) x e = let h : n < length ys = below ys n x e in omega arith
-
-less_left : (program : Module) (s t : Stay) → s.top.pc < length_of (function_at program s.top.function) → t.top.function ≡ s.top.function → t.top.pc ≡ s.top.pc + 1 → left_of program t + 1 ≤ left_of program s
-less_left program s t lt f pc =
-    let e : length_of (function_at program t.top.function) ≡ length_of (function_at program s.top.function) = ap (λ k. length_of (function_at program k)) f in
-    omega (arith, e, pc, lt)
-
 -- the world after a move, the number of a message being of no account where none is sent
 abbrev pub world_after : World → ℕ → ℕ → places.Place → Effect → World
 world_after w here key new effect = record { net = net_after w.net here new effect 0; book = book_after w.book (w.book.belongs here key) here effect 0 }
 
--- a move of straight code keeps the ties
-pub tied_after : (program : Module) (setting : Setting) (bounds : List ℕ) (w : World) (here key : ℕ) (old new : places.Place) (effect : Effect) → setting.program ≡ program → IsStraight program → Tied program bounds w → w.net.places here ≡ Some old → Moves setting here old key new effect
-    → Tied program bounds (world_after w here key new effect)
-tied_after program setting bounds w here key old new effect same straight tied place-is m =
-    by_effect new effect (advances m.instr.op at new effect brought plain.0 plain.1 m.does)
+-- a move of a local operation keeps the ties
+pub tied_after : (setting : Setting) (bounds : List ℕ) (w : World) (here key : ℕ) (old new : places.Place) (effect : Effect) → IsBounded setting.program bounds → Tied setting.program bounds w → w.net.places here ≡ Some old → Moves setting here old key new effect
+    → Tied setting.program bounds (world_after w here key new effect)
+tied_after setting bounds w here key old new effect bounded tied place-is m = by_effect effect (move_advances setting bounds here key old new effect bounded m back)
   where
-    at : Situation
-    at = record { setting = setting; here = here; place = old; key = key; stay = m.stay; function = m.function; instr = m.instr }
+    back : m.stay.back ≡ None
+    back = tied.plain here key m.stay (old, place-is, m.is_there)
 
-    is_at : IsAt w here key m.stay
-    is_at = (old, place-is, m.is_there)
-
-    plain : (m.stay.callers ≡ []) × (m.stay.back ≡ None)
-    plain = tied.plain here key m.stay is_at
-
-    function-is : function_at program m.stay.top.function ≡ Some m.function
-    function-is = subst (λ q. function_at q m.stay.top.function ≡ Some m.function) same m.function_is
-
-    brought : is_brought m.instr.op ≡ true
-    brought = straight m.stay.top.function m.stay.top.pc m.instr (ap (λ f. instr_in f m.stay.top.pc) function-is ∙ m.instr_is)
-
-    lt : m.stay.top.pc < length_of (function_at program m.stay.top.function)
-    lt = some_left program m.stay m.function m.instr function-is m.instr_is
-
-    by_effect : (new : places.Place) (effect : Effect) → Advances old.stays key m.stay new.stays effect → Tied program bounds (world_after w here key new effect)
-    by_effect new effect (inl g) = subst (λ x. Tied program bounds (world_after w here key new x)) (sym g.6)
-        (tied_step program bounds w (world_after w here key new Works) here key old new m.stay (Some g.0) tied (record { place_is = place-is; places = refl; stays = g.1; posts = refl }) m.is_there (omega (arith, lt))
-        (less_left program m.stay g.0 lt g.2 g.3, g.4 ∙ plain.0, g.5 ∙ plain.1) (counted_is w.book (w.book.belongs here key)))
-    by_effect new effect (inr g) = subst (λ x. Tied program bounds (world_after w here key new x)) (sym g.1)
-        (tied_step program bounds w (world_after w here key new (Ends m.stay.inherited None)) here key old new m.stay None tied (record { place_is = place-is; places = refl; stays = g.0; posts = refl }) m.is_there (omega (arith, lt))
+    by_effect : (effect : Effect) → Advances setting.program bounds old.stays key m.stay new.stays effect → Tied setting.program bounds (world_after w here key new effect)
+    by_effect effect (inl g) = subst (λ x. Tied setting.program bounds (world_after w here key new x)) (sym g.effect_is)
+        (tied_step setting.program bounds w (world_after w here key new Works) here key old new m.stay (Some g.stay) tied (record { place_is = place-is; places = refl; stays = g.stays; posts = refl }) m.is_there (some _ _ g.less)
+        (g.less, g.back ∙ back) (counted_is w.book (w.book.belongs here key)))
+      where
+        some : (a b : ℕ) → a + 1 ≤ b → 1 ≤ b
+        some a b le = omega (arith, le)
+    by_effect effect (inr g) = subst (λ x. Tied setting.program bounds (world_after w here key new x)) (sym g.effect_is)
+        (tied_step setting.program bounds w (world_after w here key new (Ends m.stay.inherited None)) here key old new m.stay None tied (record { place_is = place-is; places = refl; stays = g.stays; posts = refl }) m.is_there g.some
         tt (left_is w.book (w.book.belongs here key)))

@@ -7,7 +7,7 @@ pub returns-in-Step-clause-ok : goal.returns-in-Step-clause-ok
 returns-in-Step-clause-ok c = step_ok
     (record { program = c.self.inside.verified.now.program; bounds = c.self.inside.verified.now.bounds; places = c.self.inside.places.items; stopped = c.self.inside.stopped })
     (record { program = c.self.inside.verified.now.program; bounds = c.self.inside.verified.now.bounds; places = c.step_one-done.new.places.items; stopped = c.is_err-self-inside.result })
-    c.args.self.now c.args.event c.in-Step.id c.from.result c.in-Step.key c.step_one-done.result c.self.view_is c.in-Step.is c.from.ensures (record { program = refl; bounds = refl }) c.certificate.ensures.fits c.self.invariant.belong
+    c.args.self.now c.args.event c.in-Step.id c.from.result c.in-Step.key c.step_one-done.result c.self.view_is c.in-Step.is c.from.ensures (record { program = refl; bounds = refl }) c.certificate.ensures c.self.invariant.belong
     c.step_one-done.ensures
 
 pub returns-in-Step-clause-err : goal.returns-in-Step-clause-err
