@@ -35,8 +35,18 @@ is_brought op.Intk = true
 is_brought op.Add = true
 is_brought op.Sub = true
 is_brought op.Mul = true
-is_brought op.Print = true
+is_brought op.Div = true
+is_brought op.Rem = true
+is_brought op.Lt = true
+is_brought op.Eq = true
+is_brought op.Move = true
+is_brought op.Jmp = true
+is_brought op.Jz = true
+is_brought op.Loop = true
+is_brought op.Endl = true
+is_brought op.Call = true
 is_brought op.Ret = true
+is_brought op.Print = true
 is_brought _ = false
 
 -- an instruction that a module may have

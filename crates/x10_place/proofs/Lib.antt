@@ -1,6 +1,14 @@
 pub mod Typed
+pub mod Homes
+pub mod Numbers
+pub mod Calling
+pub mod Chains
+pub mod Returning
+pub mod Placing
+pub mod Framed
+pub mod Local
+pub mod Calls
+pub mod Ends
 pub mod Steps
-pub mod Writes
-pub mod Stepping
-pub mod Wholestep
 pub mod Openings
+pub mod Keeping

@@ -1,49 +1,52 @@
 -- Places at the beginning, and which keys are in use.
 use Rattle.std.proofs.Common.{◌≡◌, ◌↔◌, ℕ, zero, suc, ◌+◌, ◌≤◌, ◌==◌, Bool, false, cond, List, [], ◌∷◌, length, map, Option, Some, None, refl, sym, ap, subst, ◌∙◌, inl, inr, arith}
-use Rattle.std.specs.Prelude.{IsTrue, IsSome, IfSome, slice_get, slice_index_or}
+use Rattle.std.specs.Prelude.{IsTrue, IsSome, IfSome, slice_get, slice_index, slice_index_or}
 use Rattle.std.proofs.lemmas.Bool.{eqb-true, eq-eqb, ne_eqb}
 use Rattle.slab.specs.Slab.{Slab, get, entries_from, slab_len}
 use Rattle.slab.proofs.SlabLemmas.{length-entries_from}
 use Rattle.x10_kinds.specs.declared.kind.Kind.{Kind}
 use Rattle.x10_model.specs.Modules.{Module, Function, FitsImage}
 use Rattle.x10_model.specs.declared.slot.Slot.{Slot}
-use Rattle.x10_model.specs.Values.{Value, Cells}
+use Rattle.x10_model.specs.Values.{Value, Cells, IsOfKind}
+use Rattle.x10_model.specs.Signatures.{FitSlots}
 use Rattle.x10_model.specs.Places.{Stay, root}
 use Rattle.x10_model.specs.Maps.{with_entry}
 use Rattle.x10_model.specs.Moves.{new_stay}
 use Rattle.x10_model.specs.Worlds.{first_place, empty_place}
 use Rattle.x10_model.specs.Assignments.{State, IsBelow, parameter_kind, entry_state}
 use Rattle.x10_verify.proofs.Wholes.{function_fits}
-use Rattle.x10_place.specs.declared.activity.Activity.{Activity}
+use Rattle.x10_place.specs.Activities.{ActivityState, AreCalling, IsInside, IsPlaced}
 use Rattle.x10_place.specs.Words.{AreWordsOf}
-use Rattle.x10_place.specs.StandsFor.{PlaceState, Assigned, line_as, StandsForStay, StandsFor, setting_of, IsPlaced, ArePlaced}
+use Rattle.x10_place.specs.StandsFor.{PlaceState, Assigned, line_as, StandsForStay, StandsFor, setting_of, ArePlaced}
 use Rattle.x10_place.specs.Opening.{IsMain, HoldsOnly, opening_place}
 use Rattle.x10_place.proofs.Typed.{some_is, at_key, off_key, same_or_not}
+use Rattle.x10_place.proofs.Homes.{homes_weaken, homes_entry}
+use Rattle.x10_place.proofs.Calls.{no_turns}
 
 none_some : {X : Type 0} (o : Option X) (x : X) → o ≡ None → o ≡ Some x → ⊥
 none_some o x e f = cc
 
 -- ---- keys in use
 
-none_left : (slots : List (Option Activity)) (k : ℕ) → length (entries_from k slots) ≡ 0 → (i : ℕ) → slice_index_or slots i None ≡ None
+none_left : (slots : List (Option ActivityState)) (k : ℕ) → length (entries_from k slots) ≡ 0 → (i : ℕ) → slice_index_or slots i None ≡ None
 none_left [] k e i = refl
 none_left (None ∷ slots) k e zero = refl
 none_left (None ∷ slots) k e (suc i) = none_left slots (k + 1) e i
 none_left (Some a ∷ slots) k e i = absurd (omega arith)
 
-all_left : (slots : List (Option Activity)) (k : ℕ) → ((i : ℕ) → slice_index_or slots i None ≡ None) → length (entries_from k slots) ≡ 0
+all_left : (slots : List (Option ActivityState)) (k : ℕ) → ((i : ℕ) → slice_index_or slots i None ≡ None) → length (entries_from k slots) ≡ 0
 all_left [] k h = refl
 all_left (None ∷ slots) k h = all_left slots (k + 1) (λ i. h (suc i))
 all_left (Some a ∷ slots) k h = absurd (let e = h zero in cc)
 
-pub empty_is : (slab : Slab Activity) (b : Bool) → b ≡ (slab_len slab == 0) → IsTrue b ↔ ((k : ℕ) → get slab k ≡ None)
+pub empty_is : (slab : Slab ActivityState) (b : Bool) → b ≡ (slab_len slab == 0) → IsTrue b ↔ ((k : ℕ) → get slab k ≡ None)
 empty_is slab b e = (
   (λ t. none_left slab.slots 0 (length-entries_from 0 slab.slots ∙ eqb-true (slab_len slab) 0 (sym e ∙ t))),
   (λ h. e ∙ eq-eqb (slab_len slab) 0 (sym (length-entries_from 0 slab.slots) ∙ all_left slab.slots 0 h)),
 )
 
 -- at place 0 the run has ended where no activity is left
-pub closed_is : (slab : Slab Activity) (id : ℕ) (b : Bool) → id ≡ 0 → b ≡ (slab_len slab == 0) → IsTrue b ↔ ((id ≡ 0) × ((k : ℕ) → get slab k ≡ None))
+pub closed_is : (slab : Slab ActivityState) (id : ℕ) (b : Bool) → id ≡ 0 → b ≡ (slab_len slab == 0) → IsTrue b ↔ ((id ≡ 0) × ((k : ℕ) → get slab k ≡ None))
 closed_is slab id b e is = let h = empty_is slab b is in ((λ t. (e, h.0 t)), (λ p. h.1 p.1))
 
 -- ---- main
@@ -57,45 +60,53 @@ entry_words cells f known registers words none below r kind e =
     no_parameter [] r k le e = cc
     no_parameter (s ∷ ss) r k le e = omega arith
 
-no_result : (o : Option Slot) → IfSome o (λ s. ⊥) → o ≡ None
-no_result None h = refl
-no_result (Some s) h = absurd h
+none_fit : (of_kind : Value → Kind → Type 0) (at : ℕ) (slots : List Slot) → length slots ≤ 0 → FitSlots of_kind at [] slots
+none_fit of_kind at [] le = tt
+none_fit of_kind at (slot ∷ slots) le = absurd (omega (arith, le))
 
 -- main's words stand for main's stay
-pub main_stands : (program : Module) (assigned : Assigned program) (cells : Cells) (a : Activity) → IsMain program a → StandsForStay program assigned cells a (new_stay program.entry [] root None)
-main_stands program assigned cells a main =
-    let start = (assigned a.function main.function main.is_function).1.entry in
+pub main_stands : (program : Module) (assigned : Assigned program) (here : ℕ) (cells : Cells) (a : ActivityState) → IsMain program a → StandsForStay program assigned here cells a (new_stay program.entry [] root None)
+main_stands program assigned here cells a main =
+    let start = (assigned a.top.function main.function main.is_function).1.entry in
     record {
-      function_is = sym main.function_is;
-      pc_is = sym main.pc;
-      callers = refl;
+      top = record {
+        function_is = sym main.function_is;
+        pc_is = sym main.pc;
+        function = main.function;
+        is_function = main.is_function;
+        state = start.0;
+        is_state = subst (λ n. (assigned a.top.function main.function main.is_function).0 n ≡ Some start.0) (sym main.pc) start.1;
+        words = entry_words cells main.function start.0 (slice_get []) a.top.registers.items main.is_entry.parameters start.2;
+        homes = homes_weaken here (entry_state main.function) start.0 (slice_get []) start.2
+            (homes_entry cells here main.function [] (omega (arith, main.is_entry.parameters)) (none_fit (IsOfKind cells) here main.function.parameters main.is_entry.parameters));
+        slots = ap length main.loops;
+        loops = λ slot lt. sym (ap (λ ls. slice_index ls slot) main.loops ∙ no_turns 8 slot);
+      };
+      callers = main.callers;
       finishes = refl;
       inherited = refl;
       away = refl;
       back = refl;
-      function = main.function;
-      is_function = main.is_function;
-      no_result = no_result main.function.result main.is_entry.result;
-      state = start.0;
-      is_state = subst (λ n. (assigned a.function main.function main.is_function).0 n ≡ Some start.0) (sym main.pc) start.1;
-      words = entry_words cells main.function start.0 (slice_get []) a.registers.items main.is_entry.parameters start.2;
     }
 
-pub main_placed : (program : Module) (a : Activity) → FitsImage program → IsMain program a → IsPlaced program a
+pub main_placed : (program : Module) (a : ActivityState) → FitsImage program → IsMain program a → IsPlaced program a
 main_placed program a fits main =
-    let f = function_fits program a.function main.function fits main.is_function in
-    record { function = main.function; is_function = main.is_function; pc = omega (arith, main.pc, f.length.0); registers = main.registers }
+    let f = function_fits program a.top.function main.function fits main.is_function in
+    record {
+      top = record { function = main.function; is_function = main.is_function; pc = omega (arith, main.pc, f.length.0); registers = main.registers };
+      callers = subst (λ fs. AreCalling program fs a.top.function) (sym main.callers) tt;
+    }
 
 -- ---- places
 
-pub only_placed : (program : Module) (slab : Slab Activity) (key : ℕ) (a : Activity) → IsPlaced program a → HoldsOnly slab key a → ArePlaced program slab
+pub only_placed : (program : Module) (slab : Slab ActivityState) (key : ℕ) (a : ActivityState) → IsPlaced program a → HoldsOnly slab key a → ArePlaced program slab
 only_placed program slab key a placed only k b e = elim (same_or_not k key) [
   | inl same ↦ subst (λ x. IsPlaced program x) (some_is a b (sym (subst (λ q. get slab q ≡ Some a) (sym same) only.here) ∙ e)) placed
   | inr ne ↦ absurd (none_some (get slab k) b (only.others k ne) e)
 ]
 
 -- a place with main alone stands for the first place of the machine
-pub first_stands : (p : PlaceState) (key : ℕ) (a : Activity) → Assigned p.program → IsMain p.program a → HoldsOnly p.activities key a → p.lines ≡ [] → StandsFor p (first_place (setting_of p) key)
+pub first_stands : (p : PlaceState) (key : ℕ) (a : ActivityState) → Assigned p.program → IsMain p.program a → HoldsOnly p.activities key a → p.lines ≡ [] → StandsFor p (first_place (setting_of p) key)
 first_stands p key a assigned main only lines = record {
   assigned = assigned;
   none = λ k e. elim (same_or_not k key) [
@@ -106,7 +117,7 @@ first_stands p key a assigned main only lines = record {
     | inl same ↦ (
       first,
       subst (λ q. with_entry (λ (n : ℕ). None) key (Some first) q ≡ Some first) (sym same) (at_key (λ (n : ℕ). None) key (Some first)),
-      subst (λ x. StandsForStay p.program assigned (λ r. None) x first) (some_is a b (sym (subst (λ q. get p.activities q ≡ Some a) (sym same) only.here) ∙ e)) (main_stands p.program assigned (λ r. None) a main),
+      subst (λ x. StandsForStay p.program assigned p.id (λ r. None) x first) (some_is a b (sym (subst (λ q. get p.activities q ≡ Some a) (sym same) only.here) ∙ e)) (main_stands p.program assigned p.id (λ r. None) a main),
     )
     | inr ne ↦ absurd (none_some (get p.activities k) b (only.others k ne) e)
   ];
@@ -126,10 +137,10 @@ empty_stands p assigned none lines = record {
 }
 
 -- a place as `new` makes it
-pub opened_first : (p : PlaceState) (slab : Slab Activity) → Assigned p.program → p.activities ≡ slab → (key : ℕ) × (a : Activity) × IsMain p.program a × HoldsOnly slab key a → p.lines ≡ [] → p.id ≡ 0 → (k : ℕ) × StandsFor p (opening_place (setting_of p) k p.id)
+pub opened_first : (p : PlaceState) (slab : Slab ActivityState) → Assigned p.program → p.activities ≡ slab → (key : ℕ) × (a : ActivityState) × IsMain p.program a × HoldsOnly slab key a → p.lines ≡ [] → p.id ≡ 0 → (k : ℕ) × StandsFor p (opening_place (setting_of p) k p.id)
 opened_first p slab assigned is main lines e = (main.0, subst (λ id. StandsFor p (opening_place (setting_of p) main.0 id)) (sym e) (first_stands p main.0 main.1 assigned main.2 (subst (λ s. HoldsOnly s main.0 main.1) (sym is) main.3) lines))
 
-pub opened_empty : (p : PlaceState) (slab : Slab Activity) → Assigned p.program → p.activities ≡ slab → slab.slots ≡ [] → p.lines ≡ [] → (p.id ≡ 0 → ⊥) → (k : ℕ) × StandsFor p (opening_place (setting_of p) k p.id)
+pub opened_empty : (p : PlaceState) (slab : Slab ActivityState) → Assigned p.program → p.activities ≡ slab → slab.slots ≡ [] → p.lines ≡ [] → (p.id ≡ 0 → ⊥) → (k : ℕ) × StandsFor p (opening_place (setting_of p) k p.id)
 opened_empty p slab assigned is slots lines ne = (
   0,
   subst (λ b. StandsFor p (cond b (first_place (setting_of p) 0) (empty_place 0))) (sym (not_zero p.id ne))

@@ -1,275 +1,196 @@
--- One step of an activity: what the program does to its words is a move of the machine.
-use Rattle.std.proofs.Common.{◌≡◌, ◌⊎◌, ℕ, ℤ, ◌+◌, ◌<◌, List, [], ◌∷◌, ◌++◌, length, map, Option, Some, None, refl, sym, ap, subst, ◌∙◌, inl, inr}
-use Rattle.std.specs.Prelude.{slice_index, slice_set, slice_get}
-use Rattle.std.specs.Int.{w64, cast_signed}
+-- A step of a place is a move of each place of the machine that it stands for.
+use Rattle.std.proofs.Common.{◌≡◌, ◌≢◌, ◌⊎◌, ℕ, Bool, true, false, List, [], ◌∷◌, ◌++◌, length, map, Option, Some, None, refl, sym, ap, subst, ◌∙◌, inl, inr}
+use Rattle.std.specs.Prelude.{slice_get, if◌then◌else◌, IsTrue}
 use Rattle.slab.specs.Slab.{Slab, get, Updates}
-use Rattle.smallvec.specs.SmallVec.{SmallVec}
-use Rattle.x10_kinds.specs.declared.kind.Kind.TheVariants as kind
 use Rattle.x10_code.specs.declared.op.Op.{Op}
 use Rattle.x10_code.specs.declared.op.Op.TheVariants as op
 use Rattle.x10_code.specs.declared.instr.Instr.{Instr}
 use Rattle.x10_model.specs.Maps.{with_entry, IsIn}
-use Rattle.x10_model.specs.Modules.{Module, Function}
-use Rattle.x10_model.specs.Ranges.{function_at, instr_at, instr_in}
-use Rattle.x10_model.specs.Values.{Value, Int, Cells}
+use Rattle.x10_model.specs.Modules.{Module, Function, FitsImage, is_brought}
+use Rattle.x10_model.specs.Ranges.{function_at}
+use Rattle.x10_model.specs.Values.{Cells}
 use Rattle.x10_model.specs.Places as machine
-use Rattle.x10_model.specs.Places.{Setting, CallFrame, Stay, Effect, Works, Ends, Number, root, with_stay, next, writes}
-use Rattle.x10_model.specs.Moves.{Situation, GivesBack, SendsBack, Returns, Does, Moves, with_line}
-use Rattle.x10_model.specs.Assignments.{State, IsKind, Point, Edges, onward, gives, Permits, Reaches}
-use Rattle.x10_place.specs.declared.activity.Activity.{Activity}
+use Rattle.x10_model.specs.Places.{Stay, Effect, Works, Ends, Number, root, with_stay, next}
+use Rattle.x10_model.specs.Moves.{Does, Moves, with_line}
+use Rattle.x10_model.specs.Assignments.{State, Edges, Permits, Reaches}
 use Rattle.x10_place.specs.declared.line.Line.{Line}
 use Rattle.x10_place.specs.declared.line.Line.TheVariants as line
-use Rattle.x10_place.specs.Words.{AreWordsOf}
-use Rattle.x10_place.specs.Numbers.{GivesInt, int_at, Computes}
-use Rattle.x10_place.specs.StandsFor.{PlaceState, line_as, Assigned, StandsForStay, StandsFor, setting_of, Leads, IsFetched}
-use Rattle.x10_place.proofs.Typed.{some_is, at_key, off_key, same_or_not, reads, reads_int, no_text, words_weaken, words_written}
+use Rattle.x10_place.specs.Frames.{IsFetched, int_at}
+use Rattle.x10_place.specs.Activities.{ActivityState, Prints, ActsOnTop, Returns, Steps}
+use Rattle.x10_place.specs.StandsFor.{PlaceState, line_as, Assigned, StandsForFrame, StandForCallers, StandsForStay, StandsFor, setting_of, Leads}
+use Rattle.x10_place.proofs.Typed.{some_is, at_key, off_key, same_or_not}
+use Rattle.x10_place.proofs.Framed.{point_of, is_instr, in_range, rule}
+use Rattle.x10_place.proofs.Local.{situated, local_moves}
+use Rattle.x10_place.proofs.Calls.{call_moves}
+use Rattle.x10_place.proofs.Ends.{ret_ends, ret_resumes, print_moves}
 
 none_some : {X : Type 0} (o : Option X) (x : X) → o ≡ None → o ≡ Some x → ⊥
 none_some o x e f = cc
 
--- ---- the rule at an activity's instruction
-
-abbrev pub point_of : Module → Function → Activity → Instr → Point
-point_of program function a instr = record { program = program; function = function; pc = a.pc; instr = instr }
-
-in_function : (program : Module) (a : Activity) (function : Function) (instr : Instr) → function_at program a.function ≡ Some function → instr_at program a.function a.pc ≡ Some instr → slice_get function.code a.pc ≡ Some instr
-in_function program a function instr f i = subst (λ (o : Option Function). instr_in o a.pc ≡ Some instr) f i
-
--- the assignment permits the instruction, and has states for those that follow
-abbrev pub Ruled : (program : Module) (assigned : Assigned program) (cells : Cells) (a : Activity) (s : Stay) → StandsForStay program assigned cells a s → Instr → Type 0
-Ruled program assigned cells a s h instr = (out : Edges) × Permits instr.op (point_of program h.function a instr) h.state out × ((edge : ℕ × State) → IsIn edge out → Reaches (assigned a.function h.function h.is_function).0 edge)
-
-pub ruled : (program : Module) (assigned : Assigned program) (cells : Cells) (a : Activity) (s : Stay) (h : StandsForStay program assigned cells a s) (instr : Instr) → IsFetched program a instr → Ruled program assigned cells a s h instr
-ruled program assigned cells a s h instr fetched =
-    let p = (assigned a.function h.function h.is_function).1.permitted a.pc h.state h.is_state in
-    let same : p.0 ≡ instr = some_is p.0 instr (sym p.2 ∙ in_function program a h.function instr h.is_function fetched.is_instr) in
-    (p.1, subst (λ (i : Instr). Permits i.op (point_of program h.function a i) h.state p.1) same p.3, p.4)
-
--- ---- going on
-
--- the activity at another instruction, with other registers
-abbrev pub moved : Activity → ℕ → SmallVec ℕ → Activity
-moved a pc registers = record { function = a.function; pc = pc; registers = registers }
-
-first_edge : (p : Point) (t : State) → IsIn (p.pc + 1, t) (onward p t)
-first_edge p t = (0, refl)
-
--- at the instruction that follows, with what the edge gives
-stands_at : (program : Module) (assigned : Assigned program) (cells : Cells) (a : Activity) (s : Stay) (h : StandsForStay program assigned cells a s) (pc : ℕ) (t : State) (registers : SmallVec ℕ) (top : CallFrame)
-    → Reaches (assigned a.function h.function h.is_function).0 (pc, t) → top.function ≡ s.top.function → top.pc ≡ pc → AreWordsOf cells t top.registers registers.items
-    → StandsForStay program assigned cells (moved a pc registers) (record s { top = top })
-stands_at program assigned cells a s h pc t registers top reached f at words = record {
-  function_is = f ∙ h.function_is;
-  pc_is = at;
-  callers = h.callers;
-  finishes = h.finishes;
-  inherited = h.inherited;
-  away = h.away;
-  back = h.back;
-  function = h.function;
-  is_function = h.is_function;
-  no_result = h.no_result;
-  state = reached.0;
-  is_state = reached.1;
-  words = words_weaken cells t reached.0 top.registers registers.items reached.2 words;
-}
-
-pc_next : (program : Module) (assigned : Assigned program) (cells : Cells) (a : Activity) (s : Stay) → StandsForStay program assigned cells a s → s.top.pc + 1 ≡ a.pc + 1
-pc_next program assigned cells a s h = ap (λ n. n + 1) h.pc_is
-
--- the next instruction, with a number in a register
-int_onward : (program : Module) (assigned : Assigned program) (cells : Cells) (a : Activity) (s : Stay) (h : StandsForStay program assigned cells a s) (instr : Instr) (registers : SmallVec ℕ) (word : ℕ) (z : ℤ) (out : Edges)
-    → ((edge : ℕ × State) → IsIn edge out → Reaches (assigned a.function h.function h.is_function).0 edge) → out ≡ onward (point_of program h.function a instr) (gives (point_of program h.function a instr) h.state kind.Int None)
-    → instr.a < length a.registers.items → registers.items ≡ slice_set a.registers.items instr.a word → z ≡ cast_signed w64 word
-    → StandsForStay program assigned cells (moved a (a.pc + 1) registers) (record s { top = writes s.top instr.a (Int z) })
-int_onward program assigned cells a s h instr registers word z out edges e lt items z-is =
-    let p = point_of program h.function a instr in
-    let t = gives p h.state kind.Int None in
-    let reached = edges (a.pc + 1, t) (subst (λ (o : Edges). IsIn (a.pc + 1, t) o) (sym e) (first_edge p t)) in
-    let words : AreWordsOf cells t (with_entry s.top.registers instr.a (Some (Int z))) (slice_set a.registers.items instr.a word) = words_written cells h.state s.top.registers a.registers.items instr.a kind.Int None (Int z) word lt h.words tt z-is in
-    stands_at program assigned cells a s h (a.pc + 1) t registers (writes s.top instr.a (Int z)) reached refl (pc_next program assigned cells a s h)
-    (subst (λ (ws : List ℕ). AreWordsOf cells t (with_entry s.top.registers instr.a (Some (Int z))) ws) (sym items) words)
-
--- the next instruction, with nothing changed
-plain_onward : (program : Module) (assigned : Assigned program) (cells : Cells) (a : Activity) (s : Stay) (h : StandsForStay program assigned cells a s) (instr : Instr) (out : Edges)
-    → ((edge : ℕ × State) → IsIn edge out → Reaches (assigned a.function h.function h.is_function).0 edge) → out ≡ onward (point_of program h.function a instr) h.state
-    → StandsForStay program assigned cells (moved a (a.pc + 1) a.registers) (record s { top = next s.top })
-plain_onward program assigned cells a s h instr out edges e =
-    let p = point_of program h.function a instr in
-    let reached = edges (a.pc + 1, h.state) (subst (λ (o : Edges). IsIn (a.pc + 1, h.state) o) (sym e) (first_edge p h.state)) in
-    stands_at program assigned cells a s h (a.pc + 1) h.state a.registers (next s.top) reached refl (pc_next program assigned cells a s h) h.words
-
 -- ---- the whole place
 
 -- another activity's stay is as it was
-abbrev pub StandsAt : (program : Module) → Assigned program → Cells → Activity → Option Stay → Type 0
-StandsAt program assigned cells a stay = (s : Stay) × (stay ≡ Some s) × StandsForStay program assigned cells a s
+abbrev pub StandsAt : (program : Module) → Assigned program → ℕ → Cells → ActivityState → Option Stay → Type 0
+StandsAt program assigned here cells a stay = (s : Stay) × (stay ≡ Some s) × StandsForStay program assigned here cells a s
 
--- one activity and its stay changed alike, and lines were added alike
-changed : (p : PlaceState) (m base : machine.Place) (h : StandsFor p m) (slab : Slab Activity) (lines : List Line) (key : ℕ) (a : Activity) (s : Stay)
-    → Updates p.activities slab key (Some a) → base.stays ≡ m.stays → base.cells ≡ m.cells → base.lines ≡ map line_as lines → StandsForStay p.program h.assigned m.cells a s
-    → StandsFor (record p { activities = slab; lines = lines }) (with_stay base key (Some s))
-changed p m base h slab lines key a s up stays cells lines-are stand = record {
-  assigned = h.assigned;
-  none = λ k e. none_at k e (same_or_not k key);
-  some = λ k b e. some_at k b e (same_or_not k key);
-  lines = lines-are;
-}
-  where
-    none_at : (k : ℕ) → get slab k ≡ None → (k ≡ key) ⊎ (k ≡ key → ⊥) → with_entry base.stays key (Some s) k ≡ None
-    none_at k e (inl same) = absurd (none_some (get slab k) a e (subst (λ q. get slab q ≡ Some a) (sym same) up.changed))
-    none_at k e (inr ne) = off_key base.stays key (Some s) k ne ∙ subst (λ (f : ℕ → Option Stay). f k ≡ None) (sym stays) (h.none k (sym (up.others k ne) ∙ e))
+module _ (p : PlaceState) (m : machine.Place) (h : StandsFor p m) (key : ℕ) (slab : Slab ActivityState) where
+  -- one activity and its stay changed alike, and lines were added alike
+  changed : (base : machine.Place) (lines : List Line) (a : ActivityState) (s : Stay) → Updates p.activities slab key (Some a) → base.stays ≡ m.stays → base.cells ≡ m.cells → base.lines ≡ map line_as lines → StandsForStay p.program h.assigned p.id m.cells a s
+      → StandsFor (record p { activities = slab; lines = lines }) (with_stay base key (Some s))
+  changed base lines a s up stays cells lines-are stand = record {
+    assigned = h.assigned;
+    none = λ k e. none_at k e (same_or_not k key);
+    some = λ k b e. some_at k b e (same_or_not k key);
+    lines = lines-are;
+  }
+    where
+      none_at : (k : ℕ) → get slab k ≡ None → (k ≡ key) ⊎ (k ≡ key → ⊥) → with_entry base.stays key (Some s) k ≡ None
+      none_at k e (inl same) = absurd (none_some (get slab k) a e (subst (λ q. get slab q ≡ Some a) (sym same) up.changed))
+      none_at k e (inr ne) = off_key base.stays key (Some s) k ne ∙ subst (λ (f : ℕ → Option Stay). f k ≡ None) (sym stays) (h.none k (sym (up.others k ne) ∙ e))
 
-    some_at : (k : ℕ) (b : Activity) → get slab k ≡ Some b → (k ≡ key) ⊎ (k ≡ key → ⊥) → StandsAt p.program h.assigned base.cells b (with_entry base.stays key (Some s) k)
-    some_at k b e (inl same) =
-        let b-is : a ≡ b = some_is a b (sym (subst (λ q. get slab q ≡ Some a) (sym same) up.changed) ∙ e) in
-        (s, subst (λ q. with_entry base.stays key (Some s) q ≡ Some s) (sym same) (at_key base.stays key (Some s)), subst (λ c. StandsForStay p.program h.assigned c b s) (sym cells) (subst (λ c. StandsForStay p.program h.assigned m.cells c s) b-is stand))
-    some_at k b e (inr ne) =
-        let was = h.some k b (sym (up.others k ne) ∙ e) in
-        (was.0, off_key base.stays key (Some s) k ne ∙ subst (λ (f : ℕ → Option Stay). f k ≡ Some was.0) (sym stays) was.1, subst (λ c. StandsForStay p.program h.assigned c b was.0) (sym cells) was.2)
+      some_at : (k : ℕ) (b : ActivityState) → get slab k ≡ Some b → (k ≡ key) ⊎ (k ≡ key → ⊥) → StandsAt p.program h.assigned p.id base.cells b (with_entry base.stays key (Some s) k)
+      some_at k b e (inl same) =
+          let b-is : a ≡ b = some_is a b (sym (subst (λ q. get slab q ≡ Some a) (sym same) up.changed) ∙ e) in
+          (s, subst (λ q. with_entry base.stays key (Some s) q ≡ Some s) (sym same) (at_key base.stays key (Some s)), subst (λ c. StandsForStay p.program h.assigned p.id c b s) (sym cells) (subst (λ c. StandsForStay p.program h.assigned p.id m.cells c s) b-is stand))
+      some_at k b e (inr ne) =
+          let was = h.some k b (sym (up.others k ne) ∙ e) in
+          (was.0, off_key base.stays key (Some s) k ne ∙ subst (λ (f : ℕ → Option Stay). f k ≡ Some was.0) (sym stays) was.1, subst (λ c. StandsForStay p.program h.assigned p.id c b was.0) (sym cells) was.2)
 
--- one activity and its stay ended alike
-ended : (p : PlaceState) (m : machine.Place) (h : StandsFor p m) (slab : Slab Activity) (key : ℕ) → Updates p.activities slab key None → StandsFor (record p { activities = slab }) (with_stay m key None)
-ended p m h slab key up = record {
-  assigned = h.assigned;
-  none = λ k e. none_at k e (same_or_not k key);
-  some = λ k b e. some_at k b e (same_or_not k key);
-  lines = h.lines;
-}
-  where
-    none_at : (k : ℕ) → get slab k ≡ None → (k ≡ key) ⊎ (k ≡ key → ⊥) → with_entry m.stays key None k ≡ None
-    none_at k e (inl same) = subst (λ q. with_entry m.stays key None q ≡ None) (sym same) (at_key m.stays key None)
-    none_at k e (inr ne) = off_key m.stays key None k ne ∙ h.none k (sym (up.others k ne) ∙ e)
+  -- one activity and its stay ended alike
+  ended : (lines : List Line) → lines ≡ p.lines → Updates p.activities slab key None → StandsFor (record p { activities = slab; lines = lines }) (with_stay m key None)
+  ended lines same-lines up = record {
+    assigned = h.assigned;
+    none = λ k e. none_at k e (same_or_not k key);
+    some = λ k b e. some_at k b e (same_or_not k key);
+    lines = h.lines ∙ ap (λ ls. map line_as ls) (sym same-lines);
+  }
+    where
+      none_at : (k : ℕ) → get slab k ≡ None → (k ≡ key) ⊎ (k ≡ key → ⊥) → with_entry m.stays key None k ≡ None
+      none_at k e (inl same) = subst (λ q. with_entry m.stays key None q ≡ None) (sym same) (at_key m.stays key None)
+      none_at k e (inr ne) = off_key m.stays key None k ne ∙ h.none k (sym (up.others k ne) ∙ e)
 
-    some_at : (k : ℕ) (b : Activity) → get slab k ≡ Some b → (k ≡ key) ⊎ (k ≡ key → ⊥) → StandsAt p.program h.assigned m.cells b (with_entry m.stays key None k)
-    some_at k b e (inl same) = absurd (none_some (get slab k) b (subst (λ q. get slab q ≡ None) (sym same) up.changed) e)
-    some_at k b e (inr ne) =
-        let was = h.some k b (sym (up.others k ne) ∙ e) in
-        (was.0, off_key m.stays key None k ne ∙ was.1, was.2)
+      some_at : (k : ℕ) (b : ActivityState) → get slab k ≡ Some b → (k ≡ key) ⊎ (k ≡ key → ⊥) → StandsAt p.program h.assigned p.id m.cells b (with_entry m.stays key None k)
+      some_at k b e (inl same) = absurd (none_some (get slab k) b (subst (λ q. get slab q ≡ None) (sym same) up.changed) e)
+      some_at k b e (inr ne) =
+          let was = h.some k b (sym (up.others k ne) ∙ e) in
+          (was.0, off_key m.stays key None k ne ∙ was.1, was.2)
 
 -- ---- moves
 
-abbrev pub situated : (p : PlaceState) (m : machine.Place) (key : ℕ) (s : Stay) → Function → Instr → Situation
-situated p m key s function instr = record { setting = setting_of p; here = p.id; place = m; key = key; stay = s; function = function; instr = instr }
-
-moves : (p : PlaceState) (m : machine.Place) (key : ℕ) (assigned : Assigned p.program) (a : Activity) (s : Stay) (h : StandsForStay p.program assigned m.cells a s) (instr : Instr) (new : machine.Place) (effect : Effect)
-    → IsFetched p.program a instr → m.stays key ≡ Some s → Does instr.op (situated p m key s h.function instr) new effect → Moves (setting_of p) p.id m key new effect
-moves p m key assigned a s h instr new effect fetched there does = record {
+moves : (p : PlaceState) (m : machine.Place) (key : ℕ) (assigned : Assigned p.program) (a : ActivityState) (s : Stay) (h : StandsForStay p.program assigned p.id m.cells a s) (i : Instr) (fetched : IsFetched p.program a.top i) (new : machine.Place) (effect : Effect)
+    → m.stays key ≡ Some s → Does i.op (situated p m key s h.top.function i) new effect → Moves (setting_of p) p.id m key new effect
+moves p m key assigned a s h i fetched new effect there does = record {
   stay = s;
-  function = h.function;
-  instr = instr;
+  function = h.top.function;
+  instr = i;
   is_there = there;
   is_ready = h.away;
-  function_is = subst (λ f. function_at p.program f ≡ Some h.function) (sym h.function_is) h.is_function;
-  instr_is = subst (λ pc. slice_get h.function.code pc ≡ Some instr) (sym h.pc_is) (in_function p.program a h.function instr h.is_function fetched.is_instr);
-  in_range = fetched.in_range h.function h.is_function;
+  function_is = ap (λ n. function_at p.program n) h.top.function_is ∙ h.top.is_function;
+  instr_is = ap (λ pc. slice_get h.top.function.code pc) h.top.pc_is ∙ is_instr p.program assigned p.id m.cells a.top s.top h.top i fetched;
+  in_range = in_range p.program assigned p.id m.cells a.top s.top h.top i fetched;
   does = does;
 }
-
--- ---- the operations
-
-gives_int : (o : Op) (p : Point) (s : State) (out : Edges) → GivesInt o → Permits o p s out → out ≡ onward p (gives p s kind.Int None)
-gives_int op.Intk p s out g h = h
-gives_int op.Add p s out g h = h.1
-gives_int op.Sub p s out g h = h.1
-gives_int op.Mul p s out g h = h.1
-gives_int _ p s out g h = absurd g
-
-abbrev pub after_int : machine.Place → ℕ → Stay → Instr → ℤ → machine.Place
-after_int m key s i z = with_stay m key (Some (record s { top = writes s.top i.a (Int z) }))
-
-same_place : (m : machine.Place) (key : ℕ) (s : Stay) (i : Instr) (z y : ℤ) → z ≡ y → after_int m key s i z ≡ with_stay m key (Some (record s { top = writes s.top i.a (Int y) }))
-same_place m key s i z y e = ap (λ w. with_stay m key (Some (record s { top = writes s.top i.a (Int w) }))) e
-
-does_int : (o : Op) (p : PlaceState) (m : machine.Place) (key : ℕ) (assigned : Assigned p.program) (a : Activity) (s : Stay) (h : StandsForStay p.program assigned m.cells a s) (instr : Instr) (out : Edges) (z : ℤ)
-    → GivesInt o → Permits o (point_of p.program h.function a instr) h.state out → Computes o p.program a instr z → Does o (situated p m key s h.function instr) (after_int m key s instr z) Works
-does_int op.Intk p m key assigned a s h instr out z g permits c = (z, c, (refl, refl))
-does_int op.Add p m key assigned a s h instr out z g permits c =
-    (int_at a instr.b, int_at a instr.c, reads_int m.cells h.state s.top.registers a.registers.items instr.b h.words permits.0.0, reads_int m.cells h.state s.top.registers a.registers.items instr.c h.words permits.0.1, (same_place m key s instr z _ c, refl))
-does_int op.Sub p m key assigned a s h instr out z g permits c =
-    (int_at a instr.b, int_at a instr.c, reads_int m.cells h.state s.top.registers a.registers.items instr.b h.words permits.0.0, reads_int m.cells h.state s.top.registers a.registers.items instr.c h.words permits.0.1, (same_place m key s instr z _ c, refl))
-does_int op.Mul p m key assigned a s h instr out z g permits c =
-    (int_at a instr.b, int_at a instr.c, reads_int m.cells h.state s.top.registers a.registers.items instr.b h.words permits.0.0, reads_int m.cells h.state s.top.registers a.registers.items instr.c h.words permits.0.1, (same_place m key s instr z _ c, refl))
-does_int _ p m key assigned a s h instr out z g permits c = absurd g
-
--- an operation that writes a number
-pub int_step : (p : PlaceState) (m : machine.Place) (slab : Slab Activity) (key : ℕ) (a : Activity) (instr : Instr) (registers : SmallVec ℕ) (word : ℕ)
-    → StandsFor p m → get p.activities key ≡ Some a → IsFetched p.program a instr → GivesInt instr.op → Computes instr.op p.program a instr (cast_signed w64 word)
-    → instr.a < length a.registers.items → registers.items ≡ slice_set a.registers.items instr.a word → Updates p.activities slab key (Some (moved a (a.pc + 1) registers))
-    → Leads p m key Works (record p { activities = slab })
-int_step p m slab key a instr registers word h e fetched g c lt items up =
-    let found = h.some key a e in
-    let s = found.0 in
-    let stand = found.2 in
-    let r = ruled p.program h.assigned m.cells a s stand instr fetched in
-    let z = cast_signed w64 word in
-    let new = after_int m key s instr z in (
-      new,
-      moves p m key h.assigned a s stand instr new Works fetched found.1 (does_int instr.op p m key h.assigned a s stand instr r.0 z g r.1 c),
-      changed p m m h slab p.lines key (moved a (a.pc + 1) registers) (record s { top = writes s.top instr.a (Int z) }) up refl refl h.lines
-          (int_onward p.program h.assigned m.cells a s stand instr registers word z r.0 r.2 (gives_int instr.op (point_of p.program stand.function a instr) stand.state r.0 g r.1) lt items refl),
-    )
-
--- a register that is printed holds a number, since no word stands for a text so far
-printed : (cells : Cells) (s : State) (registers : ℕ → Option Value) (words : List ℕ) (r : ℕ) → AreWordsOf cells s registers words → (IsKind s r kind.Int) ⊎ (IsKind s r kind.Text) → registers r ≡ Some (Int (cast_signed w64 (slice_index words r)))
-printed cells s registers words r typed (inl k) = reads_int cells s registers words r typed k
-printed cells s registers words r typed (inr k) =
-    let h = reads cells s registers words r kind.Text typed k in
-    absurd (no_text cells h.0 (slice_index words r) h.2 h.3)
 
 one_more : (lines : List Line) (l : Line) → map line_as (lines ++ l ∷ []) ≡ map line_as lines ++ line_as l ∷ []
 one_more [] l = refl
 one_more (x ∷ xs) l = ap (λ ys. line_as x ∷ ys) (one_more xs l)
 
-does_print : (o : Op) (p : PlaceState) (m : machine.Place) (key : ℕ) (assigned : Assigned p.program) (a : Activity) (s : Stay) (h : StandsForStay p.program assigned m.cells a s) (instr : Instr) (out : Edges)
-    → o ≡ op.Print → Permits op.Print (point_of p.program h.function a instr) h.state out
-    → Does o (situated p m key s h.function instr) (with_stay (with_line m (Number (int_at a instr.a))) key (Some (record s { top = next s.top }))) Works
-does_print o p m key assigned a s h instr out e permits =
-    subst (λ q. Does q (situated p m key s h.function instr) (with_stay (with_line m (Number (int_at a instr.a))) key (Some (record s { top = next s.top }))) Works) (sym e)
-    (Int (int_at a instr.a), Number (int_at a instr.a), printed m.cells h.state s.top.registers a.registers.items instr.a h.words permits.0, refl, (refl, refl))
+-- the slab after a step: with the activity as it is now, or without it
+abbrev pub kept_if : Bool → ActivityState → Option ActivityState
+kept_if goes b = if goes then Some b else None
 
--- a number is printed
-pub print_step : (p : PlaceState) (m : machine.Place) (slab : Slab Activity) (lines : List Line) (key : ℕ) (a : Activity) (instr : Instr)
-    → StandsFor p m → get p.activities key ≡ Some a → IsFetched p.program a instr → instr.op ≡ op.Print
-    → lines ≡ p.lines ++ line.Int (int_at a instr.a) ∷ [] → Updates p.activities slab key (Some (moved a (a.pc + 1) a.registers))
-    → Leads p m key Works (record p { activities = slab; lines = lines })
-print_step p m slab lines key a instr h e fetched o lines-are up =
-    let found = h.some key a e in
-    let s = found.0 in
-    let stand = found.2 in
-    let r = ruled p.program h.assigned m.cells a s stand instr fetched in
-    let permits = subst (λ q. Permits q (point_of p.program stand.function a instr) stand.state r.0) o r.1 in
-    let base = with_line m (Number (int_at a instr.a)) in
-    let printed_lines : base.lines ≡ map line_as lines = ap (λ ls. ls ++ Number (int_at a instr.a) ∷ []) h.lines ∙ sym (one_more p.lines (line.Int (int_at a instr.a))) ∙ ap (λ ls. map line_as ls) (sym lines-are) in (
-      with_stay base key (Some (record s { top = next s.top })),
-      moves p m key h.assigned a s stand instr _ Works fetched found.1 (does_print instr.op p m key h.assigned a s stand instr r.0 o permits),
-      changed p m base h slab lines key (moved a (a.pc + 1) a.registers) (record s { top = next s.top }) up refl refl printed_lines
-          (plain_onward p.program h.assigned m.cells a s stand instr r.0 r.2 permits.1),
-    )
+module _ (p : PlaceState) (m : machine.Place) (stands : StandsFor p m) (key : ℕ) (slab : Slab ActivityState) (a : ActivityState) (s : Stay) (is : m.stays key ≡ Some s) (h : StandsForStay p.program stands.assigned p.id m.cells a s) (i : Instr) (fetched : IsFetched p.program a.top i) where
+  abbrev Led : List Line → Type 0
+  Led lines = (effect : Effect) × Leads p m key effect (record p { activities = slab; lines = lines })
 
--- ---- the end of an activity
+  -- a stay that goes on, with the same lines
+  leads_on : (o : Op) (b : ActivityState) (t : Stay) (lines : List Line) → i.op ≡ o → Does o (situated p m key s h.top.function i) (with_stay m key (Some t)) Works → StandsForStay p.program stands.assigned p.id m.cells b t → lines ≡ p.lines → Updates p.activities slab key (Some b) → Led lines
+  leads_on o b t lines e does after same up = (
+    Works,
+    (with_stay m key (Some t),
+    moves p m key stands.assigned a s h i fetched (with_stay m key (Some t)) Works is (subst (λ q. Does q (situated p m key s h.top.function i) (with_stay m key (Some t)) Works) (sym e) does),
+    changed p m stands key slab m lines b t up refl refl (stands.lines ∙ ap (λ ls. map line_as ls) (sym same)) after),
+  )
 
-gives_nothing : (s : Situation) → s.function.result ≡ None → GivesBack s s.function.result None
-gives_nothing s e = subst (λ o. GivesBack s o None) (sym e) tt
+  -- the activity with another frame at the top
+  with_top : (b : ActivityState) (top : machine.CallFrame) → StandsForFrame p.program stands.assigned p.id m.cells b.top top → b.callers ≡ a.callers → StandsForStay p.program stands.assigned p.id m.cells b (record s { top = top })
+  with_top b top frame callers = record {
+    top = frame;
+    callers = subst (λ fs. StandForCallers p.program stands.assigned p.id m.cells fs s.callers) (sym callers) h.callers;
+    finishes = h.finishes;
+    inherited = h.inherited;
+    away = h.away;
+    back = h.back;
+  }
 
-sends_nothing : (s : Situation) → s.stay.back ≡ None → SendsBack s None s.stay.back None
-sends_nothing s e = subst (λ o. SendsBack s None o None) (sym e) refl
+  abbrev states : ℕ → Option State
+  states = (stands.assigned a.top.function h.top.function h.top.is_function).0
 
-ends : (s : Situation) → s.stay.callers ≡ [] → s.stay.finishes ≡ [] → s.stay.inherited ≡ root → s.stay.back ≡ None → Returns s s.stay.callers None (with_stay s.place s.key None) (Ends root None)
-ends s callers finishes inherited back = subst (λ cs. Returns s cs None (with_stay s.place s.key None) (Ends root None)) (sym callers)
-    (None, finishes, sends_nothing s back, refl, ap (λ f. Ends f None) (sym inherited))
+  leads_local : (o : Op) (b : ActivityState) (out : Edges) (lines : List Line) → i.op ≡ o → is_brought o ≡ true → o ≢ op.Print → o ≢ op.Call → o ≢ op.Ret → Permits o (point_of p.program h.top.function a.top i) h.top.state out → ((edge : ℕ × State) → IsIn edge out → Reaches states edge)
+      → ActsOnTop o p.program a i b → lines ≡ p.lines → Updates p.activities slab key (Some b) → Led lines
+  leads_local o b out lines e brought np nc nr permits edges acts same up =
+      let moved = local_moves p m key s stands.assigned a.top h.top i fetched o b.top out e brought np nc nr permits edges acts.top in
+      leads_on o b (record s { top = moved.0 }) lines e moved.1 (with_top b moved.0 moved.2 acts.callers) same up
 
--- the last function of an activity ends
-pub ret_step : (p : PlaceState) (m : machine.Place) (slab : Slab Activity) (key : ℕ) (a : Activity) (instr : Instr)
-    → StandsFor p m → get p.activities key ≡ Some a → IsFetched p.program a instr → instr.op ≡ op.Ret → Updates p.activities slab key None
-    → Leads p m key (Ends root None) (record p { activities = slab })
-ret_step p m slab key a instr h e fetched o up =
-    let found = h.some key a e in
-    let s = found.0 in
-    let stand = found.2 in
-    let at = situated p m key s stand.function instr in
-    let does : Does op.Ret at (with_stay m key None) (Ends root None) = (None, gives_nothing at stand.no_result, ends at stand.callers stand.finishes stand.inherited stand.back) in (
-      with_stay m key None,
-      moves p m key h.assigned a s stand instr _ (Ends root None) fetched found.1 (subst (λ q. Does q at (with_stay m key None) (Ends root None)) (sym o) does),
-      ended p m h slab key up,
-    )
+  leads_print : (b : ActivityState) (out : Edges) (lines : List Line) → i.op ≡ op.Print → Permits op.Print (point_of p.program h.top.function a.top i) h.top.state out → ((edge : ℕ × State) → IsIn edge out → Reaches states edge) → Prints a p.lines i b lines → Updates p.activities slab key (Some b) → Led lines
+  leads_print b out lines e permits edges prints up =
+      let moved = print_moves p m key a s stands.assigned h i fetched b out permits edges prints.top in
+      let base = with_line m (Number (int_at a.top i.a)) in
+      let new = with_stay base key (Some (record s { top = next s.top })) in (
+        Works,
+        (new,
+        moves p m key stands.assigned a s h i fetched new Works is (subst (λ q. Does q (situated p m key s h.top.function i) new Works) (sym e) moved.0),
+        changed p m stands key slab base lines b (record s { top = next s.top }) up refl refl
+            (ap (λ ls. ls ++ Number (int_at a.top i.a) ∷ []) stands.lines ∙ sym (one_more p.lines (line.Int (int_at a.top i.a))) ∙ ap (λ ls. map line_as ls) (sym prints.lines_are)) (with_top b (next s.top) moved.1 prints.callers)),
+      )
+
+  leads_ret : (goes : Bool) (b : ActivityState) (out : Edges) (lines : List Line) → i.op ≡ op.Ret → Permits op.Ret (point_of p.program h.top.function a.top i) h.top.state out → Returns p.program a i goes b → lines ≡ p.lines → Updates p.activities slab key (kept_if goes b) → Led lines
+  leads_ret true b out lines e permits returns same up =
+      let moved = ret_resumes p m key a s stands.assigned h i fetched b out e permits returns in
+      leads_on op.Ret b moved.0 lines e moved.1 moved.2 same up
+  leads_ret false b out lines e permits returns same up = (
+    Ends root None,
+    (with_stay m key None,
+    moves p m key stands.assigned a s h i fetched (with_stay m key None) (Ends root None) is (subst (λ q. Does q (situated p m key s h.top.function i) (with_stay m key None) (Ends root None)) (sym e) (ret_ends p m key a s stands.assigned h i fetched out e permits returns)),
+    ended p m stands key slab lines same up),
+  )
+
+  -- what an operation does leads from the machine's place to one that the new state stands for
+  leads : (o : Op) (goes : Bool) (b : ActivityState) (out : Edges) (lines : List Line) → FitsImage p.program → i.op ≡ o → is_brought o ≡ true → Permits o (point_of p.program h.top.function a.top i) h.top.state out → ((edge : ℕ × State) → IsIn edge out → Reaches states edge)
+      → Steps o p.program a p.lines i goes b lines → Updates p.activities slab key (kept_if goes b) → Led lines
+  leads op.Call goes b out lines image e brought permits edges steps up =
+      let moved = call_moves p m key a s stands.assigned h i fetched b out image e permits steps.1 in
+      leads_on op.Call b moved.0 lines e moved.1 moved.2 steps.2 (subst (λ g. Updates p.activities slab key (kept_if g b)) steps.0 up)
+  leads op.Ret goes b out lines image e brought permits edges steps up = leads_ret goes b out lines e permits steps.0 steps.1 up
+  leads op.Print goes b out lines image e brought permits edges steps up = leads_print b out lines e permits edges steps.1 (subst (λ g. Updates p.activities slab key (kept_if g b)) steps.0 up)
+  leads op.Intk goes b out lines image e brought permits edges steps up = leads_local op.Intk b out lines e brought (λ q. cc) (λ q. cc) (λ q. cc) permits edges steps.1 steps.2 (subst (λ g. Updates p.activities slab key (kept_if g b)) steps.0 up)
+  leads op.Add goes b out lines image e brought permits edges steps up = leads_local op.Add b out lines e brought (λ q. cc) (λ q. cc) (λ q. cc) permits edges steps.1 steps.2 (subst (λ g. Updates p.activities slab key (kept_if g b)) steps.0 up)
+  leads op.Sub goes b out lines image e brought permits edges steps up = leads_local op.Sub b out lines e brought (λ q. cc) (λ q. cc) (λ q. cc) permits edges steps.1 steps.2 (subst (λ g. Updates p.activities slab key (kept_if g b)) steps.0 up)
+  leads op.Mul goes b out lines image e brought permits edges steps up = leads_local op.Mul b out lines e brought (λ q. cc) (λ q. cc) (λ q. cc) permits edges steps.1 steps.2 (subst (λ g. Updates p.activities slab key (kept_if g b)) steps.0 up)
+  leads op.Div goes b out lines image e brought permits edges steps up = leads_local op.Div b out lines e brought (λ q. cc) (λ q. cc) (λ q. cc) permits edges steps.1 steps.2 (subst (λ g. Updates p.activities slab key (kept_if g b)) steps.0 up)
+  leads op.Rem goes b out lines image e brought permits edges steps up = leads_local op.Rem b out lines e brought (λ q. cc) (λ q. cc) (λ q. cc) permits edges steps.1 steps.2 (subst (λ g. Updates p.activities slab key (kept_if g b)) steps.0 up)
+  leads op.Lt goes b out lines image e brought permits edges steps up = leads_local op.Lt b out lines e brought (λ q. cc) (λ q. cc) (λ q. cc) permits edges steps.1 steps.2 (subst (λ g. Updates p.activities slab key (kept_if g b)) steps.0 up)
+  leads op.Eq goes b out lines image e brought permits edges steps up = leads_local op.Eq b out lines e brought (λ q. cc) (λ q. cc) (λ q. cc) permits edges steps.1 steps.2 (subst (λ g. Updates p.activities slab key (kept_if g b)) steps.0 up)
+  leads op.Move goes b out lines image e brought permits edges steps up = leads_local op.Move b out lines e brought (λ q. cc) (λ q. cc) (λ q. cc) permits edges steps.1 steps.2 (subst (λ g. Updates p.activities slab key (kept_if g b)) steps.0 up)
+  leads op.Jmp goes b out lines image e brought permits edges steps up = leads_local op.Jmp b out lines e brought (λ q. cc) (λ q. cc) (λ q. cc) permits edges steps.1 steps.2 (subst (λ g. Updates p.activities slab key (kept_if g b)) steps.0 up)
+  leads op.Jz goes b out lines image e brought permits edges steps up = leads_local op.Jz b out lines e brought (λ q. cc) (λ q. cc) (λ q. cc) permits edges steps.1 steps.2 (subst (λ g. Updates p.activities slab key (kept_if g b)) steps.0 up)
+  leads op.Loop goes b out lines image e brought permits edges steps up = leads_local op.Loop b out lines e brought (λ q. cc) (λ q. cc) (λ q. cc) permits edges steps.1 steps.2 (subst (λ g. Updates p.activities slab key (kept_if g b)) steps.0 up)
+  leads op.Endl goes b out lines image e brought permits edges steps up = leads_local op.Endl b out lines e brought (λ q. cc) (λ q. cc) (λ q. cc) permits edges steps.1 steps.2 (subst (λ g. Updates p.activities slab key (kept_if g b)) steps.0 up)
+  leads _ goes b out lines image e brought permits edges steps up = absurd cc
+
+-- a step of the activity under a key
+pub step_leads : (p : PlaceState) (m : machine.Place) (key : ℕ) (slab : Slab ActivityState) (lines : List Line) (a b : ActivityState) (goes : Bool) (i : Instr) → StandsFor p m → get p.activities key ≡ Some a → FitsImage p.program → IsFetched p.program a.top i → IsTrue (is_brought i.op)
+    → Steps i.op p.program a p.lines i goes b lines → Updates p.activities slab key (kept_if goes b) → (effect : Effect) × Leads p m key effect (record p { activities = slab; lines = lines })
+step_leads p m key slab lines a b goes i stands e image fetched brought steps up =
+    let found = stands.some key a e in
+    let at = rule p.program stands.assigned p.id m.cells a.top found.0.top found.2.top i fetched in
+    leads p m stands key slab a found.0 found.1 found.2 i fetched i.op goes b at.0 lines image refl brought at.1 at.2 steps up
+
+-- the same, for the state that the fields are seen as
+abbrev pub LeadsFrom : PlaceState → ℕ → PlaceState → Type 0
+LeadsFrom p key q = (m : machine.Place) (a : ActivityState) → get p.activities key ≡ Some a → StandsFor p m → (effect : Effect) × Leads p m key effect q
+
+pub seen_leads : (p v : PlaceState) (key : ℕ) (slab : Slab ActivityState) (lines : List Line) (a b : ActivityState) (goes : Bool) (i : Instr) → p ≡ v → get p.activities key ≡ Some a → FitsImage p.program → IsFetched p.program a.top i → IsTrue (is_brought i.op)
+    → Steps i.op p.program a p.lines i goes b lines → Updates p.activities slab key (kept_if goes b) → LeadsFrom v key (record p { activities = slab; lines = lines })
+seen_leads p v key slab lines a b goes i seen e image fetched brought steps up =
+    subst (λ u. LeadsFrom u key (record p { activities = slab; lines = lines })) seen (λ m c there stands. step_leads p m key slab lines a b goes i stands e image fetched brought steps up)

@@ -1,4 +1,6 @@
 pub mod Words
+pub mod Homes
+pub mod Frames
+pub mod Activities
 pub mod StandsFor
-pub mod Numbers
 pub mod Opening

@@ -1,5 +1,5 @@
 -- The activities with which a place begins.
-use Rattle.std.specs.Prelude.{◌≡◌, ◌≢◌, ℕ, ◌<◌, ◌≤◌, false, ◌==◌, [], length, Some, None, if◌then◌else◌}
+use Rattle.std.specs.Prelude.{◌≡◌, ◌≢◌, ℕ, ◌<◌, ◌≤◌, false, ◌==◌, [], length, replicate, Some, None, if◌then◌else◌}
 use Rattle.slab.specs.Slab.{Slab, get}
 use Rattle.x10_model.specs.Modules.{Module, Function, IsEntry}
 use Rattle.x10_model.specs.Ranges.{function_at}
@@ -7,20 +7,22 @@ use Rattle.x10_model.specs.Places as machine
 use Rattle.x10_model.specs.Places.{Setting}
 use Rattle.x10_model.specs.Worlds.{first_place, empty_place}
 use Rattle.x10_verify.specs.Certified.{Certified}
-use Rattle.x10_place.specs.declared.activity.Activity.{Activity}
+use Rattle.x10_place.specs.Activities.{ActivityState}
 use Rattle.x10_place.specs.StandsFor.{PlaceState}
 
 -- the entry function at its first instruction
-pub record IsMain (program : Module) (a : Activity) : Type 0 where
-  pub function_is : a.function ≡ program.entry
-  pub pc : a.pc ≡ 0
+pub record IsMain (program : Module) (a : ActivityState) : Type 0 where
+  pub function_is : a.top.function ≡ program.entry
+  pub pc : a.top.pc ≡ 0
   pub function : Function
-  pub is_function : function_at program a.function ≡ Some function
+  pub is_function : function_at program a.top.function ≡ Some function
   pub is_entry : IsEntry function
-  pub registers : length a.registers.items ≡ function.registers
+  pub registers : length a.top.registers.items ≡ function.registers
+  pub loops : a.top.loops ≡ replicate 8 0
+  pub callers : a.callers ≡ []
 
 -- one activity, and no other
-pub record HoldsOnly (slab : Slab Activity) (key : ℕ) (a : Activity) : Type 0 where
+pub record HoldsOnly (slab : Slab ActivityState) (key : ℕ) (a : ActivityState) : Type 0 where
   pub here : get slab key ≡ Some a
   pub others : (other : ℕ) → other ≢ key → get slab other ≡ None
 
@@ -38,7 +40,7 @@ pub record IsNew (verified : Certified) (id places : ℕ) (p : PlaceState) : Typ
   pub stopped : p.stopped ≡ false
 
 -- the key is in use, and none from a number up to it is
-pub record IsNextKey (slab : Slab Activity) (from key : ℕ) : Type 0 where
+pub record IsNextKey (slab : Slab ActivityState) (from key : ℕ) : Type 0 where
   pub least : from ≤ key
-  pub used : (a : Activity) × (get slab key ≡ Some a)
+  pub used : (a : ActivityState) × (get slab key ≡ Some a)
   pub before : (k : ℕ) → from ≤ k → k < key → get slab k ≡ None

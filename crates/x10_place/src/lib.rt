@@ -2,12 +2,13 @@
 #![tactic(auto)]
 
 mod activity;
+mod frame;
 mod line;
 mod opening;
 mod place;
-mod words;
 
 pub use activity::Activity;
+pub use frame::CallFrame;
 pub use line::Line;
 pub use place::{Place, Stepped};
 

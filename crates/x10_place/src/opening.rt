@@ -2,9 +2,10 @@
 ghost use Rattle.std.specs.Prelude.{◌≡◌, ℕ, IfOk, None};
 ghost use Rattle.slab.specs.Slab.{get};
 ghost use Rattle.x10_place.specs.Opening.{IsMain, HoldsOnly};
-ghost use Rattle.x10_place.specs.declared.activity.Activity.{Activity};
+ghost use Rattle.x10_place.specs.Activities.{ActivityState};
 
 use crate::activity::Activity;
+use crate::frame::CallFrame;
 use slab::Slab;
 use smallvec::SmallVec;
 use std::alloc::{AllocError, Global};
@@ -22,15 +23,19 @@ fn main(alloc: Global, verified: &Verified) -> Result<Activity, AllocError>
             .registers(),
     );
     Ok(Activity {
-        function,
-        pc: 0,
-        registers: SmallVec::from_elem(alloc, 0, registers)?,
+        top: CallFrame {
+            function,
+            pc: 0,
+            registers: SmallVec::from_elem(alloc, 0, registers)?,
+            loops: [0; 8],
+        },
+        callers: Vec::new(alloc),
     })
 }
 
 /// Main alone, under some key.
 pub(crate) fn with_main(alloc: Global, verified: &Verified) -> Result<Slab<Activity>, AllocError>
-    ensures { IfOk result (λ slab. (key : ℕ) × (a : Activity) × IsMain verified.now.program a × HoldsOnly slab key a) }
+    ensures { IfOk result (λ slab. (key : ℕ) × (a : ActivityState) × IsMain verified.now.program a × HoldsOnly slab key a) }
 {
     let mut activities = Slab::new(alloc);
     let main = main(alloc, verified)?;

@@ -1,16 +1,15 @@
 ghost use Rattle.std.specs.Prelude.{◌≡◌, ◌≢◌, ◌<◌, ◌≤◌, ◌↔◌, ℕ, true, IsTrue, IfOk, IfErr, IfSome, MatchOption, Ok, Err, Some, None};
-ghost use Rattle.slab.specs.Slab.{get};
+ghost use Rattle.slab.specs.Slab.{get, Updates};
 ghost use Rattle.x10_kinds.specs.declared.stop.Stop.TheVariants as stop;
 ghost use Rattle.x10_model.specs.Places as machine;
 ghost use Rattle.x10_model.specs.Places.{Effect};
 ghost use Rattle.x10_place.specs.StandsFor.{StandsFor, Leads, Keeps, IsAt, IsOperation, setting_of};
 ghost use Rattle.x10_place.specs.Opening.{IsNew, IsNextKey, opening_place};
-ghost use Rattle.x10_place.specs.declared.activity.Activity.{Activity};
+ghost use Rattle.x10_place.specs.Activities.{ActivityState};
 
 use crate::activity::Activity;
 use crate::line::Line;
 use crate::opening::with_main;
-use crate::words::{number, position, print, remove};
 use slab::Slab;
 use std::alloc::{AllocError, Global};
 use std::marker::Model;
@@ -30,6 +29,7 @@ pub enum Stepped {
 /// A place: its activities by key, and its output.
 #[derive(Drop)]
 pub struct Place<'a> {
+    alloc: Global,
     verified: &'a Verified<'a>,
     id: u16,
     places: u16,
@@ -48,13 +48,21 @@ impl<'a> Model for Place<'a> {
     ghost invariant = { λ a. ArePlaced a.verified.now.program a.activities };
 }
 
+/// Takes an activity away.
+fn remove(activities: &mut Slab<Activity>, key: usize)
+    ensures { Updates activities.old activities.new key None }
+{
+    activities.try_remove(key);
+}
+
 impl<'a> Place<'a> {
     /// One step of the activity with a key. A Stop comes only where a growth was refused, or after another; the output
-    /// is then that of the steps before it. Constant time; PRINT alone takes memory.
+    /// is then that of the steps before it. Constant time, but that CALL also fills the
+    /// registers of the function that it calls; CALL and PRINT alone take memory.
     pub fn step(&mut self, key: usize) -> Result<Stepped, Stop>
         ensures idle { self.old.stopped ≢ true → get self.old.activities key ≡ None → (result ≡ Ok Stepped.Idle) × (self.new ≡ self.old) }
-        ensures some { (m : machine.Place) (a : Activity) → get self.old.activities key ≡ Some a → StandsFor self.old m → IfOk result (λ _. (effect : Effect) × Leads self.old m key effect self.new) }
-        ensures moved { (a : Activity) → get self.old.activities key ≡ Some a → IfOk result (λ stepped. stepped ≡ Stepped.Moved) }
+        ensures some { (m : machine.Place) (a : ActivityState) → get self.old.activities key ≡ Some a → StandsFor self.old m → IfOk result (λ _. (effect : Effect) × Leads self.old m key effect self.new) }
+        ensures moved { (a : ActivityState) → get self.old.activities key ≡ Some a → IfOk result (λ stepped. stepped ≡ Stepped.Moved) }
         ensures stopped { self.old.stopped ≡ true → result ≡ Err stop.Stopped }
         ensures memory { self.old.stopped ≢ true → IfErr result (λ why. why ≡ stop.Memory) }
         ensures stop { IfErr result (λ _. self.new ≡ record self.old { stopped = true }) }
@@ -64,23 +72,21 @@ impl<'a> Place<'a> {
         if self.stopped {
             return Err(Stop::Stopped);
         }
-        let Some((function, pc)) = position(&self.activities, key) else {
+        let verified = self.verified;
+        let Some(activity) = self.activities.get_mut(key) else {
             return Ok(Stepped::Idle);
         };
-        let verified = self.verified;
         verified.certificate();
-        let instr = verified.fetch(function, pc);
-        match instr.op {
-            Op::Print => {
-                if let Err(stop) = print(&mut self.activities, &mut self.lines, key, instr.a) {
-                    self.stopped = true;
-                    return Err(stop);
-                }
-            }
-            Op::Ret => {
-                remove(&mut self.activities, key);
-            }
-            _ => number(verified, &mut self.activities, key, instr),
+        let instr = verified.fetch(
+            usize::from(activity.top.function),
+            usize::from(activity.top.pc),
+        );
+        let Ok(goes) = activity.step(self.alloc, verified, &mut self.lines, instr) else {
+            self.stopped = true;
+            return Err(Stop::Memory);
+        };
+        if !goes {
+            remove(&mut self.activities, key);
         }
         Ok(Stepped::Moved)
     }
@@ -105,6 +111,7 @@ impl<'a> Place<'a> {
             Slab::new(alloc)
         };
         Ok(Place {
+            alloc,
             verified,
             id,
             places,
@@ -133,7 +140,7 @@ impl<'a> Place<'a> {
         ensures op { IfSome result (λ at. IsOperation self.now.program at.0 at.1 at.2) }
     {
         let activity = self.activities.get(key)?;
-        let (function, pc) = (activity.function, activity.pc);
+        let (function, pc) = (activity.top.function, activity.top.pc);
         let instr = self.verified.fetch(usize::from(function), usize::from(pc));
         Some((function, pc, instr.op))
     }

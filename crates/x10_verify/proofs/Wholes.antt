@@ -74,43 +74,7 @@ all_in_range m n le h f pc function instr e i =
 pub all_functions : (m : Module) (P : Function → Type 0) (n : ℕ) → length m.functions ≤ n → ((g : ℕ) (function : Function) → g < n → function_at m g ≡ Some function → P function) → (f : ℕ) (function : Function) → function_at m f ≡ Some function → P function
 all_functions m P n le h f function e = let lt = some_below m.functions f function e in h f function (omega arith) e
 
--- ---- registers
-
--- the parts of a form that fits
-fits_a : (i : Instr) → IsTrue (fits_form i) → fits_operand (form_of i.op).a i.a ≡ true
-fits_a i e = (and_parts (fits_operand (form_of i.op).a i.a) (fits_operand (form_of i.op).b i.b) (and_parts (fits_operand (form_of i.op).a i.a && fits_operand (form_of i.op).b i.b) (fits_operand (form_of i.op).c i.c) (and_parts (fits_operand (form_of i.op).a i.a && fits_operand (form_of i.op).b i.b && fits_operand (form_of i.op).c i.c) (fits_operand (form_of i.op).x i.x) e).0).0).0
-
-fits_b : (i : Instr) → IsTrue (fits_form i) → fits_operand (form_of i.op).b i.b ≡ true
-fits_b i e = (and_parts (fits_operand (form_of i.op).a i.a) (fits_operand (form_of i.op).b i.b) (and_parts (fits_operand (form_of i.op).a i.a && fits_operand (form_of i.op).b i.b) (fits_operand (form_of i.op).c i.c) (and_parts (fits_operand (form_of i.op).a i.a && fits_operand (form_of i.op).b i.b && fits_operand (form_of i.op).c i.c) (fits_operand (form_of i.op).x i.x) e).0).0).1
-
-fits_c : (i : Instr) → IsTrue (fits_form i) → fits_operand (form_of i.op).c i.c ≡ true
-fits_c i e = (and_parts (fits_operand (form_of i.op).a i.a && fits_operand (form_of i.op).b i.b) (fits_operand (form_of i.op).c i.c) (and_parts (fits_operand (form_of i.op).a i.a && fits_operand (form_of i.op).b i.b && fits_operand (form_of i.op).c i.c) (fits_operand (form_of i.op).x i.x) e).0).1
-
--- operands that are in range and fit their form are registers that there may be
-abbrev pub Named : Module → Function → Instr → Op → Type 0
-Named m f i o = IsThere m f i (form_of o).a i.a × IsThere m f i (form_of o).b i.b × IsThere m f i (form_of o).c i.c × (fits_operand (form_of o).a i.a ≡ true) × (fits_operand (form_of o).b i.b ≡ true) × (fits_operand (form_of o).c i.c ≡ true)
-
--- each is below the number of registers
-pub record AreBelow (registers : ℕ) (i : Instr) : Type 0 where
-  pub a : i.a < registers
-  pub b : i.b < registers
-  pub c : i.c < registers
-
-no_operand_below : (n registers : ℕ) → 1 ≤ registers → (n == 0) ≡ true → n < registers
-no_operand_below n registers le e = let z = eqb-true n 0 e in omega arith
-
-named_below : (o : Op) (m : Module) (f : Function) (i : Instr) → is_brought o ≡ true → o ≢ op.Ret → 1 ≤ f.registers → Named m f i o → AreBelow f.registers i
-named_below op.Intk m f i b ne le n = record { a = n.0; b = no_operand_below i.b f.registers le n.4; c = no_operand_below i.c f.registers le n.5 }
-named_below op.Add m f i b ne le n = record { a = n.0; b = n.1; c = n.2 }
-named_below op.Sub m f i b ne le n = record { a = n.0; b = n.1; c = n.2 }
-named_below op.Mul m f i b ne le n = record { a = n.0; b = n.1; c = n.2 }
-named_below op.Print m f i b ne le n = record { a = n.0; b = no_operand_below i.b f.registers le n.4; c = no_operand_below i.c f.registers le n.5 }
-named_below op.Ret m f i b ne le n = absurd (ne refl)
-named_below _ m f i b ne le n = absurd cc
-
--- the registers of an instruction that goes on, in a module that has an image
-pub registers_below : (m : Module) (f : Function) (i : Instr) → FitsFunction (length m.classes) f → IsBrought i → IsInRange m f i → i.op ≢ op.Ret → AreBelow f.registers i
-registers_below m f i fits b r ne = named_below i.op m f i b.brought ne fits.registers.0 (r.a, r.b, r.c, fits_a i b.instr.form, fits_b i b.instr.form, fits_c i b.instr.form)
+-- ---- functions and instructions
 
 pub function_fits : (m : Module) (f : ℕ) (function : Function) → FitsImage m → function_at m f ≡ Some function → FitsFunction (length m.classes) function
 function_fits m f function fits e = all_at (FitsFunction (length m.classes)) m.functions f function fits.functions.2 e

@@ -1,0 +1,64 @@
+-- The frame of a called function: its arguments are in its first registers.
+use Rattle.std.proofs.Common.{◌≡◌, ◌⊎◌, ℕ, ◌+◌, ◌<◌, ◌≤◌, ◌^◌, List, length, get_or, set, drop, replicate, Option, Some, refl, sym, ap, subst, ◌∙◌, inl, inr, arith, get_or-set_same, get_or-set_other}
+use Rattle.std.specs.Prelude.{slice_index, slice_index_or, slice_set}
+use Rattle.std.specs.List.{refill}
+use Rattle.std.proofs.lemmas.Bool.{cases_lt}
+use Rattle.std.proofs.lemmas.List.{take_at}
+use Rattle.std.proofs.Math.ListN.{length-set}
+use Rattle.x10_code.specs.declared.op.Op.TheVariants as op
+use Rattle.x10_code.specs.declared.instr.Instr.{Instr}
+use Rattle.x10_code.specs.Table.{form_of}
+use Rattle.x10_model.specs.Modules.{Module, Function}
+use Rattle.x10_model.specs.Ranges.{function_at, IsThere, IsInRange}
+use Rattle.x10_image.specs.Parts.{Signature, signature_of, FitsSignature}
+use Rattle.x10_place.specs.declared.frame.CallFrame.{CallFrame}
+use Rattle.x10_place.specs.Frames.{word_at, IsFetched, IsEntered}
+use Rattle.x10_place.proofs.Typed.{same_or_not}
+
+-- so many registers, of which those below n have the words of the caller's from b on
+pub record ArgumentsTo (caller : CallFrame) (i : Instr) (registers : ℕ) (words : List ℕ) (n : ℕ) : Type 0 where
+  pub count : length words ≡ registers
+  pub same : (r : ℕ) → r < n → slice_index words r ≡ word_at caller (i.b + r)
+
+pub arguments_begin : (caller : CallFrame) (i : Instr) (words : List ℕ) → ArgumentsTo caller i (length words) words 0
+arguments_begin caller i words = record { count = refl; same = λ r lt. absurd (omega (arith, lt)) }
+
+refilled : (xs ws : List ℕ) → length ws ≡ length xs → refill (length xs) xs ws ≡ ws
+refilled xs ws e = take_at ws (drop (length ws) xs) (length xs) e
+
+-- one argument more
+arguments_set : (caller : CallFrame) (i : Instr) (registers n w : ℕ) (xs : List ℕ) → ArgumentsTo caller i registers xs n → n < length xs → w ≡ word_at caller (i.b + n) → ArgumentsTo caller i registers (slice_set xs n w) (n + 1)
+arguments_set caller i registers n w xs before lt e = record {
+  count = simp length-set before.count;
+  same = λ r less. elim (same_or_not r n) [
+    | inl at ↦ subst (λ q. get_or (set xs n w) q 0 ≡ word_at caller (i.b + q)) (sym at) (get_or-set_same xs n w 0 lt ∙ e)
+    | inr off ↦ get_or-set_other xs n r w 0 off ∙ before.same r (below r n less off)
+  ];
+}
+  where
+    below : (r n : ℕ) → r < n + 1 → (r ≡ n → ⊥) → r < n
+    below r n less off = elim (cases_lt r n) [ inl lt ↦ lt | inr ge ↦ absurd (off (omega (arith, ge, less))) ]
+
+pub arguments_more : (caller : CallFrame) (i : Instr) (registers n w : ℕ) (xs ys : List ℕ) → ArgumentsTo caller i registers xs n → n < length xs → ys ≡ xs → w ≡ word_at caller (i.b + n) → ArgumentsTo caller i registers (refill (length xs) xs (slice_set ys n w)) (n + 1)
+arguments_more caller i registers n w xs ys before lt same e =
+    let is : refill (length xs) xs (slice_set ys n w) ≡ slice_set xs n w = refilled xs (slice_set ys n w) (simp length-set (ap length same)) ∙ ap (λ zs. slice_set zs n w) same in
+    subst (λ zs. ArgumentsTo caller i registers zs (n + 1)) (sym is) (arguments_set caller i registers n w xs before lt e)
+
+-- ---- the callee
+
+-- the function that a call names
+pub function_there : (program : Module) (f : CallFrame) (i : Instr) → IsFetched program f i → i.op ≡ op.Call → i.x < length program.functions
+function_there program f i fetched e = subst (λ o. IsThere program fetched.function i (form_of o).x i.x) e fetched.in_range.x
+
+-- a callee's registers hold its arguments
+pub entered : (program image : Module) (caller : CallFrame) (i : Instr) (words : List ℕ) (s : Signature) (n : ℕ) (f : CallFrame) → image ≡ program → (g : Function) × (function_at image i.x ≡ Some g) × (s ≡ signature_of g)
+    → ArgumentsTo caller i s.registers words n → length s.parameters ≤ n → f.function ≡ i.x → f.pc ≡ 0 → f.registers.items ≡ words → f.loops ≡ replicate 8 0 → IsEntered program caller i f
+entered program image caller i words s n f same g arguments all function-is pc-is words-are loops-are = record {
+  callee = g.0;
+  is_callee = subst (λ (m : Module). function_at m i.x ≡ Some g.0) same g.1;
+  function_is = function-is;
+  pc_is = pc-is;
+  registers = ap length words-are ∙ arguments.count ∙ ap (λ (t : Signature). t.registers) g.2;
+  arguments = λ r lt. ap (λ ws. slice_index ws r) words-are ∙ arguments.same r (let e : length s.parameters ≡ length g.0.parameters = ap (λ (t : Signature). length t.parameters) g.2 in omega (arith, lt, e, all));
+  loops_are = loops-are;
+}

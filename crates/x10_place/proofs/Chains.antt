@@ -1,0 +1,41 @@
+-- Callers: each stands at a call of the function of the next one.
+use Rattle.std.proofs.Common.{◌≡◌, ◌≢◌, ℕ, ◌+◌, ◌<◌, ◌≤◌, ◌^◌, List, [], ◌∷◌, ◌++◌, length, Option, Some, None, refl, sym, ap, subst, ◌∙◌, arith}
+use Rattle.x10_code.specs.declared.op.Op.TheVariants as op
+use Rattle.x10_code.specs.declared.instr.Instr.{Instr}
+use Rattle.x10_model.specs.Modules.{Module, Function, FitsImage}
+use Rattle.x10_model.specs.Ranges.{function_at, instr_at}
+use Rattle.x10_image.specs.Parts.{code_in, code_at}
+use Rattle.x10_verify.proofs.Wholes.{some_below}
+use Rattle.x10_place.specs.declared.frame.CallFrame.{CallFrame}
+use Rattle.x10_place.specs.Activities.{ActivityState, IsInside, IsCalling, AreCalling, IsPlaced, next_function}
+
+last_next : (fs : List CallFrame) (f : CallFrame) (top : ℕ) → next_function (fs ++ f ∷ []) top ≡ next_function fs f.function
+last_next [] f top = refl
+last_next (g ∷ gs) f top = refl
+
+-- the last caller, and those before it
+pub chain_last : (program : Module) (fs : List CallFrame) (f : CallFrame) (top : ℕ) → AreCalling program (fs ++ f ∷ []) top → IsCalling program f top × AreCalling program fs f.function
+chain_last program [] f top h = (h.0, tt)
+chain_last program (g ∷ gs) f top h =
+    let rest = chain_last program gs f top h.1 in
+    (rest.0, (subst (λ n. IsCalling program g n) (last_next gs f top) h.0, rest.1))
+
+-- one caller more
+pub chain_more : (program : Module) (fs : List CallFrame) (f : CallFrame) (top : ℕ) → AreCalling program fs f.function → IsCalling program f top → AreCalling program (fs ++ f ∷ []) top
+chain_more program [] f top h calling = (calling, tt)
+chain_more program (g ∷ gs) f top h calling = (subst (λ n. IsCalling program g n) (sym (last_next gs f top)) h.0, chain_more program gs f top h.1 calling)
+
+-- ---- what is there
+
+-- the function of a frame that stands at an instruction
+pub function_inside : (program : Module) (f : CallFrame) (n : ℕ) → IsInside program f → n ≡ f.function → n < length program.functions
+function_inside program f n h e = subst (λ k. k < length program.functions) (sym e) (some_below program.functions f.function h.function h.is_function)
+
+pub pc_inside : (program : Module) (f : CallFrame) (n pc : ℕ) → IsInside program f → n ≡ f.function → pc ≡ f.pc → pc < length (code_at program n)
+pc_inside program f n pc h e g =
+    let here : f.pc < length (code_at program f.function) = subst (λ o. f.pc < length (code_in o)) (sym h.is_function) h.pc in
+    subst (λ k. k < length (code_at program n)) (sym g) (subst (λ k. f.pc < length (code_at program k)) (sym e) here)
+
+-- the last caller of an activity
+pub caller_is : (program : Module) (a : ActivityState) (fs : List CallFrame) (f : CallFrame) → IsPlaced program a → a.callers ≡ fs ++ f ∷ [] → IsCalling program f a.top.function × AreCalling program fs f.function
+caller_is program a fs f placed e = chain_last program fs f a.top.function (subst (λ gs. AreCalling program gs a.top.function) e placed.callers)
