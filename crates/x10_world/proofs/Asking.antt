@@ -6,7 +6,7 @@ use Rattle.x10_model.specs.Modules.{Module}
 use Rattle.x10_model.specs.Places as machine
 use Rattle.x10_model.specs.Places.{Stay, Message}
 use Rattle.x10_model.specs.Worlds.{World, Post, Unused, Flying, stays, flies, IsOver}
-use Rattle.x10_place.specs.declared.activity.Activity.{Activity}
+use Rattle.x10_place.specs.Activities.{ActivityState}
 use Rattle.x10_place.specs.StandsFor.{PlaceState, StandsFor}
 use Rattle.x10_world.specs.StandsForWorld.{WorldState, BelongTo, StandsForWorld}
 use Rattle.x10_world.specs.Queries.{IsNotFlying, IsPosted}
@@ -22,7 +22,7 @@ none_some o x e f = cc
 none_both : (p : PlaceState) (m : machine.Place) (key : ℕ) → StandsFor p m → m.stays key ≡ None → get p.activities key ≡ None
 none_both p m key stand none = go (get p.activities key) refl
   where
-    go : (o : Option Activity) → get p.activities key ≡ o → get p.activities key ≡ None
+    go : (o : Option ActivityState) → get p.activities key ≡ o → get p.activities key ≡ None
     go None e = e
     go (Some a) e = let s = stand.some key a e in absurd (none_some (m.stays key) s.0 none s.1)
 

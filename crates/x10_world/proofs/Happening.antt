@@ -17,7 +17,7 @@ use Rattle.x10_model.specs.Moves.{Moves}
 use Rattle.x10_model.specs.Worlds.{World, Ideal, Allows, steps, idle, no_place, no_stay, not_flying, Post, Unused, Flying}
 use Rattle.x10_verify.specs.Certified.{Certified, IsCertified}
 use Rattle.x10_verify.proofs.Wholes.{all_at, function_fits}
-use Rattle.x10_place.specs.declared.activity.Activity.{Activity}
+use Rattle.x10_place.specs.Activities.{ActivityState}
 use Rattle.x10_place.specs.StandsFor as place
 use Rattle.x10_place.specs.StandsFor.{PlaceState, StandsFor, Leads, Keeps}
 use Rattle.x10_world.specs.Tied.{stays_put, Tied}
@@ -157,7 +157,7 @@ deliver_makes x w number stand = (w, idle (Deliver number) (not_flying number (�
 pub step_makes : (x y : WorldState) (here key : ℕ) → KeepsModule x y → IsBounded x.program x.bounds → BelongTo x.program x.bounds (length x.places) x.places → StepsOne x.places y.places here key (Ok tt) → (w : World) → StandsForWorld x w → Makes x w (Step here key) y
 step_makes x y here key k bounded belong one w stand = at_place (slice_get x.places here) refl
   where
-    at_stay : (p q : PlaceState) (is : slice_get x.places here ≡ Some p) → y.places ≡ slice_set x.places here q → IsStepped p q key (Ok tt) → (o : Option Activity) → get p.activities key ≡ o → Makes x w (Step here key) y
+    at_stay : (p q : PlaceState) (is : slice_get x.places here ≡ Some p) → y.places ≡ slice_set x.places here q → IsStepped p q key (Ok tt) → (o : Option ActivityState) → get p.activities key ≡ o → Makes x w (Step here key) y
     at_stay p q is set s None none = idle_makes x y w here key p k stand is (set ∙ ap (λ r. slice_set x.places here r) (s.idle none)) none
     at_stay p q is set s (Some a) some =
         let old = stand.some here p is in

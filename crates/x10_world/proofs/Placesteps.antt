@@ -5,7 +5,7 @@ use Rattle.slab.specs.Slab.{get}
 use Rattle.x10_kinds.specs.declared.stop.Stop.TheVariants as stop
 use Rattle.x10_model.specs.Places as machine
 use Rattle.x10_model.specs.Places.{Effect}
-use Rattle.x10_place.specs.declared.activity.Activity.{Activity}
+use Rattle.x10_place.specs.Activities.{ActivityState}
 use Rattle.x10_place.specs.StandsFor.{PlaceState, StandsFor, Leads, Keeps}
 use Rattle.x10_world.specs.StandsForWorld.{IsStepped, StepsOne}
 
@@ -32,7 +32,7 @@ none_there old id key le = record { gone = λ e. (refl, refl); there = λ p e. a
 -- the place has made its step
 pub one_there : {T : Type 0} (old : List PlaceState) (id key : ℕ) (p q : PlaceState) (s : T) (X : Type 0) → slice_get old id ≡ Some p → Keeps p q
     → (p.stopped ≢ true → get p.activities key ≡ None → X × (q ≡ p))
-    → ((m : machine.Place) (a : Activity) → get p.activities key ≡ Some a → StandsFor p m → (effect : Effect) × Leads p m key effect q)
+    → ((m : machine.Place) (a : ActivityState) → get p.activities key ≡ Some a → StandsFor p m → (effect : Effect) × Leads p m key effect q)
     → (p.stopped ≡ true → Ok s ≡ Err stop.Stopped)
     → q.stopped ≢ true
     → StepsOne old (slice_set old id q) id key (Ok tt)

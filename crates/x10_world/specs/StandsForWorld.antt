@@ -8,7 +8,7 @@ use Rattle.x10_model.specs.declared.event.Event.{Event}
 use Rattle.x10_model.specs.Places as machine
 use Rattle.x10_model.specs.Places.{Setting, Effect}
 use Rattle.x10_model.specs.Worlds.{World, Ideal, Happens, Run, WithinBounds}
-use Rattle.x10_place.specs.declared.activity.Activity.{Activity}
+use Rattle.x10_place.specs.Activities.{ActivityState}
 use Rattle.x10_place.specs.StandsFor.{PlaceState, StandsFor, Leads, Keeps}
 use Rattle.x10_world.specs.Tied.{Tied}
 
@@ -60,7 +60,7 @@ pub record StandsForWorld (x : WorldState) (w : World) : Type 0 where
 pub record IsStepped (p q : PlaceState) (key : ℕ) (result : Result (Unit {0}) Stop) : Type 0 where
   pub kept : Keeps p q
   pub idle : IfOk result (λ u. get p.activities key ≡ None → q ≡ p)
-  pub some : IfOk result (λ u. (m : machine.Place) (a : Activity) → get p.activities key ≡ Some a → StandsFor p m → (effect : Effect) × Leads p m key effect q)
+  pub some : IfOk result (λ u. (m : machine.Place) (a : ActivityState) → get p.activities key ≡ Some a → StandsFor p m → (effect : Effect) × Leads p m key effect q)
   pub goes : IfOk result (λ u. q.stopped ≢ true)
   pub memory : p.stopped ≢ true → IfErr result (λ s. s ≡ stop.Memory)
   pub stop : IfErr result (λ s. q ≡ record p { stopped = true })
