@@ -12,3 +12,4 @@ pub mod Ends
 pub mod Steps
 pub mod Openings
 pub mod Keeping
+pub mod Stretching

@@ -4,3 +4,4 @@ pub mod Frames
 pub mod Activities
 pub mod StandsFor
 pub mod Opening
+pub mod Stretches

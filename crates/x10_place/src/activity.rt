@@ -4,6 +4,7 @@ ghost use Rattle.x10_code.specs.declared.op.Op.TheVariants as op;
 ghost use Rattle.x10_model.specs.Modules.{is_brought};
 ghost use Rattle.x10_place.specs.Frames.{IsFetched};
 ghost use Rattle.x10_place.specs.Activities.{IsPlaced, Calls, Returns, Steps};
+ghost use Rattle.x10_place.specs.Stretches.{Paused};
 
 use crate::frame::CallFrame;
 use crate::line::Line;
@@ -25,6 +26,17 @@ impl Model for Activity {
     ghost Value = { ActivityState };
 
     ghost view = { λ a. record { top = a.top; callers = a.callers.items } };
+}
+
+/// Why an activity makes no more steps at a stretch.
+#[derive(Clone, Copy, Debug, PartialEq, Eq)]
+pub(crate) enum Pause {
+    /// It has made as many as it was to.
+    Goes,
+    /// It has ended.
+    Ended,
+    /// The next one asked for memory that was refused.
+    Refused,
 }
 
 impl Activity {
@@ -87,5 +99,32 @@ impl Activity {
             _ => self.top.act(verified, instr),
         }
         Ok(true)
+    }
+}
+
+impl Activity {
+    /// So many steps, or as many as come before one that ends the activity, or is refused: how many were made.
+    pub(crate) fn run(
+        &mut self,
+        alloc: Global,
+        verified: &Verified,
+        lines: &mut Vec<Line>,
+        most: u64,
+    ) -> (u64, Pause)
+        requires { IsPlaced verified.now.program self.old }
+        ensures ran { Paused result.1 verified.now.program self.old lines.old.items result.0 self.new lines.new.items }
+        ensures placed { result.1 ≢ Pause.Ended → IsPlaced verified.now.program self.new }
+        ensures all { result.1 ≡ Pause.Goes → result.0 ≡ most }
+    {
+        verified.certificate();
+        for done in 0..most {
+            let instr = verified.fetch(usize::from(self.top.function), usize::from(self.top.pc));
+            match self.step(alloc, verified, lines, instr) {
+                Ok(true) => {}
+                Ok(false) => return (done + 1, Pause::Ended),
+                Err(_) => return (done, Pause::Refused),
+            }
+        }
+        (most, Pause::Goes)
     }
 }

@@ -3,11 +3,12 @@ ghost use Rattle.slab.specs.Slab.{get, Updates};
 ghost use Rattle.x10_kinds.specs.declared.stop.Stop.TheVariants as stop;
 ghost use Rattle.x10_model.specs.Places as machine;
 ghost use Rattle.x10_model.specs.Places.{Effect};
-ghost use Rattle.x10_place.specs.StandsFor.{StandsFor, Leads, Keeps, IsAt, IsOperation, setting_of};
+ghost use Rattle.x10_place.specs.StandsFor.{PlaceState, StandsFor, Leads, Keeps, IsAt, IsOperation, setting_of};
 ghost use Rattle.x10_place.specs.Opening.{IsNew, IsNextKey, opening_place};
 ghost use Rattle.x10_place.specs.Activities.{ActivityState};
+ghost use Rattle.x10_place.specs.Stretches.{Strides};
 
-use crate::activity::Activity;
+use crate::activity::{Activity, Pause};
 use crate::line::Line;
 use crate::opening::with_main;
 use slab::Slab;
@@ -89,6 +90,42 @@ impl<'a> Place<'a> {
             remove(&mut self.activities, key);
         }
         Ok(Stepped::Moved)
+    }
+}
+
+impl<'a> Place<'a> {
+    /// So many steps of the activity with a key, one after another, or as many as come before it has ended, or before
+    /// one that is refused: how many were made, and why no more, where one was refused. As fast as that many calls of
+    /// `step`, but that the activity is looked up once.
+    pub fn run(&mut self, key: usize, most: u64) -> (u64, Option<Stop>)
+        ensures ran { MatchOption result.1 (Strides key self.old result.0 self.new) (λ _. (p : PlaceState) × Strides key self.old result.0 p × (self.new ≡ record p { stopped = true })) }
+        ensures idle { get self.old.activities key ≡ None → result.0 ≡ 0 }
+        ensures all { result.1 ≡ None → result.0 < most → get self.new.activities key ≡ None }
+        ensures stopped { self.old.stopped ≡ true → result.1 ≡ Some stop.Stopped }
+        ensures memory { self.old.stopped ≢ true → IfSome result.1 (λ why. why ≡ stop.Memory) }
+        ensures goes { result.1 ≡ None → self.new.stopped ≢ true }
+        ensures kept { Keeps self.old self.new }
+    {
+        if self.stopped {
+            return (0, Some(Stop::Stopped));
+        }
+        let verified = self.verified;
+        let Some(activity) = self.activities.get_mut(key) else {
+            return (0, None);
+        };
+        verified.certificate();
+        let (done, pause) = activity.run(self.alloc, verified, &mut self.lines, most);
+        match pause {
+            Pause::Goes => (done, None),
+            Pause::Ended => {
+                remove(&mut self.activities, key);
+                (done, None)
+            }
+            Pause::Refused => {
+                self.stopped = true;
+                (done, Some(Stop::Memory))
+            }
+        }
     }
 }
 
