@@ -28,7 +28,7 @@ use Rattle.x10_world.proofs.Ties.{at_key, off_key, world_after, tied_after}
 none_some : {X : Type 0} (o : Option X) (x : X) → o ≡ None → o ≡ Some x → ⊥
 none_some o x e f = cc
 
-some_is : {X : Type 0} (x y : X) → Some x ≡ Some y → x ≡ y
+pub some_is : {X : Type 0} (x y : X) → Some x ≡ Some y → x ≡ y
 some_is x y e = cc
 
 same_or_not : (a b : ℕ) → (a ≡ b) ⊎ (a ≢ b)
@@ -88,7 +88,7 @@ pub record KeepsModule (x y : WorldState) : Type 0 where
   pub program : y.program ≡ x.program
   pub bounds : y.bounds ≡ x.bounds
 
-tied_in : (x y : WorldState) (w : World) → KeepsModule x y → Tied x.program x.bounds w → Tied y.program y.bounds w
+pub tied_in : (x y : WorldState) (w : World) → KeepsModule x y → Tied x.program x.bounds w → Tied y.program y.bounds w
 tied_in x y w k t = subst (λ g. Tied g y.bounds w) (sym k.program) (subst (λ bs. Tied x.program bs w) (sym k.bounds) t)
 
 -- one place has changed, and stands for the machine's place that has changed
@@ -121,7 +121,7 @@ stands_still x y w k e stand = record {
 }
 
 -- a place's move is a move of the world
-move_makes : (x y : WorldState) (w : World) (here key : ℕ) (p q : PlaceState) (m : machine.Place) (effect : Effect) → KeepsModule x y → IsBounded x.program x.bounds → BelongsTo x.program x.bounds (length x.places) here p → StandsForWorld x w
+pub move_makes : (x y : WorldState) (w : World) (here key : ℕ) (p q : PlaceState) (m : machine.Place) (effect : Effect) → KeepsModule x y → IsBounded x.program x.bounds → BelongsTo x.program x.bounds (length x.places) here p → StandsForWorld x w
     → slice_get x.places here ≡ Some p → y.places ≡ slice_set x.places here q → w.net.places here ≡ Some m → Leads p m key effect q → Makes x w (Step here key) y
 move_makes x y w here key p q m effect k bounded belongs stand is set there leads = (
   v,
@@ -182,9 +182,22 @@ step_refused x y here key stop k one w stand = at_place (slice_get x.places here
         let old = stand.some here p is in
         stands_after x y w w here p t.0 old.0 stand is t.1 old.1 (λ id ne. refl) (stopped p t.0 old.0 t.2.stop old.2) (tied_in x y w k stand.tied)
 
+-- ---- one place of a list
+
+-- one place of the list has changed, as said, if it is there
+pub record ChangesOne (Q : PlaceState → PlaceState → Type 0) (old new : List PlaceState) (id : ℕ) : Type 0 where
+  pub gone : slice_get old id ≡ None → new ≡ old
+  pub there : (p : PlaceState) → slice_get old id ≡ Some p → (q : PlaceState) × (new ≡ slice_set old id q) × Q p q
+
+changes_by : (Q : PlaceState → PlaceState → Type 0) (old new : List PlaceState) (here key : ℕ) (result : Result (Unit {0}) Stop) → ((p q : PlaceState) → IsStepped p q key result → Q p q) → StepsOne old new here key result → ChangesOne Q old new here
+changes_by Q old new here key result means one = record {
+  gone = λ e. (one.gone e).1;
+  there = λ p e. let t = one.there p e in (t.0, t.1, means p t.0 t.2);
+}
+
 -- the places keep their module, their number and how many they are
-pub belong_after : (program : Module) (bounds : List ℕ) (old new : List PlaceState) (here key : ℕ) (result : Result (Unit {0}) Stop) → BelongTo program bounds (length old) old → StepsOne old new here key result → BelongTo program bounds (length new) new
-belong_after program bounds old new here key result belong one = at_place (slice_get old here) refl
+pub belong_after : (program : Module) (bounds : List ℕ) (old new : List PlaceState) (here : ℕ) → BelongTo program bounds (length old) old → ChangesOne Keeps old new here → BelongTo program bounds (length new) new
+belong_after program bounds old new here belong one = at_place (slice_get old here) refl
   where
     one_belongs : (id : ℕ) (p q : PlaceState) → Keeps p q → BelongsTo program bounds (length old) id p → BelongsTo program bounds (length old) id q
     one_belongs id p q k b = record { program_is = k.program ∙ b.program_is; bounds_are = k.bounds ∙ b.bounds_are; id_is = k.id ∙ b.id_is; places_are = k.places ∙ b.places_are }
@@ -197,14 +210,14 @@ belong_after program bounds old new here key result belong one = at_place (slice
     ]
 
     at_place : (o : Option PlaceState) → slice_get old here ≡ o → BelongTo program bounds (length new) new
-    at_place None none = subst (λ ps. BelongTo program bounds (length ps) ps) (sym (one.gone none).1) belong
+    at_place None none = subst (λ ps. BelongTo program bounds (length ps) ps) (sym (one.gone none)) belong
     at_place (Some p) is =
         let t = one.there p is in
-        subst (λ ps. BelongTo program bounds (length ps) ps) (sym t.1) (subst (λ n. BelongTo program bounds n (slice_set old here t.0)) (sym (set_length old here t.0)) (changed p t.0 is t.2.kept))
+        subst (λ ps. BelongTo program bounds (length ps) ps) (sym t.1) (subst (λ n. BelongTo program bounds n (slice_set old here t.0)) (sym (set_length old here t.0)) (changed p t.0 is t.2))
 
--- after a step no place has stopped unless the step was refused
-none_stopped_after : (old new : List PlaceState) (here key : ℕ) → NoneStopped old → StepsOne old new here key (Ok tt) → NoneStopped new
-none_stopped_after old new here key none one = at_place (slice_get old here) refl
+-- after a change that stops no place none has stopped
+pub none_stopped_after : (old new : List PlaceState) (here : ℕ) → NoneStopped old → ChangesOne (λ p q. q.stopped ≢ true) old new here → NoneStopped new
+none_stopped_after old new here none one = at_place (slice_get old here) refl
   where
     changed : (p q : PlaceState) → slice_get old here ≡ Some p → q.stopped ≢ true → NoneStopped (slice_set old here q)
     changed p q is goes id r e = elim (same_or_not id here) [
@@ -213,16 +226,16 @@ none_stopped_after old new here key none one = at_place (slice_get old here) ref
     ]
 
     at_place : (o : Option PlaceState) → slice_get old here ≡ o → NoneStopped new
-    at_place None gone = subst (λ ps. NoneStopped ps) (sym (one.gone gone).1) none
-    at_place (Some p) is = let t = one.there p is in subst (λ ps. NoneStopped ps) (sym t.1) (changed p t.0 is t.2.goes)
+    at_place None gone = subst (λ ps. NoneStopped ps) (sym (one.gone gone)) none
+    at_place (Some p) is = let t = one.there p is in subst (λ ps. NoneStopped ps) (sym t.1) (changed p t.0 is t.2)
 
 pub world_after_step : (program : Module) (bounds : List ℕ) (old new : List PlaceState) (here key : ℕ) (result : Result (Unit {0}) Stop) (before after : Bool) → IsWorld program bounds old before → before ≢ true → StepsOne old new here key result → after ≡ is_err result → IsWorld program bounds new after
 world_after_step program bounds old new here key (Ok u) before after world goes one is = record {
-  belong = belong_after program bounds old new here key (Ok u) world.belong one;
-  none_stopped = λ on. none_stopped_after old new here key (world.none_stopped goes) one;
+  belong = belong_after program bounds old new here world.belong (changes_by Keeps old new here key (Ok u) (λ p q s. s.kept) one);
+  none_stopped = λ on. none_stopped_after old new here (world.none_stopped goes) (changes_by (λ p q. q.stopped ≢ true) old new here key (Ok u) (λ p q s. s.goes) one);
 }
 world_after_step program bounds old new here key (Err stop) before after world goes one is = record {
-  belong = belong_after program bounds old new here key (Err stop) world.belong one;
+  belong = belong_after program bounds old new here world.belong (changes_by Keeps old new here key (Err stop) (λ p q s. s.kept) one);
   none_stopped = λ on. absurd (on is);
 }
 

@@ -7,3 +7,4 @@ pub mod Running
 pub mod Beginning
 pub mod Asking
 pub mod Finishing
+pub mod Repeating

@@ -8,11 +8,11 @@ use Rattle.x10_model.proofs.Events.{happens_right}
 use Rattle.x10_world.specs.StandsForWorld.{WorldState, KeepsSetting, setting_of, StandsForWorld, Makes, Runs}
 
 -- a run with one event more
-run_more : (rule : Rule) (setting : Setting) (P : World → Type 0) (u v z : World) (events : List Event) (event : Event) → Run rule setting P u events v → Happens rule setting v event z → P z → Run rule setting P u (events ++ event ∷ []) z
+pub run_more : (rule : Rule) (setting : Setting) (P : World → Type 0) (u v z : World) (events : List Event) (event : Event) → Run rule setting P u events v → Happens rule setting v event z → P z → Run rule setting P u (events ++ event ∷ []) z
 run_more rule setting P u v z [] event (done w p) h q = then u z z event [] p (λ g. happens_right rule setting u z event h g) h (done z q)
 run_more rule setting P u v z (e ∷ es) event (then u' x w e' es' p right first rest) h q = then u x z e (es ++ event ∷ []) p right first (run_more rule setting P x v z es event rest h q)
 
-setting_kept : (x y : WorldState) → KeepsSetting x y → setting_of y ≡ setting_of x
+pub setting_kept : (x y : WorldState) → KeepsSetting x y → setting_of y ≡ setting_of x
 setting_kept x y k = ap (λ (g : Setting). record g { places = length y.places }) (ap (λ m. record { program = m; places = length y.places }) k.program) ∙ ap (λ n. record { program = x.program; places = n }) k.count
 
 -- the run of no event

@@ -1,5 +1,5 @@
 -- When a world of the program stands for a world of the machine.
-use Rattle.std.specs.Prelude.{◌≡◌, ◌≢◌, ℕ, Bool, List, length, Some, None, Result, Ok, IfOk, IfErr, true, slice_get, slice_set, take}
+use Rattle.std.specs.Prelude.{◌≡◌, ◌≢◌, ℕ, ◌<◌, Bool, List, length, replicate, Option, Some, None, MatchOption, IfSome, Result, Ok, IfOk, IfErr, true, slice_get, slice_set, take}
 use Rattle.slab.specs.Slab.{get}
 use Rattle.x10_kinds.specs.declared.stop.Stop.{Stop}
 use Rattle.x10_kinds.specs.declared.stop.Stop.TheVariants as stop
@@ -10,6 +10,7 @@ use Rattle.x10_model.specs.Places.{Setting, Effect}
 use Rattle.x10_model.specs.Worlds.{World, Ideal, Happens, Run, WithinBounds}
 use Rattle.x10_place.specs.Activities.{ActivityState}
 use Rattle.x10_place.specs.StandsFor.{PlaceState, StandsFor, Leads, Keeps}
+use Rattle.x10_place.specs.Stretches.{Strides}
 use Rattle.x10_world.specs.Tied.{Tied}
 
 -- what callers see of a world: the module with the bounds of its functions, the places, and whether it has stopped
@@ -70,6 +71,20 @@ pub record StepsOne (old new : List PlaceState) (id key : ℕ) (result : Result 
   pub gone : slice_get old id ≡ None → (result ≡ Ok tt) × (new ≡ old)
   pub there : (p : PlaceState) → slice_get old id ≡ Some p → (q : PlaceState) × (new ≡ slice_set old id q) × IsStepped p q key result
 
+-- What up to so many steps of one activity of a place do: n of them, and none after the activity has ended or one was
+-- refused.
+pub record IsRunOn (p q : PlaceState) (key most n : ℕ) (why : Option Stop) : Type 0 where
+  pub kept : Keeps p q
+  pub ran : MatchOption why (Strides key p n q) (λ s. (r : PlaceState) × Strides key p n r × (q ≡ record r { stopped = true }))
+  pub all : why ≡ None → n < most → get q.activities key ≡ None
+  pub goes : why ≡ None → q.stopped ≢ true
+  pub memory : p.stopped ≢ true → IfSome why (λ s. s ≡ stop.Memory)
+
+-- what they do to one place of a list
+pub record RunsOne (old new : List PlaceState) (id key most n : ℕ) (why : Option Stop) : Type 0 where
+  pub gone : slice_get old id ≡ None → (n ≡ 0) × (why ≡ None) × (new ≡ old)
+  pub there : (p : PlaceState) → slice_get old id ≡ Some p → (q : PlaceState) × (new ≡ slice_set old id q) × IsRunOn p q key most n why
+
 -- An event of the machine, to a world that the new state stands for.
 abbrev pub Makes : WorldState → World → Event → WorldState → Type 0
 Makes x w event y = (v : World) × Happens Ideal (setting_of x) w event v × StandsForWorld y v
@@ -78,3 +93,12 @@ Makes x w event y = (v : World) × Happens Ideal (setting_of x) w event v × Sta
 -- to a world that the new state stands for.
 abbrev pub Runs : WorldState → World → ℕ → List Event → WorldState → Type 0
 Runs x w n events y = (v : World) × Run Ideal (setting_of x) (WithinBounds x.bounds) w (take n events) v × StandsForWorld y v
+
+-- The same event so many times: it never goes wrong, and no activity takes more steps than its bound. It leads to a world
+-- that the new state stands for.
+abbrev pub Repeats : WorldState → World → ℕ → Event → WorldState → Type 0
+Repeats x w n event y = (v : World) × Run Ideal (setting_of x) (WithinBounds x.bounds) w (replicate n event) v × StandsForWorld y v
+
+-- no activity with the key is at the place
+abbrev pub HasNone : WorldState → ℕ → ℕ → Type 0
+HasNone x place key = (p : PlaceState) → slice_get x.places place ≡ Some p → get p.activities key ≡ None

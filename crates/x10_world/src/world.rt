@@ -6,7 +6,7 @@ ghost use Rattle.x10_place.specs.Opening.{IsNextKey};
 ghost use Rattle.x10_world.specs.Endings.{lines_in, lines_at};
 ghost use Rattle.x10_world.specs.Queries.{IsNoPlace, HasPlace, HasNoKey, IsNotFlying, IsFlyingTo, IsPosted};
 ghost use Rattle.x10_world.specs.Opening.{IsOpenedWorld, IsForbidden};
-ghost use Rattle.x10_world.specs.StandsForWorld.{StandsForWorld, KeepsSetting, StepsOne, Makes, Runs};
+ghost use Rattle.x10_world.specs.StandsForWorld.{StandsForWorld, KeepsSetting, StepsOne, RunsOne, Makes, Runs, Repeats, HasNone};
 
 use crate::ending::copied_outputs;
 use crate::fault::OpenFault;
@@ -45,6 +45,16 @@ fn step_one(places: &mut Vec<Place>, id: usize, key: usize) -> Result<(), Stop>
         places[id].step(key)?;
     }
     Ok(())
+}
+
+/// Up to so many steps of the activity with a key at a place, if they are there.
+fn run_one(places: &mut Vec<Place>, id: usize, key: usize, most: u64) -> (u64, Option<Stop>)
+    ensures { RunsOne places.old.items places.new.items id key most result.0 result.1 }
+{
+    if id < places.len() {
+        return places[id].run(key, most);
+    }
+    (0, None)
 }
 
 impl<'a> World<'a> {
@@ -128,6 +138,33 @@ impl<'a> World<'a> {
             (_, Some(stop)) => Err(stop),
             (_, None) => Ok(()),
         }
+    }
+}
+
+impl<'a> World<'a> {
+    /// Up to so many times the event `Step(place, key)`, as many as come before the activity with the key has ended: how
+    /// many were made. All are as `run` would make them, several times as fast. Where they are fewer than that many, a
+    /// Step of the key now finds nothing to do. After a Stop, which comes as `run` says, the output is that of the steps
+    /// before the one that was refused.
+    pub fn run_activity(&mut self, place: u16, key: usize, most: u64) -> Result<u64, Stop>
+        ensures ok { IfOk result (λ n. (w : machine.World) → StandsForWorld self.old w → Repeats self.old w n (Event.Step place key) self.new) }
+        ensures some { (w : machine.World) → StandsForWorld self.old w → (n : ℕ) × Repeats self.old w n (Event.Step place key) self.new }
+        ensures all { IfOk result (λ n. n < most → HasNone self.new place key) }
+        ensures stopped { self.old.stopped ≡ true → (result ≡ Err stop.Stopped) × (self.new ≡ self.old) }
+        ensures memory { self.old.stopped ≢ true → IfErr result (λ why. why ≡ stop.Memory) }
+        ensures stop { IfErr result (λ _. self.new.stopped ≡ true) }
+    {
+        if self.stopped {
+            return Err(Stop::Stopped);
+        }
+        let verified = self.verified;
+        verified.certificate();
+        let (done, why) = run_one(&mut self.places, usize::from(place), key, most);
+        if let Some(stop) = why {
+            self.stopped = true;
+            return Err(stop);
+        }
+        Ok(done)
     }
 }
 
