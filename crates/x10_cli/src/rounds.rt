@@ -39,6 +39,9 @@ fn round(
 ) -> Result<Then, Fault>
     ensures { result ≡ Ok Then.Ends → HasEnded world.new }
 {
+    if let Some((place, key)) = lone(world, places) {
+        return stretch(world, place, key, left);
+    }
     for place in 0..places {
         keys_at(world, place, keys)?;
         if let Then::Ends = turn(world, place, keys, left)? {
@@ -46,6 +49,29 @@ fn round(
         }
     }
     Ok(Then::Goes)
+}
+
+/// The one activity that there is, by its place and key; none where there are others.
+fn lone(world: &World, places: u16) -> Option<(u16, usize)> {
+    let mut found = None;
+    for place in 0..places {
+        if let Some(key) = world.next_key(place, 0) {
+            if found.is_some() || world.next_key(place, key.checked_add(1)?).is_some() {
+                return None;
+            }
+            found = Some((place, key));
+        }
+    }
+    found
+}
+
+/// Steps of the one activity that there is: each is a round.
+fn stretch(world: &mut World, place: u16, key: usize, left: &mut u64) -> Result<Then, Fault>
+    ensures { result ≡ Ok Then.Ends → HasEnded world.new }
+{
+    let made = world.run_activity(place, key, *left)?;
+    *left = left.saturating_sub(made);
+    after(world, *left)
 }
 
 /// The keys in use at a place, in place of those that the list has.
@@ -74,16 +100,23 @@ fn turn(world: &mut World, place: u16, keys: &[usize], left: &mut u64) -> Result
     Ok(Then::Goes)
 }
 
-/// One event. Whether the run has ended is looked at before whether there may be another.
+/// One event.
 fn event(world: &mut World, event: Event, left: &mut u64) -> Result<Then, Fault>
     ensures { result ≡ Ok Then.Ends → HasEnded world.new }
 {
     world.run(&[event])?;
     *left = left.saturating_sub(1);
+    after(world, *left)
+}
+
+/// How a run goes on. Whether it has ended is looked at before whether there may be another event.
+fn after(world: &World, left: u64) -> Result<Then, Fault>
+    ensures { result ≡ Ok Then.Ends → HasEnded world.now }
+{
     if world.closed() {
         return Ok(Then::Ends);
     }
-    if *left == 0 {
+    if left == 0 {
         return Err(Fault::Limit);
     }
     Ok(Then::Goes)
