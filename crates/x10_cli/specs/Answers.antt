@@ -1,9 +1,29 @@
--- What the program's answers say of a module and of a run.
-use Rattle.std.specs.Prelude.{ℕ, List}
+-- What the program's answers say of a file, of a module and of a run.
+use Rattle.std.specs.Prelude.{◌≡◌, ℕ, List, Option, Some, None, Ok}
+use Rattle.x10_model.specs.Modules.{Module, FitsImage}
+use Rattle.x10_model.specs.Images.{spelling}
 use Rattle.x10_model.specs.Worlds.{World, IsOver}
+use Rattle.x10_asm.specs.Reading.{module_of}
 use Rattle.x10_verify.specs.Certified.{Certified}
+use Rattle.x10_verify.specs.Faults.{HasBounds}
 use Rattle.x10_world.specs.Endings.{IsImageOf}
+use Rattle.x10_world.specs.Opening.{IsForbidden}
 use Rattle.x10_world.specs.StandsForWorld.{WorldState, StandsForWorld}
+use Rattle.x10_kinds.specs.declared.stop.Stop.{Stop}
+use Rattle.x10_kinds.specs.declared.stop.Stop.TheVariants as stop
+use Rattle.x10_image.specs.declared.fault.ImageFault.{ImageFault}
+use Rattle.x10_image.specs.declared.fault.ImageFault.TheVariants as image
+use Rattle.x10_asm.specs.declared.fault.AsmCause.{AsmCause}
+use Rattle.x10_asm.specs.declared.fault.AsmCause.TheVariants as asm
+use Rattle.x10_asm.specs.declared.fault.AsmFault.{AsmFault}
+use Rattle.x10_bounds.specs.declared.fault.BoundCause.{BoundCause}
+use Rattle.x10_bounds.specs.declared.fault.BoundCause.TheVariants as bound
+use Rattle.x10_bounds.specs.declared.fault.BoundFault.{BoundFault}
+use Rattle.x10_verify.specs.declared.fault.VerifyCause.{VerifyCause}
+use Rattle.x10_verify.specs.declared.fault.VerifyCause.TheVariants as verify
+use Rattle.x10_verify.specs.declared.fault.VerifyFault.{VerifyFault}
+use Rattle.x10_world.specs.declared.fault.OpenFault.{OpenFault}
+use Rattle.x10_world.specs.declared.fault.OpenFault.TheVariants as opened
 use Rattle.x10_cli.specs.declared.task.Verb.{Verb}
 use Rattle.x10_cli.specs.declared.task.Verb.TheVariants as verb
 use Rattle.x10_cli.specs.declared.fault.Fault.{Fault}
@@ -12,6 +32,24 @@ use Rattle.x10_cli.specs.declared.fault.Fault.TheVariants as fault
 -- the bytes are the image of a module that the verifier accepts
 abbrev pub IsVerifiedImage : List ℕ → Type 0
 IsVerifiedImage bytes = (c : Certified) × IsImageOf bytes c
+
+-- the bytes are the module's image
+pub record IsImage (bytes : List ℕ) (m : Module) : Type 0 where
+  pub fits : FitsImage m
+  pub spelled : bytes ≡ spelling m
+
+-- how many places are asked for; left out, the module's least number
+abbrev pub places_for : Option ℕ → Certified → ℕ
+places_for None c = c.program.least_places
+places_for (Some places) c = places
+
+-- the file's bytes, and of a run the number of places, are such that the command can be done
+abbrev pub CanBeDone : Verb → Option ℕ → List ℕ → Type 0
+CanBeDone verb.Asm places bytes = (m : Module) × (module_of bytes ≡ Ok m)
+CanBeDone verb.List places bytes = (m : Module) × IsImage bytes m
+CanBeDone verb.Verify places bytes = IsVerifiedImage bytes
+CanBeDone verb.Bounds places bytes = (m : Module) × IsImage bytes m × HasBounds m
+CanBeDone verb.Run places bytes = (c : Certified) × IsImageOf bytes c × (IsForbidden c (places_for places c) → ⊥)
 
 -- the commands that ask the verifier
 abbrev pub IsVerifying : Verb → Type 0
@@ -35,3 +73,29 @@ status_of fault.StopMemory = 2
 status_of (fault.StopLimit n) = 2
 status_of fault.Limit = 2
 status_of fault.File = 4
+
+-- ---- faults of the parts, as the program tells them
+
+abbrev pub of_image : ImageFault → Fault
+of_image image.Memory = fault.Memory
+of_image f = fault.Image f
+
+abbrev pub of_asm : AsmCause → AsmFault → Fault
+of_asm asm.Memory f = fault.Memory
+of_asm _ f = fault.Asm f
+
+abbrev pub of_verify : VerifyCause → VerifyFault → Fault
+of_verify verify.Memory f = fault.Memory
+of_verify _ f = fault.Verify f
+
+abbrev pub of_bounds : BoundCause → BoundFault → Fault
+of_bounds bound.Memory f = fault.Memory
+of_bounds _ f = fault.Bounds f
+
+abbrev pub of_open : OpenFault → Fault
+of_open opened.Places = fault.Places
+of_open opened.Memory = fault.Memory
+
+abbrev pub of_stop : Stop → Fault
+of_stop (stop.Limit which) = fault.StopLimit which
+of_stop _ = fault.StopMemory
