@@ -1,5 +1,5 @@
 -- Why what is refused can't be done.
-use Rattle.std.proofs.Common.{◌≡◌, ℕ, ◌<◌, List, Option, Some, None, Result, Ok, Err, refl, sym, ap, subst, ◌∙◌, arith}
+use Rattle.std.proofs.Common.{◌≡◌, ℕ, ◌<◌, List, Option, Some, None, Result, Ok, Err, refl, sym, ap, subst, ◌∙◌, inl, inr, arith}
 use Rattle.std.specs.Prelude.{◌⊎◌}
 use Rattle.x10_model.specs.Modules.{Module, FitsImage}
 use Rattle.x10_model.specs.Images.{spelling}
@@ -23,8 +23,9 @@ use Rattle.x10_world.specs.Opening.{IsForbidden}
 use Rattle.x10_world.specs.declared.fault.OpenFault.{OpenFault}
 use Rattle.x10_world.specs.declared.fault.OpenFault.TheVariants as opened
 use Rattle.x10_cli.specs.declared.fault.Fault.{Fault}
+use Rattle.x10_cli.specs.declared.fault.Fault.TheVariants as fault
 use Rattle.x10_cli.specs.declared.task.Verb.TheVariants as verb
-use Rattle.x10_cli.specs.Answers.{IsImage, IsVerifiedImage, CanBeDone, places_for, of_verify, of_bounds, of_open, status_of}
+use Rattle.x10_cli.specs.Answers.{IsImage, IsVerifiedImage, CanBeDone, IsStatus, places_for, of_verify, of_bounds, of_open, status_of}
 
 abbrev answer : Module → Result Module ImageFault
 answer m = Ok m
@@ -91,3 +92,9 @@ not_open bytes c places n f told image forbids en e is done =
     let same = same_module c.program done.0.program bytes image.certified.fits image.spelled done.1.certified.fits done.1.spelled in
     let forbidden = forbids (forbidden_by f (ap status_of (sym e) ∙ is)) in
     done.2 (forbidden_again c done.0 places same (subst (IsForbidden c) en forbidden))
+
+-- ---- statuses
+
+pub status_told : (n : ℕ) (f : Fault) → (n ≡ status_of f) ⊎ (n ≡ 4) → IsStatus n
+status_told n f (inl e) = inr (f, e)
+status_told n f (inr e) = inr (fault.File, e)

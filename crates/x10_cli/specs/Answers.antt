@@ -1,5 +1,5 @@
 -- What the program's answers say of a file, of a module and of a run.
-use Rattle.std.specs.Prelude.{◌≡◌, ℕ, List, Option, Some, None, Ok}
+use Rattle.std.specs.Prelude.{◌≡◌, ◌⊎◌, ℕ, List, Option, Some, None, Ok}
 use Rattle.x10_model.specs.Modules.{Module, FitsImage}
 use Rattle.x10_model.specs.Images.{spelling}
 use Rattle.x10_model.specs.Worlds.{World, IsOver}
@@ -73,6 +73,14 @@ status_of fault.StopMemory = 2
 status_of (fault.StopLimit n) = 2
 status_of fault.Limit = 2
 status_of fault.File = 4
+
+-- the exit status of something done, or of a fault
+abbrev pub IsStatus : ℕ → Type 0
+IsStatus n = (n ≡ 0) ⊎ ((f : Fault) × (n ≡ status_of f))
+
+-- the exit status of words that are answered with a text: 0 for help, 3 for what is wrong with them, 2 for want of memory
+abbrev pub IsUsageStatus : ℕ → Type 0
+IsUsageStatus n = (n ≡ 0) ⊎ (n ≡ 2) ⊎ (n ≡ 3)
 
 -- ---- faults of the parts, as the program tells them
 

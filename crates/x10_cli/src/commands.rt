@@ -4,7 +4,7 @@ ghost use Rattle.x10_model.specs.Modules.{Module};
 ghost use Rattle.x10_world.specs.Endings.{IsImageOf};
 ghost use Rattle.x10_cli.specs.declared.task.Verb.TheVariants as verb;
 ghost use Rattle.x10_cli.specs.declared.fault.Fault.TheVariants as fault;
-ghost use Rattle.x10_cli.specs.Answers.{IsImage, IsVerifiedImage, IsVerifying, CanBeDone, places_for, status_of};
+ghost use Rattle.x10_cli.specs.Answers.{IsImage, IsVerifiedImage, IsVerifying, CanBeDone, IsStatus, places_for, status_of};
 
 use crate::fault::Fault;
 use crate::rounds;
@@ -29,6 +29,8 @@ pub fn execute<O: Write, E: Write>(
     out: &mut O,
     err: &mut E,
 ) -> u8
+    ensures status { IsStatus result }
+    ensures done { result ≡ 0 → CanBeDone task.now.verb task.now.places bytes.now }
     ensures verified { result ≡ 0 → IsVerifying task.now.verb → IsVerifiedImage bytes.now }
     ensures refused { result ≡ 1 → CanBeDone task.now.verb task.now.places bytes.now → ⊥ }
 {
@@ -53,7 +55,7 @@ pub fn tell<E: Write>(fault: Fault, err: &mut E) -> u8
 }
 
 fn perform<O: Write>(alloc: Global, task: &Task, bytes: &[u8], out: &mut O) -> Result<(), Fault>
-    ensures verified { IfOk result (λ _. IsVerifying task.now.verb → IsVerifiedImage bytes.now) }
+    ensures done { IfOk result (λ _. CanBeDone task.now.verb task.now.places bytes.now) }
     ensures refused { IfErr result (λ e. status_of e ≡ 1 → CanBeDone task.now.verb task.now.places bytes.now → ⊥) }
 {
     match task.verb {
@@ -82,7 +84,8 @@ fn verified_in<'a>(alloc: Global, bytes: &'a [u8]) -> Result<Verified<'a>, Fault
 
 /// The image that a text spells.
 fn print_image<O: Write>(alloc: Global, bytes: &[u8], out: &mut O) -> Result<(), Fault>
-    ensures { IfErr result (λ e. status_of e ≡ 1 → CanBeDone verb.Asm None bytes.now → ⊥) }
+    ensures done { IfOk result (λ _. CanBeDone verb.Asm None bytes.now) }
+    ensures refused { IfErr result (λ e. status_of e ≡ 1 → CanBeDone verb.Asm None bytes.now → ⊥) }
 {
     let Ok(text) = str::from_utf8(bytes) else {
         return Err(Fault::File);
@@ -92,7 +95,8 @@ fn print_image<O: Write>(alloc: Global, bytes: &[u8], out: &mut O) -> Result<(),
 }
 
 fn print_listing<O: Write>(alloc: Global, bytes: &[u8], out: &mut O) -> Result<(), Fault>
-    ensures { IfErr result (λ e. status_of e ≡ 1 → CanBeDone verb.List None bytes.now → ⊥) }
+    ensures done { IfOk result (λ _. CanBeDone verb.List None bytes.now) }
+    ensures refused { IfErr result (λ e. status_of e ≡ 1 → CanBeDone verb.List None bytes.now → ⊥) }
 {
     let image = image_of(alloc, bytes)?;
     let listing = list(alloc, &image)?;
@@ -101,7 +105,7 @@ fn print_listing<O: Write>(alloc: Global, bytes: &[u8], out: &mut O) -> Result<(
 }
 
 fn print_verdict<O: Write>(alloc: Global, bytes: &[u8], out: &mut O) -> Result<(), Fault>
-    ensures verified { IfOk result (λ _. IsVerifiedImage bytes.now) }
+    ensures done { IfOk result (λ _. IsVerifiedImage bytes.now) }
     ensures refused { IfErr result (λ e. status_of e ≡ 1 → IsVerifiedImage bytes.now → ⊥) }
 {
     let verified = verified_in(alloc, bytes)?;
@@ -113,7 +117,8 @@ fn print_verdict<O: Write>(alloc: Global, bytes: &[u8], out: &mut O) -> Result<(
 }
 
 fn print_bounds<O: Write>(alloc: Global, bytes: &[u8], out: &mut O) -> Result<(), Fault>
-    ensures { IfErr result (λ e. status_of e ≡ 1 → CanBeDone verb.Bounds None bytes.now → ⊥) }
+    ensures done { IfOk result (λ _. CanBeDone verb.Bounds None bytes.now) }
+    ensures refused { IfErr result (λ e. status_of e ≡ 1 → CanBeDone verb.Bounds None bytes.now → ⊥) }
 {
     let image = image_of(alloc, bytes)?;
     let bounds = bounds(alloc, &image)?;
@@ -125,7 +130,7 @@ fn print_bounds<O: Write>(alloc: Global, bytes: &[u8], out: &mut O) -> Result<()
 
 /// Runs a module, and prints what its places printed, also where the run stops before its end.
 fn print_run<O: Write>(alloc: Global, task: &Task, bytes: &[u8], out: &mut O) -> Result<(), Fault>
-    ensures verified { IfOk result (λ _. IsVerifiedImage bytes.now) }
+    ensures done { IfOk result (λ _. CanBeDone verb.Run task.now.places bytes.now) }
     ensures refused { IfErr result (λ e. status_of e ≡ 1 → CanBeDone verb.Run task.now.places bytes.now → ⊥) }
 {
     let verified = verified_in(alloc, bytes)?;
