@@ -1,8 +1,10 @@
 -- What the program's answers say of a file, of a module and of a run.
 use Rattle.std.specs.Prelude.{◌≡◌, ◌⊎◌, ℕ, List, Option, Some, None, Ok}
+use Rattle.std.specs.Io.KnownBytes.{Appends}
 use Rattle.x10_model.specs.Modules.{Module, FitsImage}
 use Rattle.x10_model.specs.Images.{spelling}
 use Rattle.x10_model.specs.Worlds.{World, IsOver}
+use Rattle.x10_asm.specs.Listing.{listing}
 use Rattle.x10_asm.specs.Reading.{module_of}
 use Rattle.x10_verify.specs.Certified.{Certified}
 use Rattle.x10_verify.specs.Faults.{HasBounds}
@@ -50,6 +52,12 @@ CanBeDone verb.List places bytes = (m : Module) × IsImage bytes m
 CanBeDone verb.Verify places bytes = IsVerifiedImage bytes
 CanBeDone verb.Bounds places bytes = (m : Module) × IsImage bytes m × HasBounds m
 CanBeDone verb.Run places bytes = (c : Certified) × IsImageOf bytes c × (IsForbidden c (places_for places c) → ⊥)
+
+-- what asm and list append to what is known to be written: the image of the text's module, and the listing of the image's
+abbrev pub Prints : Verb → List ℕ → Option (List ℕ) → Option (List ℕ) → Type 0
+Prints verb.Asm bytes old new = (m : Module) × (module_of bytes ≡ Ok m) × Appends old new (spelling m)
+Prints verb.List bytes old new = (m : Module) × IsImage bytes m × Appends old new (listing m)
+Prints _ bytes old new = Unit {0}
 
 -- the commands that ask the verifier
 abbrev pub IsVerifying : Verb → Type 0

@@ -1,10 +1,10 @@
 //! What each command does, over an image's bytes and a writer.
-ghost use Rattle.std.specs.Prelude.{◌≡◌, ◌≢◌, ◌⊎◌, IfOk, IfErr, None};
+ghost use Rattle.std.specs.Prelude.{◌≡◌, ◌≢◌, ◌⊎◌, IfOk, IfErr, OnOk, None};
 ghost use Rattle.x10_model.specs.Modules.{Module};
 ghost use Rattle.x10_world.specs.Endings.{IsImageOf};
 ghost use Rattle.x10_cli.specs.declared.task.Verb.TheVariants as verb;
 ghost use Rattle.x10_cli.specs.declared.fault.Fault.TheVariants as fault;
-ghost use Rattle.x10_cli.specs.Answers.{IsImage, IsVerifiedImage, IsVerifying, CanBeDone, IsStatus, places_for, status_of};
+ghost use Rattle.x10_cli.specs.Answers.{IsImage, IsVerifiedImage, IsVerifying, CanBeDone, IsStatus, Prints, places_for, status_of};
 
 use crate::fault::Fault;
 use crate::rounds;
@@ -31,6 +31,7 @@ pub fn execute<O: Write, E: Write>(
 ) -> u8
     ensures status { IsStatus result }
     ensures done { result ≡ 0 → CanBeDone task.now.verb task.now.places bytes.now }
+    ensures printed { result ≡ 0 → Prints task.now.verb bytes.now (O.contents out.old) (O.contents out.new) }
     ensures verified { result ≡ 0 → IsVerifying task.now.verb → IsVerifiedImage bytes.now }
     ensures refused { result ≡ 1 → CanBeDone task.now.verb task.now.places bytes.now → ⊥ }
 {
@@ -56,6 +57,7 @@ pub fn tell<E: Write>(fault: Fault, err: &mut E) -> u8
 
 fn perform<O: Write>(alloc: Global, task: &Task, bytes: &[u8], out: &mut O) -> Result<(), Fault>
     ensures done { IfOk result (λ _. CanBeDone task.now.verb task.now.places bytes.now) }
+    ensures printed { OnOk result (Prints task.now.verb bytes.now (O.contents out.old) (O.contents out.new)) }
     ensures refused { IfErr result (λ e. status_of e ≡ 1 → CanBeDone task.now.verb task.now.places bytes.now → ⊥) }
 {
     match task.verb {
@@ -85,6 +87,7 @@ fn verified_in<'a>(alloc: Global, bytes: &'a [u8]) -> Result<Verified<'a>, Fault
 /// The image that a text spells.
 fn print_image<O: Write>(alloc: Global, bytes: &[u8], out: &mut O) -> Result<(), Fault>
     ensures done { IfOk result (λ _. CanBeDone verb.Asm None bytes.now) }
+    ensures printed { OnOk result (Prints verb.Asm bytes.now (O.contents out.old) (O.contents out.new)) }
     ensures refused { IfErr result (λ e. status_of e ≡ 1 → CanBeDone verb.Asm None bytes.now → ⊥) }
 {
     let Ok(text) = str::from_utf8(bytes) else {
@@ -96,6 +99,7 @@ fn print_image<O: Write>(alloc: Global, bytes: &[u8], out: &mut O) -> Result<(),
 
 fn print_listing<O: Write>(alloc: Global, bytes: &[u8], out: &mut O) -> Result<(), Fault>
     ensures done { IfOk result (λ _. CanBeDone verb.List None bytes.now) }
+    ensures printed { OnOk result (Prints verb.List bytes.now (O.contents out.old) (O.contents out.new)) }
     ensures refused { IfErr result (λ e. status_of e ≡ 1 → CanBeDone verb.List None bytes.now → ⊥) }
 {
     let image = image_of(alloc, bytes)?;
