@@ -1,5 +1,5 @@
 -- What the program's answers say of a file, of a module and of a run.
-use Rattle.std.specs.Prelude.{◌≡◌, ◌⊎◌, ℕ, List, Option, Some, None, Ok}
+use Rattle.std.specs.Prelude.{◌≡◌, ◌⊎◌, ℕ, List, [], ◌∷◌, ◌++◌, length, Option, Some, None, Ok, IsSome, slice_get, codes, decimal}
 use Rattle.std.specs.Io.KnownBytes.{Appends}
 use Rattle.x10_model.specs.Modules.{Module, FitsImage}
 use Rattle.x10_model.specs.Images.{spelling}
@@ -28,6 +28,7 @@ use Rattle.x10_world.specs.declared.fault.OpenFault.{OpenFault}
 use Rattle.x10_world.specs.declared.fault.OpenFault.TheVariants as opened
 use Rattle.x10_cli.specs.declared.task.Verb.{Verb}
 use Rattle.x10_cli.specs.declared.task.Verb.TheVariants as verb
+use Rattle.x10_cli.specs.declared.usage.Usage.{Usage}
 use Rattle.x10_cli.specs.declared.fault.Fault.{Fault}
 use Rattle.x10_cli.specs.declared.fault.Fault.TheVariants as fault
 
@@ -53,10 +54,15 @@ CanBeDone verb.Verify places bytes = IsVerifiedImage bytes
 CanBeDone verb.Bounds places bytes = (m : Module) × IsImage bytes m × HasBounds m
 CanBeDone verb.Run places bytes = (c : Certified) × IsImageOf bytes c × (IsForbidden c (places_for places c) → ⊥)
 
--- what asm and list append to what is known to be written: the image of the text's module, and the listing of the image's
+-- how many functions a verified module has, and the bound of its entry function
+abbrev pub verdict_line : ℕ → ℕ → List ℕ
+verdict_line functions bound = codes "verified " ++ (decimal functions ++ (codes " functions, entry bound " ++ (decimal bound ++ 10 ∷ [])))
+
+-- what is appended to what is known to be written: the image of the text's module, the listing of the image's, the verdict
 abbrev pub Prints : Verb → List ℕ → Option (List ℕ) → Option (List ℕ) → Type 0
 Prints verb.Asm bytes old new = (m : Module) × (module_of bytes ≡ Ok m) × Appends old new (spelling m)
 Prints verb.List bytes old new = (m : Module) × IsImage bytes m × Appends old new (listing m)
+Prints verb.Verify bytes old new = (c : Certified) × (bound : ℕ) × IsImageOf bytes c × (slice_get c.bounds c.program.entry ≡ Some bound) × Appends old new (verdict_line (length c.program.functions) bound)
 Prints _ bytes old new = Unit {0}
 
 -- the commands that ask the verifier
@@ -86,9 +92,9 @@ status_of fault.File = 4
 abbrev pub IsStatus : ℕ → Type 0
 IsStatus n = (n ≡ 0) ⊎ ((f : Fault) × (n ≡ status_of f))
 
--- the exit status of words that are answered with a text: 0 for help, 3 for what is wrong with them, 2 for want of memory
-abbrev pub IsUsageStatus : ℕ → Type 0
-IsUsageStatus n = (n ≡ 0) ⊎ (n ≡ 2) ⊎ (n ≡ 3)
+-- what is answered in place of a task: a text with status 0 or 3, or status 2 and no text, for want of memory
+abbrev pub IsAnswer : Usage → Type 0
+IsAnswer u = ((u.status ≡ 0) × IsSome u.text) ⊎ ((u.status ≡ 2) × (u.text ≡ None)) ⊎ ((u.status ≡ 3) × IsSome u.text)
 
 -- ---- faults of the parts, as the program tells them
 

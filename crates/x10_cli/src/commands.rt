@@ -110,6 +110,7 @@ fn print_listing<O: Write>(alloc: Global, bytes: &[u8], out: &mut O) -> Result<(
 
 fn print_verdict<O: Write>(alloc: Global, bytes: &[u8], out: &mut O) -> Result<(), Fault>
     ensures done { IfOk result (λ _. IsVerifiedImage bytes.now) }
+    ensures printed { OnOk result (Prints verb.Verify bytes.now (O.contents out.old) (O.contents out.new)) }
     ensures refused { IfErr result (λ e. status_of e ≡ 1 → IsVerifiedImage bytes.now → ⊥) }
 {
     let verified = verified_in(alloc, bytes)?;

@@ -1,6 +1,6 @@
 //! The words of a command line.
 ghost use Rattle.std.specs.Prelude.{IfErr};
-ghost use Rattle.x10_cli.specs.Answers.{IsUsageStatus};
+ghost use Rattle.x10_cli.specs.Answers.{IsAnswer};
 
 use crate::task::{Task, Verb};
 use clap::error::ErrorKind;
@@ -39,7 +39,7 @@ const STATUS: &str = "Exit status:
 
 /// Reads the words of a command line, of which the program's name is the first.
 pub fn parse<'a>(alloc: Global, words: &'a [String]) -> Result<Task<'a>, Usage>
-    ensures status { IfErr result (λ usage. IsUsageStatus usage.status) }
+    ensures answer { IfErr result IsAnswer }
 {
     match matched(alloc, words) {
         Ok(task) => Ok(task),
@@ -48,7 +48,7 @@ pub fn parse<'a>(alloc: Global, words: &'a [String]) -> Result<Task<'a>, Usage>
 }
 
 fn refusal(alloc: Global, error: &Error) -> Usage
-    ensures { IsUsageStatus result.status }
+    ensures { IsAnswer result }
 {
     let text = format!(in alloc; "{error}");
     let status = if error.use_stderr() { 3 } else { 0 };

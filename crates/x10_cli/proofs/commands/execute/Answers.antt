@@ -1,5 +1,5 @@
 use Rattle.x10_cli.specs.declared.fault.Fault.TheVariants as told
-use Rattle.x10_cli.proofs.Refused.{status_told}
+use Rattle.x10_cli.proofs.Answered.{status_told}
 use Rattle.x10_cli.proofs.commands.execute.Goals as goal
 
 pub returns-then-is_err-clause-status : goal.returns-then-is_err-clause-status

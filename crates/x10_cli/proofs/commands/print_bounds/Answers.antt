@@ -1,5 +1,5 @@
 use Rattle.std.proofs.lemmas.Result.{err_from_is_err_and}
-use Rattle.x10_cli.proofs.Refused.{no_bounds}
+use Rattle.x10_cli.proofs.Answered.{no_bounds}
 use Rattle.x10_cli.proofs.commands.print_bounds.Goals as goal
 
 pub returns-in_err-bounds-clause-refused : goal.returns-in_err-bounds-clause-refused

@@ -1,6 +1,6 @@
 use Rattle.std.proofs.Common.{refl}
 use Rattle.std.proofs.lemmas.Result.{err_from_is_err_and}
-use Rattle.x10_cli.proofs.Refused.{not_open}
+use Rattle.x10_cli.proofs.Answered.{not_open}
 use Rattle.x10_cli.proofs.commands.print_run.Goals as goal
 
 pub returns-in_err-world-clause-refused : goal.returns-in_err-world-clause-refused

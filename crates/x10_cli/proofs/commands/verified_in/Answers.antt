@@ -1,5 +1,5 @@
 use Rattle.std.proofs.lemmas.Result.{err_from_is_err_and}
-use Rattle.x10_cli.proofs.Refused.{not_verified}
+use Rattle.x10_cli.proofs.Answered.{not_verified}
 use Rattle.x10_cli.proofs.commands.verified_in.Goals as goal
 
 pub returns-in_err-verify-clause-refused : goal.returns-in_err-verify-clause-refused

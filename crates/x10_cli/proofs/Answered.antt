@@ -1,6 +1,7 @@
--- Why what is refused can't be done.
-use Rattle.std.proofs.Common.{◌≡◌, ℕ, ◌<◌, List, Option, Some, None, Result, Ok, Err, refl, sym, ap, subst, ◌∙◌, inl, inr, arith}
+-- What the commands' answers say of a file.
+use Rattle.std.proofs.Common.{◌≡◌, ℕ, ◌<◌, List, length, Option, Some, None, Result, Ok, refl, sym, ap, subst, ◌∙◌, inl, inr, slice_get, arith}
 use Rattle.std.specs.Prelude.{◌⊎◌}
+use Rattle.std.specs.Io.KnownBytes.{Appends}
 use Rattle.x10_model.specs.Modules.{Module, FitsImage}
 use Rattle.x10_model.specs.Images.{spelling}
 use Rattle.x10_model.specs.ReadingImages.{ImageFault, module_at}
@@ -25,7 +26,7 @@ use Rattle.x10_world.specs.declared.fault.OpenFault.TheVariants as opened
 use Rattle.x10_cli.specs.declared.fault.Fault.{Fault}
 use Rattle.x10_cli.specs.declared.fault.Fault.TheVariants as fault
 use Rattle.x10_cli.specs.declared.task.Verb.TheVariants as verb
-use Rattle.x10_cli.specs.Answers.{IsImage, IsVerifiedImage, CanBeDone, IsStatus, places_for, of_verify, of_bounds, of_open, status_of}
+use Rattle.x10_cli.specs.Answers.{IsImage, IsVerifiedImage, CanBeDone, IsStatus, Prints, verdict_line, places_for, of_verify, of_bounds, of_open, status_of}
 
 abbrev answer : Module → Result Module ImageFault
 answer m = Ok m
@@ -98,3 +99,11 @@ not_open bytes c places n f told image forbids en e is done =
 pub status_told : (n : ℕ) (f : Fault) → (n ≡ status_of f) ⊎ (n ≡ 4) → IsStatus n
 status_told n f (inl e) = inr (f, e)
 status_told n f (inr e) = inr (fault.File, e)
+
+-- ---- the verdict
+
+pub printed_verdict : (bytes : List ℕ) (c : Certified) (image : Module) (functions entry at bound : ℕ) (old new : Option (List ℕ)) → IsImageOf bytes c → image ≡ c.program → functions ≡ length image.functions → entry ≡ image.entry → at ≡ entry → slice_get c.bounds at ≡ Some bound → Appends old new (verdict_line functions bound) → Prints verb.Verify bytes old new
+printed_verdict bytes c image functions entry at bound old new is same count first place got line =
+    let from : at ≡ c.program.entry = place ∙ first ∙ ap (λ (m : Module). m.entry) same in
+    let many : functions ≡ length c.program.functions = count ∙ ap (λ (m : Module). length m.functions) same in
+    (c, bound, is, subst (λ (n : ℕ). slice_get c.bounds n ≡ Some bound) from got, subst (λ (n : ℕ). Appends old new (verdict_line n bound)) many line)
