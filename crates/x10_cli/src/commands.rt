@@ -55,6 +55,7 @@ pub fn tell<E: Write>(fault: Fault, err: &mut E) -> u8
     }
 }
 
+/// Does a task, and tells no fault of it.
 fn perform<O: Write>(alloc: Global, task: &Task, bytes: &[u8], out: &mut O) -> Result<(), Fault>
     ensures done { IfOk result (λ _. CanBeDone task.now.verb task.now.places bytes.now) }
     ensures printed { OnOk result (Prints task.now.verb bytes.now (O.contents out.old) (O.contents out.new)) }
@@ -69,6 +70,7 @@ fn perform<O: Write>(alloc: Global, task: &Task, bytes: &[u8], out: &mut O) -> R
     }
 }
 
+/// The view of an image.
 fn image_of<'a>(alloc: Global, bytes: &'a [u8]) -> Result<ImageView<'a>, Fault>
     ensures found { IfOk result (IsImage bytes.now) }
     ensures refused { IfErr result (λ e. status_of e ≡ 1 → (m : Module) → IsImage bytes.now m → ⊥) }
@@ -76,6 +78,7 @@ fn image_of<'a>(alloc: Global, bytes: &'a [u8]) -> Result<ImageView<'a>, Fault>
     Ok(ImageView::read(alloc, bytes)?)
 }
 
+/// The module of an image, verified.
 fn verified_in<'a>(alloc: Global, bytes: &'a [u8]) -> Result<Verified<'a>, Fault>
     ensures found { IfOk result (IsImageOf bytes.now) }
     ensures refused { IfErr result (λ e. status_of e ≡ 1 → IsVerifiedImage bytes.now → ⊥) }
