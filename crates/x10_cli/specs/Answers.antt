@@ -1,17 +1,69 @@
--- What the program's answers say of a module and of a run.
-use Rattle.std.specs.Prelude.{ℕ, List}
+-- What the program's answers say of a file, of a module and of a run.
+use Rattle.std.specs.Prelude.{◌≡◌, ◌⊎◌, ℕ, List, [], ◌∷◌, ◌++◌, length, Option, Some, None, Ok, IsSome, slice_get, codes, decimal}
+use Rattle.std.specs.Io.KnownBytes.{Appends}
+use Rattle.x10_model.specs.Modules.{Module, FitsImage}
+use Rattle.x10_model.specs.Images.{spelling}
 use Rattle.x10_model.specs.Worlds.{World, IsOver}
+use Rattle.x10_asm.specs.Listing.{listing}
+use Rattle.x10_asm.specs.Reading.{module_of}
 use Rattle.x10_verify.specs.Certified.{Certified}
+use Rattle.x10_verify.specs.Faults.{HasBounds}
 use Rattle.x10_world.specs.Endings.{IsImageOf}
+use Rattle.x10_world.specs.Opening.{IsForbidden}
 use Rattle.x10_world.specs.StandsForWorld.{WorldState, StandsForWorld}
+use Rattle.x10_kinds.specs.declared.stop.Stop.{Stop}
+use Rattle.x10_kinds.specs.declared.stop.Stop.TheVariants as stop
+use Rattle.x10_image.specs.declared.fault.ImageFault.{ImageFault}
+use Rattle.x10_image.specs.declared.fault.ImageFault.TheVariants as image
+use Rattle.x10_asm.specs.declared.fault.AsmCause.{AsmCause}
+use Rattle.x10_asm.specs.declared.fault.AsmCause.TheVariants as asm
+use Rattle.x10_asm.specs.declared.fault.AsmFault.{AsmFault}
+use Rattle.x10_bounds.specs.declared.fault.BoundCause.{BoundCause}
+use Rattle.x10_bounds.specs.declared.fault.BoundCause.TheVariants as bound
+use Rattle.x10_bounds.specs.declared.fault.BoundFault.{BoundFault}
+use Rattle.x10_verify.specs.declared.fault.VerifyCause.{VerifyCause}
+use Rattle.x10_verify.specs.declared.fault.VerifyCause.TheVariants as verify
+use Rattle.x10_verify.specs.declared.fault.VerifyFault.{VerifyFault}
+use Rattle.x10_world.specs.declared.fault.OpenFault.{OpenFault}
+use Rattle.x10_world.specs.declared.fault.OpenFault.TheVariants as opened
 use Rattle.x10_cli.specs.declared.task.Verb.{Verb}
 use Rattle.x10_cli.specs.declared.task.Verb.TheVariants as verb
+use Rattle.x10_cli.specs.declared.usage.Usage.{Usage}
 use Rattle.x10_cli.specs.declared.fault.Fault.{Fault}
 use Rattle.x10_cli.specs.declared.fault.Fault.TheVariants as fault
 
 -- the bytes are the image of a module that the verifier accepts
 abbrev pub IsVerifiedImage : List ℕ → Type 0
 IsVerifiedImage bytes = (c : Certified) × IsImageOf bytes c
+
+-- the bytes are the module's image
+pub record IsImage (bytes : List ℕ) (m : Module) : Type 0 where
+  pub fits : FitsImage m
+  pub spelled : bytes ≡ spelling m
+
+-- how many places are asked for; left out, the module's least number
+abbrev pub places_for : Option ℕ → Certified → ℕ
+places_for None c = c.program.least_places
+places_for (Some places) c = places
+
+-- the file's bytes, and of a run the number of places, are such that the command can be done
+abbrev pub CanBeDone : Verb → Option ℕ → List ℕ → Type 0
+CanBeDone verb.Asm places bytes = (m : Module) × (module_of bytes ≡ Ok m)
+CanBeDone verb.List places bytes = (m : Module) × IsImage bytes m
+CanBeDone verb.Verify places bytes = IsVerifiedImage bytes
+CanBeDone verb.Bounds places bytes = (m : Module) × IsImage bytes m × HasBounds m
+CanBeDone verb.Run places bytes = (c : Certified) × IsImageOf bytes c × (IsForbidden c (places_for places c) → ⊥)
+
+-- how many functions a verified module has, and the bound of its entry function
+abbrev pub verdict_line : ℕ → ℕ → List ℕ
+verdict_line functions bound = codes "verified " ++ (decimal functions ++ (codes " functions, entry bound " ++ (decimal bound ++ 10 ∷ [])))
+
+-- what is appended to what is known to be written: the image of the text's module, the listing of the image's, the verdict
+abbrev pub Prints : Verb → List ℕ → Option (List ℕ) → Option (List ℕ) → Type 0
+Prints verb.Asm bytes old new = (m : Module) × (module_of bytes ≡ Ok m) × Appends old new (spelling m)
+Prints verb.List bytes old new = (m : Module) × IsImage bytes m × Appends old new (listing m)
+Prints verb.Verify bytes old new = (c : Certified) × (bound : ℕ) × IsImageOf bytes c × (slice_get c.bounds c.program.entry ≡ Some bound) × Appends old new (verdict_line (length c.program.functions) bound)
+Prints _ bytes old new = Unit {0}
 
 -- the commands that ask the verifier
 abbrev pub IsVerifying : Verb → Type 0
@@ -35,3 +87,37 @@ status_of fault.StopMemory = 2
 status_of (fault.StopLimit n) = 2
 status_of fault.Limit = 2
 status_of fault.File = 4
+
+-- the exit status of something done, or of a fault
+abbrev pub IsStatus : ℕ → Type 0
+IsStatus n = (n ≡ 0) ⊎ ((f : Fault) × (n ≡ status_of f))
+
+-- what is answered in place of a task: a text with status 0 or 3, or status 2 and no text, for want of memory
+abbrev pub IsAnswer : Usage → Type 0
+IsAnswer u = ((u.status ≡ 0) × IsSome u.text) ⊎ ((u.status ≡ 2) × (u.text ≡ None)) ⊎ ((u.status ≡ 3) × IsSome u.text)
+
+-- ---- faults of the parts, as the program tells them
+
+abbrev pub of_image : ImageFault → Fault
+of_image image.Memory = fault.Memory
+of_image f = fault.Image f
+
+abbrev pub of_asm : AsmCause → AsmFault → Fault
+of_asm asm.Memory f = fault.Memory
+of_asm _ f = fault.Asm f
+
+abbrev pub of_verify : VerifyCause → VerifyFault → Fault
+of_verify verify.Memory f = fault.Memory
+of_verify _ f = fault.Verify f
+
+abbrev pub of_bounds : BoundCause → BoundFault → Fault
+of_bounds bound.Memory f = fault.Memory
+of_bounds _ f = fault.Bounds f
+
+abbrev pub of_open : OpenFault → Fault
+of_open opened.Places = fault.Places
+of_open opened.Memory = fault.Memory
+
+abbrev pub of_stop : Stop → Fault
+of_stop (stop.Limit which) = fault.StopLimit which
+of_stop _ = fault.StopMemory

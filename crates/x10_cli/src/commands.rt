@@ -1,6 +1,10 @@
 //! What each command does, over an image's bytes and a writer.
-ghost use Rattle.std.specs.Prelude.{◌≡◌, ◌≢◌, ◌⊎◌, IfOk};
-ghost use Rattle.x10_cli.specs.Answers.{IsVerifiedImage, IsVerifying, status_of};
+ghost use Rattle.std.specs.Prelude.{◌≡◌, ◌≢◌, ◌⊎◌, IfOk, IfErr, OnOk, None};
+ghost use Rattle.x10_model.specs.Modules.{Module};
+ghost use Rattle.x10_world.specs.Endings.{IsImageOf};
+ghost use Rattle.x10_cli.specs.declared.task.Verb.TheVariants as verb;
+ghost use Rattle.x10_cli.specs.declared.fault.Fault.TheVariants as fault;
+ghost use Rattle.x10_cli.specs.Answers.{IsImage, IsVerifiedImage, IsVerifying, CanBeDone, IsStatus, Prints, places_for, status_of};
 
 use crate::fault::Fault;
 use crate::rounds;
@@ -11,7 +15,7 @@ use x10_asm::{assemble, list};
 use x10_bounds::bounds;
 use x10_image::ImageView;
 use x10_place::Line;
-use x10_verify::verify;
+use x10_verify::{Verified, verify};
 use x10_world::World;
 
 /// Does what a task asks for with the bytes of its file, and tells the exit status: 0 done, 1 refused, 2 stopped, 4
@@ -25,15 +29,13 @@ pub fn execute<O: Write, E: Write>(
     out: &mut O,
     err: &mut E,
 ) -> u8
+    ensures status { IsStatus result }
+    ensures done { result ≡ 0 → CanBeDone task.now.verb task.now.places bytes.now }
+    ensures printed { result ≡ 0 → Prints task.now.verb bytes.now (O.contents out.old) (O.contents out.new) }
     ensures verified { result ≡ 0 → IsVerifying task.now.verb → IsVerifiedImage bytes.now }
+    ensures refused { result ≡ 1 → CanBeDone task.now.verb task.now.places bytes.now → ⊥ }
 {
-    let done = match task.verb {
-        Verb::Asm => print_image(alloc, bytes, out),
-        Verb::List => print_listing(alloc, bytes, out),
-        Verb::Verify => print_verdict(alloc, bytes, out),
-        Verb::Bounds => print_bounds(alloc, bytes, out),
-        Verb::Run => print_run(alloc, task, bytes, out),
-    };
+    let done = perform(alloc, task, bytes, out);
     if out.flush().is_err() {
         return tell(Fault::File, err);
     }
@@ -53,8 +55,44 @@ pub fn tell<E: Write>(fault: Fault, err: &mut E) -> u8
     }
 }
 
+/// Does a task, and tells no fault of it.
+fn perform<O: Write>(alloc: Global, task: &Task, bytes: &[u8], out: &mut O) -> Result<(), Fault>
+    ensures done { IfOk result (λ _. CanBeDone task.now.verb task.now.places bytes.now) }
+    ensures printed { OnOk result (Prints task.now.verb bytes.now (O.contents out.old) (O.contents out.new)) }
+    ensures refused { IfErr result (λ e. status_of e ≡ 1 → CanBeDone task.now.verb task.now.places bytes.now → ⊥) }
+{
+    match task.verb {
+        Verb::Asm => print_image(alloc, bytes, out),
+        Verb::List => print_listing(alloc, bytes, out),
+        Verb::Verify => print_verdict(alloc, bytes, out),
+        Verb::Bounds => print_bounds(alloc, bytes, out),
+        Verb::Run => print_run(alloc, task, bytes, out),
+    }
+}
+
+/// The view of an image.
+fn image_of<'a>(alloc: Global, bytes: &'a [u8]) -> Result<ImageView<'a>, Fault>
+    ensures found { IfOk result (IsImage bytes.now) }
+    ensures refused { IfErr result (λ e. status_of e ≡ 1 → (m : Module) → IsImage bytes.now m → ⊥) }
+{
+    Ok(ImageView::read(alloc, bytes)?)
+}
+
+/// The module of an image, verified.
+fn verified_in<'a>(alloc: Global, bytes: &'a [u8]) -> Result<Verified<'a>, Fault>
+    ensures found { IfOk result (IsImageOf bytes.now) }
+    ensures refused { IfErr result (λ e. status_of e ≡ 1 → IsVerifiedImage bytes.now → ⊥) }
+{
+    let image = image_of(alloc, bytes)?;
+    Ok(verify(alloc, image)?)
+}
+
 /// The image that a text spells.
-fn print_image<O: Write>(alloc: Global, bytes: &[u8], out: &mut O) -> Result<(), Fault> {
+fn print_image<O: Write>(alloc: Global, bytes: &[u8], out: &mut O) -> Result<(), Fault>
+    ensures done { IfOk result (λ _. CanBeDone verb.Asm None bytes.now) }
+    ensures printed { OnOk result (Prints verb.Asm bytes.now (O.contents out.old) (O.contents out.new)) }
+    ensures refused { IfErr result (λ e. status_of e ≡ 1 → CanBeDone verb.Asm None bytes.now → ⊥) }
+{
     let Ok(text) = str::from_utf8(bytes) else {
         return Err(Fault::File);
     };
@@ -62,16 +100,23 @@ fn print_image<O: Write>(alloc: Global, bytes: &[u8], out: &mut O) -> Result<(),
     Ok(())
 }
 
-fn print_listing<O: Write>(alloc: Global, bytes: &[u8], out: &mut O) -> Result<(), Fault> {
-    let listing = list(alloc, &ImageView::read(alloc, bytes)?)?;
+fn print_listing<O: Write>(alloc: Global, bytes: &[u8], out: &mut O) -> Result<(), Fault>
+    ensures done { IfOk result (λ _. CanBeDone verb.List None bytes.now) }
+    ensures printed { OnOk result (Prints verb.List bytes.now (O.contents out.old) (O.contents out.new)) }
+    ensures refused { IfErr result (λ e. status_of e ≡ 1 → CanBeDone verb.List None bytes.now → ⊥) }
+{
+    let image = image_of(alloc, bytes)?;
+    let listing = list(alloc, &image)?;
     out.write_all(listing.as_bytes())?;
     Ok(())
 }
 
 fn print_verdict<O: Write>(alloc: Global, bytes: &[u8], out: &mut O) -> Result<(), Fault>
-    ensures { IfOk result (λ _. IsVerifiedImage bytes.now) }
+    ensures done { IfOk result (λ _. IsVerifiedImage bytes.now) }
+    ensures printed { OnOk result (Prints verb.Verify bytes.now (O.contents out.old) (O.contents out.new)) }
+    ensures refused { IfErr result (λ e. status_of e ≡ 1 → IsVerifiedImage bytes.now → ⊥) }
 {
-    let verified = verify(alloc, ImageView::read(alloc, bytes)?)?;
+    let verified = verified_in(alloc, bytes)?;
     let image = verified.image();
     let functions = image.functions();
     let bound = verified.bound(usize::from(image.entry()));
@@ -79,8 +124,12 @@ fn print_verdict<O: Write>(alloc: Global, bytes: &[u8], out: &mut O) -> Result<(
     Ok(())
 }
 
-fn print_bounds<O: Write>(alloc: Global, bytes: &[u8], out: &mut O) -> Result<(), Fault> {
-    let bounds = bounds(alloc, &ImageView::read(alloc, bytes)?)?;
+fn print_bounds<O: Write>(alloc: Global, bytes: &[u8], out: &mut O) -> Result<(), Fault>
+    ensures done { IfOk result (λ _. CanBeDone verb.Bounds None bytes.now) }
+    ensures refused { IfErr result (λ e. status_of e ≡ 1 → CanBeDone verb.Bounds None bytes.now → ⊥) }
+{
+    let image = image_of(alloc, bytes)?;
+    let bounds = bounds(alloc, &image)?;
     for (function, bound) in bounds.iter().enumerate() {
         writeln!(out, "{function} {bound}")?;
     }
@@ -89,13 +138,11 @@ fn print_bounds<O: Write>(alloc: Global, bytes: &[u8], out: &mut O) -> Result<()
 
 /// Runs a module, and prints what its places printed, also where the run stops before its end.
 fn print_run<O: Write>(alloc: Global, task: &Task, bytes: &[u8], out: &mut O) -> Result<(), Fault>
-    ensures { IfOk result (λ _. IsVerifiedImage bytes.now) }
+    ensures done { IfOk result (λ _. CanBeDone verb.Run task.now.places bytes.now) }
+    ensures refused { IfErr result (λ e. status_of e ≡ 1 → CanBeDone verb.Run task.now.places bytes.now → ⊥) }
 {
-    let verified = verify(alloc, ImageView::read(alloc, bytes)?)?;
-    let places = match task.places {
-        Some(places) => places,
-        None => verified.image().least(),
-    };
+    let verified = verified_in(alloc, bytes)?;
+    let places = places_of(task.places, &verified);
     let mut world = World::open(alloc, &verified, places)?;
     let ended = rounds::run(alloc, &mut world, places, task.limit);
     for place in 0..places {
@@ -106,8 +153,20 @@ fn print_run<O: Write>(alloc: Global, task: &Task, bytes: &[u8], out: &mut O) ->
     ended
 }
 
+/// How many places a run has.
+fn places_of(asked: Option<u16>, verified: &Verified) -> u16
+    ensures { result ≡ places_for asked verified.now }
+{
+    match asked {
+        Some(places) => places,
+        None => verified.image().least(),
+    }
+}
+
 /// The lines of a place, each with its number.
-fn print_lines<O: Write>(place: u16, lines: &[Line], out: &mut O) -> Result<(), Fault> {
+fn print_lines<O: Write>(place: u16, lines: &[Line], out: &mut O) -> Result<(), Fault>
+    ensures { IfErr result (λ e. e ≡ fault.File) }
+{
     for line in lines {
         match line {
             Line::Int(number) => writeln!(out, "{place}: {number}")?,

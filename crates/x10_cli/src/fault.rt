@@ -1,5 +1,6 @@
 ghost use Rattle.std.specs.Prelude.{◌≡◌};
-ghost use Rattle.x10_cli.specs.Answers.{status_of};
+ghost use Rattle.x10_cli.specs.declared.fault.Fault.TheVariants as fault;
+ghost use Rattle.x10_cli.specs.Answers.{status_of, of_asm, of_image, of_verify, of_bounds, of_open, of_stop};
 
 use std::alloc::{AllocError, AllocFailed};
 use std::io;
@@ -61,6 +62,8 @@ impl Fault {
 }
 
 impl From<AsmFault> for Fault {
+    ghost from_gives = { λ f told. told ≡ of_asm f.cause f };
+
     fn from(fault: AsmFault) -> Fault {
         match fault.cause {
             AsmCause::Memory => Fault::Memory,
@@ -70,6 +73,8 @@ impl From<AsmFault> for Fault {
 }
 
 impl From<ImageFault> for Fault {
+    ghost from_gives = { λ f told. told ≡ of_image f };
+
     fn from(fault: ImageFault) -> Fault {
         match fault {
             ImageFault::Memory => Fault::Memory,
@@ -79,6 +84,8 @@ impl From<ImageFault> for Fault {
 }
 
 impl From<VerifyFault> for Fault {
+    ghost from_gives = { λ f told. told ≡ of_verify f.cause f };
+
     fn from(fault: VerifyFault) -> Fault {
         match fault.cause {
             VerifyCause::Memory => Fault::Memory,
@@ -88,6 +95,8 @@ impl From<VerifyFault> for Fault {
 }
 
 impl From<BoundFault> for Fault {
+    ghost from_gives = { λ f told. told ≡ of_bounds f.cause f };
+
     fn from(fault: BoundFault) -> Fault {
         match fault.cause {
             BoundCause::Memory => Fault::Memory,
@@ -97,6 +106,8 @@ impl From<BoundFault> for Fault {
 }
 
 impl From<OpenFault> for Fault {
+    ghost from_gives = { λ f told. told ≡ of_open f };
+
     fn from(fault: OpenFault) -> Fault {
         match fault {
             OpenFault::Places => Fault::Places,
@@ -106,6 +117,8 @@ impl From<OpenFault> for Fault {
 }
 
 impl From<Stop> for Fault {
+    ghost from_gives = { λ why told. told ≡ of_stop why };
+
     fn from(stop: Stop) -> Fault {
         match stop {
             Stop::Limit(which) => Fault::StopLimit(which),
@@ -115,18 +128,24 @@ impl From<Stop> for Fault {
 }
 
 impl From<AllocError> for Fault {
+    ghost from_gives = { λ _ told. told ≡ fault.Memory };
+
     fn from(_error: AllocError) -> Fault {
         Fault::Memory
     }
 }
 
 impl<T: Drop> From<AllocFailed<T>> for Fault {
+    ghost from_gives = { λ _ told. told ≡ fault.Memory };
+
     fn from(_error: AllocFailed<T>) -> Fault {
         Fault::Memory
     }
 }
 
 impl From<io::Error> for Fault {
+    ghost from_gives = { λ _ told. told ≡ fault.File };
+
     fn from(_error: io::Error) -> Fault {
         Fault::File
     }

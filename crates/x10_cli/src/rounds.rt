@@ -1,6 +1,6 @@
 //! The order in which the program makes events: round after round, place after place, key after key.
-ghost use Rattle.std.specs.Prelude.{◌≡◌, IfOk, Ok};
-ghost use Rattle.x10_cli.specs.Answers.{HasEnded};
+ghost use Rattle.std.specs.Prelude.{◌≡◌, IfOk, IfErr, Ok};
+ghost use Rattle.x10_cli.specs.Answers.{HasEnded, status_of};
 
 use crate::fault::Fault;
 use std::alloc::Global;
@@ -19,7 +19,8 @@ enum Then {
 /// Runs a world until the run has ended, with so many events at most. In a round each place, by rising number, makes a
 /// step of each of its activities that are there when its turn comes, by rising key.
 pub(crate) fn run(alloc: Global, world: &mut World, places: u16, limit: u64) -> Result<(), Fault>
-    ensures { IfOk result (λ _. HasEnded world.new) }
+    ensures ended { IfOk result (λ _. HasEnded world.new) }
+    ensures stopped { IfErr result (λ e. status_of e ≡ 2) }
 {
     let mut left = limit;
     let mut keys = Vec::new(alloc);
@@ -37,7 +38,8 @@ fn round(
     keys: &mut Vec<usize>,
     left: &mut u64,
 ) -> Result<Then, Fault>
-    ensures { result ≡ Ok Then.Ends → HasEnded world.new }
+    ensures ended { result ≡ Ok Then.Ends → HasEnded world.new }
+    ensures stopped { IfErr result (λ e. status_of e ≡ 2) }
 {
     if let Some((place, key)) = lone(world, places) {
         return stretch(world, place, key, left);
@@ -75,7 +77,9 @@ fn stretch(world: &mut World, place: u16, key: usize, left: &mut u64) -> Result<
 }
 
 /// The keys in use at a place, in place of those that the list has.
-fn keys_at(world: &World, place: u16, keys: &mut Vec<usize>) -> Result<(), Fault> {
+fn keys_at(world: &World, place: u16, keys: &mut Vec<usize>) -> Result<(), Fault>
+    ensures { IfErr result (λ e. status_of e ≡ 2) }
+{
     keys.clear();
     let mut from = 0;
     while let Some(key) = world.next_key(place, from) {
@@ -90,7 +94,8 @@ fn keys_at(world: &World, place: u16, keys: &mut Vec<usize>) -> Result<(), Fault
 
 /// A step of each activity with one of the keys.
 fn turn(world: &mut World, place: u16, keys: &[usize], left: &mut u64) -> Result<Then, Fault>
-    ensures { result ≡ Ok Then.Ends → HasEnded world.new }
+    ensures ended { result ≡ Ok Then.Ends → HasEnded world.new }
+    ensures stopped { IfErr result (λ e. status_of e ≡ 2) }
 {
     for key in keys {
         if let Then::Ends = event(world, Event::Step(place, *key), left)? {
@@ -102,7 +107,8 @@ fn turn(world: &mut World, place: u16, keys: &[usize], left: &mut u64) -> Result
 
 /// One event.
 fn event(world: &mut World, event: Event, left: &mut u64) -> Result<Then, Fault>
-    ensures { result ≡ Ok Then.Ends → HasEnded world.new }
+    ensures ended { result ≡ Ok Then.Ends → HasEnded world.new }
+    ensures stopped { IfErr result (λ e. status_of e ≡ 2) }
 {
     world.run(&[event])?;
     *left = left.saturating_sub(1);

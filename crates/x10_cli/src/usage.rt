@@ -1,4 +1,7 @@
 //! The words of a command line.
+ghost use Rattle.std.specs.Prelude.{IfErr};
+ghost use Rattle.x10_cli.specs.Answers.{IsAnswer};
+
 use crate::task::{Task, Verb};
 use clap::error::ErrorKind;
 use clap::{Arg, ArgMatches, Command, Error, value_parser};
@@ -35,14 +38,18 @@ const STATUS: &str = "Exit status:
   4  a file can't be read, or the output can't be written";
 
 /// Reads the words of a command line, of which the program's name is the first.
-pub fn parse<'a>(alloc: Global, words: &'a [String]) -> Result<Task<'a>, Usage> {
+pub fn parse<'a>(alloc: Global, words: &'a [String]) -> Result<Task<'a>, Usage>
+    ensures answer { IfErr result IsAnswer }
+{
     match matched(alloc, words) {
         Ok(task) => Ok(task),
         Err(error) => Err(refusal(alloc, &error)),
     }
 }
 
-fn refusal(alloc: Global, error: &Error) -> Usage {
+fn refusal(alloc: Global, error: &Error) -> Usage
+    ensures { IsAnswer result }
+{
     let text = format!(in alloc; "{error}");
     let status = if error.use_stderr() { 3 } else { 0 };
     match text {

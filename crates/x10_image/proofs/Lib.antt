@@ -5,6 +5,7 @@ pub mod TableLoops
 pub mod Whole
 pub mod Access
 pub mod Functions
+pub mod Spelled
 pub mod Decoded
 pub mod Instructions
 pub mod Accessors

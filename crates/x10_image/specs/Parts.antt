@@ -1,12 +1,12 @@
 -- The parts of a module that a view hands out.
-use Rattle.std.specs.Prelude.{◌≡◌, ℕ, zero, suc, ◌+◌, ◌*◌, ◌≤◌, ◌==◌, List, [], ◌∷◌, length, Option, Some, None, IfSome, slice_index, slice_range, take}
+use Rattle.std.specs.Prelude.{◌≡◌, ℕ, zero, suc, ◌+◌, ◌*◌, ◌≤◌, ◌==◌, List, [], ◌∷◌, ◌++◌, length, Option, Some, None, IfSome, slice_index, slice_range, take}
 use Rattle.std.specs.List.{AllByRecursion, flat_map}
 use Rattle.std.specs.Int.{w16, from_be_bytes}
 use Rattle.x10_kinds.specs.declared.kind.Kind.{Kind}
 use Rattle.x10_kinds.specs.declared.kind.Kind.TheVariants as kind
 use Rattle.x10_code.specs.declared.instr.Instr.{Instr}
 use Rattle.x10_model.specs.Modules.{Module, Function, FitsSlot}
-use Rattle.x10_model.specs.Images.{header_of, header_bytes, class_bytes, int_bytes, text_bytes, function_bytes}
+use Rattle.x10_model.specs.Images.{header_of, header_bytes, slot_bytes, result_bytes, class_bytes, int_bytes, text_bytes, function_bytes}
 use Rattle.x10_model.specs.Ranges.{function_at}
 use Rattle.x10_model.specs.declared.slot.Slot.{Slot}
 
@@ -19,6 +19,10 @@ pub record Signature : Type 0 where
 
 abbrev pub signature_of : Function → Signature
 signature_of f = record { parameters = f.parameters; registers = f.registers; loops = f.loops; result = f.result }
+
+-- the bytes that a function begins with: how many parameters, registers and loop slots, a zero, the parameters, the result
+unfoldable pub signature_bytes : Signature → List ℕ
+signature_bytes s = (length s.parameters ∷ s.registers ∷ s.loops ∷ 0 ∷ []) ++ (flat_map slot_bytes s.parameters ++ result_bytes s.result)
 
 -- what holds of each function's signature, in a module with so many classes
 pub record FitsSignature (classes : ℕ) (s : Signature) : Type 0 where
@@ -44,19 +48,34 @@ pub record IsPart (bytes : List ℕ) (from : ℕ) (part : List ℕ) : Type 0 whe
 
 -- ---- places in a module's spelling
 
--- where the classes, the texts and the functions begin
+-- where the classes, the numbers, the texts and the functions begin
 abbrev pub classes_from : Module → ℕ
 classes_from m = length (header_bytes (header_of m))
 
+abbrev pub ints_from : Module → ℕ
+ints_from m = classes_from m + length (flat_map class_bytes m.classes)
+
 abbrev pub texts_from : Module → ℕ
-texts_from m = classes_from m + length (flat_map class_bytes m.classes) + length (flat_map int_bytes m.ints)
+texts_from m = ints_from m + length (flat_map int_bytes m.ints)
 
 abbrev pub functions_from : Module → ℕ
 functions_from m = texts_from m + length (flat_map text_bytes m.texts)
 
+-- where the bytes of class c begin
+abbrev pub place_of_class : Module → ℕ → ℕ
+place_of_class m c = classes_from m + length (flat_map class_bytes (take c m.classes))
+
+-- where the 8 bytes of number i begin
+abbrev pub place_of_int : Module → ℕ → ℕ
+place_of_int m i = ints_from m + 8 * i
+
 -- where the bytes of text i begin: behind its length, in two bytes
 abbrev pub place_of_text : Module → ℕ → ℕ
 place_of_text m i = texts_from m + length (flat_map text_bytes (take i m.texts)) + 2
+
+-- where the bytes of function f begin, its signature first
+abbrev pub place_of_signature : Module → ℕ → ℕ
+place_of_signature m f = functions_from m + length (flat_map function_bytes (take f m.functions))
 
 abbrev pub parameters_in : Option Function → List Slot
 parameters_in None = []
@@ -64,7 +83,11 @@ parameters_in (Some f) = f.parameters
 
 -- where the instructions of function f begin: behind its head, its parameters and result with 4 bytes each, and its count
 abbrev pub place_of_code : Module → ℕ → ℕ
-place_of_code m f = functions_from m + length (flat_map function_bytes (take f m.functions)) + 12 + 4 * length (parameters_in (function_at m f))
+place_of_code m f = place_of_signature m f + 12 + 4 * length (parameters_in (function_at m f))
+
+-- where the 8 bytes of instruction pc of function f begin
+abbrev pub place_of_instr : Module → ℕ → ℕ → ℕ
+place_of_instr m f pc = place_of_code m f + 8 * pc
 
 -- ---- kinds and slots from their bytes
 

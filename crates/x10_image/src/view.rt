@@ -3,11 +3,11 @@ ghost use Rattle.std.specs.List.{flat_map};
 ghost use Rattle.x10_code.specs.Spelling.{spelling as instruction};
 ghost use Rattle.x10_model.specs.Modules.{Module, Function, FitsImage, FitsText, FitsClass, IsEntry, IsBrought};
 ghost use Rattle.x10_model.specs.Ranges.{function_at, instr_at};
-ghost use Rattle.x10_model.specs.Images.{function_bytes, spelling};
+ghost use Rattle.x10_model.specs.Images.{class_bytes, int_bytes, function_bytes, spelling};
 ghost use Rattle.x10_model.specs.ReadingImages.{module_at, is_entry};
 ghost use Rattle.x10_image.specs.Faults.{Gives};
 ghost use Rattle.x10_image.specs.Places.{AreAt};
-ghost use Rattle.x10_image.specs.Parts.{IsPart, place_of_text, place_of_code, FitsSignature, signature_of, code_at};
+ghost use Rattle.x10_image.specs.Parts.{IsPart, place_of_class, place_of_int, place_of_text, place_of_signature, place_of_code, place_of_instr, FitsSignature, signature_of, signature_bytes, code_at};
 
 use crate::class_view::ClassView;
 use crate::fault::ImageFault;
@@ -151,10 +151,11 @@ impl<'a> ImageView<'a> {
         self.functions.len()
     }
 
-    /// A constant number.
+    /// A constant number: 8 of the image's bytes.
     pub fn int(&self, i: usize) -> i64
         requires { i < length self.now.ints }
         ensures value { slice_get self.now.ints i ≡ Some result }
+        ensures part { IsPart (spelling self.now) (place_of_int self.now i) (int_bytes result) }
     {
         int_in(self.bytes, self.ints + 8 * i)
     }
@@ -170,21 +171,23 @@ impl<'a> ImageView<'a> {
         text_in(bytes, self.texts[i])
     }
 
-    /// The fields of a class.
+    /// The fields of a class, in the image's bytes: behind their number there.
     pub fn class(&self, c: usize) -> ClassView<'a>
         requires { c < length self.now.classes }
         ensures value { slice_get self.now.classes c ≡ Some result }
         ensures fits { FitsClass (length self.now.classes) result }
+        ensures part { IsPart (spelling self.now) (place_of_class self.now c) (class_bytes result) }
     {
         let bytes = self.bytes;
         class_in(bytes, self.classes[c])
     }
 
-    /// What a function takes, gives and needs.
+    /// What a function takes, gives and needs: the bytes that it begins with in the image.
     pub fn signature(&self, f: usize) -> SigView<'a>
         requires { f < length self.now.functions }
         ensures value { (g : Function) × (function_at self.now f ≡ Some g) × (result ≡ signature_of g) }
         ensures fits { FitsSignature (length self.now.classes) result }
+        ensures part { IsPart (spelling self.now) (place_of_signature self.now f) (signature_bytes result) }
     {
         let bytes = self.bytes;
         signature_in(bytes, self.functions[f])
@@ -211,12 +214,13 @@ impl<'a> ImageView<'a> {
         &bytes[start..start + 8 * code_len_in(bytes, at)]
     }
 
-    /// An instruction of a function.
+    /// An instruction of a function: 8 of the image's bytes.
     pub fn instr(&self, f: usize, pc: usize) -> Instr
         requires function { f < length self.now.functions }
         requires pc { pc < length (code_at self.now f) }
         ensures value { instr_at self.now f pc ≡ Some result }
         ensures brought { IsBrought result }
+        ensures part { IsPart (spelling self.now) (place_of_instr self.now f pc) (instruction result) }
     {
         let start = code_place(self.bytes, self.functions[f]);
         instr_in(self.bytes, start + 8 * pc)

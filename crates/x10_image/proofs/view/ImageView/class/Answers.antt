@@ -3,6 +3,7 @@ use Rattle.x10_model.specs.Modules.{FitsClass}
 use Rattle.x10_model.specs.Images.{class_bytes}
 use Rattle.x10_image.proofs.Access.{same_length}
 use Rattle.x10_image.proofs.Accessors.{shows, all_at, item_in, class_at}
+use Rattle.x10_image.proofs.Spelled.{class_part}
 use Rattle.x10_image.proofs.view.ImageView.class.Goals as goal
 
 pub index-requires : goal.index-requires
@@ -30,3 +31,6 @@ returns-clause-fits c =
     let fits = all_at (FitsClass (length c.args.self.now.classes)) _ c.args.c found.0 v.fits.fields found.1 in
     let is = (class_at (length c.args.self.now.classes) _ _ found.0 v.fits.classes fits found.2).value in
     rw (c.class_in.ensures, is) fits
+
+pub returns-clause-part : goal.returns-clause-part
+returns-clause-part c = class_part _ _ _ (returns-clause-value c)

@@ -2,6 +2,7 @@ use Rattle.std.proofs.Common.{◌+◌, ◌*◌, length, arith, ap}
 use Rattle.x10_image.proofs.Access.{same_length}
 use Rattle.x10_image.proofs.Accessors.{shows}
 use Rattle.x10_image.proofs.FunctionAccess.{function_here, room_is, code_is, instr_here, instr_same}
+use Rattle.x10_image.proofs.Spelled.{instr_part}
 use Rattle.x10_image.proofs.view.ImageView.instr.Goals as goal
 
 pub index-requires : goal.index-requires
@@ -53,3 +54,6 @@ returns-clause-brought c =
     let h = function_here _ _ _ _ _ _ _ c.args.f c.index.result.now v c.requires.function c.index.ensures in
     let i = instr_here _ _ _ _ c.args.pc (c.code_place-start.result + 8 * c.args.pc) h c.requires.pc (omega (arith, c.code_place-start.ensures)) in
     rw (instr_same _ i.instr _ c.instr_in.ensures i.decodes) i.brought
+
+pub returns-clause-part : goal.returns-clause-part
+returns-clause-part c = instr_part _ _ _ _ (returns-clause-value c)

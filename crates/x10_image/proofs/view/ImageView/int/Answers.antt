@@ -2,6 +2,7 @@ use Rattle.std.proofs.Common.{◌+◌, ◌*◌, ℤ, Some, refl, sym, ap, ◌∙
 use Rattle.std.specs.Int.{w64}
 use Rattle.std.proofs.lemmas.Int.{to_z-of_z}
 use Rattle.x10_image.proofs.Accessors.{shows, int_at}
+use Rattle.x10_image.proofs.Spelled.{int_part}
 use Rattle.x10_image.proofs.view.ImageView.int.Goals as goal
 
 pub overflow_mul-i : goal.overflow_mul-i
@@ -22,8 +23,11 @@ int_in-requires c =
     let found = int_at c.self.inside.bytes.now c.self.inside.ints (c.self.inside.ints + 8 * c.args.i) c.args.i c.args.self.now.ints v.ints_at v.fits.ints.1 c.requires refl in
     found.2.room
 
-pub returns : goal.returns
-returns c =
+pub returns-clause-value : goal.returns-clause-value
+returns-clause-value c =
     let v = shows _ _ _ _ _ _ _ c.self.invariant c.self.view_is in
     let found = int_at c.self.inside.bytes.now c.self.inside.ints (c.self.inside.ints + 8 * c.args.i) c.args.i c.args.self.now.ints v.ints_at v.fits.ints.1 c.requires refl in
-    rw (c.int_in.ensures, found.2.value) (record { value = found.1 ∙ ap (λ (z : ℤ). Some z) (sym (to_z-of_z w64 found.0 found.2.fits)) })
+    rw (c.int_in.ensures, found.2.value) (found.1 ∙ ap (λ (z : ℤ). Some z) (sym (to_z-of_z w64 found.0 found.2.fits)))
+
+pub returns-clause-part : goal.returns-clause-part
+returns-clause-part c = int_part _ _ _ (returns-clause-value c)

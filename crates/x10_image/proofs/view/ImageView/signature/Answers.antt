@@ -2,6 +2,7 @@ use Rattle.std.proofs.Common.{arith}
 use Rattle.x10_image.proofs.Access.{same_length}
 use Rattle.x10_image.proofs.Accessors.{shows}
 use Rattle.x10_image.proofs.FunctionAccess.{function_here, room_is, signature_here, signature_fits}
+use Rattle.x10_image.proofs.Spelled.{signature_part}
 use Rattle.x10_image.proofs.view.ImageView.signature.Goals as goal
 
 pub index-requires : goal.index-requires
@@ -26,3 +27,6 @@ returns-clause-fits c =
     let v = shows _ _ _ _ _ _ _ c.self.invariant c.self.view_is in
     let h = function_here _ _ _ _ _ _ _ c.args.f c.index.result.now v c.requires c.index.ensures in
     signature_fits _ _ _ _ _ h (rw c.signature_in.ensures (signature_here _ _ _ _ h))
+
+pub returns-clause-part : goal.returns-clause-part
+returns-clause-part c = (let g = returns-clause-value c in signature_part _ _ g.0 _ g.1 g.2)

@@ -1,0 +1,109 @@
+-- What the commands' answers say of a file.
+use Rattle.std.proofs.Common.{◌≡◌, ℕ, ◌<◌, List, length, Option, Some, None, Result, Ok, refl, sym, ap, subst, ◌∙◌, inl, inr, slice_get, arith}
+use Rattle.std.specs.Prelude.{◌⊎◌}
+use Rattle.std.specs.Io.KnownBytes.{Appends}
+use Rattle.x10_model.specs.Modules.{Module, FitsImage}
+use Rattle.x10_model.specs.Images.{spelling}
+use Rattle.x10_model.specs.ReadingImages.{ImageFault, module_at}
+use Rattle.x10_model.specs.Structure as structure
+use Rattle.x10_model.specs.Structure.{bounds_of}
+use Rattle.x10_model.specs.Verified.{IsVerified}
+use Rattle.x10_model.proofs.ImageLaws.{module_again}
+use Rattle.x10_bounds.specs.Faults.{named, IsFaultOrMemory}
+use Rattle.x10_bounds.specs.declared.fault.BoundCause.{BoundCause}
+use Rattle.x10_bounds.specs.declared.fault.BoundCause.TheVariants as bound
+use Rattle.x10_bounds.specs.declared.fault.BoundFault.{BoundFault}
+use Rattle.x10_verify.specs.Certified.{Certified}
+use Rattle.x10_verify.specs.Faults.{HasBounds, IsStructureFault, RefutesBy, Refutes}
+use Rattle.x10_verify.specs.Verdict.{IsFirstOut, IsFirstWithout}
+use Rattle.x10_verify.specs.declared.fault.VerifyCause.{VerifyCause}
+use Rattle.x10_verify.specs.declared.fault.VerifyCause.TheVariants as cause
+use Rattle.x10_verify.specs.declared.fault.VerifyFault.{VerifyFault}
+use Rattle.x10_world.specs.Endings.{IsImageOf}
+use Rattle.x10_world.specs.Opening.{IsForbidden}
+use Rattle.x10_world.specs.declared.fault.OpenFault.{OpenFault}
+use Rattle.x10_world.specs.declared.fault.OpenFault.TheVariants as opened
+use Rattle.x10_cli.specs.declared.fault.Fault.{Fault}
+use Rattle.x10_cli.specs.declared.fault.Fault.TheVariants as fault
+use Rattle.x10_cli.specs.declared.task.Verb.TheVariants as verb
+use Rattle.x10_cli.specs.Answers.{IsImage, IsVerifiedImage, CanBeDone, IsStatus, Prints, verdict_line, places_for, of_verify, of_bounds, of_open, status_of}
+
+abbrev answer : Module → Result Module ImageFault
+answer m = Ok m
+
+-- bytes are the image of one module
+same_module : (m n : Module) (bytes : List ℕ) → FitsImage m → bytes ≡ spelling m → FitsImage n → bytes ≡ spelling n → m ≡ n
+same_module m n bytes fm em fn en =
+    let h : answer m ≡ answer n = sym (module_again m fm) ∙ ap module_at (sym em ∙ en) ∙ module_again n fn in
+    cc
+
+-- ---- the verifier
+
+broken : (m : Module) (bounds : List ℕ) (c : Option structure.BoundCause) (f pc : ℕ) → IsStructureFault m c f pc → bounds_of m ≡ Ok bounds → ⊥
+broken m bounds None f pc r e = r
+broken m bounds (Some c) f pc r e = absurd (let h = sym r ∙ e in cc)
+
+out_of_range : (m : Module) (bounds : List ℕ) (f pc : ℕ) → IsFirstOut m f pc → IsVerified m bounds → ⊥
+out_of_range m bounds f pc out v = out.out.out (v.in_range f pc out.function out.out.instr out.is_function out.out.is_instr)
+
+without : (m : Module) (bounds : List ℕ) (f : ℕ) → IsFirstWithout m f → IsVerified m bounds → ⊥
+without m bounds f out v = out.without (v.assignments f out.function out.is_function)
+
+not_by : (m : Module) (bounds : List ℕ) (c : VerifyCause) (fault : VerifyFault) (f pc : ℕ) → RefutesBy c m f pc → status_of (of_verify c fault) ≡ 1 → IsVerified m bounds → ⊥
+not_by m bounds (cause.Structure c) fault f pc r is v = broken m bounds (named c) f pc r v.bounds_are
+not_by m bounds cause.Index fault f pc r is v = out_of_range m bounds f pc r.1 v
+not_by m bounds cause.Unset fault f pc r is v = without m bounds f r.2 v
+not_by m bounds cause.Kind fault f pc r is v = without m bounds f r.2 v
+not_by m bounds cause.Home fault f pc r is v = without m bounds f r.2 v
+not_by m bounds cause.Result fault f pc r is v = without m bounds f r.2 v
+not_by m bounds cause.Memory fault f pc r is v = absurd (omega (arith, is))
+
+pub not_verified : (bytes : List ℕ) (m : Module) (f : VerifyFault) (told : Fault) → IsImage bytes m → Refutes m f → told ≡ of_verify f.cause f → status_of told ≡ 1 → IsVerifiedImage bytes → ⊥
+not_verified bytes m f told image r e is (c, done) =
+    let same = same_module c.program m bytes done.certified.fits done.spelled image.fits image.spelled in
+    not_by m c.bounds f.cause f f.function f.pc r (ap status_of (sym e) ∙ is) (subst (λ n. IsVerified n c.bounds) same done.certified.verified)
+
+-- ---- bounds
+
+no_bounds_by : (m : Module) (c : BoundCause) (f : BoundFault) → IsFaultOrMemory (named c) f (bounds_of m) → status_of (of_bounds c f) ≡ 1 → HasBounds m → ⊥
+no_bounds_by m bound.Memory f g is b = absurd (omega (arith, is))
+no_bounds_by m bound.Nesting f g is b = absurd (let h = sym g ∙ b.1 in cc)
+no_bounds_by m bound.Jump f g is b = absurd (let h = sym g ∙ b.1 in cc)
+no_bounds_by m bound.LoopSlot f g is b = absurd (let h = sym g ∙ b.1 in cc)
+no_bounds_by m bound.CallOrder f g is b = absurd (let h = sym g ∙ b.1 in cc)
+no_bounds_by m bound.TooLarge f g is b = absurd (let h = sym g ∙ b.1 in cc)
+
+pub no_bounds : (bytes : List ℕ) (m : Module) (f : BoundFault) (told : Fault) → IsImage bytes m → IsFaultOrMemory (named f.cause) f (bounds_of m) → told ≡ of_bounds f.cause f → status_of told ≡ 1 → CanBeDone verb.Bounds None bytes → ⊥
+no_bounds bytes m f told image g e is done =
+    let same = same_module done.0 m bytes done.1.fits done.1.spelled image.fits image.spelled in
+    no_bounds_by m f.cause f g (ap status_of (sym e) ∙ is) (subst HasBounds same done.2)
+
+-- ---- places
+
+forbidden_by : (f : OpenFault) → status_of (of_open f) ≡ 1 → f ≡ opened.Places
+forbidden_by opened.Places is = refl
+forbidden_by opened.Memory is = absurd (omega (arith, is))
+
+forbidden_again : (c d : Certified) (places : Option ℕ) → c.program ≡ d.program → IsForbidden c (places_for places c) → IsForbidden d (places_for places d)
+forbidden_again c d None e h = subst (λ (m : Module). (m.least_places < m.least_places) ⊎ (64 < m.least_places)) e h
+forbidden_again c d (Some n) e h = subst (λ (m : Module). (n < m.least_places) ⊎ (64 < n)) e h
+
+pub not_open : (bytes : List ℕ) (c : Certified) (places : Option ℕ) (n : ℕ) (f : OpenFault) (told : Fault) → IsImageOf bytes c → (f ≡ opened.Places → IsForbidden c n) → n ≡ places_for places c → told ≡ of_open f → status_of told ≡ 1 → CanBeDone verb.Run places bytes → ⊥
+not_open bytes c places n f told image forbids en e is done =
+    let same = same_module c.program done.0.program bytes image.certified.fits image.spelled done.1.certified.fits done.1.spelled in
+    let forbidden = forbids (forbidden_by f (ap status_of (sym e) ∙ is)) in
+    done.2 (forbidden_again c done.0 places same (subst (IsForbidden c) en forbidden))
+
+-- ---- statuses
+
+pub status_told : (n : ℕ) (f : Fault) → (n ≡ status_of f) ⊎ (n ≡ 4) → IsStatus n
+status_told n f (inl e) = inr (f, e)
+status_told n f (inr e) = inr (fault.File, e)
+
+-- ---- the verdict
+
+pub printed_verdict : (bytes : List ℕ) (c : Certified) (image : Module) (functions entry at bound : ℕ) (old new : Option (List ℕ)) → IsImageOf bytes c → image ≡ c.program → functions ≡ length image.functions → entry ≡ image.entry → at ≡ entry → slice_get c.bounds at ≡ Some bound → Appends old new (verdict_line functions bound) → Prints verb.Verify bytes old new
+printed_verdict bytes c image functions entry at bound old new is same count first place got line =
+    let from : at ≡ c.program.entry = place ∙ first ∙ ap (λ (m : Module). m.entry) same in
+    let many : functions ≡ length c.program.functions = count ∙ ap (λ (m : Module). length m.functions) same in
+    (c, bound, is, subst (λ (n : ℕ). slice_get c.bounds n ≡ Some bound) from got, subst (λ (n : ℕ). Appends old new (verdict_line n bound)) many line)

@@ -1,0 +1,8 @@
+use Rattle.std.proofs.lemmas.Result.{err_from_is_err_and}
+use Rattle.x10_cli.proofs.Answered.{not_verified}
+use Rattle.x10_cli.proofs.commands.verified_in.Goals as goal
+
+pub returns-in_err-verify-clause-refused : goal.returns-in_err-verify-clause-refused
+returns-in_err-verify-clause-refused c =
+    let told = err_from_is_err_and c.from_residual-in_err-verify.result c.from_residual-in_err-verify.ensures.1 in
+    rw told.1 (not_verified c.args.bytes.now c.in_ok-image.image c.in_err-verify.field-0.0 told.0 c.in_ok-image.ensures.found c.in_err-verify.ensures.err told.2)
