@@ -69,7 +69,8 @@ fn lone(world: &World, places: u16) -> Option<(u16, usize)> {
 
 /// Steps of the one activity that there is: each is a round.
 fn stretch(world: &mut World, place: u16, key: usize, left: &mut u64) -> Result<Then, Fault>
-    ensures { result ≡ Ok Then.Ends → HasEnded world.new }
+    ensures ended { result ≡ Ok Then.Ends → HasEnded world.new }
+    ensures stopped { IfErr result (λ e. status_of e ≡ 2) }
 {
     let made = world.run_activity(place, key, *left)?;
     *left = left.saturating_sub(made);
@@ -117,7 +118,8 @@ fn event(world: &mut World, event: Event, left: &mut u64) -> Result<Then, Fault>
 
 /// How a run goes on. Whether it has ended is looked at before whether there may be another event.
 fn after(world: &World, left: u64) -> Result<Then, Fault>
-    ensures { result ≡ Ok Then.Ends → HasEnded world.now }
+    ensures ended { result ≡ Ok Then.Ends → HasEnded world.now }
+    ensures stopped { IfErr result (λ e. status_of e ≡ 2) }
 {
     if world.closed() {
         return Ok(Then::Ends);

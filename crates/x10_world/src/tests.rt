@@ -68,6 +68,23 @@ fn refusals(rt: HostRuntime) -> Result<(), Fail> {
 }
 
 #[test]
+fn at_a_stretch(rt: HostRuntime) -> Result<(), Fail> {
+    let verified = verify(rt.alloc(), ImageView::read(rt.alloc(), &SEVEN)?)?;
+    let mut world = World::open(rt.alloc(), &verified, 2)?;
+    let key = world.next_key(0, 0).ok_or("main is there")?;
+    assert_eq!(rt; world.run_activity(1, key, 5), Ok(0));
+    assert_eq!(rt; world.run_activity(2, key, 5), Ok(0));
+    assert_eq!(rt; world.run_activity(0, key + 1, 5), Ok(0));
+    assert_eq!(rt; world.run_activity(0, key, 2), Ok(2));
+    assert!(rt; !world.closed());
+    assert_eq!(rt; world.run_activity(0, key, 5), Ok(1));
+    assert!(rt; world.closed());
+    assert_eq!(rt; world.run_activity(0, key, 5), Ok(0));
+    assert!(rt; matches!(world.output(0), Some([Line::Int(7)])));
+    Ok(())
+}
+
+#[test]
 fn a_world(rt: HostRuntime) -> Result<(), Fail> {
     let verified = verify(rt.alloc(), ImageView::read(rt.alloc(), &SEVEN)?)?;
     let mut world = World::open(rt.alloc(), &verified, 2)?;
