@@ -1,4 +1,4 @@
-; 10,000,000 calls of a function of two parameters: 40,000,000 and some steps.
+; 10,000,000 calls of a function of two parameters: 40,020,025 steps.
 places 1
 int 0
 int 1

@@ -1,4 +1,4 @@
-; Three loops in one another around three instructions: 80,020,000 and some steps.
+; Three loops in one another around three instructions: 80,040,047 steps.
 places 1
 int 0
 int 1
