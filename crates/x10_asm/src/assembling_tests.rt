@@ -172,7 +172,7 @@ fn faults_of_instructions(rt: HostRuntime) -> Result<(), Fail> {
         ("int 7", AsmCause::Order),
         ("entry 0", AsmCause::Order),
         ("add 0 0 0", AsmCause::Word),
-        ("JMP 0", AsmCause::Word),
+        ("HERE 0", AsmCause::Word),
     ];
     for (line, cause) in lines {
         let text = with(rt.alloc(), HEAD, line, "\nRET 0\nend\nentry 0\n")?;

@@ -4,6 +4,8 @@
 #[cfg(test)]
 mod outcome;
 #[cfg(test)]
+mod programs;
+#[cfg(test)]
 mod seven;
 #[cfg(test)]
 mod texts;

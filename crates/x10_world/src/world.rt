@@ -58,6 +58,17 @@ fn run_one(places: &mut Vec<Place>, id: usize, key: usize, most: u64) -> (u64, O
 }
 
 impl<'a> World<'a> {
+    /// Refuses where the world has stopped.
+    fn going(&self) -> Result<(), Stop>
+        ensures ok { IfOk result (λ _. self.now.stopped ≢ true) }
+        ensures err { IfErr result (λ why. (why ≡ stop.Stopped) × (self.now.stopped ≡ true)) }
+    {
+        if self.stopped {
+            return Err(Stop::Stopped);
+        }
+        Ok(())
+    }
+
     /// One event.
     fn happen(&mut self, event: Event) -> Result<(), Stop>
         requires { self.old.stopped ≢ true }
@@ -131,9 +142,7 @@ impl<'a> World<'a> {
         ensures memory { self.old.stopped ≢ true → IfErr result (λ why. why ≡ stop.Memory) }
         ensures stop { IfErr result (λ _. self.new.stopped ≡ true) }
     {
-        if self.stopped {
-            return Err(Stop::Stopped);
-        }
+        self.going()?;
         match self.make(events) {
             (_, Some(stop)) => Err(stop),
             (_, None) => Ok(()),
@@ -154,9 +163,7 @@ impl<'a> World<'a> {
         ensures memory { self.old.stopped ≢ true → IfErr result (λ why. why ≡ stop.Memory) }
         ensures stop { IfErr result (λ _. self.new.stopped ≡ true) }
     {
-        if self.stopped {
-            return Err(Stop::Stopped);
-        }
+        self.going()?;
         let verified = self.verified;
         verified.certificate();
         let (done, why) = run_one(&mut self.places, usize::from(place), key, most);

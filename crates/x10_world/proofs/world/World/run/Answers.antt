@@ -3,8 +3,8 @@ use Rattle.x10_world.specs.StandsForWorld.{Runs}
 use Rattle.x10_world.proofs.Running.{runs_none}
 use Rattle.x10_world.proofs.world.World.run.Goals as goal
 
-pub returns-then-self-clause-some : goal.returns-then-self-clause-some
-returns-then-self-clause-some c = λ w stand. (0, runs_none c.args.self.now c.args.events.now w stand)
+pub returns-in_err-going-clause-some : goal.returns-in_err-going-clause-some
+returns-in_err-going-clause-some c = λ w stand. (0, runs_none c.args.self.now c.args.events.now w stand)
 
 pub returns-in_default-Some-clause-some : goal.returns-in_default-Some-clause-some
 returns-in_default-Some-clause-some c = λ w stand. (c.make.result.0, c.make.ensures.runs w stand)

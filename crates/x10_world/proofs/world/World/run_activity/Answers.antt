@@ -4,8 +4,8 @@ use Rattle.x10_model.specs.Worlds.{done}
 use Rattle.x10_world.proofs.Repeating.{run_ran, run_none, world_after_run, world_after_stop}
 use Rattle.x10_world.proofs.world.World.run_activity.Goals as goal
 
-pub returns-then-self-clause-some : goal.returns-then-self-clause-some
-returns-then-self-clause-some c = λ w stand. (0, (w, done w stand.tied.within, stand))
+pub returns-in_err-going-clause-some : goal.returns-in_err-going-clause-some
+returns-in_err-going-clause-some c = λ w stand. (0, (w, done w stand.tied.within, stand))
 
 pub invariant_of-self : goal.invariant_of-self
 invariant_of-self c = world_after_stop c.self.inside.verified.now.program c.self.inside.verified.now.bounds c.self.inside.places.items c.run_one-done.new.places.items c.from.result c.args.key c.args.most c.run_one-done.result.0 c.run_one-done.result.1 c.self.inside.stopped c.self.invariant c.run_one-done.ensures
@@ -17,7 +17,7 @@ returns-in-Some-clause-some c = λ w stand. (c.run_one-done.result.0, run_ran
 
 pub invariant_of-self-in_default : goal.invariant_of-self-in_default
 invariant_of-self-in_default c = world_after_run c.self.inside.verified.now.program c.self.inside.verified.now.bounds c.self.inside.places.items c.run_one-done.new.places.items c.from.result c.args.key c.args.most c.run_one-done.result.0 c.run_one-done.result.1 c.self.inside.stopped
-    c.self.invariant (λ on. let e = sym c.if-self.false ∙ on in cc) c.run_one-done.ensures c.in_default.is
+    c.self.invariant (λ on. c.in_ok-going.ensures.ok (ap (λ (x : WorldState). x.stopped) (sym c.self.view_is) ∙ on)) c.run_one-done.ensures c.in_default.is
 
 pub returns-clause-ok : goal.returns-clause-ok
 returns-clause-ok c = run_ran
