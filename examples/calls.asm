@@ -1,7 +1,8 @@
-; Functions. `func` says how many registers and loop slots a function has, the kind of its result, and the kinds of its
-; parameters. CALL a b x calls function x with the registers from b on, and puts the result into register a. Each call has
-; registers of its own, with the arguments in the first ones. A function calls only those that stand above it, so none calls
-; itself, and `x10p bounds` knows the steps of each: 2, 8, 2 and, for main, 32.
+; Functions. `func` says how many registers and loop slots a function has, the kind of its result,
+; and the kinds of its parameters. CALL a b x calls function x with the registers from b on, and
+; puts the result into register a. Each call has registers of its own, with the arguments in the
+; first ones. A function calls only those that stand above it, so none calls itself, and `x10p
+; bounds` knows the steps of each: 2, 8, 2 and, for main, 32.
 ;
 ; Prints  0: 25
 ;         0: 256

@@ -1,7 +1,8 @@
-; The greatest common divisor by Euclid's algorithm: a loop that is left before its count is used up. REM goes to `done` where
-; the divisor is 0, and a jump may leave loops. No two numbers of 64 bits need more than 92 turns (Lame's theorem), and the
-; bound counts them all: 370 steps for the function, however few it takes. The second two numbers, neighbors among those of
-; Fibonacci, take 91 turns.
+; The greatest common divisor by Euclid's algorithm: a loop that is left before its count is used
+; up. REM goes to `done` where the divisor is 0, and a jump may leave loops. No two numbers of 64
+; bits need more than 92 turns (Lame's theorem), and the bound counts them all: 370 steps for the
+; function, however few it takes. The second two numbers, neighbors among those of Fibonacci, take
+; 91 turns.
 ;
 ; Prints  0: 21
 ;         0: 1

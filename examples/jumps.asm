@@ -1,5 +1,6 @@
-; Jumps. JZ goes to its label where a register holds 0, and JMP always. LT and EQ give 1 or 0 for JZ to look at. A division by
-; zero is a jump too: DIV and REM say where to go then. All of them go forward; only a loop's end goes back.
+; Jumps. JZ goes to its label where a register holds 0, and JMP always. LT and EQ give 1 or 0 for
+; JZ to look at. A division by zero is a jump too: DIV and REM say where to go then. All of them
+; go forward; only a loop's end goes back.
 ;
 ; Prints  0: 9
 ;         0: 2

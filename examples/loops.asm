@@ -1,6 +1,7 @@
-; Counted loops. LOOP puts a count into a loop slot, and ENDL takes 1 from it and goes back to the loop's beginning while
-; something is left. A loop within a loop has the next slot, and begins anew each time that it is reached. The counts stand in
-; the code, so `x10p bounds` knows before the run that main takes 70 steps.
+; Counted loops. LOOP puts a count into a loop slot, and ENDL takes 1 from it and goes back to the
+; loop's beginning while something is left. A loop within a loop has the next slot, and begins
+; anew each time that it is reached. The counts stand in the code, so `x10p bounds` knows before
+; the run that main takes 70 steps.
 ;
 ; Prints  0: 3628800
 ;         0: 1

@@ -1,4 +1,4 @@
-use crate::outcome::{Outcome, outcome_of};
+use crate::outcome::outcome_of;
 use std::alloc::Global;
 use std::fmt::Write;
 use std::test::*;
@@ -122,18 +122,23 @@ end
 entry 0
 ";
 
-/// What a command prints that ends well.
-fn printed(alloc: Global, words: &[&str], bytes: &[u8]) -> Result<Vec<u8>, Fail> {
+/// Whether the program ends with this status and prints this, when the file that the words name has these bytes.
+fn tells(
+    alloc: Global,
+    words: &[&str],
+    bytes: &[u8],
+    told: (u8, &str, &str),
+) -> Result<bool, Fail> {
+    let (status, out, err) = told;
     let found = outcome_of(alloc, words, bytes)?;
-    if found.status != 0 || !found.err.is_empty() {
-        return Err("it ends well".into());
-    }
-    Ok(found.out)
+    let same = found.out.as_slice() == out.as_bytes() && found.err.as_slice() == err.as_bytes();
+    Ok(same && found.status == status)
 }
 
 /// The image of a text.
 fn image_of(alloc: Global, text: &str) -> Result<Vec<u8>, Fail> {
-    printed(alloc, &["asm", "F", "G"], text.as_bytes())
+    let found = outcome_of(alloc, &["asm", "F", "G"], text.as_bytes())?;
+    Ok(found.out)
 }
 
 #[test]
@@ -153,16 +158,15 @@ fn programs(rt: HostRuntime) -> Result<(), Fail> {
     ];
     for (text, lines, bounds, [fewer, steps]) in rows {
         let image = image_of(alloc, text)?;
-        let listing = printed(alloc, &["list", "G"], &image)?;
-        assert_eq!(rt; listing.as_slice(), text.as_bytes());
-        let found = printed(alloc, &["bounds", "G"], &image)?;
-        assert_eq!(rt; found.as_slice(), bounds.as_bytes());
-        let found = printed(alloc, &["run", "G", "--limit", steps], &image)?;
-        assert_eq!(rt; found.as_slice(), lines.as_bytes());
-        let short = outcome_of(alloc, &["run", "G", "--limit", fewer], &image)?;
-        assert_eq!(rt; short.status, 2, "{steps}");
-        assert_eq!(rt; short.out.as_slice(), lines.as_bytes());
-        assert_eq!(rt; short.err.as_slice(), "x10p: limit\n".as_bytes());
+        let commands: [(&[&str], (u8, &str, &str)); 4] = [
+            (&["list", "G"], (0, text, "")),
+            (&["bounds", "G"], (0, bounds, "")),
+            (&["run", "G", "--limit", steps], (0, lines, "")),
+            (&["run", "G", "--limit", fewer], (2, lines, "x10p: limit\n")),
+        ];
+        for (words, told) in commands {
+            assert!(rt; tells(alloc, words, &image, told)?, "{words:?} {text}");
+        }
     }
     Ok(())
 }
@@ -173,67 +177,78 @@ fn labels_and_carriage_returns(rt: HostRuntime) -> Result<(), Fail> {
     for line in LABELS.lines() {
         write!(text, "{line}\r\n")?;
     }
-    let plain = image_of(rt.alloc(), LOOPS)?;
     for text in [LABELS, text.as_str()] {
         let image = image_of(rt.alloc(), text)?;
-        assert_eq!(rt; image.as_slice(), plain.as_slice());
+        assert!(rt; tells(rt.alloc(), &["list", "G"], &image, (0, LOOPS, ""))?);
     }
     Ok(())
 }
 
-/// What a command does with a module of one function, with the code before its RET.
-fn of_code(alloc: Global, verb: &str, code: &str) -> Result<Outcome, Fail> {
-    let mut text = String::from_str(alloc, "places 1\nint 0\nfunc 1 3 none\n")?;
-    text.push_str(code)?;
-    text.push_str("RET 0\nend\nentry 0\n")?;
-    let image = image_of(alloc, &text)?;
-    outcome_of(alloc, &[verb, "G"], &image)
-}
+/// What stands before RET in a module of one function, and what `bounds` tells of it: two great bounds, one that is too
+/// large, and code that breaks a rule.
+const STRUCTURES: [(&str, (u8, &str, &str)); 11] = [
+    (
+        "LOOP 0 65535\nLOOP 1 65535\nLOOP 2 65535\nENDL 2 3\nENDL 1 2\nENDL 0 1\n",
+        (0, "0 281470681808897\n", ""),
+    ),
+    (
+        "LOOP 0 65535\nLOOP 1 65535\nINTK 0 0\nLOOP 2 65535\nENDL 2 4\nENDL 1 2\nENDL 0 1\n",
+        (0, "0 281474976645122\n", ""),
+    ),
+    (
+        "LOOP 0 65535\nINTK 0 0\nLOOP 1 65535\nINTK 0 0\nLOOP 2 65535\nENDL 2 5\nENDL 1 3\nENDL 0 1\n",
+        (1, "", "x10p: verify: Structure TooLarge 0 0\n"),
+    ),
+    (
+        "CALL 0 0 0\n",
+        (1, "", "x10p: verify: Structure CallOrder 0 0\n"),
+    ),
+    (
+        "LOOP 0 2\n",
+        (1, "", "x10p: verify: Structure Nesting 0 1\n"),
+    ),
+    (
+        "INTK 0 0\nENDL 0 0\n",
+        (1, "", "x10p: verify: Structure Nesting 0 1\n"),
+    ),
+    (
+        "JMP 2\nLOOP 0 2\nENDL 0 2\n",
+        (1, "", "x10p: verify: Structure Jump 0 0\n"),
+    ),
+    (
+        "INTK 0 0\nJZ 0 0\n",
+        (1, "", "x10p: verify: Structure Jump 0 1\n"),
+    ),
+    (
+        "LOOP 0 2\nENDL 0 0\n",
+        (1, "", "x10p: verify: Structure Jump 0 1\n"),
+    ),
+    (
+        "LOOP 1 2\nENDL 1 1\n",
+        (1, "", "x10p: verify: Structure LoopSlot 0 0\n"),
+    ),
+    (
+        "LOOP 0 65536\nENDL 0 1\n",
+        (1, "", "x10p: verify: Structure LoopSlot 0 0\n"),
+    ),
+];
 
 #[test]
-fn greatest_bounds(rt: HostRuntime) -> Result<(), Fail> {
-    let rows = [
-        (
-            "LOOP 0 65535\nLOOP 1 65535\nLOOP 2 65535\nENDL 2 3\nENDL 1 2\nENDL 0 1\n",
-            "0 281470681808897\n",
-        ),
-        (
-            "LOOP 0 65535\nLOOP 1 65535\nINTK 0 0\nLOOP 2 65535\nENDL 2 4\nENDL 1 2\nENDL 0 1\n",
-            "0 281474976645122\n",
-        ),
-    ];
-    for (code, bounds) in rows {
-        let found = of_code(rt.alloc(), "bounds", code)?;
-        assert_eq!(rt; found.status, 0, "{bounds}");
-        assert_eq!(rt; found.out.as_slice(), bounds.as_bytes());
-    }
-    Ok(())
-}
-
-#[test]
-fn code_without_structure(rt: HostRuntime) -> Result<(), Fail> {
-    let rows = [
-        (
-            "LOOP 0 65535\nINTK 0 0\nLOOP 1 65535\nINTK 0 0\nLOOP 2 65535\nENDL 2 5\nENDL 1 3\nENDL 0 1\n",
-            "TooLarge 0 0\n",
-        ),
-        ("CALL 0 0 0\n", "CallOrder 0 0\n"),
-        ("LOOP 0 2\n", "Nesting 0 1\n"),
-        ("INTK 0 0\nENDL 0 0\n", "Nesting 0 1\n"),
-        ("JMP 2\nLOOP 0 2\nENDL 0 2\n", "Jump 0 0\n"),
-        ("INTK 0 0\nJZ 0 0\n", "Jump 0 1\n"),
-        ("LOOP 0 2\nENDL 0 0\n", "Jump 0 1\n"),
-        ("LOOP 1 2\nENDL 1 1\n", "LoopSlot 0 0\n"),
-        ("LOOP 0 65536\nENDL 0 1\n", "LoopSlot 0 0\n"),
-    ];
-    for (code, fault) in rows {
-        for verb in ["bounds", "verify", "run"] {
-            let found = of_code(rt.alloc(), verb, code)?;
-            assert_eq!(rt; found.status, 1, "{code}");
-            assert!(rt; found.out.is_empty(), "{code}");
-            let told = "x10p: verify: Structure ".as_bytes();
-            assert!(rt; found.err.starts_with(told), "{code}");
-            assert!(rt; found.err.ends_with(fault.as_bytes()), "{code}");
+fn structures(rt: HostRuntime) -> Result<(), Fail> {
+    for (code, told) in STRUCTURES {
+        let mut text = String::from_str(rt.alloc(), "places 1\nint 0\nfunc 1 3 none\n")?;
+        text.push_str(code)?;
+        text.push_str("RET 0\nend\nentry 0\n")?;
+        let image = image_of(rt.alloc(), &text)?;
+        assert!(rt;
+            tells(rt.alloc(), &["bounds", "G"], &image, told)?,
+            "{code}"
+        );
+        if told.0 == 1 {
+            assert!(rt;
+                tells(rt.alloc(), &["verify", "G"], &image, told)?,
+                "{code}"
+            );
         }
     }
     Ok(())
