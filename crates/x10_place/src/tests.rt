@@ -111,6 +111,22 @@ fn prints_seven(rt: HostRuntime) -> Result<(), Fail> {
 }
 
 #[test]
+fn at_a_stretch(rt: HostRuntime) -> Result<(), Fail> {
+    let bytes = image(rt.alloc(), &[7], &[&PRINTS])?;
+    let verified = verify(rt.alloc(), ImageView::read(rt.alloc(), &bytes)?)?;
+    let mut place = Place::new(rt.alloc(), &verified, 0, 1)?;
+    let key = place.next_key(0).ok_or("main is there")?;
+    assert_eq!(rt; place.run(99, 5), (0, None));
+    assert_eq!(rt; place.run(key, 2), (2, None));
+    assert!(rt; !place.closed());
+    assert_eq!(rt; place.run(key, 5), (1, None));
+    assert!(rt; place.closed());
+    assert_eq!(rt; place.run(key, 5), (0, None));
+    assert!(rt; matches!(place.output(), [Line::Int(7)]));
+    Ok(())
+}
+
+#[test]
 fn other_place(rt: HostRuntime) -> Result<(), Fail> {
     let bytes = image(rt.alloc(), &[7], &[&PRINTS])?;
     let verified = verify(rt.alloc(), ImageView::read(rt.alloc(), &bytes)?)?;
