@@ -1,34 +1,32 @@
 -- Calls: what the program does to frames is what the machine does to call frames.
-use Rattle.std.proofs.Common.{◌≡◌, ◌⊎◌, ℕ, zero, suc, ◌+◌, ◌<◌, ◌≤◌, List, [], ◌∷◌, ◌++◌, length, get_or, replicate, Option, Some, None, refl, sym, ap, subst, ◌∙◌, inl, inr, arith}
-use Rattle.std.specs.Prelude.{IsTrue, slice_get, slice_index, slice_set}
+use Rattle.std.proofs.Common.{◌≡◌, ℕ, zero, suc, ◌+◌, ◌<◌, ◌≤◌, List, [], ◌∷◌, length, replicate, Option, Some, refl, sym, ap, subst, ◌∙◌, arith}
+use Rattle.std.specs.Prelude.{IsTrue, slice_get, slice_index}
 use Rattle.std.specs.List.{AllByRecursion}
 use Rattle.x10_kinds.specs.declared.kind.Kind.{Kind}
 use Rattle.x10_kinds.specs.declared.kind.Kind.TheVariants as kind
 use Rattle.x10_kinds.specs.declared.homes.Term.TheVariants as term
-use Rattle.x10_code.specs.declared.op.Op.{Op}
 use Rattle.x10_code.specs.declared.op.Op.TheVariants as op
 use Rattle.x10_code.specs.declared.instr.Instr.{Instr}
 use Rattle.x10_code.specs.Table.{form_of}
-use Rattle.x10_model.specs.Maps.{with_entry, IsIn}
-use Rattle.x10_model.specs.Modules.{Module, Function, FitsImage, FitsSlot, FitsFunction, takes_flag}
+use Rattle.x10_model.specs.Modules.{Function, FitsImage, FitsSlot, takes_flag}
 use Rattle.x10_model.specs.declared.slot.Slot.{Slot}
-use Rattle.x10_model.specs.Ranges.{function_at, instr_at, instr_in, parameters_of, result_of, argument_count, AreArgumentRegisters, IsThere}
+use Rattle.x10_model.specs.Ranges.{function_at, parameters_of, argument_count, AreArgumentRegisters, IsThere}
 use Rattle.x10_model.specs.Values.{Value, Int, Place, Text, Rail, Object, Null, Ref, Cells, IsOfKind}
 use Rattle.x10_model.specs.Signatures.{HasHome, FitsSlotAt, FitSlots}
 use Rattle.x10_model.specs.Places as machine
 use Rattle.x10_model.specs.Places.{Stay, Works, with_stay}
-use Rattle.x10_model.specs.Moves.{Situation, Does, Passes, HoldsFrom, place_of, entry_frame}
-use Rattle.x10_model.specs.Assignments.{State, Point, Edges, SlotsFit, FitsAs, parameter_kind, entry_state, Permits, Reaches}
-use Rattle.x10_verify.proofs.Wholes.{some_below, all_at, function_fits}
+use Rattle.x10_model.specs.Moves.{Situation, Does, HoldsFrom, place_of, entry_frame}
+use Rattle.x10_model.specs.Assignments.{State, Edges, SlotsFit, FitsAs, parameter_kind, entry_state, Permits}
+use Rattle.x10_verify.proofs.Wholes.{function_fits}
 use Rattle.x10_place.specs.declared.frame.CallFrame.{CallFrame}
 use Rattle.x10_place.specs.Words.{IsWordOf, AreWordsOf}
-use Rattle.x10_place.specs.Homes.{AreHomes, place_at, place_in}
-use Rattle.x10_place.specs.Frames.{word_at, IsFetched, IsEntered}
+use Rattle.x10_place.specs.Homes.{AreHomes, place_in}
+use Rattle.x10_place.specs.Frames.{IsFetched, IsEntered}
 use Rattle.x10_place.specs.Activities.{ActivityState, Calls}
-use Rattle.x10_place.specs.StandsFor.{PlaceState, Assigned, StandsForFrame, StandForCallers, StandsForStay}
+use Rattle.x10_place.specs.StandsFor.{PlaceState, Assigned, StandsForFrame, StandsForStay}
 use Rattle.x10_place.proofs.Typed.{some_is, reads, words_weaken}
 use Rattle.x10_place.proofs.Homes.{homes_weaken, homes_entry}
-use Rattle.x10_place.proofs.Framed.{HasState, has_state, point_of, in_range, fits, rule}
+use Rattle.x10_place.proofs.Framed.{has_state, point_of, in_range, fits}
 use Rattle.x10_place.proofs.Local.{situated}
 
 -- ---- homes

@@ -1,9 +1,6 @@
 -- Callers: each stands at a call of the function of the next one.
-use Rattle.std.proofs.Common.{◌≡◌, ◌≢◌, ℕ, ◌+◌, ◌<◌, ◌≤◌, ◌^◌, List, [], ◌∷◌, ◌++◌, length, Option, Some, None, refl, sym, ap, subst, ◌∙◌, arith}
-use Rattle.x10_code.specs.declared.op.Op.TheVariants as op
-use Rattle.x10_code.specs.declared.instr.Instr.{Instr}
-use Rattle.x10_model.specs.Modules.{Module, Function, FitsImage}
-use Rattle.x10_model.specs.Ranges.{function_at, instr_at}
+use Rattle.std.proofs.Common.{◌≡◌, ℕ, ◌<◌, List, [], ◌∷◌, ◌++◌, length, refl, sym, subst}
+use Rattle.x10_model.specs.Modules.{Module}
 use Rattle.x10_image.specs.Parts.{code_in, code_at}
 use Rattle.x10_verify.proofs.Wholes.{some_below}
 use Rattle.x10_place.specs.declared.frame.CallFrame.{CallFrame}

@@ -1,15 +1,13 @@
 -- The ends of functions, and what is printed: the program's steps are the machine's.
-use Rattle.std.proofs.Common.{◌≡◌, ◌⊎◌, ℕ, ◌+◌, ◌<◌, Bool, true, false, List, [], ◌∷◌, ◌++◌, length, set, Option, Some, None, refl, sym, ap, subst, ◌∙◌, inl, inr, arith}
-use Rattle.std.specs.Prelude.{slice_get, slice_index, slice_set, IfSome}
-use Rattle.std.specs.List.{AllByRecursion}
+use Rattle.std.proofs.Common.{◌≡◌, ◌⊎◌, ℕ, ◌+◌, ◌<◌, List, [], ◌∷◌, ◌++◌, length, Option, Some, None, refl, sym, ap, subst, ◌∙◌, inl, inr, arith}
+use Rattle.std.specs.Prelude.{slice_index, slice_set, IfSome}
 use Rattle.x10_kinds.specs.declared.kind.Kind.TheVariants as kind
 use Rattle.x10_kinds.specs.declared.homes.Term.TheVariants as term
-use Rattle.x10_code.specs.declared.op.Op.{Op}
 use Rattle.x10_code.specs.declared.op.Op.TheVariants as op
 use Rattle.x10_code.specs.declared.instr.Instr.{Instr}
 use Rattle.x10_code.specs.Table.{form_of}
 use Rattle.x10_model.specs.Maps.{with_entry, IsIn}
-use Rattle.x10_model.specs.Modules.{Module, Function, FitsSlot, FitsFunction}
+use Rattle.x10_model.specs.Modules.{Module, Function, FitsSlot}
 use Rattle.x10_model.specs.declared.slot.Slot.{Slot}
 use Rattle.x10_model.specs.Ranges.{function_at, instr_at, instr_in, result_of, result_for, IsResultRegister, IsThere}
 use Rattle.x10_model.specs.Values.{Value, Int, Cells, IsOfKind}
@@ -17,7 +15,7 @@ use Rattle.x10_model.specs.Signatures.{FitsSlotAt}
 use Rattle.x10_model.specs.Places as machine
 use Rattle.x10_model.specs.Places.{Stay, Effect, Works, Ends, root, Number, with_stay, next, writes}
 use Rattle.x10_model.specs.Moves.{Situation, Does, GivesBack, SendsBack, Returns, resumed, with_line}
-use Rattle.x10_model.specs.Assignments.{State, Point, Edges, IsKind, FitsAs, ReturnsWell, GivesResult, onward, gives, like_if, Permits, Reaches}
+use Rattle.x10_model.specs.Assignments.{State, Edges, IsKind, ReturnsWell, GivesResult, gives, like_if, Permits, Reaches}
 use Rattle.x10_place.specs.declared.frame.CallFrame.{CallFrame}
 use Rattle.x10_place.specs.Words.{IsWordOf, AreWordsOf}
 use Rattle.x10_place.specs.Homes.{AreHomes}
@@ -26,9 +24,9 @@ use Rattle.x10_place.specs.Activities.{ActivityState, Resumes, GoesOn}
 use Rattle.x10_place.specs.StandsFor.{PlaceState, Assigned, StandsForFrame, StandForCallers, StandsForStay}
 use Rattle.x10_place.proofs.Typed.{some_is, reads, reads_int, no_text, words_written}
 use Rattle.x10_place.proofs.Homes.{homes_written, result_like}
-use Rattle.x10_place.proofs.Framed.{point_of, is_instr, in_range, fits, count, rule, frame_after}
-use Rattle.x10_place.proofs.Local.{situated, first_edge}
-use Rattle.x10_place.proofs.Calls.{FitsWord, fits_word}
+use Rattle.x10_place.proofs.Framed.{point_of, in_range, fits, count, rule, frame_after}
+use Rattle.x10_place.proofs.Local.{situated}
+use Rattle.x10_place.proofs.Calls.{fits_word}
 
 -- ---- lists
 
@@ -114,8 +112,12 @@ module _ (p : PlaceState) (m : machine.Place) (key : ℕ) (a : ActivityState) (s
 
   -- the last function of an activity ends
   ends_stay : (result : Option Value) (cs : List machine.CallFrame) → s.callers ≡ cs → StandForCallers p.program assigned p.id m.cells a.callers cs → a.callers ≡ [] → GivesBack sit function.result result → Does op.Ret sit (with_stay m key None) (Ends root None)
-  ends_stay result [] is callers none given = (result, given, subst (λ cs. Returns sit cs result (with_stay m key None) (Ends root None)) (sym is)
-      (None, h.finishes, subst (λ o. SendsBack sit result o None) (sym h.back) refl, refl, ap (λ f. Ends f None) (sym h.inherited)))
+  ends_stay result [] is callers none given = (
+    result,
+    given,
+    subst (λ cs. Returns sit cs result (with_stay m key None) (Ends root None)) (sym is)
+        (None, h.finishes, subst (λ o. SendsBack sit result o None) (sym h.back) refl, refl, ap (λ f. Ends f None) (sym h.inherited)),
+  )
   ends_stay result (c ∷ cs) is callers none given = absurd (not_empty callers.0 callers.1 (sym callers.2 ∙ none))
 
   pub ret_ends : (out : Edges) → i.op ≡ op.Ret → Permits op.Ret (point_of p.program function a.top i) h.top.state out → a.callers ≡ [] → Does op.Ret sit (with_stay m key None) (Ends root None)
@@ -137,7 +139,7 @@ module _ (p : PlaceState) (m : machine.Place) (key : ℕ) (a : ActivityState) (s
       let reached = at.2 (r.caller.pc + 1, t) (subst (λ (o : Edges). IsIn (r.caller.pc + 1, t) o) (sym call.4) (0, refl)) in
       let goes = subst (λ o. GoesOn o r.caller r.call a.top i b.top) (ap result_of h.top.is_function) r.goes in
       let call-is : instr_at p.program c.function c.pc ≡ Some r.call =
-          ap (λ n. instr_at p.program n c.pc) stands.function_is ∙ ap (λ n. instr_at p.program r.caller.function n) stands.pc_is ∙ subst (λ o. instr_in o r.caller.pc ≡ Some r.call) (sym r.fetched.is_function) r.fetched.is_instr in (
+      ap (λ n. instr_at p.program n c.pc) stands.function_is ∙ ap (λ n. instr_at p.program r.caller.function n) stands.pc_is ∙ subst (λ o. instr_in o r.caller.pc ≡ Some r.call) (sym r.fetched.is_function) r.fetched.is_instr in (
         record s { top = resumed c r.call.a result; callers = cs },
         (result, given, subst (λ ks. Returns sit ks result (with_stay m key (Some (record s { top = resumed c r.call.a result; callers = cs }))) Works) (sym is) (r.call, call-is, r.op_is, refl, refl)),
         record {

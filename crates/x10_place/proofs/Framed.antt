@@ -1,5 +1,5 @@
 -- A frame that stands for a call frame: the verifier's rule at its instruction, and frames after it.
-use Rattle.std.proofs.Common.{◌≡◌, ◌⊎◌, ℕ, ◌+◌, ◌<◌, List, [], ◌∷◌, length, get_or, set, Option, Some, refl, sym, ap, subst, ◌∙◌, inl, inr, arith, get_or-set_same, get_or-set_other}
+use Rattle.std.proofs.Common.{◌≡◌, ℕ, ◌<◌, List, length, get_or, set, Some, sym, ap, subst, ◌∙◌, inl, inr, arith, get_or-set_same, get_or-set_other}
 use Rattle.std.specs.Prelude.{slice_get, slice_index, slice_set}
 use Rattle.x10_code.specs.declared.instr.Instr.{Instr}
 use Rattle.x10_model.specs.Maps.{with_entry, IsIn}

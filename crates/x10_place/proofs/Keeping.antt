@@ -1,11 +1,10 @@
 -- Activities under their keys: what a step leaves there.
-use Rattle.std.proofs.Common.{◌≡◌, ◌⊎◌, ℕ, ◌<◌, Bool, true, false, Option, Some, None, refl, sym, ap, subst, ◌∙◌, inl, inr}
-use Rattle.std.specs.Prelude.{IsSome, slice_set, slice_index_or}
+use Rattle.std.proofs.Common.{◌≡◌, ℕ, Bool, true, false, Option, Some, None, refl, sym, subst, ◌∙◌, inl, inr}
+use Rattle.std.specs.Prelude.{IsSome}
 use Rattle.slab.specs.Slab.{Slab, get, Updates, ContainsKey, with_value}
 use Rattle.slab.proofs.SlabLemmas.{Updates-with_value}
 use Rattle.x10_model.specs.Modules.{Module}
-use Rattle.x10_image.specs.Parts.{code_at}
-use Rattle.x10_place.specs.Activities.{ActivityState, IsInside, IsPlaced}
+use Rattle.x10_place.specs.Activities.{ActivityState, IsPlaced}
 use Rattle.x10_place.specs.StandsFor.{ArePlaced}
 use Rattle.x10_place.proofs.Typed.{some_is, same_or_not}
 use Rattle.x10_place.proofs.Steps.{kept_if}

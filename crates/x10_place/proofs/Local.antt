@@ -1,5 +1,5 @@
 -- Operations of one frame: what the program does to its words is what the machine does to its values.
-use Rattle.std.proofs.Common.{◌≡◌, ◌≢◌, ℕ, ℤ, ◌+◌, ◌-◌, ◌<◌, Bool, true, false, List, [], ◌∷◌, length, set, Option, Some, None, refl, sym, ap, subst, ◌∙◌, arith}
+use Rattle.std.proofs.Common.{◌≡◌, ◌≢◌, ℕ, ℤ, ◌+◌, ◌-◌, ◌<◌, Bool, true, false, List, length, Option, Some, None, refl, sym, ap, subst, ◌∙◌, arith}
 use Rattle.std.specs.Prelude.{nat_lt, if◌then◌else◌, slice_get, slice_index, slice_set}
 use Rattle.std.specs.Int.{w64, cast_signed}
 use Rattle.std.proofs.Math.ListN.{length-set}
@@ -12,7 +12,7 @@ use Rattle.x10_code.specs.declared.op.Op.TheVariants as op
 use Rattle.x10_code.specs.declared.instr.Instr.{Instr}
 use Rattle.x10_code.specs.Table.{form_of}
 use Rattle.x10_model.specs.Maps.{with_entry, IsIn}
-use Rattle.x10_model.specs.Modules.{Module, Function, is_brought}
+use Rattle.x10_model.specs.Modules.{Function, is_brought}
 use Rattle.x10_model.specs.Ranges.{IsThere}
 use Rattle.x10_model.specs.Values.{Value, Int}
 use Rattle.x10_model.specs.Places as machine
@@ -27,7 +27,7 @@ use Rattle.x10_place.specs.Frames.{Becomes, IsFetched, Acts, Takes, as_value, gi
 use Rattle.x10_place.specs.StandsFor.{PlaceState, Assigned, StandsForFrame, setting_of}
 use Rattle.x10_place.proofs.Typed.{reads_int, words_written}
 use Rattle.x10_place.proofs.Homes.{homes_written, move_like}
-use Rattle.x10_place.proofs.Framed.{point_of, slots_written, in_range, fits, count, rule, frame_after}
+use Rattle.x10_place.proofs.Framed.{point_of, slots_written, in_range, fits, count, frame_after}
 
 abbrev pub situated : (p : PlaceState) (m : machine.Place) (key : ℕ) (s : Stay) → Function → Instr → Situation
 situated p m key s function i = record { setting = setting_of p; here = p.id; place = m; key = key; stay = s; function = function; instr = i }

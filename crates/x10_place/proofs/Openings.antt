@@ -1,6 +1,6 @@
 -- Places at the beginning, and which keys are in use.
 use Rattle.std.proofs.Common.{◌≡◌, ◌↔◌, ℕ, zero, suc, ◌+◌, ◌≤◌, ◌==◌, Bool, false, cond, List, [], ◌∷◌, length, map, Option, Some, None, refl, sym, ap, subst, ◌∙◌, inl, inr, arith}
-use Rattle.std.specs.Prelude.{IsTrue, IsSome, IfSome, slice_get, slice_index, slice_index_or}
+use Rattle.std.specs.Prelude.{IsTrue, IsSome, slice_get, slice_index, slice_index_or}
 use Rattle.std.proofs.lemmas.Bool.{eqb-true, eq-eqb, ne_eqb}
 use Rattle.slab.specs.Slab.{Slab, get, entries_from, slab_len}
 use Rattle.slab.proofs.SlabLemmas.{length-entries_from}
@@ -15,7 +15,7 @@ use Rattle.x10_model.specs.Moves.{new_stay}
 use Rattle.x10_model.specs.Worlds.{first_place, empty_place}
 use Rattle.x10_model.specs.Assignments.{State, IsBelow, parameter_kind, entry_state}
 use Rattle.x10_verify.proofs.Wholes.{function_fits}
-use Rattle.x10_place.specs.Activities.{ActivityState, AreCalling, IsInside, IsPlaced}
+use Rattle.x10_place.specs.Activities.{ActivityState, AreCalling, IsPlaced}
 use Rattle.x10_place.specs.Words.{AreWordsOf}
 use Rattle.x10_place.specs.StandsFor.{PlaceState, Assigned, line_as, StandsForStay, StandsFor, setting_of, ArePlaced}
 use Rattle.x10_place.specs.Opening.{IsMain, HoldsOnly, opening_place}

@@ -1,5 +1,5 @@
 -- Each activity stands where it can go on: what keeps that.
-use Rattle.std.proofs.Common.{◌≡◌, ◌≢◌, ℕ, ℤ, ◌+◌, ◌<◌, Bool, true, false, List, [], ◌∷◌, ◌++◌, length, set, Option, Some, None, refl, sym, ap, subst, ◌∙◌, arith}
+use Rattle.std.proofs.Common.{◌≡◌, ◌≢◌, ℕ, ℤ, ◌+◌, ◌<◌, Bool, true, false, List, length, Option, Some, None, refl, sym, ap, subst, ◌∙◌, arith}
 use Rattle.std.specs.Prelude.{slice_get, slice_set, nat_lt, if◌then◌else◌, IsTrue}
 use Rattle.std.proofs.Math.ListN.{length-set}
 use Rattle.x10_code.specs.declared.op.Op.{Op}
@@ -8,16 +8,14 @@ use Rattle.x10_code.specs.declared.instr.Instr.{Instr}
 use Rattle.x10_code.specs.Table.{form_of}
 use Rattle.x10_model.specs.Modules.{Module, Function, FitsImage, is_brought}
 use Rattle.x10_model.specs.declared.slot.Slot.{Slot}
-use Rattle.x10_model.specs.Ranges.{function_at, instr_at, instr_in, result_of, IsThere, IsInRange}
+use Rattle.x10_model.specs.Ranges.{function_at, instr_at, instr_in, result_of, IsThere}
 use Rattle.x10_model.specs.Values.{Value, Int}
 use Rattle.x10_model.specs.Moves.{is_zero}
-use Rattle.x10_image.specs.Parts.{code_in, code_at}
 use Rattle.x10_verify.proofs.Wholes.{get_below, function_fits}
 use Rattle.x10_place.specs.declared.frame.CallFrame.{CallFrame}
 use Rattle.x10_place.specs.declared.line.Line.{Line}
-use Rattle.x10_place.specs.Frames.{Becomes, IsFetched, IsEntered, Acts, Takes, as_value, given, int_at, turns_left}
-use Rattle.x10_place.specs.Activities.{ActivityState, IsInside, IsCalling, AreCalling, IsPlaced, Calls, Resumes, Returns, GoesOn, ActsOnTop, Steps}
-use Rattle.x10_place.proofs.Typed.{some_is}
+use Rattle.x10_place.specs.Frames.{Becomes, IsFetched, Acts, Takes, as_value, int_at, turns_left}
+use Rattle.x10_place.specs.Activities.{ActivityState, IsInside, AreCalling, IsPlaced, Calls, Resumes, Returns, GoesOn, ActsOnTop, Steps}
 use Rattle.x10_place.proofs.Chains.{chain_last, chain_more}
 
 -- ---- one frame

@@ -1,7 +1,6 @@
 -- A function ends, and its caller goes on.
-use Rattle.std.proofs.Common.{◌≡◌, ◌≢◌, ℕ, ◌+◌, ◌<◌, ◌≤◌, ◌^◌, Bool, true, false, List, [], ◌∷◌, ◌++◌, length, Option, Some, None, refl, sym, ap, subst, ◌∙◌, arith}
-use Rattle.std.specs.Prelude.{is_some, slice_set, slice_get}
-use Rattle.x10_code.specs.declared.op.Op.{Op}
+use Rattle.std.proofs.Common.{◌≡◌, ◌≢◌, ℕ, ◌+◌, ◌<◌, ◌^◌, true, false, [], ◌∷◌, ◌++◌, length, Option, Some, None, sym, ap, subst, ◌∙◌, arith}
+use Rattle.std.specs.Prelude.{is_some, slice_set}
 use Rattle.x10_code.specs.declared.op.Op.TheVariants as op
 use Rattle.x10_code.specs.declared.instr.Instr.{Instr}
 use Rattle.x10_code.specs.Table.{form_of}
@@ -12,7 +11,7 @@ use Rattle.x10_image.specs.Parts.{Signature, signature_of, code_in, code_at}
 use Rattle.x10_verify.proofs.Wholes.{function_fits}
 use Rattle.x10_place.specs.declared.frame.CallFrame.{CallFrame}
 use Rattle.x10_place.specs.Frames.{word_at, Becomes, IsFetched}
-use Rattle.x10_place.specs.Activities.{ActivityState, IsInside, IsCalling, IsPlaced, GoesOn, Resumes}
+use Rattle.x10_place.specs.Activities.{ActivityState, IsInside, IsCalling, GoesOn, Resumes}
 use Rattle.x10_place.proofs.Typed.{some_is}
 
 -- ---- the caller's call

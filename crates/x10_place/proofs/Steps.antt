@@ -1,12 +1,12 @@
 -- A step of a place is a move of each place of the machine that it stands for.
-use Rattle.std.proofs.Common.{◌≡◌, ◌≢◌, ◌⊎◌, ℕ, Bool, true, false, List, [], ◌∷◌, ◌++◌, length, map, Option, Some, None, refl, sym, ap, subst, ◌∙◌, inl, inr}
+use Rattle.std.proofs.Common.{◌≡◌, ◌≢◌, ◌⊎◌, ℕ, Bool, true, false, List, [], ◌∷◌, ◌++◌, map, Option, Some, None, refl, sym, ap, subst, ◌∙◌, inl, inr}
 use Rattle.std.specs.Prelude.{slice_get, if◌then◌else◌, IsTrue}
 use Rattle.slab.specs.Slab.{Slab, get, Updates}
 use Rattle.x10_code.specs.declared.op.Op.{Op}
 use Rattle.x10_code.specs.declared.op.Op.TheVariants as op
 use Rattle.x10_code.specs.declared.instr.Instr.{Instr}
 use Rattle.x10_model.specs.Maps.{with_entry, IsIn}
-use Rattle.x10_model.specs.Modules.{Module, Function, FitsImage, is_brought}
+use Rattle.x10_model.specs.Modules.{Module, FitsImage, is_brought}
 use Rattle.x10_model.specs.Ranges.{function_at}
 use Rattle.x10_model.specs.Values.{Cells}
 use Rattle.x10_model.specs.Places as machine
@@ -107,9 +107,11 @@ module _ (p : PlaceState) (m : machine.Place) (stands : StandsFor p m) (key : �
   leads_on : (o : Op) (b : ActivityState) (t : Stay) (lines : List Line) → i.op ≡ o → Does o (situated p m key s h.top.function i) (with_stay m key (Some t)) Works → StandsForStay p.program stands.assigned p.id m.cells b t → lines ≡ p.lines → Updates p.activities slab key (Some b) → Led lines
   leads_on o b t lines e does after same up = (
     Works,
-    (with_stay m key (Some t),
-    moves p m key stands.assigned a s h i fetched (with_stay m key (Some t)) Works is (subst (λ q. Does q (situated p m key s h.top.function i) (with_stay m key (Some t)) Works) (sym e) does),
-    changed p m stands key slab m lines b t up refl refl (stands.lines ∙ ap (λ ls. map line_as ls) (sym same)) after),
+    (
+      with_stay m key (Some t),
+      moves p m key stands.assigned a s h i fetched (with_stay m key (Some t)) Works is (subst (λ q. Does q (situated p m key s h.top.function i) (with_stay m key (Some t)) Works) (sym e) does),
+      changed p m stands key slab m lines b t up refl refl (stands.lines ∙ ap (λ ls. map line_as ls) (sym same)) after,
+    ),
   )
 
   -- the activity with another frame at the top
@@ -138,10 +140,12 @@ module _ (p : PlaceState) (m : machine.Place) (stands : StandsFor p m) (key : �
       let base = with_line m (Number (int_at a.top i.a)) in
       let new = with_stay base key (Some (record s { top = next s.top })) in (
         Works,
-        (new,
-        moves p m key stands.assigned a s h i fetched new Works is (subst (λ q. Does q (situated p m key s h.top.function i) new Works) (sym e) moved.0),
-        changed p m stands key slab base lines b (record s { top = next s.top }) up refl refl
-            (ap (λ ls. ls ++ Number (int_at a.top i.a) ∷ []) stands.lines ∙ sym (one_more p.lines (line.Int (int_at a.top i.a))) ∙ ap (λ ls. map line_as ls) (sym prints.lines_are)) (with_top b (next s.top) moved.1 prints.callers)),
+        (
+          new,
+          moves p m key stands.assigned a s h i fetched new Works is (subst (λ q. Does q (situated p m key s h.top.function i) new Works) (sym e) moved.0),
+          changed p m stands key slab base lines b (record s { top = next s.top }) up refl refl
+              (ap (λ ls. ls ++ Number (int_at a.top i.a) ∷ []) stands.lines ∙ sym (one_more p.lines (line.Int (int_at a.top i.a))) ∙ ap (λ ls. map line_as ls) (sym prints.lines_are)) (with_top b (next s.top) moved.1 prints.callers),
+        ),
       )
 
   leads_ret : (goes : Bool) (b : ActivityState) (out : Edges) (lines : List Line) → i.op ≡ op.Ret → Permits op.Ret (point_of p.program h.top.function a.top i) h.top.state out → Returns p.program a i goes b → lines ≡ p.lines → Updates p.activities slab key (kept_if goes b) → Led lines
@@ -150,9 +154,11 @@ module _ (p : PlaceState) (m : machine.Place) (stands : StandsFor p m) (key : �
       leads_on op.Ret b moved.0 lines e moved.1 moved.2 same up
   leads_ret false b out lines e permits returns same up = (
     Ends root None,
-    (with_stay m key None,
-    moves p m key stands.assigned a s h i fetched (with_stay m key None) (Ends root None) is (subst (λ q. Does q (situated p m key s h.top.function i) (with_stay m key None) (Ends root None)) (sym e) (ret_ends p m key a s stands.assigned h i fetched out e permits returns)),
-    ended p m stands key slab lines same up),
+    (
+      with_stay m key None,
+      moves p m key stands.assigned a s h i fetched (with_stay m key None) (Ends root None) is (subst (λ q. Does q (situated p m key s h.top.function i) (with_stay m key None) (Ends root None)) (sym e) (ret_ends p m key a s stands.assigned h i fetched out e permits returns)),
+      ended p m stands key slab lines same up,
+    ),
   )
 
   -- what an operation does leads from the machine's place to one that the new state stands for

@@ -1,5 +1,5 @@
 -- Call frames: what an instruction does to the words in the registers and to the turns of the loops.
-use Rattle.std.specs.Prelude.{◌≡◌, ◌≢◌, ◌⊎◌, ℕ, ℤ, ◌+ℤ◌, ◌-ℤ◌, ◌*ℤ◌, int_lt, ◌+◌, ◌-◌, ◌<◌, ◌≤◌, nat_lt, List, length, replicate, Option, Some, None, if◌then◌else◌, slice_get, slice_index, slice_set}
+use Rattle.std.specs.Prelude.{◌≡◌, ◌≢◌, ℕ, ℤ, ◌+ℤ◌, ◌-ℤ◌, ◌*ℤ◌, int_lt, ◌+◌, ◌-◌, ◌<◌, nat_lt, List, length, replicate, Option, Some, None, if◌then◌else◌, slice_get, slice_index, slice_set}
 use Rattle.std.specs.Int.{w64, cast_signed}
 use Rattle.std.specs.Ordering.{int_eq}
 use Rattle.x10_code.specs.declared.op.Op.{Op}

@@ -5,13 +5,12 @@ use Rattle.slab.specs.Slab.{get}
 use Rattle.x10_kinds.specs.declared.stop.Stop.{Stop}
 use Rattle.x10_kinds.specs.declared.stop.Stop.TheVariants as refusal
 use Rattle.x10_model.specs.Modules.{Module}
-use Rattle.x10_model.specs.declared.event.Event.{Event}
 use Rattle.x10_model.specs.declared.event.Event.TheVariants.{Step}
 use Rattle.x10_model.specs.Places as machine
 use Rattle.x10_model.specs.Worlds.{World, Ideal, Happens, Run, done, WithinBounds}
 use Rattle.x10_place.specs.StandsFor.{PlaceState, StandsFor, Keeps}
 use Rattle.x10_place.specs.Stretches.{IsStride, Strides, none, more}
-use Rattle.x10_world.specs.StandsForWorld.{WorldState, BelongsTo, BelongTo, IsWorld, NoneStopped, setting_of, KeepsSetting, StandsForWorld, IsRunOn, RunsOne, Makes, Repeats, HasNone}
+use Rattle.x10_world.specs.StandsForWorld.{WorldState, BelongsTo, BelongTo, IsWorld, setting_of, KeepsSetting, StandsForWorld, IsRunOn, RunsOne, Makes, Repeats, HasNone}
 use Rattle.x10_verify.specs.Certified.{IsCertified}
 use Rattle.x10_world.proofs.Advance.{IsBounded}
 use Rattle.x10_world.proofs.Running.{run_more, setting_kept}

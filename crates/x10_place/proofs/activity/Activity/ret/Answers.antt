@@ -1,4 +1,4 @@
-use Rattle.std.proofs.Common.{◌≡◌, ◌<◌, length, refl, sym, ap, subst, ◌∙◌}
+use Rattle.std.proofs.Common.{◌<◌, length, sym, ap, subst, ◌∙◌}
 use Rattle.x10_place.specs.Activities.{ActivityState}
 use Rattle.x10_place.proofs.Chains.{function_inside, pc_inside, caller_is}
 use Rattle.x10_place.specs.Frames.{word_at}
@@ -48,7 +48,7 @@ returns c =
     let top = ap (λ (a : ActivityState). a.top.function) c.self.view_is in
     let result = result_is c.args.verified.now.program c.image.result.now c.args.self.now.top c.from-3.result c.signature-signature.result c.result.result c.image.ensures (c.from-3.ensures ∙ top) c.signature-signature.ensures.value c.result.ensures.value in
     let fetched : IsRefetched c.args.verified.now.program c.in-Some.caller c.from.result c.from-2.result c.fetch-call.result =
-        record { function_is = c.from.ensures; pc_is = c.from-2.ensures; value = c.fetch-call.ensures.value; in_range = c.fetch-call.ensures.in_range; follows = c.fetch-call.ensures.follows } in
+    record { function_is = c.from.ensures; pc_is = c.from-2.ensures; value = c.fetch-call.ensures.value; in_range = c.fetch-call.ensures.in_range; follows = c.fetch-call.ensures.follows } in
     let call = fetched_from c.args.verified.now.program c.in-Some.caller c.from.result c.from-2.result c.fetch-call.result c.certificate.ensures.fits is.0.inside fetched in
     let named = call_named c.args.verified.now.program c.in-Some.caller c.args.self.now.top.function c.fetch-call.result is.0 (call_at c.args.verified.now.program c.in-Some.caller c.from.result c.from-2.result c.fetch-call.result fetched) in
     elim c.if-is_some.branch [

@@ -13,7 +13,7 @@ pub returns-in_default : goal.returns-in_default
 returns-in_default c =
     let after : ActivityState = record { top = c.act.new.self; callers = c.self-in_default.inside.callers.items } in
     let acts : ActsOnTop c.args.instr.op c.args.verified.now.program c.args.self.now c.args.instr after =
-        subst (λ (a : ActivityState). ActsOnTop c.args.instr.op c.args.verified.now.program a c.args.instr after) c.self-in_default.view_is (record { top = c.act.ensures; callers = refl }) in
+    subst (λ (a : ActivityState). ActsOnTop c.args.instr.op c.args.verified.now.program a c.args.instr after) c.self-in_default.view_is (record { top = c.act.ensures; callers = refl }) in
     record {
       ok = steps_local c.args.instr.op c.args.verified.now.program c.args.self.now after c.args.lines.now.items c.args.instr c.in_default.not-Print c.in_default.not-Call c.in_default.not-Ret acts;
       placed = λ e. local_placed c.args.verified.now.program c.args.self.now after c.args.instr c.requires.placed c.requires.fetched c.requires.brought c.in_default.not-Print c.in_default.not-Call c.in_default.not-Ret acts;

@@ -1,4 +1,4 @@
-use Rattle.std.proofs.Common.{◌≡◌, ◌+◌, length, refl, sym, ap, ap₂, subst, ◌∙◌, arith}
+use Rattle.std.proofs.Common.{◌≡◌, ◌+◌, length, refl, ap, ap₂, subst, ◌∙◌, arith}
 use Rattle.std.specs.Prelude.{slice_index_or}
 use Rattle.x10_place.proofs.Calling.{ArgumentsTo, arguments_begin, arguments_more, function_there, entered}
 use Rattle.x10_place.proofs.frame.CallFrame.callee.Goals as goal

@@ -1,6 +1,5 @@
 use Rattle.std.proofs.Common.{◌≡◌, true, sym, refl, subst}
 use Rattle.x10_place.specs.StandsFor.{PlaceState}
-use Rattle.x10_place.specs.Activities.{IsPlaced}
 use Rattle.x10_place.specs.declared.activity.Pause.TheVariants as pause
 use Rattle.x10_place.specs.Stretches.{Strides, none, Paused}
 use Rattle.x10_place.proofs.Keeping.{written, removed, keeps_placed, removed_placed}

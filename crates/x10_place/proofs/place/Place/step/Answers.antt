@@ -3,7 +3,7 @@ use Rattle.x10_place.specs.Activities.{ActivityState, IsPlaced}
 use Rattle.x10_place.proofs.Chains.{function_inside, pc_inside}
 use Rattle.x10_place.proofs.Returning.{fetched_from}
 use Rattle.x10_place.proofs.Keeping.{written, removed, keeps_placed, removed_placed, kept_is, gone_is}
-use Rattle.x10_place.proofs.Steps.{step_leads, seen_leads}
+use Rattle.x10_place.proofs.Steps.{seen_leads}
 use Rattle.x10_place.proofs.place.Place.step.Goals as goal
 
 pub fetch-instr-requires-clause-function : goal.fetch-instr-requires-clause-function

@@ -11,9 +11,12 @@ pub invariant_of-self : goal.invariant_of-self
 invariant_of-self c = world_after_stop c.self.inside.verified.now.program c.self.inside.verified.now.bounds c.self.inside.places.items c.run_one-done.new.places.items c.from.result c.args.key c.args.most c.run_one-done.result.0 c.run_one-done.result.1 c.self.inside.stopped c.self.invariant c.run_one-done.ensures
 
 pub returns-in-Some-clause-some : goal.returns-in-Some-clause-some
-returns-in-Some-clause-some c = λ w stand. (c.run_one-done.result.0, run_ran
-    (record { program = c.self.inside.verified.now.program; bounds = c.self.inside.verified.now.bounds; places = c.self.inside.places.items; stopped = c.self.inside.stopped }) _
-    c.args.self.now c.from.result c.args.place c.args.key c.args.most c.run_one-done.result.0 c.run_one-done.result.1 c.self.view_is c.from.ensures (record { program = refl; bounds = refl }) c.certificate.ensures c.self.invariant.belong c.run_one-done.ensures w stand)
+returns-in-Some-clause-some c = λ w stand. (
+  c.run_one-done.result.0,
+  run_ran
+      (record { program = c.self.inside.verified.now.program; bounds = c.self.inside.verified.now.bounds; places = c.self.inside.places.items; stopped = c.self.inside.stopped }) _
+      c.args.self.now c.from.result c.args.place c.args.key c.args.most c.run_one-done.result.0 c.run_one-done.result.1 c.self.view_is c.from.ensures (record { program = refl; bounds = refl }) c.certificate.ensures c.self.invariant.belong c.run_one-done.ensures w stand,
+)
 
 pub invariant_of-self-in_default : goal.invariant_of-self-in_default
 invariant_of-self-in_default c = world_after_run c.self.inside.verified.now.program c.self.inside.verified.now.bounds c.self.inside.places.items c.run_one-done.new.places.items c.from.result c.args.key c.args.most c.run_one-done.result.0 c.run_one-done.result.1 c.self.inside.stopped
@@ -25,9 +28,12 @@ returns-clause-ok c = run_ran
     c.args.self.now c.from.result c.args.place c.args.key c.args.most c.run_one-done.result.0 c.run_one-done.result.1 c.self.view_is c.from.ensures (record { program = refl; bounds = refl }) c.certificate.ensures c.self.invariant.belong c.run_one-done.ensures
 
 pub returns-clause-some : goal.returns-clause-some
-returns-clause-some c = λ w stand. (c.run_one-done.result.0, run_ran
-    (record { program = c.self.inside.verified.now.program; bounds = c.self.inside.verified.now.bounds; places = c.self.inside.places.items; stopped = c.self.inside.stopped }) _
-    c.args.self.now c.from.result c.args.place c.args.key c.args.most c.run_one-done.result.0 c.run_one-done.result.1 c.self.view_is c.from.ensures (record { program = refl; bounds = refl }) c.certificate.ensures c.self.invariant.belong c.run_one-done.ensures w stand)
+returns-clause-some c = λ w stand. (
+  c.run_one-done.result.0,
+  run_ran
+      (record { program = c.self.inside.verified.now.program; bounds = c.self.inside.verified.now.bounds; places = c.self.inside.places.items; stopped = c.self.inside.stopped }) _
+      c.args.self.now c.from.result c.args.place c.args.key c.args.most c.run_one-done.result.0 c.run_one-done.result.1 c.self.view_is c.from.ensures (record { program = refl; bounds = refl }) c.certificate.ensures c.self.invariant.belong c.run_one-done.ensures w stand,
+)
 
 pub returns-clause-all : goal.returns-clause-all
 returns-clause-all c = run_none
