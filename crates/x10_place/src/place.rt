@@ -58,8 +58,8 @@ fn remove(activities: &mut Slab<Activity>, key: usize)
 
 impl<'a> Place<'a> {
     /// One step of the activity with a key. A Stop comes only where a growth was refused, or after another; the output
-    /// is then that of the steps before it. Constant time, but that CALL also fills the
-    /// registers of the function that it calls; CALL and PRINT alone take memory.
+    /// is then that of the steps before it. Constant time, but that CALL also fills the registers of the function that
+    /// it calls, and that a list that grows is copied now and then. CALL and PRINT alone take memory.
     pub fn step(&mut self, key: usize) -> Result<Stepped, Stop>
         ensures idle { self.old.stopped ≢ true → get self.old.activities key ≡ None → (result ≡ Ok Stepped.Idle) × (self.new ≡ self.old) }
         ensures some { (m : machine.Place) (a : ActivityState) → get self.old.activities key ≡ Some a → StandsFor self.old m → IfOk result (λ _. (effect : Effect) × Leads self.old m key effect self.new) }
