@@ -9,6 +9,21 @@ pub fn is_brought(op: Op) -> bool
 {
     matches!(
         op,
-        Op::Intk | Op::Add | Op::Sub | Op::Mul | Op::Div | Op::Rem | Op::Lt | Op::Eq | Op::Move | Op::Jmp | Op::Jz | Op::Loop | Op::Endl | Op::Call | Op::Ret | Op::Print
+        Op::Intk
+            | Op::Add
+            | Op::Sub
+            | Op::Mul
+            | Op::Div
+            | Op::Rem
+            | Op::Lt
+            | Op::Eq
+            | Op::Move
+            | Op::Jmp
+            | Op::Jz
+            | Op::Loop
+            | Op::Endl
+            | Op::Call
+            | Op::Ret
+            | Op::Print
     )
 }
