@@ -156,6 +156,25 @@ fn faults(rt: HostRuntime) {
     }
 }
 
+/// Labels after and before their use, one of them at the last instruction, and the same with numbers.
+#[test]
+fn labels(rt: HostRuntime) -> Result<(), Fail> {
+    let texts = [
+        ("JMP @a\nPRINT 0\na:\n", "JMP 3\nPRINT 0\n"),
+        ("LOOP 0 2\n_1:\nENDL 0 @_1\n", "LOOP 0 2\nENDL 0 2\n"),
+    ];
+    for (label, number) in texts {
+        let label = with(rt.alloc(), HEAD, label, TAIL)?;
+        let number = with(rt.alloc(), HEAD, number, TAIL)?;
+        let bytes = assemble(rt.alloc(), label.as_str())?;
+        assert_eq!(rt;
+            bytes.as_slice(),
+            assemble(rt.alloc(), number.as_str())?.as_slice()
+        );
+    }
+    Ok(())
+}
+
 #[test]
 fn faults_of_instructions(rt: HostRuntime) -> Result<(), Fail> {
     let lines = [
@@ -165,6 +184,9 @@ fn faults_of_instructions(rt: HostRuntime) -> Result<(), Fail> {
         ("ADD 0 0 256", AsmCause::Number),
         ("INTK 0 4294967296", AsmCause::Number),
         ("INTK 0 @a", AsmCause::Number),
+        ("JMP @a", AsmCause::Label),
+        ("JMP @", AsmCause::Label),
+        ("LOOP 0 @a", AsmCause::Number),
         ("PRINT -0", AsmCause::Number),
         ("1a:", AsmCause::Label),
         (":", AsmCause::Label),
