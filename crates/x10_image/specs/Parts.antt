@@ -85,6 +85,10 @@ parameters_in (Some f) = f.parameters
 abbrev pub place_of_code : Module → ℕ → ℕ
 place_of_code m f = place_of_signature m f + 12 + 4 * length (parameters_in (function_at m f))
 
+-- where the count of function f's instructions stands, in two bytes: four bytes before them
+abbrev pub place_of_count : Module → ℕ → ℕ
+place_of_count m f = place_of_signature m f + 8 + 4 * length (parameters_in (function_at m f))
+
 -- where the 8 bytes of instruction pc of function f begin
 abbrev pub place_of_instr : Module → ℕ → ℕ → ℕ
 place_of_instr m f pc = place_of_code m f + 8 * pc

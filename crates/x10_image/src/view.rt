@@ -1,5 +1,6 @@
 ghost use Rattle.std.specs.Prelude.{◌≡◌, ◌^◌, ◌<◌, ◌≤◌, List, Ok, Some, IfOk, length, slice_get};
 ghost use Rattle.std.specs.List.{flat_map};
+ghost use Rattle.std.specs.Int.{w16, to_be_bytes};
 ghost use Rattle.x10_code.specs.Spelling.{spelling as instruction};
 ghost use Rattle.x10_model.specs.Modules.{Module, Function, FitsImage, FitsText, FitsClass, IsEntry, IsBrought};
 ghost use Rattle.x10_model.specs.Ranges.{function_at, instr_at};
@@ -7,7 +8,7 @@ ghost use Rattle.x10_model.specs.Images.{class_bytes, int_bytes, function_bytes,
 ghost use Rattle.x10_model.specs.ReadingImages.{module_at, is_entry};
 ghost use Rattle.x10_image.specs.Faults.{Gives};
 ghost use Rattle.x10_image.specs.Places.{AreAt};
-ghost use Rattle.x10_image.specs.Parts.{IsPart, place_of_class, place_of_int, place_of_text, place_of_signature, place_of_code, place_of_instr, FitsSignature, signature_of, signature_bytes, code_at};
+ghost use Rattle.x10_image.specs.Parts.{IsPart, place_of_class, place_of_int, place_of_text, place_of_signature, place_of_count, place_of_code, place_of_instr, FitsSignature, signature_of, signature_bytes, code_at};
 
 use crate::class_view::ClassView;
 use crate::fault::ImageFault;
@@ -101,52 +102,58 @@ impl<'a> ImageView<'a> {
         let _ = &self.bytes;
     }
 
-    /// The least number of places that the module asks for, 1 to 64. Constant time, as all that
-    /// follow, and without memory.
+    /// The least number of places that the module asks for, 1 to 64: bytes 6 and 7 of the image. Constant time, as all
+    /// that follow, and without memory.
     pub fn least(&self) -> u16
         ensures value { result ≡ self.now.least_places }
         ensures range { (1 ≤ result) × (result ≤ 64) }
+        ensures part { IsPart (spelling self.now) 6 (to_be_bytes w16 result) }
     {
         self.header.least_places
     }
 
-    /// The number of the function that a run begins with, which takes and gives nothing.
+    /// The number of the function that a run begins with, which takes and gives nothing: bytes 16 and 17.
     pub fn entry(&self) -> u16
         ensures value { result ≡ self.now.entry }
         ensures below { result < length self.now.functions }
         ensures there { (f : Function) × (function_at self.now result ≡ Some f) × IsEntry f }
+        ensures part { IsPart (spelling self.now) 16 (to_be_bytes w16 result) }
     {
         self.header.entry
     }
 
-    /// How many classes there are.
+    /// How many classes there are: bytes 8 and 9.
     pub fn classes(&self) -> usize
         ensures value { result ≡ length self.now.classes }
         ensures few { result < 2 ^ 16 }
+        ensures part { IsPart (spelling self.now) 8 (to_be_bytes w16 result) }
     {
         self.classes.len()
     }
 
-    /// How many constant numbers there are.
+    /// How many constant numbers there are: bytes 10 and 11.
     pub fn ints(&self) -> usize
         ensures value { result ≡ length self.now.ints }
         ensures few { result < 2 ^ 16 }
+        ensures part { IsPart (spelling self.now) 10 (to_be_bytes w16 result) }
     {
         usize::from(self.header.ints)
     }
 
-    /// How many constant texts there are.
+    /// How many constant texts there are: bytes 12 and 13.
     pub fn texts(&self) -> usize
         ensures value { result ≡ length self.now.texts }
         ensures few { result < 2 ^ 16 }
+        ensures part { IsPart (spelling self.now) 12 (to_be_bytes w16 result) }
     {
         self.texts.len()
     }
 
-    /// How many functions there are, 1 to 256.
+    /// How many functions there are, 1 to 256: bytes 14 and 15.
     pub fn functions(&self) -> usize
         ensures value { result ≡ length self.now.functions }
         ensures range { (1 ≤ result) × (result ≤ 256) }
+        ensures part { IsPart (spelling self.now) 14 (to_be_bytes w16 result) }
     {
         self.functions.len()
     }
@@ -193,11 +200,12 @@ impl<'a> ImageView<'a> {
         signature_in(bytes, self.functions[f])
     }
 
-    /// How many instructions a function has, 1 to 4,096.
+    /// How many instructions a function has, 1 to 4,096: two bytes, four before the first of them.
     pub fn code_len(&self, f: usize) -> usize
         requires { f < length self.now.functions }
         ensures value { result ≡ length (code_at self.now f) }
         ensures range { (1 ≤ result) × (result ≤ 4096) }
+        ensures part { IsPart (spelling self.now) (place_of_count self.now f) (to_be_bytes w16 result) }
     {
         code_len_in(self.bytes, self.functions[f])
     }

@@ -2,6 +2,7 @@ use Rattle.std.proofs.Common.{length, arith, sym, ap, ◌∙◌}
 use Rattle.x10_image.proofs.Access.{same_length}
 use Rattle.x10_image.proofs.Accessors.{shows}
 use Rattle.x10_image.proofs.FunctionAccess.{function_here, room_is, count_is, code_is}
+use Rattle.x10_image.proofs.Spelled.{count_part}
 use Rattle.x10_image.proofs.view.ImageView.code_len.Goals as goal
 
 pub index-requires : goal.index-requires
@@ -27,3 +28,6 @@ returns-clause-range c =
     let h = function_here _ _ _ _ _ _ _ c.args.f c.index.result.now v c.requires c.index.ensures in
     let is = c.code_len_in.ensures ∙ count_is _ _ _ _ h in
     (omega (arith, is, h.fits.length), omega (arith, is, h.fits.length))
+
+pub returns-clause-part : goal.returns-clause-part
+returns-clause-part c = count_part _ _ _ c.requires (returns-clause-value c)
