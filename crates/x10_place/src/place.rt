@@ -95,8 +95,8 @@ impl<'a> Place<'a> {
 
 impl<'a> Place<'a> {
     /// So many steps of the activity with a key, one after another, or as many as come before it has ended, or before
-    /// one that is refused: how many were made, and why no more, where one was refused. As fast as that many calls of
-    /// `step`, but that the activity is looked up once.
+    /// one that is refused: how many were made, and why no more, where one was refused. Each is as `step` makes it, but
+    /// the activity is looked up once.
     pub fn run(&mut self, key: usize, most: u64) -> (u64, Option<Stop>)
         ensures ran { MatchOption result.1 (Strides key self.old result.0 self.new) (λ _. (p : PlaceState) × Strides key self.old result.0 p × (self.new ≡ record p { stopped = true })) }
         ensures idle { get self.old.activities key ≡ None → result.0 ≡ 0 }
