@@ -141,6 +141,7 @@ impl<'a> World<'a> {
         ensures stopped { self.old.stopped ≡ true → (result ≡ Err stop.Stopped) × (self.new ≡ self.old) }
         ensures memory { self.old.stopped ≢ true → IfErr result (λ why. why ≡ stop.Memory) }
         ensures stop { IfErr result (λ _. self.new.stopped ≡ true) }
+        ensures kept { KeepsSetting self.old self.new }
     {
         self.going()?;
         match self.make(events) {
@@ -162,6 +163,7 @@ impl<'a> World<'a> {
         ensures stopped { self.old.stopped ≡ true → (result ≡ Err stop.Stopped) × (self.new ≡ self.old) }
         ensures memory { self.old.stopped ≢ true → IfErr result (λ why. why ≡ stop.Memory) }
         ensures stop { IfErr result (λ _. self.new.stopped ≡ true) }
+        ensures kept { KeepsSetting self.old self.new }
     {
         self.going()?;
         let verified = self.verified;
