@@ -6,7 +6,7 @@ use Rattle.slab.proofs.SlabLemmas.{Updates-with_value}
 use Rattle.x10_model.specs.Modules.{Module}
 use Rattle.x10_place.specs.Activities.{ActivityState, IsPlaced}
 use Rattle.x10_place.specs.StandsFor.{ArePlaced}
-use Rattle.x10_place.proofs.Typed.{some_is, same_or_not}
+use Rattle.x10_place.proofs.Typed.{some_is, same_or_not, none_some}
 use Rattle.x10_place.proofs.Steps.{kept_if}
 
 contains : (slab : Slab ActivityState) (key : ℕ) (a : ActivityState) → get slab key ≡ Some a → ContainsKey slab key
@@ -19,9 +19,6 @@ written slab key a b e = Updates-with_value slab key b (contains slab key a e)
 -- an activity was written, and taken away
 pub removed : (slab new : Slab ActivityState) (key : ℕ) (a b : ActivityState) → get slab key ≡ Some a → Updates (with_value slab key b) new key None → Updates slab new key None
 removed slab new key a b e up = record { changed = up.changed; others = λ k ne. up.others k ne ∙ (written slab key a b e).others k ne }
-
-none_some : (o : Option ActivityState) (x : ActivityState) → o ≡ None → o ≡ Some x → ⊥
-none_some o x e f = cc
 
 pub keeps_placed : (program : Module) (slab new : Slab ActivityState) (key : ℕ) (b : ActivityState) → ArePlaced program slab → Updates slab new key (Some b) → IsPlaced program b → ArePlaced program new
 keeps_placed program slab new key b placed up is k c g = elim (same_or_not k key) [

@@ -19,12 +19,9 @@ use Rattle.x10_place.specs.Activities.{ActivityState, AreCalling, IsPlaced}
 use Rattle.x10_place.specs.Words.{AreWordsOf}
 use Rattle.x10_place.specs.StandsFor.{PlaceState, Assigned, line_as, StandsForStay, StandsFor, setting_of, ArePlaced}
 use Rattle.x10_place.specs.Opening.{IsMain, HoldsOnly, opening_place}
-use Rattle.x10_place.proofs.Typed.{some_is, at_key, off_key, same_or_not}
+use Rattle.x10_place.proofs.Typed.{some_is, at_key, off_key, same_or_not, none_some}
 use Rattle.x10_place.proofs.Homes.{homes_weaken, homes_entry}
 use Rattle.x10_place.proofs.Calls.{no_turns}
-
-none_some : {X : Type 0} (o : Option X) (x : X) → o ≡ None → o ≡ Some x → ⊥
-none_some o x e f = cc
 
 -- ---- keys in use
 

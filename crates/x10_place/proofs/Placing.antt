@@ -17,6 +17,7 @@ use Rattle.x10_place.specs.declared.line.Line.{Line}
 use Rattle.x10_place.specs.Frames.{Becomes, IsFetched, Acts, Takes, as_value, int_at, turns_left}
 use Rattle.x10_place.specs.Activities.{ActivityState, IsInside, AreCalling, IsPlaced, Calls, Resumes, Returns, GoesOn, ActsOnTop, Steps}
 use Rattle.x10_place.proofs.Chains.{chain_last, chain_more}
+use Rattle.x10_place.proofs.Returning.{goes_on}
 
 -- ---- one frame
 
@@ -129,9 +130,6 @@ called_placed program a b i fits placed fetched o h =
 resumed_at : (o : Option Slot) (program : Module) (caller f top : CallFrame) (call i : Instr) (fetched : IsFetched program caller call) → caller.pc + 1 < length fetched.function.code → GoesOn o caller call top i f → IsInside program f × (f.function ≡ caller.function)
 resumed_at None program caller f top call i fetched next h = (lands program caller f call (caller.pc + 1) caller.loops fetched h next, h.function_is)
 resumed_at (Some slot) program caller f top call i fetched next h = (lands_set program caller f call call.a _ (caller.pc + 1) caller.loops fetched h next, h.function_is)
-
-goes_on : (i : Instr) → i.op ≡ op.Call → i.op ≢ op.Ret
-goes_on i e f = absurd cc
 
 -- the caller stands after its call
 pub resumed_placed : (program : Module) (a b : ActivityState) (i : Instr) → IsPlaced program a → Resumes program a i b → IsPlaced program b

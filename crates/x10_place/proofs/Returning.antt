@@ -30,7 +30,7 @@ call_at program caller f pc call r = subst (λ n. instr_at program n caller.pc �
 pub call_named : (program : Module) (caller : CallFrame) (callee : ℕ) (call : Instr) → IsCalling program caller callee → instr_at program caller.function caller.pc ≡ Some call → (call.op ≡ op.Call) × (call.x ≡ callee)
 call_named program caller callee call calling e = subst (λ (i : Instr). (i.op ≡ op.Call) × (i.x ≡ callee)) (some_is calling.call call (sym calling.call_is ∙ e)) (calling.op_is, calling.callee_is)
 
-goes_on : (i : Instr) → i.op ≡ op.Call → i.op ≢ op.Ret
+pub goes_on : (i : Instr) → i.op ≡ op.Call → i.op ≢ op.Ret
 goes_on i e f = absurd cc
 
 -- an instruction follows the call

@@ -18,14 +18,11 @@ use Rattle.x10_place.specs.declared.line.Line.TheVariants as line
 use Rattle.x10_place.specs.Frames.{IsFetched, int_at}
 use Rattle.x10_place.specs.Activities.{ActivityState, Prints, ActsOnTop, Returns, Steps}
 use Rattle.x10_place.specs.StandsFor.{PlaceState, line_as, Assigned, StandsForFrame, StandForCallers, StandsForStay, StandsFor, setting_of, Leads}
-use Rattle.x10_place.proofs.Typed.{some_is, at_key, off_key, same_or_not}
+use Rattle.x10_place.proofs.Typed.{some_is, at_key, off_key, same_or_not, none_some}
 use Rattle.x10_place.proofs.Framed.{point_of, is_instr, in_range, rule}
 use Rattle.x10_place.proofs.Local.{situated, local_moves}
 use Rattle.x10_place.proofs.Calls.{call_moves}
 use Rattle.x10_place.proofs.Ends.{ret_ends, ret_resumes, print_moves}
-
-none_some : {X : Type 0} (o : Option X) (x : X) → o ≡ None → o ≡ Some x → ⊥
-none_some o x e f = cc
 
 -- ---- the whole place
 

@@ -11,6 +11,7 @@ use Rattle.x10_place.specs.declared.activity.Pause.{Pause}
 use Rattle.x10_place.specs.declared.activity.Pause.TheVariants as pause
 use Rattle.x10_place.specs.StandsFor.{PlaceState}
 use Rattle.x10_place.specs.Stretches.{IsStep, Stretch, none, more, EndsStretch, IsStride, Strides}
+use Rattle.x10_place.proofs.Typed.{none_some}
 use Rattle.x10_place.proofs.Steps.{kept_if, step_leads}
 use Rattle.x10_place.proofs.Keeping.{written}
 
@@ -34,9 +35,6 @@ pub stretch_ends : (program : Module) (a b c : ActivityState) (lines printed aft
 stretch_ends program a b c lines printed after n before step = record { before = n; count = refl; last = b; printed = printed; stretch = before.stretch; ends = step }
 
 -- ---- at a place
-
-none_some : (o : Option ActivityState) (x : ActivityState) → o ≡ None → o ≡ Some x → ⊥
-none_some o x e f = cc
 
 set_same : (slots : List (Option ActivityState)) (key : ℕ) (a : ActivityState) → slice_index_or slots key None ≡ Some a → slice_set slots key (Some a) ≡ slots
 set_same [] key a e = absurd (none_some None a refl e)

@@ -1,5 +1,5 @@
 -- Words that stand for values: weakening what is known, reading a number, writing a register.
-use Rattle.std.proofs.Common.{◌≡◌, ◌⊎◌, ℕ, ◌<◌, Bool, true, false, ◌==◌, List, length, get_or, set, Option, Some, refl, sym, ap, subst, ◌∙◌, inl, inr, get_or-set_same, get_or-set_other}
+use Rattle.std.proofs.Common.{◌≡◌, ◌⊎◌, ℕ, ◌<◌, Bool, true, false, ◌==◌, List, length, get_or, set, Option, Some, None, refl, sym, ap, subst, ◌∙◌, inl, inr, get_or-set_same, get_or-set_other}
 use Rattle.std.specs.Prelude.{slice_index, slice_set}
 use Rattle.std.proofs.lemmas.Bool.{eqb-true, eq-eqb}
 use Rattle.std.specs.Int.{w64, cast_signed}
@@ -86,6 +86,9 @@ words_weaken cells s t registers words below typed r kind e = reads cells s regi
 
 pub some_is : {X : Type 0} (x y : X) → Some x ≡ Some y → x ≡ y
 some_is x y e = cc
+
+pub none_some : {X : Type 0} (o : Option X) (x : X) → o ≡ None → o ≡ Some x → ⊥
+none_some o x e f = cc
 
 entry_off : {V : Type 0} (map : ℕ → V) (key : ℕ) (value : V) (other : ℕ) (b : Bool) → (other == key) ≡ b → ((b ≡ true) × (other ≡ key) × (with_entry map key value other ≡ value)) ⊎ ((other ≡ key → ⊥) × (with_entry map key value other ≡ map other))
 entry_off map key value other true e = inl (refl, eqb-true other key e, rw e refl)

@@ -195,17 +195,17 @@ changes_by Q old new here key result means one = record {
   there = λ p e. let t = one.there p e in (t.0, t.1, means p t.0 t.2);
 }
 
+pub belongs_still : (program : Module) (bounds : List ℕ) (count id : ℕ) (p q : PlaceState) → Keeps p q → BelongsTo program bounds count id p → BelongsTo program bounds count id q
+belongs_still program bounds count id p q k b = record { program_is = k.program ∙ b.program_is; bounds_are = k.bounds ∙ b.bounds_are; id_is = k.id ∙ b.id_is; places_are = k.places ∙ b.places_are }
+
 -- the places keep their module, their number and how many they are
 pub belong_after : (program : Module) (bounds : List ℕ) (old new : List PlaceState) (here : ℕ) → BelongTo program bounds (length old) old → ChangesOne Keeps old new here → BelongTo program bounds (length new) new
 belong_after program bounds old new here belong one = at_place (slice_get old here) refl
   where
-    one_belongs : (id : ℕ) (p q : PlaceState) → Keeps p q → BelongsTo program bounds (length old) id p → BelongsTo program bounds (length old) id q
-    one_belongs id p q k b = record { program_is = k.program ∙ b.program_is; bounds_are = k.bounds ∙ b.bounds_are; id_is = k.id ∙ b.id_is; places_are = k.places ∙ b.places_are }
-
     changed : (p q : PlaceState) → slice_get old here ≡ Some p → Keeps p q → BelongTo program bounds (length old) (slice_set old here q)
     changed p q is k id r e = elim (same_or_not id here) [
       | inl same ↦ subst (λ t. BelongsTo program bounds (length old) id t) (some_is q r (sym (set_here old here q p is) ∙ ap (λ i. slice_get (slice_set old here q) i) (sym same) ∙ e))
-          (one_belongs id p q k (belong id p (ap (λ i. slice_get old i) same ∙ is)))
+          (belongs_still program bounds (length old) id p q k (belong id p (ap (λ i. slice_get old i) same ∙ is)))
       | inr ne ↦ belong id r (sym (set_off old here id q ne) ∙ e)
     ]
 

@@ -14,7 +14,7 @@ use Rattle.x10_world.specs.StandsForWorld.{WorldState, BelongsTo, BelongTo, IsWo
 use Rattle.x10_verify.specs.Certified.{IsCertified}
 use Rattle.x10_world.proofs.Advance.{IsBounded}
 use Rattle.x10_world.proofs.Running.{run_more, setting_kept}
-use Rattle.x10_world.proofs.Happening.{KeepsModule, ChangesOne, some_is, bounded_is, set_here, set_same, set_length, belong_after, none_stopped_after, tied_in, stands_after, stands_still, move_makes}
+use Rattle.x10_world.proofs.Happening.{KeepsModule, ChangesOne, some_is, bounded_is, set_here, set_same, set_length, belongs_still, belong_after, none_stopped_after, tied_in, stands_after, stands_still, move_makes}
 
 -- ---- lists
 
@@ -37,9 +37,6 @@ strides_keep key p n q (more k r s far stride) =
     let before = strides_keep key p k r far in
     let k = stride.kept in
     record { program = k.program ∙ before.program; bounds = k.bounds ∙ before.bounds; id = k.id ∙ before.id; places = k.places ∙ before.places }
-
-belongs_still : (program : Module) (bounds : List ℕ) (count id : ℕ) (p q : PlaceState) → Keeps p q → BelongsTo program bounds count id p → BelongsTo program bounds count id q
-belongs_still program bounds count id p q k b = record { program_is = k.program ∙ b.program_is; bounds_are = k.bounds ∙ b.bounds_are; id_is = k.id ∙ b.id_is; places_are = k.places ∙ b.places_are }
 
 -- the world with another place under a number
 abbrev pub with_place : WorldState → ℕ → PlaceState → WorldState
