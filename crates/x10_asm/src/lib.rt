@@ -24,8 +24,3 @@ mod words;
 pub use assembling::assemble;
 pub use fault::{AsmCause, AsmFault};
 pub use listing::list;
-
-#[cfg(test)]
-mod assembling_tests;
-#[cfg(test)]
-mod tests;

@@ -17,6 +17,3 @@ pub use op::Op;
 pub use operands::{Form, Operand};
 pub use spelling::{decode, decode_slice, encode, has_spelling};
 pub use table::form;
-
-#[cfg(test)]
-mod tests;

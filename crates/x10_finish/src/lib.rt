@@ -15,5 +15,3 @@ pub use tally::Tally;
 
 #[cfg(test)]
 mod tests;
-#[cfg(test)]
-mod walk;

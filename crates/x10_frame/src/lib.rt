@@ -24,6 +24,3 @@ pub use node_view::NodeView;
 pub use report::Report;
 pub use view::FrameView;
 pub use writer::{FrameWriter, Sizes, write_report};
-
-#[cfg(test)]
-mod tests;

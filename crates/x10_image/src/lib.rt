@@ -23,6 +23,3 @@ pub use module::{Function, Module};
 pub use sig_view::SigView;
 pub use view::ImageView;
 pub use writing::write;
-
-#[cfg(test)]
-mod tests;

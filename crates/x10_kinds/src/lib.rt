@@ -6,8 +6,6 @@ mod kind;
 mod labels;
 pub mod laws;
 mod stop;
-#[cfg(test)]
-mod tests;
 
 pub use homes::{Homes, Term};
 pub use kind::{Kind, fits, meet};

@@ -11,6 +11,3 @@ pub use activity::Activity;
 pub use frame::CallFrame;
 pub use line::Line;
 pub use place::{Place, Stepped};
-
-#[cfg(test)]
-mod tests;

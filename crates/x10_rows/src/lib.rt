@@ -1,8 +1,26 @@
-//! Tests that go through all crates: command lines and images in, what is printed and the exit status out.
+//! The tests of all crates: a crate with tests of its own is proved twice.
 #![tactic(auto)]
 
 #[cfg(test)]
+mod assembling;
+#[cfg(test)]
+mod codes;
+#[cfg(test)]
+mod finishes;
+#[cfg(test)]
+mod frames;
+#[cfg(test)]
+mod images;
+#[cfg(test)]
+mod kinds;
+#[cfg(test)]
+mod listing;
+#[cfg(test)]
+mod numbers;
+#[cfg(test)]
 mod outcome;
+#[cfg(test)]
+mod places;
 #[cfg(test)]
 mod programs;
 #[cfg(test)]
@@ -11,5 +29,11 @@ mod seven;
 mod texts;
 #[cfg(test)]
 mod usage;
+#[cfg(test)]
+mod verifying;
+#[cfg(test)]
+mod walk;
+#[cfg(test)]
+mod worlds;
 #[cfg(test)]
 mod writers;

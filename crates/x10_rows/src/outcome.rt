@@ -38,3 +38,22 @@ pub(crate) fn outcome_of(alloc: Global, words: &[&str], bytes: &[u8]) -> Result<
     };
     Ok(Outcome { status, out, err })
 }
+
+/// Whether the program ends with this status and prints this, when the file that the words name has these bytes.
+pub(crate) fn tells(
+    alloc: Global,
+    words: &[&str],
+    bytes: &[u8],
+    told: (u8, &str, &str),
+) -> Result<bool, Fail> {
+    let (status, out, err) = told;
+    let found = outcome_of(alloc, words, bytes)?;
+    let same = found.out.as_slice() == out.as_bytes() && found.err.as_slice() == err.as_bytes();
+    Ok(same && found.status == status)
+}
+
+/// The image of a text.
+pub(crate) fn image_of(alloc: Global, text: &str) -> Result<Vec<u8>, Fail> {
+    let found = outcome_of(alloc, &["asm", "F", "G"], text.as_bytes())?;
+    Ok(found.out)
+}

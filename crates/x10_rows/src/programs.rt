@@ -1,5 +1,4 @@
-use crate::outcome::outcome_of;
-use std::alloc::Global;
+use crate::outcome::{image_of, tells};
 use std::fmt::Write;
 use std::test::*;
 
@@ -122,24 +121,90 @@ end
 entry 0
 ";
 
-/// Whether the program ends with this status and prints this, when the file that the words name has these bytes.
-fn tells(
-    alloc: Global,
-    words: &[&str],
-    bytes: &[u8],
-    told: (u8, &str, &str),
-) -> Result<bool, Fail> {
-    let (status, out, err) = told;
-    let found = outcome_of(alloc, words, bytes)?;
-    let same = found.out.as_slice() == out.as_bytes() && found.err.as_slice() == err.as_bytes();
-    Ok(same && found.status == status)
-}
+/// Counts down from 3 by 1 in a loop of 100 turns, which it leaves at 0; then prints 1 in a loop of the same slot, twice.
+const LEAVES: &str = "places 1
+int 3
+int 1
+func 2 1 none
+INTK 0 0
+INTK 1 1
+LOOP 0 100
+PRINT 0
+SUB 0 0 1
+JZ 0 7
+ENDL 0 3
+LOOP 0 2
+PRINT 1
+ENDL 0 8
+RET 0
+end
+entry 0
+";
 
-/// The image of a text.
-fn image_of(alloc: Global, text: &str) -> Result<Vec<u8>, Fail> {
-    let found = outcome_of(alloc, &["asm", "F", "G"], text.as_bytes())?;
-    Ok(found.out)
-}
+/// Prints what the first function gives of two numbers, and the first of them, whose register is not the callee's.
+const TWO: &str = "places 1
+int 10
+int 3
+func 3 0 int int int
+SUB 2 0 1
+RET 2
+end
+func 6 0 none
+INTK 4 0
+INTK 5 1
+CALL 3 4 0
+PRINT 3
+PRINT 4
+RET 0
+end
+entry 1
+";
+
+/// Three times a function with a loop of its own in the same slot.
+const NONE: &str = "places 1
+int 6
+func 1 1 none
+INTK 0 0
+LOOP 0 2
+PRINT 0
+ENDL 0 2
+RET 0
+end
+func 1 1 none
+LOOP 0 3
+CALL 0 0 0
+ENDL 0 1
+RET 0
+end
+entry 1
+";
+
+/// A number and four times that, through three calls; the innermost has one register more than a frame holds in place.
+pub(crate) const DEEP: &str = "places 1
+int 5
+func 9 0 int int
+ADD 0 0 0
+RET 0
+end
+func 2 0 int int
+CALL 1 0 0
+ADD 0 0 1
+RET 0
+end
+func 2 0 int int
+CALL 1 0 1
+ADD 0 0 1
+RET 0
+end
+func 2 0 none
+INTK 1 0
+PRINT 1
+CALL 0 1 2
+PRINT 0
+RET 0
+end
+entry 3
+";
 
 #[test]
 fn programs(rt: HostRuntime) -> Result<(), Fail> {
@@ -155,6 +220,20 @@ fn programs(rt: HostRuntime) -> Result<(), Fail> {
         (CALLS, "0: 96\n", "0 2\n1 24\n", ["23", "24"]),
         (DIVISOR, "0: 21\n", "0 370\n1 2\n2 377\n", ["21", "22"]),
         (ORDER, "0: 9\n0: 4\n0: 1\n", "0 12\n", ["9", "10"]),
+        (
+            LEAVES,
+            "0: 3\n0: 2\n0: 1\n0: 1\n0: 1\n",
+            "0 409\n",
+            ["19", "20"],
+        ),
+        (TWO, "0: 7\n0: 10\n", "0 2\n1 8\n", ["7", "8"]),
+        (
+            NONE,
+            "0: 6\n0: 6\n0: 6\n0: 6\n0: 6\n0: 6\n",
+            "0 7\n1 29\n",
+            ["28", "29"],
+        ),
+        (DEEP, "0: 5\n0: 20\n", "0 2\n1 5\n2 8\n3 13\n", ["12", "13"]),
     ];
     for (text, lines, bounds, [fewer, steps]) in rows {
         let image = image_of(alloc, text)?;

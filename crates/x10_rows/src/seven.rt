@@ -10,7 +10,7 @@ pub(crate) const SEVEN: [u8; 64] = [
 ];
 
 /// The image with another byte at one place.
-fn with_byte(at: usize, byte: u8) -> [u8; 64] {
+pub(crate) fn with_byte(at: usize, byte: u8) -> [u8; 64] {
     let mut bytes = SEVEN;
     if let Some(place) = bytes.get_mut(at) {
         *place = byte;

@@ -22,5 +22,3 @@ pub use verified::{Verified, verify};
 
 #[cfg(test)]
 mod flow_tests;
-#[cfg(test)]
-mod tests;

@@ -4,8 +4,6 @@
 mod ending;
 mod fault;
 mod opening;
-#[cfg(test)]
-mod tests;
 mod world;
 
 pub use ending::{Ending, RunFault, run_image};

@@ -1,27 +1,11 @@
-use super::*;
+use crate::seven::{SEVEN, with_byte};
 use std::test::*;
 use x10_image::{ImageFault, ImageView};
 use x10_kinds::Stop;
 use x10_model::Event;
 use x10_place::Line;
 use x10_verify::{VerifyCause, VerifyFault, verify};
-
-/// INTK r0 7, PRINT r0, RET; least number of places 1.
-const SEVEN: [u8; 64] = [
-    0x58, 0x31, 0x30, 0x50, 0, 1, 0, 1, 0, 0, 0, 1, 0, 0, 0, 1, 0, 0, 0, 0, // header
-    0, 0, 0, 0, 0, 0, 0, 7, // the number 7
-    0, 1, 0, 0, 0, 0, 0, 0, 0, 3, 0, 0, // one register, three instructions
-    1, 0, 0, 0, 0, 0, 0, 0, 0x0f, 0, 0, 0, 0, 0, 0, 0, 0x29, 0, 0, 0, 0, 0, 0, 0,
-];
-
-/// The same with another byte at a place.
-fn with_byte(at: usize, byte: u8) -> [u8; 64] {
-    let mut bytes = SEVEN;
-    if let Some(place) = bytes.get_mut(at) {
-        *place = byte;
-    }
-    bytes
-}
+use x10_world::{OpenFault, RunFault, World, run_image};
 
 /// INTK r0 7, PRINT r1, RET, with two registers.
 fn prints_r1() -> [u8; 64] {

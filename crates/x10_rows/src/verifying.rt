@@ -1,4 +1,4 @@
-use super::*;
+use crate::seven::SEVEN;
 use std::alloc::Global;
 use std::test::*;
 use x10_bounds::BoundCause::Nesting;
@@ -6,14 +6,7 @@ use x10_code::{Instr, Op};
 use x10_image::{Function, ImageView, Module, write};
 use x10_kinds::Kind;
 use x10_model::Slot;
-
-/// One function that prints the constant number 7.
-const SEVEN: [u8; 64] = [
-    0x58, 0x31, 0x30, 0x50, 0, 1, 0, 1, 0, 0, 0, 1, 0, 0, 0, 1, 0, 0, 0, 0, // header
-    0, 0, 0, 0, 0, 0, 0, 7, // the number 7
-    0, 1, 0, 0, 0, 0, 0, 0, 0, 3, 0, 0, // three instructions
-    0x01, 0, 0, 0, 0, 0, 0, 0, 0x0f, 0, 0, 0, 0, 0, 0, 0, 0x29, 0, 0, 0, 0, 0, 0, 0,
-];
+use x10_verify::{VerifyCause, VerifyFault, verify};
 
 const RET: Instr = Instr {
     op: Op::Ret,

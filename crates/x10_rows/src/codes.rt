@@ -1,5 +1,8 @@
-use super::*;
 use std::test::*;
+use x10_code::{
+    CodeFault, Form, Instr, Op, Operand, code, decode, decode_slice, encode, form, has_spelling,
+    name, op_named, op_with_code,
+};
 
 /// Each operation's code and name, and which of a, b, c and x it has (1) or not (0).
 const TABLE: [(u8, &str, [u8; 4]); 44] = [

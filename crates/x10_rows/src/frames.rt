@@ -1,9 +1,11 @@
 ghost use Rattle.x10_frame.specs.Heads.{IsGraphHead};
 
-use super::*;
 use std::alloc::Global;
 use std::process::Abort;
 use std::test::*;
+use x10_frame::{
+    FrameFault, FrameView, FrameWriter, Head, Item, NodeView, Report, Sizes, write_report,
+};
 
 /// An activity that goes on at place 1.
 const SHIFT: [u8; 26] = [

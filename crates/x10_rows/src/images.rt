@@ -1,18 +1,12 @@
 ghost use Rattle.std.specs.Prelude.{◌<◌, length};
 
-use super::*;
+use crate::seven::{SEVEN, with_byte};
 use std::alloc::{AllocError, Global};
 use std::test::*;
 use x10_code::{Instr, Op};
+use x10_image::{Function, ImageFault, ImageView, Module, write};
 use x10_kinds::Kind;
 use x10_model::Slot;
-
-/// One function that prints the constant number 7.
-const SEVEN: [u8; 64] = [
-    0x58, 0x31, 0x30, 0x50, 0, 1, 0, 1, 0, 0, 0, 1, 0, 0, 0, 1, 0, 0, 0, 0, 0, 0, 0, 0, 0, 0, 0, 7,
-    0, 1, 0, 0, 0, 0, 0, 0, 0, 3, 0, 0, 0x01, 0, 0, 0, 0, 0, 0, 0, 0x0f, 0, 0, 0, 0, 0, 0, 0, 0x29,
-    0, 0, 0, 0, 0, 0, 0,
-];
 
 fn instr(op: Op, a: u8, x: u32) -> Instr {
     Instr {
@@ -31,11 +25,7 @@ fn fault(rt: &HostRuntime, bytes: &[u8]) -> Option<ImageFault> {
 
 /// The fault of the bytes of `SEVEN` with one of them changed.
 fn changed(rt: &HostRuntime, at: usize, byte: u8) -> Option<ImageFault> {
-    let mut bytes = SEVEN;
-    if let Some(place) = bytes.get_mut(at) {
-        *place = byte;
-    }
-    fault(rt, &bytes)
+    fault(rt, &with_byte(at, byte))
 }
 
 /// The module that a view shows, taken from it part by part.

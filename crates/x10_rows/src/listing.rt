@@ -1,6 +1,6 @@
-use super::*;
 use std::alloc::{AllocError, Global};
 use std::test::*;
+use x10_asm::list;
 use x10_code::{Instr, Op};
 use x10_image::{Function, ImageView, Module, write};
 use x10_kinds::Kind;

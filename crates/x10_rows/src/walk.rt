@@ -1,9 +1,9 @@
 //! A walk of many random events at five places, beside a plain count of everything.
 
-use super::*;
 use std::alloc::Global;
 use std::process::Abort;
 use std::test::*;
+use x10_finish::{Book, Finish, Tally};
 use x10_frame::Report;
 
 const FINISH: Finish = Finish { home: 2, number: 9 };

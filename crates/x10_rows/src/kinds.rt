@@ -1,4 +1,4 @@
-use crate::{Homes, Kind, Stop, Term, fits, laws, meet};
+use x10_kinds::{Homes, Kind, Stop, Term, fits, laws, meet};
 
 #[test]
 fn kinds_fit_themselves_and_objects_may_be_null(rt: HostRuntime) {

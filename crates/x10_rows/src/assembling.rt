@@ -1,17 +1,12 @@
-use super::*;
-use crate::tests::{WHOLE, image};
+use crate::listing::{WHOLE, image};
+use crate::seven;
 use std::alloc::{AllocError, Global};
 use std::test::*;
+use x10_asm::{AsmCause, AsmFault, assemble, list};
 use x10_image::ImageView;
 
 /// One function that prints the constant number 7.
 const SEVEN: &str = "places 1\nint 7\nfunc 1 0 none\nINTK 0 0\nPRINT 0\nRET 0\nend\nentry 0\n";
-
-const IMAGE_OF_SEVEN: [u8; 64] = [
-    0x58, 0x31, 0x30, 0x50, 0, 1, 0, 1, 0, 0, 0, 1, 0, 0, 0, 1, 0, 0, 0, 0, 0, 0, 0, 0, 0, 0, 0, 7,
-    0, 1, 0, 0, 0, 0, 0, 0, 0, 3, 0, 0, 0x01, 0, 0, 0, 0, 0, 0, 0, 0x0f, 0, 0, 0, 0, 0, 0, 0, 0x29,
-    0, 0, 0, 0, 0, 0, 0,
-];
 
 /// The fault of a text, if it has one.
 fn fault(rt: &HostRuntime, text: &str) -> Option<AsmFault> {
@@ -37,7 +32,7 @@ const TAIL: &str = "RET 0\nend\nentry 0\n";
 #[test]
 fn seven_both_ways(rt: HostRuntime) -> Result<(), Fail> {
     let bytes = assemble(rt.alloc(), SEVEN)?;
-    assert_eq!(rt; bytes.as_slice(), IMAGE_OF_SEVEN.as_slice());
+    assert_eq!(rt; bytes.as_slice(), seven::SEVEN.as_slice());
     let view = ImageView::read(rt.alloc(), &bytes)?;
     assert_eq!(rt; list(rt.alloc(), &view)?.as_str(), SEVEN);
     Ok(())
@@ -47,7 +42,7 @@ fn seven_both_ways(rt: HostRuntime) -> Result<(), Fail> {
 #[test]
 fn want_of_memory(rt: HostRuntime) {
     match assemble(rt.alloc(), SEVEN) {
-        Ok(bytes) => assert_eq!(rt; bytes.as_slice(), IMAGE_OF_SEVEN.as_slice()),
+        Ok(bytes) => assert_eq!(rt; bytes.as_slice(), seven::SEVEN.as_slice()),
         Err(fault) => assert_eq!(rt; Some(fault), at(0, AsmCause::Memory)),
     }
 }
@@ -68,7 +63,7 @@ fn other_spellings(rt: HostRuntime) -> Result<(), Fail> {
     ];
     for text in texts {
         let bytes = assemble(rt.alloc(), text)?;
-        assert_eq!(rt; bytes.as_slice(), IMAGE_OF_SEVEN.as_slice(), "{text}");
+        assert_eq!(rt; bytes.as_slice(), seven::SEVEN.as_slice(), "{text}");
     }
     Ok(())
 }

@@ -1,0 +1,96 @@
+//! A place by itself: its calls, and what they answer.
+use crate::outcome::image_of;
+use crate::programs::DEEP;
+use crate::seven::SEVEN;
+use std::test::*;
+use x10_code::Op;
+use x10_image::ImageView;
+use x10_kinds::Stop;
+use x10_place::{Line, Place, Stepped};
+use x10_verify::verify;
+
+/// Whether the activity with a key moves.
+fn moves(place: &mut Place, key: usize) -> bool {
+    matches!(place.step(key), Ok(Stepped::Moved))
+}
+
+/// Whether there is nothing to do for a key.
+fn idles(place: &mut Place, key: usize) -> bool {
+    matches!(place.step(key), Ok(Stepped::Idle))
+}
+
+/// How far many steps go, where no memory is wanted.
+fn ran(place: &mut Place, key: usize, most: u64) -> Option<u64> {
+    match place.run(key, most) {
+        (steps, None) => Some(steps),
+        _ => None,
+    }
+}
+
+#[test]
+fn step_by_step(rt: HostRuntime) -> Result<(), Fail> {
+    let verified = verify(rt.alloc(), ImageView::read(rt.alloc(), &SEVEN)?)?;
+    let mut place = Place::new(rt.alloc(), &verified, 0, 1)?;
+    let key = place.next_key(0).ok_or("main is there")?;
+    for op in [Op::Intk, Op::Print, Op::Ret] {
+        assert!(rt; !place.closed());
+        assert!(rt; matches!(place.at(key), Some((0, _, at)) if at == op));
+        assert!(rt; moves(&mut place, key));
+    }
+    assert!(rt; place.closed());
+    assert!(rt; matches!(place.output(), [Line::Int(7)]));
+    assert!(rt; idles(&mut place, key));
+    assert!(rt; place.at(key).is_none());
+    assert!(rt; place.next_key(0).is_none());
+    Ok(())
+}
+
+#[test]
+fn at_a_stretch(rt: HostRuntime) -> Result<(), Fail> {
+    let verified = verify(rt.alloc(), ImageView::read(rt.alloc(), &SEVEN)?)?;
+    let mut place = Place::new(rt.alloc(), &verified, 0, 1)?;
+    let key = place.next_key(0).ok_or("main is there")?;
+    assert_eq!(rt; ran(&mut place, 99, 5), Some(0));
+    assert_eq!(rt; ran(&mut place, key, 2), Some(2));
+    assert!(rt; !place.closed());
+    assert_eq!(rt; ran(&mut place, key, 5), Some(1));
+    assert!(rt; place.closed());
+    assert_eq!(rt; ran(&mut place, key, 5), Some(0));
+    assert!(rt; matches!(place.output(), [Line::Int(7)]));
+    Ok(())
+}
+
+#[test]
+fn another_place(rt: HostRuntime) -> Result<(), Fail> {
+    let verified = verify(rt.alloc(), ImageView::read(rt.alloc(), &SEVEN)?)?;
+    let mut place = Place::new(rt.alloc(), &verified, 1, 2)?;
+    assert!(rt; place.next_key(0).is_none());
+    assert!(rt; idles(&mut place, 0));
+    assert!(rt; !place.closed());
+    Ok(())
+}
+
+/// Whether a place that was refused memory stays as it was, and takes no later step.
+fn stays(place: &mut Place, key: usize, at: Option<(u16, u16, Op)>, lines: usize) -> bool {
+    let stopped = matches!(place.step(key), Err(Stop::Stopped));
+    stopped && place.at(key) == at && place.output().len() == lines
+}
+
+/// Where memory is refused, nothing moves, the output stays, and no later step is taken. It meets that only where the
+/// runner refuses an allocation.
+#[test]
+fn memory_refused(rt: HostRuntime) -> Result<(), Fail> {
+    let bytes = image_of(rt.alloc(), DEEP)?;
+    let verified = verify(rt.alloc(), ImageView::read(rt.alloc(), &bytes)?)?;
+    let mut place = Place::new(rt.alloc(), &verified, 0, 1)?;
+    let key = place.next_key(0).ok_or("main is there")?;
+    for _ in 0..13 {
+        let (at, lines) = (place.at(key), place.output().len());
+        if !moves(&mut place, key) {
+            assert!(rt; stays(&mut place, key, at, lines));
+            return Ok(());
+        }
+    }
+    assert!(rt; place.closed());
+    Ok(())
+}
