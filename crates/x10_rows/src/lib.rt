@@ -10,6 +10,8 @@ mod finishes;
 #[cfg(test)]
 mod frames;
 #[cfg(test)]
+mod heaps;
+#[cfg(test)]
 mod images;
 #[cfg(test)]
 mod kinds;

@@ -1,0 +1,272 @@
+//! The heap of a place.
+ghost use Rattle.std.specs.Prelude.{◌≡◌, ◌<◌, ◌≤◌, ◌+◌, ◌++◌, List, ℕ, IfOk, IfErr, Ok, Err, Some, None, length, replicate, slice_get, nat_lt};
+ghost use Rattle.std.specs.String.{string_bytes};
+ghost use Rattle.x10_kinds.specs.declared.stop.Stop.TheVariants as stop;
+ghost use Rattle.x10_heap.specs.Heaps.{ObjectState, empty, with_object, with_rail, with_text, with_export, with_field, with_byte, HasField, IsFull, Refuses, IsJoined};
+
+use crate::export::Export;
+use crate::object::Object;
+use crate::rail::Rail;
+use crate::text::Text;
+use smallvec::SmallVec;
+use std::alloc::{AllocError, Global};
+use std::marker::Model;
+use x10_kinds::Stop;
+
+const OBJECTS: u8 = 1;
+
+const TEXTS: u8 = 2;
+
+const RAILS: u8 = 3;
+
+const EXPORTS: u8 = 4;
+
+/// What the activities of a place share: objects, rails and texts, each by its number, and the objects that global
+/// references name, by their ids. Each counts from 0, in the order in which things were made, and nothing is taken away.
+/// There are at most 2^32 - 1 of each. A field is a word without a tag, since the verifier knows its kind. Making takes
+/// memory; where it is refused, nothing has changed. Reading and changing take none, and constant time.
+#[derive(Drop)]
+pub struct Heap {
+    alloc: Global,
+    objects: Vec<Object>,
+    rails: Vec<Rail>,
+    texts: Vec<Text>,
+    exports: Vec<Export>,
+}
+
+impl Model for Heap {
+    ghost use Rattle.x10_heap.specs.Heaps.{HeapState};
+
+    ghost Value = { HeapState };
+
+    ghost view = { λ h. record { objects = h.objects.items; rails = h.rails.items; texts = h.texts.items; exports = h.exports.items } };
+}
+
+/// The number of what is made next, where there are so many; refused where there may be no more.
+fn next_number(count: usize, limit: u8) -> Result<u32, Stop>
+    ensures ok { IfOk result (λ number. number ≡ count) }
+    ensures full { IsFull count → result ≡ Err (stop.Limit limit) }
+    ensures err { IfErr result (λ why. (why ≡ stop.Limit limit) × IsFull count) }
+{
+    match u32::try_from(count) {
+        Ok(number) if number < u32::MAX => Ok(number),
+        _ => Err(Stop::Limit(limit)),
+    }
+}
+
+/// The bytes of one text and then of another.
+fn joined(alloc: Global, first: &str, second: &str) -> Result<String, AllocError>
+    ensures { IfOk result (λ text. string_bytes text ≡ first.now ++ second.now) }
+{
+    let mut text = String::from_str(alloc, first)?;
+    text.push_str(second)?;
+    Ok(text)
+}
+
+impl Heap {
+    /// A heap with nothing in it. Takes no memory.
+    pub fn new(alloc: Global) -> Heap
+        ensures { result ≡ empty }
+    {
+        Heap {
+            alloc,
+            objects: Vec::new(alloc),
+            rails: Vec::new(alloc),
+            texts: Vec::new(alloc),
+            exports: Vec::new(alloc),
+        }
+    }
+
+    /// How many objects there are.
+    pub fn objects(&self) -> usize
+        ensures { result ≡ length self.now.objects }
+    {
+        self.objects.len()
+    }
+
+    /// How many rails there are.
+    pub fn rails(&self) -> usize
+        ensures { result ≡ length self.now.rails }
+    {
+        self.rails.len()
+    }
+
+    /// How many texts there are.
+    pub fn texts(&self) -> usize
+        ensures { result ≡ length self.now.texts }
+    {
+        self.texts.len()
+    }
+
+    /// How many global references there are: their ids are below this.
+    pub fn exports(&self) -> usize
+        ensures { result ≡ length self.now.exports }
+    {
+        self.exports.len()
+    }
+
+    /// A new object of a class, with these words in its fields. Limit 1 where there may be no more objects.
+    pub fn new_object(&mut self, class: u16, fields: &[u64]) -> Result<u32, Stop>
+        ensures ok { IfOk result (λ number. (number ≡ length self.old.objects) × (self.new ≡ with_object self.old class fields.now)) }
+        ensures full { IsFull (length self.old.objects) → result ≡ Err (stop.Limit 1) }
+        ensures err { IfErr result (λ why. (self.new ≡ self.old) × Refuses (length self.old.objects) 1 why) }
+    {
+        let number = next_number(self.objects.len(), OBJECTS)?;
+        let Ok(fields) = SmallVec::from_slice(self.alloc, fields) else {
+            return Err(Stop::Memory);
+        };
+        let Ok(()) = self.objects.push(Object { class, fields }) else {
+            return Err(Stop::Memory);
+        };
+        Ok(number)
+    }
+
+    /// The class of an object.
+    pub fn class(&self, object: u32) -> u16
+        requires { object < length self.now.objects }
+        ensures { (o : ObjectState) → slice_get self.now.objects object ≡ Some o → result ≡ o.class }
+    {
+        self.objects[object as usize].class
+    }
+
+    /// The words in an object's fields.
+    pub fn fields(&self, object: u32) -> &[u64]
+        requires { object < length self.now.objects }
+        ensures { (o : ObjectState) → slice_get self.now.objects object ≡ Some o → result.now ≡ o.fields }
+    {
+        &self.objects[object as usize].fields
+    }
+
+    /// The word in a field of an object. Fields count from 0.
+    pub fn get(&self, object: u32, field: u8) -> u64
+        requires { HasField self.now object field }
+        ensures { (o : ObjectState) → slice_get self.now.objects object ≡ Some o → slice_get o.fields field ≡ Some result }
+    {
+        self.objects[object as usize].fields[usize::from(field)]
+    }
+
+    /// Writes a word to a field of an object.
+    pub fn put(&mut self, object: u32, field: u8, word: u64)
+        requires { HasField self.old object field }
+        ensures { (o : ObjectState) → slice_get self.old.objects object ≡ Some o → self.new ≡ with_field self.old object o field word }
+    {
+        self.objects[object as usize].write(field, word);
+    }
+
+    /// A new rail of so many zero bytes. Limit 3 where there may be no more rails.
+    pub fn new_rail(&mut self, bytes: u16) -> Result<u32, Stop>
+        ensures ok { IfOk result (λ number. (number ≡ length self.old.rails) × (self.new ≡ with_rail self.old (replicate bytes 0))) }
+        ensures full { IsFull (length self.old.rails) → result ≡ Err (stop.Limit 3) }
+        ensures err { IfErr result (λ why. (self.new ≡ self.old) × Refuses (length self.old.rails) 3 why) }
+    {
+        let number = next_number(self.rails.len(), RAILS)?;
+        let Ok(bytes) = Vec::from_elem(self.alloc, 0, usize::from(bytes)) else {
+            return Err(Stop::Memory);
+        };
+        let Ok(()) = self.rails.push(Rail { bytes }) else {
+            return Err(Stop::Memory);
+        };
+        Ok(number)
+    }
+
+    /// The bytes of a rail.
+    pub fn rail(&self, rail: u32) -> &[u8]
+        requires { rail < length self.now.rails }
+        ensures { slice_get self.now.rails rail ≡ Some result.now }
+    {
+        &self.rails[rail as usize].bytes
+    }
+
+    /// The byte of a rail at an index, where there is one. Indices count from 0.
+    pub fn rail_get(&self, rail: u32, index: usize) -> Option<u8>
+        requires { rail < length self.now.rails }
+        ensures { (bytes : List ℕ) → slice_get self.now.rails rail ≡ Some bytes → result ≡ slice_get bytes index }
+    {
+        self.rail(rail).get(index).copied()
+    }
+
+    /// Writes a byte of a rail at an index. False where there is none; then nothing has changed.
+    pub fn rail_set(&mut self, rail: u32, index: usize, byte: u8) -> bool
+        requires { rail < length self.old.rails }
+        ensures { (bytes : List ℕ) → slice_get self.old.rails rail ≡ Some bytes → (result ≡ nat_lt index (length bytes)) × (self.new ≡ with_byte self.old rail bytes index byte) }
+    {
+        let bytes = &mut self.rails[rail as usize].bytes;
+        if index < bytes.len() {
+            bytes[index] = byte;
+            return true;
+        }
+        false
+    }
+
+    /// A new text with the bytes of another. Limit 2 where there may be no more texts.
+    pub fn new_text(&mut self, text: &str) -> Result<u32, Stop>
+        ensures ok { IfOk result (λ number. (number ≡ length self.old.texts) × (self.new ≡ with_text self.old text.now)) }
+        ensures full { IsFull (length self.old.texts) → result ≡ Err (stop.Limit 2) }
+        ensures err { IfErr result (λ why. (self.new ≡ self.old) × Refuses (length self.old.texts) 2 why) }
+    {
+        let number = next_number(self.texts.len(), TEXTS)?;
+        let Ok(text) = String::from_str(self.alloc, text) else {
+            return Err(Stop::Memory);
+        };
+        let Ok(()) = self.texts.push(Text { text }) else {
+            return Err(Stop::Memory);
+        };
+        Ok(number)
+    }
+
+    /// A text.
+    pub fn text(&self, text: u32) -> &str
+        requires { text < length self.now.texts }
+        ensures { slice_get self.now.texts text ≡ Some result.now }
+    {
+        self.texts[text as usize].text.as_str()
+    }
+
+    /// A new text of two joined, the first before the second; none where it would be longer than 65,535 bytes, and then
+    /// nothing has changed. Limit 2 where there may be no more texts. Takes the time to copy both.
+    pub fn join(&mut self, first: u32, second: u32) -> Result<Option<u32>, Stop>
+        requires first { first < length self.old.texts }
+        requires second { second < length self.old.texts }
+        ensures ok { IfOk result (λ made. (t u : List ℕ) → slice_get self.old.texts first ≡ Some t → slice_get self.old.texts second ≡ Some u → IsJoined self.old t u made self.new) }
+        ensures long { (t u : List ℕ) → slice_get self.old.texts first ≡ Some t → slice_get self.old.texts second ≡ Some u → 65535 < length t + length u → result ≡ Ok None }
+        ensures full { (t u : List ℕ) → slice_get self.old.texts first ≡ Some t → slice_get self.old.texts second ≡ Some u → length t + length u ≤ 65535 → IsFull (length self.old.texts) → result ≡ Err (stop.Limit 2) }
+        ensures err { IfErr result (λ why. (self.new ≡ self.old) × Refuses (length self.old.texts) 2 why) }
+    {
+        let (first, second) = (self.text(first), self.text(second));
+        if first.len() + second.len() > 65_535 {
+            return Ok(None);
+        }
+        let number = next_number(self.texts.len(), TEXTS)?;
+        let Ok(text) = joined(self.alloc, first, second) else {
+            return Err(Stop::Memory);
+        };
+        let Ok(()) = self.texts.push(Text { text }) else {
+            return Err(Stop::Memory);
+        };
+        Ok(Some(number))
+    }
+
+    /// A new global reference to an object, whose id is the next, also where there is one to it already. Limit 4 where
+    /// there may be no more.
+    pub fn export(&mut self, object: u32) -> Result<u32, Stop>
+        requires { object < length self.old.objects }
+        ensures ok { IfOk result (λ id. (id ≡ length self.old.exports) × ((o : ObjectState) → slice_get self.old.objects object ≡ Some o → self.new ≡ with_export self.old o.class object)) }
+        ensures full { IsFull (length self.old.exports) → result ≡ Err (stop.Limit 4) }
+        ensures err { IfErr result (λ why. (self.new ≡ self.old) × Refuses (length self.old.exports) 4 why) }
+    {
+        let id = next_number(self.exports.len(), EXPORTS)?;
+        let class = self.class(object);
+        let Ok(()) = self.exports.push(Export { class, object }) else {
+            return Err(Stop::Memory);
+        };
+        Ok(id)
+    }
+
+    /// The object that a global reference with this id names.
+    pub fn opened(&self, id: u32) -> Export
+        requires { id < length self.now.exports }
+        ensures { slice_get self.now.exports id ≡ Some result }
+    {
+        self.exports[id as usize]
+    }
+}

@@ -1,0 +1,14 @@
+//! What the activities of a place share: objects, rails, texts, and what other places may name of them.
+#![tactic(auto)]
+
+mod export;
+mod heap;
+mod object;
+mod rail;
+mod text;
+
+pub use export::Export;
+pub use heap::Heap;
+pub use object::Object;
+pub use rail::Rail;
+pub use text::Text;
