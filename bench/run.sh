@@ -1,6 +1,6 @@
 #!/usr/bin/env bash
-# Runs a benchmark, on a copy of the crates outside the repository: run.sh read_image, run.sh frames, or run.sh
-# verify_modules. RT names the command, where it isn't `rt`. The crates that the benchmark stands on are proved first,
+# Runs a benchmark, on a copy of the crates outside the repository: run.sh read_image, run.sh frames, run.sh heaps, or
+# run.sh verify_modules. RT names the command, where it isn't `rt`. The crates that the benchmark stands on are proved first,
 # which takes a minute or two.
 set -euo pipefail
 
@@ -8,9 +8,10 @@ name="${1:-}"
 case "$name" in
 read_image) library=x10_image ;;
 frames) library=x10_frame ;;
+heaps) library=x10_heap ;;
 verify_modules) library="x10_image x10_verify" ;;
 *)
-    echo "usage: bench/run.sh read_image|frames|verify_modules" >&2
+    echo "usage: bench/run.sh read_image|frames|heaps|verify_modules" >&2
     exit 2
     ;;
 esac

@@ -44,8 +44,10 @@ with_byte h rail bytes index byte = record h { rails = slice_set h.rails rail (s
 -- ---- what is there
 
 -- an object with such a field
-abbrev pub HasField : HeapState → ℕ → ℕ → Type 0
-HasField h object field = (o : ObjectState) × (slice_get h.objects object ≡ Some o) × (field + 1 ≤ length o.fields)
+pub record HasField (h : HeapState) (object field : ℕ) : Type 0 where
+  pub it : ObjectState
+  pub is_there : slice_get h.objects object ≡ Some it
+  pub has_it : field < length it.fields
 
 -- ---- limits
 
