@@ -1,8 +1,8 @@
 //! A place by itself: its calls, and what they answer.
-use crate::outcome::image_of;
 use crate::programs::DEEP;
 use crate::seven::SEVEN;
 use std::test::*;
+use x10_asm::assemble;
 use x10_code::Op;
 use x10_image::ImageView;
 use x10_kinds::Stop;
@@ -77,12 +77,21 @@ fn stays(place: &mut Place, key: usize, at: Option<(u16, u16, Op)>, lines: usize
 }
 
 /// Where memory is refused, nothing moves, the output stays, and no later step is taken. It meets that only where the
-/// runner refuses an allocation.
+/// runner refuses an allocation; one that is refused before the place is there is left to the tests of other crates.
 #[test]
 fn memory_refused(rt: HostRuntime) -> Result<(), Fail> {
-    let bytes = image_of(rt.alloc(), DEEP)?;
-    let verified = verify(rt.alloc(), ImageView::read(rt.alloc(), &bytes)?)?;
-    let mut place = Place::new(rt.alloc(), &verified, 0, 1)?;
+    let Ok(bytes) = assemble(rt.alloc(), DEEP) else {
+        return Ok(());
+    };
+    let Ok(view) = ImageView::read(rt.alloc(), &bytes) else {
+        return Ok(());
+    };
+    let Ok(verified) = verify(rt.alloc(), view) else {
+        return Ok(());
+    };
+    let Ok(mut place) = Place::new(rt.alloc(), &verified, 0, 1) else {
+        return Ok(());
+    };
     let key = place.next_key(0).ok_or("main is there")?;
     for _ in 0..13 {
         let (at, lines) = (place.at(key), place.output().len());
