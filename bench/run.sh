@@ -1,7 +1,7 @@
 #!/usr/bin/env bash
 # Runs a benchmark, on a copy of the crates outside the repository: run.sh read_image, run.sh frames, run.sh heaps, or
-# run.sh verify_modules. RT names the command, where it isn't `rt`. The crates that the benchmark stands on are proved first,
-# which takes a minute or two.
+# run.sh verify_modules. RT names the command, where it isn't `rt`. The crates that the benchmark stands on are proved
+# first, which takes a minute or two.
 set -euo pipefail
 
 name="${1:-}"

@@ -262,7 +262,7 @@ impl Heap {
         Ok(id)
     }
 
-    /// The object that a global reference with this id names.
+    /// The object that a global reference with this id names, and its class.
     pub fn opened(&self, id: u32) -> Export
         requires { id < length self.now.exports }
         ensures { slice_get self.now.exports id ≡ Some result }

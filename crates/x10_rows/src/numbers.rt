@@ -70,7 +70,7 @@ end
 entry 0
 ";
 
-/// Whether the code prints these numbers of two others, in this many steps.
+/// Whether the code prints these numbers of two others, in this many steps and no fewer.
 fn prints(
     alloc: Global,
     of: [i64; 2],
@@ -85,9 +85,21 @@ fn prints(
     for number in numbers {
         writeln!(lines, "0: {number}")?;
     }
-    let limit = format!(in alloc; "{steps}")?;
-    let words = ["run", "G", "--limit", &limit];
-    tells(alloc, &words, &image, (0, &lines, ""))
+    let enough = format!(in alloc; "{steps}")?;
+    let fewer = format!(in alloc; "{}", steps.saturating_sub(1))?;
+    let ends = tells(
+        alloc,
+        &["run", "G", "--limit", &enough],
+        &image,
+        (0, &lines, ""),
+    )?;
+    let stops = tells(
+        alloc,
+        &["run", "G", "--limit", &fewer],
+        &image,
+        (2, &lines, "x10p: limit\n"),
+    )?;
+    Ok(ends && stops)
 }
 
 #[test]
