@@ -1,6 +1,6 @@
 #!/usr/bin/env bash
-# Runs a benchmark, on a copy of the crates outside the repository: run.sh read_image, run.sh frames, run.sh heaps, or
-# run.sh verify_modules. RT names the command, where it isn't `rt`. The crates that the benchmark stands on are proved
+# Runs a benchmark, on a copy of the crates outside the repository: run.sh read_image, run.sh frames, run.sh heaps,
+# run.sh copies, or run.sh verify_modules. RT names the command, where it isn't `rt`. The crates that the benchmark stands on are proved
 # first, which takes a minute or two.
 set -euo pipefail
 
@@ -9,9 +9,10 @@ case "$name" in
 read_image) library=x10_image ;;
 frames) library=x10_frame ;;
 heaps) library=x10_heap ;;
+copies) library="x10_kinds x10_model x10_image x10_asm x10_frame x10_heap x10_copy" ;;
 verify_modules) library="x10_image x10_verify" ;;
 *)
-    echo "usage: bench/run.sh read_image|frames|heaps|verify_modules" >&2
+    echo "usage: bench/run.sh read_image|frames|heaps|copies|verify_modules" >&2
     exit 2
     ;;
 esac

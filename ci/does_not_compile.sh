@@ -4,7 +4,7 @@
 #   deps          the crates that it stands on, in one line
 #   error         a text that each error of the compiler contains
 # Each program is checked beside a copy of the repository's crates, outside the repository. Prints a line for each, and
-# fails where one is accepted, or refused for another reason.
+# as the last line 'N passed, M failed'; one that is accepted fails, and one that is refused for another reason.
 set -euo pipefail
 
 rt="${RT:-rt}"
@@ -49,8 +49,14 @@ check_case() {
     echo "does not compile: $name: refused"
 }
 
+passed=0
 failed=0
 for folder in "$top"/ci/does_not_compile/*/; do
-    check_case "${folder%/}" || failed=1
+    if check_case "${folder%/}"; then
+        passed=$((passed + 1))
+    else
+        failed=$((failed + 1))
+    fi
 done
-exit "$failed"
+echo "$passed passed, $failed failed"
+[ "$failed" -eq 0 ]

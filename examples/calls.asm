@@ -2,10 +2,16 @@
 ; and the kinds of its parameters. CALL a b x calls function x with the registers from b on, and
 ; puts the result into register a. Each call has registers of its own, with the arguments in the
 ; first ones. A function calls only those that stand above it, so none calls itself, and `x10p
-; bounds` knows the steps of each: 2, 8, 2 and, for main, 32.
+; bounds` knows the steps of each, main's too, which is function 3.
 ;
-; Prints  0: 25
-;         0: 256
+; $ x10p bounds calls.x10
+; 0 2
+; 1 8
+; 2 2
+; 3 32
+; $ x10p run calls.x10
+; 0: 25
+; 0: 256
 places 1
 int 3
 int 4

@@ -4,8 +4,12 @@
 ; function, however few it takes. The second two numbers, neighbors among those of Fibonacci, take
 ; 91 turns.
 ;
-; Prints  0: 21
-;         0: 1
+; $ x10p bounds euclid.x10
+; 0 370
+; 1 749
+; $ x10p run euclid.x10
+; 0: 21
+; 0: 1
 places 1
 int 1071
 int 462

@@ -2,10 +2,11 @@
 ; JZ to look at. A division by zero is a jump too: DIV and REM say where to go then. All of them
 ; go forward; only a loop's end goes back.
 ;
-; Prints  0: 9
-;         0: 2
-;         0: 1
-;         0: -1
+; $ x10p run jumps.x10
+; 0: 9
+; 0: 2
+; 0: 1
+; 0: -1
 places 1
 int 4
 int 9

@@ -1,15 +1,18 @@
 ; Counted loops. LOOP puts a count into a loop slot, and ENDL takes 1 from it and goes back to the
 ; loop's beginning while something is left. A loop within a loop has the next slot, and begins
 ; anew each time that it is reached. The counts stand in the code, so `x10p bounds` knows before
-; the run that main takes 70 steps.
+; the run that function 0 takes 70 steps.
 ;
-; Prints  0: 3628800
-;         0: 1
-;         0: 2
-;         0: 3
-;         0: 2
-;         0: 4
-;         0: 6
+; $ x10p bounds loops.x10
+; 0 70
+; $ x10p run loops.x10
+; 0: 3628800
+; 0: 1
+; 0: 2
+; 0: 3
+; 0: 2
+; 0: 4
+; 0: 6
 places 1
 int 0
 int 1

@@ -1,9 +1,10 @@
 ; Numbers have 64 bits. Sums, differences and products that don't fit wrap: the greatest number
 ; and one is the least number.
 ;
-; Prints  0: 42
-;         0: 1
-;         0: -9223372036854775808
+; $ x10p run numbers.x10
+; 0: 42
+; 0: 1
+; 0: -9223372036854775808
 places 1
 int 6
 int 7

@@ -20,6 +20,7 @@ use Rattle.x10_asm.proofs.SpelledWords.{number_again, decimal_word, slot_again, 
 use Rattle.x10_asm.proofs.SpelledInstructions.{brought_name, name_is_word, instruction_again, operands_are_words}
 use Rattle.x10_asm.proofs.ReadingAgain.{Turns, labelled}
 use Rattle.x10_asm.proofs.LinesAgain.{outside, inside, body_of, gives, func_word, end_word, entry_word, says_func, says_end, says_entry}
+use Rattle.x10_model.proofs.ImageLaws.{no_result}
 
 -- ---- the beginning of a function
 
@@ -89,12 +90,8 @@ end_turns classes m f lt = record {
 
 -- ---- the entry
 
-none_given : (r : Option Slot) → IfSome r (λ s. ⊥) → is_none r ≡ true
-none_given None h = refl
-none_given (Some s) h = absurd h
-
 entry_fits : (functions : List Function) (n : ℕ) (f : Function) → slice_get functions n ≡ Some f → IsEntry f → is_entry (slice_get functions n) ≡ true
-entry_fits functions n f e h = ap is_entry e ∙ and_from (length f.parameters == 0) (is_none f.result) (eq-eqb (length f.parameters) 0 (omega (arith, h.parameters))) (none_given f.result h.result)
+entry_fits functions n f e h = ap is_entry e ∙ and_from (length f.parameters == 0) (is_none f.result) (eq-eqb (length f.parameters) 0 (omega (arith, h.parameters))) (no_result f.result h.result)
 
 entry_again : (s : Stage) (functions : List Function) (n : ℕ) (f : Function) → takes_func s ≡ true → n < 2 ^ 16 → 0 < length functions → slice_get functions n ≡ Some f → IsEntry f → entry_of s functions (decimal n ∷ []) ≡ Ok n
 unfolding entry_of

@@ -9,7 +9,7 @@ use Rattle.std.specs.Map.{update}
 use Rattle.std.specs.BTreeMap.{BTreeMap, get_by}
 use Rattle.std.specs.Ordering.{nat_cmp}
 use Rattle.std.specs.Cmp.Lexicographic.{slice_cmp}
-use Rattle.x10_asm.specs.declared.mark.Mark.{Mark}
+use Rattle.x10_asm.specs.declared.label.Mark.{Mark}
 use Rattle.x10_asm.specs.declared.statement.Statement.{Statement}
 use Rattle.x10_asm.specs.Lines.{words}
 use Rattle.x10_asm.specs.Labels.{Label, label_of}

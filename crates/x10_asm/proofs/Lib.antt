@@ -18,3 +18,6 @@ pub mod LinesAgain
 pub mod FunctionsAgain
 pub mod ListingAgain
 pub mod Answered
+pub mod InRanges
+pub mod FittingLines
+pub mod FittingSources

@@ -1,5 +1,6 @@
 -- The labels of a function, from the lines after the one that begins it.
 use Rattle.std.specs.Prelude.{ℕ, suc, Bool, true, false, min, List, [], ◌∷◌, ◌++◌, if◌then◌else◌}
+use Rattle.x10_model.specs.declared.limits.TheConstants.{MOST_INSTRUCTIONS}
 use Rattle.x10_asm.specs.declared.statement.Statement.{Statement}
 use Rattle.x10_asm.specs.declared.statement.Statement.TheVariants.{Silent, Places, Class, Int, Text, Func, End, Entry, Instruction, Unknown}
 use Rattle.x10_asm.specs.declared.statement.Statement.TheVariants as statement
@@ -9,7 +10,7 @@ use Rattle.x10_asm.specs.Statements.{said, first_word}
 
 -- one instruction more, of the most that a function may have
 abbrev pub counted : ℕ → ℕ
-counted index = min (suc index) 4096
+counted index = min (suc index) MOST_INSTRUCTIONS
 
 -- an instruction counts up
 abbrev pub index_after : Statement → ℕ → ℕ

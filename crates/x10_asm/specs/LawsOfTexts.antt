@@ -1,5 +1,5 @@
--- The law that joins listing and reading.
-use Rattle.std.specs.Prelude.{◌≡◌, Ok}
+-- Laws of reading and listing.
+use Rattle.std.specs.Prelude.{◌≡◌, ℕ, List, Ok}
 use Rattle.x10_model.specs.Modules.{Module, FitsImage}
 use Rattle.x10_asm.specs.Listing.{listing}
 use Rattle.x10_asm.specs.Reading.{module_of}
@@ -7,3 +7,7 @@ use Rattle.x10_asm.specs.Reading.{module_of}
 -- a listing is read again
 abbrev pub ListingIsRead : Type 0
 ListingIsRead = (m : Module) → FitsImage m → module_of (listing m) ≡ Ok m
+
+-- a module that a text spells has an image
+abbrev pub SpelledFits : Type 0
+SpelledFits = (text : List ℕ) (m : Module) → module_of text ≡ Ok m → FitsImage m

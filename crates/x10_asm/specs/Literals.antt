@@ -1,6 +1,7 @@
 -- Texts between quotes.
 use Rattle.std.specs.Prelude.{ℕ, Bool, true, false, ◌==◌, ◌&&◌, nat_le, List, [], ◌∷◌, length, Option, Some, None, Result, Ok, Err, if◌then◌else◌}
 use Rattle.std.specs.Str.{is_utf8}
+use Rattle.x10_model.specs.declared.limits.TheConstants.{MOST_BYTES}
 use Rattle.x10_asm.specs.declared.fault.AsmCause.{AsmCause}
 use Rattle.x10_asm.specs.declared.fault.AsmCause.TheVariants.{Count, Text}
 use Rattle.x10_asm.specs.Lines.{words, is_word_end, stripped}
@@ -27,7 +28,7 @@ scan true (c ∷ cs) = onto_escape (unescaped c) (scan false cs)
 
 -- a text of at most 65,535 bytes
 abbrev pub fitting : List ℕ → Result (List ℕ) AsmCause
-fitting text = if nat_le (length text) 65535 && is_utf8 text then Ok text else Err Text
+fitting text = if nat_le (length text) MOST_BYTES && is_utf8 text then Ok text else Err Text
 
 -- nothing but spaces may follow the closing quote; a word after a space is one too many
 abbrev pub closed : List ℕ → List ℕ → Result (List ℕ) AsmCause

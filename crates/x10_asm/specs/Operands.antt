@@ -1,5 +1,6 @@
 -- The operands of an instruction, in the order of its form.
 use Rattle.std.specs.Prelude.{ℕ, Bool, nat_lt, List, [], ◌∷◌, Option, Some, None, Result, Ok, Err}
+use Rattle.x10_model.specs.declared.limits.TheConstants.{MOST_INSTRUCTIONS}
 use Rattle.x10_code.specs.declared.op.Op.{Op}
 use Rattle.x10_code.specs.declared.instr.Instr.{Instr}
 use Rattle.x10_code.specs.declared.operands.Operand.{Operand}
@@ -58,5 +59,5 @@ instruction_of labels is_inside count op ws = do
   no_more x.others
   check is_inside cause.Order
   target ← resolved labels x.name x.number
-  check (nat_lt count 4096) cause.Limit
+  check (nat_lt count MOST_INSTRUCTIONS) cause.Limit
   Ok (record { op = op; a = a.0; b = b.0; c = c.0; x = target })

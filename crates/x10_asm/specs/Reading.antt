@@ -1,5 +1,6 @@
 -- Which module a text spells, or its fault: on the least line that has one, the least cause.
 use Rattle.std.specs.Prelude.{ℕ, suc, ℤ, Bool, true, false, not, ◌==◌, ◌&&◌, nat_lt, nat_le, List, [], ◌∷◌, ◌++◌, length, Option, Some, None, Result, Ok, Err, if◌then◌else◌, slice_get}
+use Rattle.x10_model.specs.declared.limits.TheConstants.{MOST_ENTRIES, MOST_FIELDS, MOST_FUNCTIONS, MOST_PLACES}
 use Rattle.x10_kinds.specs.declared.kind.Kind.{Kind}
 use Rattle.x10_code.specs.declared.instr.Instr.{Instr}
 use Rattle.x10_model.specs.declared.slot.Slot.{Slot}
@@ -20,6 +21,7 @@ use Rattle.x10_asm.specs.Labels.{Label, label_name, label_of}
 use Rattle.x10_asm.specs.LabelLines.{labels_from}
 use Rattle.x10_asm.specs.Operands.{instruction_of}
 use Rattle.x10_asm.specs.Statements.{said, first_word, other_words}
+pub use Rattle.x10_image.specs.Written.{signature_fits}
 
 -- ---- the order of lines
 
@@ -64,7 +66,7 @@ unfoldable pub places_of : Stage → List (List ℕ) → Result ℕ AsmCause
 places_of s ws = do
   n ← one_number 65535 ws
   check (is_start s) cause.Order
-  check (is_within 1 64 n) cause.Limit
+  check (is_within 1 MOST_PLACES n) cause.Limit
   Ok n
 
 -- in a text with so many classes, after so many of them
@@ -73,7 +75,7 @@ class_of s classes before ws = do
   check (are_known (field_of classes) ws) cause.Word
   fields ← each (field_of classes) ws
   check (takes_class s) cause.Order
-  check (nat_le (length fields) 16 && nat_lt before 65535) cause.Limit
+  check (nat_le (length fields) MOST_FIELDS && nat_lt before MOST_ENTRIES) cause.Limit
   Ok fields
 
 abbrev pub one_int : List (List ℕ) → Result ℤ AsmCause
@@ -87,7 +89,7 @@ unfoldable pub int_line_of : Stage → ℕ → List (List ℕ) → Result ℤ As
 int_line_of s before ws = do
   z ← one_int ws
   check (takes_int s) cause.Order
-  check (nat_lt before 65535) cause.Limit
+  check (nat_lt before MOST_ENTRIES) cause.Limit
   Ok z
 
 abbrev pub is_count : {A : Type 0} → Result A AsmCause → Bool
@@ -100,15 +102,12 @@ text_of s before rest = do
   check (not (is_count (literal rest))) cause.Count
   check (takes_text s) cause.Order
   text ← literal rest
-  check (nat_lt before 65535) cause.Limit
+  check (nat_lt before MOST_ENTRIES) cause.Limit
   Ok text
 
 -- a function without instructions
 abbrev pub function_with : ℕ → ℕ → Option Slot → List Slot → Function
 function_with registers loops result parameters = record { parameters = parameters; registers = registers; loops = loops; result = result; code = [] }
-
-abbrev pub signature_fits : Function → Bool
-signature_fits f = is_within 1 64 f.registers && nat_le (length f.parameters) f.registers && nat_le f.loops 8 && nat_le (length f.parameters) 16
 
 abbrev pub kinds_after : ℕ → ℕ → ℕ → List (List ℕ) → Result Function AsmCause
 kinds_after classes registers loops [] = Err cause.Count
@@ -133,7 +132,7 @@ func_of s classes before ws = do
   check (kinds_are_known classes ws) cause.Word
   f ← signature_of classes ws
   check (takes_func s) cause.Order
-  check (signature_fits f && nat_lt before 256) cause.Limit
+  check (signature_fits f && nat_lt before MOST_FUNCTIONS) cause.Limit
   Ok f
 
 unfoldable pub end_of : Stage → ℕ → List (List ℕ) → Result (Unit {0}) AsmCause

@@ -5,7 +5,7 @@ use Rattle.std.specs.BTreeMap.{BTreeMap, get_by}
 use Rattle.std.specs.Ordering.{nat_cmp}
 use Rattle.std.specs.Cmp.Lexicographic.{slice_cmp}
 use Rattle.std.specs.Borrow.{Bor}
-use Rattle.x10_asm.specs.declared.mark.Mark.{Mark}
+use Rattle.x10_asm.specs.declared.label.Mark.{Mark}
 use Rattle.x10_asm.specs.Labels.{Label, label_of}
 
 abbrev pub mark_of : Label → Mark

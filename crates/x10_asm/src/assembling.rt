@@ -12,13 +12,12 @@ ghost use Rattle.x10_asm.specs.Listing.{listing};
 ghost use Rattle.x10_asm.specs.Sources.{GivesAll, GivesImage, IsImageOf, IsSpelledUnlessMemory};
 
 use crate::fault::{AsmCause, AsmFault};
-use crate::order::is_finished;
-use crate::said::line_of;
 use crate::source::{Source, nothing_read};
 use crate::split::next_line;
-use crate::statement::Statement;
+use crate::stage::is_finished;
+use crate::statement::{Statement, line_of};
 use std::alloc::Global;
-use x10_image::{Module, write};
+use x10_image::{ImageFault, Module, write};
 
 fn is_class(statement: Statement) -> bool
     ensures { result ≡ reading.is_class statement }
@@ -86,7 +85,10 @@ fn image_in(alloc: Global, text: &str) -> Result<Vec<u8>, AsmFault>
     let module = module_in(alloc, text)?;
     match write(alloc, &module) {
         Ok(image) => Ok(image),
-        Err(_) => Err(fault_at(0, AsmCause::Memory)),
+        Err(fault) => match fault {
+            ImageFault::Memory => Err(fault_at(0, AsmCause::Memory)),
+            _ => unreachable!(),
+        },
     }
 }
 

@@ -8,12 +8,19 @@ ghost use Rattle.x10_asm.specs.declared.statement.Statement.TheVariants.{Label};
 ghost use Rattle.x10_asm.specs.LabelLines as labelled;
 ghost use Rattle.x10_asm.specs.Tables.{IsTable};
 
-use crate::mark::Mark;
-use crate::said::{Line, line_of};
 use crate::split::next_line;
-use crate::statement::Statement;
+use crate::statement::{Line, Statement, line_of};
 use std::alloc::{AllocError, Global};
 use std::collections::BTreeMap;
+use x10_model::limits::MOST_INSTRUCTIONS;
+
+/// Where a label stands: the number of its line, counted from 1, and the index of the instruction
+/// that follows it, at most the 4,096 that a function may have.
+#[derive(Clone, Copy, Debug, PartialEq, Eq)]
+pub struct Mark {
+    pub line: usize,
+    pub index: u32,
+}
 
 fn is_letter(byte: u8) -> bool
     ensures { result ≡ labels.is_letter byte }
@@ -63,7 +70,7 @@ fn counted(index: u32) -> u32
     ensures value { result ≡ labelled.counted index }
     ensures few { result ≤ 4096 }
 {
-    (index + 1).min(4096)
+    (index + 1).min(u32::from(MOST_INSTRUCTIONS))
 }
 
 /// Adds a label, unless its name is there.

@@ -1,8 +1,13 @@
-//! What holds of every listing.
+//! What holds of every listing and of every text. Each function does nothing: its contract is a law.
 
-ghost use Rattle.x10_asm.specs.LawsOfTexts.{ListingIsRead};
+ghost use Rattle.x10_asm.specs.LawsOfTexts.{ListingIsRead, SpelledFits};
 
 /// A listing is read again: assembled, it gives the image of the module that it lists.
 pub fn listing_is_read()
     ensures law { ListingIsRead }
+{}
+
+/// A module that a text spells is in all the ranges of an image, so it has one.
+pub fn spelled_fits()
+    ensures law { SpelledFits }
 {}

@@ -4,17 +4,14 @@
 mod assembling;
 mod escape;
 mod fault;
-mod judge;
 mod kind;
 mod label;
 pub mod laws;
+mod lines;
 mod listing;
 mod literal;
-mod mark;
 mod number;
 mod operand;
-mod order;
-mod said;
 mod source;
 mod split;
 mod stage;

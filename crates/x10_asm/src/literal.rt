@@ -10,6 +10,7 @@ use crate::fault::AsmCause;
 use crate::number::no_more;
 use crate::split::{begins, stripped};
 use std::alloc::Global;
+use x10_model::limits::MOST_BYTES;
 
 /// The byte that an escape stands for.
 fn unescaped(byte: u8) -> Option<u8>
@@ -53,7 +54,7 @@ fn scan(alloc: Global, quoted: &str) -> Result<(Vec<u8>, &str), AsmCause>
 fn fitting(text: Vec<u8>) -> Result<String, AsmCause>
     ensures { Gives string_bytes result (literals.fitting text.items) }
 {
-    if text.len() > 65535 {
+    if text.len() > usize::from(MOST_BYTES) {
         return Err(AsmCause::Text);
     }
     match String::from_utf8(text) {

@@ -11,11 +11,12 @@ ghost use Rattle.x10_asm.specs.Operands.{Last};
 ghost use Rattle.x10_asm.specs.Tables.{IsTable};
 
 use crate::fault::AsmCause;
-use crate::mark::Mark;
+use crate::label::Mark;
 use crate::number::{no_more, number_at};
 use crate::split::{next_word, stripped};
 use std::collections::BTreeMap;
 use x10_code::{Instr, Op, Operand, form};
+use x10_model::limits::MOST_INSTRUCTIONS;
 
 /// One of the operands a, b and c, and what follows its word. An operand that the form doesn't name
 /// is 0 and has no word.
@@ -92,7 +93,7 @@ pub fn instruction_of(
         return Err(AsmCause::Order);
     }
     let x = resolved(table, name, number)?;
-    if count >= 4096 {
+    if count >= usize::from(MOST_INSTRUCTIONS) {
         return Err(AsmCause::Limit);
     }
     Ok(Instr { op, a, b, c, x })

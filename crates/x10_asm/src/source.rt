@@ -12,14 +12,11 @@ ghost use Rattle.x10_asm.specs.Lines as spec;
 ghost use Rattle.x10_asm.specs.Sources.{StandsFor, Takes};
 
 use crate::fault::AsmCause;
-use crate::judge::{class_of, end_of, entry_of, func_of, int_of, label_at, places_of, text_of};
-use crate::label::labels_of;
-use crate::mark::Mark;
+use crate::label::{Mark, labels_of};
+use crate::lines::{class_of, end_of, entry_of, func_of, int_of, label_at, places_of, text_of};
 use crate::operand::instruction_of;
-use crate::order::is_inside;
-use crate::said::{Line, line_of};
-use crate::stage::Stage;
-use crate::statement::Statement;
+use crate::stage::{Stage, is_inside};
+use crate::statement::{Line, Statement, line_of};
 use std::alloc::Global;
 use std::collections::BTreeMap;
 use std::mem::replace;

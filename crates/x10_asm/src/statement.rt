@@ -1,4 +1,17 @@
-use x10_code::Op;
+//! What a line says, by its first word.
+
+ghost use Rattle.std.specs.Prelude.{◌≡◌, IsUtf8};
+ghost use Rattle.x10_code.specs.Table.{op_of_name};
+ghost use Rattle.x10_asm.specs.Lines as spec;
+ghost use Rattle.x10_asm.specs.Lines.{words};
+ghost use Rattle.x10_asm.specs.Labels as labels;
+ghost use Rattle.x10_asm.specs.Statements as statements;
+ghost use Rattle.x10_asm.specs.Statements.{first_word, other_words};
+
+use crate::label::ends_in_colon;
+use crate::split::{begins, next_word};
+use x10_code::{Op, op_named};
+use x10_image::is_brought;
 
 /// What a line says, by its first word.
 #[derive(Clone, Copy, Debug, PartialEq, Eq)]
@@ -25,4 +38,94 @@ pub enum Statement {
     Instruction(Op),
     /// The first word begins no line.
     Unknown,
+}
+
+fn named(word: &str) -> Option<Op>
+    ensures { result ≡ op_of_name word.now }
+{
+    op_named(word)
+}
+
+/// The operation of a name that a module may have.
+fn op_of_word(word: &str) -> Option<Op>
+    ensures { result ≡ labels.op_of_word word.now }
+{
+    match named(word) {
+        Some(op) if is_brought(op) => Some(op),
+        _ => None,
+    }
+}
+
+fn label_or_instruction(word: &str) -> Statement
+    ensures { result ≡ statements.label_or_instruction word.now }
+{
+    if ends_in_colon(word) {
+        return Statement::Label;
+    }
+    match op_of_word(word) {
+        Some(op) => Statement::Instruction(op),
+        None => Statement::Unknown,
+    }
+}
+
+/// The statement that a first word begins.
+#[tactic(auto, unfolding(crate::specs::Statements::statement_of))]
+fn statement_of(word: &str) -> Statement
+    ensures { result ≡ statements.statement_of word.now }
+{
+    if begins(word, b';') {
+        return Statement::Silent;
+    }
+    if word == "places" {
+        return Statement::Places;
+    }
+    if word == "class" {
+        return Statement::Class;
+    }
+    if word == "int" {
+        return Statement::Int;
+    }
+    if word == "text" {
+        return Statement::Text;
+    }
+    if word == "func" {
+        return Statement::Func;
+    }
+    if word == "end" {
+        return Statement::End;
+    }
+    if word == "entry" {
+        return Statement::Entry;
+    }
+    label_or_instruction(word)
+}
+
+/// A line: what it says, its first word, and what follows that.
+#[derive(Clone, Copy)]
+pub struct Line<'a> {
+    pub statement: Statement,
+    pub first: &'a str,
+    pub rest: &'a str,
+}
+
+/// What a line says. A blank line has the empty word.
+pub fn line_of(line: &str) -> Line<'_>
+    ensures statement { result.statement ≡ statements.said (words line.now) }
+    ensures first { result.first.now ≡ first_word (words line.now) }
+    ensures rest { words result.rest.now ≡ other_words (words line.now) }
+    ensures after { spec.after_spaces result.rest.now ≡ spec.after_word line.now }
+    ensures utf8 { IsUtf8 result.first.now × IsUtf8 result.rest.now }
+{
+    match next_word(line) {
+        None => Line {
+            statement: Statement::Silent,
+            first: "",
+            rest: "",
+        },
+        Some((first, rest)) => Line {
+            statement: statement_of(first),
+            first,
+            rest,
+        },
+    }
 }

@@ -9,6 +9,7 @@ use Rattle.std.proofs.lemmas.Option.{slice_get_within}
 use Rattle.x10_model.proofs.Decided.{get_below}
 use Rattle.x10_bounds.specs.Regions.{closed_by, is_number, is_opener, leaves_open, closer_of}
 use Rattle.x10_bounds.proofs.Failing.{none_fails}
+use Rattle.x10_model.proofs.Balance.{last_or_below}
 
 -- one of the regions begins at an opener
 abbrev IsOpen : ℕ → List Region → Type 0
@@ -35,9 +36,6 @@ opens op.Loop pc i rs e = inl refl
 opens op.Finb pc i rs e = inl refl
 opens _ pc i rs e = absurd cc
 
-last_or_before : (o x : ℕ) → o < suc x → (o ≡ x) ⊎ (o < x)
-last_or_before o x lt = grind arith
-
 is_false : (b : Bool) → not b ≡ true → b ≡ false
 is_false true e = absurd cc
 is_false false e = refl
@@ -45,7 +43,7 @@ is_false false e = refl
 -- a region that nothing closes is open from its opener on
 stays_open : (code : List Instr) (o : ℕ) (i : Instr) → slice_get code o ≡ Some i → is_opener i.op ≡ true → closer_of code o ≡ None → (x : ℕ) → o < x → x ≤ length code → IsOpen o (around code x)
 stays_open code o i at opener none zero lt le = absurd (omega arith)
-stays_open code o i at opener none (suc x) lt le = elim (last_or_before o x lt) [
+stays_open code o i at opener none (suc x) lt le = elim (last_or_below o x lt) [
   | inl e ↦ subst (λ (k : ℕ). IsOpen o (around code (suc k))) e (subst (λ (j : Option Instr). IsOpen o (passed j o (around code o))) (sym at) (opens i.op o i (around code o) opener))
   | inr before ↦
       let here = get_below code x (omega arith) in

@@ -2,7 +2,7 @@
 use Rattle.std.proofs.Common.{◌≡◌, ◌≢◌, ℕ, zero, suc, ◌+◌, ◌-◌, ◌*◌, ◌<◌, ◌≤◌, ◌==◌, ◌&&◌, Bool, true, false, List, [], ◌∷◌, ◌++◌, length, Option, Some, None, refl, sym, ap, subst, ◌∙◌, add-one, arith}
 use Rattle.std.specs.Prelude.{slice_get, slice_index, nat_lt, nat_le, if◌then◌else◌}
 use Rattle.std.proofs.lemmas.Option.{slice_get_within}
-use Rattle.std.proofs.lemmas.Bool.{eqb-true, ne_eqb, ltb-true, leb-true}
+use Rattle.std.proofs.lemmas.Bool.{eqb-true, ne_eqb, ltb-true, leb-true, and_parts}
 use Rattle.x10_code.specs.declared.op.Op.{Op}
 use Rattle.x10_code.specs.declared.op.Op.TheVariants as op
 use Rattle.x10_code.specs.declared.instr.Instr.{Instr}
@@ -19,11 +19,6 @@ use Rattle.x10_bounds.proofs.Spots.{around-more}
 use Rattle.x10_bounds.proofs.Turns.{IsTail, AreOpened, tails, all_opened}
 
 -- ---- what the structure says of an instruction
-
-and_both : (a b : Bool) → (a && b) ≡ true → (a ≡ true) × (b ≡ true)
-and_both true true e = (refl, refl)
-and_both true false e = absurd cc
-and_both false b e = absurd cc
 
 first_none : (o p : Option ℕ) → or_else o p ≡ None → o ≡ None
 first_none None p e = refl
@@ -105,9 +100,9 @@ record OpensLoop (i : Instr) (rs : List Region) : Type 0 where
 
 opens_loop : (loops : ℕ) (rs : List Region) (i : Instr) → has_slot loops rs i op.Loop ≡ true → OpensLoop i rs
 opens_loop loops rs i e =
-    let h = and_both (i.a == depth_of rs && nat_lt i.a loops && nat_le 1 i.x) (nat_le i.x 65535) e in
-    let k = and_both (i.a == depth_of rs && nat_lt i.a loops) (nat_le 1 i.x) h.0 in
-    let l = and_both (i.a == depth_of rs) (nat_lt i.a loops) k.0 in
+    let h = and_parts (i.a == depth_of rs && nat_lt i.a loops && nat_le 1 i.x) (nat_le i.x 65535) e in
+    let k = and_parts (i.a == depth_of rs && nat_lt i.a loops) (nat_le 1 i.x) h.0 in
+    let l = and_parts (i.a == depth_of rs) (nat_lt i.a loops) k.0 in
     record { slot = eqb-true i.a (depth_of rs) l.0; some = leb-true 1 i.x k.1 }
 
 slot_holds : (loops : ℕ) (code : List Instr) (pc : ℕ) (i : Instr) (o : Op) → IsStructured loops code → slice_get code pc ≡ Some i → i.op ≡ o → has_slot loops (around code pc) i o ≡ true
@@ -142,7 +137,7 @@ closes_in loops code i pc (Turning o l ∷ rs) e n s j = record {
   limit = l;
   rs = rs;
   inside = e;
-  slot = (let h = and_both (i.a + 1 == depth_of rs + 1) (nat_lt i.a loops) s in let k : i.a + 1 ≡ depth_of rs + 1 = eqb-true (i.a + 1) (depth_of rs + 1) h.0 in omega (arith, k));
+  slot = (let h = and_parts (i.a + 1 == depth_of rs + 1) (nat_lt i.a loops) s in let k : i.a + 1 ≡ depth_of rs + 1 = eqb-true (i.a + 1) (depth_of rs + 1) h.0 in omega (arith, k));
   back = eqb-true i.x (o + 1) j;
 }
 
@@ -263,7 +258,7 @@ none_entered pc (r ∷ entered) rest a b = let lt : opener_of r < pc = ltb-true 
 pending_jump : (earlier : List ℕ) (code : List Instr) (slots : ℕ → ℕ) (pc x : ℕ) → pc ≤ x → leaves_loops (around code pc) (around code x) ≡ true → pending earlier code slots (around code x) ≤ pending earlier code slots (around code pc)
 pending_jump earlier code slots pc x le leaves =
     let h : IsLater pc (around code pc) (around code x) = is_later code pc x le in
-    let before = (and_both (begins_before (around code x) pc) (finishes_of (around code pc) == finishes_of (around code x)) (sym (leaves-around code pc x le) ∙ leaves)).0 in
+    let before = (and_parts (begins_before (around code x) pc) (finishes_of (around code pc) == finishes_of (around code x)) (sym (leaves-around code pc x le) ∙ leaves)).0 in
     let none : h.entered ≡ [] = none_entered pc h.entered (left h.count (around code pc)) h.later (subst (λ rs. begins_before rs pc ≡ true) h.is before) in
     let is : around code x ≡ left h.count (around code pc) = h.is ∙ ap (λ rs. rs ++ left h.count (around code pc)) none in
     subst (λ rs. pending earlier code slots rs ≤ pending earlier code slots (around code pc)) (sym is) (pending_left earlier code slots h.count (around code pc))
@@ -275,8 +270,8 @@ record JumpsForward (code : List Instr) (pc x : ℕ) : Type 0 where
 
 forward_is : (code : List Instr) (pc x : ℕ) → jumps_forward code pc x ≡ true → JumpsForward code pc x
 forward_is code pc x e =
-    let h = and_both (nat_lt pc x && nat_lt x (length code)) (leaves_loops (around code pc) (around code x)) e in
-    let k = and_both (nat_lt pc x) (nat_lt x (length code)) h.0 in
+    let h = and_parts (nat_lt pc x && nat_lt x (length code)) (leaves_loops (around code pc) (around code x)) e in
+    let k = and_parts (nat_lt pc x) (nat_lt x (length code)) h.0 in
     record { later = ltb-true pc x k.0; within = ltb-true x (length code) k.1; leaves = h.1 }
 
 jump_is : (code : List Instr) (pc : ℕ) (i : Instr) (o : Op) → o ≢ op.Endl → is_target (form_of o).x ≡ true → jumps_well code pc i o ≡ true → jumps_forward code pc i.x ≡ true

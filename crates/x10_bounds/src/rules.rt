@@ -9,6 +9,7 @@ ghost use Rattle.x10_bounds.specs.Spots.{AreSpotsTo, begins_before, spot_of};
 use crate::shape::{Shape, classify};
 use crate::spot::{Innermost, Spot, instr_at, spot_at};
 use x10_code::{Instr, Op};
+use x10_model::limits::MOST_TURNS;
 
 /// Whether an instruction closes the region that it stands in, if it closes one, and ends the
 /// function outside every finish, if it ends it.
@@ -150,7 +151,10 @@ fn has_slot(loops: u8, code: &[Instr], spots: &[Spot], pc: usize) -> bool
     let depth = spot_at(code, spots, pc).loops;
     let slot = u16::from(instr.a);
     match classify(instr.op) {
-        Shape::Loop => slot == depth && instr.a < loops && 1 <= instr.x && instr.x <= 65535,
+        Shape::Loop => slot == depth
+            && instr.a < loops
+            && 1 <= instr.x
+            && instr.x <= u32::from(MOST_TURNS),
         Shape::EndOfLoop => slot + 1 == depth && instr.a < loops,
         _ => true,
     }

@@ -102,7 +102,7 @@ status_told n f (inr e) = inr (fault.File, e)
 
 -- ---- the verdict
 
-pub printed_verdict : (bytes : List ℕ) (c : Certified) (image : Module) (functions entry at bound : ℕ) (old new : Option (List ℕ)) → IsImageOf bytes c → image ≡ c.program → functions ≡ length image.functions → entry ≡ image.entry → at ≡ entry → slice_get c.bounds at ≡ Some bound → Appends old new (verdict_line functions bound) → Prints verb.Verify bytes old new
+pub printed_verdict : (bytes : List ℕ) (c : Certified) (image : Module) (functions entry at bound : ℕ) (old new : Option (List ℕ)) → IsImageOf bytes c → image ≡ c.program → functions ≡ length image.functions → entry ≡ image.entry → at ≡ entry → slice_get c.bounds at ≡ Some bound → Appends old new (verdict_line functions bound) → Prints verb.Verify None bytes old new
 printed_verdict bytes c image functions entry at bound old new is same count first place got line =
     let from : at ≡ c.program.entry = place ∙ first ∙ ap (λ (m : Module). m.entry) same in
     let many : functions ≡ length c.program.functions = count ∙ ap (λ (m : Module). length m.functions) same in

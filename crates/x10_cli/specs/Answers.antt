@@ -3,14 +3,19 @@ use Rattle.std.specs.Prelude.{◌≡◌, ◌⊎◌, ℕ, List, [], ◌∷◌, �
 use Rattle.std.specs.Io.KnownBytes.{Appends}
 use Rattle.x10_model.specs.Modules.{Module, FitsImage}
 use Rattle.x10_model.specs.Images.{spelling}
-use Rattle.x10_model.specs.Worlds.{World, IsOver}
+use Rattle.x10_model.specs.declared.event.Event.{Event}
+use Rattle.x10_model.specs.Structure.{bounds_of}
+use Rattle.x10_model.specs.Places as machine
+use Rattle.x10_model.specs.Worlds.{World, Ideal, Run, WithinBounds, IsOver, opening}
 use Rattle.x10_asm.specs.Listing.{listing}
 use Rattle.x10_asm.specs.Reading.{module_of}
 use Rattle.x10_verify.specs.Certified.{Certified}
 use Rattle.x10_verify.specs.Faults.{HasBounds}
-use Rattle.x10_world.specs.Endings.{IsImageOf}
+use Rattle.x10_world.specs.Endings.{IsImageOf, AreLinesOf}
 use Rattle.x10_world.specs.Opening.{IsForbidden}
-use Rattle.x10_world.specs.StandsForWorld.{WorldState, StandsForWorld}
+use Rattle.x10_world.specs.declared.rounds.Halt.{Halt}
+use Rattle.x10_world.specs.declared.rounds.Halt.TheVariants as halt
+use Rattle.x10_cli.specs.Lines.{bound_lines, all_lines}
 use Rattle.x10_kinds.specs.declared.stop.Stop.{Stop}
 use Rattle.x10_kinds.specs.declared.stop.Stop.TheVariants as stop
 use Rattle.x10_image.specs.declared.fault.ImageFault.{ImageFault}
@@ -58,22 +63,31 @@ CanBeDone verb.Run places bytes = (c : Certified) × IsImageOf bytes c × (IsFor
 abbrev pub verdict_line : ℕ → ℕ → List ℕ
 verdict_line functions bound = codes "verified " ++ (decimal functions ++ (codes " functions, entry bound " ++ (decimal bound ++ 10 ∷ [])))
 
--- what is appended to what is known to be written: the image of the text's module, the listing of the image's, the verdict
-abbrev pub Prints : Verb → List ℕ → Option (List ℕ) → Option (List ℕ) → Type 0
-Prints verb.Asm bytes old new = (m : Module) × (module_of bytes ≡ Ok m) × Appends old new (spelling m)
-Prints verb.List bytes old new = (m : Module) × IsImage bytes m × Appends old new (listing m)
-Prints verb.Verify bytes old new = (c : Certified) × (bound : ℕ) × IsImageOf bytes c × (slice_get c.bounds c.program.entry ≡ Some bound) × Appends old new (verdict_line (length c.program.functions) bound)
-Prints _ bytes old new = Unit {0}
+-- the lines of a run of the module that has ended: from the machine's opening at so many places, with no event that goes
+-- wrong and no activity that takes more steps than its bound, to a world in which no activity lives
+pub record HasRun (c : Certified) (places : ℕ) (outputs : List (List machine.Line)) : Type 0 where
+  pub key : ℕ
+  pub events : List Event
+  pub last : World
+  pub run : Run Ideal (record { program = c.program; places = places }) (WithinBounds c.bounds) (opening (record { program = c.program; places = places }) key) events last
+  pub over : IsOver last
+  pub count : length outputs ≡ places
+  pub lines : AreLinesOf outputs last
+
+-- what is appended to what is known to be written: the image of the text's module, the listing of the image's, the
+-- verdict, the bounds of its functions, the lines of a run that has ended, at as many places as were asked for
+abbrev pub Prints : Verb → Option ℕ → List ℕ → Option (List ℕ) → Option (List ℕ) → Type 0
+Prints verb.Asm asked bytes old new = (m : Module) × (module_of bytes ≡ Ok m) × Appends old new (spelling m)
+Prints verb.List asked bytes old new = (m : Module) × IsImage bytes m × Appends old new (listing m)
+Prints verb.Verify asked bytes old new = (c : Certified) × (bound : ℕ) × IsImageOf bytes c × (slice_get c.bounds c.program.entry ≡ Some bound) × Appends old new (verdict_line (length c.program.functions) bound)
+Prints verb.Bounds asked bytes old new = (m : Module) × (bounds : List ℕ) × IsImage bytes m × (bounds_of m ≡ Ok bounds) × Appends old new (bound_lines 0 bounds)
+Prints verb.Run asked bytes old new = (c : Certified) × (outputs : List (List machine.Line)) × IsImageOf bytes c × HasRun c (places_for asked c) outputs × Appends old new (all_lines 0 outputs)
 
 -- the commands that ask the verifier
 abbrev pub IsVerifying : Verb → Type 0
 IsVerifying verb.Verify = Unit {0}
 IsVerifying verb.Run = Unit {0}
 IsVerifying _ = ⊥
-
--- no activity lives in the world
-pub record HasEnded (x : WorldState) : Type 0 where
-  pub over : (w : World) → StandsForWorld x w → IsOver w
 
 -- the exit status of a fault
 abbrev pub status_of : Fault → ℕ
@@ -121,3 +135,8 @@ of_open opened.Memory = fault.Memory
 abbrev pub of_stop : Stop → Fault
 of_stop (stop.Limit which) = fault.StopLimit which
 of_stop _ = fault.StopMemory
+
+abbrev pub of_halt : Halt → Fault
+of_halt (halt.Stop why) = of_stop why
+of_halt halt.Limit = fault.Limit
+of_halt halt.Memory = fault.Memory

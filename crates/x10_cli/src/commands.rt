@@ -1,13 +1,15 @@
 //! What each command does, over an image's bytes and a writer.
-ghost use Rattle.std.specs.Prelude.{◌≡◌, ◌≢◌, ◌⊎◌, IfOk, IfErr, OnOk, None};
+ghost use Rattle.std.specs.Prelude.{◌≡◌, ◌≢◌, ◌⊎◌, IfOk, IfErr, OnOk, None, map};
+ghost use Rattle.std.specs.Io.KnownBytes.{Appends};
 ghost use Rattle.x10_model.specs.Modules.{Module};
-ghost use Rattle.x10_world.specs.Endings.{IsImageOf};
+ghost use Rattle.x10_place.specs.StandsFor.{line_as};
+ghost use Rattle.x10_world.specs.Endings.{IsImageOf, lines_at};
+ghost use Rattle.x10_cli.specs.Lines.{numbered, place_lines, all_lines};
 ghost use Rattle.x10_cli.specs.declared.task.Verb.TheVariants as verb;
 ghost use Rattle.x10_cli.specs.declared.fault.Fault.TheVariants as fault;
 ghost use Rattle.x10_cli.specs.Answers.{IsImage, IsVerifiedImage, IsVerifying, CanBeDone, IsStatus, Prints, places_for, status_of};
 
 use crate::fault::Fault;
-use crate::rounds;
 use crate::task::{Task, Verb};
 use std::alloc::Global;
 use std::io::Write;
@@ -16,7 +18,7 @@ use x10_bounds::bounds;
 use x10_image::ImageView;
 use x10_place::Line;
 use x10_verify::{Verified, verify};
-use x10_world::World;
+use x10_world::{World, run_rounds};
 
 /// Does what a task asks for with the bytes of its file, and tells the exit status: 0 done, 1 refused, 2 stopped, 4
 /// where a write failed or a text isn't UTF-8. What is printed goes to `out`, of `asm` the image, which is nothing where
@@ -31,7 +33,7 @@ pub fn execute<O: Write, E: Write>(
 ) -> u8
     ensures status { IsStatus result }
     ensures done { result ≡ 0 → CanBeDone task.now.verb task.now.places bytes.now }
-    ensures printed { result ≡ 0 → Prints task.now.verb bytes.now (O.contents out.old) (O.contents out.new) }
+    ensures printed { result ≡ 0 → Prints task.now.verb task.now.places bytes.now (O.contents out.old) (O.contents out.new) }
     ensures verified { result ≡ 0 → IsVerifying task.now.verb → IsVerifiedImage bytes.now }
     ensures refused { result ≡ 1 → CanBeDone task.now.verb task.now.places bytes.now → ⊥ }
 {
@@ -58,7 +60,7 @@ pub fn tell<E: Write>(fault: Fault, err: &mut E) -> u8
 /// Does a task, and tells no fault of it.
 fn perform<O: Write>(alloc: Global, task: &Task, bytes: &[u8], out: &mut O) -> Result<(), Fault>
     ensures done { IfOk result (λ _. CanBeDone task.now.verb task.now.places bytes.now) }
-    ensures printed { OnOk result (Prints task.now.verb bytes.now (O.contents out.old) (O.contents out.new)) }
+    ensures printed { OnOk result (Prints task.now.verb task.now.places bytes.now (O.contents out.old) (O.contents out.new)) }
     ensures refused { IfErr result (λ e. status_of e ≡ 1 → CanBeDone task.now.verb task.now.places bytes.now → ⊥) }
 {
     match task.verb {
@@ -90,7 +92,7 @@ fn verified_in<'a>(alloc: Global, bytes: &'a [u8]) -> Result<Verified<'a>, Fault
 /// The image that a text spells.
 fn print_image<O: Write>(alloc: Global, bytes: &[u8], out: &mut O) -> Result<(), Fault>
     ensures done { IfOk result (λ _. CanBeDone verb.Asm None bytes.now) }
-    ensures printed { OnOk result (Prints verb.Asm bytes.now (O.contents out.old) (O.contents out.new)) }
+    ensures printed { OnOk result (Prints verb.Asm None bytes.now (O.contents out.old) (O.contents out.new)) }
     ensures refused { IfErr result (λ e. status_of e ≡ 1 → CanBeDone verb.Asm None bytes.now → ⊥) }
 {
     let Ok(text) = str::from_utf8(bytes) else {
@@ -102,7 +104,7 @@ fn print_image<O: Write>(alloc: Global, bytes: &[u8], out: &mut O) -> Result<(),
 
 fn print_listing<O: Write>(alloc: Global, bytes: &[u8], out: &mut O) -> Result<(), Fault>
     ensures done { IfOk result (λ _. CanBeDone verb.List None bytes.now) }
-    ensures printed { OnOk result (Prints verb.List bytes.now (O.contents out.old) (O.contents out.new)) }
+    ensures printed { OnOk result (Prints verb.List None bytes.now (O.contents out.old) (O.contents out.new)) }
     ensures refused { IfErr result (λ e. status_of e ≡ 1 → CanBeDone verb.List None bytes.now → ⊥) }
 {
     let image = image_of(alloc, bytes)?;
@@ -113,7 +115,7 @@ fn print_listing<O: Write>(alloc: Global, bytes: &[u8], out: &mut O) -> Result<(
 
 fn print_verdict<O: Write>(alloc: Global, bytes: &[u8], out: &mut O) -> Result<(), Fault>
     ensures done { IfOk result (λ _. IsVerifiedImage bytes.now) }
-    ensures printed { OnOk result (Prints verb.Verify bytes.now (O.contents out.old) (O.contents out.new)) }
+    ensures printed { OnOk result (Prints verb.Verify None bytes.now (O.contents out.old) (O.contents out.new)) }
     ensures refused { IfErr result (λ e. status_of e ≡ 1 → IsVerifiedImage bytes.now → ⊥) }
 {
     let verified = verified_in(alloc, bytes)?;
@@ -126,12 +128,14 @@ fn print_verdict<O: Write>(alloc: Global, bytes: &[u8], out: &mut O) -> Result<(
 
 fn print_bounds<O: Write>(alloc: Global, bytes: &[u8], out: &mut O) -> Result<(), Fault>
     ensures done { IfOk result (λ _. CanBeDone verb.Bounds None bytes.now) }
+    ensures printed { OnOk result (Prints verb.Bounds None bytes.now (O.contents out.old) (O.contents out.new)) }
     ensures refused { IfErr result (λ e. status_of e ≡ 1 → CanBeDone verb.Bounds None bytes.now → ⊥) }
 {
     let image = image_of(alloc, bytes)?;
     let bounds = bounds(alloc, &image)?;
-    for (function, bound) in bounds.iter().enumerate() {
-        writeln!(out, "{function} {bound}")?;
+    for f in 0..bounds.len() {
+        let bound = bounds[f];
+        writeln!(out, "{f} {bound}")?;
     }
     Ok(())
 }
@@ -139,18 +143,29 @@ fn print_bounds<O: Write>(alloc: Global, bytes: &[u8], out: &mut O) -> Result<()
 /// Runs a module, and prints what its places printed, also where the run stops before its end.
 fn print_run<O: Write>(alloc: Global, task: &Task, bytes: &[u8], out: &mut O) -> Result<(), Fault>
     ensures done { IfOk result (λ _. CanBeDone verb.Run task.now.places bytes.now) }
+    ensures printed { OnOk result (Prints verb.Run task.now.places bytes.now (O.contents out.old) (O.contents out.new)) }
     ensures refused { IfErr result (λ e. status_of e ≡ 1 → CanBeDone verb.Run task.now.places bytes.now → ⊥) }
 {
     let verified = verified_in(alloc, bytes)?;
     let places = places_of(task.places, &verified);
     let mut world = World::open(alloc, &verified, places)?;
-    let ended = rounds::run(alloc, &mut world, places, task.limit);
-    for place in 0..places {
-        if let Some(lines) = world.output(place) {
-            print_lines(place, lines, out)?;
+    let ended = run_rounds(alloc, &mut world, task.limit);
+    print_outputs(&world, out)?;
+    Ok(ended?)
+}
+
+/// The lines of each place.
+fn print_outputs<O: Write>(world: &World, out: &mut O) -> Result<(), Fault>
+    ensures ok { OnOk result (Appends (O.contents out.old) (O.contents out.new) (all_lines 0 (lines_at world.now.places))) }
+    ensures err { IfErr result (λ e. e ≡ fault.File) }
+{
+    for place in 0..world.count() {
+        match world.output(place) {
+            Some(lines) => print_lines(place, lines, out)?,
+            None => {}
         }
     }
-    ended
+    Ok(())
 }
 
 /// How many places a run has.
@@ -165,13 +180,23 @@ fn places_of(asked: Option<u16>, verified: &Verified) -> u16
 
 /// The lines of a place, each with its number.
 fn print_lines<O: Write>(place: u16, lines: &[Line], out: &mut O) -> Result<(), Fault>
-    ensures { IfErr result (λ e. e ≡ fault.File) }
+    ensures ok { OnOk result (Appends (O.contents out.old) (O.contents out.new) (place_lines place (map line_as lines.now))) }
+    ensures err { IfErr result (λ e. e ≡ fault.File) }
 {
     for line in lines {
-        match line {
-            Line::Int(number) => writeln!(out, "{place}: {number}")?,
-            Line::Text(text) => writeln!(out, "{place}: {text}")?,
-        }
+        print_line(place, line, out)?;
+    }
+    Ok(())
+}
+
+/// A line of a place.
+fn print_line<O: Write>(place: u16, line: &Line, out: &mut O) -> Result<(), Fault>
+    ensures ok { OnOk result (Appends (O.contents out.old) (O.contents out.new) (numbered place (line_as line.now))) }
+    ensures err { IfErr result (λ e. e ≡ fault.File) }
+{
+    match line {
+        Line::Int(number) => writeln!(out, "{place}: {number}")?,
+        Line::Text(text) => writeln!(out, "{place}: {text}")?,
     }
     Ok(())
 }

@@ -1,6 +1,6 @@
 ghost use Rattle.std.specs.Prelude.{◌≡◌};
 ghost use Rattle.x10_cli.specs.declared.fault.Fault.TheVariants as fault;
-ghost use Rattle.x10_cli.specs.Answers.{status_of, of_asm, of_image, of_verify, of_bounds, of_open, of_stop};
+ghost use Rattle.x10_cli.specs.Answers.{status_of, of_asm, of_image, of_verify, of_bounds, of_open, of_stop, of_halt};
 
 use std::alloc::{AllocError, AllocFailed};
 use std::io;
@@ -10,7 +10,7 @@ use x10_bounds::{BoundCause, BoundFault};
 use x10_image::ImageFault;
 use x10_kinds::Stop;
 use x10_verify::{VerifyCause, VerifyFault};
-use x10_world::OpenFault;
+use x10_world::{Halt, OpenFault};
 
 /// Why a command was not done. Its text is what the program prints of it.
 #[derive(Clone, Copy, Debug, PartialEq, Eq, Error)]
@@ -123,6 +123,18 @@ impl From<Stop> for Fault {
         match stop {
             Stop::Limit(which) => Fault::StopLimit(which),
             Stop::Memory | Stop::Stopped => Fault::StopMemory,
+        }
+    }
+}
+
+impl From<Halt> for Fault {
+    ghost from_gives = { λ halt told. told ≡ of_halt halt };
+
+    fn from(halt: Halt) -> Fault {
+        match halt {
+            Halt::Stop(stop) => Fault::from(stop),
+            Halt::Limit => Fault::Limit,
+            Halt::Memory => Fault::Memory,
         }
     }
 }

@@ -4,7 +4,6 @@
 
 mod commands;
 mod fault;
-mod rounds;
 mod task;
 mod usage;
 

@@ -6,6 +6,7 @@ use crate::task::{Task, Verb};
 use clap::error::ErrorKind;
 use clap::{Arg, ArgMatches, Command, Error, value_parser};
 use std::alloc::{AllocError, Global};
+use x10_model::limits::MOST_PLACES;
 
 /// What is printed instead of doing something: help that was asked for, or what is wrong with the words.
 #[derive(Debug, Drop)]
@@ -33,7 +34,7 @@ const ABOUT: &str =
 const STATUS: &str = "Exit status:
   0  done
   1  refused: the text, the image, its module, or the number of places
-  2  stopped: want of memory, a limit of the machine, or --limit
+  2  stopped: lack of memory, a limit of the machine, or --limit
   3  these words aren't understood
   4  a file can't be read, or the output can't be written";
 
@@ -140,7 +141,7 @@ fn run_words<'a>(alloc: Global) -> Result<Command<'a>, AllocError> {
         .long("places")
         .value_name("N")
         .help("How many places, 1 to 64 [default: the module's least number]")
-        .value_parser(value_parser!(u16).range(1..=64));
+        .value_parser(value_parser!(u16).range(1..=i64::from(MOST_PLACES)));
     let limit = Arg::new(alloc, "limit")
         .long("limit")
         .value_name("N")

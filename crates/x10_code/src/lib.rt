@@ -1,19 +1,17 @@
 //! The instructions of the machine, and their eight bytes.
 #![tactic(auto)]
 
-mod codes;
+mod groups;
 mod instr;
 pub mod laws;
-mod names;
 mod op;
 mod operands;
 mod spelling;
 mod table;
 
-pub use codes::{code, op_with_code};
+pub use groups::Group;
 pub use instr::{CodeFault, Instr};
-pub use names::{name, op_named};
 pub use op::Op;
 pub use operands::{Form, Operand};
 pub use spelling::{decode, decode_slice, encode, has_spelling};
-pub use table::form;
+pub use table::{code, form, group, name, op_named, op_with_code};

@@ -1,92 +1,92 @@
-/// The operations, each with its code. `docs/INSTRUCTIONS.md` says what each asks and does.
+/// The operations. The table (`table.rt`) has a row for each, and `docs/INSTRUCTIONS.md` says what each asks and does.
 #[derive(Clone, Copy, Debug, PartialEq, Eq)]
 pub enum Op {
     /// `r(a) :=` the constant number `x`.
-    Intk = 0x01,
+    Intk,
     /// `r(a) :=` a new text, the constant `x`.
-    Textk = 0x02,
+    Textk,
     /// `r(a) := r(b)`.
-    Move = 0x03,
+    Move,
     /// `r(a) := r(b) + r(c)`, wrapping.
-    Add = 0x04,
+    Add,
     /// `r(a) := r(b) - r(c)`, wrapping.
-    Sub = 0x05,
+    Sub,
     /// `r(a) := r(b) * r(c)`, wrapping.
-    Mul = 0x06,
+    Mul,
     /// `r(a) := r(b) / r(c)`, toward zero; by 0 goes to `x`.
-    Div = 0x07,
+    Div,
     /// `r(a) := r(b) rem r(c)`, with the sign of `r(b)`; by 0 goes to `x`.
-    Rem = 0x08,
+    Rem,
     /// `r(a) := 1` where `r(b) < r(c)`, else 0.
-    Lt = 0x09,
+    Lt,
     /// `r(a) := 1` where `r(b) = r(c)`, else 0.
-    Eq = 0x0a,
+    Eq,
     /// goes to `x`.
-    Jmp = 0x0b,
+    Jmp,
     /// goes to `x` where `r(a)` is 0.
-    Jz = 0x0c,
+    Jz,
     /// `slot(a) := x`.
-    Loop = 0x0d,
+    Loop,
     /// `slot(a) := slot(a) - 1`; above 0 goes to `x`.
-    Endl = 0x0e,
+    Endl,
     /// one line of output: the number or text in `r(a)`.
-    Print = 0x0f,
+    Print,
     /// `r(a) :=` this place.
-    Here = 0x10,
+    Here,
     /// `r(a) :=` place number `x`.
-    Placek = 0x11,
+    Placek,
     /// `r(a) :=` the place with the number in `r(b)`; goes to `x` where there is none.
-    Placen = 0x12,
+    Placen,
     /// `r(a) :=` the number of the place in `r(b)`.
-    Placei = 0x13,
+    Placei,
     /// `r(a) :=` the place after `r(b)`, round.
-    Nextp = 0x14,
+    Nextp,
     /// `r(a) :=` the number of places.
-    Count = 0x15,
+    Count,
     /// `r(a) :=` the home of the global reference in `r(b)`.
-    Home = 0x16,
+    Home,
     /// `r(a) :=` a new global reference to the object in `r(b)`.
-    Gnew = 0x17,
+    Gnew,
     /// `r(a) :=` the object of the global reference in `r(b)`, at its home.
-    Gopen = 0x18,
+    Gopen,
     /// goes to `x` where the place or home in `r(a)` isn't here.
-    Ifhere = 0x19,
+    Ifhere,
     /// goes to `x` where the places or homes in `r(a)` and `r(b)` differ.
-    Ifsame = 0x1a,
+    Ifsame,
     /// `r(a) :=` a new object of class `x`, its fields from `r(b)` on.
-    New = 0x1b,
+    New,
     /// `r(a) :=` field `c` of the object in `r(b)`.
-    Get = 0x1c,
+    Get,
     /// field `c` of the object in `r(a)` `:= r(b)`.
-    Put = 0x1d,
+    Put,
     /// `r(a) := null` of class `x`.
-    Null = 0x1e,
+    Null,
     /// `r(a) := r(b)` where that is an object; goes to `x` where it is null.
-    Ifobj = 0x1f,
+    Ifobj,
     /// `r(a) :=` a new rail of `r(b)` zero bytes; goes to `x` where that is outside 0 to 65,535.
-    Rail = 0x20,
+    Rail,
     /// `r(a) :=` the byte at `r(c)` of the rail in `r(b)`; goes to `x` where there is none.
-    Rget = 0x21,
+    Rget,
     /// the byte at `r(b)` of the rail in `r(a)` `:= r(c) mod 256`; goes to `x` where there is none.
-    Rset = 0x22,
+    Rset,
     /// `r(a) :=` the length of the rail in `r(b)`.
-    Rlen = 0x23,
+    Rlen,
     /// `r(a) :=` the length in bytes of the text in `r(b)`.
-    Tlen = 0x24,
+    Tlen,
     /// `r(a) :=` the texts in `r(b)` and `r(c)` joined; goes to `x` where that is above 65,535 bytes.
-    Tcat = 0x25,
+    Tcat,
     /// `r(a) :=` function `x` of the arguments from `r(b)` on.
-    Call = 0x28,
+    Call,
     /// ends the function with the result in `r(a)`.
-    Ret = 0x29,
+    Ret,
     /// starts an activity here: function `x` of the arguments from `r(b)` on.
-    Async = 0x2a,
+    Async,
     /// `r(a) :=` function `x` of copies of the arguments from `r(b)` on, at the place in `r(c)`.
-    At = 0x2b,
+    At,
     /// starts an activity at the place in `r(c)`: function `x` of copies of the arguments from `r(b)` on.
-    Ata = 0x2c,
+    Ata,
     /// opens a finish.
-    Finb = 0x2d,
+    Finb,
     /// waits until the innermost finish is done, and closes it.
-    Fine = 0x2e,
+    Fine,
 }

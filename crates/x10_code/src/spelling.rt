@@ -5,10 +5,9 @@ ghost use Rattle.x10_code.specs.declared.instr.CodeFault.TheVariants.{UnknownOp}
 ghost use Rattle.x10_code.specs.Table.{code_of};
 ghost use Rattle.x10_code.specs.Spelling.{fits_operand, fits_form, IsInstr, spelling, fitted, decoded};
 
-use crate::codes::{code, op_with_code};
 use crate::instr::{CodeFault, Instr};
 use crate::operands::Operand;
-use crate::table::form;
+use crate::table::{code, form, op_with_code};
 use byteorder::{BigEndian, ByteOrder};
 
 /// The instruction that eight bytes spell: the code, a, b and c in a byte each, and x in four, the

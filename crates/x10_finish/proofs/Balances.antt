@@ -3,7 +3,7 @@ use Rattle.std.proofs.Common.{◌≡◌, ◌↔◌, ℕ, ◌+◌, ◌*◌, ◌<�
 use Rattle.std.proofs.Math.Path.{fun_ext}
 use Rattle.std.proofs.lemmas.List.{get_or-replicate}
 use Rattle.std.proofs.Math.ListN.{get_or-eq_default}
-use Rattle.std.proofs.lemmas.Bool.{eqb-true, ne_eqb, eq-eqb, cases_eq, lt-ltb, le-ltb, ltb-true}
+use Rattle.std.proofs.lemmas.Bool.{eqb-true, ne_eqb, eq-eqb, cases_eq, lt-ltb, le-ltb, ltb-true, and_from, and_parts}
 use Rattle.x10_model.specs.Totals as totals
 use Rattle.x10_model.specs.Totals.{Entry, Cut, zeros, reported, larger, merged, seen_from, IsBalanced}
 use Rattle.x10_finish.specs.declared.pairs.Pair.{Pair}
@@ -27,13 +27,9 @@ if_none : (t : Bool) (p : Pair) → (t ≡ true → p ≡ no_pair) → (if t the
 if_none true p h = h refl
 if_none false p h = refl
 
-true_both : (a b : Bool) → (a && b) ≡ true → (a ≡ true) × (b ≡ true)
-true_both true b e = (refl, e)
-true_both false b e = absurd cc
-
 pub none_at : (n a b : ℕ) (pairs : List Pair) → pairs ≡ replicate (n * n) no_pair → pair_at n pairs a b ≡ no_pair
 none_at n a b pairs e = if_none (nat_lt a n && nat_lt b n) _ (λ t.
-    let both = true_both (nat_lt a n) (nat_lt b n) t in
+    let both = and_parts (nat_lt a n) (nat_lt b n) t in
     ap (λ xs. slice_index_or xs (a * n + b) no_pair) e ∙ get_or-replicate (n * n) (a * n + b) no_pair no_pair (place_below n a b (ltb-true a n both.0) (ltb-true b n both.1)))
 
 abbrev number : ℕ → ℕ
@@ -100,9 +96,6 @@ agreed_home home pairs s r = rw (eq-eqb home home refl) refl
 agreed_other : (home q : ℕ) (pairs : ℕ → ℕ → Pair) (s r : List ℕ) → (q ≡ home → ⊥) → agreed home pairs s r q ≡ (slice_index s q == (pairs home q).received && (pairs q home).sent == slice_index r q)
 agreed_other home q pairs s r apart = rw (ne_eqb q home apart) refl
 
-both_true : (a b : Bool) → a ≡ true → b ≡ true → (a && b) ≡ true
-both_true a b e f = rw (e, f) refl
-
 -- the home's own totals are the numbers
 pub record AreNumbers (own : Entry) (s r : List ℕ) : Type 0 where
   pub sent : (q : ℕ) → slice_index s q ≡ own.sent q
@@ -112,7 +105,7 @@ pub agreed_balanced : (home n q : ℕ) (pairs : ℕ → ℕ → Pair) (own : Ent
 agreed_balanced home n q pairs own s r is lh lq b = elim (cases_eq q home) [
   | inl same ↦ subst (λ x. agreed home pairs s r x ≡ true) (sym same) (agreed_home home pairs s r ∙ eq-eqb (slice_index s home) (slice_index r home)
       (is.sent home ∙ ap (λ (e : Entry). e.sent home) (sym (seen_home home own (kept_by pairs))) ∙ b home home lh lh ∙ ap (λ (e : Entry). e.received home) (seen_home home own (kept_by pairs)) ∙ sym (is.received home)))
-  | inr apart ↦ agreed_other home q pairs s r apart ∙ both_true (slice_index s q == (pairs home q).received) ((pairs q home).sent == slice_index r q)
+  | inr apart ↦ agreed_other home q pairs s r apart ∙ and_from (slice_index s q == (pairs home q).received) ((pairs q home).sent == slice_index r q)
       (eq-eqb (slice_index s q) (pairs home q).received (is.sent q ∙ ap (λ (e : Entry). e.sent q) (sym (seen_home home own (kept_by pairs))) ∙ b home q lh lq ∙ ap (λ (e : Entry). e.received home) (seen_other home own (kept_by pairs) q apart)))
       (eq-eqb (pairs q home).sent (slice_index r q) (ap (λ (e : Entry). e.sent home) (sym (seen_other home own (kept_by pairs) q apart)) ∙ b q home lq lh ∙ ap (λ (e : Entry). e.received q) (seen_home home own (kept_by pairs)) ∙ sym (is.received q)))
 ]
@@ -137,11 +130,11 @@ zero_balanced home n pairs own s r is lh e h p q lp lq = elim (cases_eq p home) 
     | inl sq ↦ subst (λ x. (seen_from home own (kept_by (pair_at n pairs)) x).sent q ≡ (seen_from home own (kept_by (pair_at n pairs)) q).received x) (sym sp) (subst (λ y. (seen_from home own (kept_by (pair_at n pairs)) home).sent y ≡ (seen_from home own (kept_by (pair_at n pairs)) y).received home) (sym sq)
         (ap (λ (e : Entry). e.sent home) (seen_home home own (kept_by (pair_at n pairs))) ∙ sym (is.sent home) ∙ eqb-true _ _ (sym (agreed_home home (pair_at n pairs) s r) ∙ h home lh) ∙ is.received home ∙ ap (λ (e : Entry). e.received home) (sym (seen_home home own (kept_by (pair_at n pairs))))))
     | inr nq ↦ subst (λ x. (seen_from home own (kept_by (pair_at n pairs)) x).sent q ≡ (seen_from home own (kept_by (pair_at n pairs)) q).received x) (sym sp)
-        (ap (λ (e : Entry). e.sent q) (seen_home home own (kept_by (pair_at n pairs))) ∙ sym (is.sent q) ∙ eqb-true _ _ (true_both _ _ (sym (agreed_other home q (pair_at n pairs) s r nq) ∙ h q lq)).0 ∙ ap (λ (e : Entry). e.received home) (sym (seen_other home own (kept_by (pair_at n pairs)) q nq)))
+        (ap (λ (e : Entry). e.sent q) (seen_home home own (kept_by (pair_at n pairs))) ∙ sym (is.sent q) ∙ eqb-true _ _ (and_parts _ _ (sym (agreed_other home q (pair_at n pairs) s r nq) ∙ h q lq)).0 ∙ ap (λ (e : Entry). e.received home) (sym (seen_other home own (kept_by (pair_at n pairs)) q nq)))
   ]
   | inr np ↦ elim (cases_eq q home) [
     | inl sq ↦ subst (λ y. (seen_from home own (kept_by (pair_at n pairs)) p).sent y ≡ (seen_from home own (kept_by (pair_at n pairs)) y).received p) (sym sq)
-        (ap (λ (e : Entry). e.sent home) (seen_other home own (kept_by (pair_at n pairs)) p np) ∙ eqb-true _ _ (true_both _ _ (sym (agreed_other home p (pair_at n pairs) s r np) ∙ h p lp)).1 ∙ is.received p ∙ ap (λ (e : Entry). e.received p) (sym (seen_home home own (kept_by (pair_at n pairs)))))
+        (ap (λ (e : Entry). e.sent home) (seen_other home own (kept_by (pair_at n pairs)) p np) ∙ eqb-true _ _ (and_parts _ _ (sym (agreed_other home p (pair_at n pairs) s r np) ∙ h p lp)).1 ∙ is.received p ∙ ap (λ (e : Entry). e.received p) (sym (seen_home home own (kept_by (pair_at n pairs)))))
     | inr nq ↦ ap (λ (e : Entry). e.sent q) (seen_other home own (kept_by (pair_at n pairs)) p np)
         ∙ eqb-true _ _ (zero_if _ (sym (difference_inner home p q (pair_at n pairs p q) np nq) ∙ zero_square (λ a b. difference home a b (pair_at n pairs a b)) n p q e lp lq))
         ∙ ap (λ (e : Entry). e.received p) (sym (seen_other home own (kept_by (pair_at n pairs)) q nq))

@@ -1,13 +1,15 @@
 -- The chains of stays of activities in each step.
 use Rattle.std.proofs.Common.{◌≡◌, ℕ, ◌+◌, ◌<◌, true, false, List, [], ◌∷◌, Option, Some, None, inl, inr, refl, sym, ◌∙◌, ap, subst, arith}
 use Rattle.std.proofs.lemmas.Bool.{cases_eq}
+use Rattle.std.proofs.lemmas.Option.{same_Some}
 use Rattle.x10_model.specs.Maps.{with_entry, with_pair}
 use Rattle.x10_model.specs.Places.{Finish, Stay, Message, Spawn, Shift, Back, innermost}
 use Rattle.x10_model.specs.Worlds.{Post, Flying, Taken}
 use Rattle.x10_finish.specs.Nesting.{Stays}
 use Rattle.x10_finish.specs.Chains.{Name, IsAmong, IsBegunBy, IsChain, AreLinked, Waits, Carries, AreCarried}
 use Rattle.x10_finish.proofs.Counting.{at_entry, entry_same, entry_other}
-use Rattle.x10_finish.proofs.Nesting.{at_stay, pair_same, pair_other, one_stay, no_stay}
+use Rattle.x10_finish.proofs.Nesting.{at_stay, pair_same, pair_other, no_stay}
+use Rattle.x10_model.proofs.Events.{flying_is}
 
 -- ---- names
 
@@ -28,7 +30,7 @@ among_some stays under (a ∷ rest) p k c (inr m) = among_some stays under rest 
 rest_away : (stays : Stays) (under : Finish) (a : Name) (rest : List Name) (p k : ℕ) (s : Stay) → IsChain stays under (a ∷ rest) → IsAmong (p, k) rest → stays p k ≡ Some s → s.away ≡ true
 rest_away stays under a [] p k s c m there = absurd m
 rest_away stays under a (b ∷ rest) p k s c (inl e) there =
-    subst (λ (x : Stay). x.away ≡ true) (one_stay c.2.0 s (sym (subst (λ (x : Name). stays x.0 x.1 ≡ Some c.2.0) e c.2.1) ∙ there)) c.2.2
+    subst (λ (x : Stay). x.away ≡ true) (same_Some c.2.0 s (sym (subst (λ (x : Name). stays x.0 x.1 ≡ Some c.2.0) e c.2.1) ∙ there)) c.2.2
 rest_away stays under a (b ∷ rest) p k s c (inr m) there = rest_away stays under b rest p k s c.4 m there
 
 pub ready_first : (stays : Stays) (under : Finish) (xs : List Name) (p k : ℕ) (s : Stay) → IsChain stays under xs → IsAmong (p, k) xs → stays p k ≡ Some s → s.away ≡ false → (rest : List Name) × (xs ≡ (p, k) ∷ rest)
@@ -58,7 +60,7 @@ begun_as stays under s t (x ∷ rest) back same b = (b.0, b.1, b.2, back ∙ b.3
 -- the first stay of a chain changes
 first_changes : (stays : Stays) (under : Finish) (here key : ℕ) (s t : Stay) (rest : List Name) → stays here key ≡ Some s → t.back ≡ s.back → t.inherited ≡ s.inherited → IsChain stays under ((here, key) ∷ rest) → IsChain (with_pair stays here key (Some t)) under ((here, key) ∷ rest)
 first_changes stays under here key s t rest there back same c =
-    let s_is = one_stay s c.0 (sym there ∙ c.1) in (
+    let s_is = same_Some s c.0 (sym there ∙ c.1) in (
       t,
       pair_same stays here key (Some t),
       begun_as (with_pair stays here key (Some t)) under c.0 t rest (back ∙ ap (λ (x : Stay). x.back) s_is) (same ∙ ap (λ (x : Stay). x.inherited) s_is) (begun_apart stays under c.0 rest here key (Some t) c.3 c.2),
@@ -212,9 +214,6 @@ at_number f k j v e = ap (with_entry f k v) e ∙ entry_same f k v
 head_is : (x y : Name) (xs ys : List Name) → x ∷ xs ≡ y ∷ ys → x ≡ y
 head_is x y xs ys e = cc
 
-flying_one : (m n : Message) → Flying m ≡ Flying n → m ≡ n
-flying_one m n e = cc
-
 -- a message is put out that carries an activity which nothing carried
 pub carried_new : (stays : Stays) (begun : ℕ) (chains : ℕ → List Name) (unders : ℕ → Finish) (carries : ℕ → ℕ) (posts : ℕ → Post) (number a : ℕ) (message : Message) → AreCarried stays begun chains unders carries posts → IsUncarried carries posts a → a < begun
     → Carries stays (chains a) (unders a) message → AreCarried stays begun chains unders (with_entry carries number a) (with_entry posts number (Flying message))
@@ -224,7 +223,7 @@ carried_new stays begun chains unders carries posts number a message c none lt s
     | inr apart ↦ subst (λ x. x < begun) (sym (entry_other carries number m a apart)) (c.begun_one m other (sym (entry_other posts number m (Flying message) apart) ∙ flies))
   ];
   says = λ m other flies. elim (cases_eq m number) [
-    | inl e ↦ subst (λ x. Carries stays (chains x) (unders x) other) (sym (at_number carries number m a e)) (subst (Carries stays (chains a) (unders a)) (flying_one message other (sym (at_number posts number m (Flying message) e) ∙ flies)) says)
+    | inl e ↦ subst (λ x. Carries stays (chains x) (unders x) other) (sym (at_number carries number m a e)) (subst (Carries stays (chains a) (unders a)) (flying_is message other (sym (at_number posts number m (Flying message) e) ∙ flies)) says)
     | inr apart ↦ subst (λ x. Carries stays (chains x) (unders x) other) (sym (entry_other carries number m a apart)) (c.says m other (sym (entry_other posts number m (Flying message) apart) ∙ flies))
   ];
   single = λ m n other another flies too same. elim (cases_eq m number) [
@@ -266,7 +265,7 @@ waits_ready : (stays : Stays) (chain : List Name) (p k : ℕ) (P : Stay → Type
 waits_ready stays chain p k P here key s rest first there ready w =
     let is : (let x : Name = (p, k) in x ≡ (here, key)) = head_is (p, k) (here, key) w.0 rest (sym w.2 ∙ first) in
     let same : stays p k ≡ Some s = subst (λ (x : Name). stays x.0 x.1 ≡ Some s) (sym is) there in
-    let away : s.away ≡ true = subst (λ (x : Stay). x.away ≡ true) (one_stay w.1 s (sym w.3 ∙ same)) w.4 in
+    let away : s.away ≡ true = subst (λ (x : Stay). x.away ≡ true) (same_Some w.1 s (sym w.3 ∙ same)) w.4 in
     absurd cc
 
 carries_ready : (stays : Stays) (chain : List Name) (under : Finish) (message : Message) (here key : ℕ) (s : Stay) (rest : List Name) → chain ≡ (here, key) ∷ rest → stays here key ≡ Some s → s.away ≡ false → Carries stays chain under message → ⊥

@@ -2,6 +2,7 @@
 use Rattle.std.proofs.Common.{◌≡◌, ℕ, ◌<◌, ◌==◌, nat_lt, Bool, true, false, if◌then◌else◌, List, [], ◌∷◌, Option, Some, None, inl, inr, refl, sym, ◌∙◌, ap, subst, arith, lit<}
 use Rattle.std.proofs.Math.Path.{fun_ext}
 use Rattle.std.proofs.lemmas.Bool.{cases_eq, ne_eqb, lt-ltb}
+use Rattle.std.proofs.lemmas.Option.{same_Some}
 use Rattle.x10_model.specs.declared.event.Event.{Event}
 use Rattle.x10_model.specs.Maps.{with_pair}
 use Rattle.x10_model.specs.Places as places
@@ -15,7 +16,7 @@ use Rattle.x10_finish.specs.Nesting.{stays_in, Stays, stays_of, opened_of, nth, 
 use Rattle.x10_finish.specs.Chains.{Name, IsAmong, IsBegunBy, IsChain}
 use Rattle.x10_finish.specs.Closing.{chains_of, unders_of, IsSound, QuietIsIdeal, IsAtItsEnd, EndedIsQuiet}
 use Rattle.x10_finish.proofs.Stays.{stays_change}
-use Rattle.x10_finish.proofs.Nesting.{at_stay, pair_same, pair_other, one_stay, no_stay, nothing_inside}
+use Rattle.x10_finish.proofs.Nesting.{at_stay, pair_same, pair_other, no_stay, nothing_inside}
 use Rattle.x10_finish.proofs.Chains.{chain_inherits}
 use Rattle.x10_finish.proofs.Sound.{sound_as, there_in, after_waits, after_works, after_opens, after_closes, after_spawns, after_shifts, after_begins, after_ends, net_with, after_enters, after_resumes, unused_finish}
 
@@ -108,7 +109,7 @@ opening_row setting key p k lt = elim (cases_eq p 0) [
 ]
 
 pub main_is : (setting : Setting) (key p k : ℕ) (s : Stay) → with_pair no_stays 0 key (Some (first_stay setting)) p k ≡ Some s → (p ≡ 0) × (k ≡ key) × (s ≡ first_stay setting)
-main_is setting key p k s h = at_stay (λ o. o ≡ Some s → (p ≡ 0) × (k ≡ key) × (s ≡ first_stay setting)) no_stays 0 key p k (Some (first_stay setting)) (λ ep ek is. (ep, ek, sym (one_stay (first_stay setting) s is))) (λ other is. no_stay s is) h
+main_is setting key p k s h = at_stay (λ o. o ≡ Some s → (p ≡ 0) × (k ≡ key) × (s ≡ first_stay setting)) no_stays 0 key p k (Some (first_stay setting)) (λ ep ek is. (ep, ek, sym (same_Some (first_stay setting) s is))) (λ other is. no_stay s is) h
 
 no_finish : {A : Type 0} (setting : Setting) (s : Stay) (i n : ℕ) → s ≡ first_stay setting → nth s.finishes i ≡ Some n → A
 no_finish setting s i n is h = no_stay n (sym (ap (λ (x : Stay). nth x.finishes i) is) ∙ h)
@@ -169,7 +170,7 @@ allowed_ideal w here key old new (Closes n) i e m allowed =
     quiet_ended w (record { home = here; number = n }) key m.stay i (there_in w.net here key old new (Closes n) e m) (ap (λ xs. nth xs 0) m.changes.2) allowed
 allowed_ideal w here key old new (Ends under back) i e m allowed = tt
 
-happens_ideal : (setting : Setting) (w v : World) (event : Event) → IsSound w.net w.book → Happens Quiet setting w event v → Happens Ideal setting w event v
+pub happens_ideal : (setting : Setting) (w v : World) (event : Event) → IsSound w.net w.book → Happens Quiet setting w event v → Happens Ideal setting w event v
 happens_ideal setting w v event i (steps here key u s) = steps here key u (record {
   old = s.old;
   new = s.new;
@@ -207,12 +208,12 @@ below_ended w f key owner a b rest t i there ready top at away inner (n ∷ ns) 
     let at_home : stays_of w.net f.home b.1 ≡ Some t = subst (λ (x : ℕ). stays_of w.net x b.1 ≡ Some t) (ap (λ (g : Finish). g.home) is) at in
     let top_is : nth t.finishes 0 ≡ Some f.number = ap (λ xs. nth xs 0) stack ∙ ap (λ (g : Finish). Some g.number) is in
     let key_is = (i.nested.apart f.home key b.1 0 0 f.number owner t there at_home top top_is).0 in
-    let t_is : owner ≡ t = one_stay owner t (sym there ∙ ap (stays_of w.net f.home) key_is ∙ at_home) in
+    let t_is : owner ≡ t = same_Some owner t (sym there ∙ ap (stays_of w.net f.home) key_is ∙ at_home) in
     let ready_too : t.away ≡ false = subst (λ (x : Stay). x.away ≡ false) t_is ready in
     absurd (let x = sym ready_too ∙ away in cc)
 
 -- an activity with a stay lives
-lives_by : (w : World) (a p k : ℕ) (xs : List Name) → chains_of w.book a ≡ xs → a < w.book.begun → IsAmong (p, k) xs → Lives w a
+pub lives_by : (w : World) (a p k : ℕ) (xs : List Name) → chains_of w.book a ≡ xs → a < w.book.begun → IsAmong (p, k) xs → Lives w a
 lives_by w a p k [] e lt m = absurd m
 lives_by w a p k (x ∷ rest) e lt m = stays x rest lt e
 
@@ -221,11 +222,11 @@ chain_ended : (w : World) (f : Finish) (key : ℕ) (owner : Stay) (a : ℕ) (xs 
     → IsChain (stays_of w.net) (unders_of w.book a) xs → (p k : ℕ) (s : Stay) → IsAmong (p, k) xs → stays_of w.net p k ≡ Some s → s.inherited ≡ f → ⊥
 chain_ended w f key owner a [] i there ready top apart c p k s m e same = m
 chain_ended w f key owner a (x ∷ []) i there ready top apart c p k s (inl is) e same =
-    let s_is : c.0 ≡ s = one_stay c.0 s (sym (subst (λ (y : Name). stays_of w.net y.0 y.1 ≡ Some c.0) is c.1) ∙ e) in
+    let s_is : c.0 ≡ s = same_Some c.0 s (sym (subst (λ (y : Name). stays_of w.net y.0 y.1 ≡ Some c.0) is c.1) ∙ e) in
     apart (sym c.2.1 ∙ ap (λ (y : Stay). y.inherited) s_is ∙ same)
 chain_ended w f key owner a (x ∷ []) i there ready top apart c p k s (inr m) e same = m
 chain_ended w f key owner a (x ∷ b ∷ rest) i there ready top apart c p k s (inl is) e same =
-    let s_is : c.0 ≡ s = one_stay c.0 s (sym (subst (λ (y : Name). stays_of w.net y.0 y.1 ≡ Some c.0) is c.1) ∙ e) in
+    let s_is : c.0 ≡ s = same_Some c.0 s (sym (subst (λ (y : Name). stays_of w.net y.0 y.1 ≡ Some c.0) is c.1) ∙ e) in
     let inner : innermost b.0 c.2.0 ≡ f = sym c.2.4 ∙ ap (λ (y : Stay). y.inherited) s_is ∙ same in
     below_ended w f key owner a b rest c.2.0 i there ready top c.2.1 c.2.2 inner c.2.0.finishes refl
     (λ held. chain_ended w f key owner a (b ∷ rest) i there ready top apart c.4 b.0 b.1 c.2.0 (inl refl) c.2.1 held)

@@ -1,9 +1,10 @@
 -- The invariant of termination detection holds at the beginning and is kept by each event.
 use Rattle.std.proofs.Common.{◌≡◌, ℕ, ◌+◌, ◌-◌, ◌<◌, ◌≤◌, ◌==◌, ◌&&◌, not, Bool, true, false, if◌then◌else◌, List, [], ◌∷◌, Option, Some, None, ◌⊎◌, inl, inr, refl, sym, ◌∙◌, ap, subst, arith}
 use Rattle.std.proofs.lemmas.Bool.{eqb-true, ne_eqb, eq-eqb, cases_eq}
+use Rattle.std.proofs.lemmas.Option.{same_Some}
 use Rattle.x10_model.specs.Maps.{with_entry, with_pair}
-use Rattle.x10_model.specs.Totals.{Totals, Entry, Cut, zeros, entry_of, larger, sends_to, begins_one, ends_one, receives_from}
-use Rattle.x10_finish.specs.Detection.{Told, Counting, Event, PutsOut, Begins, Ends, Arrives, TakesIn, start, is_last, told_of, taken, after, IsAtWork, IsAble, AreAble, after_all, IsEarlierOf, in_flight, is_kept, IsBelow, IsCutOf, entry_or, entry_in, IsStill, AreStill, Lacks, IsToldNow, IsCounted}
+use Rattle.x10_model.specs.Totals.{Totals, Entry, Cut, zeros, entry_of, larger, sends_to, begins_one, ends_one, receives_from, is_last}
+use Rattle.x10_finish.specs.Detection.{Told, Counting, Event, PutsOut, Begins, Ends, Arrives, TakesIn, start, told_of, taken, after, IsAtWork, IsAble, AreAble, after_all, IsEarlierOf, in_flight, is_kept, is_nothing, IsBelow, IsCutOf, entry_or, entry_in, IsStill, AreStill, Lacks, IsToldNow, IsCounted}
 pub use Rattle.x10_finish.proofs.Entries.{entry_same, entry_other, at_entry, at_pair, none_some, below_itself, below_same, larger_second, larger_first}
 
 -- ---- a place that sends more
@@ -185,9 +186,7 @@ taken_earlier s number t there line p e is_kept =
       | inr ge ↦ subst (IsEarlierOf s.told s.kept t.place) (sym (larger_first (s.kept t.place) t.entry ge)) is_kept
     ]))
     (λ apart. is_kept)
-
-some_is : {V : Type 0} (v w : V) → Some v ≡ Some w → v ≡ w
-some_is v w e = cc
+taken_earlier s number t there line p e is_nothing = is_nothing
 
 taken_last : (places home : ℕ) (s : Counting) (number : ℕ) (t : Told) → s.told number ≡ Some t → IsCounted places home s → (p : ℕ) → IsToldNow s p
     → HasTold (with_entry s.told number None) (with_entry s.kept t.place (larger (s.kept t.place) t.entry)) p (s.totals p)
@@ -197,7 +196,7 @@ taken_last places home s number t there i p (inl now) =
     larger_first (s.kept t.place) t.entry (subst (IsBelow t.entry) (sym kept) (i.earlier t.place t.entry (in_flight number t there refl))) ∙ kept ∙ ap (λ x. entry_of (s.totals x)) (sym same)))
     (λ apart. now))
 taken_last places home s number t there i p (inr (n, u, h, at, now)) = elim (cases_eq n number) [
-  | inl same ↦ (let u_is : t ≡ u = some_is t u (sym there ∙ ap s.told (sym same) ∙ h) in
+  | inl same ↦ (let u_is : t ≡ u = same_Some t u (sym there ∙ ap s.told (sym same) ∙ h) in
       let place_is : t.place ≡ p = ap (λ (x : Told). x.place) u_is ∙ at in
       let entry_is : t.entry ≡ entry_of (s.totals p) = ap (λ (x : Told). x.entry) u_is ∙ now in
       inl (at_entry (λ v. v ≡ entry_of (s.totals p)) s.kept t.place p (larger (s.kept t.place) t.entry)
@@ -222,11 +221,11 @@ takes_in places home s number t there i =
 
 -- ---- an end
 
-works_still : (home p live : ℕ) → 0 < live → (not (p == home) && (live - 1 == 0)) ≡ false → (0 < live - 1) ⊎ (p ≡ home)
+works_still : (home p live : ℕ) → 0 < live → (not (home == p) && (live - 1 == 0)) ≡ false → (0 < live - 1) ⊎ (p ≡ home)
 works_still home p live lives e = elim (cases_eq p home) [
   | inl same ↦ inr same
   | inr apart ↦ elim (cases_eq (live - 1) 0) [
-    | inl none ↦ absurd (let x = ne_eqb p home apart in let y = eq-eqb (live - 1) 0 none in let z : (not (p == home) && (live - 1 == 0)) ≡ true = rw (x, y) refl in cc)
+    | inl none ↦ absurd (let x = ne_eqb home p (λ same. apart (sym same)) in let y = eq-eqb (live - 1) 0 none in let z : (not (home == p) && (live - 1 == 0)) ≡ true = rw (x, y) refl in cc)
     | inr some ↦ inl (omega arith)
   ]
 ]
@@ -239,9 +238,10 @@ ended_more places home s p i lives works =
 older : (told : ℕ → Option Told) (kept : Cut) (n p : ℕ) (t : Totals) (r : ℕ) (e : Entry) → IsEarlierOf (with_entry told n (Some (told_of p t))) kept r e → IsEarlierOf told kept r e ⊎ ((r ≡ p) × (e ≡ entry_of t))
 older told kept n p t r e (in_flight m u h at) =
     at_entry (λ o. o ≡ Some u → IsEarlierOf told kept r u.entry ⊎ ((r ≡ p) × (u.entry ≡ entry_of t))) told n m (Some (told_of p t))
-    (λ same now. (let is : told_of p t ≡ u = some_is (told_of p t) u now in inr (sym (ap (λ (x : Told). x.place) is ∙ at), ap (λ (x : Told). x.entry) (sym is))))
+    (λ same now. (let is : told_of p t ≡ u = same_Some (told_of p t) u now in inr (sym (ap (λ (x : Told). x.place) is ∙ at), ap (λ (x : Told). x.entry) (sym is))))
     (λ apart was. inl (in_flight m u was at)) h
 older told kept n p t r e is_kept = inl is_kept
+older told kept n p t r e is_nothing = inl is_nothing
 
 ended_line : (e f now : Entry) (A B : Type 0) → A ⊎ (e ≡ now) → B ⊎ (f ≡ now) → (A → IsBelow e now) → (B → IsBelow f now) → (A → B → IsBelow e f ⊎ IsBelow f e) → IsBelow e f ⊎ IsBelow f e
 ended_line e f now A B (inl a) (inl b) below_a below_b line = line a b
@@ -272,7 +272,7 @@ cut_without home told kept n p t cut is = record {
 still_with : (totals : ℕ → Totals) (p : ℕ) (t : Totals) (cut : ℕ → Option Entry) (e : Entry) → cut p ≡ Some e → IsStill e t → AreStill totals (with_entry cut p None) → AreStill (with_entry totals p t) cut
 still_with totals p t cut e there now still r f h =
     at_entry (IsStill f) totals p r t
-    (λ same. subst (λ x. IsStill x t) (some_is e f (sym there ∙ subst (λ x. cut x ≡ Some f) same h)) now)
+    (λ same. subst (λ x. IsStill x t) (same_Some e f (sym there ∙ subst (λ x. cut x ≡ Some f) same h)) now)
     (λ apart. still r f (entry_other cut p r None apart ∙ h))
 
 lacks_with : (places : ℕ) (totals : ℕ → Totals) (p : ℕ) (t : Totals) (cut : ℕ → Option Entry) (e : Entry) → cut p ≡ Some e → e ≡ entry_of (totals p) → ((r q : ℕ) → (totals r).sent q ≤ (with_entry totals p t r).sent q)
@@ -305,7 +305,7 @@ ended_cuts places home s p n i lives none cut is None at =
 ended_cuts places home s p n i lives none cut is (Some e) at =
     let t = ends_one (s.totals p) in
     elim (older s.told s.kept n p (s.totals p) p e (is.earlier p e at)) [
-      | inl was ↦ elim (i.cuts cut (cut_before home s.told s.kept n p (s.totals p) cut is (λ f h. subst (IsEarlierOf s.told s.kept p) (some_is e f (sym at ∙ h)) was))) [
+      | inl was ↦ elim (i.cuts cut (cut_before home s.told s.kept n p (s.totals p) cut is (λ f h. subst (IsEarlierOf s.told s.kept p) (same_Some e f (sym at ∙ h)) was))) [
         | inl still ↦ inl (still_on home s cut p t is.now (inl lives) still)
         | inr l ↦ inr (lacks_on places s.totals (with_entry s.totals p t) cut (more_on s.totals p t (λ q. omega arith)) l)
       ]
@@ -345,8 +345,8 @@ right_true : (a b : Bool) → (a && b) ≡ true → b ≡ true
 right_true true b e = e
 right_true false b e = absurd cc
 
-last_is_none : (home p live : ℕ) → (not (p == home) && (live - 1 == 0)) ≡ true → live - 1 ≡ 0
-last_is_none home p live e = eqb-true (live - 1) 0 (right_true (not (p == home)) (live - 1 == 0) e)
+last_is_none : (home p live : ℕ) → (not (home == p) && (live - 1 == 0)) ≡ true → live - 1 ≡ 0
+last_is_none home p live e = eqb-true (live - 1) 0 (right_true (not (home == p)) (live - 1 == 0) e)
 
 ends_by : (places home : ℕ) (s : Counting) (p n : ℕ) → IsCounted places home s → 0 < (s.totals p).live → s.told n ≡ None → (b : Bool) → is_last home p (s.totals p) ≡ b
     → IsCounted places home (record s { totals = with_entry s.totals p (ends_one (s.totals p)); told = if b then with_entry s.told n (Some (told_of p (s.totals p))) else s.told })
@@ -358,6 +358,7 @@ ends_by places home s p n i lives unused false e = ended_more places home s p i 
 first_told : (p : ℕ) (e : Entry) → IsEarlierOf start.told start.kept p e → e ≡ zeros
 first_told p e (in_flight n t h at) = absurd cc
 first_told p e is_kept = refl
+first_told p e is_nothing = refl
 
 pub counted_at_start : (places home : ℕ) → IsCounted places home start
 counted_at_start places home = record {

@@ -1,14 +1,16 @@
 -- Counts follow the machine's net, event by event.
 use Rattle.std.proofs.Common.{◌≡◌, ℕ, ◌+◌, ◌-◌, Option, Some, None, inl, inr, sym, ◌∙◌, ap, subst}
 use Rattle.std.proofs.lemmas.Bool.{cases_eq}
+use Rattle.std.proofs.lemmas.Option.{same_Some}
 use Rattle.x10_model.specs.Maps.{with_entry, with_pair}
 use Rattle.x10_model.specs.Places.{Finish, Stay, Message}
 use Rattle.x10_model.specs.Worlds.{Post, Flying, Taken, Unused}
 use Rattle.x10_finish.specs.Nesting.{Stays}
 use Rattle.x10_finish.specs.Telling.{HowMany, Inherits, IsBetween, FliesBetween}
 use Rattle.x10_finish.proofs.Counting.{at_entry, entry_same, entry_other}
-use Rattle.x10_finish.proofs.Nesting.{at_stay, pair_same, pair_other, one_stay, no_stay}
+use Rattle.x10_finish.proofs.Nesting.{at_stay, pair_same, pair_other, no_stay}
 use Rattle.x10_finish.proofs.HowMany.{many_same, many_more, many_less}
+use Rattle.x10_model.proofs.Events.{flying_is}
 
 -- so many stays inherited the finish at each place; so many messages fly from each place to each
 abbrev pub Live : Stays → Finish → (ℕ → ℕ) → Type 0
@@ -45,18 +47,18 @@ live_key stays f here key o live on back l p =
 pub live_same : (stays : Stays) (f : Finish) (here key : ℕ) (s t : Stay) (live : ℕ → ℕ) → stays here key ≡ Some s → t.inherited ≡ s.inherited → Live stays f live → Live (with_pair stays here key (Some t)) f live
 live_same stays f here key s t live there same =
     live_key stays f here key (Some t) live
-    (λ i. (t, pair_same stays here key (Some t), same ∙ ap (λ (x : Stay). x.inherited) (one_stay s i.0 (sym there ∙ i.1)) ∙ i.2))
-    (λ i. (s, there, sym same ∙ ap (λ (x : Stay). x.inherited) (one_stay t i.0 (sym (pair_same stays here key (Some t)) ∙ i.1)) ∙ i.2))
+    (λ i. (t, pair_same stays here key (Some t), same ∙ ap (λ (x : Stay). x.inherited) (same_Some s i.0 (sym there ∙ i.1)) ∙ i.2))
+    (λ i. (s, there, sym same ∙ ap (λ (x : Stay). x.inherited) (same_Some t i.0 (sym (pair_same stays here key (Some t)) ∙ i.1)) ∙ i.2))
 
 -- a stay is new that inherited another finish
 pub live_new_other : (stays : Stays) (f : Finish) (here key : ℕ) (u : Stay) (live : ℕ → ℕ) → stays here key ≡ None → (u.inherited ≡ f → ⊥) → Live stays f live → Live (with_pair stays here key (Some u)) f live
 live_new_other stays f here key u live free apart =
-    live_key stays f here key (Some u) live (λ i. no_stay i.0 (sym free ∙ i.1)) (λ i. absurd (apart (ap (λ (x : Stay). x.inherited) (one_stay u i.0 (sym (pair_same stays here key (Some u)) ∙ i.1)) ∙ i.2)))
+    live_key stays f here key (Some u) live (λ i. no_stay i.0 (sym free ∙ i.1)) (λ i. absurd (apart (ap (λ (x : Stay). x.inherited) (same_Some u i.0 (sym (pair_same stays here key (Some u)) ∙ i.1)) ∙ i.2)))
 
 -- a stay is gone that had inherited another finish
 pub live_gone_other : (stays : Stays) (f : Finish) (here key : ℕ) (s : Stay) (live : ℕ → ℕ) → stays here key ≡ Some s → (s.inherited ≡ f → ⊥) → Live stays f live → Live (with_pair stays here key None) f live
 live_gone_other stays f here key s live there apart =
-    live_key stays f here key None live (λ i. absurd (apart (ap (λ (x : Stay). x.inherited) (one_stay s i.0 (sym there ∙ i.1)) ∙ i.2))) (λ i. no_stay i.0 (sym (pair_same stays here key None) ∙ i.1))
+    live_key stays f here key None live (λ i. absurd (apart (ap (λ (x : Stay). x.inherited) (same_Some s i.0 (sym there ∙ i.1)) ∙ i.2))) (λ i. no_stay i.0 (sym (pair_same stays here key None) ∙ i.1))
 
 -- at another place nothing changes
 live_apart : (stays : Stays) (f : Finish) (here key p : ℕ) (o : Option Stay) (n : ℕ) → (p ≡ here → ⊥) → HowMany (Inherits stays f p) n → HowMany (Inherits (with_pair stays here key o) f p) n
@@ -96,9 +98,6 @@ flies_same posts f p q number n o before after h =
     (λ m. elim (cases_eq m number) [ inl e ↦ (λ b. absurd (before (subst (FliesBetween posts f p q) e b))) | inr apart ↦ flies_other posts f p q number m o apart ])
     (λ m. elim (cases_eq m number) [ inl e ↦ (λ b. absurd (after (subst (FliesBetween (with_entry posts number o) f p q) e b))) | inr apart ↦ flew_other posts f p q number m o apart ])
 
-flying_one : (m n : Message) → Flying m ≡ Flying n → m ≡ n
-flying_one m n e = cc
-
 pub not_unused : {A : Type 0} (m : Message) → Unused ≡ Flying m → A
 not_unused m e = absurd cc
 
@@ -109,7 +108,7 @@ not_taken m e = absurd cc
 pub fly_other : (posts : ℕ → Post) (f : Finish) (number : ℕ) (message : Message) (flying : ℕ → ℕ → ℕ) → posts number ≡ Unused → ((p q : ℕ) → IsBetween f p q message → ⊥) → Fly posts f flying → Fly (with_entry posts number (Flying message)) f flying
 fly_other posts f number message flying unused apart l p q =
     flies_same posts f p q number (flying p q) (Flying message) (λ b. not_unused b.0 (sym unused ∙ b.1))
-    (λ b. apart p q (subst (IsBetween f p q) (sym (flying_one message b.0 (sym (entry_same posts number (Flying message)) ∙ b.1))) b.2)) (l p q)
+    (λ b. apart p q (subst (IsBetween f p q) (sym (flying_is message b.0 (sym (entry_same posts number (Flying message)) ∙ b.1))) b.2)) (l p q)
 
 -- a message flies from one place to another
 pub fly_new : (posts : ℕ → Post) (f : Finish) (number from to : ℕ) (message : Message) (flying : ℕ → ℕ → ℕ) → posts number ≡ Unused → IsBetween f from to message → ((p q : ℕ) → IsBetween f p q message → (p ≡ from) × (q ≡ to)) → Fly posts f flying
@@ -120,12 +119,12 @@ fly_new posts f number from to message flying unused is one l p q =
     (many_more (FliesBetween posts f from to) (FliesBetween (with_entry posts number (Flying message)) f from to) (flying from to) number (l from to) (λ b. not_unused b.0 (sym unused ∙ b.1)) (message, entry_same posts number (Flying message), is)
     (λ m apart. flies_other posts f from to number m (Flying message) apart) (λ m apart. flew_other posts f from to number m (Flying message) apart))))
     (λ other. flies_same posts f p q number (flying p q) (Flying message) (λ b. not_unused b.0 (sym unused ∙ b.1))
-    (λ b. other (one p q (subst (IsBetween f p q) (sym (flying_one message b.0 (sym (entry_same posts number (Flying message)) ∙ b.1))) b.2))) (l p q))
+    (λ b. other (one p q (subst (IsBetween f p q) (sym (flying_is message b.0 (sym (entry_same posts number (Flying message)) ∙ b.1))) b.2))) (l p q))
 
 -- a message is taken in that was under no such finish
 pub fly_taken_other : (posts : ℕ → Post) (f : Finish) (number : ℕ) (message : Message) (flying : ℕ → ℕ → ℕ) → posts number ≡ Flying message → ((p q : ℕ) → IsBetween f p q message → ⊥) → Fly posts f flying → Fly (with_entry posts number Taken) f flying
 fly_taken_other posts f number message flying was apart l p q =
-    flies_same posts f p q number (flying p q) Taken (λ b. apart p q (subst (IsBetween f p q) (sym (flying_one message b.0 (sym was ∙ b.1))) b.2)) (λ b. not_taken b.0 (sym (entry_same posts number Taken) ∙ b.1)) (l p q)
+    flies_same posts f p q number (flying p q) Taken (λ b. apart p q (subst (IsBetween f p q) (sym (flying_is message b.0 (sym was ∙ b.1))) b.2)) (λ b. not_taken b.0 (sym (entry_same posts number Taken) ∙ b.1)) (l p q)
 
 -- a message from one place to another is taken in
 pub fly_taken : (posts : ℕ → Post) (f : Finish) (number from to : ℕ) (message : Message) (flying : ℕ → ℕ → ℕ) → posts number ≡ Flying message → IsBetween f from to message → ((p q : ℕ) → IsBetween f p q message → (p ≡ from) × (q ≡ to)) → Fly posts f flying
@@ -135,4 +134,4 @@ fly_taken posts f number from to message flying was is one l p q =
     (λ ep eq. subst (λ x. HowMany (FliesBetween (with_entry posts number Taken) f x q) (flying from to - 1)) (sym ep) (subst (λ y. HowMany (FliesBetween (with_entry posts number Taken) f from y) (flying from to - 1)) (sym eq)
     (many_less (FliesBetween posts f from to) (FliesBetween (with_entry posts number Taken) f from to) (flying from to) number (l from to) (message, was, is) (λ b. not_taken b.0 (sym (entry_same posts number Taken) ∙ b.1))
     (λ m apart. flies_other posts f from to number m Taken apart) (λ m apart. flew_other posts f from to number m Taken apart))))
-    (λ other. flies_same posts f p q number (flying p q) Taken (λ b. other (one p q (subst (IsBetween f p q) (sym (flying_one message b.0 (sym was ∙ b.1))) b.2))) (λ b. not_taken b.0 (sym (entry_same posts number Taken) ∙ b.1)) (l p q))
+    (λ other. flies_same posts f p q number (flying p q) Taken (λ b. other (one p q (subst (IsBetween f p q) (sym (flying_is message b.0 (sym was ∙ b.1))) b.2))) (λ b. not_taken b.0 (sym (entry_same posts number Taken) ∙ b.1)) (l p q))

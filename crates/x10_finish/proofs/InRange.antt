@@ -12,6 +12,7 @@ use Rattle.x10_finish.proofs.Counting.{at_entry}
 use Rattle.x10_finish.proofs.Nesting.{no_stay}
 use Rattle.x10_finish.proofs.Closing.{main_is, opening_row}
 use Rattle.x10_finish.proofs.Following.{not_unused}
+use Rattle.x10_model.proofs.Events.{flying_is}
 
 stays_range : (places : ℕ) (net : Net) (here : ℕ) (new : machine.Place) → IsInRange places (stays_of net) net.posts → here < places → (p k : ℕ) (s : Stay) → stays_in (with_entry net.places here (Some new) p) k ≡ Some s → p < places
 stays_range places net here new range lh p k s h =
@@ -23,9 +24,6 @@ IsFrom places here message = (f : Finish) (p q : ℕ) → IsBetween f p q messag
 
 one : (x y : Message) → Some x ≡ Some y → x ≡ y
 one x y e = cc
-
-flying_is : (x y : Message) → Flying x ≡ Flying y → x ≡ y
-flying_is x y e = cc
 
 taken_flies : (x : Message) → Taken ≡ Flying x → ⊥
 taken_flies x e = absurd cc

@@ -11,6 +11,7 @@ pub mod Nesting
 pub mod Chains
 pub mod Sound
 pub mod Closing
+pub mod Listed
 pub mod Rooted
 pub mod HowMany
 pub mod Telling

@@ -1,6 +1,7 @@
 -- Finishes stay nested in each step, and a quiet finish has nothing inside it.
 use Rattle.std.proofs.Common.{◌≡◌, ℕ, zero, suc, ◌+◌, ◌<◌, ◌≤◌, Bool, true, false, if◌then◌else◌, List, [], ◌∷◌, Option, Some, None, ◌⊎◌, inl, inr, refl, sym, ◌∙◌, ap, subst, arith}
 use Rattle.std.proofs.lemmas.Bool.{ne_eqb, eq-eqb, cases_eq}
+use Rattle.std.proofs.lemmas.Option.{same_Some}
 use Rattle.x10_model.specs.Maps.{with_entry, with_pair}
 use Rattle.x10_model.specs.Places.{Finish, root, Stay, Message, innermost_of, innermost}
 use Rattle.x10_model.specs.Worlds.{same_finish, Post, Flying, Taken, with_enclosing, IsUnder, IsWithin, itself, enclosed}
@@ -25,14 +26,11 @@ pair_same f i j v = at_stay (λ w. w ≡ v) f i j i j v (λ a b. refl) (λ other
 pub pair_other : {V : Type 0} (f : ℕ → ℕ → V) (i j a b : ℕ) (v : V) → ((a ≡ i) × (b ≡ j) → ⊥) → with_pair f i j v a b ≡ f a b
 pair_other f i j a b v apart = at_stay (λ w. w ≡ f a b) f i j a b v (λ p q. absurd (apart (p, q))) (λ other. refl)
 
-pub one_stay : {V : Type 0} (v w : V) → Some v ≡ Some w → v ≡ w
-one_stay v w e = cc
-
 pub no_stay : {V A : Type 0} (v : V) → None ≡ Some v → A
 no_stay v e = absurd cc
 
 pub same_at : (stays : Stays) (p k q l : ℕ) (s t : Stay) → stays p k ≡ Some s → stays q l ≡ Some t → q ≡ p → l ≡ k → t ≡ s
-same_at stays p k q l s t e f eq el = one_stay t s (sym f ∙ ap (λ x. stays x l) eq ∙ ap (stays p) el ∙ e)
+same_at stays p k q l s t e f eq el = same_Some t s (sym f ∙ ap (λ x. stays x l) eq ∙ ap (stays p) el ∙ e)
 
 -- ---- stacks
 
@@ -163,14 +161,14 @@ same_stacks stays opened enclosing posts here key s t n e stack same =
       i,
       t,
       ap (λ x. with_pair stays here key (Some t) x key) eh ∙ pair_same stays here key (Some t),
-      ap (λ xs. nth xs i) (stack ∙ ap (λ (x : Stay). x.finishes) (one_stay s s' (sym e ∙ e'))) ∙ h,
+      ap (λ xs. nth xs i) (stack ∙ ap (λ (x : Stay). x.finishes) (same_Some s s' (sym e ∙ e'))) ∙ h,
     )) o in
     nested_by stays (with_pair stays here key (Some t)) opened enclosing posts (λ p k. 0) n
     (λ p k u h. at_stay (λ o. o ≡ Some u → (u.finishes ≡ []) ⊎ Comes stays (λ p k. 0) p k u) stays here key p k (Some t)
-    (λ ep ek is. (let t_is = one_stay t u is in inr (comes_same stays (λ p k. 0) p k u s (moved_at stays here key p k s e ep ek) (ap (λ (x : Stay). x.inherited) (sym t_is) ∙ same) (ap (λ (x : Stay). x.finishes) (sym t_is) ∙ stack) refl)))
+    (λ ep ek is. (let t_is = same_Some t u is in inr (comes_same stays (λ p k. 0) p k u s (moved_at stays here key p k s e ep ek) (ap (λ (x : Stay). x.inherited) (sym t_is) ∙ same) (ap (λ (x : Stay). x.finishes) (sym t_is) ∙ stack) refl)))
     (λ other is. inr (comes_same stays (λ p k. 0) p k u u is refl refl refl)) h)
     (λ p k u h. held_on stays (with_pair stays here key (Some t)) u.inherited (on u.inherited)
-    (at_stay (λ o. o ≡ Some u → IsHeld stays u.inherited) stays here key p k (Some t) (λ ep ek is. subst (IsHeld stays) (sym same ∙ ap (λ (x : Stay). x.inherited) (one_stay t u is)) (n.inherited here key s e)) (λ other is. n.inherited p k u is) h))
+    (at_stay (λ o. o ≡ Some u → IsHeld stays u.inherited) stays here key p k (Some t) (λ ep ek is. subst (IsHeld stays) (sym same ∙ ap (λ (x : Stay). x.inherited) (same_Some t u is)) (n.inherited here key s e)) (λ other is. n.inherited p k u is) h))
     (λ number message f flies under. held_on stays (with_pair stays here key (Some t)) f (on f) (n.carried number message f flies under))
 
 -- a stay begins, with no finish of its own
@@ -181,10 +179,10 @@ new_stays stays opened enclosing posts here key u n free empty held =
     λ f o. open_on stays here key (Some u) f (λ i s' e' eh h. no_stay s' (sym free ∙ e')) o in
     nested_by stays (with_pair stays here key (Some u)) opened enclosing posts (λ p k. 0) n
     (λ p k v h. at_stay (λ o. o ≡ Some v → (v.finishes ≡ []) ⊎ Comes stays (λ p k. 0) p k v) stays here key p k (Some u)
-    (λ ep ek is. inl (ap (λ (x : Stay). x.finishes) (sym (one_stay u v is)) ∙ empty))
+    (λ ep ek is. inl (ap (λ (x : Stay). x.finishes) (sym (same_Some u v is)) ∙ empty))
     (λ other is. inr (comes_same stays (λ p k. 0) p k v v is refl refl refl)) h)
     (λ p k v h. held_on stays (with_pair stays here key (Some u)) v.inherited (on v.inherited)
-    (at_stay (λ o. o ≡ Some v → IsHeld stays v.inherited) stays here key p k (Some u) (λ ep ek is. subst (IsHeld stays) (ap (λ (x : Stay). x.inherited) (one_stay u v is)) held) (λ other is. n.inherited p k v is) h))
+    (at_stay (λ o. o ≡ Some v → IsHeld stays v.inherited) stays here key p k (Some u) (λ ep ek is. subst (IsHeld stays) (ap (λ (x : Stay). x.inherited) (same_Some u v is)) held) (λ other is. n.inherited p k v is) h))
     (λ number message f flies under. held_on stays (with_pair stays here key (Some u)) f (on f) (n.carried number message f flies under))
 
 -- a stay ends, with no finish of its own
@@ -192,7 +190,7 @@ pub ended_stays : (stays : Stays) (opened : ℕ → ℕ) (enclosing : Finish →
     → IsNested (with_pair stays here key None) opened enclosing posts
 ended_stays stays opened enclosing posts here key s n e empty =
     let on : (f : Finish) → IsOpen stays f → IsOpen (with_pair stays here key None) f =
-    λ f o. open_on stays here key None f (λ i s' e' eh h. none_at s' i f.number (ap (λ (x : Stay). x.finishes) (one_stay s' s (sym e' ∙ e)) ∙ empty) h) o in
+    λ f o. open_on stays here key None f (λ i s' e' eh h. none_at s' i f.number (ap (λ (x : Stay). x.finishes) (same_Some s' s (sym e' ∙ e)) ∙ empty) h) o in
     nested_by stays (with_pair stays here key None) opened enclosing posts (λ p k. 0) n
     (λ p k v h. at_stay (λ o. o ≡ Some v → (v.finishes ≡ []) ⊎ Comes stays (λ p k. 0) p k v) stays here key p k None (λ ep ek is. no_stay v is) (λ other is. inr (comes_same stays (λ p k. 0) p k v v is refl refl refl)) h)
     (λ p k v h. held_on stays (with_pair stays here key None) v.inherited (on v.inherited)
@@ -203,14 +201,14 @@ ended_stays stays opened enclosing posts here key s n e empty =
 still_open : (stays : Stays) (posts : ℕ → Post) (here key number : ℕ) (rest : List ℕ) (s t : Stay) (f : Finish) (s' : Stay) (i : ℕ) → Some s' ≡ Some s → s.finishes ≡ number ∷ rest → t.finishes ≡ rest → f.home ≡ here
     → IsUsed stays posts f → (IsUsed stays posts (record { home = here; number = number }) → ⊥) → nth s'.finishes i ≡ Some f.number → IsOpen (with_pair stays here key (Some t)) f
 still_open stays posts here key number rest s t f s' zero is whole stack eh used quiet h =
-    let top : number ≡ f.number = one_stay number f.number (sym (ap (λ xs. nth xs 0) (ap (λ (x : Stay). x.finishes) (one_stay s' s is) ∙ whole)) ∙ h) in
+    let top : number ≡ f.number = same_Some number f.number (sym (ap (λ xs. nth xs 0) (ap (λ (x : Stay). x.finishes) (same_Some s' s is) ∙ whole)) ∙ h) in
     absurd (quiet (subst (IsUsed stays posts) (λ j. record { home = eh j; number = sym top j }) used))
 still_open stays posts here key number rest s t f s' (suc i) is whole stack eh used quiet h = (
   key,
   i,
   t,
   ap (λ x. with_pair stays here key (Some t) x key) eh ∙ pair_same stays here key (Some t),
-  ap (λ xs. nth xs i) stack ∙ sym (ap (λ xs. nth xs (suc i)) (ap (λ (x : Stay). x.finishes) (one_stay s' s is) ∙ whole)) ∙ h,
+  ap (λ xs. nth xs i) stack ∙ sym (ap (λ xs. nth xs (suc i)) (ap (λ (x : Stay). x.finishes) (same_Some s' s is) ∙ whole)) ∙ h,
 )
 
 -- a stay closes its innermost finish, which is quiet
@@ -222,12 +220,12 @@ closed_stays stays opened enclosing posts here key number rest s t n e whole sta
     λ f used o. open_on stays here key (Some t) f (λ i s' e' eh h. still_open stays posts here key number rest s t f s' i (sym e' ∙ e) whole stack eh used quiet h) o in
     nested_by stays (with_pair stays here key (Some t)) opened enclosing posts d n
     (λ p k u h. at_stay (λ o. o ≡ Some u → (u.finishes ≡ []) ⊎ Comes stays d p k u) stays here key p k (Some t)
-    (λ ep ek is. (let t_is = one_stay t u is in
+    (λ ep ek is. (let t_is = same_Some t u is in
     inr (comes_popped stays d p k u s number rest (moved_at stays here key p k s e ep ek) (ap (λ (x : Stay). x.inherited) (sym t_is) ∙ same) whole (ap (λ (x : Stay). x.finishes) (sym t_is) ∙ stack)
     (ap (λ x. d x k) ep ∙ ap (d here) ek ∙ pair_same (λ p k. 0) here key 1))))
     (λ other is. inr (comes_same stays d p k u u is refl refl (pair_other (λ p k. 0) here key p k 1 other))) h)
     (λ p k u h. at_stay (λ o. o ≡ Some u → IsHeld (with_pair stays here key (Some t)) u.inherited) stays here key p k (Some t)
-    (λ ep ek is. (let inherits : s.inherited ≡ u.inherited = sym same ∙ ap (λ (x : Stay). x.inherited) (one_stay t u is) in
+    (λ ep ek is. (let inherits : s.inherited ≡ u.inherited = sym same ∙ ap (λ (x : Stay). x.inherited) (same_Some t u is) in
     held_on stays (with_pair stays here key (Some t)) u.inherited (on u.inherited (by_stay here key s e inherits)) (subst (IsHeld stays) inherits (n.inherited here key s e))))
     (λ other is. held_on stays (with_pair stays here key (Some t)) u.inherited (on u.inherited (by_stay p k u is refl)) (n.inherited p k u is)) h)
     (λ m message f flies under. held_on stays (with_pair stays here key (Some t)) f (on f (by_post m message flies under)) (n.carried m message f flies under))
@@ -244,7 +242,7 @@ IsFirst here key number s p k i m u = (p ≡ here) × (k ≡ key) × (i ≡ 0) �
 pushed : (stays : Stays) (here key number p k m : ℕ) (s u : Stay) (i : ℕ) → stays p k ≡ Some s → p ≡ here → k ≡ key → u.finishes ≡ number ∷ s.finishes → u.inherited ≡ s.inherited → nth u.finishes i ≡ Some m
     → WasThere stays (with_pair (λ p k. 0) here key 1) p k i m u ⊎ IsFirst here key number s p k i m u
 pushed stays here key number p k m s u zero e ep ek stack same h =
-    inr (ep, ek, refl, one_stay m number (sym h ∙ ap (λ xs. nth xs 0) stack), same, ap (λ xs. outside xs 0) stack)
+    inr (ep, ek, refl, same_Some m number (sym h ∙ ap (λ xs. nth xs 0) stack), same, ap (λ xs. outside xs 0) stack)
 pushed stays here key number p k m s u (suc i) e ep ek stack same h =
     inl (
       s,
@@ -279,7 +277,7 @@ opened_stays stays opened enclosing posts here key number s t n e count stack sa
     let d : ℕ → ℕ → ℕ = with_pair (λ p k. 0) here key 1 in
     let cases : (p k i m : ℕ) (u : Stay) → with_pair stays here key (Some t) p k ≡ Some u → nth u.finishes i ≡ Some m → WasThere stays d p k i m u ⊎ IsFirst here key number s p k i m u =
     λ p k i m u h at. at_stay (λ o. o ≡ Some u → WasThere stays d p k i m u ⊎ IsFirst here key number s p k i m u) stays here key p k (Some t)
-    (λ ep ek is. (let t_is = one_stay t u is in pushed stays here key number p k m s u i (moved_at stays here key p k s e ep ek) ep ek (ap (λ (x : Stay). x.finishes) (sym t_is) ∙ stack) (ap (λ (x : Stay). x.inherited) (sym t_is) ∙ same) at))
+    (λ ep ek is. (let t_is = same_Some t u is in pushed stays here key number p k m s u i (moved_at stays here key p k s e ep ek) ep ek (ap (λ (x : Stay). x.finishes) (sym t_is) ∙ stack) (ap (λ (x : Stay). x.inherited) (sym t_is) ∙ same) at))
     (λ other is. inl (u, i, is, at, refl, refl, add_none i ∙ ap (λ x. x + i) (sym (pair_other (λ p k. 0) here key p k 1 other)))) h in
     let on : (f : Finish) → IsOpen stays f → IsOpen (with_pair stays here key (Some t)) f =
     λ f o. open_on stays here key (Some t) f (λ i s' e' eh h. (
@@ -287,7 +285,7 @@ opened_stays stays opened enclosing posts here key number s t n e count stack sa
       suc i,
       t,
       ap (λ x. with_pair stays here key (Some t) x key) eh ∙ pair_same stays here key (Some t),
-      ap (λ xs. nth xs (suc i)) stack ∙ ap (λ xs. nth xs i) (ap (λ (x : Stay). x.finishes) (one_stay s s' (sym e ∙ e'))) ∙ h,
+      ap (λ xs. nth xs (suc i)) stack ∙ ap (λ xs. nth xs i) (ap (λ (x : Stay). x.finishes) (same_Some s s' (sym e ∙ e'))) ∙ h,
     )) o in
     record {
       numbered = λ p k i m u h at. elim (cases p k i m u h at) [
@@ -317,7 +315,7 @@ opened_stays stays opened enclosing posts here key number s t n e count stack sa
       root_outer = encloses_other enclosing here number (innermost here s) root (λ is. not_new opened here number 0 0 (ap (λ (x : Finish). x.home) is) (ap (λ (x : Finish). x.number) is) count n.root_opened) ∙ n.root_outer;
       root_opened = (let le = grown opened here 0 in let lt = n.root_opened in omega (arith, le, lt));
       inherited = λ p k u h. held_on stays (with_pair stays here key (Some t)) u.inherited (on u.inherited)
-          (at_stay (λ o. o ≡ Some u → IsHeld stays u.inherited) stays here key p k (Some t) (λ ep ek is. subst (IsHeld stays) (sym same ∙ ap (λ (x : Stay). x.inherited) (one_stay t u is)) (n.inherited here key s e)) (λ other is. n.inherited p k u is) h);
+          (at_stay (λ o. o ≡ Some u → IsHeld stays u.inherited) stays here key p k (Some t) (λ ep ek is. subst (IsHeld stays) (sym same ∙ ap (λ (x : Stay). x.inherited) (same_Some t u is)) (n.inherited here key s e)) (λ other is. n.inherited p k u is) h);
       carried = λ m message f flies under. held_on stays (with_pair stays here key (Some t)) f (on f) (n.carried m message f flies under);
     }
 

@@ -1,6 +1,7 @@
 -- Every finish that is held stands within the root, so that where the root is quiet nothing lives.
 use Rattle.std.proofs.Common.{◌≡◌, ℕ, zero, suc, ◌+◌, ◌<◌, ◌≤◌, Bool, true, false, if◌then◌else◌, List, [], ◌∷◌, Option, Some, None, ◌⊎◌, inl, inr, refl, sym, ◌∙◌, ap, subst, arith}
 use Rattle.std.proofs.Math.Path.{fun_ext}
+use Rattle.std.proofs.lemmas.Option.{same_Some}
 use Rattle.x10_model.specs.declared.event.Event.{Event}
 use Rattle.x10_model.specs.Maps.{with_entry, with_pair}
 use Rattle.x10_model.specs.Places as places
@@ -14,7 +15,7 @@ use Rattle.x10_finish.specs.Closing.{unders_of, IsSound, IsRooted, RootIsOver}
 use Rattle.x10_finish.proofs.Stays.{stays_change}
 use Rattle.x10_finish.proofs.Ledgers.{same_is}
 use Rattle.x10_finish.proofs.Counting.{entry_same}
-use Rattle.x10_finish.proofs.Nesting.{at_stay, one_stay, no_stay, IsInside, enclosed_inside, used_held, grown, encloses_other, encloses_new, innermost_held}
+use Rattle.x10_finish.proofs.Nesting.{at_stay, no_stay, IsInside, enclosed_inside, used_held, grown, encloses_other, encloses_new, innermost_held}
 use Rattle.x10_finish.proofs.Sound.{there_in, stays_after, opened_after, opened_same, entry_self, net_with, unused_finish, overwritten}
 use Rattle.x10_finish.proofs.Closing.{sound_happens, sound_opening, lives_used, main_is, opening_row}
 
@@ -61,14 +62,14 @@ rooted_changes net here key old new o r e w had =
 -- a stay with no more finishes than one that was there
 had_same : (stays : Stays) (here key : ℕ) (s t : Stay) → stays here key ≡ Some s → t.finishes ≡ s.finishes → HadOpen stays here (Some t)
 had_same stays here key s t there stack u is i f h eh =
-    (key, i, s, ap (λ x. stays x key) eh ∙ there, ap (λ xs. nth xs i) (sym (ap (λ (x : Stay). x.finishes) (sym (one_stay t u is)) ∙ stack)) ∙ h)
+    (key, i, s, ap (λ x. stays x key) eh ∙ there, ap (λ xs. nth xs i) (sym (ap (λ (x : Stay). x.finishes) (sym (same_Some t u is)) ∙ stack)) ∙ h)
 
 had_rest : (stays : Stays) (here key n : ℕ) (rest : List ℕ) (s t : Stay) → stays here key ≡ Some s → s.finishes ≡ n ∷ rest → t.finishes ≡ rest → HadOpen stays here (Some t)
 had_rest stays here key n rest s t there whole stack u is i f h eh =
-    (key, suc i, s, ap (λ x. stays x key) eh ∙ there, ap (λ xs. nth xs (suc i)) whole ∙ ap (λ xs. nth xs i) (sym (ap (λ (x : Stay). x.finishes) (sym (one_stay t u is)) ∙ stack)) ∙ h)
+    (key, suc i, s, ap (λ x. stays x key) eh ∙ there, ap (λ xs. nth xs (suc i)) whole ∙ ap (λ xs. nth xs i) (sym (ap (λ (x : Stay). x.finishes) (sym (same_Some t u is)) ∙ stack)) ∙ h)
 
 had_none : (stays : Stays) (here : ℕ) (t : Stay) → t.finishes ≡ [] → HadOpen stays here (Some t)
-had_none stays here t empty u is i f h eh = no_stay f.number (sym (ap (λ xs. nth xs i) (ap (λ (x : Stay). x.finishes) (sym (one_stay t u is)) ∙ empty)) ∙ h)
+had_none stays here t empty u is i f h eh = no_stay f.number (sym (ap (λ xs. nth xs i) (ap (λ (x : Stay). x.finishes) (sym (same_Some t u is)) ∙ empty)) ∙ h)
 
 -- enclosing one finish more leaves the others as they are
 within_more : (enclosing : Finish → Option Finish) (opened : ℕ → ℕ) (here : ℕ) (inside : Finish) → ((f g : Finish) → enclosing f ≡ Some g → f.number < opened f.home) → (f : Finish) → IsWithin enclosing root f
@@ -83,7 +84,7 @@ only_if true o inside g A now was e = now refl
 only_if false o inside g A now was e = was e
 
 top_or_rest : (stays : Stays) (here key n : ℕ) (s u : Stay) (f : Finish) (i : ℕ) → stays here key ≡ Some s → u.finishes ≡ n ∷ s.finishes → nth u.finishes i ≡ Some f.number → f.home ≡ here → (f ≡ record { home = here; number = n }) ⊎ IsOpen stays f
-top_or_rest stays here key n s u f zero there stack h eh = inl (let m : f.number ≡ n = one_stay f.number n (sym h ∙ ap (λ xs. nth xs 0) stack) in λ j. record { home = eh j; number = m j })
+top_or_rest stays here key n s u f zero there stack h eh = inl (let m : f.number ≡ n = same_Some f.number n (sym h ∙ ap (λ xs. nth xs 0) stack) in λ j. record { home = eh j; number = m j })
 top_or_rest stays here key n s u f (suc i) there stack h eh = inr (key, i, s, ap (λ x. stays x key) eh ∙ there, ap (λ xs. nth xs (suc i)) (sym stack) ∙ h)
 
 -- what has something around it was opened
@@ -102,7 +103,7 @@ opened_or_new : (stays : Stays) (opened : ℕ → ℕ) (here key : ℕ) (s t : S
     → (f ≡ record { home = here; number = opened here }) ⊎ IsOpen stays f
 opened_or_new stays opened here key s t f there stack (k, i, u, e, h) =
     at_stay (λ x. x ≡ Some u → (f ≡ record { home = here; number = opened here }) ⊎ IsOpen stays f) stays here key f.home k (Some t)
-    (λ eh ek is. top_or_rest stays here key (opened here) s u f i there (ap (λ (x : Stay). x.finishes) (sym (one_stay t u is)) ∙ stack) h eh) (λ other is. inr (k, i, u, is, h)) e
+    (λ eh ek is. top_or_rest stays here key (opened here) s u f i there (ap (λ (x : Stay). x.finishes) (sym (same_Some t u is)) ∙ stack) h eh) (λ other is. inr (k, i, u, is, h)) e
 
 rooted_opens : (stays : Stays) (opened : ℕ → ℕ) (enclosing : Finish → Option Finish) (here key : ℕ) (inside : Finish) (s t : Stay) → IsRooted stays opened enclosing → stays here key ≡ Some s → t.finishes ≡ opened here ∷ s.finishes → IsHeld stays inside
     → IsRooted (with_pair stays here key (Some t)) (with_entry opened here (opened here + 1)) (with_enclosing enclosing (record { home = here; number = opened here }) inside)

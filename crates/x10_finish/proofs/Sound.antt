@@ -1,6 +1,7 @@
 -- What holds of each world is kept by each event.
 use Rattle.std.proofs.Common.{◌≡◌, ℕ, ◌+◌, ◌<◌, ◌==◌, Bool, true, false, if◌then◌else◌, List, [], ◌∷◌, Option, Some, None, inl, refl, sym, ◌∙◌, ap, subst, arith}
 use Rattle.std.proofs.Math.Path.{fun_ext}
+use Rattle.std.proofs.lemmas.Option.{same_Some}
 use Rattle.x10_model.specs.Maps.{with_entry, with_pair}
 use Rattle.x10_model.specs.Places as places
 use Rattle.x10_model.specs.Places.{Setting, Finish, Origin, Stay, Message, Spawn, Shift, Back, innermost, innermost_of, Effect, Waits, Works, Begins, Spawns, Shifts, Opens, Closes, Ends}
@@ -12,7 +13,7 @@ use Rattle.x10_finish.specs.Chains as chains
 use Rattle.x10_finish.specs.Chains.{Name, IsAmong, IsBegunBy, IsChain, AreLinked, Carries, AreCarried}
 use Rattle.x10_finish.specs.Closing.{chains_of, unders_of, IsSound}
 use Rattle.x10_finish.proofs.Counting.{at_entry, entry_same, entry_other}
-use Rattle.x10_finish.proofs.Nesting.{at_stay, pair_same, pair_other, one_stay, no_stay, same_stacks, new_stays, ended_stays, closed_stays, opened_stays, posted, taken_in, innermost_held}
+use Rattle.x10_finish.proofs.Nesting.{at_stay, pair_same, pair_other, no_stay, same_stacks, new_stays, ended_stays, closed_stays, opened_stays, posted, taken_in, innermost_held}
 use Rattle.x10_finish.proofs.Chains.{ready_first, linked_changes, linked_spawns, linked_enters, linked_ends, IsUncarried, carried_changes, carried_fresh, carried_chain, carried_begun, carried_new, carried_taken, taken_uncarried, ready_uncarried}
 
 -- ---- maps
@@ -223,9 +224,9 @@ after_begins net book here key number other function under old new s t u i e the
 -- the stay that waits for one that ends is the next in the chain
 waiting_below : (stays : Stays) (under : Finish) (here key : ℕ) (s : Stay) (rest : List Name) (origin : Origin) → IsChain stays under ((here, key) ∷ rest) → stays here key ≡ Some s → s.back ≡ Some origin
     → chains.Waits (with_pair stays here key None) rest origin.place origin.key (λ x. Unit {0})
-waiting_below stays under here key s [] origin c there back = no_stay origin (sym c.2.0 ∙ ap (λ (x : Stay). x.back) (one_stay c.0 s (sym c.1 ∙ there)) ∙ back)
+waiting_below stays under here key s [] origin c there back = no_stay origin (sym c.2.0 ∙ ap (λ (x : Stay). x.back) (same_Some c.0 s (sym c.1 ∙ there)) ∙ back)
 waiting_below stays under here key s (b ∷ rest) origin c there back =
-    let is : (let o : Origin = record { place = b.0; key = b.1 } in o) ≡ origin = one_stay _ origin (sym c.2.3 ∙ ap (λ (x : Stay). x.back) (one_stay c.0 s (sym c.1 ∙ there)) ∙ back) in
+    let is : (let o : Origin = record { place = b.0; key = b.1 } in o) ≡ origin = same_Some _ origin (sym c.2.3 ∙ ap (λ (x : Stay). x.back) (same_Some c.0 s (sym c.1 ∙ there)) ∙ back) in
     subst (λ (o : Origin). chains.Waits (with_pair stays here key None) (b ∷ rest) o.place o.key (λ x. Unit {0})) is
     (rest, c.2.0, refl, pair_other stays here key b.0 b.1 None (λ both. c.3 (inl (λ j. (both.0 j, both.1 j)))) ∙ c.2.1, c.2.2, tt)
 

@@ -1,6 +1,6 @@
 -- Pairs of places in a list, row by row.
 use Rattle.std.proofs.Common.{◌≡◌, ℕ, ◌+◌, ◌*◌, ◌<◌, ◌≤◌, ◌==◌, ◌&&◌, nat_lt, max, Bool, true, false, if◌then◌else◌, List, length, get_or, ◌⊎◌, inl, inr, refl, sym, ◌∙◌, ap, subst, arith, lit≤, ◌^◌, slice_set, slice_index_or, get_or-set_same, get_or-set_other}
-use Rattle.std.proofs.lemmas.Bool.{eqb-true, eq-eqb, lt-ltb, ltb-true, cases_eq}
+use Rattle.std.proofs.lemmas.Bool.{eqb-true, eq-eqb, lt-ltb, ltb-true, cases_eq, and_from, and_parts}
 use Rattle.std.proofs.lemmas.List.{get_or_default}
 use Rattle.std.proofs.Math.Nat.{mul-le-mul_right}
 use Rattle.x10_finish.specs.declared.pairs.Pair.{Pair}
@@ -30,13 +30,6 @@ one_place n a b c d lb ld e = elim (trichotomy a c) [
   ]
 ]
 
-true_both : (a b : Bool) → (a && b) ≡ true → (a ≡ true) × (b ≡ true)
-true_both true b e = (refl, e)
-true_both false b e = absurd cc
-
-both_true : (a b : Bool) → a ≡ true → b ≡ true → (a && b) ≡ true
-both_true a b e f = rw (e, f) refl
-
 under_if : {X : Type 0} (t : Bool) (x y d : X) → (t ≡ true → x ≡ y) → (if t then x else d) ≡ (if t then y else d)
 under_if true x y d h = h refl
 under_if false x y d h = refl
@@ -45,7 +38,7 @@ if_true : {X : Type 0} (t : Bool) (x y : X) → t ≡ true → (if t then x else
 if_true t x y e = rw e refl
 
 is_place : (n a b : ℕ) → a < n → b < n → (nat_lt a n && nat_lt b n) ≡ true
-is_place n a b la lb = both_true (nat_lt a n) (nat_lt b n) (lt-ltb a n la) (lt-ltb b n lb)
+is_place n a b la lb = and_from (nat_lt a n) (nat_lt b n) (lt-ltb a n la) (lt-ltb b n lb)
 
 pub pair_at-is : (n : ℕ) (pairs : List Pair) (a b : ℕ) → a < n → b < n → pair_at n pairs a b ≡ slice_index_or pairs (a * n + b) no_pair
 pair_at-is n pairs a b la lb = if_true (nat_lt a n && nat_lt b n) (slice_index_or pairs (a * n + b) no_pair) no_pair (is_place n a b la lb)
@@ -60,7 +53,7 @@ pub written_elsewhere : (n : ℕ) (pairs : List Pair) (i j : ℕ) (w : Pair) →
     → pair_at n (slice_set pairs (i * n + j) w) a b ≡ pair_at n pairs a b
 written_elsewhere n pairs i j w li lj a b apart =
     under_if (nat_lt a n && nat_lt b n) (slice_index_or (slice_set pairs (i * n + j) w) (a * n + b) no_pair) (slice_index_or pairs (a * n + b) no_pair) no_pair
-    (λ t. let lb : b < n = ltb-true b n (true_both (nat_lt a n) (nat_lt b n) t).1 in
+    (λ t. let lb : b < n = ltb-true b n (and_parts (nat_lt a n) (nat_lt b n) t).1 in
     get_or-set_other pairs (i * n + j) (a * n + b) w no_pair (λ s. apart (one_place n a b i j lb lj s)))
 
 pub unequal_written : (home n : ℕ) (pairs : List Pair) (i j : ℕ) (w : Pair) → i < n → j < n → length pairs ≡ n * n
@@ -101,9 +94,9 @@ pub raised_written : (n : ℕ) (pairs : List Pair) (i j : ℕ) (by w : Pair) →
 raised_written n pairs i j by w li lj e is a b = elim (both_or_not a b i j) [
   | inl s ↦ subst (λ (x : ℕ). pair_at n (slice_set pairs (i * n + j) w) x b ≡ raised_at i j by (pair_at n pairs) x b) (sym s.0)
       (subst (λ (y : ℕ). pair_at n (slice_set pairs (i * n + j) w) i y ≡ raised_at i j by (pair_at n pairs) i y) (sym s.1)
-      (written_here n pairs i j w li lj e ∙ is ∙ sym (if_true (i == i && j == j) _ (pair_at n pairs i j) (both_true (i == i) (j == j) (eq-eqb i i refl) (eq-eqb j j refl)))))
+      (written_here n pairs i j w li lj e ∙ is ∙ sym (if_true (i == i && j == j) _ (pair_at n pairs i j) (and_from (i == i) (j == j) (eq-eqb i i refl) (eq-eqb j j refl)))))
   | inr apart ↦ written_elsewhere n pairs i j w li lj a b apart
-      ∙ sym (if_not (a == i && b == j) _ (pair_at n pairs a b) (λ t. apart (let both = true_both (a == i) (b == j) t in (eqb-true a i both.0, eqb-true b j both.1))))
+      ∙ sym (if_not (a == i && b == j) _ (pair_at n pairs a b) (λ t. apart (let both = and_parts (a == i) (b == j) t in (eqb-true a i both.0, eqb-true b j both.1))))
 ]
 
 pub read_at : (n : ℕ) (pairs : List Pair) (i j : ℕ) (x : Pair) → i < n → j < n → length pairs ≡ n * n → x ≡ get_or pairs (i * n + j) x → x ≡ pair_at n pairs i j

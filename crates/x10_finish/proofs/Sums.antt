@@ -1,9 +1,7 @@
 -- Sums over the numbers below a bound, and over a square.
 use Rattle.std.proofs.Common.{◌≡◌, ◌≢◌, ℕ, zero, suc, ◌+◌, ◌*◌, ◌<◌, ◌≤◌, ◌⊎◌, inl, inr, refl, sym, ap, arith}
 use Rattle.x10_finish.specs.Pairs.{sum_below, sum_square}
-
-last_or_below : (i n : ℕ) → i < suc n → (i ≡ n) ⊎ (i < n)
-last_or_below i n lt = grind arith
+use Rattle.x10_model.proofs.Balance.{last_or_below}
 
 pub sum_same : (f g : ℕ → ℕ) (n : ℕ) → ((k : ℕ) → k < n → g k ≡ f k) → sum_below g n ≡ sum_below f n
 sum_same f g zero h = refl

@@ -1,12 +1,12 @@
 -- When finishes close: a run in which they close only where they are quiet is one in which they close only where all that
 -- they govern has ended.
-use Rattle.std.specs.Prelude.{◌≡◌, ℕ, ◌<◌, false, List, ◌∷◌, Option, Some}
+use Rattle.std.specs.Prelude.{◌≡◌, ◌↔◌, ℕ, ◌<◌, false, List, ◌∷◌, Option, Some}
 use Rattle.x10_model.specs.declared.event.Event.{Event}
 use Rattle.x10_model.specs.Places as places
 use Rattle.x10_model.specs.Places.{Setting, Finish, root, Stay, Message}
-use Rattle.x10_model.specs.Worlds.{World, Net, Book, Flying, IsQuiet, HasEnded, IsWithin, IsOver, Quiet, Ideal, Run, WithinBounds, opening}
+use Rattle.x10_model.specs.Worlds.{World, Net, Book, Flying, IsQuiet, HasEnded, IsWithin, IsOver, Quiet, Ideal, Happens, Run, WithinBounds, opening}
 use Rattle.x10_finish.specs.Nesting.{Stays, stays_of, opened_of, IsHeld, IsNested}
-use Rattle.x10_finish.specs.Chains.{Name, AreLinked, AreCarried}
+use Rattle.x10_finish.specs.Chains.{Name, IsAmong, AreLinked, AreCarried}
 
 abbrev pub chains_of : Book → ℕ → List Name
 chains_of book a = (book.activities a).stays
@@ -48,3 +48,23 @@ pub record IsRooted (stays : Stays) (opened : ℕ → ℕ) (enclosing : Finish �
 -- where the root is quiet, no activity lives
 abbrev pub RootIsOver : Type 0
 RootIsOver = (setting : Setting) (key : ℕ) (bounds : List ℕ) (events : List Event) (w : World) → 0 < setting.places → Run Quiet setting (WithinBounds bounds) (opening setting key) events w → IsQuiet w.net root → IsOver w
+
+-- ---- from any world of which that holds
+
+abbrev pub OpeningIsSound : Type 0
+OpeningIsSound = (setting : Setting) (key : ℕ) → 0 < setting.places → IsSound (opening setting key).net (opening setting key).book
+
+-- what happens by the quiet rule happens by the ideal rule too, and leads to a world of which that holds
+abbrev pub QuietEventIsIdeal : Type 0
+QuietEventIsIdeal = (setting : Setting) (w v : World) (event : Event) → IsSound w.net w.book → Happens Quiet setting w event v
+    → Happens Ideal setting w event v × IsSound v.net v.book
+
+-- the book lists a stay of an activity exactly where the stay is there and belongs to the activity
+abbrev pub StaysAreListed : Type 0
+StaysAreListed = (net : Net) (book : Book) (a p k : ℕ) → IsSound net book → a < book.begun
+    → IsAmong (p, k) (chains_of book a) ↔ (((s : Stay) × (stays_of net p k ≡ Some s)) × (book.belongs p k ≡ a))
+
+-- where no activity lives and no message flies, every finish is quiet, the root among them
+abbrev pub OverIsQuiet : Type 0
+OverIsQuiet = (w : World) (f : Finish) → IsSound w.net w.book → IsOver w
+    → ((number : ℕ) (message : Message) → w.net.posts number ≡ Flying message → ⊥) → IsQuiet w.net f

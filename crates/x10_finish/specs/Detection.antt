@@ -1,8 +1,8 @@
 -- Termination detection for one finish: what happens under it at all places, and what its home may conclude. The counting
 -- family of Mattern (1987), with reports that come late and in any order.
-use Rattle.std.specs.Prelude.{◌≡◌, ℕ, ◌+◌, ◌-◌, ◌<◌, ◌≤◌, ◌==◌, ◌&&◌, ◌⊎◌, not, Bool, List, [], ◌∷◌, Option, Some, None, if◌then◌else◌}
+use Rattle.std.specs.Prelude.{◌≡◌, ℕ, ◌+◌, ◌-◌, ◌<◌, ◌≤◌, ◌⊎◌, List, [], ◌∷◌, Option, Some, None, if◌then◌else◌}
 use Rattle.x10_model.specs.Maps.{with_entry, with_pair}
-use Rattle.x10_model.specs.Totals.{Totals, Entry, Cut, nothing, zeros, entry_of, larger, sends_to, begins_one, ends_one, receives_from, IsDoneAt}
+use Rattle.x10_model.specs.Totals.{Totals, Entry, Cut, nothing, zeros, entry_of, larger, sends_to, begins_one, ends_one, receives_from, is_last, IsDoneAt}
 
 -- a report in flight: what its place had sent and received
 pub record Told : Type 0 where
@@ -29,10 +29,6 @@ pub data Event : Type 0 where
 -- at the beginning nothing is counted
 abbrev pub start : Counting
 start = record { totals = λ p. nothing; flying = λ p q. 0; told = λ n. None; kept = λ p. zeros }
-
--- the last activity of a place ends there, away from the home
-abbrev pub is_last : ℕ → ℕ → Totals → Bool
-is_last home place t = not (place == home) && (t.live - 1 == 0)
 
 abbrev pub told_of : ℕ → Totals → Told
 told_of place t = record { place = place; entry = entry_of t }
@@ -93,10 +89,11 @@ AtRestIsDone = (places home : ℕ) (events : List Event) → home < places → A
 
 -- ---- the invariant
 
--- what a place told earlier: a report of it in flight, or what is kept of it
+-- what a place told earlier: a report of it in flight, what is kept of it, or nothing yet
 pub data IsEarlierOf (told : ℕ → Option Told) (kept : Cut) (place : ℕ) : Entry → Type 0 where
   in_flight : (number : ℕ) (t : Told) → told number ≡ Some t → t.place ≡ place → IsEarlierOf told kept place t.entry
   is_kept : IsEarlierOf told kept place (kept place)
+  is_nothing : IsEarlierOf told kept place zeros
 
 -- no number is larger
 pub record IsBelow (e f : Entry) : Type 0 where

@@ -1,5 +1,5 @@
 -- What callers see of a tally: the totals of each finish.
-use Rattle.std.specs.Prelude.{◌≡◌, ℕ, ◌-◌, ◌==◌, ◌&&◌, not, Bool, true, false, List, Option, Some, None, if◌then◌else◌, length, is_some}
+use Rattle.std.specs.Prelude.{◌≡◌, ℕ, Bool, true, false, List, Option, Some, None, if◌then◌else◌, length, is_some}
 use Rattle.std.specs.Ordering.{nat_cmp, ordering_then}
 use Rattle.std.specs.declared.cmp.Ordering.{Ordering}
 use Rattle.std.specs.BTreeMap.{is_at}
@@ -9,7 +9,7 @@ use Rattle.x10_kinds.specs.declared.stop.Stop.TheVariants.{Memory, Limit, Stoppe
 use Rattle.x10_model.specs.Places as machine
 use Rattle.x10_model.specs.Worlds.{same_finish}
 use Rattle.x10_model.specs.Totals as totals
-use Rattle.x10_model.specs.Totals.{Totals, Entry, nothing, if_same, entry_of, reported}
+use Rattle.x10_model.specs.Totals.{Totals, Entry, nothing, if_same, is_last, entry_of, reported}
 use Rattle.x10_frame.specs.declared.report.Report.{Report}
 use Rattle.x10_finish.specs.declared.finish.Finish.{Finish}
 use Rattle.x10_finish.specs.declared.count.Count.{Count}
@@ -72,7 +72,7 @@ report_of r = record { place = r.place; number = r.number; sent = r.sent.items; 
 
 -- a report is due where the last activity of a finish ends away from its home
 abbrev pub gives_report : Ledger → machine.Finish → Bool
-gives_report l f = not (f.home == l.place) && ((totals_of l f).live - 1 == 0)
+gives_report l f = is_last f.home l.place (totals_of l f)
 
 -- the place's report of its totals of the finish, one number for each place
 pub record IsReportDue (l : Ledger) (f : machine.Finish) (r : Report) : Type 0 where

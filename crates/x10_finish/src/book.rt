@@ -116,6 +116,11 @@ impl Book {
         tally.live(self.finish) == 0 && self.balanced(tally)
     }
 
-    /// The finish has ended: its book is given back.
-    pub fn close(self) {}
+    /// The finish has ended: gives the book's memory back, and says whose book it was. Constant time.
+    pub fn close(self) -> Finish
+        ensures { named result ≡ finish_of self }
+    {
+        let Book { finish, .. } = self;
+        finish
+    }
 }

@@ -3,7 +3,7 @@
 ghost use Rattle.x10_finish.specs.Detection.{DoneIsAtRest, AtRestIsDone};
 ghost use Rattle.x10_finish.specs.Stays.{StaysChange};
 ghost use Rattle.x10_finish.specs.Telling.{DoneIsQuiet, QuietIsDone, MovesAreCounted, DeliveriesAreCounted, OpeningIsCounted, OpeningIsInRange, MovesStayInRange, DeliveriesStayInRange};
-ghost use Rattle.x10_finish.specs.Closing.{QuietIsIdeal, EndedIsQuiet, RootIsOver};
+ghost use Rattle.x10_finish.specs.Closing.{QuietIsIdeal, EndedIsQuiet, RootIsOver, OpeningIsSound, QuietEventIsIdeal, StaysAreListed, OverIsQuiet};
 
 /// After any events under a finish, reports taken in late and in any order: where nothing lives at its home and the
 /// book balances, nothing under the finish lives anywhere or is in flight.
@@ -38,6 +38,23 @@ pub fn ended_is_quiet()
 /// In such a run no activity lives where none under the root has a stay or is in flight.
 pub fn root_is_over()
     ensures { RootIsOver }
+{}
+
+/// The same event by event, from any world of which holds what is kept of stays, finishes and messages: what happens by
+/// the quiet rule happens by the ideal rule, and it holds of the world that this leads to. It holds at the opening.
+pub fn quiet_event_is_ideal()
+    ensures opening { OpeningIsSound }
+    ensures event { QuietEventIsIdeal }
+{}
+
+/// In such a world the stays that the book lists of an activity are those that are there and belong to it.
+pub fn stays_are_listed()
+    ensures { StaysAreListed }
+{}
+
+/// In such a world, where no activity lives and no message is in flight, every finish is quiet, the root among them.
+pub fn over_is_quiet()
+    ensures { OverIsQuiet }
 {}
 
 /// Where counts that tell of the machine's net let the home end its finish, the finish is quiet.

@@ -1,4 +1,4 @@
-ghost use Rattle.std.specs.Prelude.{◌≡◌, ◌+◌, ◌^◌, ◌<◌, ◌⊎◌, ℕ, true, false, IfErr, IfOk, OnOk, OnErr, Err, None, Some, slice_index};
+ghost use Rattle.std.specs.Prelude.{◌≡◌, ◌+◌, ◌^◌, ◌<◌, ◌⊎◌, ℕ, true, false, IfErr, IfOk, OnOk, OnErr, Err, None, Some, if◌then◌else◌, length, slice_index};
 ghost use Rattle.std.specs.BTreeMap.{Updates};
 ghost use Rattle.x10_kinds.specs.declared.stop.Stop.TheVariants as stop;
 ghost use Rattle.x10_model.specs.Places as machine;
@@ -194,9 +194,10 @@ impl Tally {
         }
     }
 
-    /// How many were sent to each place, or no numbers where none was counted yet.
+    /// How many were sent to each place, or no numbers where the finish was not met yet.
     pub fn sent(&self, finish: Finish) -> &[u32]
-        ensures { (p : ℕ) → slice_index result.now p ≡ (totals_of self.now (named finish)).sent p }
+        ensures numbers { (p : ℕ) → slice_index result.now p ≡ (totals_of self.now (named finish)).sent p }
+        ensures length { length result.now ≡ (if is_met self.now (named finish) then self.now.places else 0) }
     {
         match self.counts.get(&finish) {
             Some(count) => &count.sent,
@@ -204,9 +205,10 @@ impl Tally {
         }
     }
 
-    /// How many came from each place, or no numbers where none was counted yet.
+    /// How many came from each place, or no numbers where the finish was not met yet.
     pub fn received(&self, finish: Finish) -> &[u32]
-        ensures { (p : ℕ) → slice_index result.now p ≡ (totals_of self.now (named finish)).received p }
+        ensures numbers { (p : ℕ) → slice_index result.now p ≡ (totals_of self.now (named finish)).received p }
+        ensures length { length result.now ≡ (if is_met self.now (named finish) then self.now.places else 0) }
     {
         match self.counts.get(&finish) {
             Some(count) => &count.received,

@@ -7,17 +7,17 @@ use Rattle.x10_model.specs.Readers.{Reader, IsBytes, bind, done, number, times}
 use Rattle.x10_model.specs.ReadingFrames.{FrameFault, Short, graph_at}
 use Rattle.x10_model.proofs.ReaderLaws.{Takes, Takes-then, bind_is}
 use Rattle.x10_model.proofs.PartLaws.{number_reads, each_reads, wide32}
+use Rattle.x10_model.specs.Offsets.{StandsAt, EndsWith}
+use Rattle.x10_model.proofs.Offsets.{place_is}
 use Rattle.x10_frame.specs.declared.body.Body.{Body}
 use Rattle.x10_frame.specs.declared.head.Head.{Head}
 use Rattle.x10_frame.specs.declared.head.Head.TheVariants as head
 use Rattle.x10_frame.specs.declared.fault.FrameFault.{FrameFault as RustFault}
 use Rattle.x10_frame.specs.Faults.{named, IsFault, IsFaultOrMemory}
 use Rattle.x10_frame.specs.Heads.{IsGraphHead, head_of, graph_of, sent_of, received_of, with_graph, most_roots, counts_at, graph_after}
-use Rattle.x10_frame.specs.Places.{StandsAt, EndsWith}
 use Rattle.x10_frame.specs.Bodies.{IsGraph, GivesGraph, IsBody, GivesBody}
 use Rattle.x10_frame.proofs.Loops.{lenient}
 use Rattle.x10_frame.proofs.Readers.{early}
-use Rattle.x10_frame.proofs.TableLoops.{place_is}
 
 nothing_at : (bytes : List ℕ) (at : ℕ) → StandsAt bytes at []
 nothing_at bytes at = record { rest = drop at bytes; is = refl }

@@ -5,13 +5,13 @@ use Rattle.std.proofs.lemmas.Bool.{cases_lt}
 use Rattle.std.proofs.lemmas.List.{drop-drop}
 use Rattle.x10_model.specs.Readers.{bind, done, number, many, times}
 use Rattle.x10_model.specs.ReadingFrames.{Short}
-use Rattle.x10_frame.proofs.Numbers.{number_short, number_is}
+use Rattle.x10_model.proofs.Offsets.{number_short, number_is}
 
 count_short : (bytes : List ℕ) → length bytes < 4 → number w32 Short bytes ≡ Err Short
-count_short bytes h = number_short w32 bytes h
+count_short bytes h = number_short _ w32 bytes h
 
 count_is : (bytes : List ℕ) → 4 ≤ length bytes → number w32 Short bytes ≡ Ok (from_be_bytes w32 (take 4 bytes), drop 4 bytes)
-count_is bytes h = number_is w32 bytes (from_be_bytes w32 (take 4 bytes)) h refl
+count_is bytes h = number_is _ w32 bytes (from_be_bytes w32 (take 4 bytes)) h refl
 
 pub counts_short : (n : ℕ) (bytes : List ℕ) → length bytes < 4 * n → times n (number w32 Short) bytes ≡ Err Short
 unfolding many bind

@@ -6,13 +6,14 @@ use Rattle.x10_model.specs.ReadingFrames.{FrameFault, Order, item_at, text_at, r
 use Rattle.x10_model.proofs.ReaderLaws.{Takes, bind_is}
 use Rattle.x10_model.proofs.PartLaws.{number_reads, many_reads, wide16}
 use Rattle.x10_model.proofs.ItemLaws.{Few, item_reads}
+use Rattle.x10_model.specs.Offsets.{EndsWith}
+use Rattle.x10_model.proofs.Offsets.{place_is, still_ends}
 use Rattle.x10_frame.specs.Faults.{IsFault, IsFaultOrMemory}
-use Rattle.x10_frame.specs.Places.{EndsWith, IsWalk, IsTable, IsNodeTable}
+use Rattle.x10_frame.specs.Places.{IsWalk, IsTable, IsNodeTable}
 use Rattle.x10_frame.specs.Graphs.{counts_at, graph_from}
 use Rattle.x10_frame.specs.Bodies.{IsGraph}
 use Rattle.x10_frame.proofs.Loops.{lenient}
 use Rattle.x10_frame.proofs.Readers.{Drops, drops_reads, drops_done, drops_bind, drops_such_that, split, early, early_such_that, such_that_is, such_that_not}
-use Rattle.x10_frame.proofs.TableLoops.{place_is, still_ends}
 
 pub counts_drop : (most : ℕ) → Drops (counts_at most)
 unfolding counts_at

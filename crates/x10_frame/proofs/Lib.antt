@@ -9,8 +9,8 @@ pub mod Graphs
 pub mod Heads
 pub mod Bodies
 pub mod Whole
-pub mod Access
 pub mod ReadAgain
 pub mod Shows
 pub mod Spelling
 pub mod Drafts
+pub mod Spelled

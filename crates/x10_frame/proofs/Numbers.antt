@@ -5,14 +5,6 @@ use Rattle.std.proofs.lemmas.Int.{of_z-to_z}
 use Rattle.x10_model.specs.Readers.{number, int, bind, part, done}
 use Rattle.x10_model.specs.ReadingFrames.{Short}
 
-pub number_short : (w : Width) (bytes : List ℕ) → length bytes < byte_len w → number w Short bytes ≡ Err Short
-unfolding number bind part
-number_short w bytes h = rw (lt-ltb _ _ h) refl
-
-pub number_is : (w : Width) (bytes : List ℕ) (n : ℕ) → byte_len w ≤ length bytes → from_be_bytes w (take (byte_len w) bytes) ≡ n → number w Short bytes ≡ Ok (n, drop (byte_len w) bytes)
-unfolding number bind part done
-number_is w bytes n h e = rw (le-ltb _ _ h, e) refl
-
 pub int_short : (bytes : List ℕ) → length bytes < 8 → int Short bytes ≡ Err Short
 unfolding int number bind part
 int_short bytes h = rw (lt-ltb _ _ h) refl

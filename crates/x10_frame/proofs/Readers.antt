@@ -3,9 +3,9 @@ use Rattle.std.proofs.Common.{◌≡◌, ℕ, Bool, true, false, List, [], ◌++
 use Rattle.x10_model.specs.Readers.{Reader, IsBytes, bind, done, check, such_that, expect}
 use Rattle.x10_model.specs.ReadingFrames.{FrameFault}
 use Rattle.x10_model.proofs.ReaderLaws.{Reads, Takes, Takes-then, same, bind_ok}
+use Rattle.x10_model.specs.Offsets.{EndsWith}
+use Rattle.x10_model.proofs.Offsets.{still_ends}
 use Rattle.x10_frame.specs.Faults.{IsFaultOrMemory}
-use Rattle.x10_frame.specs.Places.{EndsWith}
-use Rattle.x10_frame.proofs.TableLoops.{still_ends}
 
 -- ---- order
 

@@ -10,14 +10,15 @@ use Rattle.x10_model.specs.Frames.{Item, Node, Graph, Frame, Spawn, Shift, Back,
 use Rattle.x10_model.specs.Readers.{FitsEach}
 use Rattle.x10_model.proofs.ItemLaws.{Few}
 use Rattle.x10_model.proofs.ImageParts.{length-items}
+use Rattle.x10_model.specs.Offsets.{StandsAt, AreAt}
+use Rattle.x10_model.proofs.Offsets.{later, narrow, place_small, byte_is, range_is, same_length, item_of}
 use Rattle.x10_frame.specs.declared.head.Head.{Head}
 use Rattle.x10_frame.specs.declared.head.Head.TheVariants as head
 use Rattle.x10_frame.specs.Heads.{head_of, graph_of, sent_of, received_of, no_graph}
 use Rattle.x10_frame.specs.Items.{items_in, HasItems}
-use Rattle.x10_frame.specs.Places.{StandsAt, AreAt, IsPart}
 use Rattle.x10_frame.specs.Bodies.{HasBody}
 use Rattle.x10_frame.specs.Views.{frame_in, IsView}
-use Rattle.x10_frame.proofs.Access.{later, narrow, place_small, byte_is, range_is, same_length, item_of, item_at as item_among}
+use Rattle.x10_model.proofs.Offsets.{item_at as item_among}
 use Rattle.x10_frame.proofs.ReadAgain.{again, items_in_is}
 
 -- the view's facts about the frame that it shows
@@ -173,10 +174,6 @@ blob_at bytes at blob fits s =
       room = omega (arith, small);
       range = range_is bytes (at + 4) (at + 4 + length blob) blob refl back;
     }
-
--- a text or a rail is a part of the spelling
-pub blob_part : (bytes : List ℕ) (f : Frame) (at : ℕ) (blob : List ℕ) → bytes ≡ spelling f → IsBlobAt bytes at blob → IsPart (spelling f) blob
-blob_part bytes f at blob e b = subst (λ (t : List ℕ). IsPart t blob) e (record { from = at + 4; end = b.room; is = sym b.range })
 
 -- ---- nodes
 

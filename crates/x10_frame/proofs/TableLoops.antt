@@ -5,24 +5,11 @@ use Rattle.x10_model.specs.Frames.{Node, Tables, Turn, turn, next_turn}
 use Rattle.x10_model.specs.Readers.{Reader, IsBytes, many}
 use Rattle.x10_model.specs.ReadingFrames.{FrameFault}
 use Rattle.x10_model.proofs.ReaderLaws.{Reads}
+use Rattle.x10_model.proofs.Offsets.{place_is, still_ends, Pairwise-push}
+use Rattle.x10_model.specs.Offsets.{StandsAt, EndsWith, AreAt}
 use Rattle.x10_frame.specs.Faults.{IsFault, IsFaultOrMemory}
-use Rattle.x10_frame.specs.Places.{StandsAt, EndsWith, AreAt, IsTable, IsNodeTable}
+use Rattle.x10_frame.specs.Places.{IsTable, IsNodeTable}
 use Rattle.x10_frame.proofs.Loops.{Along, along_start, along_next, along_fault, along_end, lenient}
-
--- a part at the front of the frame's end, and what follows it
-pub place_is : (frame bytes part rest : List ℕ) → EndsWith frame bytes → bytes ≡ part ++ rest → StandsAt frame (length frame - length bytes) part
-place_is frame bytes part rest e is =
-    let at : length frame - length bytes ≡ length e.before = omega (arith, ap length e.is, length-append e.before bytes) in
-    record { rest = rest; is = rw at (ap (drop (length e.before)) e.is ∙ drop_at e.before bytes (length e.before) refl ∙ is) }
-
-pub still_ends : (frame bytes part rest : List ℕ) → EndsWith frame bytes → bytes ≡ part ++ rest → EndsWith frame rest
-still_ends frame bytes part rest e is = record { before = e.before ++ part; is = e.is ∙ ap (λ (t : List ℕ). e.before ++ t) is ∙ sym (append_assoc e.before part rest) }
-
-Pairwise-push : {X Y : Type 0} (R : X → Y → Type 0) (xs : List X) (ys : List Y) (x : X) (y : Y) → Pairwise R xs ys → R x y → Pairwise R (xs ++ x ∷ []) (ys ++ y ∷ [])
-Pairwise-push R [] [] x y h r = (r, tt)
-Pairwise-push R (a ∷ xs) (b ∷ ys) x y h r = (h.0, Pairwise-push R xs ys x y h.1 r)
-Pairwise-push R [] (b ∷ ys) x y h r = absurd h
-Pairwise-push R (a ∷ xs) [] x y h r = absurd h
 
 -- with k items left, the places of those before are in the table
 pub record Placed {S A : Type 0} (item : S → Reader FrameFault A) (after : S → A → S) (spell : A → List ℕ) (frame : List ℕ) (k : ℕ) (first s : S) (bytes table : List ℕ) (all : Result (List A × List ℕ) FrameFault) : Type 0 where
@@ -65,11 +52,3 @@ placed_nodes item spell frame n i used last bytes table all le p =
       known = record { items = p.along.front; reads = along_end item next_turn n i (turn 0 used) (turn i last) bytes all le p.along; places = p.places; ends = p.ends };
       state = ap (λ (t : Turn). t.used) p.along.state;
     }
-
-pub ends_small : (frame bytes : List ℕ) → EndsWith frame bytes → length bytes ≤ length frame
-ends_small frame bytes e = omega (arith, ap length e.is, length-append e.before bytes)
-
-pub ends_bytes : (frame bytes : List ℕ) → IsBytes frame → EndsWith frame bytes → IsBytes bytes
-ends_bytes frame bytes b e k =
-    let same : get_or frame (length e.before + k) 0 ≡ get_or bytes k 0 = ap (λ (t : List ℕ). get_or t (length e.before + k) 0) e.is ∙ get_or-append-add e.before bytes k 0 in
-    subst (λ (n : ℕ). n < 256) same (b (length e.before + k))

@@ -3,12 +3,12 @@ use Rattle.std.specs.Prelude.{◌≡◌, ℕ, List, ◌++◌, length, Result, Ok
 use Rattle.std.specs.List.{flat_map}
 use Rattle.x10_model.specs.Frames.{Graph, Frame, item_bytes, blob_bytes, node_bytes, counts_bytes}
 use Rattle.x10_model.specs.ReadingFrames as reading
+use Rattle.x10_model.specs.Offsets.{StandsAt, AreAt}
 use Rattle.x10_frame.specs.declared.fault.FrameFault.{FrameFault}
 use Rattle.x10_frame.specs.declared.body.Body.{Body}
 use Rattle.x10_frame.specs.declared.head.Head.{Head}
 use Rattle.x10_frame.specs.Faults.{named, IsFaultOrMemory}
 use Rattle.x10_frame.specs.Heads.{head_of, graph_of, sent_of, received_of}
-use Rattle.x10_frame.specs.Places.{StandsAt, AreAt}
 
 -- the parts of the graph stand there: the roots, so many, from one place on, and each text, rail and node at its own
 pub record HasGraph (frame : List ℕ) (start count : ℕ) (texts rails nodes : List ℕ) (g : Graph) : Type 0 where

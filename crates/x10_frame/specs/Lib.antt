@@ -6,3 +6,4 @@ pub mod Graphs
 pub mod Bodies
 pub mod Views
 pub mod Writing
+pub mod Parts

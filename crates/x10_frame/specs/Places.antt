@@ -1,31 +1,12 @@
 -- Where the parts of a frame stand in its bytes, and what reading items one after another gives.
-use Rattle.std.specs.Prelude.{◌≡◌, ℕ, List, ◌++◌, drop, Result, Ok, Err, ◌+◌, ◌≤◌, length, slice_range}
+use Rattle.std.specs.Prelude.{◌≡◌, ℕ, List, ◌++◌, drop, Result, Ok, Err}
 use Rattle.x10_model.specs.Maps.{Pairwise}
 use Rattle.x10_model.specs.Frames.{Node, Tables, used_after, turn, next_turn}
 use Rattle.x10_model.specs.Readers.{after_all}
 use Rattle.x10_model.specs.ReadingFrames as reading
+use Rattle.x10_model.specs.Offsets.{EndsWith, AreAt}
 use Rattle.x10_frame.specs.declared.fault.FrameFault.{FrameFault}
 use Rattle.x10_frame.specs.Faults.{named, IsFault, IsFaultOrMemory}
-
--- the part stands at this place of the bytes
-pub record StandsAt (bytes : List ℕ) (at : ℕ) (part : List ℕ) : Type 0 where
-  pub rest : List ℕ
-  pub is : drop at bytes ≡ part ++ rest
-
--- some of the bytes, from one place on
-pub record IsPart (bytes part : List ℕ) : Type 0 where
-  pub from : ℕ
-  pub end : from + length part ≤ length bytes
-  pub is : part ≡ slice_range bytes from (from + length part)
-
--- the bytes end so
-pub record EndsWith (bytes rest : List ℕ) : Type 0 where
-  pub before : List ℕ
-  pub is : bytes ≡ before ++ rest
-
--- the place of each item's spelling
-abbrev pub AreAt : {A : Type 0} → (A → List ℕ) → List ℕ → List ℕ → List A → Type 0
-AreAt spell bytes table xs = Pairwise (λ at x. StandsAt bytes at (spell x)) table xs
 
 -- reading gives some items, and what is known after them
 pub record IsWalk {S A : Type 0} (after : S → A → S) (first last : S) (rest : List ℕ) (read : Result (List A × List ℕ) reading.FrameFault) : Type 0 where

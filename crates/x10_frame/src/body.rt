@@ -1,9 +1,9 @@
 //! Where the parts of a frame stand in its bytes.
 
 ghost use Rattle.std.specs.Prelude.{ℕ};
+ghost use Rattle.x10_model.specs.Offsets.{EndsWith};
 ghost use Rattle.x10_frame.specs.declared.head.Head.TheVariants as variant;
 ghost use Rattle.x10_frame.specs.Heads.{counts_at, after_head};
-ghost use Rattle.x10_frame.specs.Places.{EndsWith};
 ghost use Rattle.x10_frame.specs.Bodies.{GivesBody};
 
 use crate::fault::FrameFault;
@@ -11,6 +11,7 @@ use crate::graph::read_graph;
 use crate::head::Head;
 use crate::parts::past_counts;
 use std::alloc::Global;
+use x10_model::limits::MOST_ROOTS;
 
 /// Where the roots begin, how many there are, and where each text, rail and node begins. In a report
 /// `start` is where the counts begin, and there is nothing else.
@@ -58,8 +59,8 @@ pub fn read_body<'a>(
     ensures exact { GivesBody frame.now head.now (λ x. x.0) (λ x. x.1.now) result (after_head places head.now bytes.now) }
 {
     match *head {
-        Head::Spawn { .. } => read_graph(alloc, frame, bytes, places, 16),
-        Head::Shift { .. } => read_graph(alloc, frame, bytes, places, 16),
+        Head::Spawn { .. } => read_graph(alloc, frame, bytes, places, MOST_ROOTS),
+        Head::Shift { .. } => read_graph(alloc, frame, bytes, places, MOST_ROOTS),
         Head::Back { .. } => read_graph(alloc, frame, bytes, places, 1),
         Head::Report { .. } => read_counts(alloc, frame, bytes, places),
     }

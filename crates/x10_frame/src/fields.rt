@@ -7,6 +7,7 @@ ghost use Rattle.x10_frame.specs.Faults.{Answers};
 
 use crate::fault::FrameFault;
 use byteorder::{BigEndian, ByteOrder};
+use x10_model::limits::MOST_BYTES;
 
 /// One byte, and the bytes after it.
 #[tactic(auto, unfolding(x10_model::specs::Readers::byte))]
@@ -82,7 +83,7 @@ pub fn length_at(bytes: &[u8]) -> Result<(u32, &[u8]), FrameFault>
     ensures exact { Answers (λ x. (x.0, x.1.now)) result (length_at bytes.now) }
 {
     let (length, bytes) = u32_at(bytes)?;
-    if length > 65_535 {
+    if length > u32::from(MOST_BYTES) {
         return Err(FrameFault::Order);
     }
     Ok((length, bytes))

@@ -4,9 +4,9 @@ ghost use Rattle.std.specs.Prelude.{◌^◌, ◌<◌, IfOk, nat_le};
 ghost use Rattle.std.specs.Int.{w16};
 ghost use Rattle.x10_model.specs.Readers.{number, such_that};
 ghost use Rattle.x10_model.specs.ReadingFrames.{Short, Order, graph_at};
+ghost use Rattle.x10_model.specs.Offsets.{EndsWith};
 ghost use Rattle.x10_frame.specs.Faults.{Answers};
 ghost use Rattle.x10_frame.specs.Items.{tables_in};
-ghost use Rattle.x10_frame.specs.Places.{EndsWith};
 ghost use Rattle.x10_frame.specs.Graphs.{counts_at, graph_from};
 ghost use Rattle.x10_frame.specs.Bodies.{GivesGraph};
 

@@ -14,6 +14,7 @@ use crate::fault::FrameFault;
 use crate::fields::{byte_at, length_at, u16_at};
 use crate::item::item_at;
 use crate::used::Used;
+use x10_model::limits::MOST_FIELDS;
 
 /// What was used after so many values, and the bytes after them.
 pub fn past_items<'a>(
@@ -40,7 +41,7 @@ fn field_count_at(bytes: &[u8]) -> Result<(u8, &[u8]), FrameFault>
     ensures exact { Answers (λ x. (x.0, x.1.now)) result (such_that (byte Short) (λ n. nat_le n 16) Order bytes.now) }
 {
     let (count, bytes) = byte_at(bytes)?;
-    if count > 16 {
+    if count > MOST_FIELDS {
         return Err(FrameFault::Order);
     }
     Ok((count, bytes))

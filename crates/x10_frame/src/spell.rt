@@ -1,6 +1,6 @@
 //! Parts of a frame at the end of bytes.
 
-ghost use Rattle.std.specs.Prelude.{◌≡◌, ◌∷◌, ◌++◌, ◌^◌, ◌<◌, ◌≤◌, OnOk, length};
+ghost use Rattle.std.specs.Prelude.{◌≡◌, [], ◌∷◌, ◌++◌, ◌^◌, ◌<◌, ◌≤◌, OnOk, length};
 ghost use Rattle.std.specs.List.{flat_map};
 ghost use Rattle.std.specs.Int.{w16, w32, to_be_bytes};
 ghost use Rattle.x10_model.specs.Frames.{item_bytes, blob_bytes, node_bytes, counts_bytes};
@@ -61,6 +61,15 @@ pub fn put_blob(out: &mut Vec<u8>, bytes: &[u8]) -> Result<(), AllocError>
 {
     out.extend_from_slice(&(bytes.len() as u32).to_be_bytes())?;
     out.extend_from_slice(bytes)
+}
+
+/// A node's class, and how many fields it has.
+pub fn put_begin(out: &mut Vec<u8>, class: u16, fields: u8) -> Result<(), AllocError>
+    ensures { OnOk result (out.new.items ≡ out.old.items ++ (to_be_bytes w16 class ++ fields ∷ [])) }
+{
+    out.extend_from_slice(&class.to_be_bytes())?;
+    out.push(fields)?;
+    Ok(())
 }
 
 /// A node.

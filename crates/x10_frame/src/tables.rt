@@ -5,8 +5,9 @@ ghost use Rattle.x10_model.specs.Frames.{blob_bytes, node_bytes, next_turn, turn
 ghost use Rattle.x10_model.specs.Readers.{many, times};
 ghost use Rattle.x10_model.specs.ReadingFrames.{text_at, rail_at, node_at};
 ghost use Rattle.x10_model.specs.ReadingFrames as reading;
+ghost use Rattle.x10_model.specs.Offsets.{EndsWith};
 ghost use Rattle.x10_frame.specs.Items.{tables_in};
-ghost use Rattle.x10_frame.specs.Places.{EndsWith, GivesTable, GivesNodes};
+ghost use Rattle.x10_frame.specs.Places.{GivesTable, GivesNodes};
 
 use crate::fault::FrameFault;
 use crate::parts::{past_node, past_rail, past_text};

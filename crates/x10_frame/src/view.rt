@@ -1,18 +1,20 @@
 ghost use Rattle.std.specs.Prelude.{◌≡◌, ◌^◌, ◌<◌, ◌≤◌, IfOk, Ok, Some, length, slice_get};
+ghost use Rattle.std.specs.Int.{w32, to_be_bytes};
 ghost use Rattle.x10_model.specs.Modules.{FitsText};
-ghost use Rattle.x10_model.specs.Frames.{Frame, FitsFrame, FitsRail, spelling};
+ghost use Rattle.x10_model.specs.Frames.{Frame, FitsFrame, FitsRail, item_bytes, node_bytes, spelling};
 ghost use Rattle.x10_model.specs.ReadingFrames.{frame_at};
 ghost use Rattle.x10_frame.specs.Faults.{Gives};
 ghost use Rattle.x10_frame.specs.Heads.{head_of, graph_of, sent_of, received_of};
 ghost use Rattle.x10_frame.specs.Items.{item_of};
-ghost use Rattle.x10_frame.specs.Places.{IsPart};
+ghost use Rattle.x10_frame.specs.Writing.{head_bytes};
+ghost use Rattle.x10_frame.specs.Parts.{IsPart, place_of_root, place_of_text, place_of_rail, place_of_node, place_of_sent, place_of_received};
 
 use crate::body::{Body, read_body};
 use crate::fault::FrameFault;
 use crate::head::{Head, read_head};
 use crate::item::{Item, nth_item};
 use crate::node_view::NodeView;
-use crate::places::{blob_in, bytes_from, count_in, node_in};
+use crate::offsets::{blob_in, bytes_from, count_in, node_in};
 use std::alloc::Global;
 use std::marker::Model;
 
@@ -65,10 +67,11 @@ impl<'a> FrameView<'a> {
         whole(alloc, bytes, places)
     }
 
-    /// What the frame is, and the numbers that stand before its graph or its counts. Constant time, as
+    /// What the frame is, and the numbers that stand before its graph or its counts: its first bytes. Constant time, as
     /// all that follow but for a walk over at most 16 values, and without memory.
     pub fn head(&self) -> Head
         ensures value { result ≡ head_of self.now }
+        ensures part { IsPart (spelling self.now) 0 (head_bytes result) }
     {
         self.head
     }
@@ -86,18 +89,20 @@ impl<'a> FrameView<'a> {
         }
     }
 
-    /// How many activities a report says were sent to a place.
+    /// How many activities a report says were sent to a place: four of the frame's bytes.
     pub fn sent(&self, place: usize) -> u32
         requires { place < length (sent_of self.now) }
         ensures value { slice_get (sent_of self.now) place ≡ Some result }
+        ensures part { IsPart (spelling self.now) (place_of_sent self.now place) (to_be_bytes w32 result) }
     {
         count_in(self.bytes, self.body.start, place)
     }
 
-    /// How many activities a report says were received from a place.
+    /// How many activities a report says were received from a place: four of the frame's bytes.
     pub fn received(&self, place: usize) -> u32
         requires { place < length (received_of self.now) }
         ensures value { slice_get (received_of self.now) place ≡ Some result }
+        ensures part { IsPart (spelling self.now) (place_of_received self.now place) (to_be_bytes w32 result) }
     {
         count_in(
             self.bytes,
@@ -138,10 +143,11 @@ impl<'a> FrameView<'a> {
         self.body.nodes.len()
     }
 
-    /// A value that is passed.
+    /// A value that is passed, from the frame's bytes.
     pub fn root(&self, i: usize) -> Item
         requires { i < length (graph_of self.now).roots }
         ensures value { slice_get (graph_of self.now).roots i ≡ Some (item_of result) }
+        ensures part { IsPart (spelling self.now) (place_of_root self.now i) (item_bytes (item_of result)) }
     {
         nth_item(
             bytes_from(self.bytes, self.body.start),
@@ -151,24 +157,24 @@ impl<'a> FrameView<'a> {
         )
     }
 
-    /// A text, in the frame's bytes.
+    /// A text, in the frame's bytes: behind its length there.
     pub fn text(&self, i: usize) -> &'a str
         requires { i < length (graph_of self.now).texts }
         ensures value { slice_get (graph_of self.now).texts i ≡ Some result.now }
         ensures fits { FitsText result.now }
-        ensures part { IsPart (spelling self.now) result.now }
+        ensures part { IsPart (spelling self.now) (place_of_text self.now i) result.now }
     {
         let bytes = self.bytes;
         let text = blob_in(bytes, self.body.texts[i]);
         unsafe { str::from_utf8_unchecked(text) }
     }
 
-    /// A rail, in the frame's bytes.
+    /// A rail, in the frame's bytes: behind its length there.
     pub fn rail(&self, i: usize) -> &'a [u8]
         requires { i < length (graph_of self.now).rails }
         ensures value { slice_get (graph_of self.now).rails i ≡ Some result.now }
         ensures fits { FitsRail result.now }
-        ensures part { IsPart (spelling self.now) result.now }
+        ensures part { IsPart (spelling self.now) (place_of_rail self.now i) result.now }
     {
         let bytes = self.bytes;
         blob_in(bytes, self.body.rails[i])
@@ -179,6 +185,7 @@ impl<'a> FrameView<'a> {
         requires { i < length (graph_of self.now).nodes }
         ensures value { slice_get (graph_of self.now).nodes i ≡ Some result }
         ensures few { length result.fields ≤ 16 }
+        ensures part { IsPart (spelling self.now) (place_of_node self.now i) (node_bytes result) }
     {
         let bytes = self.bytes;
         node_in(bytes, self.body.nodes[i], self.places)

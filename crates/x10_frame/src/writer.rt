@@ -1,16 +1,18 @@
 //! Writing frames.
 
-ghost use Rattle.std.specs.Prelude.{◌≡◌, ◌++◌, ◌^◌, ◌<◌, ◌≤◌, IfOk, OnOk, length};
+ghost use Rattle.std.specs.Prelude.{◌≡◌, [], ◌∷◌, ◌++◌, ◌^◌, ◌<◌, ◌≤◌, IfOk, OnOk, length};
 ghost use Rattle.x10_model.specs.Frames as frames;
-ghost use Rattle.x10_model.specs.Frames.{Graph, blob_bytes, node_bytes, spelling};
+ghost use Rattle.std.specs.Int.{w16, to_be_bytes};
+ghost use Rattle.x10_model.specs.Frames.{Graph, item_bytes, blob_bytes, node_bytes, spelling};
 ghost use Rattle.x10_frame.specs.declared.head.Head.{Head as head};
 ghost use Rattle.x10_frame.specs.Heads.{IsGraphHead, with_graph};
+ghost use Rattle.x10_frame.specs.Items.{item_of};
 ghost use Rattle.x10_frame.specs.Writing.{head_bytes, sizes_bytes, values_bytes, node_of, draft};
 
 use crate::head::Head;
 use crate::item::Item;
 use crate::report::Report;
-use crate::spell::{put_blob, put_counts, put_head, put_items, put_node};
+use crate::spell::{put_begin, put_blob, put_counts, put_head, put_item, put_items, put_node};
 use std::alloc::{AllocError, Global};
 use std::marker::Model;
 
@@ -56,6 +58,40 @@ impl FrameWriter {
         let mut bytes = Vec::new(alloc);
         put_head(&mut bytes, head)?;
         put_sizes(&mut bytes, sizes)?;
+        Ok(FrameWriter { bytes })
+    }
+
+    /// The same, with room for so many bytes: where the frame has no more, no other call takes memory.
+    pub fn with_room(
+        alloc: Global,
+        head: &Head,
+        sizes: &Sizes,
+        room: usize,
+    ) -> Result<FrameWriter, AllocError>
+        requires graph { IsGraphHead head.now }
+        ensures value { IfOk result (λ w. w ≡ head_bytes head.now ++ sizes_bytes sizes.now.roots sizes.now.texts sizes.now.rails sizes.now.nodes) }
+    {
+        let mut bytes = Vec::with_capacity(alloc, room)?;
+        put_head(&mut bytes, head)?;
+        put_sizes(&mut bytes, sizes)?;
+        Ok(FrameWriter { bytes })
+    }
+
+    /// The next value: one that is passed, or the next field of an object that was begun.
+    pub fn value(self, value: &Item) -> Result<FrameWriter, AllocError>
+        ensures value { IfOk result (λ w. w ≡ self ++ item_bytes (item_of value.now)) }
+    {
+        let mut bytes = self.bytes;
+        put_item(&mut bytes, value)?;
+        Ok(FrameWriter { bytes })
+    }
+
+    /// The next object's class, and how many fields it has. Its fields follow as values.
+    pub fn begin_node(self, class: u16, fields: u8) -> Result<FrameWriter, AllocError>
+        ensures value { IfOk result (λ w. w ≡ self ++ (to_be_bytes w16 class ++ fields ∷ [])) }
+    {
+        let mut bytes = self.bytes;
+        put_begin(&mut bytes, class, fields)?;
         Ok(FrameWriter { bytes })
     }
 

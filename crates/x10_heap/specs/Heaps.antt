@@ -1,5 +1,5 @@
 -- What the activities of a place share, each by its number from 0, and what a call adds to it.
-use Rattle.std.specs.Prelude.{◌≡◌, ℕ, ◌+◌, ◌^◌, ◌<◌, ◌≤◌, ◌⊎◌, List, [], ◌∷◌, ◌++◌, Option, Some, None, length, slice_get, slice_set}
+use Rattle.std.specs.Prelude.{◌≡◌, ℕ, ◌+◌, ◌^◌, ◌<◌, ◌≤◌, ◌⊎◌, List, [], ◌∷◌, ◌++◌, Option, Some, None, length, take, slice_get, slice_set}
 use Rattle.x10_kinds.specs.declared.stop.Stop.{Stop}
 use Rattle.x10_kinds.specs.declared.stop.Stop.TheVariants as stop
 use Rattle.x10_heap.specs.declared.export.Export.{Export}
@@ -18,6 +18,17 @@ pub record HeapState : Type 0 where
 
 abbrev pub empty : HeapState
 empty = record { objects = []; rails = []; texts = []; exports = [] }
+
+-- at most 2^32 - 1 of each
+pub record IsWithinLimits {A B C D : Type 0} (objects : List A) (rails : List B) (texts : List C) (exports : List D) : Type 0 where
+  pub objects_few : length objects < 2 ^ 32
+  pub rails_few : length rails < 2 ^ 32
+  pub texts_few : length texts < 2 ^ 32
+  pub exports_few : length exports < 2 ^ 32
+
+-- the first so many objects, rails and texts
+abbrev pub shortened : HeapState → (objects rails texts : ℕ) → HeapState
+shortened h objects rails texts = record h { objects = take objects h.objects; rails = take rails h.rails; texts = take texts h.texts }
 
 -- ---- what is added
 

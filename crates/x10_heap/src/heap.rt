@@ -1,8 +1,11 @@
 //! The heap of a place.
-ghost use Rattle.std.specs.Prelude.{◌≡◌, ◌<◌, ◌≤◌, ◌+◌, ◌++◌, List, ℕ, IfOk, IfErr, Ok, Err, Some, None, length, replicate, slice_get, nat_lt};
+ghost use Rattle.std.specs.Prelude.{◌≡◌, ◌<◌, ◌≤◌, ◌+◌, ◌^◌, ◌++◌, List, ℕ, IfOk, IfErr, Ok, Err, Some, None, length, replicate, slice_get, nat_lt};
 ghost use Rattle.std.specs.String.{string_bytes};
 ghost use Rattle.x10_kinds.specs.declared.stop.Stop.TheVariants as stop;
-ghost use Rattle.x10_heap.specs.Heaps.{ObjectState, empty, with_object, with_rail, with_text, with_export, with_field, with_byte, HasField, IsFull, Refuses, IsJoined};
+ghost use Rattle.x10_model.specs.Modules.{FitsText};
+ghost use Rattle.x10_model.specs.Frames.{FitsRail};
+ghost use Rattle.x10_model.specs.Readers.{IsBytes};
+ghost use Rattle.x10_heap.specs.Heaps.{ObjectState, empty, shortened, with_object, with_rail, with_text, with_export, with_field, with_byte, HasField, IsFull, IsWithinLimits, Refuses, IsJoined};
 
 use crate::export::Export;
 use crate::object::Object;
@@ -35,11 +38,13 @@ pub struct Heap {
 }
 
 impl Model for Heap {
-    ghost use Rattle.x10_heap.specs.Heaps.{HeapState};
+    ghost use Rattle.x10_heap.specs.Heaps.{HeapState, IsWithinLimits};
 
     ghost Value = { HeapState };
 
     ghost view = { λ h. record { objects = h.objects.items; rails = h.rails.items; texts = h.texts.items; exports = h.exports.items } };
+
+    ghost invariant = { λ h. IsWithinLimits h.objects.items h.rails.items h.texts.items h.exports.items };
 }
 
 /// The number of what is made next, where there are so many; refused where there may be no more.
@@ -63,6 +68,11 @@ fn joined(alloc: Global, first: &str, second: &str) -> Result<String, AllocError
     Ok(text)
 }
 
+/// Each number of a row of bytes is below 256, for clauses that say so. Does nothing.
+fn known_bytes(bytes: &[u8])
+    ensures { IsBytes bytes.now }
+{}
+
 impl Heap {
     /// A heap with nothing in it. Takes no memory.
     pub fn new(alloc: Global) -> Heap
@@ -77,32 +87,52 @@ impl Heap {
         }
     }
 
+    /// That every heap keeps its limits, for callers whose own clauses rest on it. It does nothing.
+    pub fn fits(&self)
+        ensures { IsWithinLimits self.now.objects self.now.rails self.now.texts self.now.exports }
+    {
+        let _ = &self.objects;
+    }
+
     /// How many objects there are.
     pub fn objects(&self) -> usize
-        ensures { result ≡ length self.now.objects }
+        ensures value { result ≡ length self.now.objects }
+        ensures few { result < 2 ^ 32 }
     {
         self.objects.len()
     }
 
     /// How many rails there are.
     pub fn rails(&self) -> usize
-        ensures { result ≡ length self.now.rails }
+        ensures value { result ≡ length self.now.rails }
+        ensures few { result < 2 ^ 32 }
     {
         self.rails.len()
     }
 
     /// How many texts there are.
     pub fn texts(&self) -> usize
-        ensures { result ≡ length self.now.texts }
+        ensures value { result ≡ length self.now.texts }
+        ensures few { result < 2 ^ 32 }
     {
         self.texts.len()
     }
 
     /// How many global references there are: their ids are below this.
     pub fn exports(&self) -> usize
-        ensures { result ≡ length self.now.exports }
+        ensures value { result ≡ length self.now.exports }
+        ensures few { result < 2 ^ 32 }
     {
         self.exports.len()
+    }
+
+    /// Takes back what was made last, down to so many objects, rails and texts. Takes no memory.
+    pub fn truncate(&mut self, objects: usize, rails: usize, texts: usize)
+        ensures { self.new ≡ shortened self.old objects rails texts }
+    {
+        self.objects.truncate(objects);
+        self.rails.truncate(rails);
+        self.texts.truncate(texts);
     }
 
     /// A new object of a class, with these words in its fields. Limit 1 where there may be no more objects.
@@ -169,12 +199,32 @@ impl Heap {
         Ok(number)
     }
 
+    /// A new rail with bytes of its own that are the same, at most 65,535. Limit 3 where there may be no more rails.
+    pub fn copy_rail(&mut self, bytes: &[u8]) -> Result<u32, Stop>
+        requires { length bytes.now < 2 ^ 16 }
+        ensures ok { IfOk result (λ number. (number ≡ length self.old.rails) × (self.new ≡ with_rail self.old bytes.now)) }
+        ensures full { IsFull (length self.old.rails) → result ≡ Err (stop.Limit 3) }
+        ensures err { IfErr result (λ why. (self.new ≡ self.old) × Refuses (length self.old.rails) 3 why) }
+    {
+        let number = next_number(self.rails.len(), RAILS)?;
+        let Ok(bytes) = Vec::from_slice(self.alloc, bytes) else {
+            return Err(Stop::Memory);
+        };
+        let Ok(()) = self.rails.push(Rail { bytes }) else {
+            return Err(Stop::Memory);
+        };
+        Ok(number)
+    }
+
     /// The bytes of a rail.
     pub fn rail(&self, rail: u32) -> &[u8]
         requires { rail < length self.now.rails }
-        ensures { slice_get self.now.rails rail ≡ Some result.now }
+        ensures value { slice_get self.now.rails rail ≡ Some result.now }
+        ensures fits { FitsRail result.now }
     {
-        &self.rails[rail as usize].bytes
+        let bytes: &[u8] = &self.rails[rail as usize].bytes;
+        known_bytes(bytes);
+        bytes
     }
 
     /// The byte of a rail at an index, where there is one. Indices count from 0.
@@ -198,8 +248,9 @@ impl Heap {
         false
     }
 
-    /// A new text with the bytes of another. Limit 2 where there may be no more texts.
+    /// A new text with the bytes of another, at most 65,535. Limit 2 where there may be no more texts.
     pub fn new_text(&mut self, text: &str) -> Result<u32, Stop>
+        requires { length text.now < 2 ^ 16 }
         ensures ok { IfOk result (λ number. (number ≡ length self.old.texts) × (self.new ≡ with_text self.old text.now)) }
         ensures full { IsFull (length self.old.texts) → result ≡ Err (stop.Limit 2) }
         ensures err { IfErr result (λ why. (self.new ≡ self.old) × Refuses (length self.old.texts) 2 why) }
@@ -217,7 +268,8 @@ impl Heap {
     /// A text.
     pub fn text(&self, text: u32) -> &str
         requires { text < length self.now.texts }
-        ensures { slice_get self.now.texts text ≡ Some result.now }
+        ensures value { slice_get self.now.texts text ≡ Some result.now }
+        ensures fits { FitsText result.now }
     {
         self.texts[text as usize].text.as_str()
     }

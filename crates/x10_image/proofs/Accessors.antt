@@ -15,11 +15,13 @@ use Rattle.x10_model.proofs.ImageParts.{length-items}
 use Rattle.x10_model.proofs.KindLaws.{length-kind_bytes}
 use Rattle.x10_image.specs.declared.header.Header.{Header as KeptHeader}
 use Rattle.x10_image.specs.Headers.{seen}
-use Rattle.x10_image.specs.Places.{StandsAt, AreAt, AreFrom}
+use Rattle.x10_image.specs.Places.{AreFrom}
 use Rattle.x10_image.specs.Views.{module_in, IsView}
 use Rattle.x10_image.specs.Parts.{IsPart, kinds_in, texts_from, functions_from}
-use Rattle.x10_image.proofs.Access.{later, narrow, place_small, first_is, range_is, same_length, item_of, item_at}
 use Rattle.x10_image.proofs.Decoded.{kinds_again}
+use Rattle.x10_model.proofs.Lists.{all_at}
+use Rattle.x10_model.specs.Offsets.{StandsAt, AreAt}
+use Rattle.x10_model.proofs.Offsets.{later, narrow, place_small, first_is, range_is, same_length, item_of, item_at}
 
 -- the view's facts about the module that it shows
 pub record Shows (bytes : List ℕ) (header : KeptHeader) (ints : ℕ) (classes texts functions : List ℕ) (m : Module) : Type 0 where
@@ -35,11 +37,6 @@ pub record Shows (bytes : List ℕ) (header : KeptHeader) (ints : ℕ) (classes 
 
 pub shows : (bytes : List ℕ) (header : KeptHeader) (ints : ℕ) (classes texts functions : List ℕ) (m : Module) → IsView bytes header ints classes texts functions → module_in bytes ≡ m → Shows bytes header ints classes texts functions m
 shows bytes header ints classes texts functions m v e = subst (Shows bytes header ints classes texts functions) e (record { fits = v.fits; spelled = v.spelled; header_is = v.header_is; ints_at = v.ints_at; classes_at = v.classes_at; texts_at = v.texts_at; functions_at = v.functions_at; texts_start = v.texts_start; functions_start = v.functions_start })
-
-pub all_at : {A : Type 0} (P : A → Type 0) (xs : List A) (i : ℕ) (x : A) → AllByRecursion P xs → slice_get xs i ≡ Some x → P x
-all_at P [] i x h e = absurd cc
-all_at P (y ∷ xs) zero x h e = let is : y ≡ x = cc in subst P is h.0
-all_at P (y ∷ xs) (suc i) x h e = all_at P xs i x h.1 e
 
 -- the entry of a table, as it is read
 pub item_in : {A : Type 0} (spell : A → List ℕ) (bytes table : List ℕ) (xs : List A) (i at : ℕ) → AreAt spell bytes table xs → i < length xs → at ≡ get_or table i at → (x : A) × (slice_get xs i ≡ Some x) × StandsAt bytes at (spell x)

@@ -6,19 +6,21 @@ use Rattle.x10_code.specs.declared.instr.Instr.{Instr}
 use Rattle.x10_code.specs.declared.instr.CodeFault.{CodeFault}
 use Rattle.x10_code.specs.Spelling.{spelling as instruction, decoded}
 use Rattle.x10_code.proofs.Instructions.{length-spelling, decoded_again}
-use Rattle.x10_model.specs.Modules.{Module, Function, FitsSlot, FitsFunction, IsBrought}
+use Rattle.x10_model.specs.Modules.{Module, Function, FitsSlot, FitsFunction, FitsImage, IsBrought}
 use Rattle.x10_model.specs.Ranges.{function_at, instr_in, instr_at}
 use Rattle.x10_model.specs.declared.slot.Slot.{Slot}
 use Rattle.x10_model.specs.Images.{kind_bytes, slot_bytes, result_bytes, function_bytes}
 use Rattle.x10_model.proofs.ImageParts.{length-items}
 use Rattle.x10_model.proofs.KindLaws.{length-slot_bytes}
 use Rattle.x10_image.specs.declared.header.Header.{Header as KeptHeader}
-use Rattle.x10_image.specs.Places.{StandsAt}
-use Rattle.x10_image.specs.Parts.{Signature, signature_of, FitsSignature, slots_in, slot_at, code_at, parameters_in}
-use Rattle.x10_image.proofs.Access.{byte_is, first_is, range_is, item_at}
+use Rattle.x10_image.specs.Parts.{Signature, signature_of, FitsSignature, slots_in, slot_at, code_in, code_at, parameters_in}
+use Rattle.std.proofs.lemmas.List.{append-nil}
 use Rattle.x10_image.proofs.Functions.{function_parts, function_small, tag_is}
 use Rattle.x10_image.proofs.Decoded.{slots_again, slot_again}
-use Rattle.x10_image.proofs.Accessors.{Shows, all_at, item_in, number_is}
+use Rattle.x10_image.proofs.Accessors.{Shows, item_in, number_is}
+use Rattle.x10_model.proofs.Lists.{all_at}
+use Rattle.x10_model.specs.Offsets.{StandsAt}
+use Rattle.x10_model.proofs.Offsets.{byte_is, first_is, range_is, item_at}
 
 -- the function that stands at a place
 pub record IsHere (bytes : List ℕ) (at : ℕ) (m : Module) (f : ℕ) : Type 0 where
@@ -80,6 +82,33 @@ instr_here bytes at m f pc start h lt e =
       brought = fits;
       decodes = ap decoded (range_is bytes start (start + 8) (instruction found.0) (omega (arith, length-spelling found.0)) found.2) ∙ decoded_again found.0 fits.instr;
     }
+
+-- bytes that are a part stand for it from their beginning on
+whole : (bytes part : List ℕ) → bytes ≡ part → StandsAt bytes 0 part
+whole bytes part e = record { rest = []; is = e ∙ sym (append-nil part) }
+
+-- an instruction in the bytes of a function's code alone
+alone_in : (m : Module) (f pc start : ℕ) (bytes : List ℕ) (function : Function) → function_at m f ≡ Some function → FitsFunction (length m.classes) function → bytes ≡ flat_map instruction function.code → start ≡ 8 * pc → pc < length function.code → IsInstrAt bytes start m f pc
+alone_in m f pc start bytes function there fits is at lt =
+    let found = item_at instruction 8 length-spelling bytes 0 function.code pc start (omega (arith, at)) (whole bytes (flat_map instruction function.code) is) lt in
+    let brought = all_at IsBrought function.code pc found.0 fits.code found.1 in
+    record {
+      instr = found.0;
+      is = ap (λ (o : Option Function). instr_in o pc) there ∙ found.1;
+      brought = brought;
+      decodes = ap decoded (range_is bytes start (start + 8) (instruction found.0) (omega (arith, length-spelling found.0)) found.2) ∙ decoded_again found.0 brought.instr;
+    }
+
+pub instr_alone : (m : Module) (f pc start : ℕ) (bytes : List ℕ) → FitsImage m → f < length m.functions → bytes ≡ flat_map instruction (code_at m f) → start ≡ 8 * pc → pc < length (code_at m f) → IsInstrAt bytes start m f pc
+instr_alone m f pc start bytes fits lt is at short = go (function_at m f) refl is short
+  where
+    go : (o : Option Function) → function_at m f ≡ o → bytes ≡ flat_map instruction (code_in o) → pc < length (code_in o) → IsInstrAt bytes start m f pc
+    go None e b less = absurd (omega (arith, less))
+    go (Some function) e b less = alone_in m f pc start bytes function e (all_at (FitsFunction (length m.classes)) m.functions f function fits.functions.2 e) b at less
+
+-- such bytes have room for it
+pub alone_room : (m : Module) (f pc : ℕ) (bytes : List ℕ) → bytes ≡ flat_map instruction (code_at m f) → pc < length (code_at m f) → 8 * pc + 8 ≤ length bytes
+alone_room m f pc bytes is lt = omega (arith, ap length is ∙ length-items instruction 8 length-spelling (code_at m f), lt)
 
 abbrev answer : Instr → Result Instr CodeFault
 answer i = Ok i

@@ -11,8 +11,8 @@ use Rattle.x10_model.specs.Images.{tag_of, kind_bytes, slot_bytes, result_bytes,
 use Rattle.x10_model.specs.ReadingImages.{is_entry}
 use Rattle.x10_model.proofs.ImageParts.{length-items}
 use Rattle.x10_model.proofs.KindLaws.{length-slot_bytes, length-result_bytes}
-use Rattle.x10_image.specs.Places.{StandsAt, AreAt}
-use Rattle.x10_image.proofs.Access.{later, narrow, place_small, byte_is, first_is, same_length, item_of}
+use Rattle.x10_model.specs.Offsets.{StandsAt, AreAt}
+use Rattle.x10_model.proofs.Offsets.{later, narrow, place_small, byte_is, first_is, same_length, item_of}
 
 -- the four numbers at its front, and where its other parts begin
 pub record IsFunctionAt (bytes : List ℕ) (at : ℕ) (f : Function) : Type 0 where

@@ -1,9 +1,7 @@
-pub mod Numbers
 pub mod Loops
 pub mod Texts
 pub mod TableLoops
 pub mod Whole
-pub mod Access
 pub mod Functions
 pub mod Spelled
 pub mod Decoded

@@ -11,9 +11,9 @@ use Rattle.x10_model.specs.Modules.{Module, Function}
 use Rattle.x10_model.specs.Ranges.{function_at, instr_in, instr_at}
 use Rattle.x10_model.specs.Images.{slot_bytes, result_bytes, class_bytes, int_bytes, text_bytes, function_bytes, magic, header_of, header_bytes, spelling}
 use Rattle.x10_model.proofs.ImageParts.{length-items}
-use Rattle.x10_image.specs.Places.{StandsAt}
+use Rattle.x10_model.specs.Offsets.{StandsAt}
+use Rattle.x10_model.proofs.Offsets.{later, narrow, place_small, range_is}
 use Rattle.x10_image.specs.Parts.{IsPart, Signature, signature_of, signature_bytes, classes_from, ints_from, texts_from, functions_from, place_of_class, place_of_int, place_of_signature, place_of_count, place_of_instr, code_in, code_at}
-use Rattle.x10_image.proofs.Access.{later, narrow, place_small, range_is}
 use Rattle.x10_image.proofs.Functions.{function_parts}
 
 part_at : (bytes : List ℕ) (at : ℕ) (part : List ℕ) → 0 < length part → StandsAt bytes at part → IsPart bytes at part

@@ -5,27 +5,11 @@ use Rattle.x10_model.specs.Maps.{Pairwise}
 use Rattle.x10_model.specs.Readers.{Reader, IsBytes, many}
 use Rattle.x10_model.specs.ReadingImages.{ImageFault}
 use Rattle.x10_model.proofs.ReaderLaws.{Reads}
+use Rattle.x10_model.proofs.Offsets.{place_is, still_ends, Pairwise-push, ends_small}
+use Rattle.x10_model.specs.Offsets.{StandsAt, EndsWith, AreAt}
 use Rattle.x10_image.specs.Faults.{IsFault, IsFaultOrMemory}
-use Rattle.x10_image.specs.Places.{StandsAt, EndsWith, AreAt, AreFrom, IsTable}
+use Rattle.x10_image.specs.Places.{AreFrom, IsTable}
 use Rattle.x10_image.proofs.Loops.{Along, along_begin, along_next, along_fault, along_end, lenient}
-
--- a part at the front of the image's end, and what follows it
-pub place_is : (image bytes part rest : List ℕ) → EndsWith image bytes → bytes ≡ part ++ rest → StandsAt image (length image - length bytes) part
-place_is image bytes part rest e is =
-    let at : length image - length bytes ≡ length e.before = omega (arith, ap length e.is, length-append e.before bytes) in
-    record { rest = rest; is = rw at (ap (drop (length e.before)) e.is ∙ drop_at e.before bytes (length e.before) refl ∙ is) }
-
-pub still_ends : (image bytes part rest : List ℕ) → EndsWith image bytes → bytes ≡ part ++ rest → EndsWith image rest
-still_ends image bytes part rest e is = record { before = e.before ++ part; is = e.is ∙ ap (λ (t : List ℕ). e.before ++ t) is ∙ sym (append_assoc e.before part rest) }
-
-pub Pairwise-push : {X Y : Type 0} (R : X → Y → Type 0) (xs : List X) (ys : List Y) (x : X) (y : Y) → Pairwise R xs ys → R x y → Pairwise R (xs ++ x ∷ []) (ys ++ y ∷ [])
-Pairwise-push R [] [] x y h r = (r, tt)
-Pairwise-push R (a ∷ xs) (b ∷ ys) x y h r = (h.0, Pairwise-push R xs ys x y h.1 r)
-Pairwise-push R [] (b ∷ ys) x y h r = absurd h
-Pairwise-push R (a ∷ xs) [] x y h r = absurd h
-
-pub ends_small : (image bytes : List ℕ) → EndsWith image bytes → length bytes ≤ length image
-ends_small image bytes e = omega (arith, ap length e.is, length-append e.before bytes)
 
 more_long : {A : Type 0} (spell : A → List ℕ) (xs : List A) (x : A) → length (flat_map spell (xs ++ x ∷ [])) ≡ length (flat_map spell xs) + length (spell x)
 more_long spell [] x =
@@ -88,8 +72,3 @@ pub placed_end : {S A : Type 0} (item : S → Reader ImageFault A) (after : S �
     → n ≤ i → Placed item after spell image from (n - i) s bytes table all → IsTable spell image from table bytes all
 placed_end item after spell image from n i s bytes table all le p =
     record { items = p.along.front; reads = along_end item after n i s bytes all le p.along; places = p.places; starts = p.starts; took = p.took; ends = p.ends }
-
-pub ends_bytes : (image bytes : List ℕ) → IsBytes image → EndsWith image bytes → IsBytes bytes
-ends_bytes image bytes b e k =
-    let same : get_or image (length e.before + k) 0 ≡ get_or bytes k 0 = ap (λ (t : List ℕ). get_or t (length e.before + k) 0) e.is ∙ get_or-append-add e.before bytes k 0 in
-    subst (λ (n : ℕ). n < 256) same (b (length e.before + k))

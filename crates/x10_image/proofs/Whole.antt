@@ -8,14 +8,15 @@ use Rattle.x10_model.specs.ReadingImages.{ImageFault, Short, Trailing, Entry, he
 use Rattle.x10_model.proofs.ReaderLaws.{same, bind_is, bind_ok}
 use Rattle.x10_model.proofs.PartLaws.{int_reads, each_reads}
 use Rattle.x10_model.proofs.ImageLaws.{header_reads, module_takes, module_again}
+use Rattle.x10_model.specs.Offsets.{StandsAt, EndsWith, AreAt}
+use Rattle.x10_model.proofs.Offsets.{place_is, still_ends, ends_bytes}
 use Rattle.x10_image.specs.declared.header.Header.{Header as KeptHeader}
 use Rattle.x10_image.specs.declared.fault.ImageFault.{ImageFault as RustFault}
 use Rattle.x10_image.specs.Faults.{IsFault, IsFaultOrMemory, Gives}
 use Rattle.x10_image.specs.Headers.{seen}
-use Rattle.x10_image.specs.Places.{StandsAt, EndsWith, AreAt, AreFrom, IsTable}
+use Rattle.x10_image.specs.Places.{AreFrom, IsTable}
 use Rattle.x10_image.specs.Parts.{classes_from, texts_from, functions_from}
 use Rattle.x10_image.specs.Views.{module_in, IsView}
-use Rattle.x10_image.proofs.TableLoops.{place_is, still_ends, ends_bytes}
 use Rattle.x10_image.proofs.Loops.{lenient}
 
 -- ---- the reader, step by step

@@ -10,6 +10,7 @@ use Rattle.std.specs.Str.{is_utf8}
 use Rattle.std.specs.String.{string_bytes}
 use Rattle.std.proofs.lemmas.Option.{slice_get-map}
 use Rattle.std.proofs.lemmas.Str.{IsUtf8-from_is_utf8, is_utf8-from_IsUtf8}
+use Rattle.std.proofs.lemmas.Bool.{and_from, and_parts}
 use Rattle.x10_kinds.specs.declared.kind.Kind.{Kind}
 use Rattle.x10_kinds.specs.declared.kind.Kind.TheVariants as kind
 use Rattle.x10_code.specs.declared.instr.Instr.{Instr}
@@ -20,29 +21,29 @@ use Rattle.x10_model.specs.Ranges.{instr_at, instr_in}
 use Rattle.x10_model.specs.ReadingImages.{is_within, is_entry}
 use Rattle.x10_model.specs.declared.slot.Slot.{Slot}
 use Rattle.x10_model.specs.Images.{Header, header_of, header_bytes, class_bytes, int_bytes, text_bytes, function_bytes, spelling}
-use Rattle.x10_model.proofs.ReaderLaws.{and_both, and_of}
 use Rattle.x10_model.proofs.ImageParts.{within_of, of_within}
 use Rattle.x10_image.specs.declared.module.Module.{Module}
 use Rattle.x10_image.specs.declared.module.Function.{Function}
 use Rattle.x10_image.specs.declared.fault.ImageFault.{ImageFault}
 use Rattle.x10_image.specs.declared.fault.ImageFault.TheVariants as fault
-use Rattle.x10_image.specs.Written.{function_shown, shown, names_below, slot_fits, result_fits, instr_fits, text_fits, counts_of_function, tables_fit, items_fit, kinds_of_function, kinds_fit, entry_fits, Hinders, Passes}
-use Rattle.x10_image.proofs.Accessors.{all_at}
+use Rattle.x10_image.specs.Written.{function_shown, shown, names_below, slot_fits, result_fits, instr_fits, text_fits, signature_fits, counts_of_function, tables_fit, items_fit, kinds_of_function, kinds_fit, entry_fits, Hinders, Passes}
+use Rattle.x10_model.proofs.Lists.{all_at}
+use Rattle.x10_model.proofs.ImageLaws.{no_result, of_no_result}
 
 -- ---- lists of tests
 
 pub list_all_true : {A : Type 0} (p : A → Bool) (xs : List A) (i : ℕ) (x : A) → list_all p xs ≡ true → slice_get xs i ≡ Some x → p x ≡ true
 list_all_true p [] i x h e = absurd cc
-list_all_true p (y ∷ xs) zero x h e = let is : y ≡ x = cc in ap p (sym is) ∙ (and_both (p y) (list_all p xs) h).0
-list_all_true p (y ∷ xs) (suc i) x h e = list_all_true p xs i x (and_both (p y) (list_all p xs) h).1 e
+list_all_true p (y ∷ xs) zero x h e = let is : y ≡ x = cc in ap p (sym is) ∙ (and_parts (p y) (list_all p xs) h).0
+list_all_true p (y ∷ xs) (suc i) x h e = list_all_true p xs i x (and_parts (p y) (list_all p xs) h).1 e
 
 all_from : {A : Type 0} (p : A → Bool) (P : A → Type 0) → ((x : A) → p x ≡ true → P x) → (xs : List A) → list_all p xs ≡ true → AllByRecursion P xs
 all_from p P each [] h = tt
-all_from p P each (x ∷ xs) h = let b = and_both (p x) (list_all p xs) h in (each x b.0, all_from p P each xs b.1)
+all_from p P each (x ∷ xs) h = let b = and_parts (p x) (list_all p xs) h in (each x b.0, all_from p P each xs b.1)
 
 all_to : {A : Type 0} (p : A → Bool) (P : A → Type 0) → ((x : A) → P x → p x ≡ true) → (xs : List A) → AllByRecursion P xs → list_all p xs ≡ true
 all_to p P each [] h = refl
-all_to p P each (x ∷ xs) h = and_of (p x) (list_all p xs) (each x h.0) (all_to p P each xs h.1)
+all_to p P each (x ∷ xs) h = and_from (p x) (list_all p xs) (each x h.0) (all_to p P each xs h.1)
 
 all_map : {A B : Type 0} (f : A → B) (P : B → Type 0) → (xs : List A) → AllByRecursion (λ x. P (f x)) xs → AllByRecursion P (map f xs)
 all_map f P [] h = tt
@@ -86,11 +87,11 @@ flag_to false takes h = refl
 
 slot_from : (classes : ℕ) (s : Slot) → slot_fits classes s ≡ true → FitsSlot classes s
 slot_from classes s h =
-    let b = and_both (names_below classes s.kind) (not s.home_here || takes_flag s.kind) h in
+    let b = and_parts (names_below classes s.kind) (not s.home_here || takes_flag s.kind) h in
     record { class = names_from classes s.kind b.0; flag = flag_from s.home_here (takes_flag s.kind) b.1 }
 
 slot_to : (classes : ℕ) (s : Slot) → FitsSlot classes s → slot_fits classes s ≡ true
-slot_to classes s h = and_of (names_below classes s.kind) (not s.home_here || takes_flag s.kind) (names_to classes s.kind h.class) (flag_to s.home_here (takes_flag s.kind) h.flag)
+slot_to classes s h = and_from (names_below classes s.kind) (not s.home_here || takes_flag s.kind) (names_to classes s.kind h.class) (flag_to s.home_here (takes_flag s.kind) h.flag)
 
 result_from : (classes : ℕ) (r : Option Slot) → result_fits classes r ≡ true → IfSome r (FitsSlot classes)
 result_from classes None h = tt
@@ -104,23 +105,23 @@ result_to classes (Some s) h = slot_to classes s h
 
 instr_from : (i : Instr) → instr_fits i ≡ true → IsBrought i
 instr_from i h =
-    let b5 = and_both _ (is_brought i.op) h in
-    let b4 = and_both _ (fits_form i) b5.0 in
-    let b3 = and_both _ (ltb i.x (2 ^ 32)) b4.0 in
-    let b2 = and_both _ (ltb i.c 256) b3.0 in
-    let b1 = and_both (ltb i.a 256) (ltb i.b 256) b2.0 in
+    let b5 = and_parts _ (is_brought i.op) h in
+    let b4 = and_parts _ (fits_form i) b5.0 in
+    let b3 = and_parts _ (ltb i.x (2 ^ 32)) b4.0 in
+    let b2 = and_parts _ (ltb i.c 256) b3.0 in
+    let b1 = and_parts (ltb i.a 256) (ltb i.b 256) b2.0 in
     record { instr = record { a = ltb-true i.a 256 b1.0; b = ltb-true i.b 256 b1.1; c = ltb-true i.c 256 b2.1; x = ltb-true i.x (2 ^ 32) b3.1; form = b4.1 }; brought = b5.1 }
 
 instr_to : (i : Instr) → IsBrought i → instr_fits i ≡ true
-instr_to i h = and_of _ (is_brought i.op) (and_of _ (fits_form i) (and_of _ (ltb i.x (2 ^ 32)) (and_of _ (ltb i.c 256) (and_of (ltb i.a 256) (ltb i.b 256) (lt-ltb i.a 256 h.instr.a) (lt-ltb i.b 256 h.instr.b)) (lt-ltb i.c 256 h.instr.c)) (lt-ltb i.x (2 ^ 32) h.instr.x)) h.instr.form) h.brought
+instr_to i h = and_from _ (is_brought i.op) (and_from _ (fits_form i) (and_from _ (ltb i.x (2 ^ 32)) (and_from _ (ltb i.c 256) (and_from (ltb i.a 256) (ltb i.b 256) (lt-ltb i.a 256 h.instr.a) (lt-ltb i.b 256 h.instr.b)) (lt-ltb i.c 256 h.instr.c)) (lt-ltb i.x (2 ^ 32) h.instr.x)) h.instr.form) h.brought
 
 -- ---- texts
 
 text_from : (t : List ℕ) → text_fits t ≡ true → FitsText t
-text_from t h = let b = and_both (ltb (length t) (2 ^ 16)) (is_utf8 t) h in record { length = ltb-true (length t) (2 ^ 16) b.0; utf8 = IsUtf8-from_is_utf8 t b.1 }
+text_from t h = let b = and_parts (ltb (length t) (2 ^ 16)) (is_utf8 t) h in record { length = ltb-true (length t) (2 ^ 16) b.0; utf8 = IsUtf8-from_is_utf8 t b.1 }
 
 text_to : (t : List ℕ) → FitsText t → text_fits t ≡ true
-text_to t h = and_of (ltb (length t) (2 ^ 16)) (is_utf8 t) (lt-ltb (length t) (2 ^ 16) h.length) (is_utf8-from_IsUtf8 t h.utf8)
+text_to t h = and_from (ltb (length t) (2 ^ 16)) (is_utf8 t) (lt-ltb (length t) (2 ^ 16) h.length) (is_utf8-from_IsUtf8 t h.utf8)
 
 -- ---- functions
 
@@ -133,30 +134,35 @@ pub record Counts (f : model.Function) : Type 0 where
 
 pub counts_from : (f : model.Function) → counts_of_function f ≡ true → Counts f
 counts_from f h =
-    let b4 = and_both _ (is_within 1 4096 (length f.code)) h in
-    let b3 = and_both _ (leb f.loops 8) b4.0 in
-    let b2 = and_both _ (leb (length f.parameters) f.registers) b3.0 in
-    let b1 = and_both (leb (length f.parameters) 16) (is_within 1 64 f.registers) b2.0 in
+    let b4 = and_parts (signature_fits f) (is_within 1 4096 (length f.code)) h in
+    let b3 = and_parts _ (leb (length f.parameters) 16) b4.0 in
+    let b2 = and_parts _ (leb f.loops 8) b3.0 in
+    let b1 = and_parts (is_within 1 64 f.registers) (leb (length f.parameters) f.registers) b2.0 in
     record {
-      parameters = leb-true (length f.parameters) 16 b1.0;
-      registers = of_within 1 64 f.registers b1.1;
-      room = leb-true (length f.parameters) f.registers b2.1;
-      loops = leb-true f.loops 8 b3.1;
+      parameters = leb-true (length f.parameters) 16 b3.1;
+      registers = of_within 1 64 f.registers b1.0;
+      room = leb-true (length f.parameters) f.registers b1.1;
+      loops = leb-true f.loops 8 b2.1;
       code = of_within 1 4096 (length f.code) b4.1;
     }
 
 counts_to : (classes : ℕ) (f : model.Function) → FitsFunction classes f → counts_of_function f ≡ true
 counts_to classes f h =
-    and_of _ (is_within 1 4096 (length f.code)) (and_of _ (leb f.loops 8) (and_of _ (leb (length f.parameters) f.registers) (and_of (leb (length f.parameters) 16) (is_within 1 64 f.registers)
-    (le-leb (length f.parameters) 16 h.parameters) (within_of 1 64 f.registers h.registers.0 h.registers.1)) (le-leb (length f.parameters) f.registers h.room)) (le-leb f.loops 8 h.loops)) (within_of 1 4096 (length f.code) h.length.0 h.length.1)
+    and_from (signature_fits f) (is_within 1 4096 (length f.code))
+    (and_from _ (leb (length f.parameters) 16)
+    (and_from _ (leb f.loops 8)
+    (and_from (is_within 1 64 f.registers) (leb (length f.parameters) f.registers) (within_of 1 64 f.registers h.registers.0 h.registers.1) (le-leb (length f.parameters) f.registers h.room))
+    (le-leb f.loops 8 h.loops))
+    (le-leb (length f.parameters) 16 h.parameters))
+    (within_of 1 4096 (length f.code) h.length.0 h.length.1)
 
 kinds_to : (classes : ℕ) (f : model.Function) → FitsFunction classes f → kinds_of_function classes f ≡ true
-kinds_to classes f h = and_of (list_all (slot_fits classes) f.parameters) (result_fits classes f.result) (all_to (slot_fits classes) (FitsSlot classes) (slot_to classes) f.parameters h.slots) (result_to classes f.result h.result)
+kinds_to classes f h = and_from (list_all (slot_fits classes) f.parameters) (result_fits classes f.result) (all_to (slot_fits classes) (FitsSlot classes) (slot_to classes) f.parameters h.slots) (result_to classes f.result h.result)
 
 function_from : (classes : ℕ) (f : model.Function) → counts_of_function f ≡ true → kinds_of_function classes f ≡ true → list_all instr_fits f.code ≡ true → FitsFunction classes f
 function_from classes f h k i =
     let c = counts_from f h in
-    let b = and_both (list_all (slot_fits classes) f.parameters) (result_fits classes f.result) k in
+    let b = and_parts (list_all (slot_fits classes) f.parameters) (result_fits classes f.result) k in
     record {
       parameters = c.parameters;
       registers = c.registers;
@@ -171,48 +177,40 @@ function_from classes f h k i =
 functions_from : (classes : ℕ) (fs : List Function) → list_all (λ f. counts_of_function (function_shown f)) fs ≡ true → list_all (λ f. kinds_of_function classes (function_shown f)) fs ≡ true → list_all (λ f. list_all instr_fits f.code.items) fs ≡ true → AllByRecursion (FitsFunction classes) (map function_shown fs)
 functions_from classes [] h k i = tt
 functions_from classes (f ∷ fs) h k i =
-    let a = and_both (counts_of_function (function_shown f)) (list_all (λ g. counts_of_function (function_shown g)) fs) h in
-    let b = and_both (kinds_of_function classes (function_shown f)) (list_all (λ g. kinds_of_function classes (function_shown g)) fs) k in
-    let c = and_both (list_all instr_fits f.code.items) (list_all (λ g. list_all instr_fits g.code.items) fs) i in
+    let a = and_parts (counts_of_function (function_shown f)) (list_all (λ g. counts_of_function (function_shown g)) fs) h in
+    let b = and_parts (kinds_of_function classes (function_shown f)) (list_all (λ g. kinds_of_function classes (function_shown g)) fs) k in
+    let c = and_parts (list_all instr_fits f.code.items) (list_all (λ g. list_all instr_fits g.code.items) fs) i in
     (function_from classes (function_shown f) a.0 b.0 c.0, functions_from classes fs a.1 b.1 c.1)
 
 -- ---- the entry
 
-none_of : (r : Option Slot) → is_none r ≡ true → IfSome r (λ s. ⊥)
-none_of None h = tt
-none_of (Some s) h = absurd cc
-
-of_none : (r : Option Slot) → IfSome r (λ s. ⊥) → is_none r ≡ true
-of_none None h = refl
-of_none (Some s) h = absurd h
-
 entry_from : (o : Option model.Function) → is_entry o ≡ true → (f : model.Function) × (o ≡ Some f) × IsEntry f
 entry_from None h = absurd cc
 entry_from (Some f) h =
-    let b = and_both (eqb (length f.parameters) 0) (is_none f.result) h in
-    (f, refl, record { parameters = omega (arith, eqb-true (length f.parameters) 0 b.0); result = none_of f.result b.1 })
+    let b = and_parts (eqb (length f.parameters) 0) (is_none f.result) h in
+    (f, refl, record { parameters = omega (arith, eqb-true (length f.parameters) 0 b.0); result = of_no_result f.result b.1 })
 
 entry_to : (o : Option model.Function) (f : model.Function) → o ≡ Some f → IsEntry f → is_entry o ≡ true
-entry_to o f e h = ap is_entry e ∙ and_of (eqb (length f.parameters) 0) (is_none f.result) (eq-eqb (length f.parameters) 0 (omega (arith, h.parameters))) (of_none f.result h.result)
+entry_to o f e h = ap is_entry e ∙ and_from (eqb (length f.parameters) 0) (is_none f.result) (eq-eqb (length f.parameters) 0 (omega (arith, h.parameters))) (no_result f.result h.result)
 
 -- ---- the whole
 
 fields_from : (classes : ℕ) (cs : List (Vec Kind Global)) → list_all (λ c. leb (length c.items) 16) cs ≡ true → list_all (λ c. list_all (names_below classes) c.items) cs ≡ true → AllByRecursion (FitsClass classes) (map (λ c. c.items) cs)
 fields_from classes [] h k = tt
 fields_from classes (c ∷ cs) h k =
-    let a = and_both (leb (length c.items) 16) (list_all (λ d. leb (length d.items) 16) cs) h in
-    let b = and_both (list_all (names_below classes) c.items) (list_all (λ d. list_all (names_below classes) d.items) cs) k in
+    let a = and_parts (leb (length c.items) 16) (list_all (λ d. leb (length d.items) 16) cs) h in
+    let b = and_parts (list_all (names_below classes) c.items) (list_all (λ d. list_all (names_below classes) d.items) cs) k in
     (record { count = leb-true (length c.items) 16 a.0; kinds = all_from (names_below classes) (NamesClassBelow classes) (names_from classes) c.items b.0 }, fields_from classes cs a.1 b.1)
 
 pub passes_fits : (m : Module) → Passes m → AllByRecursion (FitsSigned w64) m.ints.items → FitsImage (shown m)
 passes_fits m p ints =
-    let t4 = and_both _ (is_within 1 256 (length m.functions.items)) p.tables in
-    let t3 = and_both _ (ltb (length m.texts.items) (2 ^ 16)) t4.0 in
-    let t2 = and_both _ (ltb (length m.ints.items) (2 ^ 16)) t3.0 in
-    let t1 = and_both (is_within 1 64 m.least_places) (ltb (length m.classes.items) (2 ^ 16)) t2.0 in
-    let i2 = and_both _ (list_all (λ f. counts_of_function (function_shown f)) m.functions.items) p.items in
-    let i1 = and_both (list_all (λ c. leb (length c.items) 16) m.classes.items) (list_all (λ t. text_fits (string_bytes t)) m.texts.items) i2.0 in
-    let k = and_both (list_all (λ c. list_all (names_below (length m.classes.items)) c.items) m.classes.items) (list_all (λ f. kinds_of_function (length m.classes.items) (function_shown f)) m.functions.items) p.kinds in
+    let t4 = and_parts _ (is_within 1 256 (length m.functions.items)) p.tables in
+    let t3 = and_parts _ (ltb (length m.texts.items) (2 ^ 16)) t4.0 in
+    let t2 = and_parts _ (ltb (length m.ints.items) (2 ^ 16)) t3.0 in
+    let t1 = and_parts (is_within 1 64 m.least_places) (ltb (length m.classes.items) (2 ^ 16)) t2.0 in
+    let i2 = and_parts _ (list_all (λ f. counts_of_function (function_shown f)) m.functions.items) p.items in
+    let i1 = and_parts (list_all (λ c. leb (length c.items) 16) m.classes.items) (list_all (λ t. text_fits (string_bytes t)) m.texts.items) i2.0 in
+    let k = and_parts (list_all (λ c. list_all (names_below (length m.classes.items)) c.items) m.classes.items) (list_all (λ f. kinds_of_function (length m.classes.items) (function_shown f)) m.functions.items) p.kinds in
     let classes_long : length (map (λ c. c.items) m.classes.items) ≡ length m.classes.items = length-map m.classes.items (λ c. c.items) in
     let texts_long : length (map string_bytes m.texts.items) ≡ length m.texts.items = length-map m.texts.items string_bytes in
     let functions_long : length (map function_shown m.functions.items) ≡ length m.functions.items = length-map m.functions.items function_shown in
@@ -236,7 +234,7 @@ tables_to m h =
     let classes_long : length (map (λ c. c.items) m.classes.items) ≡ length m.classes.items = length-map m.classes.items (λ c. c.items) in
     let texts_long : length (map string_bytes m.texts.items) ≡ length m.texts.items = length-map m.texts.items string_bytes in
     let functions_long : length (map function_shown m.functions.items) ≡ length m.functions.items = length-map m.functions.items function_shown in
-    and_of _ (is_within 1 256 (length m.functions.items)) (and_of _ (ltb (length m.texts.items) (2 ^ 16)) (and_of _ (ltb (length m.ints.items) (2 ^ 16)) (and_of (is_within 1 64 m.least_places) (ltb (length m.classes.items) (2 ^ 16))
+    and_from _ (is_within 1 256 (length m.functions.items)) (and_from _ (ltb (length m.texts.items) (2 ^ 16)) (and_from _ (ltb (length m.ints.items) (2 ^ 16)) (and_from (is_within 1 64 m.least_places) (ltb (length m.classes.items) (2 ^ 16))
     (within_of 1 64 m.least_places h.least_places.0 h.least_places.1)
     (lt-ltb (length m.classes.items) (2 ^ 16) (omega (arith, classes_long, h.classes))))
     (lt-ltb (length m.ints.items) (2 ^ 16) h.ints.0))
@@ -246,7 +244,7 @@ tables_to m h =
 items_to : (m : Module) → FitsImage (shown m) → items_fit m ≡ true
 items_to m h =
     let classes = length (shown m).classes in
-    and_of _ (list_all (λ f. counts_of_function (function_shown f)) m.functions.items) (and_of (list_all (λ c. leb (length c.items) 16) m.classes.items) (list_all (λ t. text_fits (string_bytes t)) m.texts.items)
+    and_from _ (list_all (λ f. counts_of_function (function_shown f)) m.functions.items) (and_from (list_all (λ c. leb (length c.items) 16) m.classes.items) (list_all (λ t. text_fits (string_bytes t)) m.texts.items)
     (all_to (λ c. leb (length c.items) 16) (λ c. FitsClass classes c.items) (λ c g. le-leb (length c.items) 16 g.count) m.classes.items (all_unmap (λ c. c.items) (FitsClass classes) m.classes.items h.fields))
     (all_to (λ t. text_fits (string_bytes t)) (λ t. FitsText (string_bytes t)) (λ t. text_to (string_bytes t)) m.texts.items (all_unmap string_bytes FitsText m.texts.items h.texts.1)))
     (all_to (λ f. counts_of_function (function_shown f)) (λ f. FitsFunction classes (function_shown f)) (λ f. counts_to classes (function_shown f)) m.functions.items (all_unmap function_shown (FitsFunction classes) m.functions.items h.functions.2))
@@ -257,7 +255,7 @@ kinds_fit_to m h =
     let long : length (map (λ c. c.items) m.classes.items) ≡ n = length-map m.classes.items (λ c. c.items) in
     let fields : AllByRecursion (FitsClass n) (map (λ c. c.items) m.classes.items) = subst (λ (k : ℕ). AllByRecursion (FitsClass k) (map (λ c. c.items) m.classes.items)) long h.fields in
     let functions : AllByRecursion (FitsFunction n) (map function_shown m.functions.items) = subst (λ (k : ℕ). AllByRecursion (FitsFunction k) (map function_shown m.functions.items)) long h.functions.2 in
-    and_of (list_all (λ c. list_all (names_below n) c.items) m.classes.items) (list_all (λ f. kinds_of_function n (function_shown f)) m.functions.items)
+    and_from (list_all (λ c. list_all (names_below n) c.items) m.classes.items) (list_all (λ f. kinds_of_function n (function_shown f)) m.functions.items)
     (all_to (λ c. list_all (names_below n) c.items) (λ c. FitsClass n c.items) (λ c g. all_to (names_below n) (NamesClassBelow n) (names_to n) c.items g.kinds) m.classes.items (all_unmap (λ c. c.items) (FitsClass n) m.classes.items fields))
     (all_to (λ f. kinds_of_function n (function_shown f)) (λ f. FitsFunction n (function_shown f)) (λ f. kinds_to n (function_shown f)) m.functions.items (all_unmap function_shown (FitsFunction n) m.functions.items functions))
 
@@ -267,7 +265,7 @@ instr_there m f pc (Some g) i h e is = all_at IsBrought g.code pc i (all_at (Fit
 
 -- where something hinders it, no bytes spell it
 pub hindered : (m : Module) (e : ImageFault) → Hinders e m → FitsImage (shown m) → ⊥
-hindered m fault.Count h fits = not_both (tables_fit m && items_fit m) (and_of (tables_fit m) (items_fit m) (tables_to m fits) (items_to m fits)) h
+hindered m fault.Count h fits = not_both (tables_fit m && items_fit m) (and_from (tables_fit m) (items_fit m) (tables_to m fits) (items_to m fits)) h
 hindered m fault.Kind h fits = not_both (kinds_fit m) (kinds_fit_to m fits) h
 hindered m (fault.Code f pc) h fits = not_both (instr_fits h.0) (instr_to h.0 (instr_there m f pc (slice_get (shown m).functions f) h.0 fits refl h.1)) h.2
 hindered m fault.Entry h fits = not_both (entry_fits m) (entry_to (slice_get (map function_shown m.functions.items) m.entry) fits.entry.0 fits.entry.1 fits.entry.2) h
@@ -297,7 +295,7 @@ header_is m h e = e ∙ rw (length-map m.classes.items (λ c. c.items), length-m
 
 pub code_few : (m : Module) (i : ℕ) (f : Function) → items_fit m ≡ true → slice_get m.functions.items i ≡ Some f → length f.code.items ≤ 4096
 code_few m i f h e =
-    let b = and_both _ (list_all (λ g. counts_of_function (function_shown g)) m.functions.items) h in
+    let b = and_parts _ (list_all (λ g. counts_of_function (function_shown g)) m.functions.items) h in
     (counts_from (function_shown f) (list_all_true (λ g. counts_of_function (function_shown g)) m.functions.items i f b.1 e)).code.1
 
 pub shown_instr : (m : Module) (i pc : ℕ) (f : Function) (j : Instr) → slice_get m.functions.items i ≡ Some f → slice_get f.code.items pc ≡ Some j → instr_at (shown m) i pc ≡ Some j

@@ -2,6 +2,7 @@
 use Rattle.std.specs.Prelude.{◌≡◌, ℕ, zero, suc, ◌+◌, ◌*◌, ◌≤◌, ◌==◌, List, [], ◌∷◌, ◌++◌, length, Option, Some, None, IfSome, slice_index, slice_range, take}
 use Rattle.std.specs.List.{AllByRecursion, flat_map}
 use Rattle.std.specs.Int.{w16, from_be_bytes}
+use Rattle.x10_model.specs.declared.limits.TheConstants.{MOST_LOOPS, MOST_PARAMETERS, MOST_REGISTERS}
 use Rattle.x10_kinds.specs.declared.kind.Kind.{Kind}
 use Rattle.x10_kinds.specs.declared.kind.Kind.TheVariants as kind
 use Rattle.x10_code.specs.declared.instr.Instr.{Instr}
@@ -26,10 +27,10 @@ signature_bytes s = (length s.parameters ∷ s.registers ∷ s.loops ∷ 0 ∷ [
 
 -- what holds of each function's signature, in a module with so many classes
 pub record FitsSignature (classes : ℕ) (s : Signature) : Type 0 where
-  pub parameters_fit : length s.parameters ≤ 16
-  pub registers_fit : (1 ≤ s.registers) × (s.registers ≤ 64)
+  pub parameters_fit : length s.parameters ≤ MOST_PARAMETERS
+  pub registers_fit : (1 ≤ s.registers) × (s.registers ≤ MOST_REGISTERS)
   pub room : length s.parameters ≤ s.registers
-  pub loops_fit : s.loops ≤ 8
+  pub loops_fit : s.loops ≤ MOST_LOOPS
   pub slots : AllByRecursion (FitsSlot classes) s.parameters
   pub result_fits : IfSome s.result (FitsSlot classes)
 

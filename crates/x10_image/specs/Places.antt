@@ -3,22 +3,9 @@ use Rattle.std.specs.Prelude.{◌≡◌, ℕ, ◌+◌, ◌-◌, List, [], ◌∷
 use Rattle.std.specs.List.{flat_map}
 use Rattle.x10_model.specs.Maps.{Pairwise}
 use Rattle.x10_model.specs.ReadingImages as reading
+use Rattle.x10_model.specs.Offsets.{EndsWith, AreAt}
 use Rattle.x10_image.specs.declared.fault.ImageFault.{ImageFault}
 use Rattle.x10_image.specs.Faults.{named, IsFaultOrMemory}
-
--- the part stands at this place of the bytes
-pub record StandsAt (bytes : List ℕ) (at : ℕ) (part : List ℕ) : Type 0 where
-  pub rest : List ℕ
-  pub is : drop at bytes ≡ part ++ rest
-
--- the bytes end so
-pub record EndsWith (bytes rest : List ℕ) : Type 0 where
-  pub before : List ℕ
-  pub is : bytes ≡ before ++ rest
-
--- the place of each item's spelling
-abbrev pub AreAt : {A : Type 0} → (A → List ℕ) → List ℕ → List ℕ → List A → Type 0
-AreAt spell bytes table xs = Pairwise (λ at x. StandsAt bytes at (spell x)) table xs
 
 -- the places of items that stand one after the other, from a place on
 abbrev pub AreFrom : {A : Type 0} → (A → List ℕ) → ℕ → List ℕ → List A → Type 0

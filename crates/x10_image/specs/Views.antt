@@ -4,9 +4,10 @@ use Rattle.std.specs.List.{flat_map}
 use Rattle.x10_model.specs.Modules.{Module, FitsImage}
 use Rattle.x10_model.specs.Images.{class_bytes, int_bytes, text_bytes, function_bytes, header_of, spelling}
 use Rattle.x10_model.specs.ReadingImages.{ImageFault, module_at}
+use Rattle.x10_model.specs.Offsets.{StandsAt, AreAt}
 use Rattle.x10_image.specs.declared.header.Header.{Header}
 use Rattle.x10_image.specs.Headers.{seen}
-use Rattle.x10_image.specs.Places.{StandsAt, AreAt, AreFrom}
+use Rattle.x10_image.specs.Places.{AreFrom}
 use Rattle.x10_image.specs.Parts.{texts_from, functions_from}
 
 abbrev pub read_or_empty : Result Module ImageFault → Module

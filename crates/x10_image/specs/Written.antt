@@ -3,6 +3,7 @@ use Rattle.std.specs.Prelude.{◌≡◌, ℕ, ◌^◌, Bool, true, false, not, �
 use Rattle.std.specs.List.{list_all}
 use Rattle.std.specs.String.{string_bytes}
 use Rattle.std.specs.Str.{is_utf8}
+use Rattle.x10_model.specs.declared.limits.TheConstants.{MOST_FIELDS, MOST_FUNCTIONS, MOST_INSTRUCTIONS, MOST_LOOPS, MOST_PARAMETERS, MOST_PLACES, MOST_REGISTERS}
 use Rattle.x10_kinds.specs.declared.kind.Kind.{Kind}
 use Rattle.x10_kinds.specs.declared.kind.Kind.TheVariants as kind
 use Rattle.x10_code.specs.declared.instr.Instr.{Instr}
@@ -45,22 +46,30 @@ instr_fits i = nat_lt i.a 256 && nat_lt i.b 256 && nat_lt i.c 256 && nat_lt i.x 
 abbrev pub text_fits : List ℕ → Bool
 text_fits text = nat_lt (length text) (2 ^ 16) && is_utf8 text
 
+-- how many registers, loop slots and parameters a function has is in range
+abbrev pub signature_fits : model.Function → Bool
+signature_fits f =
+    is_within 1 MOST_REGISTERS f.registers
+    && nat_le (length f.parameters) f.registers
+    && nat_le f.loops MOST_LOOPS
+    && nat_le (length f.parameters) MOST_PARAMETERS
+
 abbrev pub counts_of_function : model.Function → Bool
-counts_of_function f = nat_le (length f.parameters) 16 && is_within 1 64 f.registers && nat_le (length f.parameters) f.registers && nat_le f.loops 8 && is_within 1 4096 (length f.code)
+counts_of_function f = signature_fits f && is_within 1 MOST_INSTRUCTIONS (length f.code)
 
 -- the numbers of the header are in their ranges
 abbrev pub tables_fit : Module → Bool
 tables_fit m =
-    is_within 1 64 m.least_places
+    is_within 1 MOST_PLACES m.least_places
     && nat_lt (length m.classes.items) (2 ^ 16)
     && nat_lt (length m.ints.items) (2 ^ 16)
     && nat_lt (length m.texts.items) (2 ^ 16)
-    && is_within 1 256 (length m.functions.items)
+    && is_within 1 MOST_FUNCTIONS (length m.functions.items)
 
 -- those of the classes, texts and functions are
 abbrev pub items_fit : Module → Bool
 items_fit m =
-    list_all (λ c. nat_le (length c.items) 16) m.classes.items
+    list_all (λ c. nat_le (length c.items) MOST_FIELDS) m.classes.items
     && list_all (λ t. text_fits (string_bytes t)) m.texts.items
     && list_all (λ f. counts_of_function (function_shown f)) m.functions.items
 

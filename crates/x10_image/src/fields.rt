@@ -8,6 +8,7 @@ ghost use Rattle.x10_image.specs.Faults.{Answers};
 
 use crate::fault::ImageFault;
 use byteorder::{BigEndian, ByteOrder};
+use x10_model::limits::MOST_REGISTERS;
 
 /// One byte, and the bytes after it.
 #[tactic(auto, unfolding(x10_model::specs::Readers::byte))]
@@ -71,7 +72,7 @@ pub fn registers_at(bytes: &[u8], parameters: u8) -> Result<(u8, &[u8]), ImageFa
     ensures exact { Answers (λ x. (x.0, x.1.now)) result (such_that (byte Short) (λ n. is_within 1 64 n && nat_le parameters n) Count bytes.now) }
 {
     let (registers, bytes) = byte_at(bytes)?;
-    if !(1..=64).contains(&registers) || registers < parameters {
+    if !(1..=MOST_REGISTERS).contains(&registers) || registers < parameters {
         return Err(ImageFault::Count);
     }
     Ok((registers, bytes))

@@ -15,6 +15,10 @@ use crate::module::{Function, Module};
 use x10_code::{Instr, has_spelling};
 use x10_kinds::Kind;
 use x10_model::Slot;
+use x10_model::limits::{
+    MOST_FIELDS, MOST_FUNCTIONS, MOST_INSTRUCTIONS, MOST_LOOPS, MOST_PARAMETERS, MOST_PLACES,
+    MOST_REGISTERS,
+};
 
 fn names_below(classes: usize, kind: Kind) -> bool
     ensures { result ≡ written.names_below classes kind }
@@ -86,22 +90,29 @@ fn text_fits(text: &str) -> bool
     text.len() < 65_536
 }
 
+/// Whether a function has as many registers, loop slots and parameters as one may have.
+pub fn signature_fits(function: &Function) -> bool
+    ensures value { result ≡ written.signature_fits (function_shown function.now) }
+{
+    let parameters = function.parameters.len();
+    (1..=MOST_REGISTERS).contains(&function.registers)
+        && parameters <= usize::from(function.registers)
+        && function.loops <= MOST_LOOPS
+        && parameters <= usize::from(MOST_PARAMETERS)
+}
+
 fn counts_of_function_fit(function: &Function) -> bool
     ensures { result ≡ written.counts_of_function (function_shown function.now) }
 {
-    let parameters = function.parameters.len();
-    let registers = function.registers;
-    parameters <= 16
-        && (1..=64).contains(&registers)
-        && parameters <= usize::from(registers)
-        && function.loops <= 8
-        && (1..=4096).contains(&function.code.len())
+    signature_fits(function) && (1..=usize::from(MOST_INSTRUCTIONS)).contains(&function.code.len())
 }
 
 fn classes_are_short(classes: &[Vec<Kind>]) -> bool
     ensures { result ≡ list_all (λ c. nat_le (length c.items) 16) classes.now }
 {
-    classes.iter().all(|fields| fields.len() <= 16)
+    classes
+        .iter()
+        .all(|fields| fields.len() <= usize::from(MOST_FIELDS))
 }
 
 fn texts_fit(texts: &[String]) -> bool
@@ -122,11 +133,11 @@ fn counts_of_functions_fit(functions: &[Function]) -> bool
 fn tables_fit(source: &Module) -> bool
     ensures { result ≡ written.tables_fit source.now }
 {
-    (1..=64).contains(&source.least_places)
+    (1..=MOST_PLACES).contains(&source.least_places)
         && source.classes.len() < 65_536
         && source.ints.len() < 65_536
         && source.texts.len() < 65_536
-        && (1..=256).contains(&source.functions.len())
+        && (1..=usize::from(MOST_FUNCTIONS)).contains(&source.functions.len())
 }
 
 /// Whether the numbers of the classes, texts and functions are in their ranges.

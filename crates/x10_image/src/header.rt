@@ -9,6 +9,7 @@ ghost use Rattle.x10_image.specs.Headers.{seen};
 
 use crate::fault::ImageFault;
 use crate::fields::{after_zero_u16, has, u16_at, u16_within, u32_at};
+use x10_model::limits::{MOST_FUNCTIONS, MOST_PLACES};
 
 pub const MAGIC: u32 = 0x5831_3050;
 
@@ -55,11 +56,11 @@ pub fn read_header(bytes: &[u8]) -> Result<(Header, &[u8]), ImageFault>
     has(bytes, 20)?;
     let bytes = after_magic(bytes)?;
     let bytes = after_version(bytes)?;
-    let (least_places, bytes) = u16_within(bytes, 1, 64)?;
+    let (least_places, bytes) = u16_within(bytes, 1, MOST_PLACES)?;
     let (classes, bytes) = u16_at(bytes)?;
     let (ints, bytes) = u16_at(bytes)?;
     let (texts, bytes) = u16_at(bytes)?;
-    let (functions, bytes) = u16_within(bytes, 1, 256)?;
+    let (functions, bytes) = u16_within(bytes, 1, MOST_FUNCTIONS)?;
     let (entry, bytes) = u16_at(bytes)?;
     let bytes = after_zero_u16(bytes)?;
     let header = Header {

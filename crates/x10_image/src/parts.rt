@@ -11,6 +11,7 @@ use crate::fields::{
 };
 use crate::kinds::{kind_at, result_at, slot_at};
 use x10_code::decode_slice;
+use x10_model::limits::{MOST_FIELDS, MOST_INSTRUCTIONS, MOST_LOOPS, MOST_PARAMETERS};
 
 fn past_kinds(bytes: &[u8], count: u8, classes: u16) -> Result<&[u8], ImageFault>
     ensures exact { Passes (λ x. x.now) result (times count (kind_at classes) bytes.now) }
@@ -30,7 +31,7 @@ pub fn past_class(bytes: &[u8], classes: u16) -> Result<&[u8], ImageFault>
 {
     let (count, bytes) = byte_at(bytes)?;
     has(bytes, 3 * usize::from(count))?;
-    if count > 16 {
+    if count > MOST_FIELDS {
         return Err(ImageFault::Count);
     }
     past_kinds(bytes, count, classes)
@@ -107,15 +108,15 @@ pub fn past_function(bytes: &[u8], classes: u16, function: u16) -> Result<&[u8],
     ensures exact { Passes (λ x. x.now) result (function_at classes function bytes.now) }
 {
     has(bytes, 4)?;
-    let (parameters, bytes) = byte_at_most(bytes, 16)?;
+    let (parameters, bytes) = byte_at_most(bytes, MOST_PARAMETERS)?;
     let (_, bytes) = registers_at(bytes, parameters)?;
-    let (_, bytes) = byte_at_most(bytes, 8)?;
+    let (_, bytes) = byte_at_most(bytes, MOST_LOOPS)?;
     let bytes = after_zero_byte(bytes)?;
     has(bytes, 4 * (usize::from(parameters) + 1))?;
     let bytes = past_slots(bytes, parameters, classes)?;
     let (_, bytes) = result_at(bytes, classes)?;
     has(bytes, 4)?;
-    let (instructions, bytes) = u16_within(bytes, 1, 4096)?;
+    let (instructions, bytes) = u16_within(bytes, 1, MOST_INSTRUCTIONS)?;
     let bytes = after_zero_u16(bytes)?;
     has(bytes, 8 * usize::from(instructions))?;
     past_code(bytes, function, instructions)

@@ -3,7 +3,8 @@
 ghost use Rattle.x10_model.specs.Images.{class_bytes, text_bytes, function_bytes};
 ghost use Rattle.x10_model.specs.Readers.{times, numbered};
 ghost use Rattle.x10_model.specs.ReadingImages.{class_at, text_at, function_at};
-ghost use Rattle.x10_image.specs.Places.{EndsWith, GivesTable};
+ghost use Rattle.x10_model.specs.Offsets.{EndsWith};
+ghost use Rattle.x10_image.specs.Places.{GivesTable};
 
 use crate::fault::ImageFault;
 use crate::parts::{past_class, past_function, past_text};

@@ -6,15 +6,15 @@ ghost use Rattle.x10_model.specs.Modules.{Module, Function, FitsImage, FitsText,
 ghost use Rattle.x10_model.specs.Ranges.{function_at, instr_at};
 ghost use Rattle.x10_model.specs.Images.{class_bytes, int_bytes, function_bytes, spelling};
 ghost use Rattle.x10_model.specs.ReadingImages.{module_at, is_entry};
+ghost use Rattle.x10_model.specs.Offsets.{AreAt};
 ghost use Rattle.x10_image.specs.Faults.{Gives};
-ghost use Rattle.x10_image.specs.Places.{AreAt};
 ghost use Rattle.x10_image.specs.Parts.{IsPart, place_of_class, place_of_int, place_of_text, place_of_signature, place_of_count, place_of_code, place_of_instr, FitsSignature, signature_of, signature_bytes, code_at};
 
 use crate::class_view::ClassView;
 use crate::fault::ImageFault;
 use crate::header::{Header, read_header};
+use crate::offsets::{class_in, code_len_in, code_place, instr_in, int_in, signature_in, text_in};
 use crate::parts::past_ints;
-use crate::places::{class_in, code_len_in, code_place, instr_in, int_in, signature_in, text_in};
 use crate::sig_view::SigView;
 use crate::tables::{class_table, function_table, text_table};
 use std::alloc::Global;
@@ -232,5 +232,20 @@ impl<'a> ImageView<'a> {
     {
         let start = code_place(self.bytes, self.functions[f]);
         instr_in(self.bytes, start + 8 * pc)
+    }
+
+    /// An instruction of a function, as `instr` answers it, from the function's code that `code` handed out. For a loop
+    /// over the instructions of one function, where the function is looked up once. Constant time.
+    #[inline(always)]
+    pub fn instr_from(&self, code: &[u8], f: usize, pc: usize) -> Instr
+        requires function { f < length self.now.functions }
+        requires code { code.now ≡ flat_map instruction (code_at self.now f) }
+        requires pc { pc < length (code_at self.now f) }
+        ensures value { instr_at self.now f pc ≡ Some result }
+        ensures brought { IsBrought result }
+    {
+        let _ = &self.bytes;
+        let _ = f;
+        instr_in(code, 8 * pc)
     }
 }

@@ -4,6 +4,7 @@ use Rattle.std.specs.Bool.{if◌then◌else◌}
 use Rattle.std.specs.Prelude.{slice_get, slice_set, int_lt, nat_lt}
 use Rattle.std.specs.Ordering.{int_eq}
 use Rattle.std.specs.Int.{int_rem_euclid}
+use Rattle.std.proofs.lemmas.Option.{slice_get_within}
 use Rattle.x10_kinds.specs.declared.kind.Kind.{Kind}
 use Rattle.x10_code.specs.declared.op.Op.{Op}
 use Rattle.x10_code.specs.declared.op.Op.TheVariants as op
@@ -20,7 +21,7 @@ use Rattle.x10_model.specs.Places as places
 use Rattle.x10_model.specs.Places.{Setting, CallFrame, Origin, Stay, Export, Message, Spawn, Shift, Back, innermost, Effect, Waits, Works, Begins, Spawns, Shifts, Opens, Closes, Ends, with_stay, goes, next, writes}
 use Rattle.x10_model.specs.Moves.{Situation, Holds, Passes, GivesBack, SendsBack, Returns, as_list, resumed, entry_frame, new_stay, writes_or_goes, next_or_goes, is_zero, wrapped, quotient, remainder, truth, joined_text, rail_length, byte_at, byte_value, place_number, place_of, line_of, with_line, with_cell, MakesRail, SetsByte, index_of, Does}
 use Rattle.x10_model.specs.Wrong.{Want, Anything, AnInt, APlace, AText, ARail, AnObject, AReference, AnIntOrText, AnObjectOrNull, APlaceOrReference, Meets, asked, IsTarget, IsDetached, IsFieldOwner, IsWrongAt, operand, argument, result_dropped, new_field, no_field, put_field, away, no_export, result, finish_open, no_call, no_finish}
-use Rattle.x10_model.specs.Laws.{HasRoom}
+use Rattle.x10_model.specs.Laws.{IsSent, HasRoom}
 use Rattle.x10_model.proofs.NotWrong.{none_some, same_some, Met}
 use Rattle.x10_model.proofs.Decided.{and_then, same_or_not, get_below, met_or_not, slots_or_not, kinds_or_not, kind_or_not, gives_or_not}
 
@@ -185,22 +186,21 @@ call_or_not op.Call = inl refl
 call_or_not _ = inr (λ e. absurd cc)
 
 -- a result that was given back fits, and so it can be captured
-captured : (s : Situation) (room : HasRoom s.place) (slot : Option Slot) (v : Option Value) → GivesBack s slot v → (graph : Snapshot) × Captures s.place.cells (as_list v) graph
-captured s room None None g = room.captures s.here [] [] tt
-captured s room None (Some v) g = absurd g
-captured s room (Some slot) None g = absurd g
-captured s room (Some slot) (Some v) g = room.captures s.here (v ∷ []) (slot ∷ []) (g.1, tt)
+captured : (o : Op) (s : Situation) → HasRoom s → s.instr.op ≡ o → (vs : List Value) → IsSent s o vs → (graph : Snapshot) × Captures s.place.cells vs graph
+captured o s room e vs sent = room.captures vs (subst (λ p. IsSent s p vs) (sym e) sent)
 
-sends_back : (s : Situation) (room : HasRoom s.place) (slot : Option Slot) (v : Option Value) (back : Option Origin) → GivesBack s slot v → (message : Option Message) × SendsBack s v back message
-sends_back s room slot v None g = (None, refl)
-sends_back s room slot v (Some origin) g = let graph = captured s room slot v g in (Some (Back s.here origin.place origin.key graph.0), (graph.0, graph.1, refl))
+sends_back : (s : Situation) (room : HasRoom s) (v : Option Value) (back : Option Origin) → s.instr.op ≡ op.Ret → s.stay.callers ≡ [] → s.stay.back ≡ back → GivesBack s s.function.result v → (message : Option Message) × SendsBack s v back message
+sends_back s room v None e callers b g = (None, refl)
+sends_back s room v (Some origin) e callers b g =
+    let graph = captured op.Ret s room e (as_list v) (origin, v, callers, b, g, refl) in
+    (Some (Back s.here origin.place origin.key graph.0), (graph.0, graph.1, refl))
 
 abbrev pub CanReturn : Situation → List CallFrame → Option Value → Type 0
 CanReturn s callers v = (new : places.Place) × (effect : Effect) × Returns s callers v new effect
 
-ends_stay : (s : Situation) (room : HasRoom s.place) (v : Option Value) (finishes : List ℕ) → s.instr.op ≡ op.Ret → GivesBack s s.function.result v → s.stay.callers ≡ [] → s.stay.finishes ≡ finishes → CanReturn s [] v ⊎ IsWrongAt s
+ends_stay : (s : Situation) (room : HasRoom s) (v : Option Value) (finishes : List ℕ) → s.instr.op ≡ op.Ret → GivesBack s s.function.result v → s.stay.callers ≡ [] → s.stay.finishes ≡ finishes → CanReturn s [] v ⊎ IsWrongAt s
 ends_stay s room v [] e g callers f =
-    let message = sends_back s room s.function.result v s.stay.back g in
+    let message = sends_back s room v s.stay.back e callers refl g in
     inl (with_stay s.place s.key None, Ends s.stay.inherited message.0, (message.0, f, message.1, refl, refl))
 ends_stay s room v (n ∷ ns) e g callers f = inr (finish_open n ns e callers f)
 
@@ -211,16 +211,11 @@ ends_call s v caller callers (Some call) e cs found = elim (call_or_not call.op)
   | inr never ↦ inr (no_call caller callers e cs (λ other f o. never (ap (λ (i : Instr). i.op) (same_some (instr_at s.setting.program caller.function caller.pc) call other found f) ∙ o)))
 ]
 
-returns_to : (s : Situation) (room : HasRoom s.place) (v : Option Value) (callers : List CallFrame) → s.instr.op ≡ op.Ret → GivesBack s s.function.result v → s.stay.callers ≡ callers → CanReturn s callers v ⊎ IsWrongAt s
+returns_to : (s : Situation) (room : HasRoom s) (v : Option Value) (callers : List CallFrame) → s.instr.op ≡ op.Ret → GivesBack s s.function.result v → s.stay.callers ≡ callers → CanReturn s callers v ⊎ IsWrongAt s
 returns_to s room v [] e g cs = ends_stay s room v s.stay.finishes e g cs refl
 returns_to s room v (caller ∷ callers) e g cs = ends_call s v caller callers (instr_at s.setting.program caller.function caller.pc) e cs refl
 
 -- ---- objects
-
-some_below : {X : Type 0} (xs : List X) (i : ℕ) (x : X) → slice_get xs i ≡ Some x → i < length xs
-some_below [] i x e = absurd cc
-some_below (y ∷ ys) zero x e = omega arith
-some_below (y ∷ ys) (suc i) x e = let h : i < length ys = some_below ys i x e in omega arith
 
 get_field : (s : Situation) (r class : ℕ) (fields : List Value) (v : Option Value) → s.instr.op ≡ op.Get → Holds s s.instr.b (Object r) → s.place.cells r ≡ Some (Fields class fields) → slice_get fields s.instr.c ≡ v → Result op.Get s
 get_field s r class fields None e h c f = inr (no_field r class fields (subst (λ o. IsFieldOwner s o r) (sym e) h) c f)
@@ -242,7 +237,7 @@ put_class s r class fields v (Some kinds) e h c hv lt k = put_kind s r class fie
 
 put_value : (s : Situation) (r class : ℕ) (fields : List Value) (v : Value) (old : Option Value) → s.instr.op ≡ op.Put → Holds s s.instr.a (Object r) → s.place.cells r ≡ Some (Fields class fields) → Holds s s.instr.b v → slice_get fields s.instr.c ≡ old → Result op.Put s
 put_value s r class fields v None e h c hv f = inr (no_field r class fields (subst (λ o. IsFieldOwner s o r) (sym e) h) c f)
-put_value s r class fields v (Some old) e h c hv f = put_class s r class fields v (slice_get s.setting.program.classes class) e h c hv (some_below fields s.instr.c old f) refl
+put_value s r class fields v (Some old) e h c hv f = put_class s r class fields v (slice_get s.setting.program.classes class) e h c hv (slice_get_within fields s.instr.c old f) refl
 
 open_export : (s : Situation) (id class : ℕ) (found : Option Export) → s.instr.op ≡ op.Gopen → Holds s s.instr.b (Ref s.here id class) → slice_get s.place.exports id ≡ found → Result op.Gopen s
 open_export s id class None e h f = inr (no_export id class e h (λ object g. none_some (slice_get s.place.exports id) (record { class = class; object = object }) f g))
@@ -259,7 +254,7 @@ opens s home id class e h = elim (same_or_not home s.here) [
 
 -- ---- rails and finishes
 
-makes_rail : (s : Situation) (room : HasRoom s.place) (n : Option ℕ) → (new : places.Place) × (effect : Effect) × MakesRail s n new effect
+makes_rail : (s : Situation) (room : HasRoom s) (n : Option ℕ) → (new : places.Place) × (effect : Effect) × MakesRail s n new effect
 makes_rail s room None = (on s (goes s.stay.top s.instr.x), Works, (refl, refl))
 makes_rail s room (Some n) = (on_at s (with_cell s.place room.reference.0 (Bytes (replicate n 0))) (put s (Rail room.reference.0)), Works, (room.reference.0, room.reference.1, (refl, refl)))
 
@@ -273,7 +268,7 @@ leaves s (n ∷ ns) e f = inl (with_stay s.place s.key (Some (record s.stay { to
 
 -- ---- all operations
 
-pub step : (o : Op) (s : Situation) → s.instr.op ≡ o → IsInRange s.setting.program s.function s.instr → HasRoom s.place → Result o s
+pub step : (o : Op) (s : Situation) → s.instr.op ≡ o → IsInRange s.setting.program s.function s.instr → HasRoom s → Result o s
 step op.Intk s e range room = let z = get_below s.setting.program.ints s.instr.x (x_there op.Intk s e range) in inl (on s (put s (Int z.0)), Works, (z.0, z.1, (refl, refl)))
 step op.Textk s e range room = let z = get_below s.setting.program.texts s.instr.x (x_there op.Textk s e range) in inl (on s (put s (Text z.0)), Works, (z.0, z.1, (refl, refl)))
 step op.Move s e range room = and_then (ask op.Move s e s.instr.b Anything (0, refl)) (λ h. inl (on s (put s h.0), Works, (h.0, h.1, (refl, refl))))
@@ -344,14 +339,14 @@ step op.Async s e range room = and_then (calls op.Async s s.here e (x_there op.A
       (h.0, h.1, room.key.0, h.2, none, room.key.1, refl, refl),
     )))
 step op.At s e range room = and_then (ask_place op.At s e s.instr.c (0, refl)) (λ to. and_then (calls op.At s to.0 e (x_there op.At s e range) to.1) (λ h.
-    let graph = room.captures to.0 h.1 h.0.parameters h.2.fit in
+    let graph = captured op.At s room e h.1 (to.0, h.0, h.2) in
     inl (
       with_stay s.place s.key (Some (record s.stay { away = true })),
       Shifts (Shift s.here to.0 s.key (innermost s.here s.stay) s.instr.x graph.0) (innermost s.here s.stay),
       (h.0, h.1, to.0, graph.0, to.1, h.2, graph.1, refl, refl),
     )))
 step op.Ata s e range room = and_then (ask_place op.Ata s e s.instr.c (0, refl)) (λ to. and_then (calls op.Ata s to.0 e (x_there op.Ata s e range) to.1) (λ h. and_then (detached op.Ata s h.0 e tt h.2.callee_is) (λ none.
-    let graph = room.captures to.0 h.1 h.0.parameters h.2.fit in
+    let graph = captured op.Ata s room e h.1 (to.0, h.0, h.2) in
     inl (
       with_stay s.place s.key (Some (record s.stay { top = next s.stay.top })),
       Spawns (Spawn s.here to.0 (innermost s.here s.stay) s.instr.x graph.0) s.instr.x (innermost s.here s.stay),

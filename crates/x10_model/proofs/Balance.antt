@@ -1,29 +1,21 @@
 -- The test of balance.
 use Rattle.std.proofs.Common.{◌≡◌, ◌↔◌, ◌⊎◌, ℕ, zero, suc, ◌<◌, Bool, true, false, ◌==◌, ◌&&◌, refl, sym, subst, inl, inr, arith}
 use Rattle.std.specs.Prelude.{IsTrue}
-use Rattle.std.proofs.lemmas.Bool.{eqb-true, eq-eqb}
+use Rattle.std.proofs.lemmas.Bool.{eqb-true, eq-eqb, and_from, and_parts}
 use Rattle.x10_model.specs.Totals.{Cut, all_below, IsBalanced, is_balanced}
 
-both_true : (a b : Bool) → (a && b) ≡ true → (a ≡ true) × (b ≡ true)
-both_true true b e = (refl, e)
-both_true false b e = absurd cc
-
-true_both : (a b : Bool) → a ≡ true → b ≡ true → (a && b) ≡ true
-true_both true b e f = f
-true_both false b e f = absurd cc
-
-last_or_below : (k n : ℕ) → k < suc n → (k ≡ n) ⊎ (k < n)
+pub last_or_below : (k n : ℕ) → k < suc n → (k ≡ n) ⊎ (k < n)
 last_or_below k n lt = grind arith
 
 passes : (test : ℕ → Bool) (n k : ℕ) → all_below test n ≡ true → k < n → test k ≡ true
 passes test zero k e lt = absurd (omega arith)
 passes test (suc n) k e lt =
-    let h = both_true (all_below test n) (test n) e in
+    let h = and_parts (all_below test n) (test n) e in
     elim (last_or_below k n lt) [ inl same ↦ subst (λ j. test j ≡ true) (sym same) h.1 | inr less ↦ passes test n k h.0 less ]
 
 all_pass : (test : ℕ → Bool) (n : ℕ) → ((k : ℕ) → k < n → test k ≡ true) → all_below test n ≡ true
 all_pass test zero h = refl
-all_pass test (suc n) h = true_both (all_below test n) (test n) (all_pass test n (λ k lt. h k (omega arith))) (h n (omega arith))
+all_pass test (suc n) h = and_from (all_below test n) (test n) (all_pass test n (λ k lt. h k (omega arith))) (h n (omega arith))
 
 pub balance_is_tested : (places : ℕ) (cut : Cut) → IsTrue (is_balanced places cut) ↔ IsBalanced places cut
 balance_is_tested places cut = (

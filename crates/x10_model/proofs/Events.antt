@@ -10,7 +10,7 @@ use Rattle.x10_model.specs.Worlds.{Flying, World, Rule, Steps, Delivers, IsIdle,
 use Rattle.x10_model.proofs.NotWrong.{none_some, same_some, moves_not_wrong}
 use Rattle.x10_model.proofs.Ready.{received_fits}
 
-flying_is : (m n : Message) → Flying m ≡ Flying n → m ≡ n
+pub flying_is : (m n : Message) → Flying m ≡ Flying n → m ≡ n
 flying_is m n e = cc
 
 -- what is taken in is for the place that takes it in

@@ -1,10 +1,11 @@
 -- A frame is read again, and what is read is spelled so.
 use Rattle.std.proofs.Common.{◌≡◌, ℕ, zero, suc, ◌^◌, ◌<◌, ◌≤◌, ◌&&◌, leb, List, [], ◌++◌, Result, Ok, refl, sym, ap, subst, ◌∙◌, arith, leb-true, le-leb}
 use Rattle.std.specs.Int.{w16, w32, to_be_bytes}
+use Rattle.std.proofs.lemmas.Bool.{and_from, and_parts}
 use Rattle.x10_model.specs.Frames.{Graph, Launch, launch, Frame, Spawn, Shift, Back, Report, FitsGraph, FitsLaunch, FitsCounts, FitsBody, FitsFrame, graph_bytes, launch_bytes, counts_bytes, type_of, from_of, to_of, body_bytes, spelling}
 use Rattle.x10_model.specs.Readers.{IsBytes, number, times}
 use Rattle.x10_model.specs.ReadingFrames.{FrameFault, Short, Version, FrameType, Place, Trailing, launch_at, body_at, parts_at, frame_at}
-use Rattle.x10_model.proofs.ReaderLaws.{Reads, and_both, and_of, then_reads, last_reads, made_reads, such_that_reads, expect_reads, spelled_where}
+use Rattle.x10_model.proofs.ReaderLaws.{Reads, then_reads, last_reads, made_reads, such_that_reads, expect_reads, spelled_where}
 use Rattle.x10_model.proofs.PartLaws.{byte_reads, number_reads, each_reads, all_again, all_takes, wide16, wide32}
 use Rattle.x10_model.proofs.ItemLaws.{place_reads}
 use Rattle.x10_model.proofs.GraphLaws.{graph_reads}
@@ -156,10 +157,10 @@ unfolding parts_at spelling
 parts_read places few =
     expect_reads 1 Version (byte_reads Short) (omega arith)
     (then_reads type_of (λ y. to_be_bytes w16 (from_of y) ++ (to_be_bytes w16 (to_of y) ++ body_bytes y)) (such_that_reads (λ n. leb 1 n && leb n 4) FrameType (byte_reads Short))
-    (λ y g. let s = type_small y in (omega (arith, s), and_of (leb 1 (type_of y)) (leb (type_of y) 4) (le-leb 1 (type_of y) s.0) (le-leb (type_of y) 4 s.1))) (λ type h.
+    (λ y g. let s = type_small y in (omega (arith, s), and_from (leb 1 (type_of y)) (leb (type_of y) 4) (le-leb 1 (type_of y) s.0) (le-leb (type_of y) 4 s.1))) (λ type h.
     then_reads from_of (λ y. to_be_bytes w16 (to_of y) ++ body_bytes y) (place_reads places few) (λ y g. g.1.from) (λ from hf.
     then_reads to_of body_bytes (place_reads places few) (λ y g. g.1.1.to) (λ to ht.
-    let b = and_both (leb 1 type) (leb type 4) h.1 in
+    let b = and_parts (leb 1 type) (leb type 4) h.1 in
     body_reads places few type from to (leb-true 1 type b.0) (leb-true type 4 b.1) hf ht))))
 
 -- what is spelled is read again

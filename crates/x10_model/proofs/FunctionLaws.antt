@@ -2,6 +2,7 @@
 use Rattle.std.proofs.Common.{◌≡◌, ℕ, suc, ◌+◌, ◌*◌, ◌^◌, ◌<◌, ◌≤◌, true, ◌&&◌, leb, List, [], ◌∷◌, ◌++◌, length, Option, IfSome, refl, arith, leb-true, le-leb, flat_map, length-append}
 use Rattle.std.specs.List.{AllByRecursion}
 use Rattle.std.specs.Int.{w16, to_be_bytes}
+use Rattle.std.proofs.lemmas.Bool.{and_from, and_parts}
 use Rattle.x10_code.specs.declared.instr.Instr.{Instr}
 use Rattle.x10_code.specs.Spelling.{spelling as instruction}
 use Rattle.x10_code.proofs.Instructions.{length-spelling}
@@ -9,7 +10,7 @@ use Rattle.x10_model.specs.Modules.{Function, FitsSlot, FitsFunction, IsBrought}
 use Rattle.x10_model.specs.declared.slot.Slot.{Slot}
 use Rattle.x10_model.specs.Images.{slot_bytes, result_bytes, function_bytes}
 use Rattle.x10_model.specs.ReadingImages.{Short, Count, Reserved, is_within, function_at}
-use Rattle.x10_model.proofs.ReaderLaws.{Reads, and_both, and_of, then_reads, last_reads, need_reads, such_that_reads, expect_reads}
+use Rattle.x10_model.proofs.ReaderLaws.{Reads, then_reads, last_reads, need_reads, such_that_reads, expect_reads}
 use Rattle.x10_model.proofs.PartLaws.{byte_reads, number_reads, each_reads, wide16}
 use Rattle.x10_model.proofs.ImageParts.{within_of, of_within, length-items, instruction_reads}
 use Rattle.x10_model.proofs.KindLaws.{slot_reads, result_reads, length-slot_bytes, length-result_bytes}
@@ -56,7 +57,7 @@ fits_code : (classes : ℕ) → (n registers loops : ℕ) (parameters : List Slo
     → FitsFunction classes (fn parameters registers loops result code)
 unfolding fn
 fits_code classes n registers loops parameters result count code hn hr hl hp ho hc hi =
-    let two = and_both (is_within 1 64 registers) (leb n registers) hr in
+    let two = and_parts (is_within 1 64 registers) (leb n registers) hr in
     let bound = of_within 1 64 registers two.0 in
     let room = leb-true n registers two.1 in
     let most = of_within 0 16 n hn in
@@ -80,7 +81,7 @@ function_reads classes few function =
     (then_reads (λ f. length f.parameters) from_registers (such_that_reads (is_within 0 16) Count (byte_reads Short))
     (λ f g. (omega (arith, g.parameters), within_of 0 16 (length f.parameters) (omega arith) g.parameters)) (λ n hn.
     then_reads (λ f. f.registers) from_loops (such_that_reads (λ r. is_within 1 64 r && leb n r) Count (byte_reads Short))
-    (λ f g. (omega (arith, g.1.registers), and_of (is_within 1 64 f.registers) (leb n f.registers) (within_of 1 64 f.registers g.1.registers.0 g.1.registers.1) (le-leb n f.registers (omega (arith, g.0, g.1.room))))) (λ registers hr.
+    (λ f g. (omega (arith, g.1.registers), and_from (is_within 1 64 f.registers) (leb n f.registers) (within_of 1 64 f.registers g.1.registers.0 g.1.registers.1) (le-leb n f.registers (omega (arith, g.0, g.1.room))))) (λ registers hr.
     then_reads (λ f. f.loops) from_reserved (such_that_reads (is_within 0 8) Count (byte_reads Short))
     (λ f g. (omega (arith, g.1.1.loops), within_of 0 8 f.loops (omega arith) g.1.1.loops)) (λ loops hl.
     expect_reads 0 Reserved (byte_reads Short) (omega arith)

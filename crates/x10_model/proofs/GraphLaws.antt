@@ -4,11 +4,12 @@ use Rattle.std.specs.List.{AllByRecursion}
 use Rattle.std.specs.Int.{w16, w32, to_be_bytes}
 use Rattle.std.specs.Str.{is_utf8}
 use Rattle.std.proofs.lemmas.Str.{IsUtf8-from_is_utf8, is_utf8-from_IsUtf8}
+use Rattle.std.proofs.lemmas.Bool.{and_from, and_parts}
 use Rattle.x10_model.specs.Modules.{FitsText}
 use Rattle.x10_model.specs.Frames.{Item, Node, Graph, Tables, tables, tables_of, none, uses, used_after, Turn, turn, next_turn, used_in_all, FitsItems, FitsNode, FitsRail, FitsGraph, item_bytes, blob_bytes, node_bytes, graph_bytes}
 use Rattle.x10_model.specs.Readers.{FitsEach}
 use Rattle.x10_model.specs.ReadingFrames.{Short, Order, Text, length_at, text_at, rail_at, node_at, same_tables, graph_at}
-use Rattle.x10_model.proofs.ReaderLaws.{Reads, and_both, and_of, then_reads, last_reads, check_reads, such_that_reads, fits_as}
+use Rattle.x10_model.proofs.ReaderLaws.{Reads, then_reads, last_reads, check_reads, such_that_reads, fits_as}
 use Rattle.x10_model.proofs.PartLaws.{byte_reads, number_reads, part_reads, part_reads_any, many_reads, each_reads, wide16, wide32}
 use Rattle.x10_model.proofs.ItemLaws.{Few, item_reads}
 
@@ -59,12 +60,12 @@ of_parts a b t r n = rw (← t, ← r, ← n) refl
 
 same_tables_of : (a b : Tables) → same_tables a b ≡ true → a ≡ b
 same_tables_of a b h =
-    let one = and_both (eqb a.texts b.texts) (eqb a.rails b.rails && eqb a.nodes b.nodes) h in
-    let two = and_both (eqb a.rails b.rails) (eqb a.nodes b.nodes) one.1 in
+    let one = and_parts (eqb a.texts b.texts) (eqb a.rails b.rails && eqb a.nodes b.nodes) h in
+    let two = and_parts (eqb a.rails b.rails) (eqb a.nodes b.nodes) one.1 in
     of_parts a b (eqb-true a.texts b.texts one.0) (eqb-true a.rails b.rails two.0) (eqb-true a.nodes b.nodes two.1)
 
 of_same_tables : (a b : Tables) → a ≡ b → same_tables a b ≡ true
-of_same_tables a b e = rw e (and_of (eqb b.texts b.texts) (eqb b.rails b.rails && eqb b.nodes b.nodes) (eq-eqb b.texts b.texts refl) (and_of (eqb b.rails b.rails) (eqb b.nodes b.nodes) (eq-eqb b.rails b.rails refl) (eq-eqb b.nodes b.nodes refl)))
+of_same_tables a b e = rw e (and_from (eqb b.texts b.texts) (eqb b.rails b.rails && eqb b.nodes b.nodes) (eq-eqb b.texts b.texts refl) (and_from (eqb b.rails b.rails) (eqb b.nodes b.nodes) (eq-eqb b.rails b.rails refl) (eq-eqb b.nodes b.nodes refl)))
 
 graph_of : List Item → List (List ℕ) → List (List ℕ) → List Node → Graph
 graph_of roots texts rails nodes = record { roots = roots; texts = texts; rails = rails; nodes = nodes }

@@ -4,13 +4,14 @@ use Rattle.std.specs.Prelude.{FitsSigned}
 use Rattle.std.specs.List.{AllByRecursion}
 use Rattle.std.specs.Int.{w16, w32, w64, to_be_bytes}
 use Rattle.std.proofs.lemmas.Option.{slice_get_within}
+use Rattle.std.proofs.lemmas.Bool.{and_from, and_parts}
 use Rattle.x10_kinds.specs.declared.kind.Kind.{Kind as ValueKind}
 use Rattle.x10_model.specs.Modules.{Function, Module, FitsClass, FitsText, FitsFunction, FitsImage, IsEntry}
 use Rattle.x10_model.specs.declared.slot.Slot.{Slot}
 use Rattle.x10_model.specs.Images.{magic, Header, class_bytes, text_bytes, function_bytes, header_of, header_bytes, int_bytes, spelling}
 use Rattle.x10_model.specs.Readers.{number, IsBytes, all_of}
 use Rattle.x10_model.specs.ReadingImages.{ImageFault, Short, Magic, Version, Count, Reserved, is_within, header_at, parts_at, is_entry, entered, module_at, Trailing}
-use Rattle.x10_model.proofs.ReaderLaws.{Reads, and_both, and_of, then_reads, last_reads, need_reads, done_reads, such_that_reads, expect_reads, spelled_as}
+use Rattle.x10_model.proofs.ReaderLaws.{Reads, then_reads, last_reads, need_reads, done_reads, such_that_reads, expect_reads, spelled_as}
 use Rattle.x10_model.proofs.PartLaws.{all_again, all_takes, int_reads, number_reads, each_reads, wide16, wide32}
 use Rattle.x10_model.proofs.ImageParts.{within_of, of_within}
 use Rattle.x10_model.proofs.ImageParts.{class_reads, text_reads}
@@ -142,21 +143,21 @@ read_module m = Ok m
 ok_same : (m n : Module) → read_module m ≡ read_module n → m ≡ n
 ok_same m n e = cc
 
-no_result : (o : Option Slot) → IfSome o (λ s. ⊥) → is_none o ≡ true
+pub no_result : (o : Option Slot) → IfSome o (λ s. ⊥) → is_none o ≡ true
 no_result None h = refl
 no_result (Some s) h = absurd h
 
-of_no_result : (o : Option Slot) → is_none o ≡ true → IfSome o (λ s. ⊥)
+pub of_no_result : (o : Option Slot) → is_none o ≡ true → IfSome o (λ s. ⊥)
 of_no_result None h = tt
 of_no_result (Some s) h = absurd cc
 
 is_entry_of : (f : Function) → IsEntry f → is_entry (Some f) ≡ true
-is_entry_of f fits = and_of (eqb (length f.parameters) 0) (is_none f.result) (eq-eqb (length f.parameters) 0 (omega (arith, fits.parameters))) (no_result f.result fits.result)
+is_entry_of f fits = and_from (eqb (length f.parameters) 0) (is_none f.result) (eq-eqb (length f.parameters) 0 (omega (arith, fits.parameters))) (no_result f.result fits.result)
 
 entry_is : (o : Option Function) → is_entry o ≡ true → (f : Function) × (o ≡ Some f) × IsEntry f
 entry_is None h = absurd cc
 entry_is (Some f) h =
-    let b = and_both (eqb (length f.parameters) 0) (is_none f.result) h in
+    let b = and_parts (eqb (length f.parameters) 0) (is_none f.result) h in
     (f, refl, record { parameters = omega (arith, eqb-true (length f.parameters) 0 b.0); result = of_no_result f.result b.1 })
 
 fits_all_parts : (m : Module) → FitsImage m → FitsParts m

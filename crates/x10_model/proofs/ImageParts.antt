@@ -4,6 +4,8 @@ use Rattle.std.specs.Int.{w16, w32, to_be_bytes}
 use Rattle.std.specs.Str.{is_utf8}
 use Rattle.std.proofs.lemmas.Str.{IsUtf8-from_is_utf8, is_utf8-from_IsUtf8}
 use Rattle.std.proofs.lemmas.List.Concat.{flat_map-cons}
+use Rattle.std.proofs.lemmas.Bool.{and_from, and_parts}
+use Rattle.std.proofs.lemmas.Option.{cond_some}
 use Rattle.x10_code.specs.declared.instr.Instr.{Instr}
 use Rattle.x10_code.specs.declared.instr.CodeFault.{CodeFault}
 use Rattle.x10_code.specs.declared.op.Op.{Op}
@@ -15,15 +17,15 @@ use Rattle.x10_model.specs.Modules.{FitsClass, FitsText, IsBrought, is_brought}
 use Rattle.x10_model.specs.Images.{kind_bytes, class_bytes, text_bytes}
 use Rattle.x10_model.specs.Readers.{IsBytes}
 use Rattle.x10_model.specs.ReadingImages.{Short, Count, Text, Code, is_within, class_at, text_at, brought, instruction_at}
-use Rattle.x10_model.proofs.ReaderLaws.{if_some, Reads, and_both, and_of, then_reads, given_reads, check_reads, need_reads, such_that_reads, fits_as}
+use Rattle.x10_model.proofs.ReaderLaws.{Reads, then_reads, given_reads, check_reads, need_reads, such_that_reads, fits_as}
 use Rattle.x10_model.proofs.PartLaws.{bytes_below, IsBytes-cons, part_reads, part_reads_any, byte_reads, number_reads, each_reads, wide16}
 use Rattle.x10_model.proofs.KindLaws.{kind_reads, length-kind_bytes}
 
 pub within_of : (least most n : ℕ) → least ≤ n → n ≤ most → is_within least most n ≡ true
-within_of least most n h k = and_of (leb least n) (leb n most) (le-leb least n h) (le-leb n most k)
+within_of least most n h k = and_from (leb least n) (leb n most) (le-leb least n h) (le-leb n most k)
 
 pub of_within : (least most n : ℕ) → is_within least most n ≡ true → (least ≤ n) × (n ≤ most)
-of_within least most n h = let b = and_both (leb least n) (leb n most) h in (leb-true least n b.0, leb-true n most b.1)
+of_within least most n h = let b = and_parts (leb least n) (leb n most) h in (leb-true least n b.0, leb-true n most b.1)
 
 -- items of one length
 pub length-items : {A : Type 0} (spell : A → List ℕ) (k : ℕ) → ((x : A) → length (spell x) ≡ k) → (xs : List A) → length (flat_map spell xs) ≡ k * length xs
@@ -70,7 +72,7 @@ brought_again i fits = rw (decoded_again i fits.instr, fits.brought) refl
 
 brought_means : (bytes : List ℕ) (o : Result Instr CodeFault) (i : Instr) → length bytes ≡ 8 → IsBytes bytes → decoded bytes ≡ o → brought o ≡ Some i → (instruction i ≡ bytes) × IsBrought i
 brought_means bytes (Ok j) i len small is e =
-    let h = if_some (is_brought j.op) j i e in
+    let h = cond_some (is_brought j.op) j i e in
     let t = decoded_takes bytes j len small is in
     subst (λ (k : Instr). (instruction k ≡ bytes) × IsBrought k) h.1 (sym t.1, record { instr = t.0; brought = h.0 })
 brought_means bytes (Err f) i len small is e = absurd cc

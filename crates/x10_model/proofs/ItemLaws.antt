@@ -2,9 +2,10 @@
 use Rattle.std.proofs.Common.{◌≡◌, ℕ, ℤ, zero, suc, ◌^◌, ◌<◌, ◌≤◌, ◌&&◌, ltb, leb, [], ◌++◌, refl, arith, ltb-true, lt-ltb, leb-true, le-leb}
 use Rattle.std.specs.Prelude.{FitsSigned}
 use Rattle.std.specs.Int.{w16, w32, w64, to_be_bytes}
+use Rattle.std.proofs.lemmas.Bool.{and_from, and_parts}
 use Rattle.x10_model.specs.Frames.{Item, IntItem, PlaceItem, TextItem, RailItem, ObjectItem, NullItem, RefItem, Tables, FitsIndex, FitsItem, tag_of_item, untagged, item_bytes}
 use Rattle.x10_model.specs.ReadingFrames.{Short, Tag, Place, Order, place_at, index_at, untagged_at, item_at}
-use Rattle.x10_model.proofs.ReaderLaws.{Reads, and_both, and_of, then_reads, last_reads, made_reads, done_reads, such_that_reads, fits_as, spelled_where}
+use Rattle.x10_model.proofs.ReaderLaws.{Reads, then_reads, last_reads, made_reads, done_reads, such_that_reads, fits_as, spelled_where}
 use Rattle.x10_model.proofs.PartLaws.{byte_reads, number_reads, int_reads, wide16, wide32}
 
 pub place_reads : (places : ℕ) → places < 2 ^ 16 → Reads (place_at places) (to_be_bytes w16) (λ p. p < places)
@@ -16,8 +17,8 @@ place_reads places few = fits_as (such_that_reads (λ p. ltb p places) Place (nu
 pub index_reads : (used table : ℕ) → table < 2 ^ 16 → Reads (index_at used table) (to_be_bytes w16) (FitsIndex used table)
 unfolding index_at
 index_reads used table few = fits_as (such_that_reads (λ i. leb i used && ltb i table) Order (number_reads w16 (2 ^ 16) wide16 Short))
-    (λ i h. let b = and_both (leb i used) (ltb i table) h.1 in record { order = leb-true i used b.0; below = ltb-true i table b.1 })
-    (λ i h. (omega (arith, h.below), and_of (leb i used) (ltb i table) (le-leb i used h.order) (lt-ltb i table h.below)))
+    (λ i h. let b = and_parts (leb i used) (ltb i table) h.1 in record { order = leb-true i used b.0; below = ltb-true i table b.1 })
+    (λ i h. (omega (arith, h.below), and_from (leb i used) (ltb i table) (le-leb i used h.order) (lt-ltb i table h.below)))
 
 -- tables of a frame: their lengths have a field of 16 bits
 pub record Few (all : Tables) : Type 0 where
@@ -112,5 +113,5 @@ pub item_reads : (places : ℕ) (all : Tables) → places < 2 ^ 16 → Few all �
 unfolding item_at item_bytes
 item_reads places all few ok used =
     then_reads tag_of_item untagged (such_that_reads (λ n. leb 1 n && leb n 7) Tag (byte_reads Short))
-    (λ y g. let s = tag_small y in (omega (arith, s), and_of (leb 1 (tag_of_item y)) (leb (tag_of_item y) 7) (le-leb 1 (tag_of_item y) s.0) (le-leb (tag_of_item y) 7 s.1)))
-    (λ tag h. let b = and_both (leb 1 tag) (leb tag 7) h.1 in untagged_reads places all used few ok tag (leb-true 1 tag b.0) (leb-true tag 7 b.1))
+    (λ y g. let s = tag_small y in (omega (arith, s), and_from (leb 1 (tag_of_item y)) (leb (tag_of_item y) 7) (le-leb 1 (tag_of_item y) s.0) (le-leb (tag_of_item y) 7 s.1)))
+    (λ tag h. let b = and_parts (leb 1 tag) (leb tag 7) h.1 in untagged_reads places all used few ok tag (leb-true 1 tag b.0) (leb-true tag 7 b.1))

@@ -1,13 +1,15 @@
 -- Kinds, parameters and results are read again, and what is read of them is spelled so.
 use Rattle.std.proofs.Common.{◌≡◌, ℕ, zero, suc, ◌^◌, ◌<◌, Bool, true, false, ◌&&◌, eqb, ltb, [], ◌∷◌, ◌++◌, length, Option, Some, None, IfSome, refl, sym, ap, subst, ◌∙◌, arith, eqb-true, ltb-true, lt-ltb}
 use Rattle.std.specs.Int.{w16, to_be_bytes}
+use Rattle.std.proofs.lemmas.Bool.{and_parts}
+use Rattle.std.proofs.lemmas.Option.{cond_some}
 use Rattle.x10_kinds.specs.declared.kind.Kind.{Kind as ValueKind}
 use Rattle.x10_kinds.specs.declared.kind.Kind.TheVariants as kind
 use Rattle.x10_model.specs.Modules.{NamesClassBelow, FitsSlot, takes_flag}
 use Rattle.x10_model.specs.declared.slot.Slot.{Slot}
 use Rattle.x10_model.specs.Images.{tag_of, class_of, kind_bytes, slot_bytes, result_bytes, flag_byte}
 use Rattle.x10_model.specs.ReadingImages.{Short, Kind, without_class, with_class, kind_of, flagged, some_result, result_of, kind_at, slot_at, result_at}
-use Rattle.x10_model.proofs.ReaderLaws.{and_both, if_some, Reads, then_reads, given_reads, spelled_as}
+use Rattle.x10_model.proofs.ReaderLaws.{Reads, then_reads, given_reads, spelled_as}
 use Rattle.x10_model.proofs.PartLaws.{byte_reads, number_reads, wide16}
 
 -- a kind is the one with its tag and class
@@ -18,12 +20,12 @@ record Means (classes : ℕ) (k : ValueKind) (tag class : ℕ) : Type 0 where
 
 without_means : (classes : ℕ) (k : ValueKind) (tag class : ℕ) (y : ValueKind) → class_of k ≡ 0 → tag_of k ≡ tag → NamesClassBelow classes k → without_class k class ≡ Some y → Means classes y tag class
 without_means classes k tag class y c t b e =
-    let h = if_some (eqb class 0) k y e in
+    let h = cond_some (eqb class 0) k y e in
     subst (λ (z : ValueKind). Means classes z tag class) h.1 (record { class_is = c ∙ sym (eqb-true class 0 h.0); tag_is = t; below = b })
 
 with_means : (classes : ℕ) (make : ℕ → ValueKind) (tag class : ℕ) (y : ValueKind) → class_of (make class) ≡ class → tag_of (make class) ≡ tag → (class < classes → NamesClassBelow classes (make class)) → with_class make classes class ≡ Some y → Means classes y tag class
 with_means classes make tag class y c t b e =
-    let h = if_some (ltb class classes) (make class) y e in
+    let h = cond_some (ltb class classes) (make class) y e in
     subst (λ (z : ValueKind). Means classes z tag class) h.1 (record { class_is = c; tag_is = t; below = b (ltb-true class classes h.0) })
 
 kind_means : (classes tag class : ℕ) (y : ValueKind) → kind_of classes tag class ≡ Some y → Means classes y tag class
@@ -88,7 +90,7 @@ flagged_means (Some k) zero s e =
     let is : record_of k false ≡ s = cc in
     subst (λ (z : Slot). Flags (Some k) 0 z) is (record { kind_is = refl; flag_is = refl; allowed = λ h. absurd cc })
 flagged_means (Some k) (suc zero) s e =
-    let h = if_some (takes_flag k) (record_of k true) s e in
+    let h = cond_some (takes_flag k) (record_of k true) s e in
     subst (λ (z : Slot). Flags (Some k) 1 z) h.1 (record { kind_is = refl; flag_is = refl; allowed = λ _. h.0 })
 flagged_means (Some k) (suc (suc flag)) s e = absurd cc
 
@@ -146,8 +148,8 @@ some_means classes tag class flag (Some s) r is e =
 
 result_means : (classes tag class flag : ℕ) (r : Option Slot) → result_of classes tag class flag ≡ Some r → IsResult classes tag class flag r
 result_means classes zero class flag r e =
-    let h = if_some (eqb class 0 && eqb flag 0) None r e in
-    let both = and_both (eqb class 0) (eqb flag 0) h.0 in
+    let h = cond_some (eqb class 0 && eqb flag 0) None r e in
+    let both = and_parts (eqb class 0) (eqb flag 0) h.0 in
     subst (IsResult classes 0 class flag) h.1 (record { flag_is = sym (eqb-true flag 0 both.1); class_is = sym (eqb-true class 0 both.0); tag_is = refl; fits = tt })
 result_means classes (suc tag) class flag r e = some_means classes (suc tag) class flag (flagged (kind_of classes (suc tag) class) flag) r refl e
 

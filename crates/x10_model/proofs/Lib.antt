@@ -1,3 +1,4 @@
+pub mod Lists
 pub mod Finishes
 pub mod NotWrong
 pub mod Decided
@@ -5,6 +6,7 @@ pub mod Able
 pub mod Ready
 pub mod Balance
 pub mod Events
+pub mod GoingOn
 pub mod Worked
 pub mod ReaderLaws
 pub mod PartLaws
@@ -16,3 +18,7 @@ pub mod ItemLaws
 pub mod GraphLaws
 pub mod FrameLaws
 pub mod Loops
+pub mod RelayMoves
+pub mod Relayed
+pub mod Refusals
+pub mod Offsets

@@ -5,17 +5,6 @@ use Rattle.x10_model.specs.Readers.{Reader, IsBytes, bind, done, check, such_tha
 abbrev outcome : {E A : Type 0} → A → List ℕ → Result (A × List ℕ) E
 outcome x rest = Ok (x, rest)
 
-pub and_both : (a b : Bool) → (a && b) ≡ true → (a ≡ true) × (b ≡ true)
-and_both true b h = (refl, h)
-and_both false b h = absurd cc
-
-pub and_of : (a b : Bool) → a ≡ true → b ≡ true → (a && b) ≡ true
-and_of a b h k = rw (h, k) refl
-
-pub if_some : {A : Type 0} (b : Bool) (x y : A) → cond b (Some x) None ≡ Some y → (b ≡ true) × (x ≡ y)
-if_some true x y e = (refl, cc)
-if_some false x y e = absurd cc
-
 -- the bytes are a text and a rest
 pub record Takes (bytes text rest : List ℕ) : Type 0 where
   pub parts : bytes ≡ text ++ rest

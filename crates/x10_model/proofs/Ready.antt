@@ -1,7 +1,7 @@
 -- A ready activity moves or goes wrong, wherever it stands; and a message that is taken in fits.
 use Rattle.std.proofs.Common.{◌≡◌, ◌⊎◌, ℕ, ◌+◌, ◌≤◌, false, length, Option, Some, None, refl, ap, subst, ◌∙◌, inl, inr, arith}
 use Rattle.std.specs.Prelude.{slice_get}
-use Rattle.std.proofs.lemmas.Bool.{cases_lt}
+use Rattle.std.proofs.lemmas.Bool.{cases_lt, cases_eq}
 use Rattle.x10_code.specs.declared.instr.Instr.{Instr}
 use Rattle.x10_code.specs.declared.operands.Operand.{Operand}
 use Rattle.x10_code.specs.declared.operands.Operand.TheVariants as operand
@@ -10,11 +10,12 @@ use Rattle.x10_model.specs.Modules.{Module, Function}
 use Rattle.x10_model.specs.declared.slot.Slot.{Slot}
 use Rattle.x10_model.specs.Ranges.{function_at, instr_in, IsThere, IsResultRegister, IsInRange, result_for, argument_count}
 use Rattle.x10_model.specs.Places as places
-use Rattle.x10_model.specs.Places.{Setting, Finish, Stay, Effect, Message, Spawn, Shift, Back, Origin}
-use Rattle.x10_model.specs.Moves.{Situation, Moves}
-use Rattle.x10_model.specs.Deliveries.{WaitsFor, Receives}
-use Rattle.x10_model.specs.Wrong.{out_of_range, IsWrong, no_instruction, wrong_at, IsMisfit, not_here, graph, spawn, shift, back}
-use Rattle.x10_model.specs.Laws.{HasRoom}
+use Rattle.x10_model.specs.Places.{Setting, Finish, Stay, Effect, Message, Spawn, Shift, Back, Origin, receiver, with_stay}
+use Rattle.x10_model.specs.Copies.{IsWhole}
+use Rattle.x10_model.specs.Moves.{Situation, Moves, new_stay, resumed}
+use Rattle.x10_model.specs.Deliveries.{FitsPlace, first_of, WaitsFor, Receives}
+use Rattle.x10_model.specs.Wrong.{out_of_range, IsWrong, no_instruction, wrong_at, IsMisfit, graph_of, not_here, graph, torn, spawn, shift, back}
+use Rattle.x10_model.specs.Laws.{HasRoomAt, ArrivedIsTakenOrMisfit}
 use Rattle.x10_model.proofs.Decided.{same_or_not, below_or_not, both_or_not}
 use Rattle.x10_model.proofs.Able.{step}
 
@@ -63,24 +64,24 @@ MovesOrWrong setting here old key = ((new : places.Place) × (effect : Effect) �
 abbrev pub sited : Setting → ℕ → places.Place → ℕ → Stay → Function → Instr → Situation
 sited setting here old key stay function instr = record { setting = setting; here = here; place = old; key = key; stay = stay; function = function; instr = instr }
 
-with_instr : (setting : Setting) (here key : ℕ) (old : places.Place) (stay : Stay) (function : Function) (instr : Instr) → HasRoom old → old.stays key ≡ Some stay → stay.away ≡ false → function_at setting.program stay.top.function ≡ Some function → slice_get function.code stay.top.pc ≡ Some instr → MovesOrWrong setting here old key
+with_instr : (setting : Setting) (here key : ℕ) (old : places.Place) (stay : Stay) (function : Function) (instr : Instr) → HasRoomAt setting here key old stay → old.stays key ≡ Some stay → stay.away ≡ false → function_at setting.program stay.top.function ≡ Some function → slice_get function.code stay.top.pc ≡ Some instr → MovesOrWrong setting here old key
 with_instr setting here key old stay function instr room e ready f i = elim (range_or_not setting.program function instr) [
   | inr never ↦ inr (wrong_at stay function instr e ready f i (out_of_range never))
-  | inl range ↦ elim (step instr.op (sited setting here old key stay function instr) refl range room) [
+  | inl range ↦ elim (step instr.op (sited setting here old key stay function instr) refl range (room function instr f i)) [
     | inl h ↦ inl (h.0, h.1, record { stay = stay; function = function; instr = instr; is_there = e; is_ready = ready; function_is = f; instr_is = i; in_range = range; does = h.2 })
     | inr w ↦ inr (wrong_at stay function instr e ready f i w)
   ]
 ]
 
-with_function : (setting : Setting) (here key : ℕ) (old : places.Place) (stay : Stay) (function : Function) (instr : Option Instr) → HasRoom old → old.stays key ≡ Some stay → stay.away ≡ false → function_at setting.program stay.top.function ≡ Some function → slice_get function.code stay.top.pc ≡ instr → MovesOrWrong setting here old key
+with_function : (setting : Setting) (here key : ℕ) (old : places.Place) (stay : Stay) (function : Function) (instr : Option Instr) → HasRoomAt setting here key old stay → old.stays key ≡ Some stay → stay.away ≡ false → function_at setting.program stay.top.function ≡ Some function → slice_get function.code stay.top.pc ≡ instr → MovesOrWrong setting here old key
 with_function setting here key old stay function None room e ready f i = inr (no_instruction stay e ready (ap (λ g. instr_in g stay.top.pc) f ∙ i))
 with_function setting here key old stay function (Some instr) room e ready f i = with_instr setting here key old stay function instr room e ready f i
 
-with_stay_at : (setting : Setting) (here key : ℕ) (old : places.Place) (stay : Stay) (function : Option Function) → HasRoom old → old.stays key ≡ Some stay → stay.away ≡ false → function_at setting.program stay.top.function ≡ function → MovesOrWrong setting here old key
+with_stay_at : (setting : Setting) (here key : ℕ) (old : places.Place) (stay : Stay) (function : Option Function) → HasRoomAt setting here key old stay → old.stays key ≡ Some stay → stay.away ≡ false → function_at setting.program stay.top.function ≡ function → MovesOrWrong setting here old key
 with_stay_at setting here key old stay None room e ready f = inr (no_instruction stay e ready (ap (λ g. instr_in g stay.top.pc) f))
 with_stay_at setting here key old stay (Some function) room e ready f = with_function setting here key old stay function (slice_get function.code stay.top.pc) room e ready f refl
 
-pub ready_is_able_or_wrong : (setting : Setting) (here key : ℕ) (old : places.Place) (stay : Stay) → HasRoom old → old.stays key ≡ Some stay → stay.away ≡ false → MovesOrWrong setting here old key
+pub ready_is_able_or_wrong : (setting : Setting) (here key : ℕ) (old : places.Place) (stay : Stay) → HasRoomAt setting here key old stay → old.stays key ≡ Some stay → stay.away ≡ false → MovesOrWrong setting here old key
 ready_is_able_or_wrong setting here key old stay room e ready = with_stay_at setting here key old stay (function_at setting.program stay.top.function) room e ready refl
 
 -- ---- deliveries
@@ -88,10 +89,81 @@ ready_is_able_or_wrong setting here key old stay room e ready = with_stay_at set
 pub received_fits : (setting : Setting) (here key : ℕ) (old new : places.Place) (message : Message) → Receives setting here old message key new → IsMisfit setting here old message → ⊥
 received_fits setting here key old new (Spawn from to under function g) r (not_here message ne) = ne r.0
 received_fits setting here key old new (Spawn from to under function g) r (graph message never) = never r.1.fits_place
+received_fits setting here key old new (Spawn from to under function g) r (torn message never) = never r.1.arrives.copy.whole
 received_fits setting here key old new (Spawn from to under function g) r (spawn from' to' under' function' g' never) = never r.1.callee r.1.fits_function (r.1.no_result refl)
 received_fits setting here key old new (Shift from to waiting under function g) r (not_here message ne) = ne r.0
 received_fits setting here key old new (Shift from to waiting under function g) r (graph message never) = never r.1.fits_place
+received_fits setting here key old new (Shift from to waiting under function g) r (torn message never) = never r.1.arrives.copy.whole
 received_fits setting here key old new (Shift from to waiting under function g) r (shift from' to' waiting' under' function' g' never) = never r.1.callee r.1.fits_function
 received_fits setting here key old new (Back from to waiting g) r (not_here message ne) = ne r.0
 received_fits setting here key old new (Back from to waiting g) r (graph message never) = never r.2.fits_place
+received_fits setting here key old new (Back from to waiting g) r (torn message never) = never r.2.arrives.copy.whole
 received_fits setting here key old new (Back from to waiting g) r (back from' to' waiting' g' never) = never r.2.stay r.2.call r.2.callee (subst (λ k. WaitsFor setting old k from r.2.stay r.2.call r.2.callee) r.1 r.2.waits) r.2.fits_result
+
+-- ---- messages that arrive
+
+receiver_or_not : (setting : Setting) (here : ℕ) (old : places.Place) (message : Message) → (IsMisfit setting here old message → ⊥) → receiver message ≡ here
+receiver_or_not setting here old message never = elim (cases_eq (receiver message) here) [
+  | inl same ↦ same
+  | inr other ↦ absurd (never (not_here message other))
+]
+
+-- where a message is no misfit, its graph is whole and fits, as far as a contradiction goes
+fits_then : (setting : Setting) (here : ℕ) (old : places.Place) (message : Message) → (IsMisfit setting here old message → ⊥) → (FitsPlace setting here old (graph_of message) → IsWhole (graph_of message) → ⊥) → ⊥
+fits_then setting here old message never next = never (graph message (λ fits. never (torn message (λ whole. next fits whole))))
+
+pub taken_or_misfit : ArrivedIsTakenOrMisfit
+taken_or_misfit setting here old (Spawn from to under function g) room not_taken never =
+    never (spawn from to under function g (λ callee fits none. fits_then setting here old (Spawn from to under function g) never (λ place whole.
+    let a = room.arrives whole in
+    not_taken room.key.0 (with_stay (record old { cells = a.1 }) room.key.0 (Some (new_stay function a.0 under None))) (
+      receiver_or_not setting here old (Spawn from to under function g) never,
+      record {
+        callee = callee;
+        fits_function = fits;
+        no_result = λ e. none;
+        fits_place = place;
+        arguments = a.0;
+        cells = a.1;
+        arrives = a.2;
+        free = room.key.1;
+        new_is = refl;
+      },
+    ))))
+taken_or_misfit setting here old (Shift from to waiting under function g) room not_taken never =
+    never (shift from to waiting under function g (λ callee fits. fits_then setting here old (Shift from to waiting under function g) never (λ place whole.
+    let a = room.arrives whole in
+    let back : Option Origin = Some (record { place = from; key = waiting }) in
+    not_taken room.key.0 (with_stay (record old { cells = a.1 }) room.key.0 (Some (new_stay function a.0 under back))) (
+      receiver_or_not setting here old (Shift from to waiting under function g) never,
+      record {
+        callee = callee;
+        fits_function = fits;
+        no_result = λ e. absurd cc;
+        fits_place = place;
+        arguments = a.0;
+        cells = a.1;
+        arrives = a.2;
+        free = room.key.1;
+        new_is = refl;
+      },
+    ))))
+taken_or_misfit setting here old (Back from to waiting g) room not_taken never =
+    never (back from to waiting g (λ stay call callee waits fits. fits_then setting here old (Back from to waiting g) never (λ place whole.
+    let a = room.arrives whole in
+    not_taken waiting (with_stay (record old { cells = a.1 }) waiting (Some (record stay { top = resumed stay.top call.a (first_of a.0); away = false }))) (
+      receiver_or_not setting here old (Back from to waiting g) never,
+      refl,
+      record {
+        stay = stay;
+        call = call;
+        callee = callee;
+        waits = waits;
+        fits_result = fits;
+        fits_place = place;
+        result = a.0;
+        cells = a.1;
+        arrives = a.2;
+        new_is = refl;
+      },
+    ))))

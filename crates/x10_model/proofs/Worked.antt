@@ -145,7 +145,7 @@ below_one : (P : ℕ → Type 0) → P 0 → (k : ℕ) → k < 1 → P k
 below_one P p zero lt = p
 below_one P p (suc k) lt = absurd (omega arith)
 
-one_distinct : (x : ℕ) → AreDistinct (x ∷ [])
+pub one_distinct : (x : ℕ) → AreDistinct (x ∷ [])
 one_distinct x zero zero y e f = refl
 one_distinct x zero (suc j) y e f = absurd cc
 one_distinct x (suc i) j y e f = absurd cc

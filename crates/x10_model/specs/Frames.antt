@@ -2,6 +2,7 @@
 use Rattle.std.specs.Prelude.{◌≡◌, ℕ, ℤ, suc, ◌+◌, ◌<◌, ◌≤◌, ◌^◌, max, List, [], ◌∷◌, ◌++◌, length, FitsSigned}
 use Rattle.std.specs.List.{flat_map, AllByRecursion}
 use Rattle.std.specs.Int.{w16, w32, w64, to_be_bytes}
+use Rattle.x10_model.specs.declared.limits.TheConstants.{MOST_FIELDS, MOST_PARAMETERS}
 use Rattle.x10_model.specs.Modules.{FitsText}
 use Rattle.x10_model.specs.Images.{int_bytes}
 use Rattle.x10_model.specs.Readers.{IsBytes, FitsEach, after_all}
@@ -185,7 +186,7 @@ next_turn t n = turn (suc t.number) (used_after t.used n.fields)
 pub record FitsNode (places : ℕ) (all : Tables) (t : Turn) (n : Node) : Type 0 where
   pub class : n.class < 2 ^ 16
   pub used : t.number < t.used.nodes
-  pub count : length n.fields ≤ 16
+  pub count : length n.fields ≤ MOST_FIELDS
   pub fields : FitsItems places all t.used n.fields
 
 pub record FitsRail (rail : List ℕ) : Type 0 where
@@ -209,7 +210,7 @@ pub record FitsLaunch (places : ℕ) (l : Launch) : Type 0 where
   pub home : l.home < places
   pub number : l.number < 2 ^ 32
   pub function : l.function < 2 ^ 16
-  pub graph : FitsGraph places 16 l.graph
+  pub graph : FitsGraph places MOST_PARAMETERS l.graph
 
 -- one for each place
 abbrev pub FitsCounts : ℕ → List ℕ → Type 0

@@ -3,6 +3,7 @@ use Rattle.std.specs.Prelude.{◌≡◌, ℕ, ℤ, ◌<◌, ◌≤◌, ◌^◌, 
 use Rattle.std.specs.List.{AllByRecursion}
 use Rattle.std.specs.Prelude.{FitsSigned, IsUtf8}
 use Rattle.std.specs.Int.{w64}
+use Rattle.x10_model.specs.declared.limits.TheConstants.{MOST_FIELDS, MOST_FUNCTIONS, MOST_INSTRUCTIONS, MOST_LOOPS, MOST_PARAMETERS, MOST_PLACES, MOST_REGISTERS}
 use Rattle.x10_kinds.specs.declared.kind.Kind.{Kind}
 use Rattle.x10_kinds.specs.declared.kind.Kind.TheVariants as kind
 use Rattle.x10_code.specs.declared.instr.Instr.{Instr}
@@ -71,7 +72,7 @@ pub record FitsSlot (classes : ℕ) (s : Slot) : Type 0 where
   pub flag : IsTrue s.home_here → IsTrue (takes_flag s.kind)
 
 pub record FitsClass (classes : ℕ) (fields : List Kind) : Type 0 where
-  pub count : length fields ≤ 16
+  pub count : length fields ≤ MOST_FIELDS
   pub kinds : AllByRecursion (NamesClassBelow classes) fields
 
 pub record FitsText (text : List ℕ) : Type 0 where
@@ -79,13 +80,13 @@ pub record FitsText (text : List ℕ) : Type 0 where
   pub utf8 : IsUtf8 text
 
 pub record FitsFunction (classes : ℕ) (f : Function) : Type 0 where
-  pub parameters : length f.parameters ≤ 16
-  pub registers : (1 ≤ f.registers) × (f.registers ≤ 64)
+  pub parameters : length f.parameters ≤ MOST_PARAMETERS
+  pub registers : (1 ≤ f.registers) × (f.registers ≤ MOST_REGISTERS)
   pub room : length f.parameters ≤ f.registers
-  pub loops : f.loops ≤ 8
+  pub loops : f.loops ≤ MOST_LOOPS
   pub slots : AllByRecursion (FitsSlot classes) f.parameters
   pub result : IfSome f.result (FitsSlot classes)
-  pub length : (1 ≤ length f.code) × (length f.code ≤ 4096)
+  pub length : (1 ≤ length f.code) × (length f.code ≤ MOST_INSTRUCTIONS)
   pub code : AllByRecursion IsBrought f.code
 
 -- the entry function takes nothing and gives nothing
@@ -95,10 +96,10 @@ pub record IsEntry (f : Function) : Type 0 where
 
 -- the modules that have an image
 pub record FitsImage (m : Module) : Type 0 where
-  pub least_places : (1 ≤ m.least_places) × (m.least_places ≤ 64)
+  pub least_places : (1 ≤ m.least_places) × (m.least_places ≤ MOST_PLACES)
   pub classes : length m.classes < 2 ^ 16
   pub fields : AllByRecursion (FitsClass (length m.classes)) m.classes
   pub ints : (length m.ints < 2 ^ 16) × AllByRecursion (FitsSigned w64) m.ints
   pub texts : (length m.texts < 2 ^ 16) × AllByRecursion FitsText m.texts
-  pub functions : (1 ≤ length m.functions) × (length m.functions ≤ 256) × AllByRecursion (FitsFunction (length m.classes)) m.functions
+  pub functions : (1 ≤ length m.functions) × (length m.functions ≤ MOST_FUNCTIONS) × AllByRecursion (FitsFunction (length m.classes)) m.functions
   pub entry : (f : Function) × (slice_get m.functions m.entry ≡ Some f) × IsEntry f

@@ -3,6 +3,7 @@
 use Rattle.std.specs.Prelude.{◌≡◌, ℕ, ℤ, pos, negsuc, ◌+ℤ◌, ◌-ℤ◌, ◌*ℤ◌, int_div, int_rem, int_lt, ◌+◌, ◌-◌, ◌%◌, ◌<◌, ◌⊎◌, Bool, true, false, ◌==◌, nat_lt, nat_le, List, [], ◌∷◌, ◌++◌, length, replicate, Option, Some, None, if◌then◌else◌, slice_get, slice_set}
 use Rattle.std.specs.Int.{w64, int_wrap, int_rem_euclid}
 use Rattle.std.specs.Ordering.{int_eq}
+use Rattle.x10_model.specs.declared.limits.TheConstants.{MOST_BYTES}
 use Rattle.x10_kinds.specs.declared.kind.Kind.{Kind}
 use Rattle.x10_code.specs.declared.op.Op.{Op}
 use Rattle.x10_code.specs.declared.op.Op.TheVariants as op
@@ -81,13 +82,13 @@ truth b = Int (if b then pos 1 else pos 0)
 -- ---- text
 
 abbrev pub joined_text : List ℕ → List ℕ → Option Value
-joined_text t u = if nat_le (length t + length u) 65535 then Some (Text (t ++ u)) else None
+joined_text t u = if nat_le (length t + length u) MOST_BYTES then Some (Text (t ++ u)) else None
 
 -- ---- rails
 
 -- a length from 0 to 65,535
 abbrev pub rail_length : ℤ → Option ℕ
-rail_length (pos n) = if nat_le n 65535 then Some n else None
+rail_length (pos n) = if nat_le n MOST_BYTES then Some n else None
 rail_length (negsuc n) = None
 
 -- the byte at an index, if there is one

@@ -2,6 +2,7 @@
 use Rattle.std.specs.Prelude.{ℕ, zero, suc, Bool, ◌&&◌, ◌==◌, nat_lt, nat_le, List, None, Result}
 use Rattle.std.specs.Int.{w16, w32}
 use Rattle.std.specs.Str.{is_utf8}
+use Rattle.x10_model.specs.declared.limits.TheConstants.{MOST_BYTES, MOST_FIELDS, MOST_PARAMETERS}
 use Rattle.x10_model.specs.Frames.{Item, IntItem, PlaceItem, TextItem, RailItem, ObjectItem, NullItem, RefItem, Node, Graph, Launch, launch, Frame, Spawn, Shift, Back, Report, Tables, tables, none, uses, used_after, Turn, turn, next_turn, used_in_all}
 use Rattle.x10_model.specs.Readers.{Reader, ◌>>=◌, ◌>>◌, done, check, such_that, expect, given, part, byte, number, int, many, times, all_of}
 
@@ -58,7 +59,7 @@ item_at places all used = do
   untagged_at places all used tag
 
 unfoldable pub length_at : Reader FrameFault ℕ
-length_at = such_that (number w32 Short) (λ n. nat_le n 65535) Order
+length_at = such_that (number w32 Short) (λ n. nat_le n MOST_BYTES) Order
 
 unfoldable pub text_at : Reader FrameFault (List ℕ)
 text_at = do
@@ -75,7 +76,7 @@ unfoldable pub node_at : ℕ → Tables → Turn → Reader FrameFault Node
 node_at places all t = do
   class ← number w16 Short
   check (nat_lt t.number t.used.nodes) Order
-  count ← such_that (byte Short) (λ n. nat_le n 16) Order
+  count ← such_that (byte Short) (λ n. nat_le n MOST_FIELDS) Order
   fields ← many (item_at places all) uses count t.used
   done (record { class = class; fields = fields })
 
@@ -101,7 +102,7 @@ launch_at places = do
   home ← place_at places
   finish ← number w32 Short
   function ← number w16 Short
-  graph ← graph_at places 16
+  graph ← graph_at places MOST_PARAMETERS
   done (launch home finish function graph)
 
 -- what follows the head of a frame of a type

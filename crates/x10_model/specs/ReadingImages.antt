@@ -2,6 +2,7 @@
 use Rattle.std.specs.Prelude.{ℕ, zero, suc, ◌+◌, ◌*◌, Bool, true, false, ◌&&◌, ◌==◌, nat_lt, nat_le, is_none, List, length, Option, Some, None, Result, Ok, Err, if◌then◌else◌, slice_get}
 use Rattle.std.specs.Int.{w16, w32}
 use Rattle.std.specs.Str.{is_utf8}
+use Rattle.x10_model.specs.declared.limits.TheConstants.{MOST_FIELDS, MOST_FUNCTIONS, MOST_INSTRUCTIONS, MOST_LOOPS, MOST_PARAMETERS, MOST_PLACES, MOST_REGISTERS}
 use Rattle.x10_kinds.specs.declared.kind.Kind.{Kind as ValueKind}
 use Rattle.x10_kinds.specs.declared.kind.Kind.TheVariants as kind
 use Rattle.x10_code.specs.declared.instr.Instr.{Instr}
@@ -97,11 +98,11 @@ header_at = do
   need 20 Short
   expect (number w32 Short) magic Magic
   expect (number w16 Short) 1 Version
-  least_places ← such_that (number w16 Short) (is_within 1 64) Count
+  least_places ← such_that (number w16 Short) (is_within 1 MOST_PLACES) Count
   classes ← number w16 Short
   ints ← number w16 Short
   texts ← number w16 Short
-  functions ← such_that (number w16 Short) (is_within 1 256) Count
+  functions ← such_that (number w16 Short) (is_within 1 MOST_FUNCTIONS) Count
   entry ← number w16 Short
   expect (number w16 Short) 0 Reserved
   done (record { least_places = least_places; classes = classes; ints = ints; texts = texts; functions = functions; entry = entry })
@@ -111,7 +112,7 @@ unfoldable pub class_at : ℕ → Reader ImageFault (List ValueKind)
 class_at classes = do
   count ← byte Short
   need (3 * count) Short
-  check (nat_le count 16) Count
+  check (nat_le count MOST_FIELDS) Count
   times count (kind_at classes)
 
 unfoldable pub text_at : Reader ImageFault (List ℕ)
@@ -131,15 +132,15 @@ instruction_at function pc = do
 unfoldable pub function_at : ℕ → ℕ → Reader ImageFault Function
 function_at classes function = do
   need 4 Short
-  count ← such_that (byte Short) (is_within 0 16) Count
-  registers ← such_that (byte Short) (λ n. is_within 1 64 n && nat_le count n) Count
-  loops ← such_that (byte Short) (is_within 0 8) Count
+  count ← such_that (byte Short) (is_within 0 MOST_PARAMETERS) Count
+  registers ← such_that (byte Short) (λ n. is_within 1 MOST_REGISTERS n && nat_le count n) Count
+  loops ← such_that (byte Short) (is_within 0 MOST_LOOPS) Count
   expect (byte Short) 0 Reserved
   need (4 * (count + 1)) Short
   parameters ← times count (slot_at classes)
   result ← result_at classes
   need 4 Short
-  instructions ← such_that (number w16 Short) (is_within 1 4096) Count
+  instructions ← such_that (number w16 Short) (is_within 1 MOST_INSTRUCTIONS) Count
   expect (number w16 Short) 0 Reserved
   need (8 * instructions) Short
   code ← numbered instructions (instruction_at function)

@@ -1,5 +1,6 @@
 -- How loops and finishes nest, where jumps may go, and how many steps a function may take.
 use Rattle.std.specs.Prelude.{ℕ, zero, suc, ◌+◌, ◌-◌, ◌*◌, ◌^◌, Bool, true, false, ◌==◌, ◌&&◌, ◌||◌, not, nat_lt, nat_le, List, [], ◌∷◌, ◌++◌, length, Option, Some, None, Result, Ok, Err, if◌then◌else◌, slice_get, slice_index}
+use Rattle.x10_model.specs.declared.limits.TheConstants.{MOST_TURNS}
 use Rattle.x10_code.specs.declared.op.Op.{Op}
 use Rattle.x10_code.specs.declared.op.Op.TheVariants as op
 use Rattle.x10_code.specs.declared.instr.Instr.{Instr}
@@ -101,7 +102,7 @@ depth_of (r ∷ rs) = if is_loop r then depth_of rs + 1 else depth_of rs
 
 -- a loop's slot is its depth among loops, and it turns 1 to 65,535 times
 abbrev pub has_slot : ℕ → List Region → Instr → Op → Bool
-has_slot loops rs i op.Loop = (i.a == depth_of rs) && nat_lt i.a loops && nat_le 1 i.x && nat_le i.x 65535
+has_slot loops rs i op.Loop = (i.a == depth_of rs) && nat_lt i.a loops && nat_le 1 i.x && nat_le i.x MOST_TURNS
 has_slot loops rs i op.Endl = (i.a + 1 == depth_of rs) && nat_lt i.a loops
 has_slot loops rs i _ = true
 

@@ -1,6 +1,6 @@
 -- Counting what a finish waits for: totals at each place, reports of them, and when they balance. The counting family of
 -- termination detection (Mattern, 1987).
-use Rattle.std.specs.Prelude.{◌≡◌, ℕ, zero, suc, ◌+◌, ◌-◌, ◌<◌, ◌≤◌, max, Bool, true, false, ◌==◌, ◌&&◌, not, List, [], ◌∷◌, if◌then◌else◌, slice_index}
+use Rattle.std.specs.Prelude.{◌≡◌, ℕ, zero, suc, ◌+◌, ◌-◌, ◌<◌, max, Bool, true, false, ◌==◌, ◌&&◌, not, List, [], ◌∷◌, if◌then◌else◌, slice_index}
 use Rattle.x10_model.specs.Maps.{with_entry}
 use Rattle.x10_model.specs.Places.{Finish, root, Message, Spawn, Shift, Back, Effect, Begins, Spawns, Shifts, Ends, receiver}
 use Rattle.x10_model.specs.Worlds.{same_finish}
@@ -56,9 +56,13 @@ abbrev pub totals_from : Finish → Totals → List Happening → Totals
 totals_from f t [] = t
 totals_from f t (h ∷ hs) = totals_from f (totals_after f t h) hs
 
--- a report goes to the finish's home where a stay ends there away from home and no other lives
+-- the last stay under a finish ends at a place, away from the finish's home: then a report goes there
+abbrev pub is_last : (home here : ℕ) → Totals → Bool
+is_last home here t = not (home == here) && (t.live - 1 == 0)
+
+-- a report is due after what happens
 abbrev pub is_reported : ℕ → Finish → Totals → Happening → Bool
-is_reported here f t (Did (Ends under back)) = same_finish f under && not (f.home == here) && (t.live - 1 == 0)
+is_reported here f t (Did (Ends under back)) = same_finish f under && is_last f.home here t
 is_reported here f t _ = false
 
 -- ---- reports, and what the home keeps of them
@@ -115,14 +119,3 @@ seen_from home own kept = with_entry kept home own
 -- the home lets its finish end: nothing under it lives there, and what it sees balances
 abbrev pub IsDoneAt : ℕ → ℕ → Totals → Cut → Type 0
 IsDoneAt places home own kept = (own.live ≡ 0) × IsBalanced places (seen_from home (entry_of own) kept)
-
--- an earlier entry of a place has numbers no larger than its totals now
-pub record IsEarlier (e : Entry) (now : Totals) : Type 0 where
-  pub sent : (p : ℕ) → e.sent p ≤ now.sent p
-  pub received : (p : ℕ) → e.received p ≤ now.received p
-
--- where nothing was received since, and nothing lives
-pub record IsStillNow (e : Entry) (now : Totals) (places : ℕ) : Type 0 where
-  pub live : now.live ≡ 0
-  pub sent : (p : ℕ) → p < places → e.sent p ≡ now.sent p
-  pub received : (p : ℕ) → p < places → e.received p ≡ now.received p

@@ -10,7 +10,7 @@ use Rattle.x10_model.specs.declared.slot.Slot.{Slot}
 use Rattle.x10_model.specs.Ranges.{function_at, instr_at, IsInRange, parameters_of, result_of, fields_of}
 use Rattle.x10_model.specs.Values.{Value, Int, Place, Text, Rail, Object, Null, Ref, Fields, Cells, IsOfKind, IsObjectOf, IsRail}
 use Rattle.x10_model.specs.Signatures.{FitSlots, AreOfKinds}
-use Rattle.x10_model.specs.Copies.{Snapshot}
+use Rattle.x10_model.specs.Copies.{Snapshot, IsWhole}
 use Rattle.x10_model.specs.Places as places
 use Rattle.x10_model.specs.Places.{Setting, CallFrame, Stay, Export, Message, Spawn, Shift, Back}
 use Rattle.x10_model.specs.Moves.{Situation, Holds, HoldsFrom, GivesBack}
@@ -136,6 +136,8 @@ pub data IsMisfit (setting : Setting) (here : ℕ) (place : places.Place) : Mess
   not_here : (message : Message) → places.receiver message ≢ here → IsMisfit setting here place message
   -- its graph doesn't fit the classes, or names an export that isn't there
   graph : (message : Message) → (FitsPlace setting here place (graph_of message) → ⊥) → IsMisfit setting here place message
+  -- a part of its graph is reached by nothing, or a reference leads to no part
+  torn : (message : Message) → (IsWhole (graph_of message) → ⊥) → IsMisfit setting here place message
   -- its arguments don't fit its function, or there is none
   spawn : (from to : ℕ) (under : places.Finish) (function : ℕ) (g : Snapshot) → ((callee : Function) → FitsFunctionAt setting here function g callee → callee.result ≡ None → ⊥) → IsMisfit setting here place (Spawn from to under function g)
   shift : (from to waiting : ℕ) (under : places.Finish) (function : ℕ) (g : Snapshot) → ((callee : Function) → FitsFunctionAt setting here function g callee → ⊥) → IsMisfit setting here place (Shift from to waiting under function g)

@@ -1,4 +1,6 @@
 //! Worked examples of the definitions: the check computes them.
+ghost use Rattle.x10_model.specs.Relay.{RelayRuns};
+ghost use Rattle.x10_model.specs.Refused.{EachMoveGoesWrong, EachMessageMisfits, SharedArrives};
 ghost use Rattle.x10_model.specs.Examples.{DoublingIsBounded, LongLoopsAreBounded, JumpsAreRefused, EachGroupMoves, SevenRuns, CycleIsCopied, ReportsBalance};
 
 /// A loop of 4 in a loop of 3 takes at most 34 steps.
@@ -34,4 +36,25 @@ pub fn cycle_is_copied()
 /// Three reports of two places, in several orders, and what balances after each.
 pub fn reports_balance()
     ensures { ReportsBalance }
+{}
+
+/// A run over three places: main opens a finish, goes to the second place, where an activity is begun at the third, comes
+/// back, waits at the end of its finish until that activity has ended, and goes on.
+pub fn relay_runs()
+    ensures { RelayRuns }
+{}
+
+/// One wrong move of each cause.
+pub fn each_move_goes_wrong()
+    ensures { EachMoveGoesWrong }
+{}
+
+/// One misfit of each cause.
+pub fn each_message_misfits()
+    ensures { EachMessageMisfits }
+{}
+
+/// One object that is passed twice is one object where it arrives.
+pub fn shared_arrives()
+    ensures { SharedArrives }
 {}

@@ -1,4 +1,4 @@
-ghost use Rattle.x10_model.specs.Laws.{EnclosingIsTransitive, GoverningIsTransitive, MovesAreNotWrong, DeliveriesAreNotWrong, ReadyIsAbleOrWrong, BalanceIsTested, EventsAreNotWrong};
+ghost use Rattle.x10_model.specs.Laws.{EnclosingIsTransitive, GoverningIsTransitive, MovesAreNotWrong, DeliveriesAreNotWrong, ReadyIsAbleOrWrong, ArrivedIsTakenOrMisfit, BalanceIsTested, EventsAreNotWrong, TotalsGoOn, ReportsAreDue, LogsGoOn, FramesCarryTo};
 
 /// Enclosing finishes lead on: what stands within a finish that stands within another stands within
 /// that one too.
@@ -27,6 +27,11 @@ pub fn ready_is_able_or_wrong()
     ensures { ReadyIsAbleOrWrong }
 {}
 
+/// A message that reaches its place is taken in or is a misfit, where there is room for it: none is left lying.
+pub fn arrived_is_taken_or_misfit()
+    ensures { ArrivedIsTakenOrMisfit }
+{}
+
 /// Whether a cut balances is told by comparing each pair of places.
 pub fn balance_is_tested()
     ensures { BalanceIsTested }
@@ -36,4 +41,24 @@ pub fn balance_is_tested()
 /// is there that could.
 pub fn events_are_not_wrong()
     ensures { EventsAreNotWrong }
+{}
+
+/// What a place counted is what it had counted before, and then what happened last.
+pub fn totals_go_on()
+    ensures { TotalsGoOn }
+{}
+
+/// A report is due where the last stay of a finish ends away from its home, and at no other happening.
+pub fn reports_are_due()
+    ensures { ReportsAreDue }
+{}
+
+/// A log that goes on stands for its events so far and then for those of what follows.
+pub fn logs_go_on()
+    ensures { LogsGoOn }
+{}
+
+/// Where a frame carries a message, it goes to the message's receiver.
+pub fn frames_carry_to()
+    ensures { FramesCarryTo }
 {}

@@ -7,6 +7,7 @@ pub mod examples;
 pub mod frames;
 pub mod images;
 pub mod laws;
+pub mod limits;
 mod slot;
 
 pub use event::Event;

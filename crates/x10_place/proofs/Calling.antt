@@ -12,26 +12,26 @@ use Rattle.x10_model.specs.Modules.{Module, Function}
 use Rattle.x10_model.specs.Ranges.{function_at, IsThere}
 use Rattle.x10_image.specs.Parts.{Signature, signature_of}
 use Rattle.x10_place.specs.declared.frame.CallFrame.{CallFrame}
-use Rattle.x10_place.specs.Frames.{word_at, IsFetched, IsEntered}
-use Rattle.x10_place.proofs.Typed.{same_or_not}
+use Rattle.x10_place.specs.Frames.{word_at, IsFetchedFor, IsEntered}
+use Rattle.x10_place.proofs.Maps.{same_or_not}
 
 -- so many registers, of which those below n have the words of the caller's from b on
-pub record ArgumentsTo (caller : CallFrame) (i : Instr) (registers : ℕ) (words : List ℕ) (n : ℕ) : Type 0 where
+pub record ArgumentsTo (from : List ℕ) (i : Instr) (registers : ℕ) (words : List ℕ) (n : ℕ) : Type 0 where
   pub count : length words ≡ registers
-  pub same : (r : ℕ) → r < n → slice_index words r ≡ word_at caller (i.b + r)
+  pub same : (r : ℕ) → r < n → slice_index words r ≡ word_at from (i.b + r)
 
-pub arguments_begin : (caller : CallFrame) (i : Instr) (words : List ℕ) → ArgumentsTo caller i (length words) words 0
-arguments_begin caller i words = record { count = refl; same = λ r lt. absurd (omega (arith, lt)) }
+pub arguments_begin : (from : List ℕ) (i : Instr) (words : List ℕ) → ArgumentsTo from i (length words) words 0
+arguments_begin from i words = record { count = refl; same = λ r lt. absurd (omega (arith, lt)) }
 
 refilled : (xs ws : List ℕ) → length ws ≡ length xs → refill (length xs) xs ws ≡ ws
 refilled xs ws e = take_at ws (drop (length ws) xs) (length xs) e
 
 -- one argument more
-arguments_set : (caller : CallFrame) (i : Instr) (registers n w : ℕ) (xs : List ℕ) → ArgumentsTo caller i registers xs n → n < length xs → w ≡ word_at caller (i.b + n) → ArgumentsTo caller i registers (slice_set xs n w) (n + 1)
-arguments_set caller i registers n w xs before lt e = record {
+arguments_set : (from : List ℕ) (i : Instr) (registers n w : ℕ) (xs : List ℕ) → ArgumentsTo from i registers xs n → n < length xs → w ≡ word_at from (i.b + n) → ArgumentsTo from i registers (slice_set xs n w) (n + 1)
+arguments_set from i registers n w xs before lt e = record {
   count = simp length-set before.count;
   same = λ r less. elim (same_or_not r n) [
-    | inl at ↦ subst (λ q. get_or (set xs n w) q 0 ≡ word_at caller (i.b + q)) (sym at) (get_or-set_same xs n w 0 lt ∙ e)
+    | inl at ↦ subst (λ q. get_or (set xs n w) q 0 ≡ word_at from (i.b + q)) (sym at) (get_or-set_same xs n w 0 lt ∙ e)
     | inr off ↦ get_or-set_other xs n r w 0 off ∙ before.same r (below r n less off)
   ];
 }
@@ -39,26 +39,26 @@ arguments_set caller i registers n w xs before lt e = record {
     below : (r n : ℕ) → r < n + 1 → (r ≡ n → ⊥) → r < n
     below r n less off = elim (cases_lt r n) [ inl lt ↦ lt | inr ge ↦ absurd (off (omega (arith, ge, less))) ]
 
-pub arguments_more : (caller : CallFrame) (i : Instr) (registers n w : ℕ) (xs ys : List ℕ) → ArgumentsTo caller i registers xs n → n < length xs → ys ≡ xs → w ≡ word_at caller (i.b + n) → ArgumentsTo caller i registers (refill (length xs) xs (slice_set ys n w)) (n + 1)
-arguments_more caller i registers n w xs ys before lt same e =
+pub arguments_more : (from : List ℕ) (i : Instr) (registers n w : ℕ) (xs ys : List ℕ) → ArgumentsTo from i registers xs n → n < length xs → ys ≡ xs → w ≡ word_at from (i.b + n) → ArgumentsTo from i registers (refill (length xs) xs (slice_set ys n w)) (n + 1)
+arguments_more from i registers n w xs ys before lt same e =
     let is : refill (length xs) xs (slice_set ys n w) ≡ slice_set xs n w = refilled xs (slice_set ys n w) (simp length-set (ap length same)) ∙ ap (λ zs. slice_set zs n w) same in
-    subst (λ zs. ArgumentsTo caller i registers zs (n + 1)) (sym is) (arguments_set caller i registers n w xs before lt e)
+    subst (λ zs. ArgumentsTo from i registers zs (n + 1)) (sym is) (arguments_set from i registers n w xs before lt e)
 
 -- ---- the callee
 
 -- the function that a call names
-pub function_there : (program : Module) (f : CallFrame) (i : Instr) → IsFetched program f i → i.op ≡ op.Call → i.x < length program.functions
+pub function_there : (program : Module) (f : CallFrame) (i : Instr) → IsFetchedFor program f i → i.op ≡ op.Call → i.x < length program.functions
 function_there program f i fetched e = subst (λ o. IsThere program fetched.function i (form_of o).x i.x) e fetched.in_range.x
 
 -- a callee's registers hold its arguments
-pub entered : (program image : Module) (caller : CallFrame) (i : Instr) (words : List ℕ) (s : Signature) (n : ℕ) (f : CallFrame) → image ≡ program → (g : Function) × (function_at image i.x ≡ Some g) × (s ≡ signature_of g)
-    → ArgumentsTo caller i s.registers words n → length s.parameters ≤ n → f.function ≡ i.x → f.pc ≡ 0 → f.registers.items ≡ words → f.loops ≡ replicate 8 0 → IsEntered program caller i f
-entered program image caller i words s n f same g arguments all function-is pc-is words-are loops-are = record {
+pub entered : (program image : Module) (from : List ℕ) (i : Instr) (words : List ℕ) (s : Signature) (n count : ℕ) (f : CallFrame) → image ≡ program → (g : Function) × (function_at image i.x ≡ Some g) × (s ≡ signature_of g)
+    → ArgumentsTo from i count words n → s.registers ≤ count → length s.parameters ≤ n → f.function ≡ i.x → f.pc ≡ 0 → f.registers.items ≡ words → f.loops ≡ replicate 8 0 → IsEntered program from i f
+entered program image from i words s n count f same g arguments room all function-is pc-is words-are loops-are = record {
   callee = g.0;
   is_callee = subst (λ (m : Module). function_at m i.x ≡ Some g.0) same g.1;
   function_is = function-is;
   pc_is = pc-is;
-  registers = ap length words-are ∙ arguments.count ∙ ap (λ (t : Signature). t.registers) g.2;
+  registers = (let long : length f.registers.items ≡ count = ap length words-are ∙ arguments.count in let same-count : s.registers ≡ g.0.registers = ap (λ (t : Signature). t.registers) g.2 in omega (arith, long, same-count, room));
   arguments = λ r lt. ap (λ ws. slice_index ws r) words-are ∙ arguments.same r (let e : length s.parameters ≡ length g.0.parameters = ap (λ (t : Signature). length t.parameters) g.2 in omega (arith, lt, e, all));
   loops_are = loops-are;
 }

@@ -1,6 +1,6 @@
 -- Calls: what the program does to frames is what the machine does to call frames.
 use Rattle.std.proofs.Common.{◌≡◌, ℕ, zero, suc, ◌+◌, ◌<◌, ◌≤◌, List, [], ◌∷◌, length, replicate, Option, Some, refl, sym, ap, subst, ◌∙◌, arith}
-use Rattle.std.specs.Prelude.{IsTrue, slice_get, slice_index}
+use Rattle.std.specs.Prelude.{Bool, IsTrue, reverse, slice_get, slice_index}
 use Rattle.std.specs.List.{AllByRecursion}
 use Rattle.x10_kinds.specs.declared.kind.Kind.{Kind}
 use Rattle.x10_kinds.specs.declared.kind.Kind.TheVariants as kind
@@ -19,14 +19,15 @@ use Rattle.x10_model.specs.Moves.{Situation, Does, HoldsFrom, place_of, entry_fr
 use Rattle.x10_model.specs.Assignments.{State, Edges, SlotsFit, FitsAs, parameter_kind, entry_state, Permits}
 use Rattle.x10_verify.proofs.Wholes.{function_fits}
 use Rattle.x10_place.specs.declared.frame.CallFrame.{CallFrame}
-use Rattle.x10_place.specs.Words.{IsWordOf, AreWordsOf}
+use Rattle.x10_heap.specs.Words.{Context, IsWordOf, HoldsHeap}
 use Rattle.x10_place.specs.Homes.{AreHomes, place_in}
-use Rattle.x10_place.specs.Frames.{IsFetched, IsEntered}
-use Rattle.x10_place.specs.Activities.{ActivityState, Calls}
-use Rattle.x10_place.specs.StandsFor.{PlaceState, Assigned, StandsForFrame, StandsForStay}
-use Rattle.x10_place.proofs.Typed.{some_is, reads, words_weaken}
+use Rattle.x10_place.specs.Frames.{IsFetchedFor, IsEntered}
+use Rattle.x10_place.specs.Stays.{StayState, IsPlaced, Calls}
+use Rattle.x10_place.specs.StandsFor.{PlaceState, context_of, Assigned, HoldRegisters, StandsForFrame, IsAtHome, StandsForStay}
+use Rattle.x10_place.proofs.Maps.{some_is}
+use Rattle.x10_place.proofs.Words.{of_kind, reads, words_weaken}
 use Rattle.x10_place.proofs.Homes.{homes_weaken, homes_entry}
-use Rattle.x10_place.proofs.Framed.{has_state, point_of, in_range, fits}
+use Rattle.x10_place.proofs.Framed.{has_state, point_of, in_range, small}
 use Rattle.x10_place.proofs.Local.{situated}
 
 -- ---- homes
@@ -46,44 +47,45 @@ has_home cells v (kind.GRef c) here flag of e = ref_home cells v c here of e
 has_home cells v _ here flag of e = absurd cc
 
 -- what a register that fits a slot holds
-abbrev pub FitsWord : Cells → ℕ → (ℕ → Option Value) → ℕ → ℕ → Slot → Type 0
-FitsWord cells here registers word r slot = (v : Value) × (registers r ≡ Some v) × FitsSlotAt (IsOfKind cells) here v slot × IsWordOf v word
+abbrev pub FitsWord : Context → Cells → (ℕ → Option Value) → ℕ → ℕ → Slot → Type 0
+FitsWord x cells registers word r slot = (v : Value) × (registers r ≡ Some v) × FitsSlotAt (IsOfKind cells) x.here v slot × IsWordOf x slot.kind word v
 
-pub fits_word : (classes : ℕ) (cells : Cells) (here : ℕ) (s : State) (registers : ℕ → Option Value) (words : List ℕ) (r : ℕ) (slot : Slot) → r < 64 → FitsSlot classes slot → AreWordsOf cells s registers words → AreHomes here s.homes registers → FitsAs s term.Here r slot
-    → FitsWord cells here registers (slice_index words r) r slot
-fits_word classes cells here s registers words r slot few fit typed homes fits-as =
-    let v = reads cells s registers words r slot.kind typed fits-as.0 in (
+pub fits_word : (classes : ℕ) (x : Context) (cells : Cells) (s : State) (registers : ℕ → Option Value) (words : List ℕ) (r : ℕ) (slot : Slot) → HoldsHeap x cells → r < 64 → FitsSlot classes slot → HoldRegisters x s registers words → AreHomes x.here s.homes registers → FitsAs s term.Here r slot
+    → FitsWord x cells registers (slice_index words r) r slot
+fits_word classes x cells s registers words r slot holds few fit typed homes fits-as =
+    let v = reads x s registers words r slot.kind typed fits-as.0 in
+    let of = of_kind x cells slot.kind (slice_index words r) v.0 holds v.2 in (
       v.0,
       v.1,
-      record { kind = v.2; home = λ flag. has_home cells v.0 slot.kind here (fit.flag flag) v.2 (sym (ap place_in v.1) ∙ homes (term.Reg r) term.Here few tt (fits-as.1 flag)) },
-      v.3,
+      record { kind = of; home = λ flag. has_home cells v.0 slot.kind x.here (fit.flag flag) of (sym (ap place_in v.1) ∙ homes (term.Reg r) term.Here few tt (fits-as.1 flag)) },
+      v.2,
     )
 
 -- ---- arguments
 
 -- what the registers from r on pass to a function's parameters
-pub record PassesWords (cells : Cells) (sit : Situation) (words : List ℕ) (r : ℕ) (slots : List Slot) (vs : List Value) : Type 0 where
+pub record PassesWords (x : Context) (cells : Cells) (sit : Situation) (words : List ℕ) (r : ℕ) (slots : List Slot) (vs : List Value) : Type 0 where
   pub held : HoldsFrom sit r vs
-  pub fit : FitSlots (IsOfKind cells) sit.here vs slots
-  pub words_are : (k : ℕ) (want : Kind) → parameter_kind (slice_get slots k) ≡ Some want → (v : Value) × (slice_get vs k ≡ Some v) × IsOfKind cells v want × IsWordOf v (slice_index words (r + k))
+  pub fit : FitSlots (IsOfKind cells) x.here vs slots
+  pub words_are : (k : ℕ) (want : Kind) → parameter_kind (slice_get slots k) ≡ Some want → (v : Value) × (slice_get vs k ≡ Some v) × IsWordOf x want (slice_index words (r + k)) v
 
 kind_is : (slot : Slot) (want : Kind) → parameter_kind (Some slot) ≡ Some want → slot.kind ≡ want
 kind_is slot want e = some_is slot.kind want e
 
-passes_words : (classes : ℕ) (cells : Cells) (sit : Situation) (s : State) (words : List ℕ) (r : ℕ) (slots : List Slot) → r + length slots ≤ 64 → AllByRecursion (FitsSlot classes) slots → AreWordsOf cells s sit.stay.top.registers words → AreHomes sit.here s.homes sit.stay.top.registers
-    → SlotsFit s term.Here r slots → (vs : List Value) × PassesWords cells sit words r slots vs
-passes_words classes cells sit s words r [] few all typed homes fit = ([], record { held = tt; fit = tt; words_are = λ k want e. absurd cc })
-passes_words classes cells sit s words r (slot ∷ slots) few all typed homes fit =
-    let v = fits_word classes cells sit.here s sit.stay.top.registers words r slot (omega (arith, few)) all.0 typed homes fit.0 in
-    let rest = passes_words classes cells sit s words (r + 1) slots (omega (arith, few)) all.1 typed homes fit.1 in (
-      v.0 ∷ rest.0,
-      record { held = (v.1, rest.1.held); fit = (v.2, rest.1.fit); words_are = λ k want e. at k want e v rest },
-    )
-  where
-    at : (k : ℕ) (want : Kind) → parameter_kind (slice_get (slot ∷ slots) k) ≡ Some want → (v : FitsWord cells sit.here sit.stay.top.registers (slice_index words r) r slot) → (rest : (vs : List Value) × PassesWords cells sit words (r + 1) slots vs)
-        → (u : Value) × (slice_get (v.0 ∷ rest.0) k ≡ Some u) × IsOfKind cells u want × IsWordOf u (slice_index words (r + k))
-    at zero want e v rest = (v.0, refl, subst (λ w. IsOfKind cells v.0 w) (kind_is slot want e) v.2.kind, subst (λ n. IsWordOf v.0 (slice_index words n)) (omega arith) v.3)
-    at (suc k) want e v rest = let u = rest.1.words_are k want e in (u.0, u.1, u.2, subst (λ n. IsWordOf u.0 (slice_index words n)) (omega arith) u.3)
+module _ (classes : ℕ) (x : Context) (cells : Cells) (holds : HoldsHeap x cells) (sit : Situation) (s : State) (words : List ℕ) (typed : HoldRegisters x s sit.stay.top.registers words) (homes : AreHomes x.here s.homes sit.stay.top.registers) where
+  passes_words : (r : ℕ) (slots : List Slot) → r + length slots ≤ 64 → AllByRecursion (FitsSlot classes) slots → SlotsFit s term.Here r slots → (vs : List Value) × PassesWords x cells sit words r slots vs
+  passes_words r [] few all fit = ([], record { held = tt; fit = tt; words_are = λ k want e. absurd cc })
+  passes_words r (slot ∷ slots) few all fit =
+      let v = fits_word classes x cells s sit.stay.top.registers words r slot holds (omega (arith, few)) all.0 typed homes fit.0 in
+      let rest = passes_words (r + 1) slots (omega (arith, few)) all.1 fit.1 in (
+        v.0 ∷ rest.0,
+        record { held = (v.1, rest.1.held); fit = (v.2, rest.1.fit); words_are = λ k want e. at k want e v rest },
+      )
+    where
+      at : (k : ℕ) (want : Kind) → parameter_kind (slice_get (slot ∷ slots) k) ≡ Some want → (v : FitsWord x cells sit.stay.top.registers (slice_index words r) r slot) → (rest : (vs : List Value) × PassesWords x cells sit words (r + 1) slots vs)
+          → (u : Value) × (slice_get (v.0 ∷ rest.0) k ≡ Some u) × IsWordOf x want (slice_index words (r + k)) u
+      at zero want e v rest = (v.0, refl, subst (λ n. IsWordOf x want (slice_index words n) v.0) (omega arith) (subst (λ k. IsWordOf x k (slice_index words r) v.0) (kind_is slot want e) v.3))
+      at (suc k) want e v rest = let u = rest.1.words_are k want e in (u.0, u.1, subst (λ n. IsWordOf x want (slice_index words n) u.0) (omega arith) u.2)
 
 pub no_turns : (n slot : ℕ) → slice_index (replicate n 0) slot ≡ 0
 no_turns zero slot = refl
@@ -97,7 +99,10 @@ slot_below [] r want e = absurd cc
 slot_below (slot ∷ slots) zero want e = omega arith
 slot_below (slot ∷ slots) (suc r) want e = let h : r < length slots = slot_below slots r want e in omega arith
 
-module _ (p : PlaceState) (m : machine.Place) (key : ℕ) (a : ActivityState) (s : Stay) (assigned : Assigned p.program) (h : StandsForStay p.program assigned p.id m.cells a s) (i : Instr) (fetched : IsFetched p.program a.top i) where
+module _ (far : ℕ → ℕ → ℕ → Bool) (p : PlaceState) (m : machine.Place) (holds : HoldsHeap (context_of far p) m.cells) (key : ℕ) (a : StayState) (s : Stay) (assigned : Assigned p.program) (h : StandsForStay p.program assigned (context_of far p) a s) (i : Instr) (fetched : IsFetchedFor p.program a.top i) where
+  abbrev x : Context
+  x = context_of far p
+
   abbrev function : Function
   function = h.top.function
 
@@ -105,8 +110,8 @@ module _ (p : PlaceState) (m : machine.Place) (key : ℕ) (a : ActivityState) (s
   sit = situated p m key s function i
 
   -- the callee's frame, at its first instruction
-  entered_stands : (callee : Function) (vs : List Value) (f : CallFrame) → length callee.parameters ≤ 16 → (e : IsEntered p.program a.top i f) → function_at p.program i.x ≡ Some callee → PassesWords m.cells sit a.top.registers.items i.b callee.parameters vs
-      → StandsForFrame p.program assigned p.id m.cells f (entry_frame i.x vs)
+  entered_stands : (callee : Function) (vs : List Value) (f : CallFrame) → length callee.parameters ≤ 16 → (e : IsEntered p.program a.top.registers.items i f) → function_at p.program i.x ≡ Some callee → PassesWords x m.cells sit a.top.registers.items i.b callee.parameters vs
+      → StandsForFrame p.program assigned x f (entry_frame i.x vs)
   entered_stands callee vs f few e is passed =
       let start = (assigned i.x callee is).1.entry in
       let state = has_state p.program assigned i.x f.function 0 f.pc start.0 (sym e.function_is) (sym e.pc_is) (callee, is, start.1) in
@@ -117,38 +122,40 @@ module _ (p : PlaceState) (m : machine.Place) (key : ℕ) (a : ActivityState) (s
         is_function = state.1;
         state = start.0;
         is_state = state.2;
-        words = words_weaken m.cells (entry_state callee) start.0 (slice_get vs) f.registers.items start.2 typed;
+        words = words_weaken x (entry_state callee) start.0 (slice_get vs) f.registers.items start.2 typed;
         homes = homes_weaken p.id (entry_state callee) start.0 (slice_get vs) start.2 (homes_entry m.cells p.id callee vs (omega (arith, few)) passed.fit);
         slots = ap length e.loops_are;
         loops = λ slot lt. sym (ap (λ ls. slice_index ls slot) e.loops_are ∙ no_turns 8 slot);
       }
     where
-      typed : AreWordsOf m.cells (entry_state callee) (slice_get vs) f.registers.items
+      typed : HoldRegisters x (entry_state callee) (slice_get vs) f.registers.items
       typed r want k =
           let v = passed.words_are r want k in
           let same : e.callee ≡ callee = some_is e.callee callee (sym e.is_callee ∙ is) in
           let lt : r < length e.callee.parameters = subst (λ (g : Function). r < length g.parameters) (sym same) (slot_below callee.parameters r want k) in
-          (v.0, v.1, v.2, subst (λ w. IsWordOf v.0 w) (sym (e.arguments r lt)) v.3)
+          (v.0, v.1, subst (λ w. IsWordOf x want w v.0) (sym (e.arguments r lt)) v.2)
 
-  pub call_moves : (b : ActivityState) (out : Edges) → FitsImage p.program → i.op ≡ op.Call → Permits op.Call (point_of p.program function a.top i) h.top.state out → Calls p.program a i b
-      → (t : Stay) × Does op.Call sit (with_stay m key (Some t)) Works × StandsForStay p.program assigned p.id m.cells b t
-  call_moves b out image o permits calls =
+  pub call_moves : (b : StayState) (out : Edges) → FitsImage p.program → IsPlaced p.program b → i.op ≡ op.Call → Permits op.Call (point_of p.program function a.top i) h.top.state out → Calls p.program a i b
+      → (t : Stay) × Does op.Call sit (with_stay m key (Some t)) Works × StandsForStay p.program assigned x b t
+  call_moves b out image placed o permits calls =
       let callee = permits.0 in
       let is = permits.2.0 in
       let callee-fits = function_fits p.program i.x callee image is in
-      let range = subst (λ q. IsThere p.program function i (form_of q).b i.b) o (in_range p.program assigned p.id m.cells a.top s.top h.top i fetched).b in
+      let range = subst (λ q. IsThere p.program function i (form_of q).b i.b) o (in_range p.program assigned x a.top s.top h.top i fetched).b in
       let count : AreArgumentRegisters function (argument_count p.program i op.Call) i.b = subst (λ q. AreArgumentRegisters function (argument_count p.program i q) i.b) o range in
       let counted : i.b + length callee.parameters ≤ function.registers = subst (λ g. i.b + length (parameters_of g) ≤ function.registers) is count.1 in
-      let few = (fits p.program assigned p.id m.cells a.top s.top h.top i fetched).registers.1 in
-      let passed = passes_words (length p.program.classes) m.cells sit h.top.state a.top.registers.items i.b callee.parameters (omega (arith, counted, few)) callee-fits.slots h.top.words h.top.homes permits.2.1 in (
+      let few = (small p.program assigned x a.top s.top h.top i fetched).registers.1 in
+      let passed = passes_words (length p.program.classes) x m.cells holds sit h.top.state a.top.registers.items h.top.words h.top.homes i.b callee.parameters (omega (arith, counted, few)) callee-fits.slots permits.2.1 in (
         record s { top = entry_frame i.x passed.0; callers = s.top ∷ s.callers },
         (callee, passed.0, record { callee_is = is; held = passed.1.held; fit = passed.1.fit }, refl, refl),
         record {
+          placed = placed;
           top = entered_stands callee passed.0 b.top callee-fits.parameters calls.entered is passed.1;
-          callers = (a.callers, a.top, calls.callers, h.top, h.callers);
-          finishes = h.finishes;
-          inherited = h.inherited;
-          away = h.away;
-          back = h.back;
+          callers = (a.callers, a.top, ap (λ (y : StayState). y.callers) calls.rest, h.top, h.callers);
+          finishes = h.finishes ∙ ap (λ (y : StayState). reverse y.finishes) (sym calls.rest);
+          inherited = h.inherited ∙ ap (λ (y : StayState). y.inherited) (sym calls.rest);
+          away = h.away ∙ ap (λ (y : StayState). y.away) (sym calls.rest);
+          back = h.back ∙ ap (λ (y : StayState). y.back) (sym calls.rest);
+          home = subst (λ (y : StayState). IsAtHome y) (sym calls.rest) (record { finishes = h.home.finishes; inherited = h.home.inherited; away = h.home.away; back = h.home.back });
         },
       )

@@ -1,10 +1,8 @@
 -- Callers: each stands at a call of the function of the next one.
 use Rattle.std.proofs.Common.{◌≡◌, ℕ, ◌<◌, List, [], ◌∷◌, ◌++◌, length, refl, sym, subst}
 use Rattle.x10_model.specs.Modules.{Module}
-use Rattle.x10_image.specs.Parts.{code_in, code_at}
-use Rattle.x10_verify.proofs.Wholes.{some_below}
 use Rattle.x10_place.specs.declared.frame.CallFrame.{CallFrame}
-use Rattle.x10_place.specs.Activities.{ActivityState, IsInside, IsCalling, AreCalling, IsPlaced, next_function}
+use Rattle.x10_place.specs.Stays.{StayState, IsCalling, AreCalling, IsPlaced, next_function}
 
 last_next : (fs : List CallFrame) (f : CallFrame) (top : ℕ) → next_function (fs ++ f ∷ []) top ≡ next_function fs f.function
 last_next [] f top = refl
@@ -22,17 +20,6 @@ pub chain_more : (program : Module) (fs : List CallFrame) (f : CallFrame) (top :
 chain_more program [] f top h calling = (calling, tt)
 chain_more program (g ∷ gs) f top h calling = (subst (λ n. IsCalling program g n) (sym (last_next gs f top)) h.0, chain_more program gs f top h.1 calling)
 
--- ---- what is there
-
--- the function of a frame that stands at an instruction
-pub function_inside : (program : Module) (f : CallFrame) (n : ℕ) → IsInside program f → n ≡ f.function → n < length program.functions
-function_inside program f n h e = subst (λ k. k < length program.functions) (sym e) (some_below program.functions f.function h.function h.is_function)
-
-pub pc_inside : (program : Module) (f : CallFrame) (n pc : ℕ) → IsInside program f → n ≡ f.function → pc ≡ f.pc → pc < length (code_at program n)
-pc_inside program f n pc h e g =
-    let here : f.pc < length (code_at program f.function) = subst (λ o. f.pc < length (code_in o)) (sym h.is_function) h.pc in
-    subst (λ k. k < length (code_at program n)) (sym g) (subst (λ k. f.pc < length (code_at program k)) (sym e) here)
-
--- the last caller of an activity
-pub caller_is : (program : Module) (a : ActivityState) (fs : List CallFrame) (f : CallFrame) → IsPlaced program a → a.callers ≡ fs ++ f ∷ [] → IsCalling program f a.top.function × AreCalling program fs f.function
+-- the last caller of a stay
+pub caller_is : (program : Module) (a : StayState) (fs : List CallFrame) (f : CallFrame) → IsPlaced program a → a.callers ≡ fs ++ f ∷ [] → IsCalling program f a.top.function × AreCalling program fs f.function
 caller_is program a fs f placed e = chain_last program fs f a.top.function (subst (λ gs. AreCalling program gs a.top.function) e placed.callers)

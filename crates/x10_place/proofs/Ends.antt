@@ -1,6 +1,6 @@
 -- The ends of functions, and what is printed: the program's steps are the machine's.
 use Rattle.std.proofs.Common.{◌≡◌, ◌⊎◌, ℕ, ◌+◌, ◌<◌, List, [], ◌∷◌, ◌++◌, length, Option, Some, None, refl, sym, ap, subst, ◌∙◌, inl, inr, arith}
-use Rattle.std.specs.Prelude.{slice_index, slice_set, IfSome}
+use Rattle.std.specs.Prelude.{Bool, reverse, slice_get, slice_index, slice_set, IfSome}
 use Rattle.x10_kinds.specs.declared.kind.Kind.TheVariants as kind
 use Rattle.x10_kinds.specs.declared.homes.Term.TheVariants as term
 use Rattle.x10_code.specs.declared.op.Op.TheVariants as op
@@ -17,14 +17,15 @@ use Rattle.x10_model.specs.Places.{Stay, Effect, Works, Ends, root, Number, with
 use Rattle.x10_model.specs.Moves.{Situation, Does, GivesBack, SendsBack, Returns, resumed, with_line}
 use Rattle.x10_model.specs.Assignments.{State, Edges, IsKind, ReturnsWell, GivesResult, gives, like_if, Permits, Reaches}
 use Rattle.x10_place.specs.declared.frame.CallFrame.{CallFrame}
-use Rattle.x10_place.specs.Words.{IsWordOf, AreWordsOf}
+use Rattle.x10_heap.specs.Words.{Context, IsWordOf, HoldsHeap}
 use Rattle.x10_place.specs.Homes.{AreHomes}
-use Rattle.x10_place.specs.Frames.{Becomes, word_at, int_at, IsFetched}
-use Rattle.x10_place.specs.Activities.{ActivityState, Resumes, GoesOn}
-use Rattle.x10_place.specs.StandsFor.{PlaceState, Assigned, StandsForFrame, StandForCallers, StandsForStay}
-use Rattle.x10_place.proofs.Typed.{some_is, reads, reads_int, no_text, words_written}
+use Rattle.x10_place.specs.Frames.{word_at, int_at, IsFetchedFor}
+use Rattle.x10_place.specs.Stays.{StayState, IsPlaced, GoesNext, Resumes, GoesOn}
+use Rattle.x10_place.specs.StandsFor.{PlaceState, context_of, Assigned, HoldRegisters, StandsForFrame, StandForCallers, IsAtHome, StandsForStay}
+use Rattle.x10_place.proofs.Maps.{some_is}
+use Rattle.x10_place.proofs.Words.{reads, reads_int, words_written}
 use Rattle.x10_place.proofs.Homes.{homes_written, result_like}
-use Rattle.x10_place.proofs.Framed.{point_of, in_range, fits, count, rule, frame_after}
+use Rattle.x10_place.proofs.Framed.{FrameAfter, point_of, in_range, small, count, rule, frame_after}
 use Rattle.x10_place.proofs.Local.{situated}
 use Rattle.x10_place.proofs.Calls.{fits_word}
 
@@ -50,10 +51,10 @@ not_empty (a ∷ xs) x e = cc
 -- ---- results
 
 -- what a function gives, and its word
-abbrev pub IsGiven : Cells → ℕ → Option Slot → Option Value → ℕ → Type 0
-IsGiven cells here None None word = Unit {0}
-IsGiven cells here (Some slot) (Some v) word = FitsSlotAt (IsOfKind cells) here v slot × IsWordOf v word
-IsGiven cells here _ _ word = ⊥
+abbrev pub IsGiven : Context → Cells → Option Slot → Option Value → ℕ → Type 0
+IsGiven x cells None None word = Unit {0}
+IsGiven x cells (Some slot) (Some v) word = FitsSlotAt (IsOfKind cells) x.here v slot × IsWordOf x slot.kind word v
+IsGiven x cells _ _ word = ⊥
 
 -- a caller's frame after its call
 call_result : (program : Module) (function : Function) (i : Instr) (slot : Slot) (o : Option Slot) → i.op ≡ op.Call → IsThere program function i (form_of i.op).a i.a → result_of (function_at program i.x) ≡ o → o ≡ Some slot → i.a < function.registers
@@ -62,23 +63,23 @@ call_result program function i slot o e there is some =
     let register = subst (λ q. IsResultRegister function (result_for program function i q) i.a) e at in
     subst (λ q. IsResultRegister function q i.a) (is ∙ some) register
 
-module _ (program : Module) (assigned : Assigned program) (here : ℕ) (cells : Cells) (f : CallFrame) (c : machine.CallFrame) (h : StandsForFrame program assigned here cells f c) (call : Instr) (fetched : IsFetched program f call) (o : call.op ≡ op.Call) where
+module _ (program : Module) (assigned : Assigned program) (x : Context) (cells : Cells) (f : CallFrame) (c : machine.CallFrame) (h : StandsForFrame program assigned x f c) (call : Instr) (fetched : IsFetchedFor program f call) (o : call.op ≡ op.Call) where
   -- the caller goes on after its call
   pub goes_after : (slot : Option Slot) (result : Option Value) (word : ℕ) (t : State) (top g : CallFrame) (i : Instr) → result_of (function_at program call.x) ≡ slot → GivesResult (point_of program h.function f call) h.state term.Here slot t
-      → Reaches (assigned f.function h.function h.is_function).0 (f.pc + 1, t) → IsGiven cells here slot result word → word ≡ word_at top i.a → GoesOn slot f call top i g → StandsForFrame program assigned here cells g (resumed c call.a result)
+      → Reaches (assigned f.function h.function h.is_function).0 (f.pc + 1, t) → IsGiven x cells slot result word → word ≡ word_at top.registers.items i.a → GoesOn slot f call top i g → StandsForFrame program assigned x g (resumed c call.a result)
   goes_after None None word t top g i is given reached back same goes =
-      frame_after program assigned here cells f c h call fetched g (next c) (f.pc + 1) t f.registers.items f.loops goes reached refl (ap (λ n. n + 1) h.pc_is)
-      (subst (λ u. AreWordsOf cells u c.registers f.registers.items) (sym given.1) h.words) (subst (λ (u : State). AreHomes here u.homes c.registers) (sym given.1) h.homes) h.slots h.loops
+      frame_after program assigned x f c h call fetched g (next c) (f.pc + 1) t f.registers.items f.loops (record { function_is = goes.function_is; pc_is = goes.pc_is; words_are = goes.words_are; loops_are = goes.loops_are }) reached refl (ap (λ n. n + 1) h.pc_is)
+      (subst (λ u. HoldRegisters x u c.registers f.registers.items) (sym given.1) h.words) (subst (λ (u : State). AreHomes x.here u.homes c.registers) (sym given.1) h.homes) h.slots h.loops
   goes_after (Some slot) (Some v) word t top g i is given reached back same goes =
-      let there = call_result program h.function call slot (Some slot) o (in_range program assigned here cells f c h call fetched).a is refl in
-      let lt : call.a < length f.registers.items = omega (arith, there, count program assigned here cells f c h call fetched) in
+      let there = call_result program h.function call slot (Some slot) o (in_range program assigned x f c h call fetched).a is refl in
+      let lt : call.a < length f.registers.items = omega (arith, there, count program assigned x f c h call fetched) in
       let like = like_if slot.home_here term.Here in
       let known = gives (point_of program h.function f call) h.state slot.kind like in
-      let typed : AreWordsOf cells known (with_entry c.registers call.a (Some v)) (slice_set f.registers.items call.a word) = words_written cells h.state c.registers f.registers.items call.a slot.kind like v word lt h.words back.0.kind back.1 in
-      frame_after program assigned here cells f c h call fetched g (writes c call.a v) (f.pc + 1) known (slice_set f.registers.items call.a word) f.loops
-      (subst (λ w. Becomes f g (f.pc + 1) (slice_set f.registers.items call.a w) f.loops) (sym same) goes)
+      let typed : HoldRegisters x known (with_entry c.registers call.a (Some v)) (slice_set f.registers.items call.a word) = words_written x h.state c.registers f.registers.items call.a slot.kind like v word lt h.words back.1 in
+      frame_after program assigned x f c h call fetched g (writes c call.a v) (f.pc + 1) known (slice_set f.registers.items call.a word) f.loops
+      (subst (λ w. FrameAfter f g (f.pc + 1) (slice_set f.registers.items call.a w) f.loops) (sym same) (record { function_is = goes.function_is; pc_is = goes.pc_is; words_are = goes.words_are; loops_are = goes.loops_are }))
       (subst (λ u. Reaches (assigned f.function h.function h.is_function).0 (f.pc + 1, u)) given reached) refl (ap (λ n. n + 1) h.pc_is)
-      typed (homes_written here h.state.homes c.registers call.a like v h.homes (result_like cells here c.registers v slot back.0)) h.slots h.loops
+      typed (homes_written x.here h.state.homes c.registers call.a like v h.homes (result_like cells x.here c.registers v slot back.0)) h.slots h.loops
   goes_after None (Some v) word t top g i is given reached back same goes = absurd back
   goes_after (Some slot) None word t top g i is given reached back same goes = absurd back
 
@@ -94,7 +95,10 @@ result_register program function i slot e there is =
     let register = subst (λ q. IsResultRegister function (result_for program function i q) i.a) e at in
     subst (λ q. IsResultRegister function q i.a) is register
 
-module _ (p : PlaceState) (m : machine.Place) (key : ℕ) (a : ActivityState) (s : Stay) (assigned : Assigned p.program) (h : StandsForStay p.program assigned p.id m.cells a s) (i : Instr) (fetched : IsFetched p.program a.top i) where
+module _ (far : ℕ → ℕ → ℕ → Bool) (p : PlaceState) (m : machine.Place) (holds : HoldsHeap (context_of far p) m.cells) (key : ℕ) (a : StayState) (s : Stay) (assigned : Assigned p.program) (h : StandsForStay p.program assigned (context_of far p) a s) (i : Instr) (fetched : IsFetchedFor p.program a.top i) where
+  abbrev x : Context
+  x = context_of far p
+
   abbrev function : Function
   function = h.top.function
 
@@ -102,21 +106,21 @@ module _ (p : PlaceState) (m : machine.Place) (key : ℕ) (a : ActivityState) (s
   sit = situated p m key s function i
 
   -- what the function gives
-  gives_back : (slot : Option Slot) → i.op ≡ op.Ret → function.result ≡ slot → ReturnsWell (point_of p.program function a.top i) h.top.state slot → (result : Option Value) × GivesBack sit slot result × IsGiven m.cells p.id slot result (word_at a.top i.a)
+  gives_back : (slot : Option Slot) → i.op ≡ op.Ret → function.result ≡ slot → ReturnsWell (point_of p.program function a.top i) h.top.state slot → (result : Option Value) × GivesBack sit slot result × IsGiven x m.cells slot result (word_at a.top.registers.items i.a)
   gives_back None o is well = (None, tt, tt)
   gives_back (Some slot) o is well =
-      let fit = fits p.program assigned p.id m.cells a.top s.top h.top i fetched in
-      let lt = result_register p.program function i slot o (in_range p.program assigned p.id m.cells a.top s.top h.top i fetched).a is in
-      let v = fits_word (length p.program.classes) m.cells p.id h.top.state s.top.registers a.top.registers.items i.a slot (omega (arith, lt, fit.registers.1)) (slot_of (length p.program.classes) function.result slot is fit.result) h.top.words h.top.homes well in
+      let fit = small p.program assigned x a.top s.top h.top i fetched in
+      let lt = result_register p.program function i slot o (in_range p.program assigned x a.top s.top h.top i fetched).a is in
+      let v = fits_word (length p.program.classes) x m.cells h.top.state s.top.registers a.top.registers.items i.a slot holds (omega (arith, lt, fit.registers.1)) (slot_of (length p.program.classes) function.result slot is fit.result) h.top.words h.top.homes well in
       (Some v.0, (v.1, v.2), (v.2, v.3))
 
   -- the last function of an activity ends
-  ends_stay : (result : Option Value) (cs : List machine.CallFrame) → s.callers ≡ cs → StandForCallers p.program assigned p.id m.cells a.callers cs → a.callers ≡ [] → GivesBack sit function.result result → Does op.Ret sit (with_stay m key None) (Ends root None)
+  ends_stay : (result : Option Value) (cs : List machine.CallFrame) → s.callers ≡ cs → StandForCallers p.program assigned x a.callers cs → a.callers ≡ [] → GivesBack sit function.result result → Does op.Ret sit (with_stay m key None) (Ends root None)
   ends_stay result [] is callers none given = (
     result,
     given,
     subst (λ cs. Returns sit cs result (with_stay m key None) (Ends root None)) (sym is)
-        (None, h.finishes, subst (λ o. SendsBack sit result o None) (sym h.back) refl, refl, ap (λ f. Ends f None) (sym h.inherited)),
+        (None, h.finishes ∙ ap reverse h.home.finishes, subst (λ o. SendsBack sit result o None) (sym (h.back ∙ h.home.back)) refl, refl, ap (λ f. Ends f None) (sym (h.inherited ∙ h.home.inherited))),
   )
   ends_stay result (c ∷ cs) is callers none given = absurd (not_empty callers.0 callers.1 (sym callers.2 ∙ none))
 
@@ -124,13 +128,13 @@ module _ (p : PlaceState) (m : machine.Place) (key : ℕ) (a : ActivityState) (s
   ret_ends out o permits none = let back = gives_back function.result o refl permits.0 in ends_stay back.0 s.callers refl h.callers none back.1
 
   -- a called function ends
-  resumes_stay : (b : ActivityState) (r : Resumes p.program a i b) (result : Option Value) (cs : List machine.CallFrame) → s.callers ≡ cs → StandForCallers p.program assigned p.id m.cells a.callers cs → GivesBack sit function.result result → IsGiven m.cells p.id function.result result (word_at a.top i.a)
-      → (t : Stay) × Does op.Ret sit (with_stay m key (Some t)) Works × StandsForStay p.program assigned p.id m.cells b t
-  resumes_stay b r result [] is callers given word = absurd (not_empty b.callers r.caller (sym r.callers ∙ callers))
-  resumes_stay b r result (c ∷ cs) is callers given word =
+  resumes_stay : (b : StayState) (placed : IsPlaced p.program b) (r : Resumes p.program a i b) (result : Option Value) (cs : List machine.CallFrame) → s.callers ≡ cs → StandForCallers p.program assigned x a.callers cs → GivesBack sit function.result result → IsGiven x m.cells function.result result (word_at a.top.registers.items i.a)
+      → (t : Stay) × Does op.Ret sit (with_stay m key (Some t)) Works × StandsForStay p.program assigned x b t
+  resumes_stay b placed r result [] is callers given word = absurd (not_empty b.callers r.caller (sym r.callers ∙ callers))
+  resumes_stay b placed r result (c ∷ cs) is callers given word =
       let same = last_same b.callers callers.0 r.caller callers.1 (sym r.callers ∙ callers.2) in
-      let stands : StandsForFrame p.program assigned p.id m.cells r.caller c = subst (λ f. StandsForFrame p.program assigned p.id m.cells f c) (sym same.1) callers.3 in
-      let at = rule p.program assigned p.id m.cells r.caller c stands r.call r.fetched in
+      let stands : StandsForFrame p.program assigned x r.caller c = subst (λ f. StandsForFrame p.program assigned x f c) (sym same.1) callers.3 in
+      let at = rule p.program assigned x r.caller c stands r.call r.fetched in
       let call = subst (λ q. Permits q (point_of p.program stands.function r.caller r.call) stands.state at.0) r.op_is at.1 in
       let callee : function_at p.program r.call.x ≡ Some function = ap (λ n. function_at p.program n) r.callee_is ∙ h.top.is_function in
       let same-callee : call.0 ≡ function = some_is call.0 function (sym call.2.0 ∙ callee) in
@@ -143,30 +147,36 @@ module _ (p : PlaceState) (m : machine.Place) (key : ℕ) (a : ActivityState) (s
         record s { top = resumed c r.call.a result; callers = cs },
         (result, given, subst (λ ks. Returns sit ks result (with_stay m key (Some (record s { top = resumed c r.call.a result; callers = cs }))) Works) (sym is) (r.call, call-is, r.op_is, refl, refl)),
         record {
-          top = goes_after p.program assigned p.id m.cells r.caller c stands r.call r.fetched r.op_is function.result result (word_at a.top i.a) t a.top b.top i (ap result_of callee) gives reached word refl goes;
-          callers = subst (λ fs. StandForCallers p.program assigned p.id m.cells fs cs) (sym same.0) callers.4;
-          finishes = h.finishes;
-          inherited = h.inherited;
-          away = h.away;
-          back = h.back;
+          placed = placed;
+          top = goes_after p.program assigned x m.cells r.caller c stands r.call r.fetched r.op_is function.result result (word_at a.top.registers.items i.a) t a.top b.top i (ap result_of callee) gives reached word refl goes;
+          callers = subst (λ fs. StandForCallers p.program assigned x fs cs) (sym same.0) callers.4;
+          finishes = h.finishes ∙ ap (λ (y : StayState). reverse y.finishes) (sym r.rest);
+          inherited = h.inherited ∙ ap (λ (y : StayState). y.inherited) (sym r.rest);
+          away = h.away ∙ ap (λ (y : StayState). y.away) (sym r.rest);
+          back = h.back ∙ ap (λ (y : StayState). y.back) (sym r.rest);
+          home = subst (λ (y : StayState). IsAtHome y) (sym r.rest) (record { finishes = h.home.finishes; inherited = h.home.inherited; away = h.home.away; back = h.home.back });
         },
       )
 
-  pub ret_resumes : (b : ActivityState) (out : Edges) → i.op ≡ op.Ret → Permits op.Ret (point_of p.program function a.top i) h.top.state out → Resumes p.program a i b → (t : Stay) × Does op.Ret sit (with_stay m key (Some t)) Works × StandsForStay p.program assigned p.id m.cells b t
-  ret_resumes b out o permits r = let back = gives_back function.result o refl permits.0 in resumes_stay b r back.0 s.callers refl h.callers back.1 back.2
+  pub ret_resumes : (b : StayState) (out : Edges) → IsPlaced p.program b → i.op ≡ op.Ret → Permits op.Ret (point_of p.program function a.top i) h.top.state out → Resumes p.program a i b → (t : Stay) × Does op.Ret sit (with_stay m key (Some t)) Works × StandsForStay p.program assigned x b t
+  ret_resumes b out placed o permits r = let back = gives_back function.result o refl permits.0 in resumes_stay b placed r back.0 s.callers refl h.callers back.1 back.2
 
   -- ---- output
 
-  -- a register that is printed holds a number, since no word stands for a text so far
-  printed : (IsKind h.top.state i.a kind.Int) ⊎ (IsKind h.top.state i.a kind.Text) → s.top.registers i.a ≡ Some (Int (int_at a.top i.a))
-  printed (inl k) = reads_int m.cells h.top.state s.top.registers a.top.registers.items i.a h.top.words k
-  printed (inr k) = let v = reads m.cells h.top.state s.top.registers a.top.registers.items i.a kind.Text h.top.words k in absurd (no_text m.cells v.0 (slice_index a.top.registers.items i.a) v.2 v.3)
+  -- a register that is printed holds a number, since no heap has a text so far
+  printed : p.heap.texts ≡ [] → (IsKind h.top.state i.a kind.Int) ⊎ (IsKind h.top.state i.a kind.Text) → s.top.registers i.a ≡ Some (Int (int_at a.top.registers.items i.a))
+  printed none (inl k) = reads_int x h.top.state s.top.registers a.top.registers.items i.a h.top.words k
+  printed none (inr k) = let v = reads x h.top.state s.top.registers a.top.registers.items i.a kind.Text h.top.words k in absurd (no_text (slice_index a.top.registers.items i.a) v.2.0 (subst (λ ts. slice_get ts (slice_index a.top.registers.items i.a) ≡ Some v.2.0) none v.2.1))
+    where
+      no_text : (n : ℕ) (t : List ℕ) → slice_get [] n ≡ Some t → ⊥
+      no_text n t e = cc
 
-  pub print_moves : (b : ActivityState) (out : Edges) → Permits op.Print (point_of p.program function a.top i) h.top.state out → ((edge : ℕ × State) → IsIn edge out → Reaches (assigned a.top.function function h.top.is_function).0 edge)
-      → Becomes a.top b.top (a.top.pc + 1) a.top.registers.items a.top.loops
-      → Does op.Print sit (with_stay (with_line m (Number (int_at a.top i.a))) key (Some (record s { top = next s.top }))) Works × StandsForFrame p.program assigned p.id m.cells b.top (next s.top)
-  print_moves b out permits edges becomes = (
-    (Int (int_at a.top i.a), Number (int_at a.top i.a), printed permits.0, refl, (refl, refl)),
-    frame_after p.program assigned p.id m.cells a.top s.top h.top i fetched b.top (next s.top) (a.top.pc + 1) h.top.state a.top.registers.items a.top.loops becomes
+  pub print_moves : (b : StayState) (out : Edges) → p.heap.texts ≡ [] → Permits op.Print (point_of p.program function a.top i) h.top.state out → ((edge : ℕ × State) → IsIn edge out → Reaches (assigned a.top.function function h.top.is_function).0 edge)
+      → GoesNext a.top b.top
+      → Does op.Print sit (with_stay (with_line m (Number (int_at a.top.registers.items i.a))) key (Some (record s { top = next s.top }))) Works × StandsForFrame p.program assigned x b.top (next s.top)
+  print_moves b out none permits edges goes = (
+    (Int (int_at a.top.registers.items i.a), Number (int_at a.top.registers.items i.a), printed none permits.0, refl, (refl, refl)),
+    frame_after p.program assigned x a.top s.top h.top i fetched b.top (next s.top) (a.top.pc + 1) h.top.state a.top.registers.items a.top.loops
+        (record { function_is = goes.function_is; pc_is = goes.pc_is; words_are = goes.words_are; loops_are = goes.loops_are })
         (edges (a.top.pc + 1, h.top.state) (subst (λ (o : Edges). IsIn (a.top.pc + 1, h.top.state) o) (sym permits.1) (0, refl))) refl (ap (λ n. n + 1) h.top.pc_is) h.top.words h.top.homes h.top.slots h.top.loops,
   )

@@ -1,15 +1,15 @@
 -- Numbers: what the methods of 64-bit numbers give is what the machine's definitions give.
-use Rattle.std.proofs.Common.{◌≡◌, ℕ, zero, suc, ◌<◌, ◌≤◌, ◌^◌, Bool, true, false, Some, None, refl, sym, ap, ap₂, subst, ◌∙◌, arith}
+use Rattle.std.proofs.Common.{◌≡◌, ℕ, zero, suc, ◌<◌, ◌≤◌, ◌^◌, Bool, true, false, List, Some, None, refl, sym, ap, ap₂, subst, ◌∙◌, arith}
 use Rattle.std.specs.Prelude.{ℤ, pos, negsuc, ◌+ℤ◌, ◌-ℤ◌, int_div, neg_ℤ, FitsSigned, ◌/◌, if◌then◌else◌}
 use Rattle.std.specs.Int.{w64, cast_signed, cast_unsigned, int_wrap, int_wrapping_add, int_wrapping_sub, int_wrapping_div}
 use Rattle.std.proofs.Math.Nat.{mod-eq_of_lt, div-le_self}
 use Rattle.std.proofs.lemmas.Bool.Decides.{Decides-int_eq}
 use Rattle.std.proofs.lemmas.Int.{to_z-of_z, int_wrap_fits, wrapping_add_is, wrapping_sub_is}
-use Rattle.x10_code.specs.declared.op.Op.TheVariants as op
 use Rattle.x10_code.specs.declared.instr.Instr.{Instr}
 use Rattle.x10_model.specs.Modules.{Module}
 use Rattle.x10_model.specs.Values.{Int}
-use Rattle.x10_place.specs.declared.frame.CallFrame.{CallFrame}
+use Rattle.x10_place.specs.declared.route.Number.{Number}
+use Rattle.x10_place.specs.declared.route.Number.TheVariants as number
 use Rattle.x10_place.specs.Frames.{int_at, given}
 use Rattle.x10_model.specs.Moves.{is_zero, quotient, wrapped}
 
@@ -43,8 +43,8 @@ quotient_is x y z fx fy fz ne e =
     let z-is : cast_signed w64 (cast_unsigned w64 z) ≡ int_wrap w64 (int_div x y) = to_z-of_z w64 z fz ∙ e ∙ ap₂ (λ m n. int_wrapping_div w64 m n) (to_z-of_z w64 x fx) (to_z-of_z w64 y fy) ∙ div_wraps x y fx fy in
     ap (λ v. Some (Int v)) z-is ∙ ap (λ b. if b then None else Some (wrapped (int_div x y))) (sym (not_zero y (is_zero y) refl (λ same. ne (ap (cast_unsigned w64) same))))
 
-pub sum_is : (program : Module) (f : CallFrame) (i : Instr) (x y : ℤ) → FitsSigned w64 x → FitsSigned w64 y → i.op ≡ op.Add → x ≡ int_at f i.b → y ≡ int_at f i.c → Some (Int (int_wrapping_add w64 x y)) ≡ given i.op program f i
-sum_is program f i x y fx fy e ex ey = subst (λ o. Some (Int (int_wrapping_add w64 x y)) ≡ given o program f i) (sym e) (ap (λ z. Some (Int z)) (wrapping_add_is w64 x y fx fy ∙ ap₂ (λ m n. int_wrap w64 (m +ℤ n)) ex ey))
+pub sum_is : (program : Module) (words : List ℕ) (i : Instr) (n : Number) (x y : ℤ) → FitsSigned w64 x → FitsSigned w64 y → n ≡ number.Sum → x ≡ int_at words i.b → y ≡ int_at words i.c → Some (Int (int_wrapping_add w64 x y)) ≡ given n program words i
+sum_is program words i n x y fx fy e ex ey = subst (λ o. Some (Int (int_wrapping_add w64 x y)) ≡ given o program words i) (sym e) (ap (λ z. Some (Int z)) (wrapping_add_is w64 x y fx fy ∙ ap₂ (λ m n. int_wrap w64 (m +ℤ n)) ex ey))
 
-pub difference_is : (program : Module) (f : CallFrame) (i : Instr) (x y : ℤ) → FitsSigned w64 x → FitsSigned w64 y → i.op ≡ op.Sub → x ≡ int_at f i.b → y ≡ int_at f i.c → Some (Int (int_wrapping_sub w64 x y)) ≡ given i.op program f i
-difference_is program f i x y fx fy e ex ey = subst (λ o. Some (Int (int_wrapping_sub w64 x y)) ≡ given o program f i) (sym e) (ap (λ z. Some (Int z)) (wrapping_sub_is w64 x y fx fy ∙ ap₂ (λ m n. int_wrap w64 (m -ℤ n)) ex ey))
+pub difference_is : (program : Module) (words : List ℕ) (i : Instr) (n : Number) (x y : ℤ) → FitsSigned w64 x → FitsSigned w64 y → n ≡ number.Difference → x ≡ int_at words i.b → y ≡ int_at words i.c → Some (Int (int_wrapping_sub w64 x y)) ≡ given n program words i
+difference_is program words i n x y fx fy e ex ey = subst (λ o. Some (Int (int_wrapping_sub w64 x y)) ≡ given o program words i) (sym e) (ap (λ z. Some (Int z)) (wrapping_sub_is w64 x y fx fy ∙ ap₂ (λ m n. int_wrap w64 (m -ℤ n)) ex ey))

@@ -1,96 +1,105 @@
--- Steps of one activity at a stretch.
-use Rattle.std.proofs.Common.{◌≡◌, ℕ, zero, suc, ◌+◌, Bool, true, false, List, [], ◌∷◌, Option, Some, None, refl, sym, ap, subst, ◌∙◌}
-use Rattle.std.specs.Prelude.{IsTrue, slice_index_or, slice_set}
-use Rattle.slab.specs.Slab.{Slab, get, Updates, with_value}
+-- Steps of one stay at a stretch.
+use Rattle.std.proofs.Common.{◌≡◌, ◌≢◌, ℕ, zero, suc, ◌+◌, ◌<◌, ◌≤◌, Bool, true, false, List, length, refl, sym, ap, subst, ◌∙◌, arith, add_assoc}
 use Rattle.x10_code.specs.declared.instr.Instr.{Instr}
-use Rattle.x10_model.specs.Modules.{Module, FitsImage, is_brought}
-use Rattle.x10_place.specs.declared.line.Line.{Line}
-use Rattle.x10_place.specs.Frames.{IsFetched}
-use Rattle.x10_place.specs.Activities.{ActivityState, IsPlaced, Steps}
-use Rattle.x10_place.specs.declared.activity.Pause.{Pause}
-use Rattle.x10_place.specs.declared.activity.Pause.TheVariants as pause
-use Rattle.x10_place.specs.StandsFor.{PlaceState}
-use Rattle.x10_place.specs.Stretches.{IsStep, Stretch, none, more, EndsStretch, IsStride, Strides}
-use Rattle.x10_place.proofs.Typed.{none_some}
-use Rattle.x10_place.proofs.Steps.{kept_if, step_leads}
-use Rattle.x10_place.proofs.Keeping.{written}
+use Rattle.x10_model.specs.Modules.{Module, FitsImage}
+use Rattle.x10_heap.specs.Heaps.{HeapState}
+use Rattle.x10_place.specs.declared.frame.CallFrame.{CallFrame}
+use Rattle.x10_place.specs.declared.route.Route.TheVariants as route
+use Rattle.x10_place.specs.declared.stay.Pause.{Pause}
+use Rattle.x10_place.specs.declared.stay.Pause.TheVariants as pause
+use Rattle.x10_place.specs.Frames.{Workspace, workspace, space_of, with_space, IsWithin, IsInside, IsFetchedFor}
+use Rattle.x10_place.specs.Routes.{route_of}
+use Rattle.x10_place.specs.Stays.{StayState, StoreState, IsPlaced, AreCalling, Steps}
+use Rattle.x10_place.specs.Stretches.{IsLocalStep, Locally, none, more, IsStep, Stretch, still, further, EndsStretch, Paused}
+use Rattle.x10_place.proofs.Placing.{steps_placed}
 
--- so many steps lead to an activity that stands where it can go on
-pub record GoesOnTo (program : Module) (a : ActivityState) (lines : List Line) (n : ℕ) (b : ActivityState) (printed : List Line) : Type 0 where
+-- ---- of one frame
+
+-- the stay with its top frame as a workspace says, and the store with its heap
+abbrev pub stay_at : StayState → Workspace → StayState
+stay_at a w = record a { top = with_space a.top w }
+
+abbrev pub store_at : StoreState → Workspace → StoreState
+store_at s w = record s { heap = w.heap }
+
+steps_by : (program : Module) (a b : StayState) (s t : StoreState) (i : Instr) (l : _) → route_of i.op ≡ route.Local l → Steps (route.Local l) program a s i true b t → Steps (route_of i.op) program a s i true b t
+steps_by program a b s t i l e h = subst (λ r. Steps r program a s i true b t) (sym e) h
+
+module _ (program : Module) (fits : FitsImage program) (a : StayState) (s : StoreState) (placed : IsPlaced program a) where
+  -- so many operations of the top frame are so many steps, and the stay stands where it can go on
+  pub record Reaches (n : ℕ) (w : Workspace) : Type 0 where
+    pub stretch : Stretch program a s n (stay_at a w) (store_at s w)
+    pub stands : IsPlaced program (stay_at a w)
+
+  local_step : (n : ℕ) (v w : Workspace) → Reaches n v → IsLocalStep program a.top.function v w → Reaches (n + 1) w
+  local_step n v w before step =
+      let steps = steps_by program (stay_at a v) (stay_at a w) (store_at s v) (store_at s w) step.instr step.local step.route_is (refl, record { acts = step.acts; function_is = refl; rest = refl; store = refl }) in
+      record {
+        stretch = further n (stay_at a v) (stay_at a w) (store_at s v) (store_at s w) before.stretch (record { placed = before.stands; instr = step.instr; fetched = step.fetched; steps = steps });
+        stands = steps_placed program (stay_at a v) (stay_at a w) (store_at s v) (store_at s w) step.instr true fits before.stands step.fetched refl steps;
+      }
+
+  pub local_steps : (n : ℕ) (w : Workspace) → Locally program a.top.function (space_of a.top s.heap) n w → Reaches n w
+  local_steps n w (none) = record { stretch = still; stands = placed }
+  local_steps n w (more k v u far step) = local_step k v w (local_steps k v far) step
+
+-- so many steps lead to a stay that stands where it can go on, with the store as it was
+pub record Stretched (program : Module) (a : StayState) (s : StoreState) (n : ℕ) (b : StayState) : Type 0 where
+  pub stretch : Stretch program a s n b s
   pub placed : IsPlaced program b
-  pub stretch : Stretch program a lines n b printed
 
-pub a_step : (program : Module) (a b : ActivityState) (lines printed : List Line) (given goes : Bool) (i : Instr) → IsPlaced program a → IsFetched program a.top i → IsTrue (is_brought i.op) → Steps i.op program a lines i given b printed → given ≡ goes → IsStep program a lines goes b printed
-a_step program a b lines printed given goes i placed fetched brought steps e = record { placed = placed; instr = i; fetched = fetched; brought = brought; steps = subst (λ g. Steps i.op program a lines i g b printed) e steps }
+pub stretched : (program : Module) (v a : StayState) (s : StoreState) (g : CallFrame) (n : ℕ) → FitsImage program → v ≡ a → IsPlaced program a → ((heap : HeapState) → Locally program v.top.function (space_of v.top heap) n (space_of g heap))
+    → ((heap : HeapState) → g ≡ with_space v.top (space_of g heap)) → Stretched program a s n (record v { top = g })
+stretched program v a s g n fits seen placed ran kept =
+    let at = local_steps program fits v s (subst (λ x. IsPlaced program x) (sym seen) placed) n (space_of g s.heap) (ran s.heap) in
+    let back : stay_at v (space_of g s.heap) ≡ record v { top = g } = ap (λ h. record v { top = h }) (sym (kept s.heap)) in
+    record {
+      stretch = subst (λ x. Stretch program x s n (record v { top = g }) s) seen (subst (λ b. Stretch program v s n b s) back at.stretch);
+      placed = subst (λ b. IsPlaced program b) back at.stands;
+    }
 
-pub stretch_more : (program : Module) (a b c : ActivityState) (lines printed after : List Line) (n : ℕ) → GoesOnTo program a lines n b printed → IsStep program b printed true c after → IsPlaced program c → GoesOnTo program a lines (n + 1) c after
-stretch_more program a b c lines printed after n before step placed = record { placed = placed; stretch = more n b c printed after before.stretch step }
+-- ---- one stretch after another
+
+pub stretch_on : (program : Module) (a b : StayState) (s t : StoreState) (m : ℕ) → Stretch program a s m b t → (n : ℕ) (c : StayState) (u : StoreState) → Stretch program b t n c u → Stretch program a s (m + n) c u
+stretch_on program a b s t m far n c u (still) = subst (λ k. Stretch program a s k b t) (omega arith) far
+stretch_on program a b s t m far n c u (further k d e v w near step) =
+    subst (λ j. Stretch program a s j c u) (omega arith) (further (m + k) d c v u (stretch_on program a b s t m far k d v near) step)
+
+pub ends_on : (program : Module) (a b c : StayState) (s t u : StoreState) (m n : ℕ) → Stretch program a s m b t → EndsStretch program b t n c u → EndsStretch program a s (m + n) c u
+ends_on program a b c s t u m n far near = record {
+  before = m + near.before;
+  count = omega (arith, near.count);
+  last = near.last;
+  kept = near.kept;
+  stretch = stretch_on program a b s t m far near.before near.last near.kept near.stretch;
+  ends = near.ends;
+}
+
+pub paused_on : (p : Pause) (program : Module) (a b c : StayState) (s t u : StoreState) (m n k : ℕ) → m + n ≡ k → Stretch program a s m b t → Paused p program b t n c u → Paused p program a s k c u
+paused_on pause.Goes program a b c s t u m n k e far near = subst (λ j. Stretch program a s j c u) e (stretch_on program a b s t m far n c u near)
+paused_on pause.Refused program a b c s t u m n k e far near = subst (λ j. Stretch program a s j c u) e (stretch_on program a b s t m far n c u near)
+paused_on pause.Ended program a b c s t u m n k e far near = subst (λ j. EndsStretch program a s j c u) e (ends_on program a b c s t u m n far near)
 
 -- a refused step has changed nothing
-pub stretch_still : (program : Module) (a b c : ActivityState) (lines printed after : List Line) (n : ℕ) → GoesOnTo program a lines n b printed → c ≡ b → after ≡ printed → GoesOnTo program a lines n c after
-stretch_still program a b c lines printed after n before same same-lines = subst (λ d. GoesOnTo program a lines n d after) (sym same) (subst (λ ls. GoesOnTo program a lines n b ls) (sym same-lines) before)
+pub unchanged : (program : Module) (a b c : StayState) (s t u : StoreState) (n : ℕ) → Stretch program a s n b t → c ≡ b → u ≡ t → Stretch program a s n c u
+unchanged program a b c s t u n far same kept = subst (λ d. Stretch program a s n d u) (sym same) (subst (λ v. Stretch program a s n b v) (sym kept) far)
 
--- the last step ends the activity
-pub stretch_ends : (program : Module) (a b c : ActivityState) (lines printed after : List Line) (n : ℕ) → GoesOnTo program a lines n b printed → IsStep program b printed false c after → EndsStretch program a lines (n + 1) c after
-stretch_ends program a b c lines printed after n before step = record { before = n; count = refl; last = b; printed = printed; stretch = before.stretch; ends = step }
+-- one step more
+pub further_by : (program : Module) (a b c : StayState) (s t u : StoreState) (n : ℕ) (goes : Bool) (i : Instr) → Stretch program a s n b t → IsPlaced program b → IsFetchedFor program b.top i
+    → Steps (route_of i.op) program b t i goes c u → goes ≡ true → Stretch program a s (n + 1) c u
+further_by program a b c s t u n goes i far placed fetched steps on =
+    further n b c t u far (record { placed = placed; instr = i; fetched = fetched; steps = subst (λ g. Steps (route_of i.op) program b t i g c u) on steps })
 
--- ---- at a place
-
-set_same : (slots : List (Option ActivityState)) (key : ℕ) (a : ActivityState) → slice_index_or slots key None ≡ Some a → slice_set slots key (Some a) ≡ slots
-set_same [] key a e = absurd (none_some None a refl e)
-set_same (o ∷ slots) zero a e = ap (λ x. x ∷ slots) (sym e)
-set_same (o ∷ slots) (suc key) a e = ap (λ xs. o ∷ xs) (set_same slots key a e)
-
-with_same : (slab : Slab ActivityState) (key : ℕ) (a : ActivityState) → get slab key ≡ Some a → with_value slab key a ≡ slab
-with_same slab key a e = ap (λ (slots : List (Option ActivityState)). record slab { slots = slots }) (set_same slab.slots key a e)
-
--- another activity in place of the one written
-rewritten : (slab : Slab ActivityState) (key : ℕ) (a b c : ActivityState) → get slab key ≡ Some a → Updates (with_value slab key b) (with_value slab key c) key (Some c)
-rewritten slab key a b c e = record {
-  changed = (written slab key a c e).changed;
-  others = λ k ne. (written slab key a c e).others k ne ∙ sym ((written slab key a b e).others k ne);
+pub ended_by : (program : Module) (a b c : StayState) (s t u : StoreState) (n : ℕ) (goes : Bool) (i : Instr) → Stretch program a s n b t → IsPlaced program b → IsFetchedFor program b.top i
+    → Steps (route_of i.op) program b t i goes c u → goes ≡ false → EndsStretch program a s (n + 1) c u
+ended_by program a b c s t u n goes i far placed fetched steps off = record {
+  before = n;
+  count = refl;
+  last = b;
+  kept = t;
+  stretch = far;
+  ends = record { placed = placed; instr = i; fetched = fetched; steps = subst (λ g. Steps (route_of i.op) program b t i g c u) off steps };
 }
 
-abbrev pub with_activity : PlaceState → ℕ → ActivityState → List Line → PlaceState
-with_activity p key a lines = record p { activities = with_value p.activities key a; lines = lines }
-
-a_stride : (p : PlaceState) (key : ℕ) (a b : ActivityState) (slab : Slab ActivityState) (lines : List Line) (goes : Bool) → FitsImage p.program → get p.activities key ≡ Some a → IsStep p.program a p.lines goes b lines → Updates p.activities slab key (kept_if goes b) → IsStride key p (record p { activities = slab; lines = lines })
-a_stride p key a b slab lines goes image e step up = record {
-  there = (a, e);
-  leads = λ m stands. step_leads p m key slab lines a b goes step.instr stands e image step.fetched step.brought step.steps up;
-  kept = record { program = refl; bounds = refl; id = refl; places = refl };
-  stopped = refl;
-}
-
--- the steps of an activity are steps of its place
-strides : (p : PlaceState) (key : ℕ) (a : ActivityState) (n : ℕ) (b : ActivityState) (printed : List Line) → FitsImage p.program → get p.activities key ≡ Some a → Stretch p.program a p.lines n b printed → Strides key p n (with_activity p key b printed)
-strides p key a n b printed image e (none) = subst (λ slab. Strides key p 0 (record p { activities = slab })) (sym (with_same p.activities key a e)) none
-strides p key a n b printed image e (more k c d before after stretch step) =
-    let far = strides p key a k c before image e stretch in
-    let at = with_activity p key c before in
-    more k at (with_activity p key d after) far
-    (a_stride at key c d (with_value p.activities key d) after true image ((written p.activities key a c e).changed) step (rewritten p.activities key a c d e))
-
-pub strides_on : (p v : PlaceState) (key : ℕ) (a : ActivityState) (n : ℕ) (b : ActivityState) (printed : List Line) → p ≡ v → FitsImage p.program → get p.activities key ≡ Some a → Stretch p.program a p.lines n b printed → Strides key v n (with_activity p key b printed)
-strides_on p v key a n b printed seen image e stretch = subst (λ u. Strides key u n (with_activity p key b printed)) seen (strides p key a n b printed image e stretch)
-
--- the last one ends the activity
-pub strides_end : (p v : PlaceState) (key : ℕ) (a : ActivityState) (n : ℕ) (b : ActivityState) (printed : List Line) (slab : Slab ActivityState) → p ≡ v → FitsImage p.program → get p.activities key ≡ Some a → EndsStretch p.program a p.lines n b printed → Updates (with_value p.activities key b) slab key None
-    → Strides key v n (record p { activities = slab; lines = printed })
-strides_end p v key a n b printed slab seen image e ends up =
-    let q = record p { activities = slab; lines = printed } in
-    let at = with_activity p key ends.last ends.printed in
-    let there = (written p.activities key a ends.last e).changed in
-    let gone : Updates (with_value p.activities key ends.last) slab key None = record {
-      changed = up.changed;
-      others = λ k ne. up.others k ne ∙ (written p.activities key a b e).others k ne ∙ sym ((written p.activities key a ends.last e).others k ne);
-    } in
-    subst (λ u. Strides key u n q) seen (subst (λ k. Strides key p k q) (sym ends.count)
-    (more ends.before at q (strides p key a ends.before ends.last ends.printed image e ends.stretch) (a_stride at key ends.last b slab printed false image there ends.ends gone)))
-
--- a place that has stopped
-pub same_stopped : (p : PlaceState) → p.stopped ≡ true → p ≡ record p { stopped = true }
-same_stopped p e = ap (λ b. record p { stopped = b }) e
-
-pub not_ended : (p q : Pause) → (q ≡ pause.Ended → ⊥) → p ≡ q → p ≡ pause.Ended → ⊥
-not_ended p q ne e f = ne (sym e ∙ f)
+pub not_ended : (p : Pause) → p ≡ pause.Goes → p ≢ pause.Ended
+not_ended p e f = absurd (let g : pause.Goes ≡ pause.Ended = sym e ∙ f in cc)

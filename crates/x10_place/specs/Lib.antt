@@ -1,7 +1,7 @@
-pub mod Words
+pub mod Routes
 pub mod Homes
 pub mod Frames
-pub mod Activities
+pub mod Stays
 pub mod StandsFor
-pub mod Opening
 pub mod Stretches
+pub mod Opening

@@ -1,33 +1,55 @@
 -- When a place of the program stands for a place of the machine.
-use Rattle.std.specs.Prelude.{◌≡◌, ℕ, ◌<◌, Bool, false, List, [], ◌∷◌, ◌++◌, length, map, Some, None, slice_index}
+use Rattle.std.specs.Prelude.{◌≡◌, ℕ, ◌<◌, Bool, true, false, List, [], ◌∷◌, ◌++◌, length, map, reverse, Option, Some, None, slice_get, slice_index}
 use Rattle.std.specs.Prelude.{string_bytes}
 use Rattle.slab.specs.Slab.{Slab, get}
-use Rattle.x10_model.specs.Modules.{Module, Function}
+use Rattle.x10_kinds.specs.declared.kind.Kind.{Kind}
 use Rattle.x10_code.specs.declared.op.Op.{Op}
 use Rattle.x10_code.specs.declared.instr.Instr.{Instr}
+use Rattle.x10_model.specs.Modules.{Module, Function}
 use Rattle.x10_model.specs.Moves.{Moves}
 use Rattle.x10_model.specs.Ranges.{function_at, instr_at}
 use Rattle.x10_model.specs.Assignments.{State, HasAssignment}
 use Rattle.x10_model.specs.Places as machine
 use Rattle.x10_model.specs.Places.{Setting, Effect, Stay, root, Number, Words}
-use Rattle.x10_model.specs.Values.{Cells}
+use Rattle.x10_model.specs.Values.{Value}
+use Rattle.x10_verify.specs.Certified.{Certified}
+use Rattle.x10_heap.specs.declared.export.Export.{Export}
+use Rattle.x10_heap.specs.Heaps.{HeapState, ObjectState}
+use Rattle.x10_heap.specs.Words.{Context, export_as, IsWordOf, HoldsHeap}
 use Rattle.x10_place.specs.declared.frame.CallFrame.{CallFrame}
 use Rattle.x10_place.specs.declared.line.Line.{Line}
 use Rattle.x10_place.specs.declared.line.Line.TheVariants as line
-use Rattle.x10_place.specs.Words.{AreWordsOf}
 use Rattle.x10_place.specs.Homes.{AreHomes}
-use Rattle.x10_place.specs.Activities.{ActivityState, IsPlaced}
+use Rattle.x10_place.specs.Stays.{StayState, StoreState, IsPlaced}
 
--- what callers see of a place: the module with the bounds of its functions, its number and how many there are, the
--- activities by key, the lines of output, and whether it has stopped
+-- what callers see of a place: the module with the bounds of its functions, its number and how many there are, the stays
+-- by key, the heap, the lines of output, how many finishes it opened, and whether it has stopped
 pub record PlaceState : Type 0 where
   pub program : Module
   pub bounds : List ℕ
   pub id : ℕ
   pub places : ℕ
-  pub activities : Slab ActivityState
+  pub stays : Slab StayState
+  pub heap : HeapState
   pub lines : List Line
+  pub opened : ℕ
   pub stopped : Bool
+
+-- what it keeps for all its stays
+abbrev pub store_of : PlaceState → StoreState
+store_of p = record { heap = p.heap; lines = p.lines; opened = p.opened }
+
+-- a place as its fields are seen
+abbrev pub place_of : Certified → ℕ → ℕ → Slab StayState → StoreState → Bool → PlaceState
+place_of verified id places stays store stopped = record { program = verified.program; bounds = verified.bounds; id = id; places = places; stays = stays; heap = store.heap; lines = store.lines; opened = store.opened; stopped = stopped }
+
+-- the place with other stays, and what it then keeps for them
+abbrev pub with_stays : PlaceState → Slab StayState → StoreState → PlaceState
+with_stays p stays s = record p { stays = stays; heap = s.heap; lines = s.lines; opened = s.opened }
+
+-- what the meaning of its words rests on, where it is known what other places export
+abbrev pub context_of : (ℕ → ℕ → ℕ → Bool) → PlaceState → Context
+context_of far p = record { classes = p.program.classes; here = p.id; places = p.places; heap = p.heap; far = far }
 
 -- a line as the machine has it
 abbrev pub line_as : Line → machine.Line
@@ -38,40 +60,68 @@ line_as (line.Text t) = Words (string_bytes t)
 abbrev pub Assigned : Module → Type 0
 Assigned program = (f : ℕ) (function : Function) → function_at program f ≡ Some function → HasAssignment program function
 
+-- each register of which the kind is known holds a value, and its word stands for that value
+abbrev pub HoldRegisters : Context → State → (ℕ → Option Value) → List ℕ → Type 0
+HoldRegisters x s registers words = (r : ℕ) (kind : Kind) → s.kinds r ≡ Some kind → (v : Value) × (registers r ≡ Some v) × IsWordOf x kind (slice_index words r) v
+
 -- a frame of the program stands for a call frame: at the same instruction of the same function, with words for the
 -- values of each register of which the assignment knows the kind there, with homes as it knows them, and the same turns
-pub record StandsForFrame (program : Module) (assigned : Assigned program) (here : ℕ) (cells : Cells) (f : CallFrame) (c : machine.CallFrame) : Type 0 where
+pub record StandsForFrame (program : Module) (assigned : Assigned program) (x : Context) (f : CallFrame) (c : machine.CallFrame) : Type 0 where
   pub function_is : c.function ≡ f.function
   pub pc_is : c.pc ≡ f.pc
   pub function : Function
   pub is_function : function_at program f.function ≡ Some function
   pub state : State
   pub is_state : (assigned f.function function is_function).0 f.pc ≡ Some state
-  pub words : AreWordsOf cells state c.registers f.registers.items
-  pub homes : AreHomes here state.homes c.registers
+  pub words : HoldRegisters x state c.registers f.registers.items
+  pub homes : AreHomes x.here state.homes c.registers
   pub slots : length f.loops ≡ 8
   pub loops : (slot : ℕ) → slot < 8 → c.loops slot ≡ slice_index f.loops slot
 
 -- frames stand for the machine's callers, of which the last one is the first
-abbrev pub StandForCallers : (program : Module) → Assigned program → ℕ → Cells → List CallFrame → List machine.CallFrame → Type 0
-StandForCallers program assigned here cells fs [] = fs ≡ []
-StandForCallers program assigned here cells fs (c ∷ cs) = (before : List CallFrame) × (f : CallFrame) × (fs ≡ before ++ f ∷ []) × StandsForFrame program assigned here cells f c × StandForCallers program assigned here cells before cs
+abbrev pub StandForCallers : (program : Module) → Assigned program → Context → List CallFrame → List machine.CallFrame → Type 0
+StandForCallers program assigned x fs [] = fs ≡ []
+StandForCallers program assigned x fs (c ∷ cs) = (before : List CallFrame) × (f : CallFrame) × (fs ≡ before ++ f ∷ []) × StandsForFrame program assigned x f c × StandForCallers program assigned x before cs
 
--- an activity of the program stands for a stay
-pub record StandsForStay (program : Module) (assigned : Assigned program) (here : ℕ) (cells : Cells) (a : ActivityState) (s : Stay) : Type 0 where
-  pub top : StandsForFrame program assigned here cells a.top s.top
-  pub callers : StandForCallers program assigned here cells a.callers s.callers
-  pub finishes : s.finishes ≡ []
-  pub inherited : s.inherited ≡ root
-  pub away : s.away ≡ false
-  pub back : s.back ≡ None
+-- what no operation so far changes: no finish is open but the root, and nobody is away or was sent here
+pub record IsAtHome (a : StayState) : Type 0 where
+  pub finishes : a.finishes ≡ []
+  pub inherited : a.inherited ≡ root
+  pub away : a.away ≡ false
+  pub back : a.back ≡ None
 
--- a place of the program stands for a place of the machine: the same activities under the same keys, the same output
-pub record StandsFor (p : PlaceState) (m : machine.Place) : Type 0 where
+-- a stay of the program stands where it can go on, and stands for a stay of the machine
+pub record StandsForStay (program : Module) (assigned : Assigned program) (x : Context) (a : StayState) (s : Stay) : Type 0 where
+  pub placed : IsPlaced program a
+  pub top : StandsForFrame program assigned x a.top s.top
+  pub callers : StandForCallers program assigned x a.callers s.callers
+  pub finishes : s.finishes ≡ reverse a.finishes
+  pub inherited : s.inherited ≡ a.inherited
+  pub away : s.away ≡ a.away
+  pub back : s.back ≡ a.back
+  pub home : IsAtHome a
+
+-- the machine's exports are those of the heap, and each names an object of its class
+pub record HoldsExports (heap : HeapState) (exports : List machine.Export) : Type 0 where
+  pub exports_are : exports ≡ map export_as heap.exports
+  pub named : (id : ℕ) (e : Export) → slice_get heap.exports id ≡ Some e → (o : ObjectState) × (slice_get heap.objects e.object ≡ Some o) × (o.class ≡ e.class)
+
+-- A place of the program stands for a place of the machine, where it is known what other places export: the same stays
+-- under the same keys, the same heap, exports and output, and as many finishes opened. So far no heap has a text.
+pub record StandsFor (far : ℕ → ℕ → ℕ → Bool) (p : PlaceState) (m : machine.Place) : Type 0 where
   pub assigned : Assigned p.program
-  pub none : (key : ℕ) → get p.activities key ≡ None → m.stays key ≡ None
-  pub some : (key : ℕ) (a : ActivityState) → get p.activities key ≡ Some a → (s : Stay) × (m.stays key ≡ Some s) × StandsForStay p.program assigned p.id m.cells a s
+  pub none : (key : ℕ) → get p.stays key ≡ None → m.stays key ≡ None
+  pub some : (key : ℕ) (a : StayState) → get p.stays key ≡ Some a → (s : Stay) × (m.stays key ≡ Some s) × StandsForStay p.program assigned (context_of far p) a s
+  pub within : p.id < p.places
+  pub heap : HoldsHeap (context_of far p) m.cells
+  pub exports : HoldsExports p.heap m.exports
+  pub opened : m.opened ≡ p.opened
   pub lines : m.lines ≡ map line_as p.lines
+  pub no_texts : p.heap.texts ≡ []
+
+-- some place of the machine is stood for, whatever other places export
+abbrev pub IsStanding : PlaceState → Type 0
+IsStanding p = (m : machine.Place) × StandsFor (λ home id class. true) p m
 
 -- what a step does not change
 pub record Keeps (p q : PlaceState) : Type 0 where
@@ -86,16 +136,20 @@ setting_of p = record { program = p.program; places = p.places }
 
 -- From a place of the machine that the old state stands for, the move of the activity with the key leads to one that
 -- the new state stands for.
-abbrev pub Leads : PlaceState → machine.Place → ℕ → Effect → PlaceState → Type 0
-Leads p m key effect q = (new : machine.Place) × Moves (setting_of p) p.id m key new effect × StandsFor q new
+abbrev pub Leads : (ℕ → ℕ → ℕ → Bool) → PlaceState → machine.Place → ℕ → Effect → PlaceState → Type 0
+Leads far p m key effect q = (new : machine.Place) × Moves (setting_of p) p.id m key new effect × StandsFor far q new
 
--- each activity stands where it can go on
-abbrev pub ArePlaced : Module → Slab ActivityState → Type 0
-ArePlaced program slab = (key : ℕ) (a : ActivityState) → get slab key ≡ Some a → IsPlaced program a
+-- each place of the machine that the state stands for makes such a move
+abbrev pub LeadsAll : PlaceState → ℕ → PlaceState → Type 0
+LeadsAll p key q = (far : ℕ → ℕ → ℕ → Bool) (m : machine.Place) → StandsFor far p m → (effect : Effect) × Leads far p m key effect q
+
+-- a step of the activity with the key would find nothing to do: there is none
+abbrev pub IsIdleAt : PlaceState → ℕ → Type 0
+IsIdleAt p key = get p.stays key ≡ None
 
 -- the activity with the key stands at an instruction of a function
-abbrev pub IsAt : Slab ActivityState → ℕ → ℕ → ℕ → Type 0
-IsAt slab key function pc = (a : ActivityState) × (get slab key ≡ Some a) × (a.top.function ≡ function) × (a.top.pc ≡ pc)
+abbrev pub IsAt : Slab StayState → ℕ → ℕ → ℕ → Type 0
+IsAt slab key function pc = (a : StayState) × (get slab key ≡ Some a) × (a.top.function ≡ function) × (a.top.pc ≡ pc)
 
 -- the operation of an instruction of a function
 abbrev pub IsOperation : Module → ℕ → ℕ → Op → Type 0

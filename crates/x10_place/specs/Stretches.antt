@@ -1,55 +1,71 @@
 -- Steps of one activity at a stretch.
-use Rattle.std.specs.Prelude.{◌≡◌, ℕ, ◌+◌, Bool, true, false, List, Some, IsTrue}
+use Rattle.std.specs.Prelude.{◌≡◌, ℕ, ◌+◌, Bool, true, false, Some, length}
 use Rattle.slab.specs.Slab.{get}
 use Rattle.x10_code.specs.declared.instr.Instr.{Instr}
-use Rattle.x10_model.specs.Modules.{Module, is_brought}
-use Rattle.x10_model.specs.Places as machine
-use Rattle.x10_model.specs.Places.{Effect}
-use Rattle.x10_place.specs.declared.line.Line.{Line}
-use Rattle.x10_place.specs.declared.activity.Pause.{Pause}
-use Rattle.x10_place.specs.declared.activity.Pause.TheVariants as pause
-use Rattle.x10_place.specs.Frames.{IsFetched}
-use Rattle.x10_place.specs.Activities.{ActivityState, IsPlaced, Steps}
-use Rattle.x10_place.specs.StandsFor.{PlaceState, StandsFor, Leads, Keeps}
+use Rattle.x10_model.specs.Modules.{Module}
+use Rattle.x10_place.specs.declared.route.Route.TheVariants as route
+use Rattle.x10_place.specs.declared.route.Local.{Local}
+use Rattle.x10_place.specs.declared.stay.Pause.{Pause}
+use Rattle.x10_place.specs.declared.stay.Pause.TheVariants as pause
+use Rattle.x10_place.specs.Frames.{Workspace, IsFetched, IsFetchedFor, Acts}
+use Rattle.x10_place.specs.Stays.{StayState, StoreState, IsPlaced, Steps}
+use Rattle.x10_place.specs.StandsFor.{PlaceState, Keeps, LeadsAll}
+use Rattle.x10_place.specs.Routes.{route_of}
 
--- a step of an activity that stands at an instruction
-pub record IsStep (program : Module) (a : ActivityState) (lines : List Line) (goes : Bool) (b : ActivityState) (printed : List Line) : Type 0 where
+-- ---- of one frame
+
+-- a step of a frame of a function, by an operation of that frame alone
+pub record IsLocalStep (program : Module) (function : ℕ) (v w : Workspace) : Type 0 where
+  pub instr : Instr
+  pub fetched : IsFetched program function v.pc (length v.words) instr
+  pub local : Local
+  pub route_is : route_of instr.op ≡ route.Local local
+  pub acts : Acts local program v instr w
+
+-- so many of them
+pub data Locally (program : Module) (function : ℕ) (v : Workspace) : ℕ → Workspace → Type 0 where
+  none : Locally program function v 0 v
+  more : (n : ℕ) (w u : Workspace) → Locally program function v n w → IsLocalStep program function w u → Locally program function v (n + 1) u
+
+-- ---- of a stay
+
+-- a step of a stay that stands at an instruction
+pub record IsStep (program : Module) (a : StayState) (s : StoreState) (goes : Bool) (b : StayState) (t : StoreState) : Type 0 where
   pub placed : IsPlaced program a
   pub instr : Instr
-  pub fetched : IsFetched program a.top instr
-  pub brought : IsTrue (is_brought instr.op)
-  pub steps : Steps instr.op program a lines instr goes b printed
+  pub fetched : IsFetchedFor program a.top instr
+  pub steps : Steps (route_of instr.op) program a s instr goes b t
 
--- so many steps, after each of which the activity goes on
-pub data Stretch (program : Module) (a : ActivityState) (lines : List Line) : ℕ → ActivityState → List Line → Type 0 where
-  none : Stretch program a lines 0 a lines
-  more : (n : ℕ) (b c : ActivityState) (printed after : List Line) → Stretch program a lines n b printed → IsStep program b printed true c after → Stretch program a lines (n + 1) c after
+-- so many steps, after each of which the stay goes on
+pub data Stretch (program : Module) (a : StayState) (s : StoreState) : ℕ → StayState → StoreState → Type 0 where
+  still : Stretch program a s 0 a s
+  further : (n : ℕ) (b c : StayState) (t u : StoreState) → Stretch program a s n b t → IsStep program b t true c u → Stretch program a s (n + 1) c u
 
--- so many steps, and the last one ends the activity
-pub record EndsStretch (program : Module) (a : ActivityState) (lines : List Line) (n : ℕ) (c : ActivityState) (after : List Line) : Type 0 where
+-- so many steps, and the last one ends the stay
+pub record EndsStretch (program : Module) (a : StayState) (s : StoreState) (n : ℕ) (c : StayState) (u : StoreState) : Type 0 where
   pub before : ℕ
   pub count : n ≡ before + 1
-  pub last : ActivityState
-  pub printed : List Line
-  pub stretch : Stretch program a lines before last printed
-  pub ends : IsStep program last printed false c after
+  pub last : StayState
+  pub kept : StoreState
+  pub stretch : Stretch program a s before last kept
+  pub ends : IsStep program last kept false c u
 
 -- so many steps, and why no more at once
-abbrev pub Paused : Pause → Module → ActivityState → List Line → ℕ → ActivityState → List Line → Type 0
-Paused pause.Goes program a lines n b printed = Stretch program a lines n b printed
-Paused pause.Refused program a lines n b printed = Stretch program a lines n b printed
-Paused pause.Ended program a lines n b printed = EndsStretch program a lines n b printed
+abbrev pub Paused : Pause → Module → StayState → StoreState → ℕ → StayState → StoreState → Type 0
+Paused pause.Goes program a s n b t = Stretch program a s n b t
+Paused pause.Refused program a s n b t = Stretch program a s n b t
+Paused pause.Ended program a s n b t = EndsStretch program a s n b t
 
 -- ---- at a place
 
 -- a step of the activity with a key is a move of each place of the machine that the state stands for
 pub record IsStride (key : ℕ) (p q : PlaceState) : Type 0 where
-  pub there : (a : ActivityState) × (get p.activities key ≡ Some a)
-  pub leads : (m : machine.Place) → StandsFor p m → (effect : Effect) × Leads p m key effect q
+  pub there : (a : StayState) × (get p.stays key ≡ Some a)
+  pub leads : LeadsAll p key q
   pub kept : Keeps p q
   pub stopped : q.stopped ≡ p.stopped
 
--- so many steps of the activity with a key
+-- so many steps of the activity with a key, of which each moves
 pub data Strides (key : ℕ) (p : PlaceState) : ℕ → PlaceState → Type 0 where
-  none : Strides key p 0 p
-  more : (n : ℕ) (q r : PlaceState) → Strides key p n q → IsStride key q r → Strides key p (n + 1) r
+  at_once : Strides key p 0 p
+  onward : (n : ℕ) (q r : PlaceState) → Strides key p n q → IsStride key q r → Strides key p (n + 1) r

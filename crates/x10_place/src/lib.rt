@@ -1,13 +1,15 @@
 //! One place of the machine: its activities, and their steps.
 #![tactic(auto)]
 
-mod activity;
 mod frame;
 mod line;
 mod opening;
 mod place;
+mod route;
+mod stay;
+mod store;
 
-pub use activity::Activity;
 pub use frame::CallFrame;
 pub use line::Line;
 pub use place::{Place, Stepped};
+pub use stay::{Origin, Stay};

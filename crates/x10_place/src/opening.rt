@@ -1,18 +1,19 @@
-//! The activities with which a place begins.
+//! The stays with which a place begins.
 ghost use Rattle.std.specs.Prelude.{◌≡◌, ℕ, IfOk, None};
 ghost use Rattle.slab.specs.Slab.{get};
 ghost use Rattle.x10_place.specs.Opening.{IsMain, HoldsOnly};
-ghost use Rattle.x10_place.specs.Activities.{ActivityState};
+ghost use Rattle.x10_place.specs.Stays.{StayState};
 
-use crate::activity::Activity;
 use crate::frame::CallFrame;
+use crate::stay::Stay;
 use slab::Slab;
 use smallvec::SmallVec;
 use std::alloc::{AllocError, Global};
+use x10_finish::Finish;
 use x10_verify::Verified;
 
-/// Main: the entry function at its first instruction, its registers 0.
-fn main(alloc: Global, verified: &Verified) -> Result<Activity, AllocError>
+/// Main: the entry function at its first instruction, its registers 0, under the root finish.
+fn main(alloc: Global, verified: &Verified) -> Result<Stay, AllocError>
     ensures { IfOk result (IsMain verified.now.program) }
 {
     let function = verified.image().entry();
@@ -22,7 +23,7 @@ fn main(alloc: Global, verified: &Verified) -> Result<Activity, AllocError>
             .signature(usize::from(function))
             .registers(),
     );
-    Ok(Activity {
+    Ok(Stay {
         top: CallFrame {
             function,
             pc: 0,
@@ -30,15 +31,19 @@ fn main(alloc: Global, verified: &Verified) -> Result<Activity, AllocError>
             loops: [0; 8],
         },
         callers: Vec::new(alloc),
+        finishes: Vec::new(alloc),
+        inherited: Finish { home: 0, number: 0 },
+        away: false,
+        back: None,
     })
 }
 
 /// Main alone, under some key.
-pub(crate) fn with_main(alloc: Global, verified: &Verified) -> Result<Slab<Activity>, AllocError>
-    ensures { IfOk result (λ slab. (key : ℕ) × (a : ActivityState) × IsMain verified.now.program a × HoldsOnly slab key a) }
+pub(crate) fn with_main(alloc: Global, verified: &Verified) -> Result<Slab<Stay>, AllocError>
+    ensures { IfOk result (λ slab. (key : ℕ) × (a : StayState) × IsMain verified.now.program a × HoldsOnly slab key a) }
 {
-    let mut activities = Slab::new(alloc);
+    let mut stays = Slab::new(alloc);
     let main = main(alloc, verified)?;
-    activities.insert(main)?;
-    Ok(activities)
+    stays.insert(main)?;
+    Ok(stays)
 }

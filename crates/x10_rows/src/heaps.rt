@@ -77,9 +77,10 @@ fn texts(rt: HostRuntime) -> Result<(), Fail> {
     let long = String::from_utf8(Vec::from_elem(rt.alloc(), b'a', 65_533)?)
         .ok()
         .ok_or("it is UTF-8")?;
-    for text in ["", "\u{e9}b", long.as_str()] {
-        heap.new_text(text)?;
-    }
+    heap.new_text("")?;
+    heap.new_text("\u{e9}b")?;
+    assert!(rt; long.len() <= 65_535);
+    heap.new_text(long.as_str())?;
     assert!(rt; heap.texts() == 3);
     assert_eq!(rt; heap.text(1), "\u{e9}b");
     assert_eq!(rt; heap.join(1, 2)?, None);

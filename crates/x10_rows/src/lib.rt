@@ -6,6 +6,8 @@ mod assembling;
 #[cfg(test)]
 mod codes;
 #[cfg(test)]
+mod copies;
+#[cfg(test)]
 mod finishes;
 #[cfg(test)]
 mod frames;
@@ -18,17 +20,9 @@ mod kinds;
 #[cfg(test)]
 mod listing;
 #[cfg(test)]
-mod numbers;
-#[cfg(test)]
-mod outcome;
-#[cfg(test)]
 mod places;
 #[cfg(test)]
-mod programs;
-#[cfg(test)]
 mod seven;
-#[cfg(test)]
-mod texts;
 #[cfg(test)]
 mod usage;
 #[cfg(test)]

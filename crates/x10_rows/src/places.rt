@@ -1,5 +1,4 @@
 //! A place by itself: its calls, and what they answer.
-use crate::programs::DEEP;
 use crate::seven::SEVEN;
 use std::test::*;
 use x10_asm::assemble;
@@ -8,6 +7,33 @@ use x10_image::ImageView;
 use x10_kinds::Stop;
 use x10_place::{Line, Place, Stepped};
 use x10_verify::verify;
+
+/// A number and four times that, through three calls; the innermost has one register more than a frame holds in place.
+const DEEP: &str = "places 1
+int 5
+func 9 0 int int
+ADD 0 0 0
+RET 0
+end
+func 2 0 int int
+CALL 1 0 0
+ADD 0 0 1
+RET 0
+end
+func 2 0 int int
+CALL 1 0 1
+ADD 0 0 1
+RET 0
+end
+func 2 0 none
+INTK 1 0
+PRINT 1
+CALL 0 1 2
+PRINT 0
+RET 0
+end
+entry 3
+";
 
 /// Whether the activity with a key moves.
 fn moves(place: &mut Place, key: usize) -> bool {

@@ -5,7 +5,7 @@ use x10_kinds::Stop;
 use x10_model::Event;
 use x10_place::Line;
 use x10_verify::{VerifyCause, VerifyFault, verify};
-use x10_world::{OpenFault, RunFault, World, run_image};
+use x10_world::{Halt, OpenFault, RunFault, World, run_image, run_rounds};
 
 /// INTK r0 7, PRINT r1, RET, with two registers.
 fn prints_r1() -> [u8; 64] {
@@ -64,6 +64,20 @@ fn at_a_stretch(rt: HostRuntime) -> Result<(), Fail> {
     assert_eq!(rt; world.run_activity(0, key, 5), Ok(1));
     assert!(rt; world.closed());
     assert_eq!(rt; world.run_activity(0, key, 5), Ok(0));
+    assert!(rt; matches!(world.output(0), Some([Line::Int(7)])));
+    Ok(())
+}
+
+#[test]
+fn in_rounds(rt: HostRuntime) -> Result<(), Fail> {
+    let verified = verify(rt.alloc(), ImageView::read(rt.alloc(), &SEVEN)?)?;
+    let mut world = World::open(rt.alloc(), &verified, 2)?;
+    assert_eq!(rt; world.count(), 2);
+    assert_eq!(rt; run_rounds(rt.alloc(), &mut world, 0), Err(Halt::Limit));
+    assert_eq!(rt; run_rounds(rt.alloc(), &mut world, 2), Err(Halt::Limit));
+    assert!(rt; !world.closed());
+    assert_eq!(rt; run_rounds(rt.alloc(), &mut world, 2), Ok::<(), Halt>(()));
+    assert!(rt; world.closed());
     assert!(rt; matches!(world.output(0), Some([Line::Int(7)])));
     Ok(())
 }

@@ -1,5 +1,5 @@
-use crate::outcome::words_of;
 use crate::seven::SEVEN;
+use crate::usage::words_of;
 use std::alloc::Global;
 use std::io::{self, ErrorKind, Write};
 use std::test::*;

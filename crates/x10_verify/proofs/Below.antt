@@ -41,6 +41,3 @@ entry_chosen V key other false e = inr ((λ same. absurd (let f = eq-eqb other k
 
 pub entry_cases : (V : Type 0) (key other : ℕ) → AtKey V key other ⊎ OffKey V key other
 entry_cases V key other = entry_chosen V key other (other == key) refl
-
-pub some_is : {X : Type 0} (x y : X) → Some x ≡ Some y → x ≡ y
-some_is x y e = cc

@@ -1,7 +1,8 @@
 -- From what was asked and found to whether a rule holds.
 use Rattle.std.proofs.Common.{◌≡◌, ℕ, zero, suc, ◌+◌, ◌<◌, ◌≤◌, List, [], ◌∷◌, length, Option, Some, None, Result, Ok, Err, refl, sym, ap, subst, ◌∙◌, arith}
-use Rattle.std.specs.Prelude.{slice_get}
+use Rattle.std.specs.Prelude.{slice_get, IfErr, MatchResult}
 use Rattle.std.specs.Result.{IsErr}
+use Rattle.std.proofs.lemmas.Option.{same_Some, slice_get_within}
 use Rattle.x10_kinds.specs.declared.kind.Kind.{Kind}
 use Rattle.x10_kinds.specs.declared.homes.Term.{Term}
 use Rattle.x10_image.specs.Parts.{Signature, signature_of}
@@ -16,6 +17,14 @@ use Rattle.x10_verify.specs.declared.table.Rule.{Rule}
 use Rattle.x10_verify.specs.Effects.{IsNarrow}
 use Rattle.x10_verify.specs.Rules.{Asked, Decides, IsCalled, GivesBack, KindsAre, SlotsAre, Settles, Allows}
 
+pub if_err : {T E : Type 0} {A B : E → Type 0} (r : Result T E) → IfErr r A → ((e : E) → A e → B e) → IfErr r B
+if_err (Ok x) h f = tt
+if_err (Err e) h f = f e h
+
+pub unmatched : {X E : Type 0} (P : X → Type 0) (Q : E → Type 0) (r : Result X E) → IsErr r → ((e : E) → Q e) → MatchResult r P Q
+unmatched P Q (Ok x) is never = absurd cc
+unmatched P Q (Err e) is never = never e
+
 pub undecided : (P : Effect → Type 0) (r : Result Effect FlowCause) → IsErr r → ((e : Effect) → P e → ⊥) → Decides P r
 undecided P (Ok e) is never = absurd cc
 undecided P (Err c) is never = never
@@ -27,16 +36,11 @@ allowed r p s (Err x) a b c d = λ e h. d e h.settles
 
 -- ---- registers one after another
 
-below_length : {X : Type 0} (xs : List X) (n : ℕ) (x : X) → slice_get xs n ≡ Some x → n < length xs
-below_length [] n x e = absurd cc
-below_length (y ∷ ys) zero x e = omega arith
-below_length (y ∷ ys) (suc n) x e = let h : n < length ys = below_length ys n x e in omega arith
-
 pub all_slots : (s : State) (at : Term) (first : ℕ) (slots : List Slot) (n : ℕ) → ((k : ℕ) (slot : Slot) → k < n → slice_get slots k ≡ Some slot → FitsAs s at (first + k) slot) → length slots ≤ n → SlotsAre s at first slots
-all_slots s at first slots n each le k slot e = let h : k < length slots = below_length slots k slot e in each k slot (omega arith) e
+all_slots s at first slots n each le k slot e = let h : k < length slots = slice_get_within slots k slot e in each k slot (omega arith) e
 
 pub all_kinds : (s : State) (first : ℕ) (kinds : List Kind) (n : ℕ) → ((k : ℕ) (want : Kind) → k < n → slice_get kinds k ≡ Some want → IsKind s (first + k) want) → length kinds ≤ n → KindsAre s first kinds
-all_kinds s first kinds n each le k want e = let h : k < length kinds = below_length kinds k want e in each k want (omega arith) e
+all_kinds s first kinds n each le k want e = let h : k < length kinds = slice_get_within kinds k want e in each k want (omega arith) e
 
 pub slot_past : (s : State) (at : Term) (first n : ℕ) (slots : List Slot) (slot : Slot) → IsNarrow s → slice_get slots n ≡ Some slot → 64 ≤ first + n → SlotsAre s at first slots → ⊥
 slot_past s at first n slots slot narrow e le all =
@@ -56,14 +60,11 @@ kind_past s first n kinds want narrow e le all =
 abbrev pub Found : Point → State → Term → Signature → Type 0
 Found p s at signature = (callee : Function) × IsCalled p s at callee × (signature ≡ signature_of callee)
 
-result_is : (signature : Signature) (callee : Function) (slot : Option Slot) → signature ≡ signature_of callee → signature.result ≡ slot → callee.result ≡ slot
+pub result_is : (signature : Signature) (callee : Function) (slot : Option Slot) → signature ≡ signature_of callee → signature.result ≡ slot → callee.result ≡ slot
 result_is signature callee slot e r = sym (ap (λ (x : Signature). x.result) e) ∙ r
 
-some_is : {X : Type 0} (x y : X) → Some x ≡ Some y → x ≡ y
-some_is x y e = cc
-
 same_callee : (p : Point) (s : State) (at : Term) (f g : Function) → IsCalled p s at f → IsCalled p s at g → f ≡ g
-same_callee p s at f g a b = some_is f g (sym a.there ∙ b.there)
+same_callee p s at f g a b = same_Some f g (sym a.there ∙ b.there)
 
 pub calls_some : (p : Point) (s : State) (at : Term) (signature : Signature) (slot : Slot) → Found p s at signature → signature.result ≡ Some slot → Settles (Calls at) p s (Sets slot.kind (like_if slot.home_here at))
 calls_some p s at signature slot h e = (h.0, h.1, subst (λ o. GivesBack p at o (Sets slot.kind (like_if slot.home_here at))) (sym (result_is signature h.0 (Some slot) h.2 e)) refl)

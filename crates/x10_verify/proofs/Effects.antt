@@ -1,6 +1,7 @@
 -- What an effect leaves: a state again, and from a state that knows more one that knows more.
 use Rattle.std.proofs.Common.{◌≡◌, ℕ, ◌<◌, Bool, true, false, not, ◌==◌, Option, Some, None, refl, sym, subst, ◌∙◌, inl, inr}
 use Rattle.std.proofs.lemmas.Bool.{eq-eqb, eqb-true, cases_Bool}
+use Rattle.std.proofs.lemmas.Option.{same_Some}
 use Rattle.x10_kinds.specs.declared.kind.Kind.{Kind}
 use Rattle.x10_kinds.specs.declared.homes.Term.{Term}
 use Rattle.x10_kinds.specs.declared.homes.Term.TheVariants as term
@@ -15,7 +16,7 @@ use Rattle.x10_verify.specs.declared.table.Effect.{Effect}
 use Rattle.x10_verify.specs.declared.table.Effect.TheVariants.{Keeps, Sets, Joins}
 use Rattle.x10_verify.specs.Rules.{after}
 use Rattle.x10_verify.specs.Effects.{StandsFor, IsSoundIn, Leaves, IsTermLike}
-use Rattle.x10_verify.proofs.Below.{entry_cases, some_is}
+use Rattle.x10_verify.proofs.Below.{entry_cases}
 
 pub stands_term : (s : State) (t : Term) → StandsFor s t → IsTerm t
 stands_term s term.Here h = tt
@@ -30,7 +31,7 @@ more_written r s reg (Some t) it more = written-Some-more r s reg t it more
 
 set_kinds : (s t : State) (r : ℕ) (k l : Kind) (like : Option Term) → Fits k l → IsBelow s t → (q : ℕ) (want : Kind) → with_entry t.kinds r (Some l) q ≡ Some want → IsKind (set s r k like) q want
 set_kinds s t r k l like fits below q want e = elim (entry_cases (Option Kind) r q) [
-  | inl at ↦ (k, at.1 s.kinds (Some k), subst (λ w. Fits k w) (some_is l want (sym (at.1 t.kinds (Some l)) ∙ e)) fits)
+  | inl at ↦ (k, at.1 s.kinds (Some k), subst (λ w. Fits k w) (same_Some l want (sym (at.1 t.kinds (Some l)) ∙ e)) fits)
   | inr off ↦ (let h = below.kinds q want (sym (off.1 t.kinds (Some l)) ∙ e) in (h.0, off.1 s.kinds (Some k) ∙ h.1, h.2))
 ]
 

@@ -19,9 +19,6 @@ use Rattle.x10_verify.specs.Effects.{IsKept}
 use Rattle.x10_verify.specs.Merging.{common_of, parted, weight, rank_of, IsAloneIn, IsMet, IsWeakened}
 use Rattle.x10_verify.proofs.Below.{entry_cases}
 
-none_some : {X : Type 0} (o : Option X) (x : X) → o ≡ None → o ≡ Some x → ⊥
-none_some o x e f = cc
-
 -- ---- one kind
 
 -- a common kind comes of two

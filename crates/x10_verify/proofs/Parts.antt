@@ -1,6 +1,7 @@
 -- Each operation's rule and its row of the table say the same.
 use Rattle.std.proofs.Common.{◌≡◌, ℕ, zero, suc, ◌+◌, List, [], ◌∷◌, Option, Some, None, refl, sym, ap, subst, ◌∙◌, arith}
 use Rattle.std.specs.Prelude.{slice_get}
+use Rattle.std.proofs.lemmas.Option.{same_Some}
 use Rattle.x10_kinds.specs.declared.kind.Kind.{Kind}
 use Rattle.x10_kinds.specs.declared.kind.Kind.TheVariants as kind
 use Rattle.x10_kinds.specs.declared.homes.Term.{Term}
@@ -16,16 +17,13 @@ use Rattle.x10_verify.specs.declared.table.Effect.TheVariants.{Keeps, Sets, Join
 use Rattle.x10_verify.specs.declared.table.Outcome.TheVariants.{Calls}
 use Rattle.x10_verify.specs.Rules.{KindsAre, SlotsAre, IsPlaceTerm, IsCalled, GivesBack, Settles, Allows, field_in, field_of, rule_for, after, edges_of}
 
-some_is : {X : Type 0} (x y : X) → Some x ≡ Some y → x ≡ y
-some_is x y e = cc
-
 -- ---- registers one by one
 
 kinds_are : (s : State) (r : ℕ) (kinds : List Kind) → KindsFit s r kinds → KindsAre s r kinds
 kinds_are s r [] h n want e = absurd cc
 kinds_are s r (k ∷ ks) h zero want e =
     let at : r + 0 ≡ r = omega arith in
-    subst (λ q. IsKind s q want) (sym at) (subst (λ w. IsKind s r w) (some_is k want e) h.0)
+    subst (λ q. IsKind s q want) (sym at) (subst (λ w. IsKind s r w) (same_Some k want e) h.0)
 kinds_are s r (k ∷ ks) h (suc n) want e =
     let at : r + 1 + n ≡ r + suc n = omega arith in
     subst (λ q. IsKind s q want) at (kinds_are s (r + 1) ks h.1 n want e)
@@ -41,7 +39,7 @@ slots_are : (s : State) (at : Term) (r : ℕ) (slots : List Slot) → SlotsFit s
 slots_are s at r [] h n slot e = absurd cc
 slots_are s at r (k ∷ ks) h zero slot e =
     let same : r + 0 ≡ r = omega arith in
-    subst (λ q. FitsAs s at q slot) (sym same) (subst (λ w. FitsAs s at r w) (some_is k slot e) h.0)
+    subst (λ q. FitsAs s at q slot) (sym same) (subst (λ w. FitsAs s at r w) (same_Some k slot e) h.0)
 slots_are s at r (k ∷ ks) h (suc n) slot e =
     let same : r + 1 + n ≡ r + suc n = omega arith in
     subst (λ q. FitsAs s at q slot) same (slots_are s at (r + 1) ks h.1 n slot e)

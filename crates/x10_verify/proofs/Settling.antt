@@ -1,5 +1,6 @@
 -- What an instruction asks is met in each state that knows more, its effect is the only one, and it is a right one.
 use Rattle.std.proofs.Common.{◌≡◌, ◌⊎◌, ℕ, ◌+◌, Bool, true, false, Option, Some, None, refl, sym, ap, subst, ◌∙◌, inl, inr, rules}
+use Rattle.std.proofs.lemmas.Option.{same_Some}
 use Rattle.x10_kinds.specs.declared.kind.Kind.{Kind}
 use Rattle.x10_kinds.specs.declared.kind.Kind.TheVariants as kind
 use Rattle.x10_kinds.specs.declared.homes.Term.{Term}
@@ -17,7 +18,7 @@ use Rattle.x10_verify.specs.declared.table.Outcome.TheVariants.{Fixed, Copies, C
 use Rattle.x10_verify.specs.declared.table.Rule.{Rule}
 use Rattle.x10_verify.specs.Rules.{Asked, IsPlaceTerm, IsCalled, GivesBack, Settles, Allows, field_of}
 use Rattle.x10_verify.specs.Effects.{IsNarrow, StandsFor, IsSoundIn, IsSoundFixed, IsSoundOutcome, Leaves}
-use Rattle.x10_verify.proofs.Below.{IsKind-down, some_is}
+use Rattle.x10_verify.proofs.Below.{IsKind-down}
 
 -- ---- what is asked
 
@@ -94,7 +95,7 @@ settles_down Prints p s t f narrow below h = (f, (printed_down s t p.instr.a bel
 -- ---- one effect
 
 kind_once : (s : State) (r : ℕ) (k l : Kind) → s.kinds r ≡ Some k → s.kinds r ≡ Some l → k ≡ l
-kind_once s r k l e f = some_is k l (sym e ∙ f)
+kind_once s r k l e f = same_Some k l (sym e ∙ f)
 
 object_is : (k : Kind) (c : ℕ) → Fits k (kind.Obj c) → k ≡ kind.Obj c
 object_is k c f = search rules
@@ -125,13 +126,13 @@ back_once p at None e f h g = h.1 ∙ sym g.1
 back_once p at (Some slot) e f h g = h ∙ sym g
 
 field_once : (p : Point) (c d : ℕ) (k l : Kind) → c ≡ d → field_of p.program c p.instr.c ≡ Some k → field_of p.program d p.instr.c ≡ Some l → k ≡ l
-field_once p c d k l same h g = some_is k l (sym h ∙ ap (λ x. field_of p.program x p.instr.c) same ∙ g)
+field_once p c d k l same h g = same_Some k l (sym h ∙ ap (λ x. field_of p.program x p.instr.c) same ∙ g)
 
 pub settles_once : (o : Outcome) (p : Point) (s : State) (e f : Effect) → Settles o p s e → Settles o p s f → e ≡ f
 settles_once (Fixed x) p s e f h g = h ∙ sym g
 settles_once Copies p s e f h g = h.2 ∙ ap (λ k. Sets k (like_if (has_place k) (term.Reg p.instr.b))) (kind_once s p.instr.b h.0 g.0 h.1 g.1) ∙ sym g.2
 settles_once (Calls at) p s e f h g =
-    let same : g.0 ≡ h.0 = some_is g.0 h.0 (sym g.1.there ∙ h.1.there) in
+    let same : g.0 ≡ h.0 = same_Some g.0 h.0 (sym g.1.there ∙ h.1.there) in
     back_once p at h.0.result e f h.2 (subst (λ (c : Function). GivesBack p at c.result f) same g.2)
 settles_once Returns p s e f h g = h.1 ∙ sym g.1
 settles_once Makes p s e f h g = h.3 ∙ sym g.3

@@ -3,23 +3,20 @@ use Rattle.std.proofs.Common.{◌≡◌, ◌⊎◌, ℕ, zero, suc, ◌+◌, ◌
 use Rattle.std.specs.Prelude.{slice_get}
 use Rattle.std.proofs.Math.Nat.{suc-mul}
 use Rattle.std.proofs.lemmas.Bool.{cases_eq, cases_lt}
+use Rattle.std.proofs.lemmas.Option.{same_Some}
 use Rattle.x10_model.specs.Modules.{Module, Function}
 use Rattle.x10_model.specs.Assignments.{State, IsState, HasAssignment, entry_state}
 use Rattle.x10_verify.specs.declared.known.Known.{Known}
 use Rattle.x10_verify.specs.declared.states.Entry.{Entry}
 use Rattle.x10_verify.specs.Effects.{IsKept, IsNarrow}
 use Rattle.x10_verify.specs.Known.{entered, state_of}
+use Rattle.x10_verify.specs.Knowledge as knowledge
 use Rattle.x10_verify.specs.Knowledge.{LeastAt, SameState}
 use Rattle.x10_verify.specs.Solving.{Solves}
 use Rattle.x10_verify.specs.States.{state_in, stated, waits, IsFresh, IsMetIn, Arrives}
 use Rattle.x10_verify.proofs.Below.{IsBelow-trans, SameState-below, SameState-sym}
 use Rattle.x10_verify.proofs.Solving.{Arrived, arrived}
-
-none_some : {X : Type 0} (o : Option X) (x : X) → o ≡ None → o ≡ Some x → ⊥
-none_some o x e f = cc
-
-some_is : {X : Type 0} (x y : X) → Some x ≡ Some y → x ≡ y
-some_is x y e = cc
+use Rattle.x10_model.proofs.NotWrong.{none_some}
 
 bool_cases : (b : Bool) → (b ≡ true) ⊎ (b ≡ false)
 bool_cases true = inl refl
@@ -51,7 +48,7 @@ begins program function known old new changed some fresh arrives same state narr
 
     only : (q : ℕ) (s : State) → stated new q ≡ Some s → (q ≡ 0) × (state_of known ≡ s)
     only q s e = elim (cases_eq q 0) [
-      | inl first ↦ (first, some_is (state_of known) s (sym here ∙ ap (stated new) (sym first) ∙ e))
+      | inl first ↦ (first, same_Some (state_of known) s (sym here ∙ ap (stated new) (sym first) ∙ e))
       | inr ne ↦ absurd (none_some (stated new q) s (off q ne) e)
     ]
 
@@ -62,9 +59,12 @@ begins program function known old new changed some fresh arrives same state narr
     ]
 
     least : LeastAt program function 0 (state_of known)
-    least states consistent =
-        let r = consistent.entry in
-        (r.0, r.1, IsBelow-trans (state_of known) (entry_state function) r.0 (SameState-below (state_of known) (entry_state function) same) r.2)
+    least = record {
+      follows = knowledge.restated 0 (entry_state function) (state_of known) knowledge.entered same;
+      below = λ states consistent. (
+          let r = consistent.entry in
+          (r.0, r.1, IsBelow-trans (state_of known) (entry_state function) r.0 (SameState-below (state_of known) (entry_state function) same) r.2));
+    }
 
 -- none waits any more
 pub solved : (program : Module) (function : Function) (at len : ℕ) (table : List Entry) → length function.code ≡ len → len ≤ at → Solves program function at table → HasAssignment program function

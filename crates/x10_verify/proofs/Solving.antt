@@ -2,6 +2,7 @@
 use Rattle.std.proofs.Common.{◌≡◌, ◌⊎◌, ℕ, zero, suc, ◌+◌, ◌<◌, ◌≤◌, Bool, true, false, List, [], ◌∷◌, ◌++◌, length, set, Option, Some, None, refl, sym, ap, subst, ◌∙◌, inl, inr, arith}
 use Rattle.std.specs.Prelude.{slice_get}
 use Rattle.std.proofs.lemmas.Bool.{cases_eq}
+use Rattle.std.proofs.lemmas.Option.{same_Some}
 use Rattle.x10_code.specs.declared.instr.Instr.{Instr}
 use Rattle.x10_code.specs.Table.{form_of}
 use Rattle.x10_model.specs.Maps.{IsIn}
@@ -11,7 +12,7 @@ use Rattle.x10_model.specs.Assignments.{State, IsBelow, Edges, Permits, Reaches,
 use Rattle.x10_verify.specs.declared.known.Known.{Known}
 use Rattle.x10_verify.specs.declared.states.Entry.{Entry}
 use Rattle.x10_verify.specs.declared.table.Effect.{Effect}
-use Rattle.x10_verify.specs.Knowledge.{LeastAt, SameState, point}
+use Rattle.x10_verify.specs.Knowledge.{LeastAt, SameState, handed_on, merged, restated, point}
 use Rattle.x10_verify.specs.Known.{state_of}
 use Rattle.x10_verify.specs.Effects.{IsKept, IsNarrow, IsSoundIn, Leaves}
 use Rattle.x10_verify.specs.Rules.{Allows, rule_for, after, edge_if, edges_of, goes_on_of}
@@ -19,15 +20,10 @@ use Rattle.x10_verify.specs.States.{state_in, stated, waits, waits_in, is_waitin
 use Rattle.x10_verify.specs.Solving.{Holds}
 use Rattle.x10_verify.proofs.Below.{IsBelow-refl, IsBelow-trans, SameState-below}
 use Rattle.x10_verify.proofs.Effects.{after_below}
-use Rattle.x10_verify.proofs.Parts.{permits_parts}
+use Rattle.x10_verify.proofs.Parts.{permits_parts, parts_permit}
 use Rattle.x10_verify.proofs.Settling.{allows_down, allows_once}
 use Rattle.x10_verify.proofs.Tabled.{get_set, get_other}
-
-some_is : {X : Type 0} (x y : X) → Some x ≡ Some y → x ≡ y
-some_is x y e = cc
-
-none_some : {X : Type 0} (o : Option X) (x : X) → o ≡ None → o ≡ Some x → ⊥
-none_some o x e f = cc
+use Rattle.x10_model.proofs.NotWrong.{none_some}
 
 -- ---- what every consistent assignment knows
 
@@ -36,9 +32,9 @@ rule_at : (program : Module) (function : Function) (at : ℕ) (s : State) (instr
     → (states : ℕ → Option State) → IsConsistent program function states → (t : State) × (f : Effect) × (e : Effect) × IsBelow s t × Allows (rule_for instr.op instr) (point program function at instr) s e × Leaves e f
     × ((edge : ℕ × State) → IsIn edge (edges_of instr.op (point program function at instr) t f) → Reaches states edge)
 rule_at program function at s instr narrow is least states consistent =
-    let l = least states consistent in
+    let l = least.below states consistent in
     let h = consistent.permitted at l.0 l.1 in
-    let same : h.0 ≡ instr = some_is h.0 instr (sym h.2 ∙ is) in
+    let same : h.0 ≡ instr = same_Some h.0 instr (sym h.2 ∙ is) in
     let permits : Permits instr.op (point program function at instr) l.0 h.1 = subst (λ (i : Instr). Permits i.op (point program function at i) l.0 h.1) same h.3 in
     let parts = permits_parts instr.op (point program function at instr) l.0 h.1 permits in
     let down = allows_down (rule_for instr.op instr) (point program function at instr) s l.0 parts.0 narrow l.2 parts.1 in
@@ -55,19 +51,27 @@ edge_second a false pc x s t e = absurd cc
 
 pub least_on : (program : Module) (function : Function) (at : ℕ) (s : State) (instr : Instr) (e : Effect) → IsNarrow s → slice_get function.code at ≡ Some instr → LeastAt program function at s
     → Allows (rule_for instr.op instr) (point program function at instr) s e → IsSoundIn s e → goes_on_of instr.op ≡ true → LeastAt program function (at + 1) (after instr.a s e)
-least_on program function at s instr e narrow is least allows sound on states consistent =
-    let r = rule_at program function at s instr narrow is least states consistent in
-    let same : e ≡ r.2 = allows_once (rule_for instr.op instr) (point program function at instr) s e r.2 allows r.4 in
-    let leaves : Leaves e r.1 = subst (λ x. Leaves x r.1) (sym same) r.5 in
-    let reached = r.6 (at + 1, after instr.a r.0 r.1) (edge_first (goes_on_of instr.op) (at + 1) (after instr.a r.0 r.1) (edge_if (is_target (form_of instr.op).x) instr.x r.0) on) in
-    (reached.0, reached.1, IsBelow-trans (after instr.a s e) (after instr.a r.0 r.1) reached.0 (after_below instr.a s r.0 e r.1 sound leaves r.3) reached.2)
+least_on program function at s instr e narrow is least allows sound on = record {
+  follows = handed_on at s instr (edges_of instr.op (point program function at instr) s e) (at + 1, after instr.a s e) least.follows is (parts_permit instr.op (point program function at instr) s e allows)
+      (edge_first (goes_on_of instr.op) (at + 1) (after instr.a s e) (edge_if (is_target (form_of instr.op).x) instr.x s) on);
+  below = λ states consistent. (
+      let r = rule_at program function at s instr narrow is least states consistent in
+      let same : e ≡ r.2 = allows_once (rule_for instr.op instr) (point program function at instr) s e r.2 allows r.4 in
+      let leaves : Leaves e r.1 = subst (λ x. Leaves x r.1) (sym same) r.5 in
+      let reached = r.6 (at + 1, after instr.a r.0 r.1) (edge_first (goes_on_of instr.op) (at + 1) (after instr.a r.0 r.1) (edge_if (is_target (form_of instr.op).x) instr.x r.0) on) in
+      (reached.0, reached.1, IsBelow-trans (after instr.a s e) (after instr.a r.0 r.1) reached.0 (after_below instr.a s r.0 e r.1 sound leaves r.3) reached.2));
+}
 
-pub least_jump : (program : Module) (function : Function) (at : ℕ) (s : State) (instr : Instr) → IsNarrow s → slice_get function.code at ≡ Some instr → LeastAt program function at s
-    → is_target (form_of instr.op).x ≡ true → LeastAt program function instr.x s
-least_jump program function at s instr narrow is least jumps states consistent =
-    let r = rule_at program function at s instr narrow is least states consistent in
-    let reached = r.6 (instr.x, r.0) (edge_second (goes_on_of instr.op) (is_target (form_of instr.op).x) (at + 1) instr.x (after instr.a r.0 r.1) r.0 jumps) in
-    (reached.0, reached.1, IsBelow-trans s r.0 reached.0 r.3 reached.2)
+pub least_jump : (program : Module) (function : Function) (at : ℕ) (s : State) (instr : Instr) (e : Effect) → IsNarrow s → slice_get function.code at ≡ Some instr → LeastAt program function at s
+    → Allows (rule_for instr.op instr) (point program function at instr) s e → is_target (form_of instr.op).x ≡ true → LeastAt program function instr.x s
+least_jump program function at s instr e narrow is least allows jumps = record {
+  follows = handed_on at s instr (edges_of instr.op (point program function at instr) s e) (instr.x, s) least.follows is (parts_permit instr.op (point program function at instr) s e allows)
+      (edge_second (goes_on_of instr.op) (is_target (form_of instr.op).x) (at + 1) instr.x (after instr.a s e) s jumps);
+  below = λ states consistent. (
+      let r = rule_at program function at s instr narrow is least states consistent in
+      let reached = r.6 (instr.x, r.0) (edge_second (goes_on_of instr.op) (is_target (form_of instr.op).x) (at + 1) instr.x (after instr.a r.0 r.1) r.0 jumps) in
+      (reached.0, reached.1, IsBelow-trans s r.0 reached.0 r.3 reached.2));
+}
 
 pub least_never : (program : Module) (function : Function) (at : ℕ) (s : State) (instr : Instr) → IsNarrow s → slice_get function.code at ≡ Some instr → LeastAt program function at s
     → ((e : Effect) → Allows (rule_for instr.op instr) (point program function at instr) s e → ⊥) → HasAssignment program function → ⊥
@@ -82,14 +86,17 @@ past_end (x ∷ xs) (suc n) le = past_end xs n (omega arith)
 
 pub least_past : (program : Module) (function : Function) (pc : ℕ) (s : State) → length function.code ≤ pc → LeastAt program function pc s → HasAssignment program function → ⊥
 least_past program function pc s le least a =
-    let l = least a.0 a.1 in
+    let l = least.below a.0 a.1 in
     let h = a.1.permitted pc l.0 l.1 in
     none_some (slice_get function.code pc) h.0 (past_end function.code pc le) h.2
 
 pub least_same : (program : Module) (function : Function) (pc : ℕ) (s t : State) → SameState t s → LeastAt program function pc s → LeastAt program function pc t
-least_same program function pc s t same least states consistent =
-    let l = least states consistent in
-    (l.0, l.1, IsBelow-trans t s l.0 (SameState-below t s same) l.2)
+least_same program function pc s t alike least = record {
+  follows = restated pc s t least.follows alike;
+  below = λ states consistent. (
+      let l = least.below states consistent in
+      (l.0, l.1, IsBelow-trans t s l.0 (SameState-below t s alike) l.2));
+}
 
 -- ---- while an instruction is looked at
 
@@ -108,16 +115,20 @@ received_cases : (o : Option State) (s u : State) → IsMetIn o s u → IsKept s
 received_cases None s u met ks kv = (subst IsKept (sym met) ks, subst (λ x. IsBelow s x) (sym met) (IsBelow-refl s), λ v e. absurd cc)
 received_cases (Some v) s u met ks kv =
     let m = met (kv v refl) ks in
-    (m.kept, m.second, λ w e. subst (λ x. IsBelow x u) (some_is v w e) m.first)
+    (m.kept, m.second, λ w e. subst (λ x. IsBelow x u) (same_Some v w e) m.first)
 
 received_least : (program : Module) (function : Function) (pc : ℕ) (o : Option State) (s u : State) → IsMetIn o s u → IsKept s → ((v : State) → o ≡ Some v → IsKept v) → LeastAt program function pc s → ((v : State) → o ≡ Some v → LeastAt program function pc v) → LeastAt program function pc u
-received_least program function pc None s u met ks kv ls lv states consistent = subst (λ x. LeastAt program function pc x) (sym met) ls states consistent
-received_least program function pc (Some v) s u met ks kv ls lv states consistent =
-    let m = met (kv v refl) ks in
-    let a = ls states consistent in
-    let b = lv v refl states consistent in
-    let same : b.0 ≡ a.0 = some_is b.0 a.0 (sym b.1 ∙ a.1) in
-    (a.0, a.1, m.least a.0 (consistent.valid pc a.0 a.1) (subst (λ x. IsBelow v x) same b.2) a.2)
+received_least program function pc None s u is ks kv ls lv = subst (λ x. LeastAt program function pc x) (sym is) ls
+received_least program function pc (Some v) s u is ks kv ls lv =
+    let m = is (kv v refl) ks in
+    record {
+      follows = merged pc v s u (lv v refl).follows ls.follows m;
+      below = λ states consistent. (
+          let a = ls.below states consistent in
+          let b = (lv v refl).below states consistent in
+          let same : b.0 ≡ a.0 = same_Some b.0 a.0 (sym b.1 ∙ a.1) in
+          (a.0, a.1, m.least a.0 (consistent.valid pc a.0 a.1) (subst (λ x. IsBelow v x) same b.2) a.2));
+    }
 
 -- ---- one way more
 
@@ -130,7 +141,7 @@ pub record Arrived (old : List Entry) (target : ℕ) (s : State) (new : List Ent
 
 set_same : {X : Type 0} (xs : List X) (i : ℕ) (x : X) → slice_get xs i ≡ Some x → set xs i x ≡ xs
 set_same [] i x e = refl
-set_same (y ∷ ys) zero x e = ap (λ z. z ∷ ys) (sym (some_is y x e))
+set_same (y ∷ ys) zero x e = ap (λ z. z ∷ ys) (sym (same_Some y x e))
 set_same (y ∷ ys) (suc i) x e = ap (λ zs. y ∷ zs) (set_same ys i x e)
 
 pub arrived : (old : List Entry) (target : ℕ) (known : Known) (new : List Entry) (changed : Bool) (a : Arrives old target known new changed) → Arrived old target (state_of known) new changed (state_of a.entry.known)
@@ -171,12 +182,12 @@ works_on program function at s front next old target t new changed u a lt kt lt'
   inside = λ q ge. ap state_in (a.elsewhere q (λ e. absurd (omega arith))) ∙ h.inside q ge;
   entry = reaches_on old target t new changed u a kt h.kept (0, entry_state function) h.entry;
   kept = λ q v e. elim (cases_eq q target) [
-    | inl at' ↦ subst IsKept (some_is u v (sym a.here ∙ ap (stated new) (sym at') ∙ e)) cases.0
+    | inl at' ↦ subst IsKept (same_Some u v (sym a.here ∙ ap (stated new) (sym at') ∙ e)) cases.0
     | inr ne ↦ h.kept q v (ap state_in (sym (a.elsewhere q ne)) ∙ e)
   ];
   settled = settled_on;
   least = λ q v e. elim (cases_eq q target) [
-    | inl at' ↦ subst (λ x. LeastAt program function x v) (sym at') (subst (λ x. LeastAt program function target x) (some_is u v (sym a.here ∙ ap (stated new) (sym at') ∙ e)) (received_least program function target (stated old target) t u a.met kt (λ x f. h.kept target x f) lt' (λ x f. h.least target x f)))
+    | inl at' ↦ subst (λ x. LeastAt program function x v) (sym at') (subst (λ x. LeastAt program function target x) (same_Some u v (sym a.here ∙ ap (stated new) (sym at') ∙ e)) (received_least program function target (stated old target) t u a.met kt (λ x f. h.kept target x f) lt' (λ x f. h.least target x f)))
     | inr ne ↦ h.least q v (ap state_in (sym (a.elsewhere q ne)) ∙ e)
   ];
   behind = λ q less. elim (cases_eq q target) [

@@ -1,7 +1,6 @@
 -- One waiting instruction more: the states so far stay sound and least, or there is no consistent assignment.
-use Rattle.std.proofs.Common.{◌≡◌, ◌⊎◌, ℕ, zero, suc, ◌+◌, ◌<◌, ◌≤◌, Bool, true, false, List, ◌++◌, length, Some, Result, Ok, Err, refl, sym, ap, subst, ◌∙◌, inl, inr, arith}
+use Rattle.std.proofs.Common.{◌≡◌, ◌⊎◌, ℕ, zero, suc, ◌+◌, ◌<◌, ◌≤◌, Bool, true, false, List, ◌++◌, length, Some, refl, sym, ap, subst, ◌∙◌, inl, inr, arith}
 use Rattle.std.specs.Prelude.{slice_get}
-use Rattle.std.specs.Result.{IsErr}
 use Rattle.std.proofs.lemmas.Bool.{cases_eq}
 use Rattle.x10_code.specs.declared.instr.Instr.{Instr}
 use Rattle.x10_code.specs.declared.operands.Operand.TheVariants as operand
@@ -21,7 +20,9 @@ use Rattle.x10_verify.specs.Known.{state_of}
 use Rattle.x10_verify.specs.Effects.{IsKept, IsNarrow, IsSoundIn}
 use Rattle.x10_verify.specs.Rules.{Allows, rule_for, after, edge_if, edges_of, goes_on_of}
 use Rattle.x10_verify.specs.States.{Takes, state_if, state_in, stated, waits, waits_in, is_waiting, total}
-use Rattle.x10_verify.specs.Solving.{Holds, Solves, Steps, JumpsIf, GoesOnIf}
+use Rattle.x10_verify.specs.declared.fault.FlowCause.TheVariants as flow
+use Rattle.x10_verify.specs.Causes.{IsCauseAt, IsFound}
+use Rattle.x10_verify.specs.Solving.{Holds, Solves, JumpsIf, GoesOnIf}
 use Rattle.x10_verify.proofs.Below.{IsBelow-trans, SameState-below, SameState-sym}
 use Rattle.x10_verify.proofs.Effects.{after_state}
 use Rattle.x10_verify.proofs.Parts.{parts_permit}
@@ -93,15 +94,15 @@ pub record Followed (program : Module) (function : Function) (at : ℕ) (s : Sta
   pub near : next ≤ at + 1
   pub jumped : jumps ≡ true → Reaches (stated table) (instr.x, s)
 
-pub jump_on : (program : Module) (function : Function) (at len : ℕ) (instr : Instr) (known : Known) (old new : List Entry) (next : ℕ) (b : Bool) → length function.code ≡ len → is_target (form_of instr.op).x ≡ b → slice_get function.code at ≡ Some instr
-    → IsKept (state_of known) → LeastAt program function at (state_of known) → JumpsIf b instr at len known old next new → Works program function at (state_of known) (at + 1) old → Followed program function at (state_of known) instr next new b
-jump_on program function at len instr known old new next false size jumps is kept least j w = record {
+pub jump_on : (program : Module) (function : Function) (at len : ℕ) (instr : Instr) (known : Known) (effect : Effect) (old new : List Entry) (next : ℕ) (b : Bool) → length function.code ≡ len → is_target (form_of instr.op).x ≡ b → slice_get function.code at ≡ Some instr
+    → IsKept (state_of known) → LeastAt program function at (state_of known) → Allows (rule_for instr.op instr) (point program function at instr) (state_of known) effect → JumpsIf b instr at len known old next new → Works program function at (state_of known) (at + 1) old → Followed program function at (state_of known) instr next new b
+jump_on program function at len instr known effect old new next false size jumps is kept least allows j w = record {
   works = subst (λ n. Works program function at (state_of known) n new) (sym j.0) (subst (λ t. Works program function at (state_of known) (at + 1) t) (sym j.1) w);
   near = (let e = j.0 in omega arith);
   jumped = λ f. absurd cc;
 }
-jump_on program function at len instr known old new next true size jumps is kept least j w = record {
-  works = works_on program function at (state_of known) (at + 1) next old instr.x (state_of known) new j.0 (state_of j.2.entry.known) a (let l = j.1 in omega arith) kept (least_jump program function at (state_of known) instr kept.narrow is least jumps) near room w;
+jump_on program function at len instr known effect old new next true size jumps is kept least allows j w = record {
+  works = works_on program function at (state_of known) (at + 1) next old instr.x (state_of known) new j.0 (state_of j.2.entry.known) a (let l = j.1 in omega arith) kept (least_jump program function at (state_of known) instr effect kept.narrow is least allows jumps) near room w;
   near = near;
   jumped = λ f. reaches_here old instr.x (state_of known) new j.0 (state_of j.2.entry.known) a kept w.kept;
 }
@@ -202,37 +203,42 @@ step_on program function at len instr known effect next t0 t1 t2 t3 size is fit 
     let least : LeastAt program function at (state_of known) = h.least at (state_of known) own in
     let sound = allows_sound (rule_for instr.op instr) (point program function at instr) (state_of known) effect kept.narrow fit (table_sound instr.op instr place) allows in
     let w = takes program function at known t0 t1 t h in
-    let f = jump_on program function at len instr known t1 t2 next (is_target (form_of instr.op).x) size refl is kept least j w in
+    let f = jump_on program function at len instr known effect t1 t2 next (is_target (form_of instr.op).x) size refl is kept least allows j w in
     let p = go_on_on program function at len instr known effect t2 t3 next (is_target (form_of instr.op).x) (goes_on_of instr.op) size refl is kept least allows sound g f in
     finishes program function at (state_of known) instr effect next t3 is allows p
 
--- an answer that is a fault
-pub refused : (program : Module) (function : Function) (at : ℕ) (old : List Entry) (r : Result ℕ FlowCause) (new : List Entry) → IsErr r → (Solves program function at old → HasAssignment program function → ⊥) → Steps program function at old r new
-refused program function at old (Ok next) new is never = absurd cc
-refused program function at old (Err cause) new is never = never
-
 -- a rule that does not hold
-pub step_refused : (program : Module) (function : Function) (at : ℕ) (instr : Instr) (known : Known) (t0 t1 : List Entry) → slice_get function.code at ≡ Some instr → Takes t0 at known t1
-    → ((e : Effect) → Allows (rule_for instr.op instr) (point program function at instr) (state_of known) e → ⊥) → Solves program function at t0 → HasAssignment program function → ⊥
-step_refused program function at instr known t0 t1 is t never h =
+pub step_refused : (program : Module) (function : Function) (at : ℕ) (instr : Instr) (known : Known) (why : FlowCause) (t0 t1 : List Entry) → slice_get function.code at ≡ Some instr → Takes t0 at known t1
+    → ((e : Effect) → Allows (rule_for instr.op instr) (point program function at instr) (state_of known) e → ⊥) → IsCauseAt (rule_for instr.op instr) (point program function at instr) (state_of known) why
+    → Solves program function at t0 → (HasAssignment program function → ⊥) × IsFound program function at why
+step_refused program function at instr known why t0 t1 is t never cause h =
     let own = taken_state t0 at known t1 t in
-    least_never program function at (state_of known) instr (h.kept at (state_of known) own).narrow is (h.least at (state_of known) own) never
+    let least = h.least at (state_of known) own in
+    (least_never program function at (state_of known) instr (h.kept at (state_of known) own).narrow is least never, record { instr = instr; state = state_of known; is_instr = is; follows = least.follows; cause = inl cause })
 
 -- a jump out of the function
-pub step_jumps_out : (program : Module) (function : Function) (at len : ℕ) (instr : Instr) (known : Known) (t0 t1 : List Entry) → length function.code ≡ len → slice_get function.code at ≡ Some instr → Takes t0 at known t1
-    → is_target (form_of instr.op).x ≡ true → len ≤ instr.x → Solves program function at t0 → HasAssignment program function → ⊥
-step_jumps_out program function at len instr known t0 t1 size is t jumps out h =
+pub step_jumps_out : (program : Module) (function : Function) (at len : ℕ) (instr : Instr) (known : Known) (effect : Effect) (why : FlowCause) (t0 t1 : List Entry) → length function.code ≡ len → slice_get function.code at ≡ Some instr → Takes t0 at known t1
+    → Allows (rule_for instr.op instr) (point program function at instr) (state_of known) effect → is_target (form_of instr.op).x ≡ true → len ≤ instr.x → why ≡ flow.Unset
+    → Solves program function at t0 → (HasAssignment program function → ⊥) × IsFound program function at why
+step_jumps_out program function at len instr known effect why t0 t1 size is t allows jumps out unset h =
     let own = taken_state t0 at known t1 t in
-    least_past program function instr.x (state_of known) (omega arith) (least_jump program function at (state_of known) instr (h.kept at (state_of known) own).narrow is (h.least at (state_of known) own) jumps)
+    let least = h.least at (state_of known) own in (
+      least_past program function instr.x (state_of known) (omega arith) (least_jump program function at (state_of known) instr effect (h.kept at (state_of known) own).narrow is least allows jumps),
+      record { instr = instr; state = state_of known; is_instr = is; follows = least.follows; cause = inr (unset, inl (jumps, (let e : length function.code ≤ instr.x = omega arith in e))) },
+    )
 
 -- the last instruction goes on
-pub step_runs_out : (program : Module) (function : Function) (at len : ℕ) (instr : Instr) (known : Known) (effect : Effect) (t0 t1 : List Entry) → length function.code ≡ len → slice_get function.code at ≡ Some instr → ResultsFit program → ((form_of instr.op).x ≡ operand.Place → instr.x < 64)
-    → Takes t0 at known t1 → Allows (rule_for instr.op instr) (point program function at instr) (state_of known) effect → goes_on_of instr.op ≡ true → len ≤ at + 1 → Solves program function at t0 → HasAssignment program function → ⊥
-step_runs_out program function at len instr known effect t0 t1 size is fit place t allows on out h =
+pub step_runs_out : (program : Module) (function : Function) (at len : ℕ) (instr : Instr) (known : Known) (effect : Effect) (why : FlowCause) (t0 t1 : List Entry) → length function.code ≡ len → slice_get function.code at ≡ Some instr → ResultsFit program
+    → ((form_of instr.op).x ≡ operand.Place → instr.x < 64) → Takes t0 at known t1 → Allows (rule_for instr.op instr) (point program function at instr) (state_of known) effect → goes_on_of instr.op ≡ true → len ≤ at + 1 → why ≡ flow.Unset
+    → Solves program function at t0 → (HasAssignment program function → ⊥) × IsFound program function at why
+step_runs_out program function at len instr known effect why t0 t1 size is fit place t allows on out unset h =
     let own = taken_state t0 at known t1 t in
     let kept : IsKept (state_of known) = h.kept at (state_of known) own in
-    let sound = allows_sound (rule_for instr.op instr) (point program function at instr) (state_of known) effect kept.narrow fit (table_sound instr.op instr place) allows in
-    least_past program function (at + 1) (after instr.a (state_of known) effect) (omega arith) (least_on program function at (state_of known) instr effect kept.narrow is (h.least at (state_of known) own) allows sound on)
+    let least = h.least at (state_of known) own in
+    let sound = allows_sound (rule_for instr.op instr) (point program function at instr) (state_of known) effect kept.narrow fit (table_sound instr.op instr place) allows in (
+      least_past program function (at + 1) (after instr.a (state_of known) effect) (omega arith) (least_on program function at (state_of known) instr effect kept.narrow is least allows sound on),
+      record { instr = instr; state = state_of known; is_instr = is; follows = least.follows; cause = inr (unset, inr (on, (let e : length function.code ≤ at + 1 = omega arith in e))) },
+    )
 
 -- ---- how often the table can change
 

@@ -1,12 +1,12 @@
 -- What the bounds of a module say of each function: the last instruction ends it, and its bound is that of its code.
-use Rattle.std.proofs.Common.{◌≡◌, ◌⊎◌, ℕ, zero, suc, ◌+◌, ◌-◌, ◌<◌, ◌≤◌, ◌^◌, Bool, true, false, cond, ◌&&◌, List, [], ◌∷◌, ◌++◌, length, Option, Some, None, Result, Ok, Err, refl, sym, ap, subst, ◌∙◌, inl, inr, arith, length-append}
+use Rattle.std.proofs.Common.{◌≡◌, ◌⊎◌, ℕ, zero, suc, ◌+◌, ◌-◌, ◌<◌, ◌≤◌, ◌^◌, Bool, true, false, cond, ◌&&◌, List, [], ◌∷◌, ◌++◌, length, Option, Some, None, Result, Ok, Err, refl, sym, subst, inl, inr, arith, length-append}
 use Rattle.std.specs.Prelude.{slice_get, nat_le}
-use Rattle.std.proofs.lemmas.Bool.{cases_lt}
+use Rattle.std.proofs.lemmas.Bool.{cases_lt, and_parts}
 use Rattle.x10_code.specs.declared.op.Op.{Op}
 use Rattle.x10_code.specs.declared.op.Op.TheVariants as op
 use Rattle.x10_code.specs.declared.instr.Instr.{Instr}
-use Rattle.x10_model.specs.Modules.{Module, Function, is_brought}
-use Rattle.x10_model.specs.Structure.{Region, BoundFault, BoundCause, Nesting, Jump, LoopSlot, CallOrder, around, passed, regions_after, weight, cost, is_call, steps_from, bound_of, first_failing, nests, is_ret, is_last_ret, is_empty, ends_well, or_else, nesting_fault, jump_fault, slot_fault, order_fault, unless, checked_bound, with_bound, bounds_from, bounds_of}
+use Rattle.x10_model.specs.Modules.{Module, Function}
+use Rattle.x10_model.specs.Structure.{BoundFault, BoundCause, Nesting, Jump, LoopSlot, CallOrder, around, bound_of, first_failing, nests, is_ret, is_last_ret, is_empty, ends_well, or_else, nesting_fault, jump_fault, slot_fault, order_fault, unless, checked_bound, with_bound, bounds_from, bounds_of}
 
 -- ---- no fault
 
@@ -93,10 +93,6 @@ ends code e = chosen (ends_well code) (length code - 1) (or_none (first_failing 
     chosen true n h = refl
     chosen false n h = absurd cc
 
-both_parts : (a b : Bool) → (a && b) ≡ true → (a ≡ true) × (b ≡ true)
-both_parts true b e = (refl, e)
-both_parts false b e = absurd cc
-
 ret_is : (o : Op) → is_ret o ≡ true → o ≡ op.Ret
 ret_is op.Ret e = refl
 ret_is _ e = absurd cc
@@ -120,4 +116,4 @@ has_next code pc i e g not-ret = next (cases_lt (pc + 1) (length code))
     next (inl h) = h
     next (inr h) =
         let at : length code - 1 ≡ pc = omega (arith, lt, h) in
-        absurd (not-ret (last_is_ret (slice_get code (length code - 1)) i (both_parts (is_empty (around code (length code))) (is_last_ret (slice_get code (length code - 1))) (ends code e)).1 (subst (λ n. slice_get code n ≡ Some i) (sym at) g)))
+        absurd (not-ret (last_is_ret (slice_get code (length code - 1)) i (and_parts (is_empty (around code (length code))) (is_last_ret (slice_get code (length code - 1))) (ends code e)).1 (subst (λ n. slice_get code n ≡ Some i) (sym at) g)))

@@ -3,6 +3,7 @@ use Rattle.std.proofs.Common.{◌≡◌, ◌⊎◌, ℕ, zero, suc, ◌*◌, ◌
 use Rattle.std.specs.Prelude.{slice_get}
 use Rattle.std.proofs.lemmas.Bool.{cases_eq}
 use Rattle.std.proofs.Math.ListN.{length-set}
+use Rattle.std.proofs.lemmas.Option.{slice_get_within}
 use Rattle.x10_kinds.specs.declared.kind.Kind.{Kind}
 use Rattle.x10_kinds.specs.declared.kind.Kind.TheVariants.{Obj}
 use Rattle.x10_kinds.specs.Ranks.{sum_below, rank}
@@ -84,11 +85,6 @@ set_heights old at before entry was le q = elim (cases_eq q at) [
   | inr ne ↦ (let a : height_in (slice_get (set old at entry) q) ≡ height_in (slice_get old q) = ap height_in (get_other old at q entry ne) in omega arith)
 ]
 
-some_below : {X : Type 0} (xs : List X) (i : ℕ) (x : X) → slice_get xs i ≡ Some x → i < length xs
-some_below [] i x e = absurd cc
-some_below (y ∷ ys) zero x e = omega arith
-some_below (y ∷ ys) (suc i) x e = let h : i < length ys = some_below ys i x e in omega arith
-
 bool_cases : (b : Bool) → (b ≡ true) ⊎ (b ≡ false)
 bool_cases true = inl refl
 bool_cases false = inr refl
@@ -99,7 +95,7 @@ set_size xs i x = simp length-set
 pub arrives_total : (old : List Entry) (target : ℕ) (known : Known) (new : List Entry) (changed : Bool) → Arrives old target known new changed → (total new ≤ total old) × (changed ≡ true → total new < total old)
 arrives_total old target known new changed a = (
   subst (λ xs. total xs ≤ total old) (sym a.is) (total-le old (set old target a.entry) (set_size old target a.entry) (set_heights old target a.before a.entry a.was le)),
-  λ e. subst (λ xs. total xs < total old) (sym a.is) (total-lt old (set old target a.entry) target (set_size old target a.entry) (set_heights old target a.before a.entry a.was le) (some_below old target a.before a.was)
+  λ e. subst (λ xs. total xs < total old) (sym a.is) (total-lt old (set old target a.entry) target (set_size old target a.entry) (set_heights old target a.before a.entry a.was le) (slice_get_within old target a.before a.was)
       (let x : height_in (slice_get (set old target a.entry) target) ≡ height_if a.entry.mark a.entry.known = ap height_in (get_set old target a.entry a.before a.was) in
       let y : height_in (slice_get old target) ≡ height_if a.before.mark a.before.known = ap height_in a.was in
       let f : height_if a.entry.mark a.entry.known < height_if a.before.mark a.before.known = a.received.falls e in

@@ -2,6 +2,7 @@
 use Rattle.std.proofs.Common.{◌≡◌, ℕ, zero, suc, ◌<◌, true, List, [], ◌∷◌, length, Option, Some, None, refl, subst, arith}
 use Rattle.std.specs.Prelude.{slice_get, IfSome}
 use Rattle.std.specs.List.{AllByRecursion}
+use Rattle.std.proofs.lemmas.Option.{same_Some}
 use Rattle.x10_kinds.specs.declared.kind.Kind.{Kind}
 use Rattle.x10_kinds.specs.declared.homes.Term.{Term}
 use Rattle.x10_kinds.specs.declared.homes.Term.TheVariants as term
@@ -20,9 +21,9 @@ use Rattle.x10_verify.specs.declared.table.Effect.TheVariants.{Keeps, Sets, Join
 use Rattle.x10_verify.specs.Named.{IsNamed, IsResultNamed}
 use Rattle.x10_verify.specs.Rules.{Allows, GivesBack, rule_for}
 use Rattle.x10_verify.specs.Effects.{IsNarrow, IsSoundIn, IsSoundOutcome, IsTermLike, CanApply}
-use Rattle.x10_verify.proofs.Below.{some_is}
 use Rattle.x10_verify.proofs.Effects.{stands_term}
 use Rattle.x10_verify.proofs.Settling.{FlagFits, ResultsFit, allows_sound}
+use Rattle.x10_model.proofs.Lists.{all_at}
 
 pub table_sound : (o : Op) (i : Instr) → ((form_of o).x ≡ operand.Place → i.x < 64) → IsSoundOutcome (rule_for o i).outcome
 table_sound op.Placek i named = (refl, named refl)
@@ -65,11 +66,6 @@ can_apply p s e narrow fit named h = can p s e named (allows_sound (rule_for p.i
 flag_fits : (n : ℕ) (o : Option Slot) → IfSome o (FitsSlot n) → FlagFits o
 flag_fits n None h = tt
 flag_fits n (Some slot) h = h.flag
-
-all_at : {X : Type 0} (P : X → Type 0) (xs : List X) (i : ℕ) (x : X) → AllByRecursion P xs → slice_get xs i ≡ Some x → P x
-all_at P [] i x h e = absurd cc
-all_at P (y ∷ ys) zero x h e = subst P (some_is y x e) h.0
-all_at P (y ∷ ys) (suc i) x h e = all_at P ys i x h.1 e
 
 pub results_fit : (m : Module) → FitsImage m → ResultsFit m
 results_fit m fits f function e = flag_fits (length m.classes) function.result (all_at (FitsFunction (length m.classes)) m.functions f function fits.functions.2 e).result

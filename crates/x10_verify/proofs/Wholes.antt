@@ -1,44 +1,31 @@
 -- All instructions of a function, and all functions of a module.
-use Rattle.std.proofs.Common.{◌≡◌, ◌≢◌, ◌⊎◌, ℕ, zero, suc, ◌+◌, ◌<◌, ◌≤◌, ◌==◌, ◌&&◌, true, List, [], ◌∷◌, length, get_or, max, Option, Some, None, refl, sym, ap, subst, ◌∙◌, inl, inr, arith}
-use Rattle.std.specs.Prelude.{IsTrue, slice_get}
+use Rattle.std.proofs.Common.{◌≡◌, ◌≢◌, ◌⊎◌, ℕ, zero, suc, ◌+◌, ◌<◌, ◌≤◌, true, List, [], ◌∷◌, length, get_or, max, Option, Some, None, refl, sym, ap, subst, ◌∙◌, inl, inr, arith}
+use Rattle.std.specs.Prelude.{slice_get}
 use Rattle.std.specs.List.{AllByRecursion}
-use Rattle.std.proofs.lemmas.Bool.{cases_lt, eqb-true, and_parts}
+use Rattle.std.proofs.lemmas.Bool.{cases_lt}
 use Rattle.x10_code.specs.declared.op.Op.{Op}
 use Rattle.x10_code.specs.declared.op.Op.TheVariants as op
 use Rattle.x10_code.specs.declared.instr.Instr.{Instr}
 use Rattle.x10_code.specs.declared.operands.Operand.{Operand}
 use Rattle.x10_code.specs.declared.operands.Operand.TheVariants as operand
 use Rattle.x10_code.specs.Table.{form_of}
-use Rattle.x10_code.specs.Spelling.{fits_operand, fits_form}
 use Rattle.x10_model.specs.declared.slot.Slot.{Slot}
-use Rattle.x10_model.specs.Modules.{Module, Function, IsBrought, is_brought, FitsFunction, FitsImage}
+use Rattle.x10_model.specs.Modules.{Module, Function, FitsFunction, FitsImage}
 use Rattle.x10_model.specs.Ranges.{function_at, instr_at, instr_in, IsThere, IsInRange, IsResultRegister, result_for, result_of}
 use Rattle.x10_model.specs.Assignments.{AreInRange, HasAssignment}
 use Rattle.x10_verify.specs.Named.{IsNamed, IsResultNamed, HasNames}
 use Rattle.x10_verify.specs.Verdict.{AreInRangeTo, IsOutAt, IsFirstOut, IsFirstWithout}
 use Rattle.std.specs.Prelude.{Ok, slice_index}
+use Rattle.std.proofs.lemmas.Option.{same_Some, slice_get_within, slice_get_past}
 use Rattle.x10_image.specs.Parts.{code_in, code_at}
 use Rattle.x10_model.specs.Structure.{bounds_of, is_call}
 use Rattle.x10_verify.proofs.Structured.{bounds_each, has_next}
 use Rattle.x10_verify.proofs.InFunction.{in_function}
-
-some_is : {X : Type 0} (x y : X) → Some x ≡ Some y → x ≡ y
-some_is x y e = cc
-
-pub get_below : {X : Type 0} (xs : List X) (i : ℕ) → i < length xs → (x : X) × (slice_get xs i ≡ Some x)
-get_below [] i lt = absurd (omega arith)
-get_below (x ∷ xs) zero lt = (x, refl)
-get_below (x ∷ xs) (suc i) lt = get_below xs i (omega arith)
+pub use Rattle.x10_model.proofs.Decided.{get_below}
+pub use Rattle.x10_model.proofs.Lists.{all_at}
 
 pub some_below : {X : Type 0} (xs : List X) (i : ℕ) (x : X) → slice_get xs i ≡ Some x → i < length xs
-some_below [] i x e = absurd cc
-some_below (y ∷ ys) zero x e = omega arith
-some_below (y ∷ ys) (suc i) x e = let h : i < length ys = some_below ys i x e in omega arith
-
-pub all_at : {X : Type 0} (P : X → Type 0) (xs : List X) (i : ℕ) (x : X) → AllByRecursion P xs → slice_get xs i ≡ Some x → P x
-all_at P [] i x h e = absurd cc
-all_at P (y ∷ ys) zero x h e = subst P (some_is y x e) h.0
-all_at P (y ∷ ys) (suc i) x h e = all_at P ys i x h.1 e
+some_below xs i x e = slice_get_within xs i x e
 
 below_or_at : (q pc : ℕ) → q < pc + 1 → (q < pc) ⊎ (q ≡ pc)
 below_or_at q pc lt = elim (cases_lt q pc) [ inl less ↦ inl less | inr le ↦ inr (omega arith) ]
@@ -48,7 +35,7 @@ below_or_at q pc lt = elim (cases_lt q pc) [ inl less ↦ inl less | inr le ↦ 
 pub range_more : (m : Module) (f pc : ℕ) (function : Function) (i : Instr) → function_at m f ≡ Some function → instr_at m f pc ≡ Some i → AreInRangeTo m function pc → IsInRange m function i → AreInRangeTo m function (pc + 1)
 range_more m f pc function i e is before here q j lt g = elim (below_or_at q pc lt) [
   | inl less ↦ before q j less g
-  | inr at ↦ subst (λ k. IsInRange m function k) (some_is i j (sym (in_function m f pc function i e is) ∙ subst (λ n. slice_get function.code n ≡ Some j) at g)) here
+  | inr at ↦ subst (λ k. IsInRange m function k) (same_Some i j (sym (in_function m f pc function i e is) ∙ subst (λ n. slice_get function.code n ≡ Some j) at g)) here
 ]
 
 pub range_out : (m : Module) (f pc : ℕ) (function : Function) (i : Instr) → function_at m f ≡ Some function → instr_at m f pc ≡ Some i → AreInRangeTo m function pc → (IsInRange m function i → ⊥) → IsOutAt m function pc
@@ -68,11 +55,11 @@ first_without_is m f lt before without = let g = get_below m.functions f lt in r
 
 pub all_in_range : (m : Module) (n : ℕ) → length m.functions ≤ n → ((g : ℕ) (function : Function) → g < n → function_at m g ≡ Some function → AreInRangeTo m function (length function.code)) → AreInRange m
 all_in_range m n le h f pc function instr e i =
-    let lt = some_below m.functions f function e in
-    h f function (omega arith) e pc instr (some_below function.code pc instr i) i
+    let lt = slice_get_within m.functions f function e in
+    h f function (omega arith) e pc instr (slice_get_within function.code pc instr i) i
 
 pub all_functions : (m : Module) (P : Function → Type 0) (n : ℕ) → length m.functions ≤ n → ((g : ℕ) (function : Function) → g < n → function_at m g ≡ Some function → P function) → (f : ℕ) (function : Function) → function_at m f ≡ Some function → P function
-all_functions m P n le h f function e = let lt = some_below m.functions f function e in h f function (omega arith) e
+all_functions m P n le h f function e = let lt = slice_get_within m.functions f function e in h f function (omega arith) e
 
 -- ---- functions and instructions
 
@@ -130,15 +117,10 @@ length_one m f longest len before here = elim (cases_lt longest len) [
   | inr ge ↦ (before.0, omega (arith, before.1))
 ]
 
-none_past : {X : Type 0} (xs : List X) (n : ℕ) → length xs ≤ n → slice_get xs n ≡ None
-none_past [] n le = refl
-none_past (x ∷ xs) zero le = absurd (omega arith)
-none_past (x ∷ xs) (suc n) le = none_past xs n (omega arith)
-
 pub all_lengths : (m : Module) (n longest : ℕ) → length m.functions ≤ n → ((g : ℕ) → g < n → length (code_at m g) ≤ longest) → (g : ℕ) → length (code_at m g) ≤ longest
 all_lengths m n longest le h g = elim (cases_lt g n) [
   | inl lt ↦ h g lt
-  | inr ge ↦ (let e : length (code_at m g) ≡ 0 = ap (λ o. length (code_in o)) (none_past m.functions g (omega arith)) in omega arith)
+  | inr ge ↦ (let e : length (code_at m g) ≡ 0 = ap (λ o. length (code_in o)) (slice_get_past m.functions g (omega arith)) in omega arith)
 ]
 
 -- ---- what a certificate says of an instruction
@@ -156,7 +138,7 @@ pub bound_below : (m : Module) (bounds : List ℕ) (f : ℕ) → bounds_of m ≡
 bound_below m bounds f e lt =
     let g = get_below m.functions f lt in
     let b = bounds_each m bounds f g.0 e g.1 in
-    some_below bounds f b.0 b.1
+    slice_get_within bounds f b.0 b.1
 
 pub bound_there : (bounds : List ℕ) (f : ℕ) → f < length bounds → slice_get bounds f ≡ Some (slice_index bounds f)
 bound_there [] f lt = absurd (omega arith)

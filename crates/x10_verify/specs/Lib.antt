@@ -6,6 +6,7 @@ pub mod Faults
 pub mod Certified
 pub mod Named
 pub mod Rules
+pub mod Causes
 pub mod Effects
 pub mod Merging
 pub mod States

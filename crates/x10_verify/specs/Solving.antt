@@ -7,6 +7,7 @@ use Rattle.x10_model.specs.Modules.{Module, Function}
 use Rattle.x10_model.specs.Structure.{is_target}
 use Rattle.x10_model.specs.Assignments.{State, IsState, Edges, Permits, Reaches, HasAssignment, entry_state}
 use Rattle.x10_verify.specs.declared.fault.FlowCause.{FlowCause}
+use Rattle.x10_verify.specs.declared.fault.FlowCause.TheVariants.{Unset}
 use Rattle.x10_verify.specs.declared.known.Known.{Known}
 use Rattle.x10_verify.specs.declared.states.Entry.{Entry}
 use Rattle.x10_verify.specs.declared.table.Effect.{Effect}
@@ -14,6 +15,7 @@ use Rattle.x10_verify.specs.Knowledge.{LeastAt, SameState, point}
 use Rattle.x10_verify.specs.Known.{state_of}
 use Rattle.x10_verify.specs.Effects.{IsKept, IsNarrow}
 use Rattle.x10_verify.specs.Rules.{after, goes_on_of}
+use Rattle.x10_verify.specs.Causes.{IsFound}
 use Rattle.x10_verify.specs.States.{Arrives, stated, waits}
 
 -- the rule of instruction q holds in a state, and what follows knows no more than it is given
@@ -30,10 +32,10 @@ pub record Solves (program : Module) (function : Function) (at : ℕ) (table : L
   pub least : (q : ℕ) (s : State) → stated table q ≡ Some s → LeastAt program function q s
   pub behind : (q : ℕ) → q < at → waits table q ≡ false
 
--- one waiting instruction more: the states so far and where to go on, or no consistent assignment
+-- one waiting instruction more: the states so far and where to go on, or no consistent assignment, and why
 abbrev pub Steps : Module → Function → ℕ → List Entry → Result ℕ FlowCause → List Entry → Type 0
 Steps program function at old (Ok next) new = Solves program function at old → Solves program function next new
-Steps program function at old (Err cause) new = Solves program function at old → HasAssignment program function → ⊥
+Steps program function at old (Err cause) new = Solves program function at old → (HasAssignment program function → ⊥) × IsFound program function at cause
 
 -- what became of the jump to x: its state has changed, and is to be looked at next where it is no later instruction
 abbrev pub JumpsIf : Bool → Instr → ℕ → ℕ → Known → List Entry → ℕ → List Entry → Type 0
@@ -42,7 +44,7 @@ JumpsIf false i at len known old next new = (next ≡ at + 1) × (new ≡ old)
 
 abbrev pub Jumps : Instr → ℕ → ℕ → Known → List Entry → Result ℕ FlowCause → List Entry → Type 0
 Jumps i at len known old (Ok next) new = JumpsIf (is_target (form_of i.op).x) i at len known old next new
-Jumps i at len known old (Err cause) new = (is_target (form_of i.op).x ≡ true) × (len ≤ i.x)
+Jumps i at len known old (Err cause) new = (is_target (form_of i.op).x ≡ true) × (len ≤ i.x) × (cause ≡ Unset)
 
 -- what became of the next instruction
 abbrev pub GoesOnIf : Bool → Instr → ℕ → ℕ → Effect → Known → List Entry → List Entry → Type 0
@@ -51,4 +53,4 @@ GoesOnIf false i at len effect known old new = new ≡ old
 
 abbrev pub GoesOn : Instr → ℕ → ℕ → Effect → Known → List Entry → Result Unit FlowCause → List Entry → Type 0
 GoesOn i at len effect known old (Ok done) new = GoesOnIf (goes_on_of i.op) i at len effect known old new
-GoesOn i at len effect known old (Err cause) new = (goes_on_of i.op ≡ true) × (len ≤ at + 1)
+GoesOn i at len effect known old (Err cause) new = (goes_on_of i.op ≡ true) × (len ≤ at + 1) × (cause ≡ Unset)

@@ -1,5 +1,5 @@
 //! The rules of functions: CALL, AT, ASYNC, ATA, RET.
-ghost use Rattle.std.specs.Prelude.{◌≡◌, ℕ, MatchResult, IfOk, ◌<◌, ◌≤◌, length, Some, None, slice_get};
+ghost use Rattle.std.specs.Prelude.{◌≡◌, ◌≢◌, ◌+◌, ℕ, MatchResult, IfOk, IfErr, ◌<◌, ◌≤◌, length, Some, None, slice_get};
 ghost use Rattle.x10_image.specs.Parts.{signature_of};
 ghost use Rattle.x10_kinds.specs.Equations.{IsTerm};
 ghost use Rattle.x10_model.specs.Assignments as model;
@@ -9,6 +9,8 @@ ghost use Rattle.x10_model.specs.Modules as modules;
 ghost use Rattle.x10_verify.specs.Known.{state_of};
 ghost use Rattle.x10_verify.specs.Knowledge.{point};
 ghost use Rattle.x10_verify.specs.Rules.{Decides, IsCalled, IsPlaceTerm, Settles, SlotsAre};
+ghost use Rattle.x10_verify.specs.Causes.{IsCauseOf, IsNoPlace, IsUncalled, IsUnfit};
+ghost use Rattle.x10_model.specs.declared.slot.Slot as slots;
 
 use crate::fault::FlowCause;
 use crate::known::Known;
@@ -22,7 +24,8 @@ use x10_model::Slot;
 // A register fits a slot whose home, where it asks for one, is the place of a term.
 fn fits_as(slot: Slot, register: u8, at: Term, known: &Known) -> Result<(), FlowCause>
     requires { IsTerm at }
-    ensures { MatchResult result (λ _. FitsAs (state_of known.now) at register slot) (λ _. FitsAs (state_of known.now) at register slot → ⊥) }
+    ensures fits { MatchResult result (λ _. FitsAs (state_of known.now) at register slot) (λ _. FitsAs (state_of known.now) at register slot → ⊥) }
+    ensures cause { IfErr result (λ why. IsUnfit (state_of known.now) at register slot why) }
 {
     known.ask(register, slot.kind)?;
     if slot.home_here && !known.homes.same(Term::Reg(register), at) {
@@ -35,7 +38,8 @@ fn fits_as(slot: Slot, register: u8, at: Term, known: &Known) -> Result<(), Flow
 fn arguments_fit(signature: &SigView, first: u8, at: Term, known: &Known) -> Result<(), FlowCause>
     requires term { IsTerm at }
     requires few { length signature.now.parameters ≤ 16 }
-    ensures { MatchResult result (λ _. SlotsAre (state_of known.now) at first signature.now.parameters) (λ _. SlotsAre (state_of known.now) at first signature.now.parameters → ⊥) }
+    ensures fit { MatchResult result (λ _. SlotsAre (state_of known.now) at first signature.now.parameters) (λ _. SlotsAre (state_of known.now) at first signature.now.parameters → ⊥) }
+    ensures cause { IfErr result (λ why. (n : ℕ) × (slot : slots.Slot) × (slice_get signature.now.parameters n ≡ Some slot) × IsUnfit (state_of known.now) at (first + n) slot why) }
 {
     known.narrow();
     for n in 0..signature.parameters() {
@@ -53,6 +57,7 @@ fn arguments_fit(signature: &SigView, first: u8, at: Term, known: &Known) -> Res
 fn place(at: Term, known: &Known) -> Result<(), FlowCause>
     ensures place { MatchResult result (λ _. IsPlaceTerm (state_of known.now) at) (λ _. IsPlaceTerm (state_of known.now) at → ⊥) }
     ensures term { IfOk result (λ _. IsTerm at) }
+    ensures cause { IfErr result (λ why. IsNoPlace (state_of known.now) at why) }
 {
     match at {
         Term::Here => Ok(()),
@@ -68,7 +73,8 @@ fn callee<'a>(
     at: Term,
     known: &Known,
 ) -> Result<SigView<'a>, FlowCause>
-    ensures { (function : Function) (pc : ℕ) → MatchResult result (λ signature. (callee : modules.Function) × IsCalled (point image.now function pc instr) (state_of known.now) at callee × (signature ≡ signature_of callee)) (λ _. (callee : modules.Function) → IsCalled (point image.now function pc instr) (state_of known.now) at callee → ⊥) }
+    ensures found { (function : Function) (pc : ℕ) → MatchResult result (λ signature. (callee : modules.Function) × IsCalled (point image.now function pc instr) (state_of known.now) at callee × (signature ≡ signature_of callee)) (λ _. (callee : modules.Function) → IsCalled (point image.now function pc instr) (state_of known.now) at callee → ⊥) }
+    ensures cause { IfErr result (λ why. (function : Function) (pc : ℕ) → IsUncalled at (point image.now function pc instr) (state_of known.now) why) }
 {
     place(at, known)?;
     if instr.x as usize >= image.functions() {
@@ -93,7 +99,8 @@ pub(crate) fn called(
     at: Term,
     known: &Known,
 ) -> Result<Effect, FlowCause>
-    ensures { (function : Function) (pc : ℕ) → Decides (Settles (Outcome.Calls at) (point image.now function pc instr) (state_of known.now)) result }
+    ensures decides { (function : Function) (pc : ℕ) → Decides (Settles (Outcome.Calls at) (point image.now function pc instr) (state_of known.now)) result }
+    ensures cause { IfErr result (λ why. (function : Function) (pc : ℕ) → IsCauseOf (Outcome.Calls at) (point image.now function pc instr) (state_of known.now) why) }
 {
     let signature = callee(image, instr, at, known)?;
     match signature.result() {
@@ -115,7 +122,8 @@ pub(crate) fn started(
     at: Term,
     known: &Known,
 ) -> Result<Effect, FlowCause>
-    ensures { (function : Function) (pc : ℕ) → Decides (Settles (Outcome.Starts at) (point image.now function pc instr) (state_of known.now)) result }
+    ensures decides { (function : Function) (pc : ℕ) → Decides (Settles (Outcome.Starts at) (point image.now function pc instr) (state_of known.now)) result }
+    ensures cause { IfErr result (λ why. (function : Function) (pc : ℕ) → IsCauseOf (Outcome.Starts at) (point image.now function pc instr) (state_of known.now) why) }
 {
     let signature = callee(image, instr, at, known)?;
     match signature.result() {
@@ -126,7 +134,8 @@ pub(crate) fn started(
 
 /// RET: register a fits the function's result, whose home is here where it has one; without a result a is 0.
 pub(crate) fn returned(slot: Option<Slot>, instr: Instr, known: &Known) -> Result<Effect, FlowCause>
-    ensures { (program : modules.Module) (function : Function) (pc : ℕ) → function.result ≡ slot → Decides (Settles Outcome.Returns (point program function pc instr) (state_of known.now)) result }
+    ensures decides { (program : modules.Module) (function : Function) (pc : ℕ) → function.result ≡ slot → Decides (Settles Outcome.Returns (point program function pc instr) (state_of known.now)) result }
+    ensures cause { IfErr result (λ why. (program : modules.Module) (function : Function) (pc : ℕ) → function.result ≡ slot → IsCauseOf Outcome.Returns (point program function pc instr) (state_of known.now) why) }
 {
     match slot {
         None => {

@@ -1,10 +1,12 @@
 //! Whether an instruction's rule holds in a state, and with which effect.
-ghost use Rattle.std.specs.Prelude.{◌≡◌, ℕ, MatchResult, Ok, Err, IfOk};
+ghost use Rattle.std.specs.Prelude.{◌≡◌, ℕ, MatchResult, Ok, Err, Some, IfOk, IfErr};
 ghost use Rattle.x10_model.specs.Modules.{Function};
 ghost use Rattle.x10_verify.specs.Known.{state_of};
 ghost use Rattle.x10_verify.specs.Knowledge.{point};
 ghost use Rattle.x10_verify.specs.Named.{NamesSmall};
 ghost use Rattle.x10_verify.specs.Rules.{Allows, Asked, Decides, Settles, rule_for};
+ghost use Rattle.x10_verify.specs.Causes.{Fitting, IsCauseAt, IsCauseOf, IsRefused};
+ghost use Rattle.x10_kinds.specs.declared.kind.Kind as kinds;
 
 use crate::calls::{called, returned, started};
 use crate::fault::FlowCause;
@@ -26,7 +28,8 @@ pub(crate) fn decide(
     known: &Known,
 ) -> Result<Effect, FlowCause>
     requires { NamesSmall instr }
-    ensures { (function : Function) (pc : ℕ) → function.result ≡ slot → Decides (Allows (rule_for instr.op instr) (point image.now function pc instr) (state_of known.now)) result }
+    ensures decides { (function : Function) (pc : ℕ) → function.result ≡ slot → Decides (Allows (rule_for instr.op instr) (point image.now function pc instr) (state_of known.now)) result }
+    ensures cause { IfErr result (λ why. (function : Function) (pc : ℕ) → function.result ≡ slot → IsCauseAt (rule_for instr.op instr) (point image.now function pc instr) (state_of known.now) why) }
 {
     let rule = rule_of(instr);
     asked(instr.a, rule.a, known)?;
@@ -37,7 +40,8 @@ pub(crate) fn decide(
 
 // A register is asked for a kind, or for nothing.
 fn asked(register: u8, want: Option<Kind>, known: &Known) -> Result<(), FlowCause>
-    ensures { MatchResult result (λ _. Asked (state_of known.now) register want) (λ _. Asked (state_of known.now) register want → ⊥) }
+    ensures asked { MatchResult result (λ _. Asked (state_of known.now) register want) (λ _. Asked (state_of known.now) register want → ⊥) }
+    ensures cause { IfErr result (λ why. (kind : kinds.Kind) × (want ≡ Some kind) × IsRefused (state_of known.now) register (Fitting kind) why) }
 {
     match want {
         None => Ok(()),
@@ -53,7 +57,8 @@ fn settled(
     outcome: Outcome,
     known: &Known,
 ) -> Result<Effect, FlowCause>
-    ensures { (function : Function) (pc : ℕ) → function.result ≡ slot → Decides (Settles outcome (point image.now function pc instr) (state_of known.now)) result }
+    ensures decides { (function : Function) (pc : ℕ) → function.result ≡ slot → Decides (Settles outcome (point image.now function pc instr) (state_of known.now)) result }
+    ensures cause { IfErr result (λ why. (function : Function) (pc : ℕ) → function.result ≡ slot → IsCauseOf outcome (point image.now function pc instr) (state_of known.now) why) }
 {
     match outcome {
         Outcome::Fixed(effect) => Ok(effect),

@@ -1,5 +1,5 @@
 ghost use Rattle.std.specs.Prelude.{◌≡◌};
-ghost use Rattle.x10_verify.specs.Faults.{IsFlowCause, flow_cause, structure_cause};
+ghost use Rattle.x10_verify.specs.Faults.{flow_cause, structure_cause};
 
 use thiserror::Error;
 use x10_bounds::{BoundCause, BoundFault};
@@ -45,7 +45,8 @@ pub enum VerifyCause {
 
 /// Why a module is refused, with the function and the instruction. Structure is looked at first over all functions, then
 /// Index, then the flow of each function by itself: a cause from Unset to Result names the first function that has no
-/// consistent assignment.
+/// consistent assignment, and an instruction where it holds in a state that follows there from the entry; where there are
+/// several such, which one is named is open.
 #[derive(Clone, Copy, Debug, PartialEq, Eq, Error)]
 #[error("{cause} {function} {pc}")]
 pub struct VerifyFault {
@@ -56,8 +57,7 @@ pub struct VerifyFault {
 
 impl FlowCause {
     pub(crate) fn named(self) -> VerifyCause
-        ensures value { result ≡ flow_cause self }
-        ensures flow { IsFlowCause result }
+        ensures { result ≡ flow_cause self }
     {
         match self {
             FlowCause::Unset => VerifyCause::Unset,

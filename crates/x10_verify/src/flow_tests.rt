@@ -1,8 +1,8 @@
 //! The flow over lists of instructions, of all operations: an image may not have most of them yet.
 use crate::fault::FlowCause;
 use crate::known::Known;
-use crate::solve::step;
 use crate::states::{Entry, arrive, blank, is_waiting};
+use crate::step::step;
 use std::alloc::Global;
 use std::process::Abort;
 use std::test::*;

@@ -1,4 +1,4 @@
-ghost use Rattle.std.specs.Prelude.{◌≡◌, ◌<◌, MatchResult, IfOk, slice_get};
+ghost use Rattle.std.specs.Prelude.{◌≡◌, ◌<◌, MatchResult, IfOk, IfErr, slice_get};
 ghost use Rattle.std.specs.Option.{ForSome};
 ghost use Rattle.x10_kinds.specs.Equations.{IsTerm, SameEquations, equations, written};
 ghost use Rattle.x10_model.specs.Assignments.{IsKind, IsState, set};
@@ -6,6 +6,7 @@ ghost use Rattle.x10_verify.specs.Effects.{CanApply, IsNarrow};
 ghost use Rattle.x10_verify.specs.Known.{state_of, kind_in};
 ghost use Rattle.x10_verify.specs.Knowledge.{SameState};
 ghost use Rattle.x10_verify.specs.Rules.{after};
+ghost use Rattle.x10_verify.specs.Causes.{Fitting, IsRefused};
 
 use crate::fault::FlowCause;
 use crate::places::holds_place;
@@ -36,6 +37,7 @@ impl Known {
     pub(crate) fn ask(&self, register: u8, want: Kind) -> Result<(), FlowCause>
         ensures asked { MatchResult result (λ _. IsKind (state_of self.now) register want) (λ _. IsKind (state_of self.now) register want → ⊥) }
         ensures within { IfOk result (λ _. register < 64) }
+        ensures cause { IfErr result (λ why. IsRefused (state_of self.now) register (Fitting want) why) }
     {
         match self.kind(register) {
             None => Err(FlowCause::Unset),

@@ -2,7 +2,6 @@
 #![tactic(auto)]
 
 mod calls;
-mod check;
 mod decide;
 mod entry;
 mod fault;
@@ -11,8 +10,9 @@ mod merge;
 mod objects;
 mod places;
 mod ranges;
-mod solve;
+mod solver;
 mod states;
+mod step;
 mod table;
 mod verified;
 mod whole;

@@ -1,5 +1,5 @@
 //! The rules that go by the place in a register, or by no more than its kind: MOVE, HOME, IFHERE, IFSAME, PRINT.
-ghost use Rattle.std.specs.Prelude.{◌≡◌, ℕ, ◌⊎◌, MatchResult, IfOk, ◌<◌, Some, None};
+ghost use Rattle.std.specs.Prelude.{◌≡◌, ℕ, ◌⊎◌, MatchResult, IfOk, IfErr, ◌<◌, Some, None};
 ghost use Rattle.x10_kinds.specs.Kinds as kinds;
 ghost use Rattle.x10_model.specs.Assignments as model;
 ghost use Rattle.x10_model.specs.Assignments.{IsKind, IsPlaced};
@@ -7,6 +7,7 @@ ghost use Rattle.x10_model.specs.Modules.{Module, Function};
 ghost use Rattle.x10_verify.specs.Known.{state_of};
 ghost use Rattle.x10_verify.specs.Knowledge.{point};
 ghost use Rattle.x10_verify.specs.Rules.{Decides, Settles};
+ghost use Rattle.x10_verify.specs.Causes.{APlaceOrReference, AReference, IsCauseOf, IsRefused};
 
 use crate::fault::FlowCause;
 use crate::known::Known;
@@ -40,7 +41,8 @@ pub(crate) fn like_if(holds: bool, term: Term) -> Option<Term>
 
 /// MOVE: register b is set; a gets its kind and its place.
 pub(crate) fn copied(instr: Instr, known: &Known) -> Result<Effect, FlowCause>
-    ensures { (program : Module) (function : Function) (pc : ℕ) → Decides (Settles Outcome.Copies (point program function pc instr) (state_of known.now)) result }
+    ensures decides { (program : Module) (function : Function) (pc : ℕ) → Decides (Settles Outcome.Copies (point program function pc instr) (state_of known.now)) result }
+    ensures cause { IfErr result (λ why. (program : Module) (function : Function) (pc : ℕ) → IsCauseOf Outcome.Copies (point program function pc instr) (state_of known.now) why) }
 {
     match known.kind(instr.b) {
         None => Err(FlowCause::Unset),
@@ -52,6 +54,7 @@ pub(crate) fn copied(instr: Instr, known: &Known) -> Result<Effect, FlowCause>
 pub(crate) fn reference(register: u8, known: &Known) -> Result<u16, FlowCause>
     ensures class { MatchResult result (λ class. IsKind (state_of known.now) register (Kind.GRef class)) (λ _. (class : ℕ) → IsKind (state_of known.now) register (Kind.GRef class) → ⊥) }
     ensures within { IfOk result (λ _. register < 64) }
+    ensures cause { IfErr result (λ why. IsRefused (state_of known.now) register AReference why) }
 {
     match known.kind(register) {
         None => Err(FlowCause::Unset),
@@ -62,7 +65,8 @@ pub(crate) fn reference(register: u8, known: &Known) -> Result<u16, FlowCause>
 
 /// HOME: register a gets the home of the reference in b.
 pub(crate) fn located(instr: Instr, known: &Known) -> Result<Effect, FlowCause>
-    ensures { (program : Module) (function : Function) (pc : ℕ) → Decides (Settles Outcome.Locates (point program function pc instr) (state_of known.now)) result }
+    ensures decides { (program : Module) (function : Function) (pc : ℕ) → Decides (Settles Outcome.Locates (point program function pc instr) (state_of known.now)) result }
+    ensures cause { IfErr result (λ why. (program : Module) (function : Function) (pc : ℕ) → IsCauseOf Outcome.Locates (point program function pc instr) (state_of known.now) why) }
 {
     reference(instr.b, known)?;
     Ok(Effect::Sets(Kind::Place, Some(Term::Reg(instr.b))))
@@ -70,7 +74,8 @@ pub(crate) fn located(instr: Instr, known: &Known) -> Result<Effect, FlowCause>
 
 // A register holds a place, or a reference with a home.
 fn placed(register: u8, known: &Known) -> Result<(), FlowCause>
-    ensures { MatchResult result (λ _. IsPlaced (state_of known.now) register) (λ _. IsPlaced (state_of known.now) register → ⊥) }
+    ensures placed { MatchResult result (λ _. IsPlaced (state_of known.now) register) (λ _. IsPlaced (state_of known.now) register → ⊥) }
+    ensures cause { IfErr result (λ why. IsRefused (state_of known.now) register APlaceOrReference why) }
 {
     match known.kind(register) {
         None => Err(FlowCause::Unset),
@@ -82,7 +87,8 @@ fn placed(register: u8, known: &Known) -> Result<(), FlowCause>
 
 /// IFHERE: on going on, what register a stands for is here.
 pub(crate) fn found_here(instr: Instr, known: &Known) -> Result<Effect, FlowCause>
-    ensures { (program : Module) (function : Function) (pc : ℕ) → Decides (Settles Outcome.FindsHere (point program function pc instr) (state_of known.now)) result }
+    ensures decides { (program : Module) (function : Function) (pc : ℕ) → Decides (Settles Outcome.FindsHere (point program function pc instr) (state_of known.now)) result }
+    ensures cause { IfErr result (λ why. (program : Module) (function : Function) (pc : ℕ) → IsCauseOf Outcome.FindsHere (point program function pc instr) (state_of known.now) why) }
 {
     placed(instr.a, known)?;
     Ok(Effect::Joins(Term::Reg(instr.a), Term::Here))
@@ -90,7 +96,8 @@ pub(crate) fn found_here(instr: Instr, known: &Known) -> Result<Effect, FlowCaus
 
 /// IFSAME: on going on, registers a and b stand for the same place.
 pub(crate) fn found_same(instr: Instr, known: &Known) -> Result<Effect, FlowCause>
-    ensures { (program : Module) (function : Function) (pc : ℕ) → Decides (Settles Outcome.FindsSame (point program function pc instr) (state_of known.now)) result }
+    ensures decides { (program : Module) (function : Function) (pc : ℕ) → Decides (Settles Outcome.FindsSame (point program function pc instr) (state_of known.now)) result }
+    ensures cause { IfErr result (λ why. (program : Module) (function : Function) (pc : ℕ) → IsCauseOf Outcome.FindsSame (point program function pc instr) (state_of known.now) why) }
 {
     placed(instr.a, known)?;
     placed(instr.b, known)?;
@@ -99,7 +106,8 @@ pub(crate) fn found_same(instr: Instr, known: &Known) -> Result<Effect, FlowCaus
 
 /// PRINT: register a is a number or a text.
 pub(crate) fn printed(instr: Instr, known: &Known) -> Result<Effect, FlowCause>
-    ensures { (program : Module) (function : Function) (pc : ℕ) → Decides (Settles Outcome.Prints (point program function pc instr) (state_of known.now)) result }
+    ensures decides { (program : Module) (function : Function) (pc : ℕ) → Decides (Settles Outcome.Prints (point program function pc instr) (state_of known.now)) result }
+    ensures cause { IfErr result (λ why. (program : Module) (function : Function) (pc : ℕ) → IsCauseOf Outcome.Prints (point program function pc instr) (state_of known.now) why) }
 {
     match known.kind(instr.a) {
         None => Err(FlowCause::Unset),

@@ -1,5 +1,7 @@
 ghost use Rattle.std.specs.Prelude.{◌≡◌, ◌≢◌, ◌+◌, ◌<◌, IfOk, IfErr, Some, length, slice_get};
+ghost use Rattle.std.specs.List.{flat_map};
 ghost use Rattle.x10_code.specs.declared.op.Op.TheVariants as op;
+ghost use Rattle.x10_code.specs.Spelling.{spelling as instruction};
 ghost use Rattle.x10_image.specs.Parts.{code_at};
 ghost use Rattle.x10_model.specs.Modules.{Function, IsBrought};
 ghost use Rattle.x10_model.specs.Ranges.{function_at, instr_at, IsInRange};
@@ -99,5 +101,28 @@ impl<'a> Verified<'a> {
         ensures follows { result.op ≢ op.Ret → pc + 1 < length (code_at self.now.program f) }
     {
         self.image.instr(f, pc)
+    }
+
+    /// The code of a function: 8 bytes for each instruction, a part of the image. Constant time, no memory.
+    pub fn code(&self, f: usize) -> &'a [u8]
+        requires { f < length self.now.program.functions }
+        ensures { result.now ≡ flat_map instruction (code_at self.now.program f) }
+    {
+        self.image.code(f)
+    }
+
+    /// An instruction as `fetch` answers it, from the function's code that `code` handed out. For a loop over the
+    /// instructions of one function, where the function is looked up once. Constant time, no memory.
+    #[inline(always)]
+    pub fn fetch_from(&self, code: &[u8], f: usize, pc: usize) -> Instr
+        requires function { f < length self.now.program.functions }
+        requires code { code.now ≡ flat_map instruction (code_at self.now.program f) }
+        requires pc { pc < length (code_at self.now.program f) }
+        ensures value { instr_at self.now.program f pc ≡ Some result }
+        ensures brought { IsBrought result }
+        ensures in_range { (function : Function) → function_at self.now.program f ≡ Some function → IsInRange self.now.program function result }
+        ensures follows { result.op ≢ op.Ret → pc + 1 < length (code_at self.now.program f) }
+    {
+        self.image.instr_from(code, f, pc)
     }
 }

@@ -4,11 +4,12 @@ ghost use Rattle.x10_model.specs.Modules.{Function};
 ghost use Rattle.x10_model.specs.Ranges.{function_at};
 ghost use Rattle.x10_model.specs.Assignments.{AreInRange, HasAssignment};
 ghost use Rattle.x10_image.specs.Parts.{code_at};
+ghost use Rattle.x10_verify.specs.Faults.{IsFoundIn};
 ghost use Rattle.x10_verify.specs.States.{IsFresh};
 ghost use Rattle.x10_verify.specs.Verdict.{AreInRangeTo, IsOutAt, IsFirstOut, IsFirstWithout};
 
-use crate::check::{FlowFault, check_function};
 use crate::ranges::in_range;
+use crate::solver::{FlowFault, check_function};
 use crate::states::Entry;
 use x10_image::ImageView;
 
@@ -71,6 +72,7 @@ pub(crate) fn check_flow(
     requires fresh { IsFresh table.old.items }
     ensures ok { IfOk result (λ _. (f : ℕ) (function : Function) → function_at image.now f ≡ Some function → HasAssignment image.now function) }
     ensures err { IfErr result (λ at. IsFirstWithout image.now at.0) }
+    ensures cause { IfErr result (λ at. IsFoundIn image.now at.0 at.1.pc at.1.cause) }
     ensures small { IfErr result (λ at. (at.0 < 256) × (at.1.pc ≤ 4096)) }
 {
     image.fits();

@@ -6,7 +6,7 @@ use Rattle.x10_model.specs.Modules.{Module}
 use Rattle.x10_model.specs.Places as machine
 use Rattle.x10_model.specs.Places.{Stay, Message}
 use Rattle.x10_model.specs.Worlds.{World, Post, Unused, Flying, stays, flies, IsOver}
-use Rattle.x10_place.specs.Activities.{ActivityState}
+use Rattle.x10_place.specs.Stays.{StayState}
 use Rattle.x10_place.specs.StandsFor.{PlaceState, StandsFor}
 use Rattle.x10_world.specs.StandsForWorld.{WorldState, BelongTo, StandsForWorld}
 use Rattle.x10_world.specs.Queries.{IsNotFlying, IsPosted}
@@ -19,10 +19,10 @@ none_some : {X : Type 0} (o : Option X) (x : X) → o ≡ None → o ≡ Some x 
 none_some o x e f = cc
 
 -- a key is in use at a place of the program where it is at the machine's
-none_both : (p : PlaceState) (m : machine.Place) (key : ℕ) → StandsFor p m → m.stays key ≡ None → get p.activities key ≡ None
-none_both p m key stand none = go (get p.activities key) refl
+none_both : (far : ℕ → ℕ → ℕ → Bool) (p : PlaceState) (m : machine.Place) (key : ℕ) → StandsFor far p m → m.stays key ≡ None → get p.stays key ≡ None
+none_both far p m key stand none = go (get p.stays key) refl
   where
-    go : (o : Option ActivityState) → get p.activities key ≡ o → get p.activities key ≡ None
+    go : (o : Option StayState) → get p.stays key ≡ o → get p.stays key ≡ None
     go None e = e
     go (Some a) e = let s = stand.some key a e in absurd (none_some (m.stays key) s.0 none s.1)
 
@@ -45,17 +45,17 @@ none_lives program bounds w tied m is none a (stays stay rest lt e) =
     none_some (m.stays stay.1) at.0 (none stay.1) (subst (λ (n : machine.Place). n.stays stay.1 ≡ Some at.0) (some_is at.1.0 m (sym at.1.1 ∙ ap w.net.places first ∙ is)) at.1.2)
 none_lives program bounds w tied m is none a (flies number message lt flying spawn carries) = not_flying (w.net.posts number) message (tied.silent number) flying
 
-pub over_is : (x z : WorldState) (program : Module) (bounds : List ℕ) (count : ℕ) (p : PlaceState) (b : Bool) → x ≡ z → BelongTo program bounds count x.places → slice_get x.places 0 ≡ Some p → IsTrue b ↔ ((p.id ≡ 0) × ((k : ℕ) → get p.activities k ≡ None))
+pub over_is : (x z : WorldState) (program : Module) (bounds : List ℕ) (count : ℕ) (p : PlaceState) (b : Bool) → x ≡ z → BelongTo program bounds count x.places → slice_get x.places 0 ≡ Some p → IsTrue b ↔ ((p.id ≡ 0) × ((k : ℕ) → get p.stays k ≡ None))
     → (w : World) → StandsForWorld z w → IsTrue b ↔ IsOver w
 over_is x z program bounds count p b seen belong is closed w stands = (
   (λ t. none_lives x.program x.bounds w stand.tied old.0 old.1 (λ key. old.2.none key ((closed.0 t).1 key))),
-  (λ over. closed.1 ((belong 0 p is).id_is, (λ key. none_both p old.0 key old.2 (lives_is x.program x.bounds w stand.tied old.0 old.1 over key)))),
+  (λ over. closed.1 ((belong 0 p is).id_is, (λ key. none_both stand.far p old.0 key old.2 (lives_is x.program x.bounds w stand.tied old.0 old.1 over key)))),
 )
   where
     stand : StandsForWorld x w
     stand = subst (λ t. StandsForWorld t w) (sym seen) stands
 
-    old : (m : machine.Place) × (w.net.places 0 ≡ Some m) × StandsFor p m
+    old : (m : machine.Place) × (w.net.places 0 ≡ Some m) × StandsFor stand.far p m
     old = stand.some 0 p is
 
 -- without places no activity lives

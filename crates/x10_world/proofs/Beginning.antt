@@ -126,10 +126,14 @@ chosen : (setting : Setting) (key other id : ℕ) → id ≢ 0 → opening_place
 chosen setting key other id ne = ap (λ b. if b then first_place setting other else empty_place 0) (ne_eqb id 0 ne) ∙ ap (λ b. if b then first_place setting key else empty_place 0) (sym (ne_eqb id 0 ne))
 
 pub opening_stands : (c : Certified) (count : ℕ) (x : WorldState) → IsCertified c → 0 < count → x.program ≡ c.program → x.bounds ≡ c.bounds → AreOpened c count x.places → (key : ℕ) × StandsForWorld x (opening (setting_of x) key)
-opening_stands c count x certified some program bounds opened = (key, record { some = each; none = none; tied = tied })
+opening_stands c count x certified some program bounds opened = (key, record { far = nothing; some = each; none = none; tied = tied })
   where
     first : (p : PlaceState) × (slice_get x.places 0 ≡ Some p)
     first = at_first x.places (omega (arith, opened.count_is))
+
+    -- no place exports anything
+    nothing : ℕ → ℕ → ℕ → Bool
+    nothing home id class = false
 
     key : ℕ
     key = (opened.each 0 first.0 first.1).stands.0
@@ -137,19 +141,24 @@ opening_stands c count x certified some program bounds opened = (key, record { s
     same_setting : (id : ℕ) (p : PlaceState) → IsOpened c count id p → place.setting_of p ≡ setting_of x
     same_setting id p o = ap (λ m. record { program = m; places = p.places }) (o.is_new.program ∙ sym program) ∙ ap (λ n. record { program = x.program; places = n }) (o.is_new.places_is ∙ sym opened.count_is)
 
-    stands : (id : ℕ) (p : PlaceState) → slice_get x.places id ≡ Some p → StandsFor p (opening_place (setting_of x) key id)
+    stands : (id : ℕ) (p : PlaceState) → slice_get x.places id ≡ Some p → StandsFor nothing p (opening_place (setting_of x) key id)
     stands id p is =
         let o = opened.each id p is in
-        subst (λ s. StandsFor p (opening_place s key id)) (same_setting id p o) (at_key (id == 0) refl)
+        subst (λ s. StandsFor nothing p (opening_place s key id)) (same_setting id p o) (at_key (id == 0) refl)
       where
-        at_key : (b : Bool) → (id == 0) ≡ b → StandsFor p (opening_place (place.setting_of p) key id)
+        at_key : (b : Bool) → (id == 0) ≡ b → StandsFor nothing p (opening_place (place.setting_of p) key id)
         at_key true e =
             let zero_is = eqb-true id 0 e in
             let same = some_is first.0 p (sym first.1 ∙ ap (λ i. slice_get x.places i) (sym zero_is) ∙ is) in
-            subst (λ i. StandsFor p (opening_place (place.setting_of p) key i)) (sym zero_is) (subst (λ q. StandsFor q (opening_place (place.setting_of q) key 0)) same (opened.each 0 first.0 first.1).stands.1)
-        at_key false e = let o = (opened.each id p is).stands in subst (λ m. StandsFor p m) (chosen (place.setting_of p) key o.0 id (eqb-false id 0 e)) o.1
+            let zero = opened.each 0 first.0 first.1 in
+            let there = subst (λ i. StandsFor nothing first.0 (opening_place (place.setting_of first.0) key i)) zero.is_new.id_is (zero.stands.1 nothing) in
+            subst (λ i. StandsFor nothing p (opening_place (place.setting_of p) key i)) (sym zero_is) (subst (λ q. StandsFor nothing q (opening_place (place.setting_of q) key 0)) same there)
+        at_key false e =
+            let o = opened.each id p is in
+            let there = subst (λ i. StandsFor nothing p (opening_place (place.setting_of p) o.stands.0 i)) o.is_new.id_is (o.stands.1 nothing) in
+            subst (λ m. StandsFor nothing p m) (chosen (place.setting_of p) key o.stands.0 id (eqb-false id 0 e)) there
 
-    each : (id : ℕ) (p : PlaceState) → slice_get x.places id ≡ Some p → (m : machine.Place) × ((opening (setting_of x) key).net.places id ≡ Some m) × StandsFor p m
+    each : (id : ℕ) (p : PlaceState) → slice_get x.places id ≡ Some p → (m : machine.Place) × ((opening (setting_of x) key).net.places id ≡ Some m) × StandsFor nothing p m
     each id p is = (opening_place (setting_of x) key id, ap (λ b. if b then Some (opening_place (setting_of x) key id) else None) (lt-ltb id (length x.places) (below x.places id p is)), stands id p is)
 
     none : (id : ℕ) → slice_get x.places id ≡ None → (opening (setting_of x) key).net.places id ≡ None

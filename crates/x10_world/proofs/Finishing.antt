@@ -1,6 +1,6 @@
 -- The ending of a run of the program is that of a run of the machine.
-use Rattle.std.proofs.Common.{◌≡◌, ◌↔◌, ℕ, zero, suc, List, [], ◌∷◌, length, map, Option, Some, None, refl, sym, ap, subst, ◌∙◌}
-use Rattle.std.specs.Prelude.{IsTrue, slice_get, take}
+use Rattle.std.proofs.Common.{◌≡◌, ℕ, ◌<◌, zero, suc, List, [], ◌∷◌, length, map, Option, Some, None, refl, sym, ap, subst, ◌∙◌}
+use Rattle.std.specs.Prelude.{IsTrue, IfSome, slice_get, take}
 use Rattle.x10_model.specs.declared.event.Event.{Event}
 use Rattle.x10_model.specs.Places as machine
 use Rattle.x10_model.specs.Places.{Setting}
@@ -8,7 +8,8 @@ use Rattle.x10_model.specs.Worlds.{World, Ideal, Run, WithinBounds, IsOver, open
 use Rattle.x10_verify.specs.Certified.{Certified}
 use Rattle.x10_place.specs.StandsFor.{PlaceState, line_as}
 use Rattle.x10_world.specs.declared.ending.Ending.{Ending}
-use Rattle.x10_world.specs.Opening.{IsOpenedWorld}
+use Rattle.x10_world.specs.Opening.{IsOpenedWorld, IsForbidden}
+use Rattle.x10_world.specs.Queries.{NothingFlies}
 use Rattle.x10_world.specs.Endings.{IsEndingOf, AreLinesOf, lines_at}
 use Rattle.x10_world.specs.StandsForWorld.{WorldState, KeepsSetting, setting_of, StandsForWorld, Runs}
 
@@ -23,12 +24,12 @@ get_map f [] i x e = absurd cc
 get_map f (y ∷ ys) zero x e = ap (λ z. Some (f z)) (some_is y x e)
 get_map f (y ∷ ys) (suc i) x e = get_map f ys i x e
 
-map_length : {X Y : Type 0} (f : X → Y) (xs : List X) → length (map f xs) ≡ length xs
+pub map_length : {X Y : Type 0} (f : X → Y) (xs : List X) → length (map f xs) ≡ length xs
 map_length f [] = refl
 map_length f (x ∷ xs) = ap suc (map_length f xs)
 
 -- the places' lines are those of the machine's places
-lines_are : (y : WorldState) (w : World) → StandsForWorld y w → AreLinesOf (lines_at y.places) w
+pub lines_are : (y : WorldState) (w : World) → StandsForWorld y w → AreLinesOf (lines_at y.places) w
 lines_are y w stand id m there = go (slice_get y.places id) refl
   where
     go : (o : Option PlaceState) → slice_get y.places id ≡ o → slice_get (lines_at y.places) id ≡ Some m.lines
@@ -39,17 +40,20 @@ lines_are y w stand id m there = go (slice_get y.places id) refl
         get_map (λ q. map line_as q.lines) y.places id p is ∙ ap Some (sym old.2.lines ∙ ap (λ (n : machine.Place). n.lines) same)
 
 pub ending_is : (c : Certified) (count : ℕ) (events : List Event) (x y : WorldState) (outputs : List (List machine.Line)) (e : Ending) → IsOpenedWorld c count x
-    → ((w : World) → StandsForWorld x w → Runs x w e.done events y) → (e.stop ≡ None → e.done ≡ length events) → KeepsSetting x y → outputs ≡ lines_at y.places
-    → ((w : World) → StandsForWorld y w → IsTrue e.closed ↔ IsOver w) → IsEndingOf c count events outputs e
-ending_is c count events x y outputs e opened runs all kept lines closed = record {
+    → ((w : World) → StandsForWorld x w → Runs x w e.done events y) → (e.stop ≡ None → e.done ≡ length events) → IfSome e.stop (λ stop. e.done < length events) → (IsForbidden c count → ⊥) → KeepsSetting x y → outputs ≡ lines_at y.places
+    → ((w : World) → StandsForWorld y w → IsTrue e.closed → IsOver w) → ((w : World) → StandsForWorld y w → IsOver w → NothingFlies w → IsTrue e.closed) → IsEndingOf c count events outputs e
+ending_is c count events x y outputs e opened runs all less permitted kept lines ended over = record {
   key = key;
   last = made.0;
   run = subst (λ s. Run Ideal s (WithinBounds c.bounds) (opening s key) (take e.done events) made.0) setting
       (subst (λ bs. Run Ideal (setting_of x) (WithinBounds bs) (opening (setting_of x) key) (take e.done events) made.0) opened.bounds made.1);
+  permitted = permitted;
   all = all;
+  less = less;
   count_is = ap (λ ls. length ls) lines ∙ map_length (λ q. map line_as q.lines) y.places ∙ kept.count ∙ opened.places.count_is;
   lines = subst (λ ls. AreLinesOf ls made.0) (sym lines) (lines_are y made.0 made.2);
-  closed = closed made.0 made.2;
+  ended = ended made.0 made.2;
+  over = over made.0 made.2;
 }
   where
     key : ℕ

@@ -1,5 +1,5 @@
 -- An event of a world is an event of each world of the machine that it stands for.
-use Rattle.std.proofs.Common.{◌≡◌, ◌≢◌, ◌⊎◌, ℕ, zero, suc, ◌==◌, Bool, true, false, List, [], ◌∷◌, length, Option, Some, None, Result, Ok, Err, refl, sym, ap, subst, ◌∙◌, inl, inr}
+use Rattle.std.proofs.Common.{◌≡◌, ◌≢◌, ◌⊎◌, ℕ, zero, suc, ◌≤◌, ◌==◌, Bool, true, false, List, [], ◌∷◌, length, Option, Some, None, Result, Ok, Err, refl, sym, ap, subst, ◌∙◌, inl, inr, arith}
 use Rattle.std.specs.Prelude.{IfOk, IfErr, slice_get, slice_set}
 use Rattle.std.specs.Result.{is_err}
 use Rattle.std.proofs.lemmas.Bool.{eqb-true, eqb-false}
@@ -14,12 +14,13 @@ use Rattle.x10_model.specs.declared.event.Event.TheVariants.{Step, Deliver}
 use Rattle.x10_model.specs.Places as machine
 use Rattle.x10_model.specs.Places.{Setting, Effect, Message}
 use Rattle.x10_model.specs.Moves.{Moves}
-use Rattle.x10_model.specs.Worlds.{World, Ideal, Allows, steps, idle, no_place, no_stay, not_flying, Post, Unused, Flying}
+use Rattle.x10_model.specs.Worlds.{World, Ideal, Allows, Steps, steps, idle, no_place, no_stay, not_flying, Post, Unused, Flying}
 use Rattle.x10_verify.specs.Certified.{Certified, IsCertified}
 use Rattle.x10_verify.proofs.Wholes.{all_at, function_fits}
-use Rattle.x10_place.specs.Activities.{ActivityState}
+use Rattle.x10_place.specs.Stays.{StayState}
 use Rattle.x10_place.specs.StandsFor as place
 use Rattle.x10_place.specs.StandsFor.{PlaceState, StandsFor, Leads, Keeps}
+use Rattle.x10_place.proofs.Striding.{stopped_stands}
 use Rattle.x10_world.specs.Tied.{stays_put, Tied}
 use Rattle.x10_world.specs.StandsForWorld.{WorldState, BelongsTo, BelongTo, IsWorld, NoneStopped, setting_of, KeepsSetting, StandsForWorld, IsStepped, StepsOne, Makes}
 use Rattle.x10_world.proofs.Advance.{IsBounded, brought_stays, move_advances}
@@ -92,17 +93,18 @@ pub tied_in : (x y : WorldState) (w : World) → KeepsModule x y → Tied x.prog
 tied_in x y w k t = subst (λ g. Tied g y.bounds w) (sym k.program) (subst (λ bs. Tied x.program bs w) (sym k.bounds) t)
 
 -- one place has changed, and stands for the machine's place that has changed
-pub stands_after : (x y : WorldState) (w v : World) (here : ℕ) (p q : PlaceState) (new : machine.Place) → StandsForWorld x w → slice_get x.places here ≡ Some p → y.places ≡ slice_set x.places here q
-    → v.net.places here ≡ Some new → ((id : ℕ) → id ≢ here → v.net.places id ≡ w.net.places id) → StandsFor q new → Tied y.program y.bounds v → StandsForWorld y v
+pub stands_after : (x y : WorldState) (w v : World) (here : ℕ) (p q : PlaceState) (new : machine.Place) → (stand : StandsForWorld x w) → slice_get x.places here ≡ Some p → y.places ≡ slice_set x.places here q
+    → v.net.places here ≡ Some new → ((id : ℕ) → id ≢ here → v.net.places id ≡ w.net.places id) → StandsFor stand.far q new → Tied y.program y.bounds v → StandsForWorld y v
 stands_after x y w v here p q new stand is set there others stands tied = record {
+  far = stand.far;
   some = λ id r e. some id r (ap (λ ps. slice_get ps id) (sym set) ∙ e);
   none = λ id e. none id (ap (λ ps. slice_get ps id) (sym set) ∙ e);
   tied = tied;
 }
   where
-    some : (id : ℕ) (r : PlaceState) → slice_get (slice_set x.places here q) id ≡ Some r → (m : machine.Place) × (v.net.places id ≡ Some m) × StandsFor r m
+    some : (id : ℕ) (r : PlaceState) → slice_get (slice_set x.places here q) id ≡ Some r → (m : machine.Place) × (v.net.places id ≡ Some m) × StandsFor stand.far r m
     some id r e = elim (same_or_not id here) [
-      | inl same ↦ (new, ap v.net.places same ∙ there, subst (λ t. StandsFor t new) (some_is q r (sym (set_here x.places here q p is) ∙ ap (λ i. slice_get (slice_set x.places here q) i) (sym same) ∙ e)) stands)
+      | inl same ↦ (new, ap v.net.places same ∙ there, subst (λ t. StandsFor stand.far t new) (some_is q r (sym (set_here x.places here q p is) ∙ ap (λ i. slice_get (slice_set x.places here q) i) (sym same) ∙ e)) stands)
       | inr ne ↦ let old = stand.some id r (sym (set_off x.places here id q ne) ∙ e) in (old.0, others id ne ∙ old.1, old.2)
     ]
 
@@ -115,17 +117,18 @@ stands_after x y w v here p q new stand is set there others stands tied = record
 -- the places are as they were
 pub stands_still : (x y : WorldState) (w : World) → KeepsModule x y → y.places ≡ x.places → StandsForWorld x w → StandsForWorld y w
 stands_still x y w k e stand = record {
+  far = stand.far;
   some = λ id p is. stand.some id p (ap (λ ps. slice_get ps id) (sym e) ∙ is);
   none = λ id is. stand.none id (ap (λ ps. slice_get ps id) (sym e) ∙ is);
   tied = tied_in x y w k stand.tied;
 }
 
 -- a place's move is a move of the world
-pub move_makes : (x y : WorldState) (w : World) (here key : ℕ) (p q : PlaceState) (m : machine.Place) (effect : Effect) → KeepsModule x y → IsBounded x.program x.bounds → BelongsTo x.program x.bounds (length x.places) here p → StandsForWorld x w
-    → slice_get x.places here ≡ Some p → y.places ≡ slice_set x.places here q → w.net.places here ≡ Some m → Leads p m key effect q → Makes x w (Step here key) y
-move_makes x y w here key p q m effect k bounded belongs stand is set there leads = (
+pub move_steps : (x y : WorldState) (w : World) (here key : ℕ) (p q : PlaceState) (m : machine.Place) (effect : Effect) → KeepsModule x y → IsBounded x.program x.bounds → BelongsTo x.program x.bounds (length x.places) here p → (stand : StandsForWorld x w)
+    → slice_get x.places here ≡ Some p → y.places ≡ slice_set x.places here q → w.net.places here ≡ Some m → Leads stand.far p m key effect q → (v : World) × Steps Ideal (setting_of x) w here key v × StandsForWorld y v
+move_steps x y w here key p q m effect k bounded belongs stand is set there leads = (
   v,
-  steps here key v (record { old = m; new = leads.0; effect = effect; number = 0; place_is = there; moves = moves; allowed = allowed (setting_of x) x.bounds w here key m leads.0 effect bounded stand.tied there moves; unused = stand.tied.silent 0; net_is = refl; book_is = refl }),
+  record { old = m; new = leads.0; effect = effect; number = 0; place_is = there; moves = moves; allowed = allowed (setting_of x) x.bounds w here key m leads.0 effect bounded stand.tied there moves; unused = stand.tied.silent 0; net_is = refl; book_is = refl },
   stands_after x y w v here p q leads.0 stand is set (at_key w.net.places here (Some leads.0)) (λ id ne. off_key w.net.places here (Some leads.0) id ne) leads.2
       (tied_in x y v k (tied_after (setting_of x) x.bounds w here key m leads.0 effect bounded stand.tied there moves)),
 )
@@ -139,7 +142,7 @@ move_makes x y w here key p q m effect k bounded belongs stand is set there lead
         (subst (λ i. Moves (place.setting_of p) i m key leads.0 effect) belongs.id_is leads.1))
 
 -- no activity with the key is at the place
-idle_makes : (x y : WorldState) (w : World) (here key : ℕ) (p : PlaceState) → KeepsModule x y → StandsForWorld x w → slice_get x.places here ≡ Some p → y.places ≡ slice_set x.places here p → get p.activities key ≡ None → Makes x w (Step here key) y
+idle_makes : (x y : WorldState) (w : World) (here key : ℕ) (p : PlaceState) → KeepsModule x y → StandsForWorld x w → slice_get x.places here ≡ Some p → y.places ≡ slice_set x.places here p → get p.stays key ≡ None → Makes x w (Step here key) y
 idle_makes x y w here key p k stand is set none =
     let old = stand.some here p is in
     (w, idle (Step here key) (no_stay here key old.0 old.1 (old.2.none key none)), stands_still x y w k (set ∙ set_same x.places here p is) stand)
@@ -157,23 +160,24 @@ deliver_makes x w number stand = (w, idle (Deliver number) (not_flying number (�
 pub step_makes : (x y : WorldState) (here key : ℕ) → KeepsModule x y → IsBounded x.program x.bounds → BelongTo x.program x.bounds (length x.places) x.places → StepsOne x.places y.places here key (Ok tt) → (w : World) → StandsForWorld x w → Makes x w (Step here key) y
 step_makes x y here key k bounded belong one w stand = at_place (slice_get x.places here) refl
   where
-    at_stay : (p q : PlaceState) (is : slice_get x.places here ≡ Some p) → y.places ≡ slice_set x.places here q → IsStepped p q key (Ok tt) → (o : Option ActivityState) → get p.activities key ≡ o → Makes x w (Step here key) y
+    at_stay : (p q : PlaceState) (is : slice_get x.places here ≡ Some p) → y.places ≡ slice_set x.places here q → IsStepped p q key (Ok tt) → (o : Option StayState) → get p.stays key ≡ o → Makes x w (Step here key) y
     at_stay p q is set s None none = idle_makes x y w here key p k stand is (set ∙ ap (λ r. slice_set x.places here r) (s.idle none)) none
     at_stay p q is set s (Some a) some =
         let old = stand.some here p is in
-        let led = s.some old.0 a some old.2 in
-        move_makes x y w here key p q old.0 led.0 k bounded (belong here p is) stand is set old.1 led.1
+        let led = s.some a some stand.far old.0 old.2 in
+        let made = move_steps x y w here key p q old.0 led.0 k bounded (belong here p is) stand is set old.1 led.1 in
+        (made.0, steps here key made.0 made.1, made.2)
 
     at_place : (o : Option PlaceState) → slice_get x.places here ≡ o → Makes x w (Step here key) y
     at_place None none = gone_makes x y w here key k stand none (one.gone none).1
-    at_place (Some p) is = let t = one.there p is in at_stay p t.0 is t.1 t.2 (get p.activities key) refl
+    at_place (Some p) is = let t = one.there p is in at_stay p t.0 is t.1 t.2 (get p.stays key) refl
 
 -- a step that was refused
 pub step_refused : (x y : WorldState) (here key : ℕ) (stop : Stop) → KeepsModule x y → StepsOne x.places y.places here key (Err stop) → (w : World) → StandsForWorld x w → StandsForWorld y w
 step_refused x y here key stop k one w stand = at_place (slice_get x.places here) refl
   where
-    stopped : (p q : PlaceState) (m : machine.Place) → q ≡ record p { stopped = true } → StandsFor p m → StandsFor q m
-    stopped p q m e s = subst (λ r. StandsFor r m) (sym e) (record { assigned = s.assigned; none = s.none; some = s.some; lines = s.lines })
+    stopped : (p q : PlaceState) (m : machine.Place) → q ≡ record p { stopped = true } → StandsFor stand.far p m → StandsFor stand.far q m
+    stopped p q m e s = subst (λ r. StandsFor stand.far r m) (sym e) (stopped_stands stand.far p m true s)
 
     at_place : (o : Option PlaceState) → slice_get x.places here ≡ o → StandsForWorld y w
     at_place None none = absurd (let e = (one.gone none).0 in cc)
@@ -229,14 +233,26 @@ none_stopped_after old new here none one = at_place (slice_get old here) refl
     at_place None gone = subst (λ ps. NoneStopped ps) (sym (one.gone gone)) none
     at_place (Some p) is = let t = one.there p is in subst (λ ps. NoneStopped ps) (sym t.1) (changed p t.0 is t.2)
 
+pub few_after : (Q : PlaceState → PlaceState → Type 0) (old new : List PlaceState) (here : ℕ) → ChangesOne Q old new here → length old ≤ 64 → length new ≤ 64
+few_after Q old new here one few = at_place (slice_get old here) refl
+  where
+    at_place : (o : Option PlaceState) → slice_get old here ≡ o → length new ≤ 64
+    at_place None none = subst (λ (ps : List PlaceState). length ps ≤ 64) (sym (one.gone none)) few
+    at_place (Some p) is =
+        let t = one.there p is in
+        let same : length new ≡ length old = ap (λ ps. length ps) t.1 ∙ set_length old here t.0 in
+        omega (arith, same, few)
+
 pub world_after_step : (program : Module) (bounds : List ℕ) (old new : List PlaceState) (here key : ℕ) (result : Result (Unit {0}) Stop) (before after : Bool) → IsWorld program bounds old before → before ≢ true → StepsOne old new here key result → after ≡ is_err result → IsWorld program bounds new after
 world_after_step program bounds old new here key (Ok u) before after world goes one is = record {
   belong = belong_after program bounds old new here world.belong (changes_by Keeps old new here key (Ok u) (λ p q s. s.kept) one);
   none_stopped = λ on. none_stopped_after old new here (world.none_stopped goes) (changes_by (λ p q. q.stopped ≢ true) old new here key (Ok u) (λ p q s. s.goes) one);
+  few = few_after Keeps old new here (changes_by Keeps old new here key (Ok u) (λ p q s. s.kept) one) world.few;
 }
 world_after_step program bounds old new here key (Err stop) before after world goes one is = record {
   belong = belong_after program bounds old new here world.belong (changes_by Keeps old new here key (Err stop) (λ p q s. s.kept) one);
   none_stopped = λ on. absurd (on is);
+  few = few_after Keeps old new here (changes_by Keeps old new here key (Err stop) (λ p q s. s.kept) one) world.few;
 }
 
 -- a step of a world that has not stopped is refused for want of memory alone

@@ -8,3 +8,4 @@ pub mod Beginning
 pub mod Asking
 pub mod Finishing
 pub mod Repeating
+pub mod Rounding

@@ -5,8 +5,8 @@ use Rattle.slab.specs.Slab.{get}
 use Rattle.x10_kinds.specs.declared.stop.Stop.TheVariants as stop
 use Rattle.x10_model.specs.Places as machine
 use Rattle.x10_model.specs.Places.{Effect}
-use Rattle.x10_place.specs.Activities.{ActivityState}
-use Rattle.x10_place.specs.StandsFor.{PlaceState, StandsFor, Leads, Keeps}
+use Rattle.x10_place.specs.Stays.{StayState}
+use Rattle.x10_place.specs.StandsFor.{PlaceState, LeadsAll, Keeps, IsIdleAt}
 use Rattle.x10_world.specs.StandsForWorld.{IsStepped, StepsOne}
 
 none_some : {X : Type 0} (o : Option X) (x : X) → o ≡ None → o ≡ Some x → ⊥
@@ -31,8 +31,8 @@ none_there old id key le = record { gone = λ e. (refl, refl); there = λ p e. a
 
 -- the place has made its step
 pub one_there : {T : Type 0} (old : List PlaceState) (id key : ℕ) (p q : PlaceState) (s : T) (X : Type 0) → slice_get old id ≡ Some p → Keeps p q
-    → (p.stopped ≢ true → get p.activities key ≡ None → X × (q ≡ p))
-    → ((m : machine.Place) (a : ActivityState) → get p.activities key ≡ Some a → StandsFor p m → (effect : Effect) × Leads p m key effect q)
+    → (p.stopped ≢ true → IsIdleAt p key → X × (q ≡ p))
+    → ((a : StayState) → get p.stays key ≡ Some a → LeadsAll p key q)
     → (p.stopped ≡ true → Ok s ≡ Err stop.Stopped)
     → q.stopped ≢ true
     → StepsOne old (slice_set old id q) id key (Ok tt)

@@ -3,3 +3,4 @@ pub mod StandsForWorld
 pub mod Opening
 pub mod Queries
 pub mod Endings
+pub mod Rounds

@@ -2,15 +2,15 @@
 use Rattle.std.specs.Prelude.{◌≡◌, ◌⊎◌, ℕ, ◌<◌, false, List, length, Some, slice_get}
 use Rattle.x10_model.specs.Worlds.{opening}
 use Rattle.x10_verify.specs.Certified.{Certified}
-use Rattle.x10_place.specs.StandsFor.{PlaceState, StandsFor, setting_of}
-use Rattle.x10_place.specs.Opening.{IsNew, opening_place}
+use Rattle.x10_place.specs.StandsFor.{PlaceState}
+use Rattle.x10_place.specs.Opening.{IsNew, Opens}
 use Rattle.x10_world.specs.StandsForWorld as world
 use Rattle.x10_world.specs.StandsForWorld.{WorldState, StandsForWorld}
 
 -- a place at the beginning, and the machine's that it stands for
 pub record IsOpened (verified : Certified) (count id : ℕ) (p : PlaceState) : Type 0 where
   pub is_new : IsNew verified id count p
-  pub stands : (key : ℕ) × StandsFor p (opening_place (setting_of p) key id)
+  pub stands : Opens p
 
 -- so many places, each at the beginning
 pub record AreOpened (verified : Certified) (count : ℕ) (places : List PlaceState) : Type 0 where

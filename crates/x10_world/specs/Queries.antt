@@ -15,11 +15,15 @@ HasPlace places id P = (p : PlaceState) × (slice_get places id ≡ Some p) × P
 
 -- no place with the number has a key in use, from a number on
 abbrev pub HasNoKey : List PlaceState → ℕ → ℕ → Type 0
-HasNoKey places id from = (p : PlaceState) → slice_get places id ≡ Some p → (key : ℕ) → from ≤ key → get p.activities key ≡ None
+HasNoKey places id from = (p : PlaceState) → slice_get places id ≡ Some p → (key : ℕ) → from ≤ key → get p.stays key ≡ None
 
 -- the message with a number is not in flight
 abbrev pub IsNotFlying : World → ℕ → Type 0
 IsNotFlying w number = (message : Message) → w.net.posts number ≢ Flying message
+
+-- no message is in flight
+abbrev pub NothingFlies : World → Type 0
+NothingFlies w = (number : ℕ) → IsNotFlying w number
 
 -- the message with a number is in flight, for a place
 abbrev pub IsFlyingTo : World → ℕ → ℕ → Type 0

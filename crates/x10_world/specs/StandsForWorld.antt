@@ -1,15 +1,16 @@
 -- When a world of the program stands for a world of the machine.
-use Rattle.std.specs.Prelude.{◌≡◌, ◌≢◌, ℕ, ◌<◌, Bool, List, length, replicate, Option, Some, None, MatchOption, IfSome, Result, Ok, IfOk, IfErr, true, slice_get, slice_set, take}
+use Rattle.std.specs.Prelude.{◌≡◌, ◌≢◌, ℕ, ◌+◌, ◌<◌, ◌≤◌, Bool, List, length, replicate, Option, Some, None, MatchOption, IfSome, Result, Ok, IfOk, IfErr, true, slice_get, slice_set, take}
 use Rattle.slab.specs.Slab.{get}
 use Rattle.x10_kinds.specs.declared.stop.Stop.{Stop}
 use Rattle.x10_kinds.specs.declared.stop.Stop.TheVariants as stop
 use Rattle.x10_model.specs.Modules.{Module}
 use Rattle.x10_model.specs.declared.event.Event.{Event}
+use Rattle.x10_model.specs.declared.event.Event.TheVariants.{Step}
 use Rattle.x10_model.specs.Places as machine
 use Rattle.x10_model.specs.Places.{Setting, Effect}
-use Rattle.x10_model.specs.Worlds.{World, Ideal, Happens, Run, WithinBounds}
-use Rattle.x10_place.specs.Activities.{ActivityState}
-use Rattle.x10_place.specs.StandsFor.{PlaceState, StandsFor, Leads, Keeps}
+use Rattle.x10_model.specs.Worlds.{World, Ideal, Happens, Steps, Run, WithinBounds}
+use Rattle.x10_place.specs.Stays.{StayState}
+use Rattle.x10_place.specs.StandsFor.{PlaceState, StandsFor, LeadsAll, Keeps, IsIdleAt}
 use Rattle.x10_place.specs.Stretches.{Strides}
 use Rattle.x10_world.specs.Tied.{Tied}
 
@@ -34,10 +35,11 @@ BelongTo program bounds count places = (id : ℕ) (p : PlaceState) → slice_get
 abbrev pub NoneStopped : List PlaceState → Type 0
 NoneStopped places = (id : ℕ) (p : PlaceState) → slice_get places id ≡ Some p → p.stopped ≢ true
 
--- places of one module, of which none has stopped unless the world has
+-- at most 64 places of one module, of which none has stopped unless the world has
 pub record IsWorld (program : Module) (bounds : List ℕ) (places : List PlaceState) (stopped : Bool) : Type 0 where
   pub belong : BelongTo program bounds (length places) places
   pub none_stopped : stopped ≢ true → NoneStopped places
+  pub few : length places ≤ 64
 
 -- what does not change in a run
 abbrev pub setting_of : WorldState → Setting
@@ -52,7 +54,9 @@ pub record KeepsSetting (x y : WorldState) : Type 0 where
 -- each place of the program stands for the one of the machine with its number, and there are no others; no message
 -- flies, and each activity is within its bound
 pub record StandsForWorld (x : WorldState) (w : World) : Type 0 where
-  pub some : (id : ℕ) (p : PlaceState) → slice_get x.places id ≡ Some p → (m : machine.Place) × (w.net.places id ≡ Some m) × StandsFor p m
+  -- which objects of each place global references name
+  pub far : ℕ → ℕ → ℕ → Bool
+  pub some : (id : ℕ) (p : PlaceState) → slice_get x.places id ≡ Some p → (m : machine.Place) × (w.net.places id ≡ Some m) × StandsFor far p m
   pub none : (id : ℕ) → slice_get x.places id ≡ None → w.net.places id ≡ None
   pub tied : Tied x.program x.bounds w
 
@@ -60,8 +64,8 @@ pub record StandsForWorld (x : WorldState) (w : World) : Type 0 where
 -- stands for. Where it was refused, what it stands for is as it was.
 pub record IsStepped (p q : PlaceState) (key : ℕ) (result : Result (Unit {0}) Stop) : Type 0 where
   pub kept : Keeps p q
-  pub idle : IfOk result (λ u. get p.activities key ≡ None → q ≡ p)
-  pub some : IfOk result (λ u. (m : machine.Place) (a : ActivityState) → get p.activities key ≡ Some a → StandsFor p m → (effect : Effect) × Leads p m key effect q)
+  pub idle : IfOk result (λ u. IsIdleAt p key → q ≡ p)
+  pub some : IfOk result (λ u. (a : StayState) → get p.stays key ≡ Some a → LeadsAll p key q)
   pub goes : IfOk result (λ u. q.stopped ≢ true)
   pub memory : p.stopped ≢ true → IfErr result (λ s. s ≡ stop.Memory)
   pub stop : IfErr result (λ s. q ≡ record p { stopped = true })
@@ -71,12 +75,13 @@ pub record StepsOne (old new : List PlaceState) (id key : ℕ) (result : Result 
   pub gone : slice_get old id ≡ None → (result ≡ Ok tt) × (new ≡ old)
   pub there : (p : PlaceState) → slice_get old id ≡ Some p → (q : PlaceState) × (new ≡ slice_set old id q) × IsStepped p q key result
 
--- What up to so many steps of one activity of a place do: n of them, and none after the activity has ended or one was
--- refused.
+-- What up to so many steps of one activity of a place do: n of them, of which each moves, and no more only where a step
+-- now would find nothing to do, or one was refused.
 pub record IsRunOn (p q : PlaceState) (key most n : ℕ) (why : Option Stop) : Type 0 where
   pub kept : Keeps p q
   pub ran : MatchOption why (Strides key p n q) (λ s. (r : PlaceState) × Strides key p n r × (q ≡ record r { stopped = true }))
-  pub all : why ≡ None → n < most → get q.activities key ≡ None
+  pub few : n ≤ most
+  pub all : why ≡ None → n < most → IsIdleAt q key
   pub goes : why ≡ None → q.stopped ≢ true
   pub memory : p.stopped ≢ true → IfSome why (λ s. s ≡ stop.Memory)
 
@@ -94,11 +99,16 @@ Makes x w event y = (v : World) × Happens Ideal (setting_of x) w event v × Sta
 abbrev pub Runs : WorldState → World → ℕ → List Event → WorldState → Type 0
 Runs x w n events y = (v : World) × Run Ideal (setting_of x) (WithinBounds x.bounds) w (take n events) v × StandsForWorld y v
 
--- The same event so many times: it never goes wrong, and no activity takes more steps than its bound. It leads to a world
--- that the new state stands for.
-abbrev pub Repeats : WorldState → World → ℕ → Event → WorldState → Type 0
-Repeats x w n event y = (v : World) × Run Ideal (setting_of x) (WithinBounds x.bounds) w (replicate n event) v × StandsForWorld y v
+-- so many moves of the activity with a key at a place, one after another
+pub data MovesOn (setting : Setting) (here key : ℕ) (u : World) : ℕ → World → Type 0 where
+  at_rest : MovesOn setting here key u 0 u
+  moves_on : (n : ℕ) (v w : World) → MovesOn setting here key u n v → Steps Ideal setting v here key w → MovesOn setting here key u (n + 1) w
 
--- no activity with the key is at the place
-abbrev pub HasNone : WorldState → ℕ → ℕ → Type 0
-HasNone x place key = (p : PlaceState) → slice_get x.places place ≡ Some p → get p.activities key ≡ None
+-- The same Step so many times: each is a move, none goes wrong, and no activity takes more steps than its bound. They lead
+-- to a world that the new state stands for.
+abbrev pub Repeats : WorldState → World → ℕ → ℕ → ℕ → WorldState → Type 0
+Repeats x w n here key y = (v : World) × Run Ideal (setting_of x) (WithinBounds x.bounds) w (replicate n (Step here key)) v × MovesOn (setting_of x) here key w n v × StandsForWorld y v
+
+-- a Step of the key at the place would find nothing to do
+abbrev pub IsIdleNow : WorldState → ℕ → ℕ → Type 0
+IsIdleNow x place key = (p : PlaceState) → slice_get x.places place ≡ Some p → IsIdleAt p key

@@ -4,8 +4,10 @@
 mod ending;
 mod fault;
 mod opening;
+mod rounds;
 mod world;
 
 pub use ending::{Ending, RunFault, run_image};
 pub use fault::OpenFault;
+pub use rounds::{Halt, run_rounds};
 pub use world::World;

@@ -1,12 +1,12 @@
-ghost use Rattle.std.specs.Prelude.{◌≡◌, ◌≢◌, ◌<◌, ◌↔◌, ℕ, true, IsTrue, IfOk, IfErr, IsErrOf, IfSome, MatchOption, Ok, Err, None, length};
+ghost use Rattle.std.specs.Prelude.{◌≡◌, ◌≢◌, ◌<◌, ◌≤◌, ◌↔◌, ℕ, true, IsTrue, IfOk, IfErr, IsErrOf, IfSome, MatchOption, Ok, Err, None, length};
 ghost use Rattle.x10_kinds.specs.declared.stop.Stop.TheVariants as stop;
 ghost use Rattle.x10_model.specs.Worlds as machine;
 ghost use Rattle.x10_world.specs.declared.fault.OpenFault.TheVariants as fault;
 ghost use Rattle.x10_place.specs.Opening.{IsNextKey};
 ghost use Rattle.x10_world.specs.Endings.{lines_in, lines_at};
-ghost use Rattle.x10_world.specs.Queries.{IsNoPlace, HasPlace, HasNoKey, IsNotFlying, IsFlyingTo, IsPosted};
+ghost use Rattle.x10_world.specs.Queries.{IsNoPlace, HasPlace, HasNoKey, IsNotFlying, NothingFlies, IsFlyingTo, IsPosted};
 ghost use Rattle.x10_world.specs.Opening.{IsOpenedWorld, IsForbidden};
-ghost use Rattle.x10_world.specs.StandsForWorld.{StandsForWorld, KeepsSetting, StepsOne, RunsOne, Makes, Runs, Repeats, HasNone};
+ghost use Rattle.x10_world.specs.StandsForWorld.{StandsForWorld, KeepsSetting, StepsOne, RunsOne, Makes, Runs, Repeats, IsIdleNow};
 
 use crate::ending::copied_outputs;
 use crate::fault::OpenFault;
@@ -98,6 +98,7 @@ impl<'a> World<'a> {
         requires { self.old.stopped ≢ true }
         ensures runs { (w : machine.World) → StandsForWorld self.old w → Runs self.old w result.0 events.now self.new }
         ensures all { result.1 ≡ None → result.0 ≡ length events.now }
+        ensures less { IfSome result.1 (λ _. result.0 < length events.now) }
         ensures stop { IfSome result.1 (λ _. self.new.stopped ≡ true) }
         ensures memory { IfSome result.1 (λ why. why ≡ stop.Memory) }
         ensures kept { KeepsSetting self.old self.new }
@@ -152,14 +153,14 @@ impl<'a> World<'a> {
 }
 
 impl<'a> World<'a> {
-    /// Up to so many times the event `Step(place, key)`, as many as come before the activity with the key has ended: how
-    /// many were made. All are as `run` would make them, several times as fast. Where they are fewer than that many, a
-    /// Step of the key now finds nothing to do. After a Stop, which comes as `run` says, the output is that of the steps
+    /// Up to so many times the event `Step(place, key)`: how many were made. Each is as `run` would make it, several times as
+    /// fast, and moves. Where they are fewer than that many, a Step of the key now finds nothing to do. After a Stop, which comes as `run` says, the output is that of the steps
     /// before the one that was refused.
     pub fn run_activity(&mut self, place: u16, key: usize, most: u64) -> Result<u64, Stop>
-        ensures ok { IfOk result (λ n. (w : machine.World) → StandsForWorld self.old w → Repeats self.old w n (Event.Step place key) self.new) }
-        ensures some { (w : machine.World) → StandsForWorld self.old w → (n : ℕ) × Repeats self.old w n (Event.Step place key) self.new }
-        ensures all { IfOk result (λ n. n < most → HasNone self.new place key) }
+        ensures ok { IfOk result (λ n. (w : machine.World) → StandsForWorld self.old w → Repeats self.old w n place key self.new) }
+        ensures some { (w : machine.World) → StandsForWorld self.old w → (n : ℕ) × (n ≤ most) × Repeats self.old w n place key self.new }
+        ensures few { IfOk result (λ n. n ≤ most) }
+        ensures all { IfOk result (λ n. n < most → IsIdleNow self.new place key) }
         ensures stopped { self.old.stopped ≡ true → (result ≡ Err stop.Stopped) × (self.new ≡ self.old) }
         ensures memory { self.old.stopped ≢ true → IfErr result (λ why. why ≡ stop.Memory) }
         ensures stop { IfErr result (λ _. self.new.stopped ≡ true) }
@@ -178,6 +179,13 @@ impl<'a> World<'a> {
 }
 
 impl<'a> World<'a> {
+    /// How many places there are.
+    pub fn count(&self) -> u16
+        ensures { result ≡ length self.now.places }
+    {
+        self.places.len() as u16
+    }
+
     /// The lines of a place so far; none where there is no such place.
     pub fn output(&self, place: u16) -> Option<&[Line]>
         ensures { MatchOption result (IsNoPlace self.now.places place) (λ lines. HasPlace self.now.places place (λ p. lines.now ≡ p.lines)) }
@@ -195,7 +203,7 @@ impl<'a> World<'a> {
 
     /// The least key in use at a place that is not below a number; none where there is no such key, or no such place.
     pub fn next_key(&self, place: u16, from: usize) -> Option<usize>
-        ensures { MatchOption result (HasNoKey self.now.places place from) (λ key. HasPlace self.now.places place (λ p. IsNextKey p.activities from key)) }
+        ensures { MatchOption result (HasNoKey self.now.places place from) (λ key. HasPlace self.now.places place (λ p. IsNextKey p.stays from key)) }
     {
         let place = self.places.get(usize::from(place))?;
         place.next_key(from)
@@ -215,9 +223,10 @@ impl<'a> World<'a> {
         None
     }
 
-    /// Whether the run has ended: no activity lives.
+    /// Whether the run has ended: then no activity lives. Where none lives and nothing is in flight, it has.
     pub fn closed(&self) -> bool
-        ensures { (w : machine.World) → StandsForWorld self.now w → IsTrue result ↔ machine.IsOver w }
+        ensures ended { (w : machine.World) → StandsForWorld self.now w → IsTrue result → machine.IsOver w }
+        ensures over { (w : machine.World) → StandsForWorld self.now w → machine.IsOver w → NothingFlies w → IsTrue result }
     {
         match self.places.first() {
             Some(place) => place.closed(),

@@ -1,5 +1,6 @@
 use Rattle.x10_cli.specs.declared.fault.Fault.TheVariants as told
 use Rattle.x10_cli.proofs.Answered.{status_told}
+use Rattle.x10_cli.proofs.Printing.{prints_kept}
 use Rattle.x10_cli.proofs.commands.execute.Goals as goal
 
 pub returns-then-is_err-clause-status : goal.returns-then-is_err-clause-status
@@ -7,3 +8,6 @@ returns-then-is_err-clause-status w = λ c. status_told _ told.File c.tell.ensur
 
 pub returns-in-Err-clause-status : goal.returns-in-Err-clause-status
 returns-in-Err-clause-status w = λ c. status_told _ c.in-Err.fault c.tell-in-Err.ensures
+
+pub returns-in-Ok-clause-printed : goal.returns-in-Ok-clause-printed
+returns-in-Ok-clause-printed w = λ c. λ e. prints_kept c.args.task.now.verb c.args.task.now.places c.args.bytes.now (w.O.Write.contents c.args.out.now) (w.O.Write.contents c.perform-done.new.out) (w.O.Write.contents c.flush.new.self) c.in-Ok.ensures.printed c.flush.ensures.bytes

@@ -1,9 +1,21 @@
-use Rattle.std.proofs.Common.{refl}
+use Rattle.std.proofs.Common.{refl, subst}
 use Rattle.std.proofs.lemmas.Result.{err_from_is_err_and}
+use Rattle.x10_cli.specs.Answers.{HasRun}
 use Rattle.x10_cli.proofs.Answered.{not_open}
+use Rattle.x10_world.specs.Endings.{lines_at}
+use Rattle.x10_cli.proofs.Printing.{has_run}
 use Rattle.x10_cli.proofs.commands.print_run.Goals as goal
 
 pub returns-in_err-world-clause-refused : goal.returns-in_err-world-clause-refused
 returns-in_err-world-clause-refused w = λ c.
     let told = err_from_is_err_and c.from_residual-in_err-world.result c.from_residual-in_err-world.ensures.1 in
     rw told.1 (not_open c.args.bytes.now c.in_ok-verified.verified c.args.task.now.places c.places_of-places.result c.in_err-world.field-0.0 told.0 c.in_ok-verified.ensures.found (λ e. c.in_err-world.ensures.places.0 (rw e refl)) c.places_of-places.ensures told.2)
+
+pub returns-clause-printed : goal.returns-clause-printed
+returns-clause-printed w = λ c. (
+  c.in_ok-verified.verified,
+  lines_at c.run_rounds-ended.new.world.places,
+  c.in_ok-verified.ensures.found,
+  subst (λ n. HasRun c.in_ok-verified.verified n (lines_at c.run_rounds-ended.new.world.places)) c.places_of-places.ensures (has_run c.in_ok-verified.verified c.places_of-places.result c.in_ok-world.world c.run_rounds-ended.new.world c.in_ok-world.ensures.opened c.run_rounds-ended.ensures.runs c.in_ok-ended.ensures.ended),
+  c.in_ok-print_outputs.ensures.ok,
+)

@@ -1,7 +1,7 @@
 use Rattle.std.proofs.Common.{arith}
 use Rattle.std.proofs.lemmas.Result.{err_from_is_err_and}
+use Rattle.x10_model.proofs.Offsets.{ends_bytes}
 use Rattle.x10_frame.specs.Faults.{named}
-use Rattle.x10_frame.proofs.TableLoops.{ends_bytes}
 use Rattle.x10_frame.proofs.Bodies.{sent_fault, received_fault, counts_body}
 use Rattle.x10_frame.proofs.body.read_counts.Goals as goal
 

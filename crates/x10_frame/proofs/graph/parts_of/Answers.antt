@@ -1,8 +1,8 @@
 use Rattle.std.proofs.Common.{sym, ◌∙◌, arith}
 use Rattle.std.proofs.lemmas.Result.{err_from_is_err_and}
+use Rattle.x10_model.proofs.Offsets.{ends_bytes}
 use Rattle.x10_frame.specs.Faults.{named}
 use Rattle.x10_frame.specs.Items.{tables_in}
-use Rattle.x10_frame.proofs.TableLoops.{ends_bytes}
 use Rattle.x10_frame.proofs.Graphs.{roots_fault, roots_end, texts_fault, rails_fault, nodes_fault, Steps, not_all_used, graph_given}
 use Rattle.x10_frame.proofs.graph.parts_of.Goals as goal
 

@@ -1,10 +1,10 @@
 use Rattle.std.proofs.Common.{arith}
 use Rattle.std.proofs.lemmas.Result.{err_from_is_err_and}
 use Rattle.x10_model.proofs.ReaderLaws.{bind_is}
+use Rattle.x10_model.proofs.Offsets.{ends_bytes}
 use Rattle.x10_frame.specs.Faults.{named}
 use Rattle.x10_frame.specs.Items.{tables_in}
 use Rattle.x10_frame.specs.Graphs.{counts_at}
-use Rattle.x10_frame.proofs.TableLoops.{ends_bytes}
 use Rattle.x10_frame.proofs.Loops.{lenient}
 use Rattle.x10_frame.proofs.Readers.{early, ends_after}
 use Rattle.x10_frame.proofs.Graphs.{counts_drop, graph_of_counts, graph_is}

@@ -5,8 +5,9 @@ use Rattle.x10_model.specs.Frames.{blob_bytes}
 use Rattle.x10_model.specs.Readers.{times}
 use Rattle.x10_model.specs.ReadingFrames.{text_at}
 use Rattle.x10_model.proofs.GraphLaws.{text_reads}
+use Rattle.x10_model.proofs.Offsets.{ends_small, ends_bytes}
 use Rattle.x10_frame.specs.Faults.{named}
-use Rattle.x10_frame.proofs.TableLoops.{placed_start, placed_next, placed_fault, placed_end, ends_small, ends_bytes}
+use Rattle.x10_frame.proofs.TableLoops.{placed_start, placed_next, placed_fault, placed_end}
 use Rattle.x10_frame.proofs.tables.text_table.Goals as goal
 
 pub loop-init : goal.loop-init

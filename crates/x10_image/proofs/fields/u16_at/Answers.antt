@@ -1,12 +1,12 @@
 use Rattle.std.proofs.Common.{arith}
 use Rattle.std.specs.Int.{w16}
-use Rattle.x10_image.proofs.Numbers.{number_short, number_is}
+use Rattle.x10_model.proofs.Offsets.{number_short, number_is}
 use Rattle.x10_image.proofs.fields.u16_at.Goals as goal
 
 pub returns-then-bytes-lt2 : goal.returns-then-bytes-lt2
-returns-then-bytes-lt2 c = record { exact = number_short w16 c.args.bytes.now (omega arith) }
+returns-then-bytes-lt2 c = record { exact = number_short _ w16 c.args.bytes.now (omega arith) }
 
 pub returns : goal.returns
 returns c =
     rw c.split_at.ensures.back
-    (record { exact = number_is w16 c.args.bytes.now c.read_u16.result (omega arith) (omega (arith, rw c.split_at.ensures.front at c.read_u16.ensures)) })
+    (record { exact = number_is _ w16 c.args.bytes.now c.read_u16.result (omega arith) (omega (arith, rw c.split_at.ensures.front at c.read_u16.ensures)) })

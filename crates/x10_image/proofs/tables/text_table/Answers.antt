@@ -5,8 +5,9 @@ use Rattle.x10_model.specs.Images.{text_bytes}
 use Rattle.x10_model.specs.Readers.{times}
 use Rattle.x10_model.specs.ReadingImages.{text_at}
 use Rattle.x10_model.proofs.ImageParts.{text_reads}
+use Rattle.x10_model.proofs.Offsets.{ends_small, ends_bytes}
 use Rattle.x10_image.specs.Faults.{named}
-use Rattle.x10_image.proofs.TableLoops.{placed_start, placed_next, placed_fault, placed_end, ends_small, ends_bytes}
+use Rattle.x10_image.proofs.TableLoops.{placed_start, placed_next, placed_fault, placed_end}
 use Rattle.x10_image.proofs.tables.text_table.Goals as goal
 
 pub loop-init : goal.loop-init

@@ -1,7 +1,7 @@
 use Rattle.std.proofs.Common.{sym, ap, ◌∙◌, arith, rules, tests}
 use Rattle.std.proofs.lemmas.Option.{slice_get_past}
 use Rattle.x10_model.specs.ReadingImages.{is_entry}
-use Rattle.x10_image.proofs.Access.{same_length}
+use Rattle.x10_model.proofs.Offsets.{same_length}
 use Rattle.x10_image.proofs.Functions.{function_in, function_small, entry_is, entry_not}
 use Rattle.x10_image.proofs.view.has_entry.Goals as goal
 

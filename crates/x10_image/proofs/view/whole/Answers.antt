@@ -1,8 +1,8 @@
 use Rattle.std.proofs.Common.{sym, ◌∙◌, arith, rules, tests}
 use Rattle.std.proofs.lemmas.Result.{err_from_is_err_and}
+use Rattle.x10_model.proofs.Offsets.{ends_small}
 use Rattle.x10_image.specs.Faults.{named}
 use Rattle.x10_image.specs.Headers.{seen}
-use Rattle.x10_image.proofs.TableLoops.{ends_small}
 use Rattle.x10_image.proofs.Whole.{header_ends, ints_end, header_fault, classes_fault, ints_fault, texts_fault, functions_fault, Steps, trailing, no_entry, read_is, is_view, is_in}
 use Rattle.x10_image.proofs.view.whole.Goals as goal
 

@@ -5,6 +5,6 @@ use Rattle.x10_verify.specs.Rules.{Allows, Decides}
 use Rattle.x10_verify.proofs.Deciding.{allowed}
 use Rattle.x10_verify.proofs.decide.decide.Goals as goal
 
-pub returns : goal.returns
-returns c = λ function pc same. subst (λ r. Decides (Allows r (point c.args.image.now function pc c.args.instr) (state_of c.args.known.now)) c.settled.result) c.rule_of-rule.ensures.value
-    (allowed c.rule_of-rule.result (point c.args.image.now function pc c.args.instr) (state_of c.args.known.now) c.settled.result c.in_ok-asked.ensures c.in_ok-asked-2.ensures c.in_ok-asked-3.ensures (c.settled.ensures function pc same))
+pub returns-clause-decides : goal.returns-clause-decides
+returns-clause-decides c = λ function pc same. subst (λ r. Decides (Allows r (point c.args.image.now function pc c.args.instr) (state_of c.args.known.now)) c.settled.result) c.rule_of-rule.ensures.value
+    (allowed c.rule_of-rule.result (point c.args.image.now function pc c.args.instr) (state_of c.args.known.now) c.settled.result c.in_ok-asked.ensures.asked c.in_ok-asked-2.ensures.asked c.in_ok-asked-3.ensures.asked (c.settled.ensures.decides function pc same))

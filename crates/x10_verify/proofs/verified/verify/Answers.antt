@@ -2,4 +2,4 @@ use Rattle.x10_verify.proofs.Refuted.{flow_refutes}
 use Rattle.x10_verify.proofs.verified.verify.Goals as goal
 
 pub returns-in-Err-check_flow-clause-err : goal.returns-in-Err-check_flow-clause-err
-returns-in-Err-check_flow-clause-err c = flow_refutes c.args.image c.named.result c.in-Err-check_flow.function c.in-Err-check_flow.fault.pc c.named.ensures.flow (c.in-Ok.bounds.items, c.in-Ok.ensures.exact) c.in_default.ensures.ok c.in-Err-check_flow.ensures.err
+returns-in-Err-check_flow-clause-err c = rw c.named.ensures (flow_refutes c.args.image c.in-Err-check_flow.fault.cause c.in-Err-check_flow.function c.in-Err-check_flow.fault.pc (c.in-Ok.bounds.items, c.in-Ok.ensures.exact) c.in_default.ensures.ok c.in-Err-check_flow.ensures.err c.in-Err-check_flow.ensures.cause)

@@ -7,5 +7,6 @@ pub returns-clause-ending : goal.returns-clause-ending
 returns-clause-ending c = (
   c.in-Ok-verify.verified,
   record { certified = c.in-Ok-verify.ensures.ok.1; spelled = c.in-Ok.ensures.found.1 ∙ ap (λ m. spelling m) (sym c.in-Ok-verify.ensures.ok.0) },
-  ending_is c.in-Ok-verify.verified c.args.places c.args.events.now c.in-Ok-open.world c.make-done.new.self _ _ c.in-Ok-open.ensures.opened c.make-done.ensures.runs c.make-done.ensures.all c.make-done.ensures.kept c.in-Ok-outputs.ensures c.closed-closed.ensures,
+  ending_is c.in-Ok-verify.verified c.args.places c.args.events.now c.in-Ok-open.world c.make-done.new.self _ _ c.in-Ok-open.ensures.opened c.make-done.ensures.runs c.make-done.ensures.all c.make-done.ensures.less
+      (λ forbidden. absurd (let refused = c.in-Ok-open.ensures.places.1 forbidden in cc)) c.make-done.ensures.kept c.in-Ok-outputs.ensures c.closed-closed.ensures.ended c.closed-closed.ensures.over,
 )

@@ -1,8 +1,12 @@
 use Rattle.std.proofs.Common.{sym}
 use Rattle.x10_frame.proofs.Shows.{shows}
+use Rattle.x10_frame.proofs.Spelled.{head_part}
 use Rattle.x10_frame.proofs.view.FrameView.head.Goals as goal
 
-pub returns : goal.returns
-returns c =
+pub returns-clause-value : goal.returns-clause-value
+returns-clause-value c =
     let v = shows _ _ _ _ _ _ _ _ _ c.self.invariant c.self.view_is in
-    record { value = sym v.head_is }
+    sym v.head_is
+
+pub returns-clause-part : goal.returns-clause-part
+returns-clause-part c = head_part _ _ (returns-clause-value c)

@@ -1,7 +1,8 @@
 use Rattle.std.proofs.Common.{arith}
 use Rattle.x10_model.specs.Frames.{node_bytes}
-use Rattle.x10_frame.proofs.Access.{same_length}
+use Rattle.x10_model.proofs.Offsets.{same_length}
 use Rattle.x10_frame.proofs.Shows.{shows, graph_fits, few_of, node_fits, item_in, node_at}
+use Rattle.x10_frame.proofs.Spelled.{node_part}
 use Rattle.x10_frame.proofs.view.FrameView.node.Goals as goal
 
 pub index-requires : goal.index-requires
@@ -40,3 +41,6 @@ returns-clause-few c =
     let fits = node_fits _ _ c.args.i found.0 (graph_fits _ _ v.fits) found.1 in
     let n = node_at _ _ _ _ fits.0 found.0 v.few (few_of _ _ (graph_fits _ _ v.fits)) fits.1 found.2 in
     rw (c.node_in.ensures, n.fields) fits.1.count
+
+pub returns-clause-part : goal.returns-clause-part
+returns-clause-part c = node_part _ c.args.i _ (returns-clause-value c)

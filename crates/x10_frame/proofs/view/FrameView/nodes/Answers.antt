@@ -1,5 +1,5 @@
 use Rattle.std.proofs.Common.{arith}
-use Rattle.x10_frame.proofs.Access.{same_length}
+use Rattle.x10_model.proofs.Offsets.{same_length}
 use Rattle.x10_frame.proofs.Shows.{shows, graph_fits}
 use Rattle.x10_frame.proofs.view.FrameView.nodes.Goals as goal
 

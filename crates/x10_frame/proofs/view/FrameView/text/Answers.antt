@@ -1,8 +1,9 @@
 use Rattle.std.proofs.Common.{arith}
 use Rattle.x10_model.specs.Modules.{FitsText}
 use Rattle.x10_model.specs.Frames.{blob_bytes}
-use Rattle.x10_frame.proofs.Access.{same_length}
-use Rattle.x10_frame.proofs.Shows.{shows, graph_fits, all_at, item_in, blob_at, blob_part}
+use Rattle.x10_model.proofs.Offsets.{same_length}
+use Rattle.x10_frame.proofs.Shows.{shows, graph_fits, all_at, item_in, blob_at}
+use Rattle.x10_frame.proofs.Spelled.{text_part}
 use Rattle.x10_frame.proofs.view.FrameView.text.Goals as goal
 
 pub index-requires : goal.index-requires
@@ -51,9 +52,4 @@ returns-clause-fits c =
     rw (c.from_utf8_unchecked.ensures, c.blob_in-text.ensures, b.count, b.range) fits
 
 pub returns-clause-part : goal.returns-clause-part
-returns-clause-part c =
-    let v = shows _ _ _ _ _ _ _ _ _ c.self.invariant c.self.view_is in
-    let found = item_in blob_bytes _ _ _ c.args.i c.index.result.now v.has.graph_at.texts_at c.requires c.index.ensures in
-    let fits = (all_at FitsText _ c.args.i found.0 (graph_fits _ _ v.fits).texts.1 found.1) in
-    let b = blob_at _ _ found.0 fits.length found.2 in
-    rw (c.from_utf8_unchecked.ensures, c.blob_in-text.ensures, b.count, b.range) (blob_part _ _ c.index.result.now found.0 v.spelled b)
+returns-clause-part c = text_part _ c.args.i _ (returns-clause-value c)

@@ -1,10 +1,11 @@
 use Rattle.std.proofs.Common.{length, arith}
 use Rattle.x10_model.specs.Modules.{FitsClass}
 use Rattle.x10_model.specs.Images.{class_bytes}
-use Rattle.x10_image.proofs.Access.{same_length}
-use Rattle.x10_image.proofs.Accessors.{shows, all_at, item_in, class_at}
+use Rattle.x10_image.proofs.Accessors.{shows, item_in, class_at}
 use Rattle.x10_image.proofs.Spelled.{class_part}
 use Rattle.x10_image.proofs.view.ImageView.class.Goals as goal
+use Rattle.x10_model.proofs.Lists.{all_at}
+use Rattle.x10_model.proofs.Offsets.{same_length}
 
 pub index-requires : goal.index-requires
 index-requires c =

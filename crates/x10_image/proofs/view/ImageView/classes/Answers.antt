@@ -1,5 +1,5 @@
 use Rattle.std.proofs.Common.{arith}
-use Rattle.x10_image.proofs.Access.{same_length}
+use Rattle.x10_model.proofs.Offsets.{same_length}
 use Rattle.x10_image.proofs.Accessors.{shows}
 use Rattle.x10_image.proofs.Spelled.{classes_part}
 use Rattle.x10_image.proofs.view.ImageView.classes.Goals as goal

@@ -1,6 +1,6 @@
 use Rattle.std.proofs.Common.{◌+◌, ◌*◌, arith, sym, ◌∙◌}
 use Rattle.x10_model.specs.Images.{function_bytes}
-use Rattle.x10_image.proofs.Access.{same_length}
+use Rattle.x10_model.proofs.Offsets.{same_length}
 use Rattle.x10_image.proofs.Accessors.{shows, part_of, from_at}
 use Rattle.x10_image.proofs.FunctionAccess.{function_here, room_is, parameters_are, parameters_of, count_is, code_range, code_long}
 use Rattle.x10_image.proofs.view.ImageView.code.Goals as goal

@@ -1,5 +1,5 @@
 use Rattle.std.proofs.Common.{length, arith, sym, ap, ◌∙◌}
-use Rattle.x10_image.proofs.Access.{same_length}
+use Rattle.x10_model.proofs.Offsets.{same_length}
 use Rattle.x10_image.proofs.Accessors.{shows}
 use Rattle.x10_image.proofs.FunctionAccess.{function_here, room_is, count_is, code_is}
 use Rattle.x10_image.proofs.Spelled.{count_part}

@@ -1,5 +1,5 @@
 use Rattle.std.proofs.Common.{◌+◌, ◌*◌, length, arith, ap}
-use Rattle.x10_image.proofs.Access.{same_length}
+use Rattle.x10_model.proofs.Offsets.{same_length}
 use Rattle.x10_image.proofs.Accessors.{shows}
 use Rattle.x10_image.proofs.FunctionAccess.{function_here, room_is, code_is, instr_here, instr_same}
 use Rattle.x10_image.proofs.Spelled.{instr_part}

@@ -1,9 +1,10 @@
 use Rattle.std.proofs.Common.{◌+◌, arith, refl, sym, ap}
 use Rattle.x10_model.specs.Modules.{FitsText}
 use Rattle.x10_model.specs.Images.{text_bytes}
-use Rattle.x10_image.proofs.Access.{same_length}
-use Rattle.x10_image.proofs.Accessors.{shows, all_at, item_in, text_at, part_of, from_at}
+use Rattle.x10_image.proofs.Accessors.{shows, item_in, text_at, part_of, from_at}
 use Rattle.x10_image.proofs.view.ImageView.text.Goals as goal
+use Rattle.x10_model.proofs.Lists.{all_at}
+use Rattle.x10_model.proofs.Offsets.{same_length}
 
 pub index-requires : goal.index-requires
 index-requires c =

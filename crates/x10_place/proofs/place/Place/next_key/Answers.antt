@@ -5,5 +5,5 @@ use Rattle.x10_place.specs.Opening.{IsNextKey}
 use Rattle.x10_place.proofs.place.Place.next_key.Goals as goal
 
 pub returns-then-contains : goal.returns-then-contains
-returns-then-contains c = subst (λ v. IsNextKey v.activities c.args.from c.loop-key.key) c.self.view_is
-    (record { least = c.loop-key.auto.key; used = is_some_is (get c.self.inside.activities c.loop-key.key) (c.contains.ensures.0 c.if-contains.true); before = c.loop-key.invariant })
+returns-then-contains c = subst (λ v. IsNextKey v.stays c.args.from c.loop-key.key) c.self.view_is
+    (record { least = c.loop-key.auto.key; used = is_some_is (get c.self.inside.stays c.loop-key.key) (c.contains.ensures.0 c.if-contains.true); before = c.loop-key.invariant })

@@ -1,11 +1,11 @@
-use Rattle.std.proofs.Common.{refl, sym, ap, ◌∙◌}
-use Rattle.x10_world.specs.StandsForWorld.{WorldState}
+use Rattle.std.proofs.Common.{refl, sym, ap, ◌∙◌, arith}
+use Rattle.x10_world.specs.StandsForWorld.{WorldState, at_rest}
 use Rattle.x10_model.specs.Worlds.{done}
-use Rattle.x10_world.proofs.Repeating.{run_ran, run_none, world_after_run, world_after_stop}
+use Rattle.x10_world.proofs.Repeating.{run_ran, run_few, run_none, world_after_run, world_after_stop}
 use Rattle.x10_world.proofs.world.World.run_activity.Goals as goal
 
 pub returns-in_err-going-clause-some : goal.returns-in_err-going-clause-some
-returns-in_err-going-clause-some c = λ w stand. (0, (w, done w stand.tied.within, stand))
+returns-in_err-going-clause-some c = λ w stand. (0, omega arith, (w, done w stand.tied.within, at_rest, stand))
 
 pub invariant_of-self : goal.invariant_of-self
 invariant_of-self c = world_after_stop c.self.inside.verified.now.program c.self.inside.verified.now.bounds c.self.inside.places.items c.run_one-done.new.places.items c.from.result c.args.key c.args.most c.run_one-done.result.0 c.run_one-done.result.1 c.self.inside.stopped c.self.invariant c.run_one-done.ensures
@@ -13,6 +13,7 @@ invariant_of-self c = world_after_stop c.self.inside.verified.now.program c.self
 pub returns-in-Some-clause-some : goal.returns-in-Some-clause-some
 returns-in-Some-clause-some c = λ w stand. (
   c.run_one-done.result.0,
+  run_few c.self.inside.places.items c.run_one-done.new.places.items c.from.result c.args.key c.args.most c.run_one-done.result.0 c.run_one-done.result.1 c.run_one-done.ensures,
   run_ran
       (record { program = c.self.inside.verified.now.program; bounds = c.self.inside.verified.now.bounds; places = c.self.inside.places.items; stopped = c.self.inside.stopped }) _
       c.args.self.now c.from.result c.args.place c.args.key c.args.most c.run_one-done.result.0 c.run_one-done.result.1 c.self.view_is c.from.ensures (record { program = refl; bounds = refl }) c.certificate.ensures c.self.invariant.belong c.run_one-done.ensures w stand,
@@ -30,6 +31,7 @@ returns-clause-ok c = run_ran
 pub returns-clause-some : goal.returns-clause-some
 returns-clause-some c = λ w stand. (
   c.run_one-done.result.0,
+  run_few c.self.inside.places.items c.run_one-done.new.places.items c.from.result c.args.key c.args.most c.run_one-done.result.0 c.run_one-done.result.1 c.run_one-done.ensures,
   run_ran
       (record { program = c.self.inside.verified.now.program; bounds = c.self.inside.verified.now.bounds; places = c.self.inside.places.items; stopped = c.self.inside.stopped }) _
       c.args.self.now c.from.result c.args.place c.args.key c.args.most c.run_one-done.result.0 c.run_one-done.result.1 c.self.view_is c.from.ensures (record { program = refl; bounds = refl }) c.certificate.ensures c.self.invariant.belong c.run_one-done.ensures w stand,
@@ -40,3 +42,6 @@ returns-clause-all c = run_none
     (record { program = c.self.inside.verified.now.program; bounds = c.self.inside.verified.now.bounds; places = c.self.inside.places.items; stopped = c.self.inside.stopped })
     (record { program = c.self.inside.verified.now.program; bounds = c.self.inside.verified.now.bounds; places = c.run_one-done.new.places.items; stopped = c.self.inside.stopped })
     c.from.result c.args.place c.args.key c.args.most c.run_one-done.result.0 c.run_one-done.result.1 c.from.ensures c.run_one-done.ensures c.in_default.is
+
+pub returns-clause-few : goal.returns-clause-few
+returns-clause-few c = run_few c.self.inside.places.items c.run_one-done.new.places.items c.from.result c.args.key c.args.most c.run_one-done.result.0 c.run_one-done.result.1 c.run_one-done.ensures

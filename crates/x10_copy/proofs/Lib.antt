@@ -1,0 +1,15 @@
+pub mod Position
+pub mod Noting
+pub mod Growing
+pub mod Parts
+pub mod Walking
+pub mod Putting
+pub mod Standing
+pub mod Finished
+pub mod Tests
+pub mod Additions
+pub mod Telling
+pub mod Sounding
+pub mod Reaching
+pub mod Copying
+pub mod OfKinds

@@ -1,0 +1,121 @@
+//! What a frame brings, put into a heap.
+
+ghost use Rattle.std.specs.Prelude.{◌≡◌, ◌↔◌, IfOk, IfErr, IsTrue, length, map};
+ghost use Rattle.x10_frame.specs.Heads.{graph_of};
+ghost use Rattle.x10_model.specs.Marshalling.{snapshot_of};
+ghost use Rattle.x10_model.specs.Deliveries.{NamesExports};
+ghost use Rattle.x10_heap.specs.Words.{export_as};
+ghost use Rattle.x10_copy.specs.Arrived.{arrived, FitKinds, FitsArrival, IsRefusal, IsMisfit, IsArrived, IsLonger, StopsAll, same_stop};
+
+use crate::adding::{Bases, Roots, add_objects, add_rails, add_texts, root_words};
+use crate::fitting::{have_homes, nodes_exported, nodes_fit, roots_exported, roots_fit};
+use crate::refusal::Refusal;
+use std::alloc::Global;
+use x10_frame::FrameView;
+use x10_heap::Heap;
+use x10_image::ImageView;
+use x10_kinds::Stop;
+use x10_model::Slot;
+
+fn kinds_fit(view: &FrameView, image: &ImageView, slots: &[Slot]) -> bool
+    ensures told { IsTrue result ↔ FitKinds image.now slots.now (snapshot_of (graph_of view.now)) }
+    ensures long { IsTrue result → length (graph_of view.now).roots ≡ length slots.now }
+{
+    if !roots_fit(view, slots) {
+        return false;
+    }
+    nodes_fit(view, image)
+}
+
+fn exports_fit(view: &FrameView, heap: &Heap, here: u16) -> bool
+    ensures { IsTrue result ↔ NamesExports here (map export_as heap.now.exports) (snapshot_of (graph_of view.now)) }
+{
+    if !roots_exported(view, heap, here) {
+        return false;
+    }
+    nodes_exported(view, heap, here)
+}
+
+/// What is asked of a frame's values: their kinds, then the homes, then what is named here.
+fn check(
+    view: &FrameView,
+    heap: &Heap,
+    image: &ImageView,
+    here: u16,
+    home: u16,
+    slots: &[Slot],
+) -> Result<(), Refusal>
+    ensures ok { IfOk result (λ _. FitsArrival image.now here home heap.now slots.now (snapshot_of (graph_of view.now))) }
+    ensures err { IfErr result (λ why. IsMisfit image.now here home heap.now slots.now (graph_of view.now) why) }
+{
+    if !kinds_fit(view, image, slots) {
+        return Err(Refusal::Kind);
+    }
+    if !have_homes(view, slots, home) {
+        return Err(Refusal::Home);
+    }
+    if !exports_fit(view, heap, here) {
+        return Err(Refusal::Ref);
+    }
+    Ok(())
+}
+
+fn add_all(heap: &mut Heap, view: &FrameView, bases: &Bases) -> Result<(), Stop>
+    requires texts { bases.now.texts ≡ length heap.old.texts }
+    requires rails { bases.now.rails ≡ length heap.old.rails }
+    requires objects { bases.now.objects ≡ length heap.old.objects }
+    ensures ok { IfOk result (λ _. heap.new ≡ arrived heap.old (graph_of view.now)) }
+    ensures err { IfErr result (λ why. IsLonger heap.old heap.new × StopsAll heap.old (graph_of view.now) why) }
+{
+    add_texts(heap, view)?;
+    add_rails(heap, view)?;
+    add_objects(heap, view, bases)
+}
+
+fn refusal_of(why: Stop) -> Refusal
+    ensures { result ≡ same_stop why }
+{
+    match why {
+        Stop::Memory => Refusal::Memory,
+        Stop::Limit(limit) => Refusal::Limit(limit),
+        Stop::Stopped => Refusal::Stopped,
+    }
+}
+
+/// Puts a copy of what a frame brings into the heap of the place `here`, beside all that it has, and answers the words of
+/// the values that were passed: text i is the heap's next text and i more, and so are rails and objects. Each text and
+/// rail is copied once, from the frame. A report brings nothing.
+///
+/// Refused, with the heap as before: `Kind` where the values aren't of the kinds of `slots`, one for each, or an object
+/// doesn't have the fields of its class; else `Home` where a value of which its slot asks for a home is a global
+/// reference with another one than `home`; else `Ref` where a global reference with its home here names no export of its
+/// class; else `Limit` 1, 2 or 3 where the heap would have too many objects, texts or rails, or `Memory`. Linear in the
+/// frame.
+pub fn arrive(
+    alloc: Global,
+    view: &FrameView,
+    heap: &mut Heap,
+    image: &ImageView,
+    here: u16,
+    home: u16,
+    slots: &[Slot],
+) -> Result<Roots, Refusal>
+    ensures ok { IfOk result (λ roots. IsArrived image.now here home heap.old slots.now (graph_of view.now) roots.items heap.new) }
+    ensures err { IfErr result (λ why. (heap.new ≡ heap.old) × IsRefusal image.now here home heap.old slots.now (graph_of view.now) why) }
+{
+    check(view, heap, image, here, home, slots)?;
+    let (objects, rails, texts) = (heap.objects(), heap.rails(), heap.texts());
+    let bases = Bases {
+        texts: texts as u32,
+        rails: rails as u32,
+        objects: objects as u32,
+    };
+    let words = root_words(alloc, view, &bases)?;
+    match add_all(heap, view, &bases) {
+        Ok(()) => Ok(words),
+        Err(why) => {
+            heap.truncate(objects, rails, texts);
+            Err(refusal_of(why))
+        }
+    }
+}

@@ -1,0 +1,123 @@
+ghost use Rattle.std.specs.Prelude.{◌≡◌, ℕ, ◌⊎◌, ◌<◌, ◌≤◌, IfOk, IfErr, [], length, nat_lt, slice_index};
+ghost use Rattle.x10_kinds.specs.declared.stop.Stop.TheVariants as stop;
+ghost use Rattle.x10_copy.specs.Names.{number, with_new};
+ghost use Rattle.x10_copy.specs.Numbered.{AreNumbered};
+
+use std::alloc::Global;
+use std::marker::Model;
+use x10_kinds::Stop;
+
+/// Some parts of a heap, each with a number of its own, from 0. Clauses see the list of the parts.
+///
+/// `places` has each part's number at that part's place, and anything at the others: a part has a number where it stands
+/// under the number at its place. So nothing has to be cleared for another message.
+#[derive(Drop)]
+pub struct Numbers {
+    places: Vec<u16>,
+    parts: Vec<u32>,
+}
+
+impl Model for Numbers {
+    ghost use Rattle.std.specs.Prelude.{ℕ, List};
+    ghost use Rattle.x10_copy.specs.Numbered.{AreNumbered};
+
+    ghost Value = { List ℕ };
+
+    ghost view = { λ n. n.parts.items };
+
+    ghost invariant = { λ n. AreNumbered n.places.items n.parts.items };
+}
+
+/// Whether a part has a number: it stands under the number at its place.
+fn is_numbered(places: &[u16], parts: &[u32], part: u32) -> bool
+    requires { AreNumbered places.now parts.now }
+    ensures { result ≡ nat_lt (number parts.now part) (length parts.now) }
+{
+    if part as usize >= places.len() {
+        return false;
+    }
+    let k = usize::from(places[part as usize]);
+    if k >= parts.len() {
+        return false;
+    }
+    parts[k] == part
+}
+
+/// A place for a part, where there is none yet.
+fn make_place(places: &mut Vec<u16>, part: u32) -> Result<(), Stop>
+    ensures ok { IfOk result (λ _. part < length places.new.items) }
+    ensures err { IfErr result (λ why. why ≡ stop.Memory) }
+    ensures longer { length places.old.items ≤ length places.new.items }
+    ensures kept { (k : ℕ) → k < length places.old.items → slice_index places.new.items k ≡ slice_index places.old.items k }
+{
+    if (part as usize) < places.len() {
+        return Ok(());
+    }
+    match places.resize(part as usize + 1, 0) {
+        Ok(()) => Ok(()),
+        Err(_) => Err(Stop::Memory),
+    }
+}
+
+impl Numbers {
+    /// No part has a number yet. Takes no memory.
+    pub fn new(alloc: Global) -> Numbers
+        ensures { result ≡ [] }
+    {
+        Numbers {
+            places: Vec::new(alloc),
+            parts: Vec::new(alloc),
+        }
+    }
+
+    /// Takes all numbers back. What memory there is stays.
+    pub fn clear(&mut self)
+        ensures { self.new ≡ [] }
+    {
+        self.parts.clear();
+    }
+
+    /// How many parts have a number.
+    pub fn len(&self) -> usize
+        ensures value { result ≡ length self.now }
+        ensures few { result ≤ 65535 }
+    {
+        self.parts.len()
+    }
+
+    /// The part with a number.
+    pub fn part(&self, number: usize) -> u32
+        requires { number < length self.now }
+        ensures { result ≡ slice_index self.now number }
+    {
+        self.parts[number]
+    }
+
+    /// The number of a part that has one.
+    pub fn number(&self, part: u32) -> u16
+        requires { number self.now part < length self.now }
+        ensures { result ≡ number self.now part }
+    {
+        self.places[part as usize]
+    }
+
+    /// Gives a part the next number, where it has none. Refused where 65,535 have one already, and for want of memory.
+    pub fn note(&mut self, part: u32, limit: u8) -> Result<(), Stop>
+        ensures ok { IfOk result (λ _. self.new ≡ with_new self.old part) }
+        ensures err { IfErr result (λ why. (why ≡ stop.Memory) ⊎ ((why ≡ stop.Limit limit) × (65535 < length (with_new self.old part)))) }
+    {
+        if is_numbered(&self.places, &self.parts, part) {
+            return Ok(());
+        }
+        let count = self.parts.len();
+        if count >= 65_535 {
+            return Err(Stop::Limit(limit));
+        }
+        make_place(&mut self.places, part)?;
+        let Ok(()) = self.parts.push(part) else {
+            return Err(Stop::Memory);
+        };
+        self.places[part as usize] = count as u16;
+        Ok(())
+    }
+}

@@ -1,0 +1,159 @@
+-- Where a frame's parts stand in its spelling, by how the spelling is put together.
+use Rattle.std.proofs.Common.{◌≡◌, ℕ, zero, suc, ◌+◌, ◌*◌, ◌<◌, ◌≤◌, List, [], ◌∷◌, ◌++◌, length, Some, refl, sym, ap, subst, ◌∙◌, append-nil, arith, take, drop, flat_map, slice_get, length-append, length-take}
+use Rattle.std.specs.Int.{w16, w32, to_be_bytes}
+use Rattle.std.proofs.lemmas.Option.{slice_get_within}
+use Rattle.std.proofs.lemmas.List.Concat.{flat_map-cons}
+use Rattle.x10_model.specs.Frames.{Item, Node, Graph, Frame, Spawn, Shift, Back, Report, item_bytes, blob_bytes, node_bytes, graph_bytes, launch_bytes, counts_bytes, spelling}
+use Rattle.x10_model.proofs.ImageParts.{length-items}
+use Rattle.x10_model.specs.Offsets.{StandsAt}
+use Rattle.x10_model.proofs.Offsets.{later, narrow, place_small, range_is}
+use Rattle.x10_frame.specs.declared.head.Head.{Head}
+use Rattle.x10_frame.specs.declared.head.Head.TheVariants as head
+use Rattle.x10_frame.specs.Heads.{head_of, graph_of, sent_of, received_of}
+use Rattle.x10_frame.specs.Writing.{head_bytes, sizes_bytes}
+use Rattle.x10_frame.specs.Parts.{IsPart, roots_from, texts_from, rails_from, nodes_from, place_of_root, place_of_text, place_of_rail, place_of_node, counts_from, place_of_sent, place_of_received}
+
+part_at : (bytes : List ℕ) (at : ℕ) (part : List ℕ) → 0 < length part → StandsAt bytes at part → IsPart bytes at part
+part_at bytes at part some s = record { end = place_small bytes at part some s; is = sym (range_is bytes at (at + length part) part refl s) }
+
+-- ---- an item among others
+
+item_here : {A : Type 0} (spell : A → List ℕ) (bytes : List ℕ) (at : ℕ) (xs : List A) (i : ℕ) (x : A) → StandsAt bytes at (flat_map spell xs) → slice_get xs i ≡ Some x
+    → StandsAt bytes (at + length (flat_map spell (take i xs))) (spell x)
+item_here spell bytes at [] i x s e = absurd cc
+item_here spell bytes at (y ∷ xs) zero x s e =
+    let is : y ≡ x = cc in
+    let here : at + 0 ≡ at = omega arith in
+    subst (λ z. StandsAt bytes (at + 0) (spell z)) is (rw here (narrow bytes at (spell y) (flat_map spell xs) (rw flat_map-cons at s)))
+item_here spell bytes at (y ∷ xs) (suc i) x s e =
+    let long : length (flat_map spell (y ∷ take i xs)) ≡ length (spell y) + length (flat_map spell (take i xs)) = ap length (flat_map-cons spell y (take i xs)) ∙ length-append (spell y) (flat_map spell (take i xs)) in
+    let there : at + length (spell y) + length (flat_map spell (take i xs)) ≡ at + length (flat_map spell (y ∷ take i xs)) = omega (arith, long) in
+    let rest = later bytes at (length (spell y)) (at + length (spell y)) (spell y) (flat_map spell xs) refl refl (rw flat_map-cons at s) in
+    subst (λ (n : ℕ). StandsAt bytes n (spell x)) there (item_here spell bytes (at + length (spell y)) xs i x rest e)
+
+-- the items before it, of one length
+before_it : {A : Type 0} (spell : A → List ℕ) (k : ℕ) → ((x : A) → length (spell x) ≡ k) → (xs : List A) (i : ℕ) (x : A) → slice_get xs i ≡ Some x → length (flat_map spell (take i xs)) ≡ k * i
+before_it spell k each xs i x e =
+    let many : length (take i xs) ≡ i = omega (arith, length-take i xs, slice_get_within xs i x e) in
+    length-items spell k each (take i xs) ∙ ap (λ n. k * n) many
+
+-- ---- the head, and what follows it
+
+abbrev rest_of : Frame → List ℕ
+rest_of (Spawn from to home number function graph) = graph_bytes graph
+rest_of (Shift from to waiting home number function graph) = graph_bytes graph
+rest_of (Back from to waiting graph) = graph_bytes graph
+rest_of (Report from to number sent received) = to_be_bytes w16 (length sent) ++ (counts_bytes sent ++ counts_bytes received)
+
+spelled : (f : Frame) → spelling f ≡ head_bytes (head_of f) ++ rest_of f
+unfolding spelling launch_bytes
+spelled (Spawn from to home number function graph) = refl
+spelled (Shift from to waiting home number function graph) = refl
+spelled (Back from to waiting graph) = refl
+spelled (Report from to number sent received) = refl
+
+some_head : (h : Head) → 0 < length (head_bytes h)
+some_head (head.Spawn from to home number function) = omega arith
+some_head (head.Shift from to waiting home number function) = omega arith
+some_head (head.Back from to waiting) = omega arith
+some_head (head.Report from to number) = omega arith
+
+all_of : (f : Frame) → StandsAt (spelling f) 0 (head_bytes (head_of f) ++ rest_of f)
+all_of f = record { rest = []; is = spelled f ∙ sym (append-nil (head_bytes (head_of f) ++ rest_of f)) }
+
+after_head : (f : Frame) → StandsAt (spelling f) (length (head_bytes (head_of f))) (rest_of f)
+after_head f = later (spelling f) 0 (length (head_bytes (head_of f))) (length (head_bytes (head_of f))) (head_bytes (head_of f)) (rest_of f) refl (omega arith) (all_of f)
+
+pub head_part : (f : Frame) (h : Head) → h ≡ head_of f → IsPart (spelling f) 0 (head_bytes h)
+head_part f h e = rw e (part_at (spelling f) 0 (head_bytes (head_of f)) (some_head (head_of f)) (narrow (spelling f) 0 (head_bytes (head_of f)) (rest_of f) (all_of f)))
+
+-- ---- the graph
+
+-- the parts of a graph stand from a place on, behind its sizes
+record HasGraphAt (bytes : List ℕ) (at : ℕ) (g : Graph) : Type 0 where
+  roots : StandsAt bytes (at + 8) (flat_map item_bytes g.roots)
+  texts : StandsAt bytes (at + 8 + length (flat_map item_bytes g.roots)) (flat_map blob_bytes g.texts)
+  rails : StandsAt bytes (at + 8 + length (flat_map item_bytes g.roots) + length (flat_map blob_bytes g.texts)) (flat_map blob_bytes g.rails)
+  nodes : StandsAt bytes (at + 8 + length (flat_map item_bytes g.roots) + length (flat_map blob_bytes g.texts) + length (flat_map blob_bytes g.rails)) (flat_map node_bytes g.nodes)
+
+graph_at : (bytes : List ℕ) (at : ℕ) (g : Graph) → StandsAt bytes at (graph_bytes g) → HasGraphAt bytes at g
+unfolding graph_bytes
+graph_at bytes at g s =
+    let roots = flat_map item_bytes g.roots in
+    let texts = flat_map blob_bytes g.texts in
+    let rails = flat_map blob_bytes g.rails in
+    let nodes = flat_map node_bytes g.nodes in
+    let first = at + 8 in
+    let second = first + length roots in
+    let third = second + length texts in
+    let sizes = sizes_bytes (length g.roots) (length g.texts) (length g.rails) (length g.nodes) in
+    let behind = later bytes at 8 first sizes (roots ++ (texts ++ (rails ++ nodes))) refl refl s in
+    let from_texts = later bytes first (length roots) second roots (texts ++ (rails ++ nodes)) refl refl behind in
+    let from_rails = later bytes second (length texts) third texts (rails ++ nodes) refl refl from_texts in
+    record {
+      roots = narrow bytes first roots (texts ++ (rails ++ nodes)) behind;
+      texts = narrow bytes second texts (rails ++ nodes) from_texts;
+      rails = narrow bytes third rails nodes from_rails;
+      nodes = later bytes third (length rails) (third + length rails) rails nodes refl refl from_rails;
+    }
+
+nothing_at : (bytes : List ℕ) (at : ℕ) → StandsAt bytes at []
+nothing_at bytes at = record { rest = drop at bytes; is = refl }
+
+graph_stands : (f : Frame) → HasGraphAt (spelling f) (length (head_bytes (head_of f))) (graph_of f)
+graph_stands (Spawn from to home number function graph) = graph_at _ _ graph (after_head (Spawn from to home number function graph))
+graph_stands (Shift from to waiting home number function graph) = graph_at _ _ graph (after_head (Shift from to waiting home number function graph))
+graph_stands (Back from to waiting graph) = graph_at _ _ graph (after_head (Back from to waiting graph))
+graph_stands (Report from to number sent received) = record { roots = nothing_at _ _; texts = nothing_at _ _; rails = nothing_at _ _; nodes = nothing_at _ _ }
+
+-- ---- the counts
+
+counts_stand : (f : Frame) → StandsAt (spelling f) (counts_from f) (counts_bytes (sent_of f) ++ counts_bytes (received_of f))
+counts_stand (Spawn from to home number function graph) = nothing_at _ _
+counts_stand (Shift from to waiting home number function graph) = nothing_at _ _
+counts_stand (Back from to waiting graph) = nothing_at _ _
+counts_stand (Report from to number sent received) = later _ _ 2 _ (to_be_bytes w16 (length sent)) (counts_bytes sent ++ counts_bytes received) refl refl (after_head (Report from to number sent received))
+
+count_part : (bytes : List ℕ) (at i n : ℕ) (counts : List ℕ) → StandsAt bytes at (counts_bytes counts) → slice_get counts i ≡ Some n → IsPart bytes (at + 4 * i) (to_be_bytes w32 n)
+count_part bytes at i n counts s e =
+    let here = item_here (to_be_bytes w32) bytes at counts i n s e in
+    part_at bytes (at + 4 * i) (to_be_bytes w32 n) (omega arith) (subst (λ k. StandsAt bytes (at + k) (to_be_bytes w32 n)) (before_it (to_be_bytes w32) 4 (λ m. refl) counts i n e) here)
+
+-- ---- what the accessors hand out
+
+item_some : (x : Item) → 0 < length (item_bytes x)
+unfolding item_bytes
+item_some x = omega arith
+
+node_some : (n : Node) → 0 < length (node_bytes n)
+unfolding node_bytes
+node_some n = omega arith
+
+-- a text or a rail, behind its length
+blob_part : (bytes : List ℕ) (at : ℕ) (blob : List ℕ) → StandsAt bytes at (blob_bytes blob) → IsPart bytes (at + 4) blob
+unfolding blob_bytes
+blob_part bytes at blob s =
+    let back = later bytes at 4 (at + 4) (to_be_bytes w32 (length blob)) blob refl refl s in
+    let small : at + (4 + length blob) ≤ length bytes = omega (arith, place_small bytes at (to_be_bytes w32 (length blob) ++ blob) (omega arith) s) in
+    record { end = omega (arith, small); is = sym (range_is bytes (at + 4) (at + 4 + length blob) blob refl back) }
+
+pub root_part : (f : Frame) (i : ℕ) (x : Item) → slice_get (graph_of f).roots i ≡ Some x → IsPart (spelling f) (place_of_root f i) (item_bytes x)
+root_part f i x e = part_at (spelling f) (place_of_root f i) (item_bytes x) (item_some x) (item_here item_bytes (spelling f) (roots_from f) (graph_of f).roots i x (graph_stands f).roots e)
+
+pub text_part : (f : Frame) (i : ℕ) (text : List ℕ) → slice_get (graph_of f).texts i ≡ Some text → IsPart (spelling f) (place_of_text f i) text
+text_part f i text e = blob_part (spelling f) _ text (item_here blob_bytes (spelling f) (texts_from f) (graph_of f).texts i text (graph_stands f).texts e)
+
+pub rail_part : (f : Frame) (i : ℕ) (rail : List ℕ) → slice_get (graph_of f).rails i ≡ Some rail → IsPart (spelling f) (place_of_rail f i) rail
+rail_part f i rail e = blob_part (spelling f) _ rail (item_here blob_bytes (spelling f) (rails_from f) (graph_of f).rails i rail (graph_stands f).rails e)
+
+pub node_part : (f : Frame) (i : ℕ) (n : Node) → slice_get (graph_of f).nodes i ≡ Some n → IsPart (spelling f) (place_of_node f i) (node_bytes n)
+node_part f i n e = part_at (spelling f) (place_of_node f i) (node_bytes n) (node_some n) (item_here node_bytes (spelling f) (nodes_from f) (graph_of f).nodes i n (graph_stands f).nodes e)
+
+pub sent_part : (f : Frame) (place n : ℕ) → slice_get (sent_of f) place ≡ Some n → IsPart (spelling f) (place_of_sent f place) (to_be_bytes w32 n)
+sent_part f place n e = count_part (spelling f) (counts_from f) place n (sent_of f) (narrow (spelling f) (counts_from f) (counts_bytes (sent_of f)) (counts_bytes (received_of f)) (counts_stand f)) e
+
+pub received_part : (f : Frame) (place n : ℕ) → slice_get (received_of f) place ≡ Some n → IsPart (spelling f) (place_of_received f place) (to_be_bytes w32 n)
+received_part f place n e =
+    let long : 4 * length (sent_of f) ≡ length (counts_bytes (sent_of f)) = sym (length-items (to_be_bytes w32) 4 (λ m. refl) (sent_of f)) in
+    let there = later (spelling f) (counts_from f) (4 * length (sent_of f)) (counts_from f + 4 * length (sent_of f)) (counts_bytes (sent_of f)) (counts_bytes (received_of f)) long refl (counts_stand f) in
+    count_part (spelling f) (counts_from f + 4 * length (sent_of f)) place n (received_of f) there e

@@ -1,0 +1,38 @@
+-- What comes last changes what came before last; and whom a frame's message is for.
+use Rattle.std.proofs.Common.{◌≡◌, true, [], ◌∷◌, ◌++◌, Some, refl, sym, ap, ◌∙◌, append_assoc, eq-eqb}
+use Rattle.std.proofs.lemmas.List.Concat.{flat_map-cons}
+use Rattle.x10_model.specs.Places as places
+use Rattle.x10_model.specs.Places.{Finish, Message}
+use Rattle.x10_model.specs.Worlds.{same_finish}
+use Rattle.x10_model.specs.Frames as frames
+use Rattle.x10_model.specs.Frames.{Frame}
+use Rattle.x10_model.specs.Totals.{totals_after}
+use Rattle.x10_model.specs.Logs.{events_of_turn, events_of}
+use Rattle.x10_model.specs.Laws.{TotalsGoOn, ReportsAreDue, LogsGoOn, FramesCarryTo}
+
+pub totals_go_on : TotalsGoOn
+totals_go_on f t [] h = refl
+totals_go_on f t (g ∷ hs) h = totals_go_on f (totals_after f t g) hs h
+
+same_self : (f : Finish) → same_finish f f ≡ true
+same_self f = rw (eq-eqb f.home f.home refl, eq-eqb f.number f.number refl) refl
+
+pub reports_are_due : ReportsAreDue
+reports_are_due here f t back message = (rw same_self refl, refl)
+
+pub logs_go_on : LogsGoOn
+logs_go_on [] second = refl
+logs_go_on (t ∷ turns) second =
+    flat_map-cons events_of_turn t (turns ++ second)
+    ∙ ap (λ es. events_of_turn t ++ es) (logs_go_on turns second)
+    ∙ sym (append_assoc (events_of_turn t) (events_of turns) (events_of second))
+    ∙ ap (λ es. es ++ events_of second) (sym (flat_map-cons events_of_turn t turns))
+
+same_message : (m n : Message) → Some m ≡ Some n → m ≡ n
+same_message m n e = cc
+
+pub frames_carry_to : FramesCarryTo
+frames_carry_to (frames.Spawn from to home number function graph) m e = ap places.receiver (sym (same_message _ m e))
+frames_carry_to (frames.Shift from to waiting home number function graph) m e = ap places.receiver (sym (same_message _ m e))
+frames_carry_to (frames.Back from to waiting graph) m e = ap places.receiver (sym (same_message _ m e))
+frames_carry_to (frames.Report from to number sent received) m e = absurd cc

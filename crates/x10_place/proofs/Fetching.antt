@@ -1,0 +1,160 @@
+-- Instructions as they are fetched for a frame, and what operations of one frame ask of them.
+use Rattle.std.proofs.Common.{◌≡◌, ◌≢◌, ℕ, ◌+◌, ◌<◌, ◌≤◌, ◌^◌, List, length, Option, Some, None, refl, sym, ap, subst, ◌∙◌, arith}
+use Rattle.std.specs.Prelude.{ℤ, slice_get, slice_set, nat_lt, if◌then◌else◌, Bool, true, false}
+use Rattle.std.proofs.Math.ListN.{length-set}
+use Rattle.x10_code.specs.declared.op.Op.{Op}
+use Rattle.x10_code.specs.declared.op.Op.TheVariants as op
+use Rattle.x10_code.specs.declared.instr.Instr.{Instr}
+use Rattle.x10_code.specs.Table.{form_of}
+use Rattle.x10_model.specs.Modules.{Module, Function, FitsFunction, FitsImage}
+use Rattle.x10_model.specs.Ranges.{function_at, instr_at, instr_in, IsThere, IsInRange}
+use Rattle.x10_image.specs.Parts.{code_in, code_at}
+use Rattle.x10_verify.proofs.Wholes.{function_fits, some_below}
+use Rattle.x10_place.specs.declared.route.Local.{Local}
+use Rattle.x10_place.specs.declared.route.Local.TheVariants as local
+use Rattle.x10_place.specs.declared.route.Route.{Route}
+use Rattle.x10_place.specs.declared.route.Route.TheVariants as route
+use Rattle.x10_place.specs.declared.route.Division.TheVariants as division
+use Rattle.x10_place.specs.declared.route.Number.TheVariants as number
+use Rattle.x10_heap.specs.Heaps.{HeapState}
+use Rattle.x10_model.specs.Moves.{is_zero}
+use Rattle.x10_place.specs.Frames.{Workspace, Becomes, HasSizes, IsWithin, IsFetched, Takes, Acts, Asks, int_at, turns_left}
+use Rattle.x10_place.specs.Routes.{route_of}
+
+pub sizes : (classes : ℕ) (f : Function) → FitsFunction classes f → HasSizes classes f
+sizes classes f fits = record { parameters = fits.parameters; registers = fits.registers; room = fits.room; loops = fits.loops; slots = fits.slots; result = fits.result; length = fits.length }
+
+-- ---- what is there
+
+-- the function of a frame that stands at an instruction
+pub function_within : (program : Module) (index at count n : ℕ) → IsWithin program index at count → n ≡ index → n < length program.functions
+function_within program index at count n h e = subst (λ k. k < length program.functions) (sym e) (some_below program.functions index h.function h.is_function)
+
+pub pc_within : (program : Module) (index at count n pc : ℕ) → IsWithin program index at count → n ≡ index → pc ≡ at → pc < length (code_at program n)
+pc_within program index at count n pc h e g =
+    let here : at < length (code_at program index) = subst (λ o. at < length (code_in o)) (sym h.is_function) h.pc in
+    subst (λ k. k < length (code_at program n)) (sym g) (subst (λ k. at < length (code_at program k)) (sym e) here)
+
+-- an instruction, and what is known of it where it was fetched by a function and a number
+pub record IsRefetched (program : Module) (index at f pc : ℕ) (i : Instr) : Type 0 where
+  pub function_is : f ≡ index
+  pub pc_is : pc ≡ at
+  pub value : instr_at program f pc ≡ Some i
+  pub in_range : (function : Function) → function_at program f ≡ Some function → IsInRange program function i
+  pub follows : i.op ≢ op.Ret → pc + 1 < length (code_at program f)
+
+pub value_at : (program : Module) (index at f pc : ℕ) (i : Instr) → IsRefetched program index at f pc i → instr_at program index at ≡ Some i
+value_at program index at f pc i r = subst (λ n. instr_at program n at ≡ Some i) r.function_is (subst (λ n. instr_at program f n ≡ Some i) r.pc_is r.value)
+
+pub fetched_within : (program : Module) (index at count f pc : ℕ) (i : Instr) → FitsImage program → IsWithin program index at count → IsRefetched program index at f pc i → IsFetched program index at count i
+fetched_within program index at count f pc i fits inside r = record {
+  function = inside.function;
+  is_function = inside.is_function;
+  is_instr = subst (λ o. instr_in o at ≡ Some i) inside.is_function (value_at program index at f pc i r);
+  in_range = r.in_range inside.function (subst (λ k. function_at program k ≡ Some inside.function) (sym r.function_is) inside.is_function);
+  sizes = sizes (length program.classes) inside.function (function_fits program index inside.function fits inside.is_function);
+  registers = inside.registers;
+  next = λ ne. subst (λ o. at + 1 < length (code_in o)) inside.is_function (subst (λ k. at + 1 < length (code_at program k)) r.function_is (subst (λ k. k + 1 < length (code_at program f)) r.pc_is (r.follows ne)));
+}
+
+-- ---- operations of one frame
+
+-- such an operation is no return
+pub local_no_return : (o : Op) (l : Local) → route_of o ≡ route.Local l → o ≢ op.Ret
+local_no_return o l e f = absurd (let g : route.Return ≡ route.Local l = ap route_of (sym f) ∙ e in cc)
+
+module _ (program : Module) (index at count : ℕ) (i : Instr) (h : IsFetched program index at count i) where
+  abbrev Named : Op → Type 0
+  Named o = IsThere program h.function i (form_of o).a i.a × IsThere program h.function i (form_of o).b i.b × IsThere program h.function i (form_of o).c i.c × IsThere program h.function i (form_of o).x i.x
+
+  named : (o : Op) → i.op ≡ o → Named o
+  named o e = let r = h.in_range in subst Named e (r.a, r.b, r.c, r.x)
+
+  pub local_next : (l : Local) → route_of i.op ≡ route.Local l → at + 1 < length h.function.code
+  local_next l e = h.next (local_no_return i.op l e)
+
+  pub next_small : at + 1 < length h.function.code → at + 1 < 2 ^ 16
+  next_small lt = omega (arith, lt, h.sizes.length.1)
+
+  asks_at : (k l : Local) → route.Local k ≡ route.Local l → Asks k program count i → Asks l program count i
+  asks_at k l e asked = subst (λ q. Asks q program count i) (let same : k ≡ l = cc in same) asked
+
+  asks_by : (o : Op) (l : Local) → Named o → route_of o ≡ route.Local l → Asks l program count i
+  asks_by op.Intk l n r = asks_at (local.Number number.Constant) l r ((omega (arith, n.0, h.registers), n.3))
+  asks_by op.Add l n r = asks_at (local.Number number.Sum) l r ((omega (arith, n.0, h.registers), omega (arith, n.1, h.registers), omega (arith, n.2, h.registers)))
+  asks_by op.Sub l n r = asks_at (local.Number number.Difference) l r ((omega (arith, n.0, h.registers), omega (arith, n.1, h.registers), omega (arith, n.2, h.registers)))
+  asks_by op.Mul l n r = asks_at (local.Number number.Product) l r ((omega (arith, n.0, h.registers), omega (arith, n.1, h.registers), omega (arith, n.2, h.registers)))
+  asks_by op.Lt l n r = asks_at (local.Number number.Less) l r ((omega (arith, n.0, h.registers), omega (arith, n.1, h.registers), omega (arith, n.2, h.registers)))
+  asks_by op.Eq l n r = asks_at (local.Number number.Equal) l r ((omega (arith, n.0, h.registers), omega (arith, n.1, h.registers), omega (arith, n.2, h.registers)))
+  asks_by op.Div l n r = asks_at (local.Division division.Quotient) l r ((omega (arith, n.0, h.registers), omega (arith, n.1, h.registers), omega (arith, n.2, h.registers), omega (arith, n.3, h.sizes.length.1)))
+  asks_by op.Rem l n r = asks_at (local.Division division.Remainder) l r ((omega (arith, n.0, h.registers), omega (arith, n.1, h.registers), omega (arith, n.2, h.registers), omega (arith, n.3, h.sizes.length.1)))
+  asks_by op.Move l n r = asks_at local.Copy l r ((omega (arith, n.0, h.registers), omega (arith, n.1, h.registers)))
+  asks_by op.Jmp l n r = asks_at local.Jump l r (omega (arith, n.3, h.sizes.length.1))
+  asks_by op.Jz l n r = asks_at local.JumpIfZero l r ((omega (arith, n.0, h.registers), omega (arith, n.3, h.sizes.length.1)))
+  asks_by op.Loop l n r = asks_at local.Loop l r (omega (arith, n.0, h.sizes.loops))
+  asks_by op.Endl l n r = asks_at local.EndLoop l r ((omega (arith, n.0, h.sizes.loops), omega (arith, n.3, h.sizes.length.1)))
+  asks_by _ l n r = absurd cc
+
+  pub local_asks : (l : Local) → route_of i.op ≡ route.Local l → Asks l program count i
+  local_asks l r = asks_by i.op l (named i.op refl) r
+
+  -- a target is an instruction of the function
+  abbrev pub Targets : Local → Type 0
+  Targets (local.Division d) = i.x < length h.function.code
+  Targets local.Jump = i.x < length h.function.code
+  Targets local.JumpIfZero = i.x < length h.function.code
+  Targets local.EndLoop = i.x < length h.function.code
+  Targets _ = Unit {0}
+
+  targets_at : (k l : Local) → route.Local k ≡ route.Local l → Targets k → Targets l
+  targets_at k l e target = subst Targets (let same : k ≡ l = cc in same) target
+
+  targets_by : (o : Op) (l : Local) → Named o → route_of o ≡ route.Local l → Targets l
+  targets_by op.Intk l n r = targets_at (local.Number number.Constant) l r tt
+  targets_by op.Add l n r = targets_at (local.Number number.Sum) l r tt
+  targets_by op.Sub l n r = targets_at (local.Number number.Difference) l r tt
+  targets_by op.Mul l n r = targets_at (local.Number number.Product) l r tt
+  targets_by op.Lt l n r = targets_at (local.Number number.Less) l r tt
+  targets_by op.Eq l n r = targets_at (local.Number number.Equal) l r tt
+  targets_by op.Div l n r = targets_at (local.Division division.Quotient) l r n.3
+  targets_by op.Rem l n r = targets_at (local.Division division.Remainder) l r n.3
+  targets_by op.Move l n r = targets_at local.Copy l r tt
+  targets_by op.Jmp l n r = targets_at local.Jump l r n.3
+  targets_by op.Jz l n r = targets_at local.JumpIfZero l r n.3
+  targets_by op.Loop l n r = targets_at local.Loop l r tt
+  targets_by op.Endl l n r = targets_at local.EndLoop l r n.3
+  targets_by _ l n r = absurd cc
+
+  pub local_targets : (l : Local) → route_of i.op ≡ route.Local l → Targets l
+  local_targets l r = targets_by i.op l (named i.op refl) r
+
+-- ---- where the frame stands afterwards
+
+module _ (program : Module) (index : ℕ) (v : Workspace) (i : Instr) (h : IsFetched program index v.pc (length v.words) i) where
+  lands : (w : Workspace) (pc : ℕ) (words loops : List ℕ) (heap : HeapState) → Becomes w pc words loops heap → pc < length h.function.code → length words ≡ length v.words → IsWithin program index w.pc (length w.words)
+  lands w pc words loops heap b lt same = record {
+    function = h.function;
+    is_function = h.is_function;
+    pc = subst (λ n. n < length h.function.code) (sym b.pc_is) lt;
+    registers = subst (λ n. h.function.registers ≤ n) (sym (ap length b.words_are ∙ same)) h.registers;
+  }
+
+  next_or : (b : Bool) (x n count : ℕ) → x < count → n < count → (if b then x else n) < count
+  next_or true x n count lx ln = lx
+  next_or false x n count lx ln = ln
+
+  takes_within : (z : Option ℤ) (w : Workspace) → Takes v i z w → v.pc + 1 < length h.function.code → i.x < length h.function.code → IsWithin program index w.pc (length w.words)
+  takes_within (Some z) w t next target = lands w _ _ _ _ t.2 next (simp length-set refl)
+  takes_within None w t next target = lands w _ _ _ _ t target refl
+
+  within_by : (l : Local) (w : Workspace) → Acts l program v i w → v.pc + 1 < length h.function.code → Targets program index v.pc (length v.words) i h l → IsWithin program index w.pc (length w.words)
+  within_by (local.Number n) w acts next target = lands w _ _ _ _ acts.2.2 next (simp length-set refl)
+  within_by (local.Division d) w acts next target = takes_within acts.0 w acts.2 next target
+  within_by local.Copy w acts next target = lands w _ _ _ _ acts next (simp length-set refl)
+  within_by local.Jump w acts next target = lands w _ _ _ _ acts target refl
+  within_by local.JumpIfZero w acts next target = lands w _ _ _ _ acts (next_or (is_zero (int_at v.words i.a)) i.x (v.pc + 1) (length h.function.code) target next) refl
+  within_by local.Loop w acts next target = lands w _ _ _ _ acts next refl
+  within_by local.EndLoop w acts next target = lands w _ _ _ _ acts (next_or (nat_lt 0 (turns_left v.loops i.a)) i.x (v.pc + 1) (length h.function.code) target next) refl
+
+  pub local_within : (l : Local) (w : Workspace) → route_of i.op ≡ route.Local l → Acts l program v i w → IsWithin program index w.pc (length w.words)
+  local_within l w r acts = within_by l w acts (local_next program index v.pc (length v.words) i h l r) (local_targets program index v.pc (length v.words) i h l r)

@@ -1,0 +1,97 @@
+-- Steps of a stay are steps of its place, and a place stands for some place of the machine after each of them.
+use Rattle.std.proofs.Common.{◌≡◌, ℕ, zero, suc, ◌+◌, Bool, true, false, List, [], ◌∷◌, Option, Some, None, refl, sym, ap, subst, ◌∙◌}
+use Rattle.std.specs.Prelude.{slice_index_or, slice_set}
+use Rattle.slab.specs.Slab.{Slab, get, Updates, with_value}
+use Rattle.x10_code.specs.declared.instr.Instr.{Instr}
+use Rattle.x10_model.specs.Modules.{FitsImage}
+use Rattle.x10_model.specs.Places as machine
+use Rattle.x10_place.specs.Frames.{IsFetchedFor}
+use Rattle.x10_place.specs.Routes.{route_of}
+use Rattle.x10_place.specs.Stays.{StayState, StoreState, Steps}
+use Rattle.x10_place.specs.StandsFor.{PlaceState, store_of, with_stays, StandsFor, IsStanding, LeadsAll, Keeps}
+use Rattle.x10_place.specs.Stretches.{IsStep, Stretch, still, further, EndsStretch, IsStride, Strides, at_once, onward}
+use Rattle.x10_place.proofs.Maps.{none_some}
+use Rattle.x10_place.proofs.Steps.{kept_if, step_leads}
+use Rattle.x10_place.proofs.Keeping.{written}
+
+-- ---- slabs
+
+set_same : (slots : List (Option StayState)) (key : ℕ) (a : StayState) → slice_index_or slots key None ≡ Some a → slice_set slots key (Some a) ≡ slots
+set_same [] key a e = absurd (none_some None a refl e)
+set_same (o ∷ slots) zero a e = ap (λ x. x ∷ slots) (sym e)
+set_same (o ∷ slots) (suc key) a e = ap (λ xs. o ∷ xs) (set_same slots key a e)
+
+pub with_same : (slab : Slab StayState) (key : ℕ) (a : StayState) → get slab key ≡ Some a → with_value slab key a ≡ slab
+with_same slab key a e = ap (λ (slots : List (Option StayState)). record slab { slots = slots }) (set_same slab.slots key a e)
+
+-- another stay in place of the one written
+rewritten : (slab : Slab StayState) (key : ℕ) (a b c : StayState) → get slab key ≡ Some a → Updates (with_value slab key b) (with_value slab key c) key (Some c)
+rewritten slab key a b c e = record {
+  changed = (written slab key a c e).changed;
+  others = λ k ne. (written slab key a c e).others k ne ∙ sym ((written slab key a b e).others k ne);
+}
+
+-- ---- strides
+
+a_stride : (p : PlaceState) (key : ℕ) (a b : StayState) (slab : Slab StayState) (t : StoreState) (goes : Bool) → FitsImage p.program → get p.stays key ≡ Some a → IsStep p.program a (store_of p) goes b t → Updates p.stays slab key (kept_if goes b) → IsStride key p (with_stays p slab t)
+a_stride p key a b slab t goes image e step up = record {
+  there = (a, e);
+  leads = step_leads p key slab t a b goes step.instr e image step.fetched step.steps up;
+  kept = record { program = refl; bounds = refl; id = refl; places = refl };
+  stopped = refl;
+}
+
+-- the steps of a stay are steps of its place
+strides : (p : PlaceState) (key : ℕ) (a : StayState) (n : ℕ) (b : StayState) (t : StoreState) → FitsImage p.program → get p.stays key ≡ Some a → Stretch p.program a (store_of p) n b t → Strides key p n (with_stays p (with_value p.stays key b) t)
+strides p key a n b t image e (still) = subst (λ slab. Strides key p 0 (with_stays p slab (store_of p))) (sym (with_same p.stays key a e)) at_once
+strides p key a n b t image e (further k c d before after stretch step) =
+    let at = with_stays p (with_value p.stays key c) before in
+    onward k at (with_stays p (with_value p.stays key d) after) (strides p key a k c before image e stretch)
+    (a_stride at key c d (with_value p.stays key d) after true image ((written p.stays key a c e).changed) step (rewritten p.stays key a c d e))
+
+pub strides_on : (p v : PlaceState) (key : ℕ) (a : StayState) (n : ℕ) (b : StayState) (t : StoreState) → p ≡ v → FitsImage p.program → get p.stays key ≡ Some a → Stretch p.program a (store_of p) n b t → Strides key v n (with_stays p (with_value p.stays key b) t)
+strides_on p v key a n b t seen image e stretch = subst (λ u. Strides key u n (with_stays p (with_value p.stays key b) t)) seen (strides p key a n b t image e stretch)
+
+-- the last one ends the stay
+pub strides_end : (p v : PlaceState) (key : ℕ) (a : StayState) (n : ℕ) (b : StayState) (t : StoreState) (slab : Slab StayState) → p ≡ v → FitsImage p.program → get p.stays key ≡ Some a → EndsStretch p.program a (store_of p) n b t → Updates (with_value p.stays key b) slab key None
+    → Strides key v n (with_stays p slab t)
+strides_end p v key a n b t slab seen image e ends up =
+    let q = with_stays p slab t in
+    let at = with_stays p (with_value p.stays key ends.last) ends.kept in
+    let there = (written p.stays key a ends.last e).changed in
+    let gone : Updates (with_value p.stays key ends.last) slab key None = record {
+      changed = up.changed;
+      others = λ k ne. up.others k ne ∙ (written p.stays key a b e).others k ne ∙ sym ((written p.stays key a ends.last e).others k ne);
+    } in
+    subst (λ u. Strides key u n q) seen (subst (λ k. Strides key p k q) (sym ends.count)
+    (onward ends.before at q (strides p key a ends.before ends.last ends.kept image e ends.stretch) (a_stride at key ends.last b slab t false image there ends.ends gone)))
+
+-- ---- some place of the machine is stood for
+
+abbrev any : ℕ → ℕ → ℕ → Bool
+any home id class = true
+
+pub standing_after : (p q : PlaceState) (key : ℕ) → IsStanding p → LeadsAll p key q → IsStanding q
+standing_after p q key s leads = let led = leads any s.0 s.1 in (led.1.0, led.1.2)
+
+pub strides_standing : (p : PlaceState) (key n : ℕ) (q : PlaceState) → IsStanding p → Strides key p n q → IsStanding q
+strides_standing p key n q s (at_once) = s
+strides_standing p key n q s (onward k r t far stride) = standing_after r q key (strides_standing p key k r s far) stride.leads
+
+-- whether the place has stopped is nothing to the machine
+pub stopped_stands : (far : ℕ → ℕ → ℕ → Bool) (p : PlaceState) (m : machine.Place) (b : Bool) → StandsFor far p m → StandsFor far (record p { stopped = b }) m
+stopped_stands far p m b s = record { assigned = s.assigned; none = s.none; some = s.some; within = s.within; heap = s.heap; exports = s.exports; opened = s.opened; lines = s.lines; no_texts = s.no_texts }
+
+pub stopped_standing : (p : PlaceState) (b : Bool) → IsStanding p → IsStanding (record p { stopped = b })
+stopped_standing p b s = (s.0, stopped_stands any p s.0 b s.1)
+
+-- a refused step has changed nothing but that
+pub refused_standing : (p : PlaceState) (key : ℕ) (a b : StayState) (t : StoreState) → get p.stays key ≡ Some a → b ≡ a → t ≡ store_of p → IsStanding p → IsStanding (record (with_stays p (with_value p.stays key b) t) { stopped = true })
+refused_standing p key a b t e same kept s =
+    subst (λ (c : StayState). IsStanding (record (with_stays p (with_value p.stays key c) t) { stopped = true })) (sym same)
+    (subst (λ (slab : Slab StayState). IsStanding (record (with_stays p slab t) { stopped = true })) (sym (with_same p.stays key a e))
+    (subst (λ (u : StoreState). IsStanding (record (with_stays p p.stays u) { stopped = true })) (sym kept) (stopped_standing p true s)))
+
+-- a place that has stopped
+pub same_stopped : (p : PlaceState) → p.stopped ≡ true → p ≡ record p { stopped = true }
+same_stopped p e = ap (λ b. record p { stopped = b }) e

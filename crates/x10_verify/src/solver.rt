@@ -1,0 +1,83 @@
+//! Whether a function has a consistent assignment: the least solution over its instructions, from a list of those that
+//! wait, the least first.
+ghost use Rattle.std.specs.Prelude.{◌≡◌, ◌⊎◌, ◌+◌, ◌<◌, ◌≤◌, ℕ, length, MatchResult, IfErr, IfOk, Some, slice_get, Ok};
+ghost use Rattle.x10_image.specs.Parts.{code_at};
+ghost use Rattle.x10_model.specs.Assignments.{HasAssignment};
+ghost use Rattle.x10_model.specs.Modules.{Module, Function};
+ghost use Rattle.x10_model.specs.Ranges.{function_at};
+ghost use Rattle.x10_verify.specs.Named.{HasNames};
+ghost use Rattle.x10_verify.specs.Solving.{Steps};
+ghost use Rattle.x10_verify.specs.States.{IsFresh, total};
+ghost use Rattle.x10_verify.specs.Causes.{IsFound};
+
+use crate::entry::entry;
+use crate::fault::FlowCause;
+use crate::states::{Entry, arrive, clear, is_waiting};
+use crate::step::step;
+use x10_image::ImageView;
+use x10_model::Slot;
+
+/// A rule that does not hold, and where.
+#[derive(Clone, Copy, Debug, PartialEq, Eq)]
+pub(crate) struct FlowFault {
+    pub(crate) cause: FlowCause,
+    pub(crate) pc: usize,
+}
+
+/// A function has a consistent assignment, or some rule fails in every one. The table comes and goes without a state.
+/// Code without loops is walked once; an instruction in loops as often as what is known before it changes, and once.
+pub(crate) fn check_function(
+    image: &ImageView,
+    f: usize,
+    table: &mut Vec<Entry>,
+) -> Result<(), FlowFault>
+    requires there { f < length image.now.functions }
+    requires names { HasNames image.now f }
+    requires room { length (code_at image.now f) ≤ length table.old.items }
+    requires fresh { IsFresh table.old.items }
+    ensures decides { (function : Function) → function_at image.now f ≡ Some function → MatchResult result (λ _. HasAssignment image.now function) (λ _. HasAssignment image.now function → ⊥) }
+    ensures cause { (function : Function) → function_at image.now f ≡ Some function → IfErr result (λ fault. IsFound image.now function fault.pc fault.cause) }
+    ensures small { IfErr result (λ fault. fault.pc ≤ 4096) }
+    ensures fresh { IfOk result (λ _. IsFresh table.new.items) }
+    ensures size { IfOk result (λ _. length table.new.items ≡ length table.old.items) }
+{
+    let signature = image.signature(f);
+    let slot = signature.result();
+    let len = image.code_len(f);
+    let first = entry(&signature);
+    first.narrow();
+    arrive(table, 0, &first);
+    let mut at = 0;
+    while at < len {
+        match pass(image, f, slot, at, len, table) {
+            Err(cause) => return Err(FlowFault { cause, pc: at }),
+            Ok(next) => at = next,
+        }
+    }
+    clear(table, len);
+    Ok(())
+}
+
+// The instruction at the front, if it waits.
+fn pass(
+    image: &ImageView,
+    f: usize,
+    slot: Option<Slot>,
+    at: usize,
+    len: usize,
+    table: &mut Vec<Entry>,
+) -> Result<usize, FlowCause>
+    requires there { f < length image.now.functions }
+    requires names { HasNames image.now f }
+    requires len { len ≡ length (code_at image.now f) }
+    requires at { at < len }
+    requires room { len ≤ length table.old.items }
+    ensures steps { (function : Function) → function_at image.now f ≡ Some function → function.result ≡ slot → Steps image.now function at table.old.items result table.new.items }
+    ensures size { IfOk result (λ _. length table.new.items ≡ length table.old.items) }
+    ensures falls { IfOk result (λ next. ((next ≡ at + 1) × (total table.new.items ≤ total table.old.items)) ⊎ ((next ≤ at) × (total table.new.items < total table.old.items))) }
+{
+    if !is_waiting(table, at) {
+        return Ok(at + 1);
+    }
+    step(image, slot, image.instr(f, at), at, len, table)
+}

@@ -1,0 +1,10 @@
+; The most texts.
+;
+; $ x10p verify 65535_texts.x10
+; verified 1 functions, entry bound 1
+places 1
+{{65535 * text ""}}
+func 1 0 none
+RET 0
+end
+entry 0

@@ -1,0 +1,12 @@
+; No instruction has this name.
+;
+; $ x10p asm unknown.asm unknown.x10
+; status 1: asm: line 9 Word
+places 1
+int 7
+func 1 0 none
+INTK 0 0
+PRNT 0
+RET 0
+end
+entry 0

@@ -1,0 +1,12 @@
+; It prints 7.
+;
+; $ x10p run other_line.x10
+; 0: 8
+places 1
+int 7
+func 1 0 none
+INTK 0 0
+PRINT 0
+RET 0
+end
+entry 0

@@ -1,0 +1,9 @@
+; A case has a command.
+places 1
+int 7
+func 1 0 none
+INTK 0 0
+PRINT 0
+RET 0
+end
+entry 0
