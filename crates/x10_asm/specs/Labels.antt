@@ -4,7 +4,7 @@ use Rattle.std.specs.Str.{bytes_eq}
 use Rattle.std.specs.List.{list_all}
 use Rattle.x10_code.specs.Table.{op_of_name}
 use Rattle.x10_code.specs.declared.op.Op.{Op}
-use Rattle.x10_model.specs.Modules.{is_brought}
+use Rattle.x10_model.specs.Modules.{is_supported}
 
 abbrev pub is_letter : ℕ → Bool
 is_letter c = (nat_le 65 c && nat_le c 90) || (nat_le 97 c && nat_le c 122) || c == 95
@@ -25,12 +25,12 @@ abbrev pub label_name : List ℕ → List ℕ
 label_name word = take (length word - 1) word
 
 -- an operation that a module may have
-abbrev pub brought_op : Option Op → Option Op
-brought_op None = None
-brought_op (Some o) = if is_brought o then Some o else None
+abbrev pub supported_op : Option Op → Option Op
+supported_op None = None
+supported_op (Some o) = if is_supported o then Some o else None
 
 abbrev pub op_of_word : List ℕ → Option Op
-op_of_word word = brought_op (op_of_name word)
+op_of_word word = supported_op (op_of_name word)
 
 -- a name, the line that defines it, and the index of the next instruction
 pub record Label : Type 0 where

@@ -11,7 +11,7 @@ ghost use Rattle.x10_asm.specs.Statements.{first_word, other_words};
 use crate::label::ends_in_colon;
 use crate::split::{begins, next_word};
 use x10_code::{Op, op_named};
-use x10_image::is_brought;
+use x10_image::is_supported;
 
 /// What a line says, by its first word.
 #[derive(Clone, Copy, Debug, PartialEq, Eq)]
@@ -51,7 +51,7 @@ fn op_of_word(word: &str) -> Option<Op>
     ensures { result ≡ labels.op_of_word word.now }
 {
     match named(word) {
-        Some(op) if is_brought(op) => Some(op),
+        Some(op) if is_supported(op) => Some(op),
         _ => None,
     }
 }

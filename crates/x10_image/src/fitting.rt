@@ -9,7 +9,7 @@ ghost use Rattle.x10_model.specs.ReadingImages.{is_within, is_entry};
 ghost use Rattle.x10_image.specs.Written as written;
 ghost use Rattle.x10_image.specs.Written.{function_shown, Passes, Hinders};
 
-use crate::brought::is_brought;
+use crate::supported::is_supported;
 use crate::fault::ImageFault;
 use crate::module::{Function, Module};
 use x10_code::{Instr, has_spelling};
@@ -152,7 +152,7 @@ fn items_fit(source: &Module) -> bool
 fn instr_fits(instr: Instr) -> bool
     ensures { result ≡ written.instr_fits instr }
 {
-    has_spelling(instr) && is_brought(instr.op)
+    has_spelling(instr) && is_supported(instr.op)
 }
 
 fn entry_fits(functions: &[Function], entry: u16) -> bool

@@ -1,7 +1,6 @@
 //! Images of modules: reading them in place, and writing them.
 #![tactic(auto)]
 
-mod brought;
 mod class_view;
 mod fault;
 mod fields;
@@ -12,15 +11,16 @@ mod module;
 mod offsets;
 mod parts;
 mod sig_view;
+mod supported;
 mod tables;
 mod view;
 mod writing;
 
-pub use brought::is_brought;
 pub use class_view::ClassView;
 pub use fault::ImageFault;
 pub use fitting::signature_fits;
 pub use module::{Function, Module};
 pub use sig_view::SigView;
+pub use supported::is_supported;
 pub use view::ImageView;
 pub use writing::write;

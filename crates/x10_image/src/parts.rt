@@ -4,7 +4,7 @@ ghost use Rattle.x10_model.specs.Readers.{int, times, numbered};
 ghost use Rattle.x10_model.specs.ReadingImages.{Short, kind_at, slot_at, class_at, text_at, instruction_at, function_at};
 ghost use Rattle.x10_image.specs.Faults.{Passes};
 
-use crate::brought::is_brought;
+use crate::supported::is_supported;
 use crate::fault::ImageFault;
 use crate::fields::{
     after_zero_byte, after_zero_u16, byte_at, byte_at_most, has, registers_at, u16_at, u16_within,
@@ -76,7 +76,7 @@ fn past_instruction(bytes: &[u8], function: u16, pc: u16) -> Result<&[u8], Image
     }
     let (front, rest) = bytes.split_at(8);
     match decode_slice(front) {
-        Ok(instr) if is_brought(instr.op) => Ok(rest),
+        Ok(instr) if is_supported(instr.op) => Ok(rest),
         _ => Err(ImageFault::Code(function, pc)),
     }
 }

@@ -13,10 +13,10 @@ use Rattle.x10_code.specs.declared.op.Op.TheVariants as op
 use Rattle.x10_code.specs.Table.{code_of}
 use Rattle.x10_code.specs.Spelling.{decoded, IsInstr, spelling as instruction}
 use Rattle.x10_code.proofs.Instructions.{decoded_again, decoded_takes, length-spelling}
-use Rattle.x10_model.specs.Modules.{FitsClass, FitsText, IsBrought, is_brought}
+use Rattle.x10_model.specs.Modules.{FitsClass, FitsText, IsSupported, is_supported}
 use Rattle.x10_model.specs.Images.{kind_bytes, class_bytes, text_bytes}
 use Rattle.x10_model.specs.Readers.{IsBytes}
-use Rattle.x10_model.specs.ReadingImages.{Short, Count, Text, Code, is_within, class_at, text_at, brought, instruction_at}
+use Rattle.x10_model.specs.ReadingImages.{Short, Count, Text, Code, is_within, class_at, text_at, supported, instruction_at}
 use Rattle.x10_model.proofs.ReaderLaws.{Reads, then_reads, given_reads, check_reads, need_reads, such_that_reads, fits_as}
 use Rattle.x10_model.proofs.PartLaws.{bytes_below, IsBytes-cons, part_reads, part_reads_any, byte_reads, number_reads, each_reads, wide16}
 use Rattle.x10_model.proofs.KindLaws.{kind_reads, length-kind_bytes}
@@ -67,19 +67,19 @@ instruction_small : (i : Instr) → IsInstr i → IsBytes (instruction i)
 unfolding instruction
 instruction_small i fits = four_small (code_of i.op) i.a i.b i.c (to_be_bytes w32 i.x) (code_of-lt i.op) fits.a fits.b fits.c (bytes_below 4 i.x)
 
-brought_again : (i : Instr) → IsBrought i → brought (decoded (instruction i)) ≡ Some i
-brought_again i fits = rw (decoded_again i fits.instr, fits.brought) refl
+supported_again : (i : Instr) → IsSupported i → supported (decoded (instruction i)) ≡ Some i
+supported_again i fits = rw (decoded_again i fits.instr, fits.supported) refl
 
-brought_means : (bytes : List ℕ) (o : Result Instr CodeFault) (i : Instr) → length bytes ≡ 8 → IsBytes bytes → decoded bytes ≡ o → brought o ≡ Some i → (instruction i ≡ bytes) × IsBrought i
-brought_means bytes (Ok j) i len small is e =
-    let h = cond_some (is_brought j.op) j i e in
+supported_means : (bytes : List ℕ) (o : Result Instr CodeFault) (i : Instr) → length bytes ≡ 8 → IsBytes bytes → decoded bytes ≡ o → supported o ≡ Some i → (instruction i ≡ bytes) × IsSupported i
+supported_means bytes (Ok j) i len small is e =
+    let h = cond_some (is_supported j.op) j i e in
     let t = decoded_takes bytes j len small is in
-    subst (λ (k : Instr). (instruction k ≡ bytes) × IsBrought k) h.1 (sym t.1, record { instr = t.0; brought = h.0 })
-brought_means bytes (Err f) i len small is e = absurd cc
+    subst (λ (k : Instr). (instruction k ≡ bytes) × IsSupported k) h.1 (sym t.1, record { instr = t.0; supported = h.0 })
+supported_means bytes (Err f) i len small is e = absurd cc
 
-pub instruction_reads : (function pc : ℕ) → Reads (instruction_at function pc) instruction IsBrought
+pub instruction_reads : (function pc : ℕ) → Reads (instruction_at function pc) instruction IsSupported
 unfolding instruction_at
 instruction_reads function pc =
-    given_reads (λ bytes. brought (decoded bytes)) (λ _. Code function pc) instruction (part_reads 8 Short)
-    (λ i fits. ((length-spelling i, instruction_small i fits.instr), brought_again i fits))
-    (λ bytes i h e. brought_means bytes (decoded bytes) i h.0 h.1 refl e)
+    given_reads (λ bytes. supported (decoded bytes)) (λ _. Code function pc) instruction (part_reads 8 Short)
+    (λ i fits. ((length-spelling i, instruction_small i fits.instr), supported_again i fits))
+    (λ bytes i h e. supported_means bytes (decoded bytes) i h.0 h.1 refl e)

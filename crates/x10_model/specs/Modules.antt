@@ -31,29 +31,29 @@ pub record Module : Type 0 where
   pub entry : ℕ
 
 -- the operations that the reader takes so far
-abbrev pub is_brought : Op → Bool
-is_brought op.Intk = true
-is_brought op.Add = true
-is_brought op.Sub = true
-is_brought op.Mul = true
-is_brought op.Div = true
-is_brought op.Rem = true
-is_brought op.Lt = true
-is_brought op.Eq = true
-is_brought op.Move = true
-is_brought op.Jmp = true
-is_brought op.Jz = true
-is_brought op.Loop = true
-is_brought op.Endl = true
-is_brought op.Call = true
-is_brought op.Ret = true
-is_brought op.Print = true
-is_brought _ = false
+abbrev pub is_supported : Op → Bool
+is_supported op.Intk = true
+is_supported op.Add = true
+is_supported op.Sub = true
+is_supported op.Mul = true
+is_supported op.Div = true
+is_supported op.Rem = true
+is_supported op.Lt = true
+is_supported op.Eq = true
+is_supported op.Move = true
+is_supported op.Jmp = true
+is_supported op.Jz = true
+is_supported op.Loop = true
+is_supported op.Endl = true
+is_supported op.Call = true
+is_supported op.Ret = true
+is_supported op.Print = true
+is_supported _ = false
 
 -- an instruction that a module may have
-pub record IsBrought (i : Instr) : Type 0 where
+pub record IsSupported (i : Instr) : Type 0 where
   pub instr : IsInstr i
-  pub brought : IsTrue (is_brought i.op)
+  pub supported : IsTrue (is_supported i.op)
 
 -- the kind names no class that isn't there
 abbrev pub NamesClassBelow : ℕ → Kind → Type 0
@@ -87,7 +87,7 @@ pub record FitsFunction (classes : ℕ) (f : Function) : Type 0 where
   pub slots : AllByRecursion (FitsSlot classes) f.parameters
   pub result : IfSome f.result (FitsSlot classes)
   pub length : (1 ≤ length f.code) × (length f.code ≤ MOST_INSTRUCTIONS)
-  pub code : AllByRecursion IsBrought f.code
+  pub code : AllByRecursion IsSupported f.code
 
 -- the entry function takes nothing and gives nothing
 pub record IsEntry (f : Function) : Type 0 where

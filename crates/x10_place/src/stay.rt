@@ -1,7 +1,7 @@
 //! The stay of an activity at this place, and one step of it.
 ghost use Rattle.std.specs.Prelude.{◌≡◌, ◌≢◌, ◌+◌, ◌<◌, ◌≤◌, ◌^◌, IsTrue, OnErr, OnOk, IfOk, length};
 ghost use Rattle.x10_code.specs.declared.op.Op.TheVariants as op;
-ghost use Rattle.x10_model.specs.Modules.{is_brought};
+ghost use Rattle.x10_model.specs.Modules.{is_supported};
 ghost use Rattle.x10_place.specs.Frames.{IsFetchedFor};
 ghost use Rattle.x10_place.specs.Routes.{route_of};
 ghost use Rattle.x10_place.specs.Stays.{IsPlaced, Calls, Returns, Prints, Steps};
@@ -113,7 +113,7 @@ impl Stay {
     ) -> Result<bool, AllocError>
         requires placed { IsPlaced verified.now.program self.old }
         requires fetched { IsFetchedFor verified.now.program self.old.top instr }
-        requires brought { IsTrue (is_brought instr.op) }
+        requires supported { IsTrue (is_supported instr.op) }
         ensures ok { IfOk result (λ goes. Steps (route_of instr.op) verified.now.program self.old store.old instr goes self.new store.new) }
         ensures err { OnErr result ((self.new ≡ self.old) × (store.new ≡ store.old)) }
     {

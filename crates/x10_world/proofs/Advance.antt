@@ -6,7 +6,7 @@ use Rattle.x10_code.specs.declared.op.Op.{Op}
 use Rattle.x10_code.specs.declared.op.Op.TheVariants as op
 use Rattle.x10_code.specs.Table.{form_of}
 use Rattle.x10_model.specs.Maps.{with_entry}
-use Rattle.x10_model.specs.Modules.{Module, is_brought}
+use Rattle.x10_model.specs.Modules.{Module, is_supported}
 use Rattle.x10_model.specs.Ranges.{function_at, instr_in}
 use Rattle.x10_model.specs.Structure.{bounds_of, cost, is_call, is_target}
 use Rattle.x10_model.specs.Places as places
@@ -24,24 +24,24 @@ pub record IsBounded (program : Module) (bounds : List ℕ) : Type 0 where
   pub bounds_are : bounds_of program ≡ Ok bounds
 
 -- the operations that an image may have are local
-pub brought_stays : (o : Op) → is_brought o ≡ true → stays_put o ≡ true
-brought_stays op.Intk e = refl
-brought_stays op.Add e = refl
-brought_stays op.Sub e = refl
-brought_stays op.Mul e = refl
-brought_stays op.Div e = refl
-brought_stays op.Rem e = refl
-brought_stays op.Lt e = refl
-brought_stays op.Eq e = refl
-brought_stays op.Move e = refl
-brought_stays op.Jmp e = refl
-brought_stays op.Jz e = refl
-brought_stays op.Loop e = refl
-brought_stays op.Endl e = refl
-brought_stays op.Call e = refl
-brought_stays op.Ret e = refl
-brought_stays op.Print e = refl
-brought_stays _ e = absurd cc
+pub supported_stays : (o : Op) → is_supported o ≡ true → stays_put o ≡ true
+supported_stays op.Intk e = refl
+supported_stays op.Add e = refl
+supported_stays op.Sub e = refl
+supported_stays op.Mul e = refl
+supported_stays op.Div e = refl
+supported_stays op.Rem e = refl
+supported_stays op.Lt e = refl
+supported_stays op.Eq e = refl
+supported_stays op.Move e = refl
+supported_stays op.Jmp e = refl
+supported_stays op.Jz e = refl
+supported_stays op.Loop e = refl
+supported_stays op.Endl e = refl
+supported_stays op.Call e = refl
+supported_stays op.Ret e = refl
+supported_stays op.Print e = refl
+supported_stays _ e = absurd cc
 
 -- ---- what a step takes
 

@@ -23,7 +23,7 @@ use Rattle.x10_place.specs.StandsFor.{PlaceState, StandsFor, Leads, Keeps}
 use Rattle.x10_place.proofs.Striding.{stopped_stands}
 use Rattle.x10_world.specs.Tied.{stays_put, Tied}
 use Rattle.x10_world.specs.StandsForWorld.{WorldState, BelongsTo, BelongTo, IsWorld, NoneStopped, setting_of, KeepsSetting, StandsForWorld, IsStepped, StepsOne, Makes}
-use Rattle.x10_world.proofs.Advance.{IsBounded, brought_stays, move_advances}
+use Rattle.x10_world.proofs.Advance.{IsBounded, supported_stays, move_advances}
 use Rattle.x10_world.proofs.Ties.{at_key, off_key, world_after, tied_after}
 
 none_some : {X : Type 0} (o : Option X) (x : X) → o ≡ None → o ≡ Some x → ⊥
@@ -71,7 +71,7 @@ bounded_is c certified = record { local = λ f pc instr e. local f pc instr (fun
   where
     local : (f pc : ℕ) (instr : Instr) (o : Option Function) → function_at c.program f ≡ o → instr_in o pc ≡ Some instr → stays_put instr.op ≡ true
     local f pc instr None is e = absurd cc
-    local f pc instr (Some function) is e = brought_stays instr.op (all_at _ function.code pc instr (function_fits c.program f function certified.fits is).code e).brought
+    local f pc instr (Some function) is e = supported_stays instr.op (all_at _ function.code pc instr (function_fits c.program f function certified.fits is).code e).supported
 
 -- ---- moves
 

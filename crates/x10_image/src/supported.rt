@@ -4,8 +4,8 @@ ghost use Rattle.x10_model.specs.Modules as model;
 use x10_code::Op;
 
 /// Whether an image may have instructions of the operation. Constant time.
-pub fn is_brought(op: Op) -> bool
-    ensures value { result ≡ model.is_brought op }
+pub fn is_supported(op: Op) -> bool
+    ensures value { result ≡ model.is_supported op }
 {
     matches!(
         op,
