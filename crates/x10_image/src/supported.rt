@@ -24,6 +24,18 @@ pub fn is_supported(op: Op) -> bool
             | Op::Endl
             | Op::Call
             | Op::Ret
+            | Op::Textk
+            | Op::Tlen
+            | Op::Tcat
+            | Op::New
+            | Op::Get
+            | Op::Put
+            | Op::Null
+            | Op::Ifobj
+            | Op::Rail
+            | Op::Rget
+            | Op::Rset
+            | Op::Rlen
             | Op::Print
     )
 }
