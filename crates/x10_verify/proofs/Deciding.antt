@@ -1,5 +1,5 @@
 -- From what was asked and found to whether a rule holds.
-use Rattle.std.proofs.Common.{◌≡◌, ℕ, zero, suc, ◌+◌, ◌<◌, ◌≤◌, List, [], ◌∷◌, length, Option, Some, None, Result, Ok, Err, refl, sym, ap, subst, ◌∙◌, arith}
+use Rattle.std.proofs.Common.{◌≡◌, ℕ, ◌+◌, ◌<◌, ◌≤◌, List, length, Option, Some, None, Result, Ok, Err, refl, sym, ap, subst, ◌∙◌, arith}
 use Rattle.std.specs.Prelude.{slice_get, IfErr, MatchResult}
 use Rattle.std.specs.Result.{IsErr}
 use Rattle.std.proofs.lemmas.Option.{same_Some, slice_get_within}

@@ -14,7 +14,7 @@ use Rattle.x10_verify.specs.Knowledge.{SameState}
 pub in_function : (program : Module) (f pc : ℕ) (function : Function) (instr : Instr) → function_at program f ≡ Some function → instr_at program f pc ≡ Some instr → slice_get function.code pc ≡ Some instr
 in_function program f pc function instr e i = subst (λ (o : Option Function). instr_in o pc ≡ Some instr) e i
 
-same_function : (program : Module) (f : ℕ) (g function : Function) → function_at program f ≡ Some g → function_at program f ≡ Some function → g ≡ function
+pub same_function : (program : Module) (f : ℕ) (g function : Function) → function_at program f ≡ Some g → function_at program f ≡ Some function → g ≡ function
 same_function program f g function e h = same_Some g function (sym e ∙ h)
 
 -- the function's code is that of the view

@@ -15,3 +15,4 @@ pub mod Solving
 pub mod Stepped
 pub mod InFunction
 pub mod Solved
+pub mod Prints

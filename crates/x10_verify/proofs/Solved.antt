@@ -1,17 +1,18 @@
 -- The beginning and the end of the work list, and why it ends.
-use Rattle.std.proofs.Common.{◌≡◌, ◌⊎◌, ℕ, zero, suc, ◌+◌, ◌-◌, ◌*◌, ◌<◌, ◌≤◌, Bool, true, false, List, length, Option, Some, None, refl, sym, ap, subst, ◌∙◌, inl, inr, arith}
+use Rattle.std.proofs.Common.{◌≡◌, ◌⊎◌, ℕ, zero, suc, ◌+◌, ◌-◌, ◌*◌, ◌<◌, ◌≤◌, Bool, true, false, List, length, Some, None, refl, sym, ap, subst, ◌∙◌, inl, inr, arith}
 use Rattle.std.specs.Prelude.{slice_get}
 use Rattle.std.proofs.Math.Nat.{suc-mul}
 use Rattle.std.proofs.lemmas.Bool.{cases_eq, cases_lt}
 use Rattle.std.proofs.lemmas.Option.{same_Some}
 use Rattle.x10_model.specs.Modules.{Module, Function}
-use Rattle.x10_model.specs.Assignments.{State, IsState, HasAssignment, entry_state}
+use Rattle.x10_model.specs.Assignments.{State, IsState, entry_state}
 use Rattle.x10_verify.specs.declared.known.Known.{Known}
 use Rattle.x10_verify.specs.declared.states.Entry.{Entry}
 use Rattle.x10_verify.specs.Effects.{IsKept, IsNarrow}
 use Rattle.x10_verify.specs.Known.{entered, state_of}
 use Rattle.x10_verify.specs.Knowledge as knowledge
 use Rattle.x10_verify.specs.Knowledge.{LeastAt, SameState}
+use Rattle.x10_verify.specs.Least.{IsLeast}
 use Rattle.x10_verify.specs.Solving.{Solves}
 use Rattle.x10_verify.specs.States.{state_in, stated, waits, IsFresh, IsMetIn, Arrives}
 use Rattle.x10_verify.proofs.Below.{IsBelow-trans, SameState-below, SameState-sym}
@@ -67,18 +68,18 @@ begins program function known old new changed some fresh arrives same state narr
     }
 
 -- none waits any more
-pub solved : (program : Module) (function : Function) (at len : ℕ) (table : List Entry) → length function.code ≡ len → len ≤ at → Solves program function at table → HasAssignment program function
-solved program function at len table size le h = (
-  stated table,
-  record {
+pub solved : (program : Module) (function : Function) (at len : ℕ) (table : List Entry) → length function.code ≡ len → len ≤ at → Solves program function at table → IsLeast program function (stated table)
+solved program function at len table size le h = record {
+  consistent = record {
     entry = h.entry;
     valid = λ pc s e. (h.kept pc s e).state;
     permitted = λ pc s e. elim (cases_lt pc len) [
       | inl lt ↦ h.settled pc s e (h.behind pc (omega arith))
       | inr ge ↦ absurd (none_some (stated table pc) s (h.inside pc (omega arith)) e)
     ];
-  },
-)
+  };
+  below = λ pc s e a. (h.least pc s e).below a.0 a.1;
+}
 
 -- and nothing is left of the function
 pub cleared : (program : Module) (function : Function) (at len : ℕ) (old new : List Entry) → length function.code ≡ len → Solves program function at old → ((q : ℕ) → q < len → state_in (slice_get new q) ≡ None) → ((q : ℕ) → len ≤ q → slice_get new q ≡ slice_get old q) → IsFresh new

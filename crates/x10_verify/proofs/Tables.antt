@@ -1,8 +1,6 @@
 -- The rows of the table are right: what they set names what there may be, and what stands for a place.
-use Rattle.std.proofs.Common.{◌≡◌, ℕ, zero, suc, ◌<◌, true, List, [], ◌∷◌, length, Option, Some, None, refl, subst, arith}
-use Rattle.std.specs.Prelude.{slice_get, IfSome}
-use Rattle.std.specs.List.{AllByRecursion}
-use Rattle.std.proofs.lemmas.Option.{same_Some}
+use Rattle.std.proofs.Common.{◌≡◌, ℕ, ◌<◌, true, length, Option, Some, None, refl, subst, arith}
+use Rattle.std.specs.Prelude.{IfSome}
 use Rattle.x10_kinds.specs.declared.kind.Kind.{Kind}
 use Rattle.x10_kinds.specs.declared.homes.Term.{Term}
 use Rattle.x10_kinds.specs.declared.homes.Term.TheVariants as term

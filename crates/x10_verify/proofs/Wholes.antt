@@ -1,7 +1,6 @@
 -- All instructions of a function, and all functions of a module.
 use Rattle.std.proofs.Common.{◌≡◌, ◌≢◌, ◌⊎◌, ℕ, zero, suc, ◌+◌, ◌<◌, ◌≤◌, true, List, [], ◌∷◌, length, get_or, max, Option, Some, None, refl, sym, ap, subst, ◌∙◌, inl, inr, arith}
 use Rattle.std.specs.Prelude.{slice_get}
-use Rattle.std.specs.List.{AllByRecursion}
 use Rattle.std.proofs.lemmas.Bool.{cases_lt}
 use Rattle.x10_code.specs.declared.op.Op.{Op}
 use Rattle.x10_code.specs.declared.op.Op.TheVariants as op
@@ -14,6 +13,7 @@ use Rattle.x10_model.specs.Modules.{Module, Function, FitsFunction, FitsImage}
 use Rattle.x10_model.specs.Ranges.{function_at, instr_at, instr_in, IsThere, IsInRange, IsResultRegister, result_for, result_of}
 use Rattle.x10_model.specs.Assignments.{AreInRange, HasAssignment}
 use Rattle.x10_verify.specs.Named.{IsNamed, IsResultNamed, HasNames}
+use Rattle.x10_verify.specs.Least.{HasLeast}
 use Rattle.x10_verify.specs.Verdict.{AreInRangeTo, IsOutAt, IsFirstOut, IsFirstWithout}
 use Rattle.std.specs.Prelude.{Ok, slice_index}
 use Rattle.std.proofs.lemmas.Option.{same_Some, slice_get_within, slice_get_past}
@@ -60,6 +60,9 @@ all_in_range m n le h f pc function instr e i =
 
 pub all_functions : (m : Module) (P : Function → Type 0) (n : ℕ) → length m.functions ≤ n → ((g : ℕ) (function : Function) → g < n → function_at m g ≡ Some function → P function) → (f : ℕ) (function : Function) → function_at m f ≡ Some function → P function
 all_functions m P n le h f function e = let lt = slice_get_within m.functions f function e in h f function (omega arith) e
+
+pub least_assigns : (m : Module) (function : Function) → HasLeast m function → HasAssignment m function
+least_assigns m function least = (least.0, least.1.consistent)
 
 -- ---- functions and instructions
 

@@ -4,6 +4,8 @@ pub mod Ranges
 pub mod Verdict
 pub mod Faults
 pub mod Certified
+pub mod Least
+pub mod Printing
 pub mod Named
 pub mod Rules
 pub mod Causes

@@ -9,6 +9,7 @@ mod known;
 mod merge;
 mod objects;
 mod places;
+mod printing;
 mod ranges;
 mod solver;
 mod states;

@@ -5,13 +5,16 @@ ghost use Rattle.x10_image.specs.Parts.{code_at};
 ghost use Rattle.x10_model.specs.Assignments.{HasAssignment};
 ghost use Rattle.x10_model.specs.Modules.{Module, Function};
 ghost use Rattle.x10_model.specs.Ranges.{function_at};
+ghost use Rattle.x10_verify.specs.Least.{HasLeast};
 ghost use Rattle.x10_verify.specs.Named.{HasNames};
+ghost use Rattle.x10_verify.specs.Printing.{AreNoted, bit_in};
 ghost use Rattle.x10_verify.specs.Solving.{Steps};
 ghost use Rattle.x10_verify.specs.States.{IsFresh, total};
 ghost use Rattle.x10_verify.specs.Causes.{IsFound};
 
 use crate::entry::entry;
 use crate::fault::FlowCause;
+use crate::printing::note;
 use crate::states::{Entry, arrive, clear, is_waiting};
 use crate::step::step;
 use x10_image::ImageView;
@@ -24,22 +27,27 @@ pub(crate) struct FlowFault {
     pub(crate) pc: usize,
 }
 
-/// A function has a consistent assignment, or some rule fails in every one. The table comes and goes without a state.
-/// Code without loops is walked once; an instruction in loops as often as what is known before it changes, and once.
+/// A function has a consistent assignment, or some rule fails in every one. The table comes and goes without a state; the
+/// row gets the answers of which instructions print a text. Code without loops is walked once; an instruction in loops as
+/// often as what is known before it changes, and once.
 pub(crate) fn check_function(
     image: &ImageView,
     f: usize,
     table: &mut Vec<Entry>,
+    row: &mut Vec<bool>,
 ) -> Result<(), FlowFault>
     requires there { f < length image.now.functions }
     requires names { HasNames image.now f }
     requires room { length (code_at image.now f) ≤ length table.old.items }
     requires fresh { IsFresh table.old.items }
-    ensures decides { (function : Function) → function_at image.now f ≡ Some function → MatchResult result (λ _. HasAssignment image.now function) (λ _. HasAssignment image.now function → ⊥) }
+    requires row { length row.old.items ≡ length (code_at image.now f) }
+    ensures decides { (function : Function) → function_at image.now f ≡ Some function → MatchResult result (λ _. HasLeast image.now function) (λ _. HasAssignment image.now function → ⊥) }
+    ensures noted { IfOk result (λ _. AreNoted image.now (bit_in row.new.items) f) }
     ensures cause { (function : Function) → function_at image.now f ≡ Some function → IfErr result (λ fault. IsFound image.now function fault.pc fault.cause) }
     ensures small { IfErr result (λ fault. fault.pc ≤ 4096) }
     ensures fresh { IfOk result (λ _. IsFresh table.new.items) }
     ensures size { IfOk result (λ _. length table.new.items ≡ length table.old.items) }
+    ensures row { length row.new.items ≡ length row.old.items }
 {
     let signature = image.signature(f);
     let slot = signature.result();
@@ -54,6 +62,7 @@ pub(crate) fn check_function(
             Ok(next) => at = next,
         }
     }
+    note(image, f, table, row);
     clear(table, len);
     Ok(())
 }

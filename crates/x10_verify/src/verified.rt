@@ -1,14 +1,20 @@
-ghost use Rattle.std.specs.Prelude.{◌≡◌, ◌≢◌, ◌+◌, ◌<◌, IfOk, IfErr, Some, length, slice_get};
+ghost use Rattle.std.specs.Prelude.{◌≡◌, ◌≢◌, ◌↔◌, ◌+◌, ◌<◌, ℕ, IfOk, IfErr, IsFalse, IsTrue, Some, length, slice_get};
 ghost use Rattle.std.specs.List.{flat_map};
+ghost use Rattle.x10_code.specs.declared.instr.Instr as instrs;
 ghost use Rattle.x10_code.specs.declared.op.Op.TheVariants as op;
 ghost use Rattle.x10_code.specs.Spelling.{spelling as instruction};
 ghost use Rattle.x10_image.specs.Parts.{code_at};
+ghost use Rattle.x10_kinds.specs.declared.kind.Kind.TheVariants as kind;
+ghost use Rattle.x10_model.specs.Assignments.{HasAssignment, IsKind, State};
 ghost use Rattle.x10_model.specs.Modules.{Function, IsSupported};
 ghost use Rattle.x10_model.specs.Ranges.{function_at, instr_at, IsInRange};
 ghost use Rattle.x10_verify.specs.Certified.{IsCertified};
 ghost use Rattle.x10_verify.specs.Faults.{Refutes};
+ghost use Rattle.x10_verify.specs.Least.{HasLeast, IsReached};
+ghost use Rattle.x10_verify.specs.Printing.{PrintsText};
 
 use crate::fault::{VerifyCause, VerifyFault, memory, structure};
+use crate::printing::{blank_rows, noted};
 use crate::states::blank;
 use crate::whole::{check_flow, check_ranges, longest};
 use std::alloc::Global;
@@ -23,22 +29,25 @@ use x10_image::ImageView;
 pub struct Verified<'a> {
     image: ImageView<'a>,
     bounds: Vec<u64>,
+    // For each function, whether each of its instructions is a PRINT of a text.
+    rows: Vec<Vec<bool>>,
 }
 
 impl<'a> Model for Verified<'a> {
-    ghost use Rattle.x10_verify.specs.Certified.{Certified, IsCertified};
+    ghost use Rattle.x10_verify.specs.Certified.{Certified};
+    ghost use Rattle.x10_verify.specs.Printing.{IsKnownWell};
 
     ghost Value = { Certified };
 
     ghost view = { λ a. record { program = a.image; bounds = a.bounds.items } };
 
-    ghost invariant = { λ a. IsCertified (record { program = a.image; bounds = a.bounds.items }) };
+    ghost invariant = { λ a. IsKnownWell (record { program = a.image; bounds = a.bounds.items }) a.rows.items };
 }
 
 /// Verifies a module: memory aside, yes exactly where its structure holds, all that it names is there and each function
-/// has a consistent assignment. Takes 8 bytes for each function and, while it works, 0.5 kB for each instruction of the
-/// longest; and time linear in the instructions, but for those in loops that are looked at again: as often as what is
-/// known before them changes.
+/// has a consistent assignment. Takes 32 bytes for each function and one for each instruction and, while it works, 0.5 kB
+/// for each instruction of the longest function; and time linear in the instructions, but for those in loops that are
+/// looked at again: as often as what is known before them changes.
 pub fn verify<'a>(alloc: Global, image: ImageView<'a>) -> Result<Verified<'a>, VerifyFault>
     ensures ok { IfOk result (λ v. (v.program ≡ image.entry) × IsCertified v) }
     ensures err { IfErr result (Refutes image.entry) }
@@ -57,7 +66,10 @@ pub fn verify<'a>(alloc: Global, image: ImageView<'a>) -> Result<Verified<'a>, V
     let Ok(mut table) = blank(alloc, longest(&image)) else {
         return Err(memory());
     };
-    if let Err((function, fault)) = check_flow(&image, &mut table) {
+    let Ok(mut rows) = blank_rows(alloc, &image) else {
+        return Err(memory());
+    };
+    if let Err((function, fault)) = check_flow(&image, &mut table, &mut rows) {
         return Err(VerifyFault {
             cause: fault.cause.named(),
             function: function as u16,
@@ -65,7 +77,11 @@ pub fn verify<'a>(alloc: Global, image: ImageView<'a>) -> Result<Verified<'a>, V
         });
     }
     image.fits();
-    Ok(Verified { image, bounds })
+    Ok(Verified {
+        image,
+        bounds,
+        rows,
+    })
 }
 
 impl<'a> Verified<'a> {
@@ -89,6 +105,23 @@ impl<'a> Verified<'a> {
         ensures { IsCertified self.now }
     {
         let _ = &self.bounds;
+    }
+
+    /// That each function has a least assignment, for callers whose own clauses rest on it. It does nothing.
+    pub fn assignments(&self)
+        ensures { (f : ℕ) (function : Function) → function_at self.now.program f ≡ Some function → HasLeast self.now.program function }
+    {
+        let _ = &self.bounds;
+    }
+
+    /// Whether the PRINT at an instruction of a function prints a text: true where the flow reaches it and each consistent
+    /// assignment knows a text in its register; false for a number, and wherever else. Constant time, no memory.
+    pub fn prints_text(&self, f: usize, pc: usize) -> bool
+        ensures exact { IsTrue result ↔ PrintsText self.now.program f pc }
+        ensures text { IsTrue result → (function : Function) → function_at self.now.program f ≡ Some function → (i : instrs.Instr) → slice_get function.code pc ≡ Some i → (a : HasAssignment self.now.program function) (s : State) → a.0 pc ≡ Some s → IsKind s i.a kind.Text }
+        ensures number { IsFalse result → (function : Function) → function_at self.now.program f ≡ Some function → IsReached self.now.program function pc → (i : instrs.Instr) → slice_get function.code pc ≡ Some i → i.op ≡ op.Print → (a : HasAssignment self.now.program function) (s : State) → a.0 pc ≡ Some s → IsKind s i.a kind.Int }
+    {
+        noted(&self.rows, f, pc)
     }
 
     /// An instruction, with all that is known of it. Constant time, no memory.

@@ -2,9 +2,11 @@
 ghost use Rattle.std.specs.Prelude.{◌≡◌, ◌<◌, ℕ, length, MatchOption, MatchResult, Some, IfOk, IfErr, IfSome, ◌≤◌};
 ghost use Rattle.x10_model.specs.Modules.{Function};
 ghost use Rattle.x10_model.specs.Ranges.{function_at};
-ghost use Rattle.x10_model.specs.Assignments.{AreInRange, HasAssignment};
+ghost use Rattle.x10_model.specs.Assignments.{AreInRange};
 ghost use Rattle.x10_image.specs.Parts.{code_at};
 ghost use Rattle.x10_verify.specs.Faults.{IsFoundIn};
+ghost use Rattle.x10_verify.specs.Least.{HasLeast};
+ghost use Rattle.x10_verify.specs.Printing.{AreNoted, HasRows, bit_at};
 ghost use Rattle.x10_verify.specs.States.{IsFresh};
 ghost use Rattle.x10_verify.specs.Verdict.{AreInRangeTo, IsOutAt, IsFirstOut, IsFirstWithout};
 
@@ -62,22 +64,26 @@ pub(crate) fn longest(image: &ImageView) -> usize
     longest
 }
 
-/// Whether each function has a consistent assignment; else the first that has none. The table has room for the longest.
+/// Whether each function has a consistent assignment; else the first that has none. The table has room for the longest;
+/// the rows get the answers of which instructions print a text.
 pub(crate) fn check_flow(
     image: &ImageView,
     table: &mut Vec<Entry>,
+    rows: &mut Vec<Vec<bool>>,
 ) -> Result<(), (usize, FlowFault)>
     requires range { AreInRange image.now }
+    requires rows { HasRows image.now rows.old.items }
     requires room { (f : ℕ) → length (code_at image.now f) ≤ length table.old.items }
     requires fresh { IsFresh table.old.items }
-    ensures ok { IfOk result (λ _. (f : ℕ) (function : Function) → function_at image.now f ≡ Some function → HasAssignment image.now function) }
+    ensures ok { IfOk result (λ _. (f : ℕ) (function : Function) → function_at image.now f ≡ Some function → HasLeast image.now function) }
+    ensures noted { IfOk result (λ _. (f : ℕ) → AreNoted image.now (bit_at rows.new.items f) f) }
     ensures err { IfErr result (λ at. IsFirstWithout image.now at.0) }
     ensures cause { IfErr result (λ at. IsFoundIn image.now at.0 at.1.pc at.1.cause) }
     ensures small { IfErr result (λ at. (at.0 < 256) × (at.1.pc ≤ 4096)) }
 {
     image.fits();
     for function in 0..image.functions() {
-        if let Err(fault) = check_function(image, function, table) {
+        if let Err(fault) = check_function(image, function, table, &mut rows[function]) {
             return Err((function, fault));
         }
     }

@@ -1,6 +1,8 @@
 use Rattle.std.proofs.Common.{◌≡◌, length, arith}
 use Rattle.x10_verify.specs.Known.{state_of}
 use Rattle.x10_verify.proofs.InFunction.{code_length, same_entry, same_result}
+use Rattle.x10_verify.specs.States.{stated}
+use Rattle.x10_verify.proofs.Prints.{noted_solved}
 use Rattle.x10_verify.proofs.Solved.{begins, solved}
 use Rattle.x10_verify.proofs.Tabled.{arrives_size}
 use Rattle.x10_verify.proofs.solver.check_function.Goals as goal
@@ -15,7 +17,10 @@ loop-at-init c = record {
 }
 
 pub returns-clause-decides : goal.returns-clause-decides
-returns-clause-decides c = λ function there. solved c.args.image.now function c.loop-at.at c.code_len-len.result c.loop-at.table.items (code_length c.args.image.now c.args.f c.code_len-len.result function there c.code_len-len.ensures.value) (omega arith) (c.loop-at.invariant.solves function there)
+returns-clause-decides c = λ function there. (stated c.loop-at.table.items, solved c.args.image.now function c.loop-at.at c.code_len-len.result c.loop-at.table.items (code_length c.args.image.now c.args.f c.code_len-len.result function there c.code_len-len.ensures.value) (omega arith) (c.loop-at.invariant.solves function there))
+
+pub returns-clause-noted : goal.returns-clause-noted
+returns-clause-noted c = noted_solved c.args.image.now c.args.f c.loop-at.at c.code_len-len.result c.loop-at.table.items c.note.new.row.items c.requires.there c.code_len-len.ensures.value (omega arith) c.loop-at.invariant.solves c.note.ensures.noted
 
 pub returns-in-Err-clause-decides : goal.returns-in-Err-clause-decides
 returns-in-Err-clause-decides c = λ function there.

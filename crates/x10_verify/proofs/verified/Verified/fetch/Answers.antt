@@ -6,12 +6,12 @@ use Rattle.x10_verify.proofs.verified.Verified.fetch.Goals as goal
 
 pub returns-clause-in_range : goal.returns-clause-in_range
 returns-clause-in_range c =
-    let certified = subst (λ (v : Certified). IsCertified v) c.self.view_is c.self.invariant in
+    let certified = subst (λ (v : Certified). IsCertified v) c.self.view_is c.self.invariant.certified in
     let value = subst (λ (v : Certified). instr_at v.program c.args.f c.args.pc ≡ Some c.instr.result) c.self.view_is c.instr.ensures.value in
     fetched_in_range c.args.self.now.program c.args.f c.args.pc c.instr.result certified.verified.in_range value
 
 pub returns-clause-follows : goal.returns-clause-follows
 returns-clause-follows c =
-    let certified = subst (λ (v : Certified). IsCertified v) c.self.view_is c.self.invariant in
+    let certified = subst (λ (v : Certified). IsCertified v) c.self.view_is c.self.invariant.certified in
     let value = subst (λ (v : Certified). instr_at v.program c.args.f c.args.pc ≡ Some c.instr.result) c.self.view_is c.instr.ensures.value in
     fetched_follows c.args.self.now.program c.args.self.now.bounds c.args.f c.args.pc c.instr.result certified.verified.bounds_are value
