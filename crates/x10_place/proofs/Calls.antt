@@ -14,16 +14,17 @@ use Rattle.x10_model.specs.Ranges.{function_at, parameters_of, argument_count, A
 use Rattle.x10_model.specs.Values.{Value, Int, Place, Text, Rail, Object, Null, Ref, Cells, IsOfKind}
 use Rattle.x10_model.specs.Signatures.{HasHome, FitsSlotAt, FitSlots}
 use Rattle.x10_model.specs.Places as machine
-use Rattle.x10_model.specs.Places.{Stay, Works, with_stay}
+use Rattle.x10_model.specs.Places.{Setting, Stay, Works, with_stay}
 use Rattle.x10_model.specs.Moves.{Situation, Does, HoldsFrom, place_of, entry_frame}
 use Rattle.x10_model.specs.Assignments.{State, Edges, SlotsFit, FitsAs, parameter_kind, entry_state, Permits}
 use Rattle.x10_verify.proofs.Wholes.{function_fits}
 use Rattle.x10_place.specs.declared.frame.CallFrame.{CallFrame}
+use Rattle.x10_heap.specs.Heaps.{HeapState}
 use Rattle.x10_heap.specs.Words.{Context, IsWordOf, HoldsHeap}
 use Rattle.x10_place.specs.Homes.{AreHomes, place_in}
 use Rattle.x10_place.specs.Frames.{IsFetchedFor, IsEntered}
 use Rattle.x10_place.specs.Stays.{StayState, IsPlaced, Calls}
-use Rattle.x10_place.specs.StandsFor.{PlaceState, context_of, Assigned, HoldRegisters, StandsForFrame, IsAtHome, StandsForStay}
+use Rattle.x10_place.specs.StandsFor.{Far, context, Assigned, HoldRegisters, StandsForFrame, IsAtHome, StandsForStay}
 use Rattle.x10_place.proofs.Maps.{some_is}
 use Rattle.x10_place.proofs.Words.{of_kind, reads, words_weaken}
 use Rattle.x10_place.proofs.Homes.{homes_weaken, homes_entry}
@@ -99,22 +100,22 @@ slot_below [] r want e = absurd cc
 slot_below (slot ∷ slots) zero want e = omega arith
 slot_below (slot ∷ slots) (suc r) want e = let h : r < length slots = slot_below slots r want e in omega arith
 
-module _ (far : ℕ → ℕ → ℕ → Bool) (p : PlaceState) (m : machine.Place) (holds : HoldsHeap (context_of far p) m.cells) (key : ℕ) (a : StayState) (s : Stay) (assigned : Assigned p.program) (h : StandsForStay p.program assigned (context_of far p) a s) (i : Instr) (fetched : IsFetchedFor p.program a.top i) where
+module _ (setting : Setting) (here : ℕ) (far : Far) (m : machine.Place) (key : ℕ) (s : Stay) (assigned : Assigned setting.program) (heap : HeapState) (holds : HoldsHeap (context setting here heap far) m.cells) (a : StayState) (h : StandsForStay setting.program assigned (context setting here heap far) a s) (i : Instr) (fetched : IsFetchedFor setting.program a.top i) where
   abbrev x : Context
-  x = context_of far p
+  x = context setting here heap far
 
   abbrev function : Function
   function = h.top.function
 
   abbrev sit : Situation
-  sit = situated p m key s function i
+  sit = situated setting here m key s function i
 
   -- the callee's frame, at its first instruction
-  entered_stands : (callee : Function) (vs : List Value) (f : CallFrame) → length callee.parameters ≤ 16 → (e : IsEntered p.program a.top.registers.items i f) → function_at p.program i.x ≡ Some callee → PassesWords x m.cells sit a.top.registers.items i.b callee.parameters vs
-      → StandsForFrame p.program assigned x f (entry_frame i.x vs)
+  entered_stands : (callee : Function) (vs : List Value) (f : CallFrame) → length callee.parameters ≤ 16 → (e : IsEntered setting.program a.top.registers.items i f) → function_at setting.program i.x ≡ Some callee → PassesWords x m.cells sit a.top.registers.items i.b callee.parameters vs
+      → StandsForFrame setting.program assigned x f (entry_frame i.x vs)
   entered_stands callee vs f few e is passed =
-      let start = (assigned i.x callee is).1.entry in
-      let state = has_state p.program assigned i.x f.function 0 f.pc start.0 (sym e.function_is) (sym e.pc_is) (callee, is, start.1) in
+      let start = (assigned i.x callee is).1.consistent.entry in
+      let state = has_state setting.program assigned i.x f.function 0 f.pc start.0 (sym e.function_is) (sym e.pc_is) (callee, is, start.1) in
       record {
         function_is = sym e.function_is;
         pc_is = sym e.pc_is;
@@ -123,7 +124,7 @@ module _ (far : ℕ → ℕ → ℕ → Bool) (p : PlaceState) (m : machine.Plac
         state = start.0;
         is_state = state.2;
         words = words_weaken x (entry_state callee) start.0 (slice_get vs) f.registers.items start.2 typed;
-        homes = homes_weaken p.id (entry_state callee) start.0 (slice_get vs) start.2 (homes_entry m.cells p.id callee vs (omega (arith, few)) passed.fit);
+        homes = homes_weaken here (entry_state callee) start.0 (slice_get vs) start.2 (homes_entry m.cells here callee vs (omega (arith, few)) passed.fit);
         slots = ap length e.loops_are;
         loops = λ slot lt. sym (ap (λ ls. slice_index ls slot) e.loops_are ∙ no_turns 8 slot);
       }
@@ -135,17 +136,17 @@ module _ (far : ℕ → ℕ → ℕ → Bool) (p : PlaceState) (m : machine.Plac
           let lt : r < length e.callee.parameters = subst (λ (g : Function). r < length g.parameters) (sym same) (slot_below callee.parameters r want k) in
           (v.0, v.1, subst (λ w. IsWordOf x want w v.0) (sym (e.arguments r lt)) v.2)
 
-  pub call_moves : (b : StayState) (out : Edges) → FitsImage p.program → IsPlaced p.program b → i.op ≡ op.Call → Permits op.Call (point_of p.program function a.top i) h.top.state out → Calls p.program a i b
-      → (t : Stay) × Does op.Call sit (with_stay m key (Some t)) Works × StandsForStay p.program assigned x b t
+  pub call_moves : (b : StayState) (out : Edges) → FitsImage setting.program → IsPlaced setting.program b → i.op ≡ op.Call → Permits op.Call (point_of setting.program function a.top i) h.top.state out → Calls setting.program a i b
+      → (t : Stay) × Does op.Call sit (with_stay m key (Some t)) Works × StandsForStay setting.program assigned x b t
   call_moves b out image placed o permits calls =
       let callee = permits.0 in
       let is = permits.2.0 in
-      let callee-fits = function_fits p.program i.x callee image is in
-      let range = subst (λ q. IsThere p.program function i (form_of q).b i.b) o (in_range p.program assigned x a.top s.top h.top i fetched).b in
-      let count : AreArgumentRegisters function (argument_count p.program i op.Call) i.b = subst (λ q. AreArgumentRegisters function (argument_count p.program i q) i.b) o range in
+      let callee-fits = function_fits setting.program i.x callee image is in
+      let range = subst (λ q. IsThere setting.program function i (form_of q).b i.b) o (in_range setting.program assigned x a.top s.top h.top i fetched).b in
+      let count : AreArgumentRegisters function (argument_count setting.program i op.Call) i.b = subst (λ q. AreArgumentRegisters function (argument_count setting.program i q) i.b) o range in
       let counted : i.b + length callee.parameters ≤ function.registers = subst (λ g. i.b + length (parameters_of g) ≤ function.registers) is count.1 in
-      let few = (small p.program assigned x a.top s.top h.top i fetched).registers.1 in
-      let passed = passes_words (length p.program.classes) x m.cells holds sit h.top.state a.top.registers.items h.top.words h.top.homes i.b callee.parameters (omega (arith, counted, few)) callee-fits.slots permits.2.1 in (
+      let few = (small setting.program assigned x a.top s.top h.top i fetched).registers.1 in
+      let passed = passes_words (length setting.program.classes) x m.cells holds sit h.top.state a.top.registers.items h.top.words h.top.homes i.b callee.parameters (omega (arith, counted, few)) callee-fits.slots permits.2.1 in (
         record s { top = entry_frame i.x passed.0; callers = s.top ∷ s.callers },
         (callee, passed.0, record { callee_is = is; held = passed.1.held; fit = passed.1.fit }, refl, refl),
         record {

@@ -1,6 +1,6 @@
 -- The ends of functions, and what is printed: the program's steps are the machine's.
 use Rattle.std.proofs.Common.{◌≡◌, ◌⊎◌, ℕ, ◌+◌, ◌<◌, List, [], ◌∷◌, ◌++◌, length, Option, Some, None, refl, sym, ap, subst, ◌∙◌, inl, inr, arith}
-use Rattle.std.specs.Prelude.{Bool, reverse, slice_get, slice_index, slice_set, IfSome}
+use Rattle.std.specs.Prelude.{Bool, reverse, slice_get, slice_index, slice_set, string_bytes, IfSome}
 use Rattle.x10_kinds.specs.declared.kind.Kind.TheVariants as kind
 use Rattle.x10_kinds.specs.declared.homes.Term.TheVariants as term
 use Rattle.x10_code.specs.declared.op.Op.TheVariants as op
@@ -10,23 +10,27 @@ use Rattle.x10_model.specs.Maps.{with_entry, IsIn}
 use Rattle.x10_model.specs.Modules.{Module, Function, FitsSlot}
 use Rattle.x10_model.specs.declared.slot.Slot.{Slot}
 use Rattle.x10_model.specs.Ranges.{function_at, instr_at, instr_in, result_of, result_for, IsResultRegister, IsThere}
-use Rattle.x10_model.specs.Values.{Value, Int, Cells, IsOfKind}
+use Rattle.x10_model.specs.Values.{Value, Int, Text, Cells, IsOfKind}
 use Rattle.x10_model.specs.Signatures.{FitsSlotAt}
 use Rattle.x10_model.specs.Places as machine
-use Rattle.x10_model.specs.Places.{Stay, Effect, Works, Ends, root, Number, with_stay, next, writes}
-use Rattle.x10_model.specs.Moves.{Situation, Does, GivesBack, SendsBack, Returns, resumed, with_line}
+use Rattle.x10_model.specs.Places.{Setting, Stay, Effect, Works, Ends, root, with_stay, next, writes}
+use Rattle.x10_model.specs.Moves.{Situation, Does, GivesBack, SendsBack, Returns, resumed, line_of, with_line}
 use Rattle.x10_model.specs.Assignments.{State, Edges, IsKind, ReturnsWell, GivesResult, gives, like_if, Permits, Reaches}
 use Rattle.x10_place.specs.declared.frame.CallFrame.{CallFrame}
+use Rattle.x10_heap.specs.Heaps.{HeapState}
 use Rattle.x10_heap.specs.Words.{Context, IsWordOf, HoldsHeap}
 use Rattle.x10_place.specs.Homes.{AreHomes}
 use Rattle.x10_place.specs.Frames.{word_at, int_at, IsFetchedFor}
-use Rattle.x10_place.specs.Stays.{StayState, IsPlaced, GoesNext, Resumes, GoesOn}
-use Rattle.x10_place.specs.StandsFor.{PlaceState, context_of, Assigned, HoldRegisters, StandsForFrame, StandForCallers, IsAtHome, StandsForStay}
+use Rattle.x10_place.specs.declared.line.Line.{Line}
+use Rattle.x10_place.specs.declared.line.Line.TheVariants as line
+use Rattle.x10_place.specs.Stays.{StayState, IsPlaced, GoesNext, Resumes, GoesOn, IsPrinted}
+use Rattle.x10_place.specs.StandsFor.{Far, context, line_as, Assigned, HoldRegisters, StandsForFrame, StandForCallers, IsAtHome, StandsForStay}
 use Rattle.x10_place.proofs.Maps.{some_is}
 use Rattle.x10_place.proofs.Words.{reads, reads_int, words_written}
 use Rattle.x10_place.proofs.Homes.{homes_written, result_like}
 use Rattle.x10_place.proofs.Framed.{FrameAfter, point_of, in_range, small, count, rule, frame_after}
 use Rattle.x10_place.proofs.Local.{situated}
+use Rattle.x10_place.proofs.Reading.{text_known}
 use Rattle.x10_place.proofs.Calls.{fits_word}
 
 -- ---- lists
@@ -95,27 +99,27 @@ result_register program function i slot e there is =
     let register = subst (λ q. IsResultRegister function (result_for program function i q) i.a) e at in
     subst (λ q. IsResultRegister function q i.a) is register
 
-module _ (far : ℕ → ℕ → ℕ → Bool) (p : PlaceState) (m : machine.Place) (holds : HoldsHeap (context_of far p) m.cells) (key : ℕ) (a : StayState) (s : Stay) (assigned : Assigned p.program) (h : StandsForStay p.program assigned (context_of far p) a s) (i : Instr) (fetched : IsFetchedFor p.program a.top i) where
+module _ (setting : Setting) (here : ℕ) (far : Far) (m : machine.Place) (key : ℕ) (s : Stay) (assigned : Assigned setting.program) (heap : HeapState) (holds : HoldsHeap (context setting here heap far) m.cells) (a : StayState) (h : StandsForStay setting.program assigned (context setting here heap far) a s) (i : Instr) (fetched : IsFetchedFor setting.program a.top i) where
   abbrev x : Context
-  x = context_of far p
+  x = context setting here heap far
 
   abbrev function : Function
   function = h.top.function
 
   abbrev sit : Situation
-  sit = situated p m key s function i
+  sit = situated setting here m key s function i
 
   -- what the function gives
-  gives_back : (slot : Option Slot) → i.op ≡ op.Ret → function.result ≡ slot → ReturnsWell (point_of p.program function a.top i) h.top.state slot → (result : Option Value) × GivesBack sit slot result × IsGiven x m.cells slot result (word_at a.top.registers.items i.a)
+  gives_back : (slot : Option Slot) → i.op ≡ op.Ret → function.result ≡ slot → ReturnsWell (point_of setting.program function a.top i) h.top.state slot → (result : Option Value) × GivesBack sit slot result × IsGiven x m.cells slot result (word_at a.top.registers.items i.a)
   gives_back None o is well = (None, tt, tt)
   gives_back (Some slot) o is well =
-      let fit = small p.program assigned x a.top s.top h.top i fetched in
-      let lt = result_register p.program function i slot o (in_range p.program assigned x a.top s.top h.top i fetched).a is in
-      let v = fits_word (length p.program.classes) x m.cells h.top.state s.top.registers a.top.registers.items i.a slot holds (omega (arith, lt, fit.registers.1)) (slot_of (length p.program.classes) function.result slot is fit.result) h.top.words h.top.homes well in
+      let fit = small setting.program assigned x a.top s.top h.top i fetched in
+      let lt = result_register setting.program function i slot o (in_range setting.program assigned x a.top s.top h.top i fetched).a is in
+      let v = fits_word (length setting.program.classes) x m.cells h.top.state s.top.registers a.top.registers.items i.a slot holds (omega (arith, lt, fit.registers.1)) (slot_of (length setting.program.classes) function.result slot is fit.result) h.top.words h.top.homes well in
       (Some v.0, (v.1, v.2), (v.2, v.3))
 
   -- the last function of an activity ends
-  ends_stay : (result : Option Value) (cs : List machine.CallFrame) → s.callers ≡ cs → StandForCallers p.program assigned x a.callers cs → a.callers ≡ [] → GivesBack sit function.result result → Does op.Ret sit (with_stay m key None) (Ends root None)
+  ends_stay : (result : Option Value) (cs : List machine.CallFrame) → s.callers ≡ cs → StandForCallers setting.program assigned x a.callers cs → a.callers ≡ [] → GivesBack sit function.result result → Does op.Ret sit (with_stay m key None) (Ends root None)
   ends_stay result [] is callers none given = (
     result,
     given,
@@ -124,32 +128,32 @@ module _ (far : ℕ → ℕ → ℕ → Bool) (p : PlaceState) (m : machine.Plac
   )
   ends_stay result (c ∷ cs) is callers none given = absurd (not_empty callers.0 callers.1 (sym callers.2 ∙ none))
 
-  pub ret_ends : (out : Edges) → i.op ≡ op.Ret → Permits op.Ret (point_of p.program function a.top i) h.top.state out → a.callers ≡ [] → Does op.Ret sit (with_stay m key None) (Ends root None)
+  pub ret_ends : (out : Edges) → i.op ≡ op.Ret → Permits op.Ret (point_of setting.program function a.top i) h.top.state out → a.callers ≡ [] → Does op.Ret sit (with_stay m key None) (Ends root None)
   ret_ends out o permits none = let back = gives_back function.result o refl permits.0 in ends_stay back.0 s.callers refl h.callers none back.1
 
   -- a called function ends
-  resumes_stay : (b : StayState) (placed : IsPlaced p.program b) (r : Resumes p.program a i b) (result : Option Value) (cs : List machine.CallFrame) → s.callers ≡ cs → StandForCallers p.program assigned x a.callers cs → GivesBack sit function.result result → IsGiven x m.cells function.result result (word_at a.top.registers.items i.a)
-      → (t : Stay) × Does op.Ret sit (with_stay m key (Some t)) Works × StandsForStay p.program assigned x b t
+  resumes_stay : (b : StayState) (placed : IsPlaced setting.program b) (r : Resumes setting.program a i b) (result : Option Value) (cs : List machine.CallFrame) → s.callers ≡ cs → StandForCallers setting.program assigned x a.callers cs → GivesBack sit function.result result → IsGiven x m.cells function.result result (word_at a.top.registers.items i.a)
+      → (t : Stay) × Does op.Ret sit (with_stay m key (Some t)) Works × StandsForStay setting.program assigned x b t
   resumes_stay b placed r result [] is callers given word = absurd (not_empty b.callers r.caller (sym r.callers ∙ callers))
   resumes_stay b placed r result (c ∷ cs) is callers given word =
       let same = last_same b.callers callers.0 r.caller callers.1 (sym r.callers ∙ callers.2) in
-      let stands : StandsForFrame p.program assigned x r.caller c = subst (λ f. StandsForFrame p.program assigned x f c) (sym same.1) callers.3 in
-      let at = rule p.program assigned x r.caller c stands r.call r.fetched in
-      let call = subst (λ q. Permits q (point_of p.program stands.function r.caller r.call) stands.state at.0) r.op_is at.1 in
-      let callee : function_at p.program r.call.x ≡ Some function = ap (λ n. function_at p.program n) r.callee_is ∙ h.top.is_function in
+      let stands : StandsForFrame setting.program assigned x r.caller c = subst (λ f. StandsForFrame setting.program assigned x f c) (sym same.1) callers.3 in
+      let at = rule setting.program assigned x r.caller c stands r.call r.fetched in
+      let call = subst (λ q. Permits q (point_of setting.program stands.function r.caller r.call) stands.state at.0) r.op_is at.1 in
+      let callee : function_at setting.program r.call.x ≡ Some function = ap (λ n. function_at setting.program n) r.callee_is ∙ h.top.is_function in
       let same-callee : call.0 ≡ function = some_is call.0 function (sym call.2.0 ∙ callee) in
       let t = call.1 in
-      let gives : GivesResult (point_of p.program stands.function r.caller r.call) stands.state term.Here function.result t = subst (λ (g : Function). GivesResult (point_of p.program stands.function r.caller r.call) stands.state term.Here g.result t) same-callee call.3 in
+      let gives : GivesResult (point_of setting.program stands.function r.caller r.call) stands.state term.Here function.result t = subst (λ (g : Function). GivesResult (point_of setting.program stands.function r.caller r.call) stands.state term.Here g.result t) same-callee call.3 in
       let reached = at.2 (r.caller.pc + 1, t) (subst (λ (o : Edges). IsIn (r.caller.pc + 1, t) o) (sym call.4) (0, refl)) in
       let goes = subst (λ o. GoesOn o r.caller r.call a.top i b.top) (ap result_of h.top.is_function) r.goes in
-      let call-is : instr_at p.program c.function c.pc ≡ Some r.call =
-      ap (λ n. instr_at p.program n c.pc) stands.function_is ∙ ap (λ n. instr_at p.program r.caller.function n) stands.pc_is ∙ subst (λ o. instr_in o r.caller.pc ≡ Some r.call) (sym r.fetched.is_function) r.fetched.is_instr in (
+      let call-is : instr_at setting.program c.function c.pc ≡ Some r.call =
+      ap (λ n. instr_at setting.program n c.pc) stands.function_is ∙ ap (λ n. instr_at setting.program r.caller.function n) stands.pc_is ∙ subst (λ o. instr_in o r.caller.pc ≡ Some r.call) (sym r.fetched.is_function) r.fetched.is_instr in (
         record s { top = resumed c r.call.a result; callers = cs },
         (result, given, subst (λ ks. Returns sit ks result (with_stay m key (Some (record s { top = resumed c r.call.a result; callers = cs }))) Works) (sym is) (r.call, call-is, r.op_is, refl, refl)),
         record {
           placed = placed;
-          top = goes_after p.program assigned x m.cells r.caller c stands r.call r.fetched r.op_is function.result result (word_at a.top.registers.items i.a) t a.top b.top i (ap result_of callee) gives reached word refl goes;
-          callers = subst (λ fs. StandForCallers p.program assigned x fs cs) (sym same.0) callers.4;
+          top = goes_after setting.program assigned x m.cells r.caller c stands r.call r.fetched r.op_is function.result result (word_at a.top.registers.items i.a) t a.top b.top i (ap result_of callee) gives reached word refl goes;
+          callers = subst (λ fs. StandForCallers setting.program assigned x fs cs) (sym same.0) callers.4;
           finishes = h.finishes ∙ ap (λ (y : StayState). reverse y.finishes) (sym r.rest);
           inherited = h.inherited ∙ ap (λ (y : StayState). y.inherited) (sym r.rest);
           away = h.away ∙ ap (λ (y : StayState). y.away) (sym r.rest);
@@ -158,25 +162,30 @@ module _ (far : ℕ → ℕ → ℕ → Bool) (p : PlaceState) (m : machine.Plac
         },
       )
 
-  pub ret_resumes : (b : StayState) (out : Edges) → IsPlaced p.program b → i.op ≡ op.Ret → Permits op.Ret (point_of p.program function a.top i) h.top.state out → Resumes p.program a i b → (t : Stay) × Does op.Ret sit (with_stay m key (Some t)) Works × StandsForStay p.program assigned x b t
+  pub ret_resumes : (b : StayState) (out : Edges) → IsPlaced setting.program b → i.op ≡ op.Ret → Permits op.Ret (point_of setting.program function a.top i) h.top.state out → Resumes setting.program a i b → (t : Stay) × Does op.Ret sit (with_stay m key (Some t)) Works × StandsForStay setting.program assigned x b t
   ret_resumes b out placed o permits r = let back = gives_back function.result o refl permits.0 in resumes_stay b placed r back.0 s.callers refl h.callers back.1 back.2
 
   -- ---- output
 
-  -- a register that is printed holds a number, since no heap has a text so far
-  printed : p.heap.texts ≡ [] → (IsKind h.top.state i.a kind.Int) ⊎ (IsKind h.top.state i.a kind.Text) → s.top.registers i.a ≡ Some (Int (int_at a.top.registers.items i.a))
-  printed none (inl k) = reads_int x h.top.state s.top.registers a.top.registers.items i.a h.top.words k
-  printed none (inr k) = let v = reads x h.top.state s.top.registers a.top.registers.items i.a kind.Text h.top.words k in absurd (no_text (slice_index a.top.registers.items i.a) v.2.0 (subst (λ ts. slice_get ts (slice_index a.top.registers.items i.a) ≡ Some v.2.0) none v.2.1))
-    where
-      no_text : (n : ℕ) (t : List ℕ) → slice_get [] n ≡ Some t → ⊥
-      no_text n t e = cc
+  -- what a register holds that is printed
+  abbrev HoldsLine : Line → Type 0
+  HoldsLine l = (v : Value) × (s.top.registers i.a ≡ Some v) × (line_of v ≡ Some (line_as l))
 
-  pub print_moves : (b : StayState) (out : Edges) → p.heap.texts ≡ [] → Permits op.Print (point_of p.program function a.top i) h.top.state out → ((edge : ℕ × State) → IsIn edge out → Reaches (assigned a.top.function function h.top.is_function).0 edge)
-      → GoesNext a.top b.top
-      → Does op.Print sit (with_stay (with_line m (Number (int_at a.top.registers.items i.a))) key (Some (record s { top = next s.top }))) Works × StandsForFrame p.program assigned x b.top (next s.top)
-  print_moves b out none permits edges goes = (
-    (Int (int_at a.top.registers.items i.a), Number (int_at a.top.registers.items i.a), printed none permits.0, refl, (refl, refl)),
-    frame_after p.program assigned x a.top s.top h.top i fetched b.top (next s.top) (a.top.pc + 1) h.top.state a.top.registers.items a.top.loops
-        (record { function_is = goes.function_is; pc_is = goes.pc_is; words_are = goes.words_are; loops_are = goes.loops_are })
-        (edges (a.top.pc + 1, h.top.state) (subst (λ (o : Edges). IsIn (a.top.pc + 1, h.top.state) o) (sym permits.1) (0, refl))) refl (ap (λ n. n + 1) h.top.pc_is) h.top.words h.top.homes h.top.slots h.top.loops,
-  )
+  printed : (l : Line) → IsPrinted setting.program heap a.top i.a l → HoldsLine l
+  printed (line.Int z) (number, is) =
+      let known = number function h.top.is_function (assigned a.top.function function h.top.is_function) h.top.state h.top.is_state in
+      (Int z, reads_int x h.top.state s.top.registers a.top.registers.items i.a h.top.words known ∙ ap (λ n. Some (Int n)) (sym is), refl)
+  printed (line.Text t) (text, is) =
+      let v = reads x h.top.state s.top.registers a.top.registers.items i.a kind.Text h.top.words (text_known setting.program assigned x refl m.cells holds a.top s.top h.top i fetched text) in
+      (Text (string_bytes t), v.1 ∙ ap Some (v.2.2 ∙ ap Text (some_is v.2.0 (string_bytes t) (sym v.2.1 ∙ is))), refl)
+
+  pub print_moves : (b : StayState) (out : Edges) (l : Line) → IsPrinted setting.program heap a.top i.a l → Permits op.Print (point_of setting.program function a.top i) h.top.state out
+      → ((edge : ℕ × State) → IsIn edge out → Reaches (assigned a.top.function function h.top.is_function).0 edge) → GoesNext a.top b.top
+      → Does op.Print sit (with_stay (with_line m (line_as l)) key (Some (record s { top = next s.top }))) Works × StandsForFrame setting.program assigned x b.top (next s.top)
+  print_moves b out l is permits edges goes =
+      let v = printed l is in (
+        (v.0, line_as l, v.1, v.2, (refl, refl)),
+        frame_after setting.program assigned x a.top s.top h.top i fetched b.top (next s.top) (a.top.pc + 1) h.top.state a.top.registers.items a.top.loops
+            (record { function_is = goes.function_is; pc_is = goes.pc_is; words_are = goes.words_are; loops_are = goes.loops_are })
+            (edges (a.top.pc + 1, h.top.state) (subst (λ (o : Edges). IsIn (a.top.pc + 1, h.top.state) o) (sym permits.1) (0, refl))) refl (ap (λ n. n + 1) h.top.pc_is) h.top.words h.top.homes h.top.slots h.top.loops,
+      )

@@ -1,24 +1,28 @@
 -- Instructions as they are fetched for a frame, and what operations of one frame ask of them.
 use Rattle.std.proofs.Common.{◌≡◌, ◌≢◌, ℕ, ◌+◌, ◌<◌, ◌≤◌, ◌^◌, List, length, Option, Some, None, refl, sym, ap, subst, ◌∙◌, arith}
-use Rattle.std.specs.Prelude.{ℤ, slice_get, slice_set, nat_lt, if◌then◌else◌, Bool, true, false}
+use Rattle.std.specs.Prelude.{ℤ, ◌++◌, ◌==◌, nat_le, slice_get, slice_set, nat_lt, if◌then◌else◌, Bool, true, false}
 use Rattle.std.proofs.Math.ListN.{length-set}
+use Rattle.x10_kinds.specs.declared.kind.Kind.{Kind}
 use Rattle.x10_code.specs.declared.op.Op.{Op}
 use Rattle.x10_code.specs.declared.op.Op.TheVariants as op
 use Rattle.x10_code.specs.declared.instr.Instr.{Instr}
 use Rattle.x10_code.specs.Table.{form_of}
 use Rattle.x10_model.specs.Modules.{Module, Function, FitsFunction, FitsImage}
-use Rattle.x10_model.specs.Ranges.{function_at, instr_at, instr_in, IsThere, IsInRange}
+use Rattle.x10_model.specs.Ranges.{function_at, instr_at, instr_in, fields_of, argument_count, AreArgumentRegisters, IsThere, IsInRange}
 use Rattle.x10_image.specs.Parts.{code_in, code_at}
 use Rattle.x10_verify.proofs.Wholes.{function_fits, some_below}
 use Rattle.x10_place.specs.declared.route.Local.{Local}
 use Rattle.x10_place.specs.declared.route.Local.TheVariants as local
 use Rattle.x10_place.specs.declared.route.Route.{Route}
 use Rattle.x10_place.specs.declared.route.Route.TheVariants as route
-use Rattle.x10_place.specs.declared.route.Division.TheVariants as division
+use Rattle.x10_place.specs.declared.route.Partial.TheVariants as partial
+use Rattle.x10_place.specs.declared.route.Make.{Make}
+use Rattle.x10_place.specs.declared.route.Make.TheVariants as make
 use Rattle.x10_place.specs.declared.route.Number.TheVariants as number
 use Rattle.x10_heap.specs.Heaps.{HeapState}
-use Rattle.x10_model.specs.Moves.{is_zero}
-use Rattle.x10_place.specs.Frames.{Workspace, Becomes, HasSizes, IsWithin, IsFetched, Takes, Acts, Asks, int_at, turns_left}
+use Rattle.x10_model.specs.declared.limits.TheConstants.{MOST_BYTES}
+use Rattle.x10_model.specs.Moves.{is_zero, byte_at, rail_length}
+use Rattle.x10_place.specs.Frames.{Workspace, Becomes, HasSizes, IsWithin, IsFetched, Takes, CopiesUnless, SetsByte, Acts, Asks, Makes, Joins, MakesRail, AsksMake, word_at, int_at, turns_left}
 use Rattle.x10_place.specs.Routes.{route_of}
 
 pub sizes : (classes : ℕ) (f : Function) → FitsFunction classes f → HasSizes classes f
@@ -86,8 +90,16 @@ module _ (program : Module) (index at count : ℕ) (i : Instr) (h : IsFetched pr
   asks_by op.Mul l n r = asks_at (local.Number number.Product) l r ((omega (arith, n.0, h.registers), omega (arith, n.1, h.registers), omega (arith, n.2, h.registers)))
   asks_by op.Lt l n r = asks_at (local.Number number.Less) l r ((omega (arith, n.0, h.registers), omega (arith, n.1, h.registers), omega (arith, n.2, h.registers)))
   asks_by op.Eq l n r = asks_at (local.Number number.Equal) l r ((omega (arith, n.0, h.registers), omega (arith, n.1, h.registers), omega (arith, n.2, h.registers)))
-  asks_by op.Div l n r = asks_at (local.Division division.Quotient) l r ((omega (arith, n.0, h.registers), omega (arith, n.1, h.registers), omega (arith, n.2, h.registers), omega (arith, n.3, h.sizes.length.1)))
-  asks_by op.Rem l n r = asks_at (local.Division division.Remainder) l r ((omega (arith, n.0, h.registers), omega (arith, n.1, h.registers), omega (arith, n.2, h.registers), omega (arith, n.3, h.sizes.length.1)))
+  asks_by op.Tlen l n r = asks_at (local.Number number.TextLength) l r ((omega (arith, n.0, h.registers), omega (arith, n.1, h.registers)))
+  asks_by op.Rlen l n r = asks_at (local.Number number.RailLength) l r ((omega (arith, n.0, h.registers), omega (arith, n.1, h.registers)))
+  asks_by op.Rget l n r = asks_at (local.Partial partial.Byte) l r ((omega (arith, n.0, h.registers), omega (arith, n.1, h.registers), omega (arith, n.2, h.registers), omega (arith, n.3, h.sizes.length.1)))
+  asks_by op.Null l n r = asks_at local.Null l r (omega (arith, n.0, h.registers))
+  asks_by op.Ifobj l n r = asks_at local.NotNull l r ((omega (arith, n.0, h.registers), omega (arith, n.1, h.registers), omega (arith, n.3, h.sizes.length.1)))
+  asks_by op.Get l n r = asks_at local.GetField l r ((omega (arith, n.0, h.registers), omega (arith, n.1, h.registers)))
+  asks_by op.Put l n r = asks_at local.SetField l r ((omega (arith, n.0, h.registers), omega (arith, n.1, h.registers)))
+  asks_by op.Rset l n r = asks_at local.SetByte l r ((omega (arith, n.0, h.registers), omega (arith, n.1, h.registers), omega (arith, n.2, h.registers), omega (arith, n.3, h.sizes.length.1)))
+  asks_by op.Div l n r = asks_at (local.Partial partial.Quotient) l r ((omega (arith, n.0, h.registers), omega (arith, n.1, h.registers), omega (arith, n.2, h.registers), omega (arith, n.3, h.sizes.length.1)))
+  asks_by op.Rem l n r = asks_at (local.Partial partial.Remainder) l r ((omega (arith, n.0, h.registers), omega (arith, n.1, h.registers), omega (arith, n.2, h.registers), omega (arith, n.3, h.sizes.length.1)))
   asks_by op.Move l n r = asks_at local.Copy l r ((omega (arith, n.0, h.registers), omega (arith, n.1, h.registers)))
   asks_by op.Jmp l n r = asks_at local.Jump l r (omega (arith, n.3, h.sizes.length.1))
   asks_by op.Jz l n r = asks_at local.JumpIfZero l r ((omega (arith, n.0, h.registers), omega (arith, n.3, h.sizes.length.1)))
@@ -100,7 +112,9 @@ module _ (program : Module) (index at count : ℕ) (i : Instr) (h : IsFetched pr
 
   -- a target is an instruction of the function
   abbrev pub Targets : Local → Type 0
-  Targets (local.Division d) = i.x < length h.function.code
+  Targets (local.Partial d) = i.x < length h.function.code
+  Targets local.NotNull = i.x < length h.function.code
+  Targets local.SetByte = i.x < length h.function.code
   Targets local.Jump = i.x < length h.function.code
   Targets local.JumpIfZero = i.x < length h.function.code
   Targets local.EndLoop = i.x < length h.function.code
@@ -116,8 +130,16 @@ module _ (program : Module) (index at count : ℕ) (i : Instr) (h : IsFetched pr
   targets_by op.Mul l n r = targets_at (local.Number number.Product) l r tt
   targets_by op.Lt l n r = targets_at (local.Number number.Less) l r tt
   targets_by op.Eq l n r = targets_at (local.Number number.Equal) l r tt
-  targets_by op.Div l n r = targets_at (local.Division division.Quotient) l r n.3
-  targets_by op.Rem l n r = targets_at (local.Division division.Remainder) l r n.3
+  targets_by op.Tlen l n r = targets_at (local.Number number.TextLength) l r tt
+  targets_by op.Rlen l n r = targets_at (local.Number number.RailLength) l r tt
+  targets_by op.Div l n r = targets_at (local.Partial partial.Quotient) l r n.3
+  targets_by op.Rem l n r = targets_at (local.Partial partial.Remainder) l r n.3
+  targets_by op.Rget l n r = targets_at (local.Partial partial.Byte) l r n.3
+  targets_by op.Null l n r = targets_at local.Null l r tt
+  targets_by op.Ifobj l n r = targets_at local.NotNull l r n.3
+  targets_by op.Get l n r = targets_at local.GetField l r tt
+  targets_by op.Put l n r = targets_at local.SetField l r tt
+  targets_by op.Rset l n r = targets_at local.SetByte l r n.3
   targets_by op.Move l n r = targets_at local.Copy l r tt
   targets_by op.Jmp l n r = targets_at local.Jump l r n.3
   targets_by op.Jz l n r = targets_at local.JumpIfZero l r n.3
@@ -127,6 +149,54 @@ module _ (program : Module) (index at count : ℕ) (i : Instr) (h : IsFetched pr
 
   pub local_targets : (l : Local) → route_of i.op ≡ route.Local l → Targets l
   local_targets l r = targets_by i.op l (named i.op refl) r
+
+  -- ---- operations that make something
+
+  make_no_return : (k : Make) → route_of i.op ≡ route.Make k → i.op ≢ op.Ret
+  make_no_return k e f = absurd (let g : route.Return ≡ route.Make k = ap route_of (sym f) ∙ e in cc)
+
+  pub make_next : (k : Make) → route_of i.op ≡ route.Make k → at + 1 < length h.function.code
+  make_next k e = h.next (make_no_return k e)
+
+  made_at : (j k : Make) → route.Make j ≡ route.Make k → AsksMake j program count i → AsksMake k program count i
+  made_at j k e asked = subst (λ q. AsksMake q program count i) (let same : j ≡ k = cc in same) asked
+
+  -- the registers from b on have a field each
+  fields_there : i.op ≡ op.New → (kinds : List Kind) → slice_get program.classes i.x ≡ Some kinds → i.b + length kinds ≤ count
+  fields_there e kinds known =
+      let range = subst (λ q. IsThere program h.function i (form_of q).b i.b) e h.in_range.b in
+      let named_by : AreArgumentRegisters h.function (argument_count program i op.New) i.b = subst (λ q. AreArgumentRegisters h.function (argument_count program i q) i.b) e range in
+      let counted : i.b + length kinds ≤ h.function.registers = subst (λ o. i.b + length (fields_of o) ≤ h.function.registers) known named_by.1 in
+      omega (arith, counted, h.registers)
+
+  made_by : (o : Op) (k : Make) → i.op ≡ o → Named o → route_of o ≡ route.Make k → AsksMake k program count i
+  made_by op.Textk k e n r = made_at make.Text k r ((omega (arith, n.0, h.registers), n.3))
+  made_by op.Tcat k e n r = made_at make.JoinedText k r ((omega (arith, n.0, h.registers), omega (arith, n.1, h.registers), omega (arith, n.2, h.registers), omega (arith, n.3, h.sizes.length.1)))
+  made_by op.New k e n r = made_at make.Object k r ((omega (arith, n.0, h.registers), fields_there e, n.3))
+  made_by op.Rail k e n r = made_at make.Rail k r ((omega (arith, n.0, h.registers), omega (arith, n.1, h.registers), omega (arith, n.3, h.sizes.length.1)))
+  made_by _ k e n r = absurd cc
+
+  pub make_asks : (k : Make) → route_of i.op ≡ route.Make k → AsksMake k program count i
+  make_asks k r = made_by i.op k refl (named i.op refl) r
+
+  -- a target is an instruction of the function
+  abbrev pub MakeTargets : Make → Type 0
+  MakeTargets make.JoinedText = i.x < length h.function.code
+  MakeTargets make.Rail = i.x < length h.function.code
+  MakeTargets _ = Unit {0}
+
+  make_targets_at : (j k : Make) → route.Make j ≡ route.Make k → MakeTargets j → MakeTargets k
+  make_targets_at j k e target = subst MakeTargets (let same : j ≡ k = cc in same) target
+
+  make_targets_by : (o : Op) (k : Make) → Named o → route_of o ≡ route.Make k → MakeTargets k
+  make_targets_by op.Textk k n r = make_targets_at make.Text k r tt
+  make_targets_by op.Tcat k n r = make_targets_at make.JoinedText k r n.3
+  make_targets_by op.New k n r = make_targets_at make.Object k r tt
+  make_targets_by op.Rail k n r = make_targets_at make.Rail k r n.3
+  make_targets_by _ k n r = absurd cc
+
+  pub make_targets : (k : Make) → route_of i.op ≡ route.Make k → MakeTargets k
+  make_targets k r = make_targets_by i.op k (named i.op refl) r
 
 -- ---- where the frame stands afterwards
 
@@ -147,9 +217,22 @@ module _ (program : Module) (index : ℕ) (v : Workspace) (i : Instr) (h : IsFet
   takes_within (Some z) w t next target = lands w _ _ _ _ t.2 next (simp length-set refl)
   takes_within None w t next target = lands w _ _ _ _ t target refl
 
+  copies_within : (b : Bool) (w : Workspace) → CopiesUnless b v i w → v.pc + 1 < length h.function.code → i.x < length h.function.code → IsWithin program index w.pc (length w.words)
+  copies_within true w c next target = lands w _ _ _ _ c target refl
+  copies_within false w c next target = lands w _ _ _ _ c next (simp length-set refl)
+
+  byte_within : (byte : Option ℕ) (bytes : List ℕ) (w : Workspace) → SetsByte byte bytes v i w → v.pc + 1 < length h.function.code → i.x < length h.function.code → IsWithin program index w.pc (length w.words)
+  byte_within None bytes w c next target = lands w _ _ _ _ c target refl
+  byte_within (Some byte) bytes w c next target = lands w _ _ _ _ c next refl
+
   within_by : (l : Local) (w : Workspace) → Acts l program v i w → v.pc + 1 < length h.function.code → Targets program index v.pc (length v.words) i h l → IsWithin program index w.pc (length w.words)
   within_by (local.Number n) w acts next target = lands w _ _ _ _ acts.2.2 next (simp length-set refl)
-  within_by (local.Division d) w acts next target = takes_within acts.0 w acts.2 next target
+  within_by (local.Partial d) w acts next target = takes_within acts.0 w acts.2 next target
+  within_by local.Null w acts next target = lands w _ _ _ _ acts next (simp length-set refl)
+  within_by local.NotNull w acts next target = copies_within (word_at v.words i.b == 0) w acts next target
+  within_by local.GetField w acts next target = lands w _ _ _ _ acts.becomes next (simp length-set refl)
+  within_by local.SetField w acts next target = lands w _ _ _ _ acts.becomes next refl
+  within_by local.SetByte w acts next target = byte_within (byte_at acts.0 (int_at v.words i.b)) acts.0 w acts.2 next target
   within_by local.Copy w acts next target = lands w _ _ _ _ acts next (simp length-set refl)
   within_by local.Jump w acts next target = lands w _ _ _ _ acts target refl
   within_by local.JumpIfZero w acts next target = lands w _ _ _ _ acts (next_or (is_zero (int_at v.words i.a)) i.x (v.pc + 1) (length h.function.code) target next) refl
@@ -158,3 +241,20 @@ module _ (program : Module) (index : ℕ) (v : Workspace) (i : Instr) (h : IsFet
 
   pub local_within : (l : Local) (w : Workspace) → route_of i.op ≡ route.Local l → Acts l program v i w → IsWithin program index w.pc (length w.words)
   local_within l w r acts = within_by l w acts (local_next program index v.pc (length v.words) i h l r) (local_targets program index v.pc (length v.words) i h l r)
+
+  joins_within : (b : Bool) (text : List ℕ) (w : Workspace) → Joins b text v i w → v.pc + 1 < length h.function.code → i.x < length h.function.code → IsWithin program index w.pc (length w.words)
+  joins_within true text w c next target = lands w _ _ _ _ c.becomes next (simp length-set refl)
+  joins_within false text w c next target = lands w _ _ _ _ c target refl
+
+  rail_within : (n : Option ℕ) (w : Workspace) → MakesRail n v i w → v.pc + 1 < length h.function.code → i.x < length h.function.code → IsWithin program index w.pc (length w.words)
+  rail_within None w c next target = lands w _ _ _ _ c target refl
+  rail_within (Some n) w c next target = lands w _ _ _ _ c.becomes next (simp length-set refl)
+
+  made_within : (k : Make) (w : Workspace) → Makes k program v i w → v.pc + 1 < length h.function.code → MakeTargets program index v.pc (length v.words) i h k → IsWithin program index w.pc (length w.words)
+  made_within make.Text w c next target = lands w _ _ _ _ c.2.becomes next (simp length-set refl)
+  made_within make.JoinedText w c next target = joins_within (nat_le (length c.0 + length c.1) MOST_BYTES) (c.0 ++ c.1) w c.4 next target
+  made_within make.Object w c next target = lands w _ _ _ _ c.2.becomes next (simp length-set refl)
+  made_within make.Rail w c next target = rail_within (rail_length (int_at v.words i.b)) w c next target
+
+  pub make_within : (k : Make) (w : Workspace) → route_of i.op ≡ route.Make k → Makes k program v i w → IsWithin program index w.pc (length w.words)
+  make_within k w r makes = made_within k w makes (make_next program index v.pc (length v.words) i h k r) (make_targets program index v.pc (length v.words) i h k r)

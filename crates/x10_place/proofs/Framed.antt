@@ -65,7 +65,7 @@ module _ (program : Module) (assigned : Assigned program) (x : Context) (f : Cal
   -- the assignment permits the instruction, and has states for those that follow
   pub rule : (out : Edges) × Permits i.op (point_of program h.function f i) h.state out × ((edge : ℕ × State) → IsIn edge out → Reaches (assigned f.function h.function h.is_function).0 edge)
   rule =
-      let p = (assigned f.function h.function h.is_function).1.permitted f.pc h.state h.is_state in
+      let p = (assigned f.function h.function h.is_function).1.consistent.permitted f.pc h.state h.is_state in
       let same : p.0 ≡ i = some_is p.0 i (sym p.2 ∙ is_instr) in
       (p.1, subst (λ (j : Instr). Permits j.op (point_of program h.function f j) h.state p.1) same p.3, p.4)
 

@@ -9,9 +9,16 @@ pub mod Returning
 pub mod Placing
 pub mod Stretching
 pub mod Framed
+pub mod Objects
+pub mod Growing
+pub mod Reading
 pub mod Local
+pub mod Made
+pub mod Acting
+pub mod Printing
 pub mod Calls
 pub mod Ends
+pub mod Going
 pub mod Steps
 pub mod Keeping
 pub mod Striding

@@ -1,6 +1,6 @@
 -- Operations of one frame: what the program does to its words is what the machine does to its values.
-use Rattle.std.proofs.Common.{◌≡◌, ℕ, ℤ, ◌+◌, ◌-◌, ◌<◌, Bool, true, false, List, length, Option, Some, None, refl, sym, ap, subst, ◌∙◌, arith}
-use Rattle.std.specs.Prelude.{nat_lt, if◌then◌else◌, slice_get, slice_index, slice_set}
+use Rattle.std.proofs.Common.{◌≡◌, ℕ, ℤ, ◌+◌, ◌-◌, ◌<◌, Bool, true, false, List, length, Option, Some, None, refl, sym, ap, subst, ◌∙◌, inl, inr, arith}
+use Rattle.std.specs.Prelude.{◌⊎◌, ◌*◌, ◌==◌, ◌^◌, pos, nat_lt, if◌then◌else◌, slice_get, slice_index, slice_set}
 use Rattle.std.specs.Int.{w64, cast_signed}
 use Rattle.x10_kinds.specs.declared.kind.Kind.{Kind}
 use Rattle.x10_kinds.specs.declared.kind.Kind.TheVariants as kind
@@ -13,34 +13,37 @@ use Rattle.x10_code.specs.Table.{form_of}
 use Rattle.x10_model.specs.Maps.{with_entry, IsIn}
 use Rattle.x10_model.specs.Modules.{Module, Function}
 use Rattle.x10_model.specs.Ranges.{IsThere}
-use Rattle.x10_model.specs.Values.{Value, Int}
+use Rattle.x10_model.specs.Values.{Value, Int, Text, Rail, Object, Null, Fields, Bytes, Cells}
 use Rattle.x10_model.specs.Places as machine
-use Rattle.x10_model.specs.Places.{Stay, Works, with_stay, goes, next, writes}
-use Rattle.x10_model.specs.Moves.{Situation, Does, is_zero, writes_or_goes}
+use Rattle.x10_model.specs.Places.{Setting, Stay, Works, with_stay, goes, next, writes}
+use Rattle.x10_model.specs.Moves.{Situation, Does, is_zero, writes_or_goes, byte_at, byte_value}
 use Rattle.x10_model.specs.Assignments.{State, Point, Edges, onward, onward_or, gives, like_if, IsKind, Permits, Reaches}
-use Rattle.x10_heap.specs.Heaps.{HeapState}
-use Rattle.x10_heap.specs.Words.{Context, IsWordOf}
+use Rattle.x10_heap.specs.Heaps.{HeapState, ObjectState}
+use Rattle.x10_heap.specs.Words.{Context, IsWordOf, IsObjectWord, AreWordsOf, IsObjectCell, HoldsObject, rail_cell, HoldsHeap}
+use Rattle.x10_heap.proofs.Growing.{Grows, grows_not}
 use Rattle.x10_place.specs.declared.frame.CallFrame.{CallFrame}
 use Rattle.x10_place.specs.declared.route.Route.TheVariants as route
 use Rattle.x10_place.specs.declared.route.Local.{Local}
 use Rattle.x10_place.specs.declared.route.Local.TheVariants as local
-use Rattle.x10_place.specs.declared.route.Division.{Division}
-use Rattle.x10_place.specs.declared.route.Division.TheVariants as division
+use Rattle.x10_place.specs.declared.route.Partial.{Partial}
+use Rattle.x10_place.specs.declared.route.Partial.TheVariants as partial
 use Rattle.x10_place.specs.declared.route.Number.{Number}
 use Rattle.x10_place.specs.declared.route.Number.TheVariants as number
 use Rattle.x10_place.specs.Homes.{AreHomes}
-use Rattle.x10_place.specs.Frames.{Workspace, space_of, Becomes, IsFetchedFor, Acts, Writes, Takes, as_value, given, divided, int_at, word_at, turns_left}
+use Rattle.x10_place.specs.Frames.{Workspace, space_of, Becomes, IsFetchedFor, Acts, Writes, Takes, CopiesUnless, GetsField, as_value, given, tried, size, byte_in, rail_in, text_in, object_in, int_at, word_at, turns_left}
 use Rattle.x10_place.specs.Routes.{route_of}
-use Rattle.x10_place.specs.StandsFor.{PlaceState, Assigned, HoldRegisters, StandsForFrame, setting_of}
+use Rattle.x10_place.specs.StandsFor.{Far, context, Assigned, HoldRegisters, StandsForFrame}
 use Rattle.std.proofs.Math.ListN.{length-set}
+use Rattle.std.proofs.lemmas.Bool.{eqb-true, eq-eqb}
 use Rattle.x10_verify.proofs.Wholes.{get_below}
 use Rattle.x10_place.proofs.Maps.{some_is}
-use Rattle.x10_place.proofs.Words.{reads_int, words_written}
+use Rattle.x10_place.proofs.Words.{Reads, reads, reads_int, words_written}
+use Rattle.x10_place.proofs.Objects.{ObjectAt, object_at, word_in}
 use Rattle.x10_place.proofs.Homes.{homes_written, move_like}
 use Rattle.x10_place.proofs.Framed.{FrameAfter, after_of, point_of, slots_written, in_range, small, count, frame_after}
 
-abbrev pub situated : (p : PlaceState) (m : machine.Place) (key : ℕ) (s : Stay) → Function → Instr → Situation
-situated p m key s function i = record { setting = setting_of p; here = p.id; place = m; key = key; stay = s; function = function; instr = i }
+abbrev pub situated : (setting : Setting) (here : ℕ) (m : machine.Place) (key : ℕ) (s : Stay) → Function → Instr → Situation
+situated setting here m key s function i = record { setting = setting; here = here; place = m; key = key; stay = s; function = function; instr = i }
 
 pub first_edge : (point : Point) (t : State) → IsIn (point.pc + 1, t) (onward point t)
 first_edge point t = (0, refl)
@@ -51,92 +54,114 @@ first_of_two point t u = (0, refl)
 second_of_two : (point : Point) (t u : State) → IsIn (point.instr.x, u) (onward_or point t u)
 second_of_two point t u = (1, refl)
 
--- the operations of one frame leave the heap as it is
-pub heap_kept : (l : Local) (program : Module) (w : Workspace) (i : Instr) (v : Workspace) → Acts l program w i v → v.heap ≡ w.heap
-heap_kept (local.Number n) program w i v acts = acts.2.2.heap_is
-heap_kept (local.Division d) program w i v acts = taken acts.0 acts.2
+-- the operations that leave the heap as it is
+abbrev Keeps : Local → Type 0
+Keeps local.SetField = ⊥
+Keeps local.SetByte = ⊥
+Keeps _ = Unit {0}
+
+heap_kept : (l : Local) (program : Module) (w : Workspace) (i : Instr) (v : Workspace) → Keeps l → Acts l program w i v → v.heap ≡ w.heap
+heap_kept (local.Number n) program w i v keeps acts = acts.2.2.heap_is
+heap_kept (local.Partial d) program w i v keeps acts = taken acts.0 acts.2
   where
     taken : (z : Option ℤ) → Takes w i z v → v.heap ≡ w.heap
     taken None t = t.heap_is
     taken (Some z) t = t.2.heap_is
-heap_kept local.Copy program w i v acts = acts.heap_is
-heap_kept local.Jump program w i v acts = acts.heap_is
-heap_kept local.JumpIfZero program w i v acts = acts.heap_is
-heap_kept local.Loop program w i v acts = acts.heap_is
-heap_kept local.EndLoop program w i v acts = acts.heap_is
+heap_kept local.Copy program w i v keeps acts = acts.heap_is
+heap_kept local.Null program w i v keeps acts = acts.heap_is
+heap_kept local.NotNull program w i v keeps acts = copied (word_at w.words i.b == 0) acts
+  where
+    copied : (b : Bool) → CopiesUnless b w i v → v.heap ≡ w.heap
+    copied true c = c.heap_is
+    copied false c = c.heap_is
+heap_kept local.GetField program w i v keeps acts = acts.becomes.heap_is
+heap_kept local.SetField program w i v keeps acts = absurd keeps
+heap_kept local.SetByte program w i v keeps acts = absurd keeps
+heap_kept local.Jump program w i v keeps acts = acts.heap_is
+heap_kept local.JumpIfZero program w i v keeps acts = acts.heap_is
+heap_kept local.Loop program w i v keeps acts = acts.heap_is
+heap_kept local.EndLoop program w i v keeps acts = acts.heap_is
 
-module _ (p : PlaceState) (m : machine.Place) (key : ℕ) (s : Stay) (assigned : Assigned p.program) (x : Context) (f : CallFrame) (h : StandsForFrame p.program assigned x f s.top) (i : Instr) (fetched : IsFetchedFor p.program f i) where
-  abbrev states : ℕ → Option State
+module _ (setting : Setting) (here : ℕ) (far : Far) (m : machine.Place) (key : ℕ) (s : Stay) (assigned : Assigned setting.program) (heap : HeapState) (f : CallFrame) (h : StandsForFrame setting.program assigned (context setting here heap far) f s.top) (i : Instr) (fetched : IsFetchedFor setting.program f i) where
+  abbrev x : Context
+  x = context setting here heap far
+
+  abbrev pub states : ℕ → Option State
   states = (assigned f.function h.function h.is_function).0
 
-  abbrev point : Point
-  point = point_of p.program h.function f i
+  abbrev pub point : Point
+  point = point_of setting.program h.function f i
 
-  there : (o : Op) → i.op ≡ o → IsThere p.program h.function i (form_of o).a i.a × IsThere p.program h.function i (form_of o).b i.b × IsThere p.program h.function i (form_of o).x i.x
-  there o e = let r = in_range p.program assigned x f s.top h i fetched in subst (λ q. IsThere p.program h.function i (form_of q).a i.a × IsThere p.program h.function i (form_of q).b i.b × IsThere p.program h.function i (form_of q).x i.x) e (r.a, r.b, r.x)
+  pub there : (o : Op) → i.op ≡ o → IsThere setting.program h.function i (form_of o).a i.a × IsThere setting.program h.function i (form_of o).b i.b × IsThere setting.program h.function i (form_of o).x i.x
+  there o e = let r = in_range setting.program assigned x f s.top h i fetched in subst (λ q. IsThere setting.program h.function i (form_of q).a i.a × IsThere setting.program h.function i (form_of q).b i.b × IsThere setting.program h.function i (form_of q).x i.x) e (r.a, r.b, r.x)
 
   after : (g : CallFrame) (d : machine.CallFrame) (pc : ℕ) (t : State) (words loops : List ℕ) → FrameAfter f g pc words loops → Reaches states (pc, t)
       → d.function ≡ s.top.function → d.pc ≡ pc → HoldRegisters x t d.registers words → AreHomes x.here t.homes d.registers → length loops ≡ 8 → ((slot : ℕ) → slot < 8 → d.loops slot ≡ slice_index loops slot)
-      → StandsForFrame p.program assigned x g d
-  after = frame_after p.program assigned x f s.top h i fetched
+      → StandsForFrame setting.program assigned x g d
+  after = frame_after setting.program assigned x f s.top h i fetched
 
   pc_next : s.top.pc + 1 ≡ f.pc + 1
   pc_next = ap (λ n. n + 1) h.pc_is
 
   -- the frame at another instruction, with nothing changed
-  goes_to : (g : CallFrame) (pc : ℕ) (t : State) → FrameAfter f g pc f.registers.items f.loops → Reaches states (pc, t) → t ≡ h.state → StandsForFrame p.program assigned x g (goes s.top pc)
+  pub goes_to : (g : CallFrame) (pc : ℕ) (t : State) → FrameAfter f g pc f.registers.items f.loops → Reaches states (pc, t) → t ≡ h.state → StandsForFrame setting.program assigned x g (goes s.top pc)
   goes_to g pc t b reached e = after g (goes s.top pc) pc t f.registers.items f.loops b reached refl refl (subst (λ u. HoldRegisters x u s.top.registers f.registers.items) (sym e) h.words) (subst (λ (u : State). AreHomes x.here u.homes s.top.registers) (sym e) h.homes) h.slots h.loops
 
-  goes_next : (g : CallFrame) → FrameAfter f g (f.pc + 1) f.registers.items f.loops → Reaches states (f.pc + 1, h.state) → StandsForFrame p.program assigned x g (next s.top)
+  pub goes_next : (g : CallFrame) → FrameAfter f g (f.pc + 1) f.registers.items f.loops → Reaches states (f.pc + 1, h.state) → StandsForFrame setting.program assigned x g (next s.top)
   goes_next g b reached = after g (next s.top) (f.pc + 1) h.state f.registers.items f.loops b reached refl pc_next h.words h.homes h.slots h.loops
 
-  -- ---- numbers
+  -- ---- registers
+
+  -- a value and its word are written, of which no place is known
+  pub writes_word : (g : CallFrame) (k : Kind) (v : Value) (word : ℕ) → IsWordOf x k word v → i.a < length f.registers.items → FrameAfter f g (f.pc + 1) (slice_set f.registers.items i.a word) f.loops
+      → Reaches states (f.pc + 1, gives point h.state k None) → StandsForFrame setting.program assigned x g (writes s.top i.a v)
+  writes_word g k v word e lt b reached = after g (writes s.top i.a v) (f.pc + 1) (gives point h.state k None) (slice_set f.registers.items i.a word) f.loops b reached refl pc_next
+      (words_written x h.state s.top.registers f.registers.items i.a k None v word lt h.words e)
+      (homes_written x.here h.state.homes s.top.registers i.a None v h.homes tt) h.slots h.loops
 
   writes_number : (g : CallFrame) (z : ℤ) (word : ℕ) → z ≡ cast_signed w64 word → i.a < length f.registers.items → FrameAfter f g (f.pc + 1) (slice_set f.registers.items i.a word) f.loops
-      → Reaches states (f.pc + 1, gives point h.state kind.Int None) → StandsForFrame p.program assigned x g (writes s.top i.a (Int z))
-  writes_number g z word e lt b reached = after g (writes s.top i.a (Int z)) (f.pc + 1) (gives point h.state kind.Int None) (slice_set f.registers.items i.a word) f.loops b reached refl pc_next
-      (words_written x h.state s.top.registers f.registers.items i.a kind.Int None (Int z) word lt h.words (ap Int e))
-      (homes_written x.here h.state.homes s.top.registers i.a None (Int z) h.homes tt) h.slots h.loops
+      → Reaches states (f.pc + 1, gives point h.state kind.Int None) → StandsForFrame setting.program assigned x g (writes s.top i.a (Int z))
+  writes_number g z word e lt b reached = writes_word g kind.Int (Int z) word (ap Int e) lt b reached
 
   -- ---- the operations
 
   -- what an operation makes of the frame, and that the machine does it
   abbrev Moved : Op → CallFrame → Type 0
-  Moved o g = (top : machine.CallFrame) × Does o (situated p m key s h.function i) (with_stay m key (Some (record s { top = top }))) Works × StandsForFrame p.program assigned x g top
+  Moved o g = (top : machine.CallFrame) × Does o (situated setting here m key s h.function i) (with_stay m key (Some (record s { top = top }))) Works × StandsForFrame setting.program assigned x g top
 
   number_of : (r : ℕ) → IsKind h.state r kind.Int → s.top.registers r ≡ Some (Int (int_at f.registers.items r))
   number_of r k = reads_int x h.state s.top.registers f.registers.items r h.words k
 
-  room : (o : Op) → i.op ≡ o → (IsThere p.program h.function i (form_of o).a i.a → i.a < h.function.registers) → i.a < length f.registers.items
-  room o e a = let lt = a (there o e).0 in omega (arith, lt, count p.program assigned x f s.top h i fetched)
+  pub room : (o : Op) → i.op ≡ o → (IsThere setting.program h.function i (form_of o).a i.a → i.a < h.function.registers) → i.a < length f.registers.items
+  room o e a = let lt = a (there o e).0 in omega (arith, lt, count setting.program assigned x f s.top h i fetched)
 
-  edge_next : (out : Edges) (t : State) → ((edge : ℕ × State) → IsIn edge out → Reaches states edge) → out ≡ onward point t → Reaches states (f.pc + 1, t)
+  pub edge_next : (out : Edges) (t : State) → ((edge : ℕ × State) → IsIn edge out → Reaches states edge) → out ≡ onward point t → Reaches states (f.pc + 1, t)
   edge_next out t edges e = edges (f.pc + 1, t) (subst (λ (o : Edges). IsIn (f.pc + 1, t) o) (sym e) (first_edge point t))
 
-  edge_first : (out : Edges) (t u : State) → ((edge : ℕ × State) → IsIn edge out → Reaches states edge) → out ≡ onward_or point t u → Reaches states (f.pc + 1, t)
+  pub edge_first : (out : Edges) (t u : State) → ((edge : ℕ × State) → IsIn edge out → Reaches states edge) → out ≡ onward_or point t u → Reaches states (f.pc + 1, t)
   edge_first out t u edges e = edges (f.pc + 1, t) (subst (λ (o : Edges). IsIn (f.pc + 1, t) o) (sym e) (first_of_two point t u))
 
-  edge_target : (out : Edges) (t u : State) → ((edge : ℕ × State) → IsIn edge out → Reaches states edge) → out ≡ onward_or point t u → Reaches states (i.x, u)
+  pub edge_target : (out : Edges) (t u : State) → ((edge : ℕ × State) → IsIn edge out → Reaches states edge) → out ≡ onward_or point t u → Reaches states (i.x, u)
   edge_target out t u edges e = edges (i.x, u) (subst (λ (o : Edges). IsIn (i.x, u) o) (sym e) (second_of_two point t u))
 
   -- a register that was written by an operation that always gives a number
-  number_frame : (g : CallFrame) (kept heap : HeapState) (z : ℤ) (v : Value) (out : Edges) → g.function ≡ f.function → ((edge : ℕ × State) → IsIn edge out → Reaches states edge) → out ≡ onward point (gives point h.state kind.Int None)
-      → i.a < length f.registers.items → Some (Int z) ≡ Some v → Writes (space_of f kept) i z (space_of g heap) → StandsForFrame p.program assigned x g (writes s.top i.a v)
-  number_frame g kept heap z v out same edges e lt is w =
-      subst (λ u. StandsForFrame p.program assigned x g (writes s.top i.a u)) (some_is (Int z) v is)
-      (writes_number g z w.0 w.1 lt (after_of f g heap kept (f.pc + 1) (slice_set f.registers.items i.a w.0) f.loops same w.2) (edge_next out (gives point h.state kind.Int None) edges e))
+  number_frame : (g : CallFrame) (kept : HeapState) (z : ℤ) (v : Value) (out : Edges) → g.function ≡ f.function → ((edge : ℕ × State) → IsIn edge out → Reaches states edge) → out ≡ onward point (gives point h.state kind.Int None)
+      → i.a < length f.registers.items → Some (Int z) ≡ Some v → Writes (space_of f heap) i z (space_of g kept) → StandsForFrame setting.program assigned x g (writes s.top i.a v)
+  number_frame g kept z v out same edges e lt is w =
+      subst (λ u. StandsForFrame setting.program assigned x g (writes s.top i.a u)) (some_is (Int z) v is)
+      (writes_number g z w.0 w.1 lt (after_of f g kept heap (f.pc + 1) (slice_set f.registers.items i.a w.0) f.loops same w.2) (edge_next out (gives point h.state kind.Int None) edges e))
 
   -- an operation that gives a number or goes to x
-  tried : (g : CallFrame) (kept heap : HeapState) (z : Option ℤ) (out : Edges) → g.function ≡ f.function → ((edge : ℕ × State) → IsIn edge out → Reaches states edge) → out ≡ onward_or point (gives point h.state kind.Int None) h.state
-      → i.a < length f.registers.items → Takes (space_of f kept) i z (space_of g heap) → StandsForFrame p.program assigned x g (writes_or_goes (situated p m key s h.function i) (as_value z))
-  tried g kept heap (Some z) out same edges e lt t =
-      writes_number g z t.0 t.1 lt (after_of f g heap kept (f.pc + 1) (slice_set f.registers.items i.a t.0) f.loops same t.2) (edge_first out (gives point h.state kind.Int None) h.state edges e)
-  tried g kept heap None out same edges e lt t = goes_to g i.x h.state (after_of f g heap kept i.x f.registers.items f.loops same t) (edge_target out (gives point h.state kind.Int None) h.state edges e) refl
+  tries : (g : CallFrame) (kept : HeapState) (z : Option ℤ) (out : Edges) → g.function ≡ f.function → ((edge : ℕ × State) → IsIn edge out → Reaches states edge) → out ≡ onward_or point (gives point h.state kind.Int None) h.state
+      → i.a < length f.registers.items → Takes (space_of f heap) i z (space_of g kept) → StandsForFrame setting.program assigned x g (writes_or_goes (situated setting here m key s h.function i) (as_value z))
+  tries g kept (Some z) out same edges e lt t =
+      writes_number g z t.0 t.1 lt (after_of f g kept heap (f.pc + 1) (slice_set f.registers.items i.a t.0) f.loops same t.2) (edge_first out (gives point h.state kind.Int None) h.state edges e)
+  tries g kept None out same edges e lt t = goes_to g i.x h.state (after_of f g kept heap i.x f.registers.items f.loops same t) (edge_target out (gives point h.state kind.Int None) h.state edges e) refl
 
-  tried_frame : (d : Division) (g : CallFrame) (kept heap : HeapState) (out : Edges) → g.function ≡ f.function → ((edge : ℕ × State) → IsIn edge out → Reaches states edge) → out ≡ onward_or point (gives point h.state kind.Int None) h.state
-      → i.a < length f.registers.items → Acts (local.Division d) p.program (space_of f kept) i (space_of g heap) → StandsForFrame p.program assigned x g (writes_or_goes (situated p m key s h.function i) (divided d f.registers.items i))
-  tried_frame d g kept heap out same edges e lt acts =
-      subst (λ v. StandsForFrame p.program assigned x g (writes_or_goes (situated p m key s h.function i) v)) acts.1 (tried g kept heap acts.0 out same edges e lt acts.2)
+  tried_frame : (d : Partial) (g : CallFrame) (kept : HeapState) (out : Edges) → g.function ≡ f.function → ((edge : ℕ × State) → IsIn edge out → Reaches states edge) → out ≡ onward_or point (gives point h.state kind.Int None) h.state
+      → i.a < length f.registers.items → Acts (local.Partial d) setting.program (space_of f heap) i (space_of g kept) → StandsForFrame setting.program assigned x g (writes_or_goes (situated setting here m key s h.function i) (tried d heap f.registers.items i))
+  tried_frame d g kept out same edges e lt acts =
+      subst (λ v. StandsForFrame setting.program assigned x g (writes_or_goes (situated setting here m key s h.function i) v)) acts.1 (tries g kept acts.0 out same edges e lt acts.2)
 
   -- a word is moved, with its kind and its place
   moves_word : (g : CallFrame) (out : Edges) (k : Kind) → ((edge : ℕ × State) → IsIn edge out → Reaches states edge) → h.state.kinds i.b ≡ Some k → out ≡ onward point (gives point h.state k (like_if (has_place k) (term.Reg i.b)))
@@ -152,69 +177,153 @@ module _ (p : PlaceState) (m : machine.Place) (key : ℕ) (s : Stay) (assigned :
       )
 
   jumps_if : (g : CallFrame) (b : Bool) → FrameAfter f g (if b then i.x else f.pc + 1) f.registers.items f.loops → Reaches states (f.pc + 1, h.state) → Reaches states (i.x, h.state)
-      → StandsForFrame p.program assigned x g (if b then goes s.top i.x else next s.top)
+      → StandsForFrame setting.program assigned x g (if b then goes s.top i.x else next s.top)
   jumps_if g true b next target = goes_to g i.x h.state b target refl
   jumps_if g false b next target = goes_next g b next
 
   -- a loop's turns are set, and the next instruction is one or another
   loops_set : (g : CallFrame) (n q pc : ℕ) → i.a < 8 → q ≡ pc → FrameAfter f g pc f.registers.items (slice_set f.loops i.a n) → Reaches states (pc, h.state)
-      → StandsForFrame p.program assigned x g (record s.top { pc = q; loops = with_entry s.top.loops i.a n })
+      → StandsForFrame setting.program assigned x g (record s.top { pc = q; loops = with_entry s.top.loops i.a n })
   loops_set g n q pc lt e b reached = after g (record s.top { pc = q; loops = with_entry s.top.loops i.a n }) pc h.state f.registers.items (slice_set f.loops i.a n) b reached refl e h.words h.homes
       (simp length-set h.slots) (slots_written s.top.loops f.loops i.a n lt h.slots h.loops)
 
   loops_if : (g : CallFrame) (n : ℕ) (b : Bool) → i.a < 8 → FrameAfter f g (if b then i.x else f.pc + 1) f.registers.items (slice_set f.loops i.a n) → Reaches states (f.pc + 1, h.state) → Reaches states (i.x, h.state)
-      → StandsForFrame p.program assigned x g (record s.top { pc = if b then i.x else s.top.pc + 1; loops = with_entry s.top.loops i.a n })
+      → StandsForFrame setting.program assigned x g (record s.top { pc = if b then i.x else s.top.pc + 1; loops = with_entry s.top.loops i.a n })
   loops_if g n true lt b next target = loops_set g n i.x i.x lt refl b target
   loops_if g n false lt b next target = loops_set g n (s.top.pc + 1) (f.pc + 1) lt pc_next b next
 
   loop_turns : (g : CallFrame) (n : ℕ) → i.a < 8 → turns_left f.loops i.a ≡ n → FrameAfter f g (if nat_lt 0 (turns_left f.loops i.a) then i.x else f.pc + 1) f.registers.items (slice_set f.loops i.a (turns_left f.loops i.a)) → Reaches states (f.pc + 1, h.state) → Reaches states (i.x, h.state)
-      → StandsForFrame p.program assigned x g (record s.top { pc = if nat_lt 0 n then i.x else s.top.pc + 1; loops = with_entry s.top.loops i.a n })
+      → StandsForFrame setting.program assigned x g (record s.top { pc = if nat_lt 0 n then i.x else s.top.pc + 1; loops = with_entry s.top.loops i.a n })
   loop_turns g n lt e acts next target = loops_if g n (nat_lt 0 n) lt (subst (λ k. FrameAfter f g (if nat_lt 0 k then i.x else f.pc + 1) f.registers.items (slice_set f.loops i.a k)) e acts) next target
 
-  slot_there : (o : Op) → i.op ≡ o → (IsThere p.program h.function i (form_of o).a i.a → i.a < h.function.loops) → i.a < 8
-  slot_there o e a = let lt = a (there o e).0 in omega (arith, lt, (small p.program assigned x f s.top h i fetched).loops)
+  slot_there : (o : Op) → i.op ≡ o → (IsThere setting.program h.function i (form_of o).a i.a → i.a < h.function.loops) → i.a < 8
+  slot_there o e a = let lt = a (there o e).0 in omega (arith, lt, (small setting.program assigned x f s.top h i fetched).loops)
 
-  register_few : (o : Op) → i.op ≡ o → (IsThere p.program h.function i (form_of o).b i.b → i.b < h.function.registers) → i.b < 64
-  register_few o e b = let lt = b (there o e).1 in omega (arith, lt, (small p.program assigned x f s.top h i fetched).registers.1)
+  register_few : (o : Op) → i.op ≡ o → (IsThere setting.program h.function i (form_of o).b i.b → i.b < h.function.registers) → i.b < 64
+  register_few o e b = let lt = b (there o e).1 in omega (arith, lt, (small setting.program assigned x f s.top h i fetched).registers.1)
 
-  at : (k l : Local) (w v : Workspace) → route.Local k ≡ route.Local l → Acts l p.program w i v → Acts k p.program w i v
-  at k l w v e acts = subst (λ q. Acts q p.program w i v) (let same : l ≡ k = cc in same) acts
+  -- ---- with the heap
 
-  module _ (l : Local) (g : CallFrame) (kept heap : HeapState) (out : Edges) (same : g.function ≡ f.function) (edges : (edge : ℕ × State) → IsIn edge out → Reaches states edge) (acts : Acts l p.program (space_of f kept) i (space_of g heap)) where
-    by : (k : Local) → route.Local k ≡ route.Local l → Acts k p.program (space_of f kept) i (space_of g heap)
-    by k r = at k l (space_of f kept) (space_of g heap) r acts
+  -- what an operation makes of the frame and of the heap, and that the machine does it
+  pub record Done (o : Op) (g : CallFrame) (new : HeapState) : Type 0 where
+    pub top : machine.CallFrame
+    pub cells : Cells
+    pub does : Does o (situated setting here m key s h.function i) (with_stay (record m { cells = cells }) key (Some (record s { top = top }))) Works
+    pub stands : StandsForFrame setting.program assigned (context setting here new far) g top
+    pub holds : HoldsHeap (context setting here new far) cells
+    pub grows : Grows x (context setting here new far)
+    pub exports : new.exports ≡ heap.exports
 
-    went : (pc : ℕ) (words loops : List ℕ) → Becomes (space_of g heap) pc words loops kept → FrameAfter f g pc words loops
-    went pc words loops b = after_of f g heap kept pc words loops same b
+  at : (k l : Local) (w v : Workspace) → route.Local k ≡ route.Local l → Acts l setting.program w i v → Acts k setting.program w i v
+  at k l w v e acts = subst (λ q. Acts q setting.program w i v) (let same : l ≡ k = cc in same) acts
+
+  module _ (held : HoldsHeap x m.cells) (l : Local) (g : CallFrame) (kept : HeapState) (out : Edges) (same : g.function ≡ f.function) (edges : (edge : ℕ × State) → IsIn edge out → Reaches states edge) (acts : Acts l setting.program (space_of f heap) i (space_of g kept)) where
+    by : (k : Local) → route.Local k ≡ route.Local l → Acts k setting.program (space_of f heap) i (space_of g kept)
+    by k r = at k l (space_of f heap) (space_of g kept) r acts
+
+    -- the heap is as it was
+    unchanged : (k : Local) (o : Op) → Keeps k → route.Local k ≡ route.Local l → Moved o g → Done o g kept
+    unchanged k o keeps r moved = subst (λ hp. Done o g hp) (sym (heap_kept k setting.program (space_of f heap) i (space_of g kept) keeps (by k r)))
+        (record { top = moved.0; cells = m.cells; does = moved.1; stands = moved.2; holds = held; grows = grows_not x; exports = refl })
+
+    went : (pc : ℕ) (words loops : List ℕ) → Becomes (space_of g kept) pc words loops heap → FrameAfter f g pc words loops
+    went pc words loops b = after_of f g kept heap pc words loops same b
+
+    -- a number is given
+    gives_number : (o : Op) (n : Number) (v : Value) → i.op ≡ o → given n setting.program heap f.registers.items i ≡ Some v → (IsThere setting.program h.function i (form_of o).a i.a → i.a < h.function.registers) → route.Local (local.Number n) ≡ route.Local l
+        → out ≡ onward point (gives point h.state kind.Int None) → StandsForFrame setting.program assigned x g (writes s.top i.a v)
+    gives_number o n v e is a r to = let h' = by (local.Number n) r in number_frame g kept h'.0 v out same edges to (room o e a) (h'.1 ∙ is) h'.2
 
     -- two numbers to a number
-    sums : (o : Op) (n : Number) (v : Value) → i.op ≡ o → given n p.program f.registers.items i ≡ Some v → (IsThere p.program h.function i (form_of o).a i.a → i.a < h.function.registers) → route.Local (local.Number n) ≡ route.Local l
-        → out ≡ onward point (gives point h.state kind.Int None) → StandsForFrame p.program assigned x g (writes s.top i.a v)
-    sums o n v e is a r to = let h' = by (local.Number n) r in number_frame g kept heap h'.0 v out same edges to (room o e a) (h'.1 ∙ is) h'.2
+    sums : (o : Op) (n : Number) (v : Value) → i.op ≡ o → given n setting.program heap f.registers.items i ≡ Some v → (IsThere setting.program h.function i (form_of o).a i.a → i.a < h.function.registers) → route.Local (local.Number n) ≡ route.Local l
+        → out ≡ onward point (gives point h.state kind.Int None) → Does o (situated setting here m key s h.function i) (with_stay m key (Some (record s { top = writes s.top i.a v }))) Works → Done o g kept
+    sums o n v e is a r to does = unchanged (local.Number n) o tt r (writes s.top i.a v, does, gives_number o n v e is a r to)
 
-    pub local_moves : (o : Op) → i.op ≡ o → route_of o ≡ route.Local l → Permits o point h.state out → Moved o g
-    local_moves op.Intk e r permits =
-        let z = get_below p.program.ints i.x (there op.Intk e).2 in
-        (writes s.top i.a (Int z.0), (z.0, z.1, (refl, refl)), sums op.Intk number.Constant (Int z.0) e (ap as_value z.1) (λ a. a) r permits)
-    local_moves op.Add e r permits = (_, (int_at f.registers.items i.b, int_at f.registers.items i.c, number_of i.b permits.0.0, number_of i.c permits.0.1, (refl, refl)), sums op.Add number.Sum _ e refl (λ a. a) r permits.1)
-    local_moves op.Sub e r permits = (_, (int_at f.registers.items i.b, int_at f.registers.items i.c, number_of i.b permits.0.0, number_of i.c permits.0.1, (refl, refl)), sums op.Sub number.Difference _ e refl (λ a. a) r permits.1)
-    local_moves op.Mul e r permits = (_, (int_at f.registers.items i.b, int_at f.registers.items i.c, number_of i.b permits.0.0, number_of i.c permits.0.1, (refl, refl)), sums op.Mul number.Product _ e refl (λ a. a) r permits.1)
-    local_moves op.Lt e r permits = (_, (int_at f.registers.items i.b, int_at f.registers.items i.c, number_of i.b permits.0.0, number_of i.c permits.0.1, (refl, refl)), sums op.Lt number.Less _ e refl (λ a. a) r permits.1)
-    local_moves op.Eq e r permits = (_, (int_at f.registers.items i.b, int_at f.registers.items i.c, number_of i.b permits.0.0, number_of i.c permits.0.1, (refl, refl)), sums op.Eq number.Equal _ e refl (λ a. a) r permits.1)
-    local_moves op.Div e r permits = (_, (int_at f.registers.items i.b, int_at f.registers.items i.c, number_of i.b permits.0.0, number_of i.c permits.0.1, (refl, refl)), tried_frame division.Quotient g kept heap out same edges permits.1 (room op.Div e (λ a. a)) (by (local.Division division.Quotient) r))
-    local_moves op.Rem e r permits = (_, (int_at f.registers.items i.b, int_at f.registers.items i.c, number_of i.b permits.0.0, number_of i.c permits.0.1, (refl, refl)), tried_frame division.Remainder g kept heap out same edges permits.1 (room op.Rem e (λ a. a)) (by (local.Division division.Remainder) r))
-    local_moves op.Move e r permits =
-        moves_word g out permits.0 edges permits.1 permits.2 (room op.Move e (λ a. a)) (register_few op.Move e (λ b. b)) (went (f.pc + 1) (slice_set f.registers.items i.a (word_at f.registers.items i.b)) f.loops (by local.Copy r))
-    local_moves op.Jmp e r permits =
+    -- a number is given, or the next instruction is x
+    attempts : (o : Op) (d : Partial) (v : Option Value) → i.op ≡ o → tried d heap f.registers.items i ≡ v → (IsThere setting.program h.function i (form_of o).a i.a → i.a < h.function.registers) → route.Local (local.Partial d) ≡ route.Local l
+        → out ≡ onward_or point (gives point h.state kind.Int None) h.state → Does o (situated setting here m key s h.function i) (with_stay m key (Some (record s { top = writes_or_goes (situated setting here m key s h.function i) v }))) Works → Done o g kept
+    attempts o d v e is a r to does = unchanged (local.Partial d) o tt r (
+      writes_or_goes (situated setting here m key s h.function i) v,
+      does,
+      subst (λ u. StandsForFrame setting.program assigned x g (writes_or_goes (situated setting here m key s h.function i) u)) is (tried_frame d g kept out same edges to (room o e a) (by (local.Partial d) r)),
+    )
+
+    -- a reference is copied where it isn't null
+    copies : (class : ℕ) (b : Bool) → i.op ≡ op.Ifobj → (word_at f.registers.items i.b == 0) ≡ b → Reads x s.top.registers f.registers.items i.b (kind.Opt class) → CopiesUnless b (space_of f heap) i (space_of g kept) → out ≡ onward_or point (gives point h.state (kind.Obj class) None) h.state → Moved op.Ifobj g
+    copies class true e zero (v, is, inl null) c to =
+        (goes s.top i.x, inr (is ∙ ap Some null.1, (refl, refl)), goes_to g i.x h.state (went i.x f.registers.items f.loops c) (edge_target out (gives point h.state (kind.Obj class) None) h.state edges to) refl)
+    copies class false e zero (v, is, inl null) c to = absurd (let f = eq-eqb (word_at f.registers.items i.b) 0 null.0 in cc)
+    copies class true e zero (v, is, inr some) c to = absurd (let e = eqb-true (word_at f.registers.items i.b) 0 zero in omega (arith, e, some.word_is))
+    copies class false e zero (v, is, inr some) c to = (
+      writes s.top i.a v,
+      inl (2 * some.number, is ∙ ap Some some.value_is, (ap (λ u. with_stay m key (Some (record s { top = writes s.top i.a u }))) some.value_is, refl)),
+      writes_word g (kind.Obj class) v (word_at f.registers.items i.b) some (room op.Ifobj e (λ a. a)) (went (f.pc + 1) (slice_set f.registers.items i.a (word_at f.registers.items i.b)) f.loops c)
+          (edge_first out (gives point h.state (kind.Obj class) None) h.state edges to),
+    )
+
+    -- a field is read
+    gets : (class : ℕ) (kinds : List Kind) (k : Kind) → i.op ≡ op.Get → Reads x s.top.registers f.registers.items i.b (kind.Obj class) → slice_get setting.program.classes class ≡ Some kinds → slice_get kinds i.c ≡ Some k → GetsField (space_of f heap) i (space_of g kept)
+        → out ≡ onward point (gives point h.state k None) → Moved op.Get g
+    gets class kinds k e (v, is, some) classes known c to =
+        let o : ObjectAt x m.cells class kinds (word_at f.registers.items i.b) v = object_at x m.cells class kinds (word_at f.registers.items i.b) v held some classes in
+        let same-object : o.object ≡ c.object = some_is o.object c.object (sym o.is_there ∙ c.is_object) in
+        let field = word_in x kinds o.object.fields o.values i.c k o.words known in
+        let same-word : field.0 ≡ c.word = some_is field.0 c.word (sym field.2 ∙ subst (λ (q : ObjectState). slice_get q.fields i.c ≡ Some c.word) (sym same-object) c.is_field) in (
+          writes s.top i.a field.1,
+          (o.reference, class, o.values, field.1, is ∙ ap Some o.value_is, o.cell_is, field.3, (refl, refl)),
+          writes_word g k field.1 c.word (subst (λ w. IsWordOf x k w field.1) same-word field.4) (room op.Get e (λ a. a)) (went (f.pc + 1) (slice_set f.registers.items i.a c.word) f.loops c.becomes) (edge_next out (gives point h.state k None) edges to),
+        )
+
+    rail_cell_at : (w : ℕ) (bytes : List ℕ) → slice_get heap.rails w ≡ Some bytes → m.cells (2 * w + 1) ≡ Some (Bytes bytes)
+    rail_cell_at w bytes e = held.rails w ∙ ap rail_cell e
+
+    pub local_moves : (o : Op) → i.op ≡ o → (o ≡ op.Put → ⊥) → (o ≡ op.Rset → ⊥) → route_of o ≡ route.Local l → Permits o point h.state out → Done o g kept
+    local_moves op.Intk e np ns r permits =
+        let z = get_below setting.program.ints i.x (there op.Intk e).2 in
+        sums op.Intk number.Constant (Int z.0) e (ap as_value z.1) (λ a. a) r permits (z.0, z.1, (refl, refl))
+    local_moves op.Add e np ns r permits = sums op.Add number.Sum _ e refl (λ a. a) r permits.1 (int_at f.registers.items i.b, int_at f.registers.items i.c, number_of i.b permits.0.0, number_of i.c permits.0.1, (refl, refl))
+    local_moves op.Sub e np ns r permits = sums op.Sub number.Difference _ e refl (λ a. a) r permits.1 (int_at f.registers.items i.b, int_at f.registers.items i.c, number_of i.b permits.0.0, number_of i.c permits.0.1, (refl, refl))
+    local_moves op.Mul e np ns r permits = sums op.Mul number.Product _ e refl (λ a. a) r permits.1 (int_at f.registers.items i.b, int_at f.registers.items i.c, number_of i.b permits.0.0, number_of i.c permits.0.1, (refl, refl))
+    local_moves op.Lt e np ns r permits = sums op.Lt number.Less _ e refl (λ a. a) r permits.1 (int_at f.registers.items i.b, int_at f.registers.items i.c, number_of i.b permits.0.0, number_of i.c permits.0.1, (refl, refl))
+    local_moves op.Eq e np ns r permits = sums op.Eq number.Equal _ e refl (λ a. a) r permits.1 (int_at f.registers.items i.b, int_at f.registers.items i.c, number_of i.b permits.0.0, number_of i.c permits.0.1, (refl, refl))
+    local_moves op.Div e np ns r permits = attempts op.Div partial.Quotient _ e refl (λ a. a) r permits.1 (int_at f.registers.items i.b, int_at f.registers.items i.c, number_of i.b permits.0.0, number_of i.c permits.0.1, (refl, refl))
+    local_moves op.Rem e np ns r permits = attempts op.Rem partial.Remainder _ e refl (λ a. a) r permits.1 (int_at f.registers.items i.b, int_at f.registers.items i.c, number_of i.b permits.0.0, number_of i.c permits.0.1, (refl, refl))
+    local_moves op.Tlen e np ns r permits =
+        let t = reads x h.state s.top.registers f.registers.items i.b kind.Text h.words permits.0 in
+        sums op.Tlen number.TextLength (Int (pos (length t.2.0))) e (ap size t.2.1) (λ a. a) r permits.1 (t.2.0, t.1 ∙ ap Some t.2.2, (refl, refl))
+    local_moves op.Rlen e np ns r permits =
+        let t = reads x h.state s.top.registers f.registers.items i.b kind.Rail h.words permits.0 in
+        sums op.Rlen number.RailLength (Int (pos (length t.2.0))) e (ap size t.2.1) (λ a. a) r permits.1
+        (2 * word_at f.registers.items i.b + 1, t.2.0, t.1 ∙ ap Some t.2.2, rail_cell_at (word_at f.registers.items i.b) t.2.0 t.2.1, (refl, refl))
+    local_moves op.Rget e np ns r permits =
+        let t = reads x h.state s.top.registers f.registers.items i.b kind.Rail h.words permits.0 in
+        let z = int_at f.registers.items i.c in
+        attempts op.Rget partial.Byte (byte_value (byte_at t.2.0 z)) e (ap (λ o. byte_in o z) t.2.1) (λ a. a) r permits.2
+        (2 * word_at f.registers.items i.b + 1, t.2.0, z, t.1 ∙ ap Some t.2.2, rail_cell_at (word_at f.registers.items i.b) t.2.0 t.2.1, number_of i.c permits.1, (refl, refl))
+    local_moves op.Null e np ns r permits = unchanged local.Null op.Null tt r (
+      writes s.top i.a Null,
+      (refl, refl),
+      writes_word g (kind.Opt i.x) Null 0 (inl (refl, refl)) (room op.Null e (λ a. a)) (went (f.pc + 1) (slice_set f.registers.items i.a 0) f.loops (by local.Null r)) (edge_next out (gives point h.state (kind.Opt i.x) None) edges permits),
+    )
+    local_moves op.Ifobj e np ns r permits =
+        unchanged local.NotNull op.Ifobj tt r (copies permits.0 (word_at f.registers.items i.b == 0) e refl (reads x h.state s.top.registers f.registers.items i.b (kind.Opt permits.0) h.words permits.1) (by local.NotNull r) permits.2)
+    local_moves op.Get e np ns r permits =
+        unchanged local.GetField op.Get tt r (gets permits.0 permits.1 permits.2 e (reads x h.state s.top.registers f.registers.items i.b (kind.Obj permits.0) h.words permits.3) permits.4 permits.5 (by local.GetField r) permits.6)
+    local_moves op.Put e np ns r permits = absurd (np refl)
+    local_moves op.Rset e np ns r permits = absurd (ns refl)
+    local_moves op.Move e np ns r permits = unchanged local.Copy op.Move tt r
+        (moves_word g out permits.0 edges permits.1 permits.2 (room op.Move e (λ a. a)) (register_few op.Move e (λ b. b)) (went (f.pc + 1) (slice_set f.registers.items i.a (word_at f.registers.items i.b)) f.loops (by local.Copy r)))
+    local_moves op.Jmp e np ns r permits = unchanged local.Jump op.Jmp tt r
         (goes s.top i.x, (refl, refl), goes_to g i.x h.state (went i.x f.registers.items f.loops (by local.Jump r)) (edges (i.x, h.state) (subst (λ (o : Edges). IsIn (i.x, h.state) o) (sym permits) (0, refl))) refl)
-    local_moves op.Jz e r permits = (
+    local_moves op.Jz e np ns r permits = unchanged local.JumpIfZero op.Jz tt r (
       _,
       (int_at f.registers.items i.a, number_of i.a permits.0, (refl, refl)),
       jumps_if g (is_zero (int_at f.registers.items i.a)) (went _ f.registers.items f.loops (by local.JumpIfZero r)) (edge_first out h.state h.state edges permits.1) (edge_target out h.state h.state edges permits.1),
     )
-    local_moves op.Loop e r permits =
+    local_moves op.Loop e np ns r permits = unchanged local.Loop op.Loop tt r
         (_, (refl, refl), loops_set g i.x (s.top.pc + 1) (f.pc + 1) (slot_there op.Loop e (λ a. a)) pc_next (went (f.pc + 1) f.registers.items (slice_set f.loops i.a i.x) (by local.Loop r)) (edge_next out h.state edges permits))
-    local_moves op.Endl e r permits =
+    local_moves op.Endl e np ns r permits =
         let lt = slot_there op.Endl e (λ a. a) in
+        unchanged local.EndLoop op.Endl tt r
         (_, (refl, refl), loop_turns g (s.top.loops i.a - 1) lt (ap (λ n. n - 1) (sym (h.loops i.a lt))) (went _ f.registers.items _ (by local.EndLoop r)) (edge_first out h.state h.state edges permits) (edge_target out h.state h.state edges permits))
-    local_moves _ e r permits = absurd cc
+    local_moves _ e np ns r permits = absurd cc

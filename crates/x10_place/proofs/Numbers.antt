@@ -10,6 +10,7 @@ use Rattle.x10_model.specs.Modules.{Module}
 use Rattle.x10_model.specs.Values.{Int}
 use Rattle.x10_place.specs.declared.route.Number.{Number}
 use Rattle.x10_place.specs.declared.route.Number.TheVariants as number
+use Rattle.x10_heap.specs.Heaps.{HeapState}
 use Rattle.x10_place.specs.Frames.{int_at, given}
 use Rattle.x10_model.specs.Moves.{is_zero, quotient, wrapped}
 
@@ -43,8 +44,10 @@ quotient_is x y z fx fy fz ne e =
     let z-is : cast_signed w64 (cast_unsigned w64 z) ≡ int_wrap w64 (int_div x y) = to_z-of_z w64 z fz ∙ e ∙ ap₂ (λ m n. int_wrapping_div w64 m n) (to_z-of_z w64 x fx) (to_z-of_z w64 y fy) ∙ div_wraps x y fx fy in
     ap (λ v. Some (Int v)) z-is ∙ ap (λ b. if b then None else Some (wrapped (int_div x y))) (sym (not_zero y (is_zero y) refl (λ same. ne (ap (cast_unsigned w64) same))))
 
-pub sum_is : (program : Module) (words : List ℕ) (i : Instr) (n : Number) (x y : ℤ) → FitsSigned w64 x → FitsSigned w64 y → n ≡ number.Sum → x ≡ int_at words i.b → y ≡ int_at words i.c → Some (Int (int_wrapping_add w64 x y)) ≡ given n program words i
-sum_is program words i n x y fx fy e ex ey = subst (λ o. Some (Int (int_wrapping_add w64 x y)) ≡ given o program words i) (sym e) (ap (λ z. Some (Int z)) (wrapping_add_is w64 x y fx fy ∙ ap₂ (λ m n. int_wrap w64 (m +ℤ n)) ex ey))
+pub sum_is : (program : Module) (heap : HeapState) (words : List ℕ) (i : Instr) (n : Number) (x y : ℤ) → FitsSigned w64 x → FitsSigned w64 y → n ≡ number.Sum → x ≡ int_at words i.b → y ≡ int_at words i.c → Some (Int (int_wrapping_add w64 x y)) ≡ given n program heap words i
+sum_is program heap words i n x y fx fy e ex ey =
+    subst (λ o. Some (Int (int_wrapping_add w64 x y)) ≡ given o program heap words i) (sym e) (ap (λ z. Some (Int z)) (wrapping_add_is w64 x y fx fy ∙ ap₂ (λ m n. int_wrap w64 (m +ℤ n)) ex ey))
 
-pub difference_is : (program : Module) (words : List ℕ) (i : Instr) (n : Number) (x y : ℤ) → FitsSigned w64 x → FitsSigned w64 y → n ≡ number.Difference → x ≡ int_at words i.b → y ≡ int_at words i.c → Some (Int (int_wrapping_sub w64 x y)) ≡ given n program words i
-difference_is program words i n x y fx fy e ex ey = subst (λ o. Some (Int (int_wrapping_sub w64 x y)) ≡ given o program words i) (sym e) (ap (λ z. Some (Int z)) (wrapping_sub_is w64 x y fx fy ∙ ap₂ (λ m n. int_wrap w64 (m -ℤ n)) ex ey))
+pub difference_is : (program : Module) (heap : HeapState) (words : List ℕ) (i : Instr) (n : Number) (x y : ℤ) → FitsSigned w64 x → FitsSigned w64 y → n ≡ number.Difference → x ≡ int_at words i.b → y ≡ int_at words i.c → Some (Int (int_wrapping_sub w64 x y)) ≡ given n program heap words i
+difference_is program heap words i n x y fx fy e ex ey =
+    subst (λ o. Some (Int (int_wrapping_sub w64 x y)) ≡ given o program heap words i) (sym e) (ap (λ z. Some (Int z)) (wrapping_sub_is w64 x y fx fy ∙ ap₂ (λ m n. int_wrap w64 (m -ℤ n)) ex ey))

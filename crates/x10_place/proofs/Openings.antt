@@ -18,7 +18,7 @@ use Rattle.x10_verify.proofs.Wholes.{function_fits}
 use Rattle.x10_heap.specs.Heaps.{HeapState, ObjectState, empty}
 use Rattle.x10_heap.specs.Words.{Context, HoldsHeap}
 use Rattle.x10_place.specs.Stays.{StayState, StoreState, new_store, AreCalling, IsPlaced}
-use Rattle.x10_place.specs.StandsFor.{PlaceState, store_of, context_of, Assigned, HoldRegisters, line_as, StandsForStay, HoldsExports, StandsFor, IsStanding, setting_of}
+use Rattle.x10_place.specs.StandsFor.{Far, PlaceState, store_of, context_of, Assigned, HoldRegisters, line_as, StandsForStay, HoldsExports, StandsFor, IsStanding, setting_of}
 use Rattle.x10_place.specs.Opening.{IsMain, HoldsOnly, opening_place, opened_at, Opens}
 use Rattle.x10_place.proofs.Maps.{some_is, at_key, off_key, same_or_not, none_some}
 use Rattle.x10_place.proofs.Homes.{homes_weaken, homes_entry}
@@ -73,7 +73,7 @@ main_placed program a fits main =
 -- main's words stand for main's stay
 main_stands : (program : Module) (assigned : Assigned program) (x : Context) (cells : Cells) (a : StayState) → FitsImage program → IsMain program a → StandsForStay program assigned x a (new_stay program.entry [] root None)
 main_stands program assigned x cells a fits main =
-    let start = (assigned a.top.function main.function main.is_function).1.entry in
+    let start = (assigned a.top.function main.function main.is_function).1.consistent.entry in
     record {
       placed = main_placed program a fits main;
       top = record {
@@ -116,7 +116,7 @@ pub record IsFresh (p : PlaceState) (opened : ℕ) : Type 0 where
   pub lines : p.lines ≡ []
   pub opened_is : p.opened ≡ opened
 
-module _ (far : ℕ → ℕ → ℕ → Bool) (p : PlaceState) where
+module _ (far : Far) (p : PlaceState) where
   -- a place with main alone stands for the first place of the machine
   pub first_stands : (key : ℕ) (a : StayState) → IsFresh p 1 → IsMain p.program a → HoldsOnly p.stays key a → StandsFor far p (first_place (setting_of p) key)
   first_stands key a fresh main only = record {
@@ -139,7 +139,6 @@ module _ (far : ℕ → ℕ → ℕ → Bool) (p : PlaceState) where
     exports = empty_exports p.heap fresh.heap;
     opened = sym fresh.opened_is;
     lines = sym (ap (λ ls. map line_as ls) fresh.lines);
-    no_texts = ap (λ (h : HeapState). h.texts) fresh.heap;
   }
     where
       first : Stay
@@ -156,7 +155,6 @@ module _ (far : ℕ → ℕ → ℕ → Bool) (p : PlaceState) where
     exports = empty_exports p.heap fresh.heap;
     opened = sym fresh.opened_is;
     lines = sym (ap (λ ls. map line_as ls) fresh.lines);
-    no_texts = ap (λ (h : HeapState). h.texts) fresh.heap;
   }
 
 -- ---- a place as `new` makes it

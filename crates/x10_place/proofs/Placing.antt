@@ -10,14 +10,13 @@ use Rattle.x10_model.specs.declared.slot.Slot.{Slot}
 use Rattle.x10_model.specs.Ranges.{function_at, instr_at, instr_in, result_of}
 use Rattle.x10_verify.proofs.Wholes.{function_fits}
 use Rattle.x10_place.specs.declared.frame.CallFrame.{CallFrame}
-use Rattle.x10_place.specs.declared.route.Local.{Local}
 use Rattle.x10_place.specs.declared.route.Route.{Route}
 use Rattle.x10_place.specs.declared.route.Route.TheVariants as route
-use Rattle.x10_place.specs.Frames.{space_of, IsWithin, IsInside, IsFetched, IsFetchedFor}
+use Rattle.x10_place.specs.Frames.{Workspace, space_of, IsWithin, IsInside, IsFetched, IsFetchedFor, Acts, Makes}
 use Rattle.x10_place.specs.Routes.{route_of}
-use Rattle.x10_place.specs.Stays.{StayState, StoreState, IsCalling, AreCalling, IsPlaced, GoesNext, GoesNextWith, GoesOn, Calls, Resumes, Returns, Prints, ActsOnTop, Steps}
+use Rattle.x10_place.specs.Stays.{StayState, StoreState, IsCalling, AreCalling, IsPlaced, GoesNext, GoesNextWith, GoesOn, Calls, Resumes, Returns, Prints, ChangesTop, Steps}
 use Rattle.x10_place.proofs.Chains.{chain_last, chain_more}
-use Rattle.x10_place.proofs.Fetching.{local_within}
+use Rattle.x10_place.proofs.Fetching.{local_within, make_within}
 use Rattle.x10_place.proofs.Returning.{goes_on}
 
 -- ---- routes of one operation each
@@ -64,12 +63,12 @@ same_function program a b placed inside same callers = record {
   callers = subst (λ fs. AreCalling program fs b.top.function) (sym callers) (subst (λ n. AreCalling program a.callers n) (sym same) placed.callers);
 }
 
-local_placed : (program : Module) (a b : StayState) (s t : StoreState) (i : Instr) (l : Local) → IsPlaced program a → IsFetchedFor program a.top i → route_of i.op ≡ route.Local l → ActsOnTop l program a s i b t → IsPlaced program b
-local_placed program a b s t i l placed fetched r h =
-    let within : IsWithin program a.top.function b.top.pc (length b.top.registers.items) = local_within program a.top.function (space_of a.top s.heap) i fetched l (space_of b.top t.heap) r h.acts in
+-- the top frame and the heap alone changed, and it stands at an instruction
+top_placed : (change : Workspace → Workspace → Type 0) (program : Module) (a b : StayState) (s t : StoreState) → IsPlaced program a → ChangesTop change a s b t → IsWithin program a.top.function b.top.pc (length b.top.registers.items) → IsPlaced program b
+top_placed change program a b s t placed h within =
     same_function program a b placed (subst (λ n. IsWithin program n b.top.pc (length b.top.registers.items)) (sym h.function_is) within) h.function_is (ap (λ (x : StayState). x.callers) h.rest)
 
-print_placed : (program : Module) (a b : StayState) (s t : StoreState) (i : Instr) → IsPlaced program a → IsFetchedFor program a.top i → i.op ≢ op.Ret → Prints a s i b t → IsPlaced program b
+print_placed : (program : Module) (a b : StayState) (s t : StoreState) (i : Instr) → IsPlaced program a → IsFetchedFor program a.top i → i.op ≢ op.Ret → Prints program a s i b t → IsPlaced program b
 print_placed program a b s t i placed fetched ne h =
     let next = fetched.next ne in
     same_function program a b placed (inside_next program a.top b.top (fetched_inside program a.top i fetched (omega (arith, next))) next h.top) h.top.function_is (ap (λ (x : StayState). x.callers) h.rest)
@@ -105,7 +104,10 @@ resumed_placed program a b i placed h =
 -- ---- all operations
 
 placed_by : (r : Route) (program : Module) (a b : StayState) (s t : StoreState) (i : Instr) (goes : Bool) → FitsImage program → IsPlaced program a → IsFetchedFor program a.top i → route_of i.op ≡ r → goes ≡ true → Steps r program a s i goes b t → IsPlaced program b
-placed_by (route.Local l) program a b s t i goes fits placed fetched e on h = local_placed program a b s t i l placed fetched e h.1
+placed_by (route.Local l) program a b s t i goes fits placed fetched e on h =
+    top_placed (λ v w. Acts l program v i w) program a b s t placed h.1 (local_within program a.top.function (space_of a.top s.heap) i fetched l (space_of b.top t.heap) e h.1.changes)
+placed_by (route.Make k) program a b s t i goes fits placed fetched e on h =
+    top_placed (λ v w. Makes k program v i w) program a b s t placed h.1 (make_within program a.top.function (space_of a.top s.heap) i fetched k (space_of b.top t.heap) e h.1.changes)
 placed_by route.Call program a b s t i goes fits placed fetched e on h = called_placed program a b i fits placed fetched (is_call i.op e) h.1
 placed_by route.Return program a b s t i goes fits placed fetched e on h = resumed_placed program a b i placed (subst (λ g. Returns program a i g b) on h.0)
 placed_by route.Print program a b s t i goes fits placed fetched e on h = print_placed program a b s t i placed fetched (λ f. absurd (let g = sym (is_print i.op e) ∙ f in cc)) h.1

@@ -1,16 +1,21 @@
 -- Steps of a stay are steps of its place, and a place stands for some place of the machine after each of them.
-use Rattle.std.proofs.Common.{◌≡◌, ℕ, zero, suc, ◌+◌, Bool, true, false, List, [], ◌∷◌, Option, Some, None, refl, sym, ap, subst, ◌∙◌}
+use Rattle.std.proofs.Common.{◌≡◌, ℕ, zero, suc, ◌+◌, Bool, true, false, List, [], ◌∷◌, Option, Some, None, refl, sym, ap, subst, ◌∙◌, inl, inr}
 use Rattle.std.specs.Prelude.{slice_index_or, slice_set}
 use Rattle.slab.specs.Slab.{Slab, get, Updates, with_value}
 use Rattle.x10_code.specs.declared.instr.Instr.{Instr}
+use Rattle.x10_kinds.specs.declared.stop.Stop.{Stop}
 use Rattle.x10_model.specs.Modules.{FitsImage}
+use Rattle.x10_model.specs.Ranges.{instr_at, instr_in}
 use Rattle.x10_model.specs.Places as machine
-use Rattle.x10_place.specs.Frames.{IsFetchedFor}
+use Rattle.x10_place.specs.Frames.{IsFetchedFor, Overfills}
 use Rattle.x10_place.specs.Routes.{route_of}
-use Rattle.x10_place.specs.Stays.{StayState, StoreState, Steps}
-use Rattle.x10_place.specs.StandsFor.{PlaceState, store_of, with_stays, StandsFor, IsStanding, LeadsAll, Keeps}
-use Rattle.x10_place.specs.Stretches.{IsStep, Stretch, still, further, EndsStretch, IsStride, Strides, at_once, onward}
-use Rattle.x10_place.proofs.Maps.{none_some}
+use Rattle.x10_place.specs.declared.route.Route.{Route}
+use Rattle.x10_place.specs.declared.route.Route.TheVariants as route
+use Rattle.x10_place.specs.declared.route.Make.{Make}
+use Rattle.x10_place.specs.Stays.{StayState, StoreState, Refuses, Steps}
+use Rattle.x10_place.specs.StandsFor.{Far, IsTyped, IsOverfull, IsHindered, PlaceState, store_of, with_stays, StandsFor, IsStanding, LeadsAll, Keeps}
+use Rattle.x10_place.specs.Stretches.{IsStep, Stretch, still, further, EndsStretch, IsStopped, IsStride, Strides, at_once, onward}
+use Rattle.x10_place.proofs.Maps.{some_is, none_some}
 use Rattle.x10_place.proofs.Steps.{kept_if, step_leads}
 use Rattle.x10_place.proofs.Keeping.{written}
 
@@ -68,7 +73,7 @@ strides_end p v key a n b t slab seen image e ends up =
 
 -- ---- some place of the machine is stood for
 
-abbrev any : ℕ → ℕ → ℕ → Bool
+abbrev any : Far
 any home id class = true
 
 pub standing_after : (p q : PlaceState) (key : ℕ) → IsStanding p → LeadsAll p key q → IsStanding q
@@ -79,8 +84,8 @@ strides_standing p key n q s (at_once) = s
 strides_standing p key n q s (onward k r t far stride) = standing_after r q key (strides_standing p key k r s far) stride.leads
 
 -- whether the place has stopped is nothing to the machine
-pub stopped_stands : (far : ℕ → ℕ → ℕ → Bool) (p : PlaceState) (m : machine.Place) (b : Bool) → StandsFor far p m → StandsFor far (record p { stopped = b }) m
-stopped_stands far p m b s = record { assigned = s.assigned; none = s.none; some = s.some; within = s.within; heap = s.heap; exports = s.exports; opened = s.opened; lines = s.lines; no_texts = s.no_texts }
+pub stopped_stands : (far : Far) (p : PlaceState) (m : machine.Place) (b : Bool) → StandsFor far p m → StandsFor far (record p { stopped = b }) m
+stopped_stands far p m b s = record { assigned = s.assigned; none = s.none; some = s.some; within = s.within; heap = s.heap; exports = s.exports; opened = s.opened; lines = s.lines }
 
 pub stopped_standing : (p : PlaceState) (b : Bool) → IsStanding p → IsStanding (record p { stopped = b })
 stopped_standing p b s = (s.0, stopped_stands any p s.0 b s.1)
@@ -95,3 +100,49 @@ refused_standing p key a b t e same kept s =
 -- a place that has stopped
 pub same_stopped : (p : PlaceState) → p.stopped ≡ true → p ≡ record p { stopped = true }
 same_stopped p e = ap (λ b. record p { stopped = b }) e
+
+-- ---- words have their kinds
+
+-- the words of each stay of a place
+pub typed_at : (p : PlaceState) (key : ℕ) (a : StayState) → IsStanding p → get p.stays key ≡ Some a → IsTyped p.program p.heap a
+typed_at p key a s e =
+    let found = s.1.some key a e in
+    record { assigned = s.1.assigned; places = p.places; here = p.id; far = any; stay = found.0; stands = found.2; cells = s.0.cells; holds = s.1.heap }
+
+-- ---- refusals
+
+hindered_by : (r : Route) (p : PlaceState) (key : ℕ) (b : StayState) (i : Instr) (why : Stop) → get p.stays key ≡ Some b → IsFetchedFor p.program b.top i → route_of i.op ≡ r → Refuses r b p.heap i why → IsHindered p key why
+hindered_by (route.Make m) p key b i why there fetched e (inl memory) = inl memory
+hindered_by (route.Make m) p key b i why there fetched e (inr limit) = inr (limit.0, limit.1, record {
+  stay = b;
+  is_there = there;
+  instr = i;
+  instr_is = subst (λ o. instr_in o b.top.pc ≡ Some i) (sym fetched.is_function) fetched.is_instr;
+  made = m;
+  route_is = e;
+  overfills = limit.2;
+})
+hindered_by (route.Local l) p key b i why there fetched e memory = inl memory
+hindered_by route.Call p key b i why there fetched e memory = inl memory
+hindered_by route.Return p key b i why there fetched e memory = inl memory
+hindered_by route.Print p key b i why there fetched e memory = inl memory
+hindered_by route.Later p key b i why there fetched e memory = inl memory
+
+-- why a step at a place is refused
+pub hindered : (p : PlaceState) (key : ℕ) (b : StayState) (i : Instr) (why : Stop) → get p.stays key ≡ Some b → IsFetchedFor p.program b.top i → Refuses (route_of i.op) b p.heap i why → IsHindered p key why
+hindered p key b i why there fetched refuses = hindered_by (route_of i.op) p key b i why there fetched refl refuses
+
+pub hindered_after : (p : PlaceState) (key : ℕ) (a b : StayState) (t : StoreState) (why : Stop) → get p.stays key ≡ Some a → IsStopped p.program b t why → IsHindered (with_stays p (with_value p.stays key b) t) key why
+hindered_after p key a b t why e stopped = hindered (with_stays p (with_value p.stays key b) t) key b stopped.instr why ((written p.stays key a b e).changed) stopped.fetched stopped.refuses
+
+-- what is known of the limit that a step would pass, for the instruction that is fetched
+pub overfull_at : (p : PlaceState) (key limit : ℕ) (a : StayState) (i : Instr) → get p.stays key ≡ Some a → IsFetchedFor p.program a.top i → IsOverfull p key limit → (m : Make) × (route_of i.op ≡ route.Make m) × Overfills m p.heap a.top.registers.items i limit
+overfull_at p key limit a i there fetched h =
+    let same : h.stay ≡ a = some_is h.stay a (sym h.is_there ∙ there) in
+    let at : instr_at p.program a.top.function a.top.pc ≡ Some h.instr = subst (λ (b : StayState). instr_at p.program b.top.function b.top.pc ≡ Some h.instr) same h.instr_is in
+    let is : instr_at p.program a.top.function a.top.pc ≡ Some i = subst (λ o. instr_in o a.top.pc ≡ Some i) (sym fetched.is_function) fetched.is_instr in
+    let instr : h.instr ≡ i = some_is h.instr i (sym at ∙ is) in (
+      h.made,
+      subst (λ (j : Instr). route_of j.op ≡ route.Make h.made) instr h.route_is,
+      subst (λ (j : Instr). Overfills h.made p.heap a.top.registers.items j limit) instr (subst (λ (b : StayState). Overfills h.made p.heap b.top.registers.items h.instr limit) same h.overfills),
+    )

@@ -1,22 +1,28 @@
 -- Call frames: what an instruction does to the words in the registers and to the turns of the loops.
-use Rattle.std.specs.Prelude.{◌≡◌, ◌≢◌, ℕ, ℤ, ◌+ℤ◌, ◌-ℤ◌, ◌*ℤ◌, int_lt, ◌+◌, ◌-◌, ◌^◌, ◌<◌, ◌≤◌, nat_lt, List, length, replicate, Option, Some, None, IfSome, if◌then◌else◌, slice_get, slice_index, slice_set}
-use Rattle.std.specs.List.{AllByRecursion}
-use Rattle.std.specs.Int.{w64, cast_signed}
+use Rattle.std.specs.Prelude.{◌≡◌, ◌≢◌, ℕ, ℤ, pos, ◌+ℤ◌, ◌-ℤ◌, ◌*ℤ◌, int_lt, ◌+◌, ◌-◌, ◌^◌, ◌<◌, ◌≤◌, ◌⊎◌, Bool, true, false, ◌==◌, nat_lt, nat_le, List, ◌++◌, length, replicate, Option, Some, None, IfSome, if◌then◌else◌, slice_get, slice_index, slice_set}
+use Rattle.std.specs.List.{AllByRecursion, slice_range}
+use Rattle.std.specs.Int.{w64, cast_signed, int_rem_euclid}
 use Rattle.std.specs.Ordering.{int_eq}
+use Rattle.x10_kinds.specs.declared.kind.Kind.{Kind}
+use Rattle.x10_kinds.specs.declared.stop.Stop.{Stop}
+use Rattle.x10_kinds.specs.declared.stop.Stop.TheVariants as stop
 use Rattle.x10_code.specs.declared.op.Op.TheVariants as op
 use Rattle.x10_code.specs.declared.instr.Instr.{Instr}
 use Rattle.x10_model.specs.Modules.{Module, Function, FitsSlot}
 use Rattle.x10_model.specs.Ranges.{function_at, IsInRange}
 use Rattle.x10_model.specs.Values.{Value, Int}
-use Rattle.x10_model.specs.Moves.{is_zero, wrapped, quotient, remainder, truth}
-use Rattle.x10_heap.specs.Heaps.{HeapState}
+use Rattle.x10_model.specs.declared.limits.TheConstants.{MOST_BYTES}
+use Rattle.x10_model.specs.Moves.{is_zero, wrapped, quotient, remainder, truth, rail_length, byte_at, byte_value, index_of}
+use Rattle.x10_heap.specs.Heaps.{HeapState, ObjectState, HasField, with_object, with_rail, with_text, with_field, with_byte, IsFull}
 use Rattle.x10_place.specs.declared.frame.CallFrame.{CallFrame}
 use Rattle.x10_place.specs.declared.route.Local.{Local}
 use Rattle.x10_place.specs.declared.route.Local.TheVariants as local
-use Rattle.x10_place.specs.declared.route.Division.{Division}
-use Rattle.x10_place.specs.declared.route.Division.TheVariants as division
+use Rattle.x10_place.specs.declared.route.Partial.{Partial}
+use Rattle.x10_place.specs.declared.route.Partial.TheVariants as partial
 use Rattle.x10_place.specs.declared.route.Number.{Number}
 use Rattle.x10_place.specs.declared.route.Number.TheVariants as number
+use Rattle.x10_place.specs.declared.route.Make.{Make}
+use Rattle.x10_place.specs.declared.route.Make.TheVariants as make
 
 -- what an operation of one frame works on: the number of the next instruction, the words in the registers, the turns
 -- that open loops have left, and the heap of the place
@@ -84,6 +90,37 @@ pub record IsFetched (program : Module) (number pc count : ℕ) (i : Instr) : Ty
 abbrev pub IsFetchedFor : Module → CallFrame → Instr → Type 0
 IsFetchedFor program f i = IsFetched program f.function f.pc (length f.registers.items) i
 
+-- ---- what is in the heap
+
+-- the bytes of the rail, or of the text, that a register names
+abbrev pub rail_in : HeapState → List ℕ → ℕ → Option (List ℕ)
+rail_in heap words r = slice_get heap.rails (word_at words r)
+
+abbrev pub text_in : HeapState → List ℕ → ℕ → Option (List ℕ)
+text_in heap words r = slice_get heap.texts (word_at words r)
+
+-- the number of the object that a register names, which holds one more
+abbrev pub object_in : List ℕ → ℕ → ℕ
+object_in words r = word_at words r - 1
+
+-- the register names an object with such a field
+pub record NamesField (heap : HeapState) (words : List ℕ) (r field : ℕ) : Type 0 where
+  pub not_null : 0 < word_at words r
+  pub has_field : HasField heap (object_in words r) field
+
+-- how many bytes there are
+abbrev pub size : Option (List ℕ) → Option Value
+size None = None
+size (Some bytes) = Some (Int (pos (length bytes)))
+
+abbrev pub byte_in : Option (List ℕ) → ℤ → Option Value
+byte_in None z = None
+byte_in (Some bytes) z = byte_value (byte_at bytes z)
+
+-- a rail with the lowest eight bits of a number at an index
+abbrev pub byte_set : HeapState → ℕ → List ℕ → (index number : ℤ) → HeapState
+byte_set heap rail bytes index number = with_byte heap rail bytes (index_of index) (index_of (int_rem_euclid number (pos 256)))
+
 -- ---- operations of one frame
 
 abbrev pub as_value : Option ℤ → Option Value
@@ -91,17 +128,21 @@ as_value None = None
 as_value (Some z) = Some (Int z)
 
 -- the value that an operation gives, by the machine's own definitions
-abbrev pub given : Number → Module → List ℕ → Instr → Option Value
-given number.Constant program words i = as_value (slice_get program.ints i.x)
-given number.Sum program words i = Some (wrapped (int_at words i.b +ℤ int_at words i.c))
-given number.Difference program words i = Some (wrapped (int_at words i.b -ℤ int_at words i.c))
-given number.Product program words i = Some (wrapped (int_at words i.b *ℤ int_at words i.c))
-given number.Less program words i = Some (truth (int_lt (int_at words i.b) (int_at words i.c)))
-given number.Equal program words i = Some (truth (int_eq (int_at words i.b) (int_at words i.c)))
+abbrev pub given : Number → Module → HeapState → List ℕ → Instr → Option Value
+given number.Constant program heap words i = as_value (slice_get program.ints i.x)
+given number.Sum program heap words i = Some (wrapped (int_at words i.b +ℤ int_at words i.c))
+given number.Difference program heap words i = Some (wrapped (int_at words i.b -ℤ int_at words i.c))
+given number.Product program heap words i = Some (wrapped (int_at words i.b *ℤ int_at words i.c))
+given number.Less program heap words i = Some (truth (int_lt (int_at words i.b) (int_at words i.c)))
+given number.Equal program heap words i = Some (truth (int_eq (int_at words i.b) (int_at words i.c)))
+given number.RailLength program heap words i = size (rail_in heap words i.b)
+given number.TextLength program heap words i = size (text_in heap words i.b)
 
-abbrev pub divided : Division → List ℕ → Instr → Option Value
-divided division.Quotient words i = quotient (int_at words i.b) (int_at words i.c)
-divided division.Remainder words i = remainder (int_at words i.b) (int_at words i.c)
+-- the same, where there may be none
+abbrev pub tried : Partial → HeapState → List ℕ → Instr → Option Value
+tried partial.Quotient heap words i = quotient (int_at words i.b) (int_at words i.c)
+tried partial.Remainder heap words i = remainder (int_at words i.b) (int_at words i.c)
+tried partial.Byte heap words i = byte_in (rail_in heap words i.b) (int_at words i.c)
 
 -- the number's word goes to register a
 abbrev pub Writes : Workspace → Instr → ℤ → Workspace → Type 0
@@ -116,11 +157,40 @@ Takes w i None v = Becomes v i.x w.words w.loops w.heap
 abbrev pub turns_left : List ℕ → ℕ → ℕ
 turns_left loops slot = slice_index loops slot - 1
 
+-- a reference is copied; where it is null, the next instruction is x
+abbrev pub CopiesUnless : Bool → Workspace → Instr → Workspace → Type 0
+CopiesUnless true w i v = Becomes v i.x w.words w.loops w.heap
+CopiesUnless false w i v = Becomes v (w.pc + 1) (slice_set w.words i.a (word_at w.words i.b)) w.loops w.heap
+
+-- a field is copied to register a
+pub record GetsField (w : Workspace) (i : Instr) (v : Workspace) : Type 0 where
+  pub object : ObjectState
+  pub is_object : slice_get w.heap.objects (object_in w.words i.b) ≡ Some object
+  pub word : ℕ
+  pub is_field : slice_get object.fields i.c ≡ Some word
+  pub becomes : Becomes v (w.pc + 1) (slice_set w.words i.a word) w.loops w.heap
+
+-- register b is copied to a field
+pub record SetsField (w : Workspace) (i : Instr) (v : Workspace) : Type 0 where
+  pub object : ObjectState
+  pub is_object : slice_get w.heap.objects (object_in w.words i.a) ≡ Some object
+  pub becomes : Becomes v (w.pc + 1) w.words w.loops (with_field w.heap (object_in w.words i.a) object i.c (word_at w.words i.b))
+
+-- the byte of a rail at an index is written; where there is none, the next instruction is x
+abbrev pub SetsByte : Option ℕ → List ℕ → Workspace → Instr → Workspace → Type 0
+SetsByte (Some byte) bytes w i v = Becomes v (w.pc + 1) w.words w.loops (byte_set w.heap (word_at w.words i.a) bytes (int_at w.words i.b) (int_at w.words i.c))
+SetsByte None bytes w i v = Becomes v i.x w.words w.loops w.heap
+
 -- what an operation of one frame does
 abbrev pub Acts : Local → Module → Workspace → Instr → Workspace → Type 0
-Acts (local.Number n) program w i v = (z : ℤ) × (Some (Int z) ≡ given n program w.words i) × Writes w i z v
-Acts (local.Division d) program w i v = (z : Option ℤ) × (as_value z ≡ divided d w.words i) × Takes w i z v
+Acts (local.Number n) program w i v = (z : ℤ) × (Some (Int z) ≡ given n program w.heap w.words i) × Writes w i z v
+Acts (local.Partial d) program w i v = (z : Option ℤ) × (as_value z ≡ tried d w.heap w.words i) × Takes w i z v
 Acts local.Copy program w i v = Becomes v (w.pc + 1) (slice_set w.words i.a (word_at w.words i.b)) w.loops w.heap
+Acts local.Null program w i v = Becomes v (w.pc + 1) (slice_set w.words i.a 0) w.loops w.heap
+Acts local.NotNull program w i v = CopiesUnless (word_at w.words i.b == 0) w i v
+Acts local.GetField program w i v = GetsField w i v
+Acts local.SetField program w i v = SetsField w i v
+Acts local.SetByte program w i v = (bytes : List ℕ) × (rail_in w.heap w.words i.a ≡ Some bytes) × SetsByte (byte_at bytes (int_at w.words i.b)) bytes w i v
 Acts local.Jump program w i v = Becomes v i.x w.words w.loops w.heap
 Acts local.JumpIfZero program w i v = Becomes v (if is_zero (int_at w.words i.a) then i.x else w.pc + 1) w.words w.loops w.heap
 Acts local.Loop program w i v = Becomes v (w.pc + 1) w.words (slice_set w.loops i.a i.x) w.heap
@@ -129,18 +199,104 @@ Acts local.EndLoop program w i v = Becomes v (if nat_lt 0 (turns_left w.loops i.
 -- what an operation that gives a number asks of the constants and of the number of registers
 abbrev pub AsksNumber : Number → Module → ℕ → Instr → Type 0
 AsksNumber number.Constant program registers i = (i.a < registers) × (i.x < length program.ints)
+AsksNumber number.RailLength program registers i = (i.a < registers) × (i.b < registers)
+AsksNumber number.TextLength program registers i = (i.a < registers) × (i.b < registers)
 AsksNumber _ program registers i = (i.a < registers) × (i.b < registers) × (i.c < registers)
 
 -- what an operation of one frame asks: the registers, slots and constants that it names are there, and its target is a
 -- number of an instruction
 abbrev pub Asks : Local → Module → ℕ → Instr → Type 0
 Asks (local.Number n) program registers i = AsksNumber n program registers i
-Asks (local.Division d) program registers i = (i.a < registers) × (i.b < registers) × (i.c < registers) × (i.x < 2 ^ 16)
+Asks (local.Partial d) program registers i = (i.a < registers) × (i.b < registers) × (i.c < registers) × (i.x < 2 ^ 16)
 Asks local.Copy program registers i = (i.a < registers) × (i.b < registers)
+Asks local.Null program registers i = i.a < registers
+Asks local.NotNull program registers i = (i.a < registers) × (i.b < registers) × (i.x < 2 ^ 16)
+Asks local.GetField program registers i = (i.a < registers) × (i.b < registers)
+Asks local.SetField program registers i = (i.a < registers) × (i.b < registers)
+Asks local.SetByte program registers i = (i.a < registers) × (i.b < registers) × (i.c < registers) × (i.x < 2 ^ 16)
 Asks local.Jump program registers i = i.x < 2 ^ 16
 Asks local.JumpIfZero program registers i = (i.a < registers) × (i.x < 2 ^ 16)
 Asks local.Loop program registers i = i.a < 8
 Asks local.EndLoop program registers i = (i.a < 8) × (i.x < 2 ^ 16)
+
+-- what an operation of one frame reads in the heap is there
+abbrev pub ReadsNumber : Number → HeapState → List ℕ → Instr → Type 0
+ReadsNumber number.RailLength heap words i = word_at words i.b < length heap.rails
+ReadsNumber number.TextLength heap words i = word_at words i.b < length heap.texts
+ReadsNumber _ heap words i = Unit {0}
+
+abbrev pub ReadsPartial : Partial → HeapState → List ℕ → Instr → Type 0
+ReadsPartial partial.Byte heap words i = word_at words i.b < length heap.rails
+ReadsPartial _ heap words i = Unit {0}
+
+abbrev pub Reads : Local → HeapState → List ℕ → Instr → Type 0
+Reads (local.Number n) heap words i = ReadsNumber n heap words i
+Reads (local.Partial d) heap words i = ReadsPartial d heap words i
+Reads local.GetField heap words i = NamesField heap words i.b i.c
+Reads local.SetField heap words i = NamesField heap words i.a i.c
+Reads local.SetByte heap words i = word_at words i.a < length heap.rails
+Reads _ heap words i = Unit {0}
+
+-- ---- what is made in the heap
+
+-- a text, under the next number, which goes to register a
+pub record MakesText (w : Workspace) (i : Instr) (text : List ℕ) (v : Workspace) : Type 0 where
+  pub few : length w.heap.texts < 2 ^ 32
+  pub becomes : Becomes v (w.pc + 1) (slice_set w.words i.a (length w.heap.texts)) w.loops (with_text w.heap text)
+
+-- the same of two texts joined; where they are too long together, the next instruction is x
+abbrev pub Joins : Bool → List ℕ → Workspace → Instr → Workspace → Type 0
+Joins true text w i v = MakesText w i text v
+Joins false text w i v = Becomes v i.x w.words w.loops w.heap
+
+-- an object with so many fields from register b on, under the next number; register a gets one more
+pub record MakesObject (w : Workspace) (i : Instr) (count : ℕ) (v : Workspace) : Type 0 where
+  pub few : length w.heap.objects < 2 ^ 32
+  pub becomes : Becomes v (w.pc + 1) (slice_set w.words i.a (length w.heap.objects + 1)) w.loops (with_object w.heap i.x (slice_range w.words i.b (i.b + count)))
+
+-- a rail of so many zeros, under the next number
+pub record MakesZeros (w : Workspace) (i : Instr) (count : ℕ) (v : Workspace) : Type 0 where
+  pub few : length w.heap.rails < 2 ^ 32
+  pub becomes : Becomes v (w.pc + 1) (slice_set w.words i.a (length w.heap.rails)) w.loops (with_rail w.heap (replicate count 0))
+
+-- the same, where there is such a length; the next instruction is x where there is none
+abbrev pub MakesRail : Option ℕ → Workspace → Instr → Workspace → Type 0
+MakesRail (Some count) w i v = MakesZeros w i count v
+MakesRail None w i v = Becomes v i.x w.words w.loops w.heap
+
+-- what an operation makes
+abbrev pub Makes : Make → Module → Workspace → Instr → Workspace → Type 0
+Makes make.Text program w i v = (text : List ℕ) × (slice_get program.texts i.x ≡ Some text) × MakesText w i text v
+Makes make.JoinedText program w i v = (t u : List ℕ) × (text_in w.heap w.words i.b ≡ Some t) × (text_in w.heap w.words i.c ≡ Some u) × Joins (nat_le (length t + length u) MOST_BYTES) (t ++ u) w i v
+Makes make.Object program w i v = (kinds : List Kind) × (slice_get program.classes i.x ≡ Some kinds) × MakesObject w i (length kinds) v
+Makes make.Rail program w i v = MakesRail (rail_length (int_at w.words i.b)) w i v
+
+-- what it asks of the module and of the number of registers
+abbrev pub AsksMake : Make → Module → ℕ → Instr → Type 0
+AsksMake make.Text program registers i = (i.a < registers) × (i.x < length program.texts)
+AsksMake make.JoinedText program registers i = (i.a < registers) × (i.b < registers) × (i.c < registers) × (i.x < 2 ^ 16)
+AsksMake make.Object program registers i = (i.a < registers) × ((kinds : List Kind) → slice_get program.classes i.x ≡ Some kinds → i.b + length kinds ≤ registers) × (i.x < length program.classes)
+AsksMake make.Rail program registers i = (i.a < registers) × (i.b < registers) × (i.x < 2 ^ 16)
+
+-- what it reads in the heap is there
+abbrev pub ReadsMake : Make → HeapState → List ℕ → Instr → Type 0
+ReadsMake make.JoinedText heap words i = (word_at words i.b < length heap.texts) × (word_at words i.c < length heap.texts)
+ReadsMake _ heap words i = Unit {0}
+
+-- the two texts together are no longer than a text may be
+abbrev pub FitTogether : HeapState → List ℕ → Instr → Type 0
+FitTogether heap words i = (t u : List ℕ) → text_in heap words i.b ≡ Some t → text_in heap words i.c ≡ Some u → length t + length u ≤ MOST_BYTES
+
+-- it would make one more of what there can be no more of
+abbrev pub Overfills : Make → HeapState → List ℕ → Instr → ℕ → Type 0
+Overfills make.Text heap words i limit = (limit ≡ 2) × IsFull (length heap.texts)
+Overfills make.JoinedText heap words i limit = (limit ≡ 2) × IsFull (length heap.texts) × FitTogether heap words i
+Overfills make.Object heap words i limit = (limit ≡ 1) × IsFull (length heap.objects)
+Overfills make.Rail heap words i limit = (limit ≡ 3) × IsFull (length heap.rails) × ((count : ℕ) × (rail_length (int_at words i.b) ≡ Some count))
+
+-- why it makes nothing: memory was refused, or there can be no more
+abbrev pub IsRefused : Make → HeapState → List ℕ → Instr → Stop → Type 0
+IsRefused m heap words i why = (why ≡ stop.Memory) ⊎ ((limit : ℕ) × (why ≡ stop.Limit limit) × Overfills m heap words i limit)
 
 -- ---- calls
 

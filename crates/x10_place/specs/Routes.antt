@@ -4,16 +4,17 @@ use Rattle.x10_code.specs.declared.op.Op.TheVariants as op
 use Rattle.x10_place.specs.declared.route.Route.{Route}
 use Rattle.x10_place.specs.declared.route.Route.TheVariants as route
 use Rattle.x10_place.specs.declared.route.Local.TheVariants as local
-use Rattle.x10_place.specs.declared.route.Division.TheVariants as division
+use Rattle.x10_place.specs.declared.route.Partial.TheVariants as partial
 use Rattle.x10_place.specs.declared.route.Number.TheVariants as number
+use Rattle.x10_place.specs.declared.route.Make.TheVariants as make
 
 abbrev pub route_of : Op → Route
 route_of op.Intk = route.Local (local.Number number.Constant)
 route_of op.Add = route.Local (local.Number number.Sum)
 route_of op.Sub = route.Local (local.Number number.Difference)
 route_of op.Mul = route.Local (local.Number number.Product)
-route_of op.Div = route.Local (local.Division division.Quotient)
-route_of op.Rem = route.Local (local.Division division.Remainder)
+route_of op.Div = route.Local (local.Partial partial.Quotient)
+route_of op.Rem = route.Local (local.Partial partial.Remainder)
 route_of op.Lt = route.Local (local.Number number.Less)
 route_of op.Eq = route.Local (local.Number number.Equal)
 route_of op.Move = route.Local local.Copy
@@ -24,18 +25,18 @@ route_of op.Endl = route.Local local.EndLoop
 route_of op.Call = route.Call
 route_of op.Ret = route.Return
 route_of op.Print = route.Print
-route_of op.Textk = route.Later
-route_of op.Tlen = route.Later
-route_of op.Tcat = route.Later
-route_of op.New = route.Later
-route_of op.Get = route.Later
-route_of op.Put = route.Later
-route_of op.Null = route.Later
-route_of op.Ifobj = route.Later
-route_of op.Rail = route.Later
-route_of op.Rget = route.Later
-route_of op.Rset = route.Later
-route_of op.Rlen = route.Later
+route_of op.Textk = route.Make make.Text
+route_of op.Tlen = route.Local (local.Number number.TextLength)
+route_of op.Tcat = route.Make make.JoinedText
+route_of op.New = route.Make make.Object
+route_of op.Get = route.Local local.GetField
+route_of op.Put = route.Local local.SetField
+route_of op.Null = route.Local local.Null
+route_of op.Ifobj = route.Local local.NotNull
+route_of op.Rail = route.Make make.Rail
+route_of op.Rget = route.Local (local.Partial partial.Byte)
+route_of op.Rset = route.Local local.SetByte
+route_of op.Rlen = route.Local (local.Number number.RailLength)
 route_of op.Here = route.Later
 route_of op.Placek = route.Later
 route_of op.Placen = route.Later

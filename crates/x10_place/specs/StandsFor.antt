@@ -1,25 +1,32 @@
 -- When a place of the program stands for a place of the machine.
-use Rattle.std.specs.Prelude.{◌≡◌, ℕ, ◌<◌, Bool, true, false, List, [], ◌∷◌, ◌++◌, length, map, reverse, Option, Some, None, slice_get, slice_index}
+use Rattle.std.specs.Prelude.{◌≡◌, ℕ, ◌<◌, ◌⊎◌, Bool, true, false, List, [], ◌∷◌, ◌++◌, length, map, reverse, Option, Some, None, slice_get, slice_index}
 use Rattle.std.specs.Prelude.{string_bytes}
 use Rattle.slab.specs.Slab.{Slab, get}
 use Rattle.x10_kinds.specs.declared.kind.Kind.{Kind}
+use Rattle.x10_kinds.specs.declared.stop.Stop.{Stop}
+use Rattle.x10_kinds.specs.declared.stop.Stop.TheVariants as stop
 use Rattle.x10_code.specs.declared.op.Op.{Op}
 use Rattle.x10_code.specs.declared.instr.Instr.{Instr}
 use Rattle.x10_model.specs.Modules.{Module, Function}
 use Rattle.x10_model.specs.Moves.{Moves}
 use Rattle.x10_model.specs.Ranges.{function_at, instr_at}
-use Rattle.x10_model.specs.Assignments.{State, HasAssignment}
+use Rattle.x10_model.specs.Assignments.{State}
 use Rattle.x10_model.specs.Places as machine
 use Rattle.x10_model.specs.Places.{Setting, Effect, Stay, root, Number, Words}
-use Rattle.x10_model.specs.Values.{Value}
+use Rattle.x10_model.specs.Values.{Value, Cells}
 use Rattle.x10_verify.specs.Certified.{Certified}
+use Rattle.x10_verify.specs.Least.{HasLeast}
 use Rattle.x10_heap.specs.declared.export.Export.{Export}
 use Rattle.x10_heap.specs.Heaps.{HeapState, ObjectState}
 use Rattle.x10_heap.specs.Words.{Context, export_as, IsWordOf, HoldsHeap}
 use Rattle.x10_place.specs.declared.frame.CallFrame.{CallFrame}
 use Rattle.x10_place.specs.declared.line.Line.{Line}
 use Rattle.x10_place.specs.declared.line.Line.TheVariants as line
+use Rattle.x10_place.specs.declared.route.Route.TheVariants as route
+use Rattle.x10_place.specs.declared.route.Make.{Make}
+use Rattle.x10_place.specs.Frames.{Overfills}
 use Rattle.x10_place.specs.Homes.{AreHomes}
+use Rattle.x10_place.specs.Routes.{route_of}
 use Rattle.x10_place.specs.Stays.{StayState, StoreState, IsPlaced}
 
 -- what callers see of a place: the module with the bounds of its functions, its number and how many there are, the stays
@@ -47,18 +54,29 @@ place_of verified id places stays store stopped = record { program = verified.pr
 abbrev pub with_stays : PlaceState → Slab StayState → StoreState → PlaceState
 with_stays p stays s = record p { stays = stays; heap = s.heap; lines = s.lines; opened = s.opened }
 
--- what the meaning of its words rests on, where it is known what other places export
-abbrev pub context_of : (ℕ → ℕ → ℕ → Bool) → PlaceState → Context
-context_of far p = record { classes = p.program.classes; here = p.id; places = p.places; heap = p.heap; far = far }
+-- which home, number and class name an object at another place
+abbrev pub Far : Type 0
+Far = ℕ → ℕ → ℕ → Bool
+
+-- what the meaning of words rests on, at a place with a heap, where it is known what other places export
+abbrev pub context : Setting → ℕ → HeapState → Far → Context
+context setting here heap far = record { classes = setting.program.classes; here = here; places = setting.places; heap = heap; far = far }
+
+-- what does not change in a run
+abbrev pub setting_of : PlaceState → Setting
+setting_of p = record { program = p.program; places = p.places }
+
+abbrev pub context_of : Far → PlaceState → Context
+context_of far p = context (setting_of p) p.id p.heap far
 
 -- a line as the machine has it
 abbrev pub line_as : Line → machine.Line
 line_as (line.Int z) = Number z
 line_as (line.Text t) = Words (string_bytes t)
 
--- a consistent assignment for each function
+-- the least consistent assignment of each function
 abbrev pub Assigned : Module → Type 0
-Assigned program = (f : ℕ) (function : Function) → function_at program f ≡ Some function → HasAssignment program function
+Assigned program = (f : ℕ) (function : Function) → function_at program f ≡ Some function → HasLeast program function
 
 -- each register of which the kind is known holds a value, and its word stands for that value
 abbrev pub HoldRegisters : Context → State → (ℕ → Option Value) → List ℕ → Type 0
@@ -101,14 +119,40 @@ pub record StandsForStay (program : Module) (assigned : Assigned program) (x : C
   pub back : s.back ≡ a.back
   pub home : IsAtHome a
 
+-- ---- words with their kinds
+
+-- The words of a call frame have the kinds that the verifier knows: beside this heap it stands for some call frame.
+pub record IsTypedFrame (program : Module) (heap : HeapState) (f : CallFrame) : Type 0 where
+  pub assigned : Assigned program
+  pub places : ℕ
+  pub here : ℕ
+  pub far : Far
+  pub frame : machine.CallFrame
+  pub stands : StandsForFrame program assigned (context (record { program = program; places = places }) here heap far) f frame
+  pub cells : Cells
+  pub holds : HoldsHeap (context (record { program = program; places = places }) here heap far) cells
+
+-- The same of all words of a stay: beside this heap it stands for some stay.
+pub record IsTyped (program : Module) (heap : HeapState) (a : StayState) : Type 0 where
+  pub assigned : Assigned program
+  pub places : ℕ
+  pub here : ℕ
+  pub far : Far
+  pub stay : Stay
+  pub stands : StandsForStay program assigned (context (record { program = program; places = places }) here heap far) a stay
+  pub cells : Cells
+  pub holds : HoldsHeap (context (record { program = program; places = places }) here heap far) cells
+
+-- ---- places
+
 -- the machine's exports are those of the heap, and each names an object of its class
 pub record HoldsExports (heap : HeapState) (exports : List machine.Export) : Type 0 where
   pub exports_are : exports ≡ map export_as heap.exports
   pub named : (id : ℕ) (e : Export) → slice_get heap.exports id ≡ Some e → (o : ObjectState) × (slice_get heap.objects e.object ≡ Some o) × (o.class ≡ e.class)
 
 -- A place of the program stands for a place of the machine, where it is known what other places export: the same stays
--- under the same keys, the same heap, exports and output, and as many finishes opened. So far no heap has a text.
-pub record StandsFor (far : ℕ → ℕ → ℕ → Bool) (p : PlaceState) (m : machine.Place) : Type 0 where
+-- under the same keys, the same heap, exports and output, and as many finishes opened.
+pub record StandsFor (far : Far) (p : PlaceState) (m : machine.Place) : Type 0 where
   pub assigned : Assigned p.program
   pub none : (key : ℕ) → get p.stays key ≡ None → m.stays key ≡ None
   pub some : (key : ℕ) (a : StayState) → get p.stays key ≡ Some a → (s : Stay) × (m.stays key ≡ Some s) × StandsForStay p.program assigned (context_of far p) a s
@@ -117,7 +161,6 @@ pub record StandsFor (far : ℕ → ℕ → ℕ → Bool) (p : PlaceState) (m : 
   pub exports : HoldsExports p.heap m.exports
   pub opened : m.opened ≡ p.opened
   pub lines : m.lines ≡ map line_as p.lines
-  pub no_texts : p.heap.texts ≡ []
 
 -- some place of the machine is stood for, whatever other places export
 abbrev pub IsStanding : PlaceState → Type 0
@@ -130,18 +173,28 @@ pub record Keeps (p q : PlaceState) : Type 0 where
   pub id : q.id ≡ p.id
   pub places : q.places ≡ p.places
 
--- what does not change in a run
-abbrev pub setting_of : PlaceState → Setting
-setting_of p = record { program = p.program; places = p.places }
-
 -- From a place of the machine that the old state stands for, the move of the activity with the key leads to one that
 -- the new state stands for.
-abbrev pub Leads : (ℕ → ℕ → ℕ → Bool) → PlaceState → machine.Place → ℕ → Effect → PlaceState → Type 0
+abbrev pub Leads : Far → PlaceState → machine.Place → ℕ → Effect → PlaceState → Type 0
 Leads far p m key effect q = (new : machine.Place) × Moves (setting_of p) p.id m key new effect × StandsFor far q new
 
 -- each place of the machine that the state stands for makes such a move
 abbrev pub LeadsAll : PlaceState → ℕ → PlaceState → Type 0
-LeadsAll p key q = (far : ℕ → ℕ → ℕ → Bool) (m : machine.Place) → StandsFor far p m → (effect : Effect) × Leads far p m key effect q
+LeadsAll p key q = (far : Far) (m : machine.Place) → StandsFor far p m → (effect : Effect) × Leads far p m key effect q
+
+-- the instruction of the activity with the key would make one more of what there can be no more of
+pub record IsOverfull (p : PlaceState) (key limit : ℕ) : Type 0 where
+  pub stay : StayState
+  pub is_there : get p.stays key ≡ Some stay
+  pub instr : Instr
+  pub instr_is : instr_at p.program stay.top.function stay.top.pc ≡ Some instr
+  pub made : Make
+  pub route_is : route_of instr.op ≡ route.Make made
+  pub overfills : Overfills made p.heap stay.top.registers.items instr limit
+
+-- why a step of the activity with the key is not made: memory was refused, or it would pass a limit
+abbrev pub IsHindered : PlaceState → ℕ → Stop → Type 0
+IsHindered p key why = (why ≡ stop.Memory) ⊎ ((limit : ℕ) × (why ≡ stop.Limit limit) × IsOverfull p key limit)
 
 -- a step of the activity with the key would find nothing to do: there is none
 abbrev pub IsIdleAt : PlaceState → ℕ → Type 0

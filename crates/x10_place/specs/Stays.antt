@@ -1,21 +1,26 @@
 -- Stays of activities at a place: what they are, and what a step does to one and to what the place keeps.
-use Rattle.std.specs.Prelude.{◌≡◌, ℕ, ◌+◌, ◌<◌, ◌≤◌, Bool, true, false, List, [], ◌∷◌, ◌++◌, length, Option, Some, None, slice_set}
+use Rattle.std.specs.Prelude.{◌≡◌, ℕ, ◌+◌, ◌<◌, ◌≤◌, Bool, true, false, List, [], ◌∷◌, ◌++◌, length, Option, Some, None, slice_get, slice_set, string_bytes}
+use Rattle.x10_kinds.specs.declared.kind.Kind.TheVariants as kind
+use Rattle.x10_kinds.specs.declared.stop.Stop.{Stop}
+use Rattle.x10_kinds.specs.declared.stop.Stop.TheVariants as stop
 use Rattle.x10_code.specs.declared.op.Op.TheVariants as op
 use Rattle.x10_code.specs.declared.instr.Instr.{Instr}
 use Rattle.x10_model.specs.Modules.{Module, Function}
 use Rattle.x10_model.specs.declared.slot.Slot.{Slot}
+use Rattle.x10_model.specs.Assignments.{State, IsKind}
 use Rattle.x10_model.specs.Places.{Finish, Origin}
 use Rattle.x10_model.specs.Ranges.{function_at, instr_at, result_of}
 use Rattle.x10_finish.specs.declared.finish.Finish as finish
 use Rattle.x10_heap.specs.Heaps.{HeapState, empty}
+use Rattle.x10_verify.specs.Least.{HasLeast}
+use Rattle.x10_verify.specs.Printing.{PrintsText}
 use Rattle.x10_place.specs.declared.frame.CallFrame.{CallFrame}
 use Rattle.x10_place.specs.declared.stay.Origin as stay
 use Rattle.x10_place.specs.declared.line.Line.{Line}
 use Rattle.x10_place.specs.declared.line.Line.TheVariants as line
 use Rattle.x10_place.specs.declared.route.Route.{Route}
 use Rattle.x10_place.specs.declared.route.Route.TheVariants as route
-use Rattle.x10_place.specs.declared.route.Local.{Local}
-use Rattle.x10_place.specs.Frames.{Workspace, space_of, word_at, int_at, IsInside, IsFetchedFor, Acts, IsEntered}
+use Rattle.x10_place.specs.Frames.{Workspace, space_of, word_at, int_at, IsInside, IsFetchedFor, Acts, Reads, Makes, ReadsMake, IsRefused, IsEntered}
 
 -- what callers see of a stay: the frame of the function that it executes, and those of the functions that called it, the
 -- last one last; the numbers of the finishes that it opened and hasn't closed, the last one first, and the one that it
@@ -70,9 +75,9 @@ pub record IsPlaced (program : Module) (a : StayState) : Type 0 where
 
 -- ---- steps
 
--- an operation of the top frame
-pub record ActsOnTop (l : Local) (program : Module) (a : StayState) (s : StoreState) (i : Instr) (b : StayState) (t : StoreState) : Type 0 where
-  pub acts : Acts l program (space_of a.top s.heap) i (space_of b.top t.heap)
+-- the top frame and the heap change so, and nothing else does
+pub record ChangesTop (change : Workspace → Workspace → Type 0) (a : StayState) (s : StoreState) (b : StayState) (t : StoreState) : Type 0 where
+  pub changes : change (space_of a.top s.heap) (space_of b.top t.heap)
   pub function_is : b.top.function ≡ a.top.function
   pub rest : b ≡ record a { top = b.top }
   pub store : t ≡ record s { heap = t.heap }
@@ -117,16 +122,40 @@ abbrev pub Returns : Module → StayState → Instr → Bool → StayState → T
 Returns program a i true b = Resumes program a i b
 Returns program a i false b = a.callers ≡ []
 
--- a number is printed
-pub record Prints (a : StayState) (s : StoreState) (i : Instr) (b : StayState) (t : StoreState) : Type 0 where
+-- the least consistent assignment knows a number where the PRINT stands, if it has a state there
+abbrev pub PrintsNumber : Module → ℕ → ℕ → ℕ → Type 0
+PrintsNumber program f pc r = (function : Function) (is : function_at program f ≡ Some function) (assigned : HasLeast program function) (s : State) → assigned.0 pc ≡ Some s → IsKind s r kind.Int
+
+-- what a PRINT says of its register: a number, or a text
+abbrev pub IsPrinted : Module → HeapState → CallFrame → ℕ → Line → Type 0
+IsPrinted program heap f r (line.Int z) = PrintsNumber program f.function f.pc r × (z ≡ int_at f.registers.items r)
+IsPrinted program heap f r (line.Text text) = PrintsText program f.function f.pc × (slice_get heap.texts (word_at f.registers.items r) ≡ Some (string_bytes text))
+
+-- a line is printed
+pub record Prints (program : Module) (a : StayState) (s : StoreState) (i : Instr) (b : StayState) (t : StoreState) : Type 0 where
+  pub printed : Line
+  pub is_printed : IsPrinted program s.heap a.top i.a printed
   pub top : GoesNext a.top b.top
   pub rest : b ≡ record a { top = b.top }
-  pub store : t ≡ record s { lines = s.lines ++ line.Int (int_at a.top.registers.items i.a) ∷ [] }
+  pub store : t ≡ record s { lines = s.lines ++ printed ∷ [] }
 
 -- what an operation does to a stay and to what the place keeps, and whether the stay goes on
 abbrev pub Steps : Route → Module → StayState → StoreState → Instr → Bool → StayState → StoreState → Type 0
-Steps (route.Local l) program a s i goes b t = (goes ≡ true) × ActsOnTop l program a s i b t
+Steps (route.Local l) program a s i goes b t = (goes ≡ true) × ChangesTop (λ v w. Acts l program v i w) a s b t
+Steps (route.Make m) program a s i goes b t = (goes ≡ true) × ChangesTop (λ v w. Makes m program v i w) a s b t
 Steps route.Call program a s i goes b t = (goes ≡ true) × Calls program a i b × (t ≡ s)
 Steps route.Return program a s i goes b t = Returns program a i goes b × (t ≡ s)
-Steps route.Print program a s i goes b t = (goes ≡ true) × Prints a s i b t
+Steps route.Print program a s i goes b t = (goes ≡ true) × Prints program a s i b t
 Steps route.Later program a s i goes b t = ⊥
+
+-- what an operation reads in the heap is there
+abbrev pub ReadsHeap : Route → Module → StayState → HeapState → Instr → Type 0
+ReadsHeap (route.Local l) program a heap i = Reads l heap a.top.registers.items i
+ReadsHeap (route.Make m) program a heap i = ReadsMake m heap a.top.registers.items i
+ReadsHeap route.Print program a heap i = PrintsText program a.top.function a.top.pc → word_at a.top.registers.items i.a < length heap.texts
+ReadsHeap _ program a heap i = Unit {0}
+
+-- why an operation is refused: for want of memory, or since there can be no more of what it makes
+abbrev pub Refuses : Route → StayState → HeapState → Instr → Stop → Type 0
+Refuses (route.Make m) a heap i why = IsRefused m heap a.top.registers.items i why
+Refuses _ a heap i why = why ≡ stop.Memory

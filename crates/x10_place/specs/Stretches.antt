@@ -1,6 +1,7 @@
 -- Steps of one activity at a stretch.
 use Rattle.std.specs.Prelude.{◌≡◌, ℕ, ◌+◌, Bool, true, false, Some, length}
 use Rattle.slab.specs.Slab.{get}
+use Rattle.x10_kinds.specs.declared.stop.Stop.{Stop}
 use Rattle.x10_code.specs.declared.instr.Instr.{Instr}
 use Rattle.x10_model.specs.Modules.{Module}
 use Rattle.x10_place.specs.declared.route.Route.TheVariants as route
@@ -8,7 +9,7 @@ use Rattle.x10_place.specs.declared.route.Local.{Local}
 use Rattle.x10_place.specs.declared.stay.Pause.{Pause}
 use Rattle.x10_place.specs.declared.stay.Pause.TheVariants as pause
 use Rattle.x10_place.specs.Frames.{Workspace, IsFetched, IsFetchedFor, Acts}
-use Rattle.x10_place.specs.Stays.{StayState, StoreState, IsPlaced, Steps}
+use Rattle.x10_place.specs.Stays.{StayState, StoreState, IsPlaced, Steps, Refuses}
 use Rattle.x10_place.specs.StandsFor.{PlaceState, Keeps, LeadsAll}
 use Rattle.x10_place.specs.Routes.{route_of}
 
@@ -50,10 +51,16 @@ pub record EndsStretch (program : Module) (a : StayState) (s : StoreState) (n : 
   pub stretch : Stretch program a s before last kept
   pub ends : IsStep program last kept false c u
 
+-- the stay stands at an instruction whose step is refused
+pub record IsStopped (program : Module) (a : StayState) (s : StoreState) (why : Stop) : Type 0 where
+  pub instr : Instr
+  pub fetched : IsFetchedFor program a.top instr
+  pub refuses : Refuses (route_of instr.op) a s.heap instr why
+
 -- so many steps, and why no more at once
 abbrev pub Paused : Pause → Module → StayState → StoreState → ℕ → StayState → StoreState → Type 0
 Paused pause.Goes program a s n b t = Stretch program a s n b t
-Paused pause.Refused program a s n b t = Stretch program a s n b t
+Paused (pause.Refused why) program a s n b t = Stretch program a s n b t × IsStopped program b t why
 Paused pause.Ended program a s n b t = EndsStretch program a s n b t
 
 -- ---- at a place

@@ -2,20 +2,22 @@
 ghost use Rattle.std.specs.Prelude.{◌≡◌, ◌≢◌, ◌+◌, ◌<◌, ◌≤◌, ◌^◌, ℕ, OnErr, IfOk, Some, length, slice_index};
 ghost use Rattle.std.specs.Int.{w64, cast_signed};
 ghost use Rattle.x10_code.specs.declared.op.Op.TheVariants as op;
-ghost use Rattle.x10_heap.specs.Heaps.{HeapState};
 ghost use Rattle.x10_model.specs.Moves as machine;
 ghost use Rattle.x10_model.specs.Values.{Int};
 ghost use Rattle.x10_place.specs.declared.route.Local.TheVariants as local;
-ghost use Rattle.x10_place.specs.Frames.{IsInside, IsFetchedFor, int_at, workspace, space_of, with_space, as_value, given, divided, Acts, AsksNumber, Asks, IsEntered};
+ghost use Rattle.x10_place.specs.Frames.{IsInside, IsFetchedFor, int_at, workspace, space_of, with_space, as_value, given, tried, Acts, AsksNumber, Asks, ReadsNumber, ReadsPartial, Reads, IsEntered};
 ghost use Rattle.x10_place.specs.Routes.{route_of};
+ghost use Rattle.x10_place.specs.StandsFor.{IsTypedFrame};
 ghost use Rattle.x10_place.specs.Stays.{GoesNext, GoesNextWith};
 ghost use Rattle.x10_place.specs.Stretches.{Locally};
 
-use crate::route::{Division, Local, Number, Route, classify};
+use crate::heap::{field, rail_byte, rail_length, set_field, set_rail_byte, text_length};
+use crate::route::{Local, Number, Partial, Route, classify};
 use crate::store::Store;
 use smallvec::SmallVec;
 use std::alloc::{AllocError, Global};
 use x10_code::Instr;
+use x10_heap::Heap;
 use x10_verify::Verified;
 
 /// A function that is being executed: the number of its next instruction, a word for each register, and how often each
@@ -60,9 +62,16 @@ fn remainder(x: i64, y: i64) -> Option<i64>
 
 /// The number that an operation gives.
 #[inline(always)]
-fn number(registers: &[u64], verified: &Verified, number: Number, instr: Instr) -> i64
-    requires { AsksNumber number verified.now.program (length registers.now) instr }
-    ensures { Some (Int result) ≡ given number verified.now.program registers.now instr }
+fn number(
+    registers: &[u64],
+    heap: &Heap,
+    verified: &Verified,
+    number: Number,
+    instr: Instr,
+) -> i64
+    requires asks { AsksNumber number verified.now.program (length registers.now) instr }
+    requires reads { ReadsNumber number heap.now registers.now instr }
+    ensures { Some (Int result) ≡ given number verified.now.program heap.now registers.now instr }
 {
     match number {
         Number::Constant => verified.image().int(instr.x as usize),
@@ -71,20 +80,24 @@ fn number(registers: &[u64], verified: &Verified, number: Number, instr: Instr) 
         Number::Product => int(registers, instr.b).wrapping_mul(int(registers, instr.c)),
         Number::Less => i64::from(int(registers, instr.b) < int(registers, instr.c)),
         Number::Equal => i64::from(int(registers, instr.b) == int(registers, instr.c)),
+        Number::RailLength => rail_length(heap, registers[usize::from(instr.b)]),
+        Number::TextLength => text_length(heap, registers[usize::from(instr.b)]),
     }
 }
 
-/// The number that a division gives, if there is one.
+/// The number that an operation gives, if there is one.
 #[inline(always)]
-fn divide(registers: &[u64], division: Division, instr: Instr) -> Option<i64>
+fn attempt(registers: &[u64], heap: &Heap, partial: Partial, instr: Instr) -> Option<i64>
     requires b { instr.b < length registers.now }
     requires c { instr.c < length registers.now }
-    ensures { as_value result ≡ divided division registers.now instr }
+    requires reads { ReadsPartial partial heap.now registers.now instr }
+    ensures { as_value result ≡ tried partial heap.now registers.now instr }
 {
     let (x, y) = (int(registers, instr.b), int(registers, instr.c));
-    match division {
-        Division::Quotient => quotient(x, y),
-        Division::Remainder => remainder(x, y),
+    match partial {
+        Partial::Quotient => quotient(x, y),
+        Partial::Remainder => remainder(x, y),
+        Partial::Byte => rail_byte(heap, registers[usize::from(instr.b)], y),
     }
 }
 
@@ -93,24 +106,26 @@ fn divide(registers: &[u64], division: Division, instr: Instr) -> Option<i64>
 fn act(
     registers: &mut [u64],
     loops: &mut [u32; 8],
+    heap: &mut Heap,
     verified: &Verified,
     local: Local,
     pc: u16,
     instr: Instr,
 ) -> u16
     requires asks { Asks local verified.now.program (length registers.old) instr }
+    requires reads { Reads local heap.old registers.old instr }
     requires next { pc + 1 < 2 ^ 16 }
-    ensures { (heap : HeapState) → Acts local verified.now.program (workspace pc registers.old loops.old heap) instr (workspace result registers.new loops.new heap) }
+    ensures { Acts local verified.now.program (workspace pc registers.old loops.old heap.old) instr (workspace result registers.new loops.new heap.new) }
 {
     match local {
         Local::Number(function) => {
             registers[usize::from(instr.a)] = number(
-                registers, verified, function, instr,
+                registers, heap, verified, function, instr,
             ).cast_unsigned();
             pc + 1
         }
-        Local::Division(division) => {
-            let Some(number) = divide(registers, division, instr) else {
+        Local::Partial(partial) => {
+            let Some(number) = attempt(registers, heap, partial, instr) else {
                 return instr.x as u16;
             };
             registers[usize::from(instr.a)] = number.cast_unsigned();
@@ -118,6 +133,39 @@ fn act(
         }
         Local::Copy => {
             registers[usize::from(instr.a)] = registers[usize::from(instr.b)];
+            pc + 1
+        }
+        Local::Null => {
+            registers[usize::from(instr.a)] = 0;
+            pc + 1
+        }
+        Local::NotNull => {
+            let word = registers[usize::from(instr.b)];
+            if word == 0 {
+                return instr.x as u16;
+            }
+            registers[usize::from(instr.a)] = word;
+            pc + 1
+        }
+        Local::GetField => {
+            let word = field(heap, registers[usize::from(instr.b)], instr.c);
+            registers[usize::from(instr.a)] = word;
+            pc + 1
+        }
+        Local::SetField => {
+            let (object, word) = (
+                registers[usize::from(instr.a)],
+                registers[usize::from(instr.b)],
+            );
+            set_field(heap, object, instr.c, word);
+            pc + 1
+        }
+        Local::SetByte => {
+            let rail = registers[usize::from(instr.a)];
+            let (index, number) = (int(registers, instr.b), int(registers, instr.c));
+            if !set_rail_byte(heap, rail, index, number) {
+                return instr.x as u16;
+            }
             pc + 1
         }
         Local::Jump => instr.x as u16,
@@ -167,16 +215,18 @@ impl CallFrame {
     }
 
     /// One operation of this frame alone.
-    pub(crate) fn act(&mut self, verified: &Verified, local: Local, instr: Instr)
+    pub(crate) fn act(&mut self, heap: &mut Heap, verified: &Verified, local: Local, instr: Instr)
         requires asks { Asks local verified.now.program (length self.old.registers.items) instr }
+        requires reads { Reads local heap.old self.old.registers.items instr }
         requires next { self.old.pc + 1 < 2 ^ 16 }
-        ensures acts { (heap : HeapState) → Acts local verified.now.program (space_of self.old heap) instr (space_of self.new heap) }
+        ensures acts { Acts local verified.now.program (space_of self.old heap.old) instr (space_of self.new heap.new) }
         ensures function { self.new.function ≡ self.old.function }
     {
         let pc = self.pc;
         self.pc = act(
             self.registers.as_mut_slice(),
             &mut self.loops,
+            heap,
             verified,
             local,
             pc,
@@ -186,11 +236,12 @@ impl CallFrame {
 
     /// Operations of this frame alone, one after another: as many as come before one that isn't, and at most so many. How
     /// many there were.
-    pub(crate) fn stretch(&mut self, verified: &Verified, most: u64) -> u64
-        requires { IsInside verified.now.program self.old }
-        ensures ran { (heap : HeapState) → Locally verified.now.program self.old.function (space_of self.old heap) result (space_of self.new heap) }
+    pub(crate) fn stretch(&mut self, heap: &mut Heap, verified: &Verified, most: u64) -> u64
+        requires inside { IsInside verified.now.program self.old }
+        requires typed { IsTypedFrame verified.now.program heap.old self.old }
+        ensures ran { Locally verified.now.program self.old.function (space_of self.old heap.old) result (space_of self.new heap.new) }
         ensures inside { IsInside verified.now.program self.new }
-        ensures kept { (heap : HeapState) → self.new ≡ with_space self.old (space_of self.new heap) }
+        ensures kept { self.new ≡ with_space self.old (space_of self.new heap.new) }
         ensures few { result ≤ most }
     {
         verified.certificate();
@@ -205,7 +256,7 @@ impl CallFrame {
                 self.pc = pc;
                 return done;
             };
-            pc = act(registers, loops, verified, local, pc, instr);
+            pc = act(registers, loops, heap, verified, local, pc, instr);
         }
         self.pc = pc;
         most

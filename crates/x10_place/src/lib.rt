@@ -2,7 +2,9 @@
 #![tactic(auto)]
 
 mod frame;
+mod heap;
 mod line;
+mod making;
 mod opening;
 mod place;
 mod route;

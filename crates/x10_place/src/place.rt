@@ -1,7 +1,7 @@
 ghost use Rattle.std.specs.Prelude.{◌≡◌, ◌≢◌, ◌<◌, ◌≤◌, ◌↔◌, ℕ, true, IsTrue, IfOk, IfErr, IfSome, MatchOption, Ok, Err, Some, None};
 ghost use Rattle.slab.specs.Slab.{get, Updates};
 ghost use Rattle.x10_kinds.specs.declared.stop.Stop.TheVariants as stop;
-ghost use Rattle.x10_place.specs.StandsFor.{PlaceState, LeadsAll, Keeps, IsIdleAt, IsAt, IsOperation};
+ghost use Rattle.x10_place.specs.StandsFor.{PlaceState, LeadsAll, Keeps, IsIdleAt, IsOverfull, IsHindered, IsAt, IsOperation};
 ghost use Rattle.x10_place.specs.Opening.{IsNew, IsNextKey, Opens};
 ghost use Rattle.x10_place.specs.Stays.{StayState};
 ghost use Rattle.x10_place.specs.Stretches.{Strides};
@@ -56,15 +56,18 @@ fn remove(stays: &mut Slab<Stay>, key: usize)
 }
 
 impl<'a> Place<'a> {
-    /// One step of the activity with a key. A Stop comes only where a growth was refused, or after another; the output
-    /// is then that of the steps before it. Constant time, but that CALL also copies the arguments of the function that
-    /// it calls, and that a list that grows is copied now and then. CALL and PRINT alone take memory.
+    /// One step of the activity with a key. A Stop comes only where a growth was refused, where there can be no more of
+    /// what the step would make (Limit 1: objects, 2: texts, 3: rails; at most 2^32 - 1 of each), or after another Stop;
+    /// the output is then that of the steps before it. Constant time, but that CALL, NEW, RAIL, TEXTK, TCAT and PRINT of
+    /// a text also copy or fill what they make, and that a list that grows is copied now and then. These and PRINT of a
+    /// number alone take memory.
     pub fn step(&mut self, key: usize) -> Result<Stepped, Stop>
         ensures idle { self.old.stopped ≢ true → IsIdleAt self.old key → (result ≡ Ok Stepped.Idle) × (self.new ≡ self.old) }
         ensures some { (a : StayState) → get self.old.stays key ≡ Some a → IfOk result (λ _. LeadsAll self.old key self.new) }
         ensures moved { (a : StayState) → get self.old.stays key ≡ Some a → IfOk result (λ stepped. stepped ≡ Stepped.Moved) }
         ensures stopped { self.old.stopped ≡ true → result ≡ Err stop.Stopped }
-        ensures memory { self.old.stopped ≢ true → IfErr result (λ why. why ≡ stop.Memory) }
+        ensures refused { self.old.stopped ≢ true → IfErr result (IsHindered self.old key) }
+        ensures full { self.old.stopped ≢ true → (limit : ℕ) → IsOverfull self.old key limit → result ≡ Err (stop.Limit limit) }
         ensures stop { IfErr result (λ _. self.new ≡ record self.old { stopped = true }) }
         ensures goes { IfOk result (λ _. self.new.stopped ≢ true) }
         ensures kept { Keeps self.old self.new }
@@ -78,14 +81,17 @@ impl<'a> Place<'a> {
         };
         verified.certificate();
         let instr = verified.fetch(usize::from(stay.top.function), usize::from(stay.top.pc));
-        let Ok(goes) = stay.step(self.alloc, verified, &mut self.store, instr) else {
-            self.stopped = true;
-            return Err(Stop::Memory);
-        };
-        if !goes {
-            remove(&mut self.stays, key);
+        match stay.step(self.alloc, verified, &mut self.store, instr) {
+            Ok(true) => Ok(Stepped::Moved),
+            Ok(false) => {
+                remove(&mut self.stays, key);
+                Ok(Stepped::Moved)
+            }
+            Err(why) => {
+                self.stopped = true;
+                Err(why)
+            }
         }
-        Ok(Stepped::Moved)
     }
 }
 
@@ -94,11 +100,10 @@ impl<'a> Place<'a> {
     /// one that is refused. How many were made, and why no more, where one was refused. Each is as `step` makes it, and
     /// moves; but the activity is looked up once, and operations of one call frame touch nothing else.
     pub fn run(&mut self, key: usize, most: u64) -> (u64, Option<Stop>)
-        ensures ran { MatchOption result.1 (Strides key self.old result.0 self.new) (λ _. (p : PlaceState) × Strides key self.old result.0 p × (self.new ≡ record p { stopped = true })) }
+        ensures ran { MatchOption result.1 (Strides key self.old result.0 self.new) (λ why. (p : PlaceState) × Strides key self.old result.0 p × (self.new ≡ record p { stopped = true }) × (self.old.stopped ≢ true → IsHindered p key why)) }
         ensures few { result.0 ≤ most }
         ensures all { result.1 ≡ None → result.0 < most → IsIdleAt self.new key }
         ensures stopped { self.old.stopped ≡ true → (result.0 ≡ 0) × (result.1 ≡ Some stop.Stopped) }
-        ensures memory { self.old.stopped ≢ true → IfSome result.1 (λ why. why ≡ stop.Memory) }
         ensures goes { result.1 ≡ None → self.new.stopped ≢ true }
         ensures kept { Keeps self.old self.new }
     {
@@ -117,9 +122,9 @@ impl<'a> Place<'a> {
                 remove(&mut self.stays, key);
                 (done, None)
             }
-            Pause::Refused => {
+            Pause::Refused(why) => {
                 self.stopped = true;
-                (done, Some(Stop::Memory))
+                (done, Some(why))
             }
         }
     }
@@ -139,6 +144,7 @@ impl<'a> Place<'a> {
         ensures opening { IfOk result Opens }
     {
         verified.certificate();
+        verified.assignments();
         let stays = if id == 0 {
             with_main(alloc, verified)?
         } else {

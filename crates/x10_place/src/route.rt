@@ -4,7 +4,7 @@ ghost use Rattle.x10_place.specs.Routes.{route_of};
 
 use x10_code::Op;
 
-/// What gives a number, from the module's constants or from two registers.
+/// What gives a number: a constant of the module, two registers, or the length of a rail or text.
 #[derive(Clone, Copy, Debug, PartialEq, Eq)]
 pub(crate) enum Number {
     Constant,
@@ -13,24 +13,37 @@ pub(crate) enum Number {
     Product,
     Less,
     Equal,
+    RailLength,
+    TextLength,
 }
 
-/// What gives a number from two registers, unless the second is 0.
+/// What gives a number, or none: a quotient or remainder by 0, or a byte of a rail where there is none.
 #[derive(Clone, Copy, Debug, PartialEq, Eq)]
-pub(crate) enum Division {
+pub(crate) enum Partial {
     Quotient,
     Remainder,
+    Byte,
 }
 
-/// An operation that changes its own call frame alone, and takes no memory.
+/// An operation that changes its own call frame, a field of an object or a byte of a rail, and takes no memory.
 #[derive(Clone, Copy, Debug, PartialEq, Eq)]
 pub(crate) enum Local {
     /// Writes a number to a register.
     Number(Number),
     /// Writes a number to a register, or goes to x where there is none.
-    Division(Division),
+    Partial(Partial),
     /// Copies a register.
     Copy,
+    /// Writes null to a register.
+    Null,
+    /// Copies a register that isn't null, or goes to x where it is.
+    NotNull,
+    /// Copies a field of an object to a register.
+    GetField,
+    /// Copies a register to a field of an object.
+    SetField,
+    /// Writes a byte of a rail, or goes to x where there is none.
+    SetByte,
     /// Goes to x.
     Jump,
     /// Goes to x where a register is 0.
@@ -41,10 +54,24 @@ pub(crate) enum Local {
     EndLoop,
 }
 
+/// What an operation makes in the heap.
+#[derive(Clone, Copy, Debug, PartialEq, Eq)]
+pub(crate) enum Make {
+    /// A text that the module has.
+    Text,
+    /// A text of two joined; goes to x where it would be too long.
+    JoinedText,
+    /// An object with its fields from registers.
+    Object,
+    /// A rail of zeros; goes to x where there is no such length.
+    Rail,
+}
+
 /// What an operation does.
 #[derive(Clone, Copy, Debug, PartialEq, Eq)]
 pub(crate) enum Route {
     Local(Local),
+    Make(Make),
     Call,
     Return,
     Print,
@@ -62,8 +89,8 @@ pub(crate) fn classify(op: Op) -> Route
         Op::Add => Route::Local(Local::Number(Number::Sum)),
         Op::Sub => Route::Local(Local::Number(Number::Difference)),
         Op::Mul => Route::Local(Local::Number(Number::Product)),
-        Op::Div => Route::Local(Local::Division(Division::Quotient)),
-        Op::Rem => Route::Local(Local::Division(Division::Remainder)),
+        Op::Div => Route::Local(Local::Partial(Partial::Quotient)),
+        Op::Rem => Route::Local(Local::Partial(Partial::Remainder)),
         Op::Lt => Route::Local(Local::Number(Number::Less)),
         Op::Eq => Route::Local(Local::Number(Number::Equal)),
         Op::Move => Route::Local(Local::Copy),
@@ -74,19 +101,19 @@ pub(crate) fn classify(op: Op) -> Route
         Op::Call => Route::Call,
         Op::Ret => Route::Return,
         Op::Print => Route::Print,
-        Op::Textk
-        | Op::Tlen
-        | Op::Tcat
-        | Op::New
-        | Op::Get
-        | Op::Put
-        | Op::Null
-        | Op::Ifobj
-        | Op::Rail
-        | Op::Rget
-        | Op::Rset
-        | Op::Rlen
-        | Op::Here
+        Op::Textk => Route::Make(Make::Text),
+        Op::Tlen => Route::Local(Local::Number(Number::TextLength)),
+        Op::Tcat => Route::Make(Make::JoinedText),
+        Op::New => Route::Make(Make::Object),
+        Op::Get => Route::Local(Local::GetField),
+        Op::Put => Route::Local(Local::SetField),
+        Op::Null => Route::Local(Local::Null),
+        Op::Ifobj => Route::Local(Local::NotNull),
+        Op::Rail => Route::Make(Make::Rail),
+        Op::Rget => Route::Local(Local::Partial(Partial::Byte)),
+        Op::Rset => Route::Local(Local::SetByte),
+        Op::Rlen => Route::Local(Local::Number(Number::RailLength)),
+        Op::Here
         | Op::Placek
         | Op::Placen
         | Op::Placei

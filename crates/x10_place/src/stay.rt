@@ -1,10 +1,16 @@
 //! The stay of an activity at this place, and one step of it.
-ghost use Rattle.std.specs.Prelude.{◌≡◌, ◌≢◌, ◌+◌, ◌<◌, ◌≤◌, ◌^◌, IsTrue, OnErr, OnOk, IfOk, length};
+ghost use Rattle.std.specs.Prelude.{◌≡◌, ◌≢◌, ◌+◌, ◌<◌, ◌≤◌, ◌^◌, ℕ, true, Err, IsTrue, OnErr, OnOk, IfErr, IfOk, length};
 ghost use Rattle.x10_code.specs.declared.op.Op.TheVariants as op;
+ghost use Rattle.x10_kinds.specs.declared.stop.Stop.TheVariants as stop;
+ghost use Rattle.x10_code.specs.declared.instr.Instr.{Instr};
 ghost use Rattle.x10_model.specs.Modules.{is_supported};
-ghost use Rattle.x10_place.specs.Frames.{IsFetchedFor};
+ghost use Rattle.x10_verify.specs.Printing.{PrintsText};
+ghost use Rattle.x10_place.specs.declared.route.Make as makes;
+ghost use Rattle.x10_place.specs.declared.route.Route.TheVariants as route;
+ghost use Rattle.x10_place.specs.Frames.{IsFetchedFor, Overfills, word_at};
 ghost use Rattle.x10_place.specs.Routes.{route_of};
-ghost use Rattle.x10_place.specs.Stays.{IsPlaced, Calls, Returns, Prints, Steps};
+ghost use Rattle.x10_place.specs.StandsFor.{IsTyped};
+ghost use Rattle.x10_place.specs.Stays.{IsPlaced, Calls, Returns, IsPrinted, Prints, ReadsHeap, Refuses, Steps};
 ghost use Rattle.x10_place.specs.Stretches.{Paused};
 
 use crate::frame::CallFrame;
@@ -15,6 +21,8 @@ use std::alloc::{AllocError, Global};
 use std::marker::Model;
 use x10_code::Instr;
 use x10_finish::Finish;
+use x10_heap::Heap;
+use x10_kinds::Stop;
 use x10_verify::Verified;
 
 /// The stay that waits for a result: at which place, and its key there.
@@ -91,40 +99,83 @@ impl Stay {
         true
     }
 
-    /// Prints the number in a register. Where memory is refused, nothing has changed.
-    fn print(&mut self, store: &mut Store, instr: Instr) -> Result<(), AllocError>
+    /// The line that a PRINT of a register gives: its number, or its text, which is copied.
+    fn line(
+        &self,
+        alloc: Global,
+        verified: &Verified,
+        heap: &Heap,
+        register: u8,
+    ) -> Result<Line, AllocError>
+        requires there { register < length self.now.top.registers.items }
+        requires print { (i : Instr) × IsFetchedFor verified.now.program self.now.top i × (i.op ≡ op.Print) × (i.a ≡ register) }
+        requires text { PrintsText verified.now.program self.now.top.function self.now.top.pc → word_at self.now.top.registers.items register < length heap.now.texts }
+        ensures { IfOk result (IsPrinted verified.now.program heap.now self.now.top register) }
+    {
+        let word = self.top.word(register);
+        if !verified.prints_text(usize::from(self.top.function), usize::from(self.top.pc)) {
+            return Ok(Line::Int(word.cast_signed()));
+        }
+        heap.fits();
+        Ok(Line::Text(String::from_str(alloc, heap.text(word as u32))?))
+    }
+
+    /// Prints what a register holds. Where memory is refused, nothing has changed.
+    fn print(
+        &mut self,
+        alloc: Global,
+        verified: &Verified,
+        store: &mut Store,
+        instr: Instr,
+    ) -> Result<(), AllocError>
+        requires fetched { IsFetchedFor verified.now.program self.old.top instr }
+        requires op { instr.op ≡ op.Print }
+        requires reads { ReadsHeap route.Print verified.now.program self.old store.old.heap instr }
         requires there { instr.a < length self.old.top.registers.items }
         requires next { self.old.top.pc + 1 < 2 ^ 16 }
-        ensures ok { OnOk result (Prints self.old store.old instr self.new store.new) }
+        ensures ok { OnOk result (Prints verified.now.program self.old store.old instr self.new store.new) }
         ensures err { OnErr result ((self.new ≡ self.old) × (store.new ≡ store.old)) }
     {
-        store.print(Line::Int(self.top.word(instr.a).cast_signed()))?;
+        let line = self.line(alloc, verified, &store.heap, instr.a)?;
+        store.print(line)?;
         self.top.next();
         Ok(())
     }
 
-    /// One step. False where the stay has ended by it. Where memory is refused, nothing has changed.
+    /// One step. False where the stay has ended by it. Where it is refused, nothing has changed.
     pub(crate) fn step(
         &mut self,
         alloc: Global,
         verified: &Verified,
         store: &mut Store,
         instr: Instr,
-    ) -> Result<bool, AllocError>
+    ) -> Result<bool, Stop>
         requires placed { IsPlaced verified.now.program self.old }
         requires fetched { IsFetchedFor verified.now.program self.old.top instr }
         requires supported { IsTrue (is_supported instr.op) }
+        requires reads { ReadsHeap (route_of instr.op) verified.now.program self.old store.old.heap instr }
         ensures ok { IfOk result (λ goes. Steps (route_of instr.op) verified.now.program self.old store.old instr goes self.new store.new) }
-        ensures err { OnErr result ((self.new ≡ self.old) × (store.new ≡ store.old)) }
+        ensures err { IfErr result (λ why. (self.new ≡ self.old) × (store.new ≡ store.old) × Refuses (route_of instr.op) self.old store.old.heap instr why) }
+        ensures full { (m : makes.Make) (limit : ℕ) → route_of instr.op ≡ route.Make m → Overfills m store.old.heap self.old.top.registers.items instr limit → result ≡ Err (stop.Limit limit) }
     {
-        match classify(instr.op) {
-            Route::Local(local) => self.top.act(verified, local, instr),
-            Route::Call => self.call(alloc, verified, store, instr)?,
+        let made = match classify(instr.op) {
+            Route::Local(local) => {
+                self.top.act(&mut store.heap, verified, local, instr);
+                return Ok(true);
+            }
+            Route::Make(make) => {
+                self.top.make(verified, &mut store.heap, make, instr)?;
+                return Ok(true);
+            }
             Route::Return => return Ok(self.ret(verified, store, instr)),
-            Route::Print => self.print(store, instr)?,
+            Route::Call => self.call(alloc, verified, store, instr),
+            Route::Print => self.print(alloc, verified, store, instr),
             Route::Later => unreachable!(),
+        };
+        match made {
+            Ok(()) => Ok(true),
+            Err(_) => Err(Stop::Memory),
         }
-        Ok(true)
     }
 }
 
@@ -135,8 +186,8 @@ pub(crate) enum Pause {
     Goes,
     /// It has ended.
     Ended,
-    /// The next one asked for memory that was refused.
-    Refused,
+    /// The next one was refused.
+    Refused(Stop),
 }
 
 impl Stay {
@@ -149,15 +200,15 @@ impl Stay {
         store: &mut Store,
         most: u64,
     ) -> (u64, Pause)
-        requires placed { IsPlaced verified.now.program self.old }
+        requires typed { IsTyped verified.now.program store.old.heap self.old }
         requires some { 0 < most }
         ensures ran { Paused result.1 verified.now.program self.old store.old result.0 self.new store.new }
-        ensures placed { result.1 ≢ Pause.Ended → IsPlaced verified.now.program self.new }
+        ensures typed { result.1 ≢ Pause.Ended → IsTyped verified.now.program store.new.heap self.new }
         ensures few { result.0 ≤ most }
         ensures moves { result.1 ≡ Pause.Goes → 0 < result.0 }
     {
         verified.certificate();
-        let done = self.top.stretch(verified, most);
+        let done = self.top.stretch(&mut store.heap, verified, most);
         if done == most {
             return (done, Pause::Goes);
         }
@@ -165,7 +216,7 @@ impl Stay {
         match self.step(alloc, verified, store, instr) {
             Ok(true) => (done + 1, Pause::Goes),
             Ok(false) => (done + 1, Pause::Ended),
-            Err(_) => (done, Pause::Refused),
+            Err(why) => (done, Pause::Refused(why)),
         }
     }
 
@@ -177,7 +228,7 @@ impl Stay {
         store: &mut Store,
         most: u64,
     ) -> (u64, Pause)
-        requires { IsPlaced verified.now.program self.old }
+        requires { IsTyped verified.now.program store.old.heap self.old }
         ensures ran { Paused result.1 verified.now.program self.old store.old result.0 self.new store.new }
         ensures few { result.0 ≤ most }
         ensures all { result.1 ≡ Pause.Goes → result.0 ≡ most }
@@ -189,7 +240,7 @@ impl Stay {
             match pause {
                 Pause::Goes => {}
                 Pause::Ended => return (done, Pause::Ended),
-                Pause::Refused => return (done, Pause::Refused),
+                Pause::Refused(why) => return (done, Pause::Refused(why)),
             }
         }
         (done, Pause::Goes)

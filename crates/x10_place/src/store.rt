@@ -12,7 +12,7 @@ use x10_heap::Heap;
 /// registers of frames that ended, for those to come.
 #[derive(Drop)]
 pub(crate) struct Store {
-    heap: Heap,
+    pub(crate) heap: Heap,
     pub(crate) lines: Vec<Line>,
     opened: u32,
     spare: Vec<SmallVec<u64, 8>>,

@@ -9,7 +9,7 @@ loop-done-init c = (c.requires, still, omega arith)
 
 pub loop-done-preserved : goal.loop-done-preserved
 loop-done-preserved c = (
-  c.stride-count.ensures.placed (not_ended c.stride-count.result.1 c.in-Goes.is),
+  c.stride-count.ensures.typed (not_ended c.stride-count.result.1 c.in-Goes.is),
   paused_on pause.Goes c.args.verified.now.program c.args.self.now c.loop-done.self c.stride-count.new.self c.args.store.now c.loop-done.store c.stride-count.new.store c.loop-done.done c.stride-count.result.0 (c.loop-done.done + c.stride-count.result.0) refl c.loop-done.invariant.1
       (subst (λ p. Paused p c.args.verified.now.program c.loop-done.self c.loop-done.store c.stride-count.result.0 c.stride-count.new.self c.stride-count.new.store) c.in-Goes.is c.stride-count.ensures.ran),
   omega (arith, c.stride-count.ensures.few, c.loop-done.invariant.2),
@@ -20,5 +20,5 @@ returns-in-Ended-clause-ran c = paused_on pause.Ended c.args.verified.now.progra
     (subst (λ p. Paused p c.args.verified.now.program c.loop-done.self c.loop-done.store c.stride-count.result.0 c.stride-count.new.self c.stride-count.new.store) c.in-Ended.is c.stride-count.ensures.ran)
 
 pub returns-in-Refused-clause-ran : goal.returns-in-Refused-clause-ran
-returns-in-Refused-clause-ran c = paused_on pause.Refused c.args.verified.now.program c.args.self.now c.loop-done.self c.stride-count.new.self c.args.store.now c.loop-done.store c.stride-count.new.store c.loop-done.done c.stride-count.result.0 (c.loop-done.done + c.stride-count.result.0) refl c.loop-done.invariant.1
+returns-in-Refused-clause-ran c = paused_on (pause.Refused c.in-Refused.why) c.args.verified.now.program c.args.self.now c.loop-done.self c.stride-count.new.self c.args.store.now c.loop-done.store c.stride-count.new.store c.loop-done.done c.stride-count.result.0 (c.loop-done.done + c.stride-count.result.0) refl c.loop-done.invariant.1
     (subst (λ p. Paused p c.args.verified.now.program c.loop-done.self c.loop-done.store c.stride-count.result.0 c.stride-count.new.self c.stride-count.new.store) c.in-Refused.is c.stride-count.ensures.ran)

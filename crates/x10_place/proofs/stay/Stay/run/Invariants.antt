@@ -1,11 +1,11 @@
 use Rattle.std.proofs.Common.{◌-◌, ◌≤◌}
-use Rattle.x10_place.specs.Stays.{IsPlaced}
+use Rattle.x10_place.specs.StandsFor.{IsTyped}
 use Rattle.x10_place.specs.Stretches.{Stretch}
 use Rattle.x10_place.proofs.stay.Stay.run.Given as goal
 
--- so many steps were made, and the stay stands where it can go on
+-- so many steps were made, and words keep their kinds
 abbrev pub invariant-loop-done : goal.invariant-loop-done
-invariant-loop-done l = IsPlaced l.verified.program l.self × Stretch l.verified.program l.fn.self l.fn.store l.done l.self l.store × (l.done ≤ l.most)
+invariant-loop-done l = IsTyped l.verified.program l.store.heap l.self × Stretch l.verified.program l.fn.self l.fn.store l.done l.self l.store × (l.done ≤ l.most)
 
 abbrev pub decreases-loop-done : goal.decreases-loop-done
 decreases-loop-done l = l.most - l.done
