@@ -1,21 +1,23 @@
 -- Steps of a stay are steps of its place, and a place stands for some place of the machine after each of them.
-use Rattle.std.proofs.Common.{◌≡◌, ℕ, zero, suc, ◌+◌, Bool, true, false, List, [], ◌∷◌, Option, Some, None, refl, sym, ap, subst, ◌∙◌, inl, inr}
+use Rattle.std.proofs.Common.{◌≡◌, ℕ, zero, suc, ◌+◌, ◌≤◌, Bool, true, false, List, [], ◌∷◌, Option, Some, None, refl, sym, ap, subst, ◌∙◌, inl, inr, arith}
 use Rattle.std.specs.Prelude.{slice_index_or, slice_set}
 use Rattle.slab.specs.Slab.{Slab, get, Updates, with_value}
 use Rattle.x10_code.specs.declared.instr.Instr.{Instr}
 use Rattle.x10_kinds.specs.declared.stop.Stop.{Stop}
 use Rattle.x10_model.specs.Modules.{FitsImage}
-use Rattle.x10_model.specs.Ranges.{instr_at, instr_in}
+use Rattle.x10_model.specs.Ranges.{instr_in}
 use Rattle.x10_model.specs.Places as machine
+use Rattle.x10_heap.specs.Heaps.{HeapState}
 use Rattle.x10_place.specs.Frames.{IsFetchedFor, Overfills}
 use Rattle.x10_place.specs.Routes.{route_of}
 use Rattle.x10_place.specs.declared.route.Route.{Route}
 use Rattle.x10_place.specs.declared.route.Route.TheVariants as route
 use Rattle.x10_place.specs.declared.route.Make.{Make}
-use Rattle.x10_place.specs.Stays.{StayState, StoreState, Refuses, Steps}
+use Rattle.x10_place.specs.declared.route.Make.TheVariants as make
+use Rattle.x10_place.specs.Stays.{StayState, StoreState, OverfillsBy, Refuses, Steps}
 use Rattle.x10_place.specs.StandsFor.{Far, IsTyped, IsOverfull, IsHindered, PlaceState, store_of, with_stays, StandsFor, IsStanding, LeadsAll, Keeps}
 use Rattle.x10_place.specs.Stretches.{IsStep, Stretch, still, further, EndsStretch, IsStopped, IsStride, Strides, at_once, onward}
-use Rattle.x10_place.proofs.Maps.{some_is, none_some}
+use Rattle.x10_place.proofs.Maps.{none_some}
 use Rattle.x10_place.proofs.Steps.{kept_if, step_leads}
 use Rattle.x10_place.proofs.Keeping.{written}
 
@@ -118,9 +120,7 @@ hindered_by (route.Make m) p key b i why there fetched e (inr limit) = inr (limi
   is_there = there;
   instr = i;
   instr_is = subst (λ o. instr_in o b.top.pc ≡ Some i) (sym fetched.is_function) fetched.is_instr;
-  made = m;
-  route_is = e;
-  overfills = limit.2;
+  overfills = subst (λ q. OverfillsBy q p.heap b.top.registers.items i limit.0) (sym e) limit.2;
 })
 hindered_by (route.Local l) p key b i why there fetched e memory = inl memory
 hindered_by route.Call p key b i why there fetched e memory = inl memory
@@ -135,14 +135,20 @@ hindered p key b i why there fetched refuses = hindered_by (route_of i.op) p key
 pub hindered_after : (p : PlaceState) (key : ℕ) (a b : StayState) (t : StoreState) (why : Stop) → get p.stays key ≡ Some a → IsStopped p.program b t why → IsHindered (with_stays p (with_value p.stays key b) t) key why
 hindered_after p key a b t why e stopped = hindered (with_stays p (with_value p.stays key b) t) key b stopped.instr why ((written p.stays key a b e).changed) stopped.fetched stopped.refuses
 
--- what is known of the limit that a step would pass, for the instruction that is fetched
-pub overfull_at : (p : PlaceState) (key limit : ℕ) (a : StayState) (i : Instr) → get p.stays key ≡ Some a → IsFetchedFor p.program a.top i → IsOverfull p key limit → (m : Make) × (route_of i.op ≡ route.Make m) × Overfills m p.heap a.top.registers.items i limit
-overfull_at p key limit a i there fetched h =
-    let same : h.stay ≡ a = some_is h.stay a (sym h.is_there ∙ there) in
-    let at : instr_at p.program a.top.function a.top.pc ≡ Some h.instr = subst (λ (b : StayState). instr_at p.program b.top.function b.top.pc ≡ Some h.instr) same h.instr_is in
-    let is : instr_at p.program a.top.function a.top.pc ≡ Some i = subst (λ o. instr_in o a.top.pc ≡ Some i) (sym fetched.is_function) fetched.is_instr in
-    let instr : h.instr ≡ i = some_is h.instr i (sym at ∙ is) in (
-      h.made,
-      subst (λ (j : Instr). route_of j.op ≡ route.Make h.made) instr h.route_is,
-      subst (λ (j : Instr). Overfills h.made p.heap a.top.registers.items j limit) instr (subst (λ (b : StayState). Overfills h.made p.heap b.top.registers.items h.instr limit) same h.overfills),
-    )
+limits_made : (m : Make) (heap : HeapState) (words : List ℕ) (i : Instr) (limit : ℕ) → Overfills m heap words i limit → (1 ≤ limit) × (limit ≤ 3)
+limits_made make.Text heap words i limit h = (omega (arith, h.0), omega (arith, h.0))
+limits_made make.JoinedText heap words i limit h = (omega (arith, h.0), omega (arith, h.0))
+limits_made make.Object heap words i limit h = (omega (arith, h.0), omega (arith, h.0))
+limits_made make.Rail heap words i limit h = (omega (arith, h.0), omega (arith, h.0))
+
+limits_by : (r : Route) (heap : HeapState) (words : List ℕ) (i : Instr) (limit : ℕ) → OverfillsBy r heap words i limit → (1 ≤ limit) × (limit ≤ 3)
+limits_by (route.Make m) heap words i limit h = limits_made m heap words i limit h
+limits_by (route.Local l) heap words i limit h = absurd h
+limits_by route.Call heap words i limit h = absurd h
+limits_by route.Return heap words i limit h = absurd h
+limits_by route.Print heap words i limit h = absurd h
+limits_by route.Later heap words i limit h = absurd h
+
+-- which limits a step may pass
+pub limits : (p : PlaceState) (key limit : ℕ) → IsOverfull p key limit → (1 ≤ limit) × (limit ≤ 3)
+limits p key limit h = limits_by (route_of h.instr.op) p.heap h.stay.top.registers.items h.instr limit h.overfills

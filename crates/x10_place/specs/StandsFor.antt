@@ -22,12 +22,9 @@ use Rattle.x10_heap.specs.Words.{Context, export_as, IsWordOf, HoldsHeap}
 use Rattle.x10_place.specs.declared.frame.CallFrame.{CallFrame}
 use Rattle.x10_place.specs.declared.line.Line.{Line}
 use Rattle.x10_place.specs.declared.line.Line.TheVariants as line
-use Rattle.x10_place.specs.declared.route.Route.TheVariants as route
-use Rattle.x10_place.specs.declared.route.Make.{Make}
-use Rattle.x10_place.specs.Frames.{Overfills}
 use Rattle.x10_place.specs.Homes.{AreHomes}
 use Rattle.x10_place.specs.Routes.{route_of}
-use Rattle.x10_place.specs.Stays.{StayState, StoreState, IsPlaced}
+use Rattle.x10_place.specs.Stays.{StayState, StoreState, IsPlaced, OverfillsBy}
 
 -- what callers see of a place: the module with the bounds of its functions, its number and how many there are, the stays
 -- by key, the heap, the lines of output, how many finishes it opened, and whether it has stopped
@@ -188,9 +185,7 @@ pub record IsOverfull (p : PlaceState) (key limit : ℕ) : Type 0 where
   pub is_there : get p.stays key ≡ Some stay
   pub instr : Instr
   pub instr_is : instr_at p.program stay.top.function stay.top.pc ≡ Some instr
-  pub made : Make
-  pub route_is : route_of instr.op ≡ route.Make made
-  pub overfills : Overfills made p.heap stay.top.registers.items instr limit
+  pub overfills : OverfillsBy (route_of instr.op) p.heap stay.top.registers.items instr limit
 
 -- why a step of the activity with the key is not made: memory was refused, or it would pass a limit
 abbrev pub IsHindered : PlaceState → ℕ → Stop → Type 0

@@ -20,7 +20,7 @@ use Rattle.x10_place.specs.declared.line.Line.{Line}
 use Rattle.x10_place.specs.declared.line.Line.TheVariants as line
 use Rattle.x10_place.specs.declared.route.Route.{Route}
 use Rattle.x10_place.specs.declared.route.Route.TheVariants as route
-use Rattle.x10_place.specs.Frames.{Workspace, space_of, word_at, int_at, IsInside, IsFetchedFor, Acts, Reads, Makes, ReadsMake, IsRefused, IsEntered}
+use Rattle.x10_place.specs.Frames.{Workspace, space_of, word_at, int_at, IsInside, IsFetchedFor, Acts, Reads, Makes, ReadsMake, Overfills, IsRefused, IsEntered}
 
 -- what callers see of a stay: the frame of the function that it executes, and those of the functions that called it, the
 -- last one last; the numbers of the finishes that it opened and hasn't closed, the last one first, and the one that it
@@ -154,6 +154,11 @@ ReadsHeap (route.Local l) program a heap i = Reads l heap a.top.registers.items 
 ReadsHeap (route.Make m) program a heap i = ReadsMake m heap a.top.registers.items i
 ReadsHeap route.Print program a heap i = PrintsText program a.top.function a.top.pc → word_at a.top.registers.items i.a < length heap.texts
 ReadsHeap _ program a heap i = Unit {0}
+
+-- an operation would make one more of what there can be no more of
+abbrev pub OverfillsBy : Route → HeapState → List ℕ → Instr → ℕ → Type 0
+OverfillsBy (route.Make m) heap words i limit = Overfills m heap words i limit
+OverfillsBy _ heap words i limit = ⊥
 
 -- why an operation is refused: for want of memory, or since there can be no more of what it makes
 abbrev pub Refuses : Route → StayState → HeapState → Instr → Stop → Type 0

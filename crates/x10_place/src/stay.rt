@@ -5,12 +5,11 @@ ghost use Rattle.x10_kinds.specs.declared.stop.Stop.TheVariants as stop;
 ghost use Rattle.x10_code.specs.declared.instr.Instr.{Instr};
 ghost use Rattle.x10_model.specs.Modules.{is_supported};
 ghost use Rattle.x10_verify.specs.Printing.{PrintsText};
-ghost use Rattle.x10_place.specs.declared.route.Make as makes;
 ghost use Rattle.x10_place.specs.declared.route.Route.TheVariants as route;
-ghost use Rattle.x10_place.specs.Frames.{IsFetchedFor, Overfills, word_at};
+ghost use Rattle.x10_place.specs.Frames.{IsFetchedFor, word_at};
 ghost use Rattle.x10_place.specs.Routes.{route_of};
 ghost use Rattle.x10_place.specs.StandsFor.{IsTyped};
-ghost use Rattle.x10_place.specs.Stays.{IsPlaced, Calls, Returns, IsPrinted, Prints, ReadsHeap, Refuses, Steps};
+ghost use Rattle.x10_place.specs.Stays.{IsPlaced, Calls, Returns, IsPrinted, Prints, ReadsHeap, OverfillsBy, Refuses, Steps};
 ghost use Rattle.x10_place.specs.Stretches.{Paused};
 
 use crate::frame::CallFrame;
@@ -156,7 +155,7 @@ impl Stay {
         requires reads { ReadsHeap (route_of instr.op) verified.now.program self.old store.old.heap instr }
         ensures ok { IfOk result (λ goes. Steps (route_of instr.op) verified.now.program self.old store.old instr goes self.new store.new) }
         ensures err { IfErr result (λ why. (self.new ≡ self.old) × (store.new ≡ store.old) × Refuses (route_of instr.op) self.old store.old.heap instr why) }
-        ensures full { (m : makes.Make) (limit : ℕ) → route_of instr.op ≡ route.Make m → Overfills m store.old.heap self.old.top.registers.items instr limit → result ≡ Err (stop.Limit limit) }
+        ensures full { (limit : ℕ) → OverfillsBy (route_of instr.op) store.old.heap self.old.top.registers.items instr limit → result ≡ Err (stop.Limit limit) }
     {
         let made = match classify(instr.op) {
             Route::Local(local) => {

@@ -1,6 +1,6 @@
 -- What a move of a local operation changes: its own stay goes on with fewer steps left, or ends.
 use Rattle.std.proofs.Common.{◌≡◌, ◌≢◌, ◌⊎◌, ℕ, ◌+◌, ◌-◌, ◌≤◌, Bool, true, false, List, [], ◌∷◌, take, Option, Some, None, Ok, refl, sym, ap, ◌∙◌, inl, inr, arith}
-use Rattle.std.specs.Prelude.{slice_get, slice_index, nat_lt, if◌then◌else◌}
+use Rattle.std.specs.Prelude.{ℤ, ◌==◌, slice_get, slice_index, nat_lt, if◌then◌else◌}
 use Rattle.std.proofs.lemmas.Bool.{ltb-true}
 use Rattle.x10_code.specs.declared.op.Op.{Op}
 use Rattle.x10_code.specs.declared.op.Op.TheVariants as op
@@ -11,7 +11,7 @@ use Rattle.x10_model.specs.Ranges.{function_at, instr_in}
 use Rattle.x10_model.specs.Structure.{bounds_of, cost, is_call, is_target}
 use Rattle.x10_model.specs.Places as places
 use Rattle.x10_model.specs.Places.{Setting, CallFrame, Origin, Stay, Message, Effect, Works, Ends, goes, next}
-use Rattle.x10_model.specs.Moves.{Situation, SendsBack, Returns, ContinuesAt, resumed, entry_frame, is_zero, quotient, remainder, writes_or_goes, Does, Moves}
+use Rattle.x10_model.specs.Moves.{Situation, SendsBack, Returns, ContinuesAt, resumed, entry_frame, is_zero, quotient, remainder, joined_text, rail_length, byte_at, byte_value, place_number, MakesRail, SetsByte, writes_or_goes, next_or_goes, Does, Moves}
 use Rattle.x10_model.specs.Values.{Value}
 use Rattle.x10_image.specs.Parts.{code_in, code_at}
 use Rattle.x10_bounds.specs.Potential.{PotentialFalls}
@@ -25,23 +25,12 @@ pub record IsBounded (program : Module) (bounds : List ℕ) : Type 0 where
 
 -- the operations that an image may have are local
 pub supported_stays : (o : Op) → is_supported o ≡ true → stays_put o ≡ true
-supported_stays op.Intk e = refl
-supported_stays op.Add e = refl
-supported_stays op.Sub e = refl
-supported_stays op.Mul e = refl
-supported_stays op.Div e = refl
-supported_stays op.Rem e = refl
-supported_stays op.Lt e = refl
-supported_stays op.Eq e = refl
-supported_stays op.Move e = refl
-supported_stays op.Jmp e = refl
-supported_stays op.Jz e = refl
-supported_stays op.Loop e = refl
-supported_stays op.Endl e = refl
-supported_stays op.Call e = refl
-supported_stays op.Ret e = refl
-supported_stays op.Print e = refl
-supported_stays _ e = absurd cc
+supported_stays op.Async e = absurd cc
+supported_stays op.At e = absurd cc
+supported_stays op.Ata e = absurd cc
+supported_stays op.Finb e = absurd cc
+supported_stays op.Fine e = absurd cc
+supported_stays _ e = refl
 
 -- ---- what a step takes
 
@@ -95,6 +84,10 @@ jumps_or_passes : (bounds : List ℕ) (s : Situation) (o : Op) (b : Bool) → Is
 jumps_or_passes bounds s o true at plain target = jumps bounds s o at plain target
 jumps_or_passes bounds s o false at plain target = passes bounds s o at plain
 
+passes_or_jumps : (bounds : List ℕ) (s : Situation) (o : Op) (b : Bool) → IsBoundedAt bounds s o → turns o ≡ false → is_target (form_of o).x ≡ true → Spends bounds s (next_or_goes s b)
+passes_or_jumps bounds s o true at plain target = passes bounds s o at plain
+passes_or_jumps bounds s o false at plain target = jumps bounds s o at plain target
+
 turns_or_ends : (bounds : List ℕ) (s : Situation) (b : Bool) → IsBoundedAt bounds s op.Endl → nat_lt 0 (s.stay.top.loops s.instr.a - 1) ≡ b
     → Spends bounds s (record s.stay.top { pc = if b then s.instr.x else s.stay.top.pc + 1; loops = with_entry s.stay.top.loops s.instr.a (s.stay.top.loops s.instr.a - 1) })
 turns_or_ends bounds s true at more = (falls_at bounds s op.Endl at).turns s.stay.top.pc s.instr s.stay.top.loops (code_is bounds s op.Endl at) at.op_is (ltb-true 0 (s.stay.top.loops s.instr.a - 1) more)
@@ -138,6 +131,15 @@ continues bounds s base top new effect same less h = goes_on bounds s base (reco
   where
     more : (a b c : ℕ) → a + 1 ≤ b → (a + c) + 1 ≤ b + c
     more a b c le = omega (arith, le)
+
+-- a rail is made, or a byte of one is written, where there is such a length or byte
+makes_rail : (bounds : List ℕ) (s : Situation) (new : places.Place) (effect : Effect) (n : Option ℕ) → IsBoundedAt bounds s op.Rail → MakesRail s n new effect → AdvancesAt bounds s new effect
+makes_rail bounds s new effect None at h = continues bounds s s.place _ new effect refl (jumps bounds s op.Rail at refl refl) h
+makes_rail bounds s new effect (Some n) at h = continues bounds s _ _ new effect refl (passes bounds s op.Rail at refl) h.2
+
+sets_byte : (bounds : List ℕ) (s : Situation) (new : places.Place) (effect : Effect) (byte : Option ℕ) (reference : ℕ) (bytes : List ℕ) (z w : ℤ) → IsBoundedAt bounds s op.Rset → SetsByte s reference bytes z w byte new effect → AdvancesAt bounds s new effect
+sets_byte bounds s new effect None reference bytes z w at h = continues bounds s s.place _ new effect refl (jumps bounds s op.Rset at refl refl) h
+sets_byte bounds s new effect (Some byte) reference bytes z w at h = continues bounds s _ _ new effect refl (passes bounds s op.Rset at refl) h
 
 -- it goes on in a function that it calls
 calls : (bounds : List ℕ) (s : Situation) (new : places.Place) (effect : Effect) → IsBoundedAt bounds s op.Call → Does op.Call s new effect → AdvancesAt bounds s new effect
@@ -190,6 +192,30 @@ advances op.Jmp bounds s new effect l at back h = continues bounds s s.place _ n
 advances op.Jz bounds s new effect l at back h = continues bounds s s.place _ new effect refl (jumps_or_passes bounds s op.Jz (is_zero h.0) at refl refl) h.2
 advances op.Loop bounds s new effect l at back h = continues bounds s s.place _ new effect refl ((falls_at bounds s op.Loop at).loop s.stay.top.pc s.instr s.stay.top.loops (code_is bounds s op.Loop at) at.op_is) h
 advances op.Endl bounds s new effect l at back h = continues bounds s s.place _ new effect refl (turns_or_ends bounds s _ at refl) h
+advances op.Textk bounds s new effect l at back h = continues bounds s s.place _ new effect refl (passes bounds s op.Textk at refl) h.2
+advances op.Tlen bounds s new effect l at back h = continues bounds s s.place _ new effect refl (passes bounds s op.Tlen at refl) h.2
+advances op.Tcat bounds s new effect l at back h = continues bounds s s.place _ new effect refl (writes_or_jumps bounds s op.Tcat (joined_text h.0 h.1) at refl refl) h.4
+advances op.New bounds s new effect l at back h = continues bounds s _ _ new effect refl (passes bounds s op.New at refl) h.7
+advances op.Get bounds s new effect l at back h = continues bounds s s.place _ new effect refl (passes bounds s op.Get at refl) h.7
+advances op.Put bounds s new effect l at back h = continues bounds s _ _ new effect refl (passes bounds s op.Put at refl) h.13
+advances op.Null bounds s new effect l at back h = continues bounds s s.place _ new effect refl (passes bounds s op.Null at refl) h
+advances op.Ifobj bounds s new effect l at back (inl some) = continues bounds s s.place _ new effect refl (passes bounds s op.Ifobj at refl) some.2
+advances op.Ifobj bounds s new effect l at back (inr none) = continues bounds s s.place _ new effect refl (jumps bounds s op.Ifobj at refl refl) none.1
+advances op.Rail bounds s new effect l at back h = makes_rail bounds s new effect (rail_length h.0) at h.2
+advances op.Rget bounds s new effect l at back h = continues bounds s s.place _ new effect refl (writes_or_jumps bounds s op.Rget (byte_value (byte_at h.1 h.2)) at refl refl) h.6
+advances op.Rset bounds s new effect l at back h = sets_byte bounds s new effect (byte_at h.1 h.2) h.0 h.1 h.2 h.3 at h.8
+advances op.Rlen bounds s new effect l at back h = continues bounds s s.place _ new effect refl (passes bounds s op.Rlen at refl) h.4
+advances op.Here bounds s new effect l at back h = continues bounds s s.place _ new effect refl (passes bounds s op.Here at refl) h
+advances op.Placek bounds s new effect l at back h = continues bounds s s.place _ new effect refl (passes bounds s op.Placek at refl) h
+advances op.Placen bounds s new effect l at back h = continues bounds s s.place _ new effect refl (writes_or_jumps bounds s op.Placen (place_number s.setting.places h.0) at refl refl) h.2
+advances op.Placei bounds s new effect l at back h = continues bounds s s.place _ new effect refl (passes bounds s op.Placei at refl) h.2
+advances op.Nextp bounds s new effect l at back h = continues bounds s s.place _ new effect refl (passes bounds s op.Nextp at refl) h.2
+advances op.Count bounds s new effect l at back h = continues bounds s s.place _ new effect refl (passes bounds s op.Count at refl) h
+advances op.Home bounds s new effect l at back h = continues bounds s s.place _ new effect refl (passes bounds s op.Home at refl) h.4
+advances op.Gnew bounds s new effect l at back h = continues bounds s _ _ new effect refl (passes bounds s op.Gnew at refl) h.5
+advances op.Gopen bounds s new effect l at back h = continues bounds s s.place _ new effect refl (passes bounds s op.Gopen at refl) h.5
+advances op.Ifhere bounds s new effect l at back h = continues bounds s s.place _ new effect refl (passes_or_jumps bounds s op.Ifhere (h.1 == s.here) at refl refl) h.4
+advances op.Ifsame bounds s new effect l at back h = continues bounds s s.place _ new effect refl (passes_or_jumps bounds s op.Ifsame (h.2 == h.3) at refl refl) h.8
 advances op.Call bounds s new effect l at back h = calls bounds s new effect at h
 advances op.Ret bounds s new effect l at back h = returns bounds s s.stay.callers h.0 new effect refl back (passes bounds s op.Ret at refl) h.2
 advances op.Print bounds s new effect l at back h = continues bounds s _ _ new effect refl (passes bounds s op.Print at refl) h.4

@@ -255,15 +255,6 @@ world_after_step program bounds old new here key (Err stop) before after world g
   few = few_after Keeps old new here (changes_by Keeps old new here key (Err stop) (λ p q s. s.kept) one) world.few;
 }
 
--- a step of a world that has not stopped is refused for want of memory alone
-pub step_memory : (program : Module) (bounds : List ℕ) (old new : List PlaceState) (here key : ℕ) (result : Result (Unit {0}) Stop) (before : Bool) → IsWorld program bounds old before → before ≢ true → StepsOne old new here key result → IfErr result (λ why. why ≡ refusal.Memory)
-step_memory program bounds old new here key (Ok u) before world goes one = tt
-step_memory program bounds old new here key (Err why) before world goes one = at_place (slice_get old here) refl
-  where
-    at_place : (o : Option PlaceState) → slice_get old here ≡ o → why ≡ refusal.Memory
-    at_place None none = absurd (let e = (one.gone none).0 in cc)
-    at_place (Some p) is = let t = one.there p is in t.2.memory (world.none_stopped goes here p is)
-
 -- ---- an event, as a function answers it
 
 pub step_ok : (x y z : WorldState) (event : Event) (id here key : ℕ) (result : Result (Unit {0}) Stop) → x ≡ z → event ≡ Step id key → here ≡ id → KeepsModule x y → IsCertified (record { program = x.program; bounds = x.bounds }) → BelongTo x.program x.bounds (length x.places) x.places

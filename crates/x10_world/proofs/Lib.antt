@@ -8,4 +8,5 @@ pub mod Beginning
 pub mod Asking
 pub mod Finishing
 pub mod Repeating
+pub mod Hindering
 pub mod Rounding

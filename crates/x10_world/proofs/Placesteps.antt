@@ -42,4 +42,4 @@ one_there old id key p q s X is kept idle some stopped goes = record {
 }
   where
     stepped : IsStepped p q key (Ok tt)
-    stepped = record { kept = kept; idle = λ e. (idle (λ f. absurd (let g = stopped f in cc)) e).1; some = some; goes = goes; memory = λ on. tt; stop = tt }
+    stepped = record { kept = kept; idle = λ e. (idle (λ f. absurd (let g = stopped f in cc)) e).1; some = some; goes = goes; hindered = λ on. tt; stop = tt }

@@ -8,7 +8,7 @@ use Rattle.x10_model.specs.Modules.{Module}
 use Rattle.x10_model.specs.declared.event.Event.TheVariants.{Step}
 use Rattle.x10_model.specs.Places as machine
 use Rattle.x10_model.specs.Worlds.{World, Ideal, Steps, steps, Run, done, WithinBounds}
-use Rattle.x10_place.specs.StandsFor.{PlaceState, StandsFor, Keeps, IsIdleAt}
+use Rattle.x10_place.specs.StandsFor.{PlaceState, StandsFor, Keeps, IsIdleAt, IsHindered}
 use Rattle.x10_place.specs.Stretches.{IsStride, Strides, at_once, onward}
 use Rattle.x10_place.proofs.Striding.{stopped_stands}
 use Rattle.x10_world.specs.StandsForWorld.{WorldState, BelongsTo, BelongTo, IsWorld, setting_of, KeepsSetting, StandsForWorld, IsRunOn, RunsOne, Repeats, MovesOn, at_rest, moves_on, IsIdleNow}
@@ -80,7 +80,7 @@ stopped_after far p q m e s = subst (λ r. StandsFor far r m) (sym e) (stopped_s
 
 module _ (x y : WorldState) (here key most n : ℕ) (k : KeepsModule x y) (bounded : IsBounded x.program x.bounds) (belong : BelongTo x.program x.bounds (length x.places) x.places) where
   -- the place as it is after the steps, or as it has stopped
-  place_runs : (why : Option Stop) (p q : PlaceState) → slice_get x.places here ≡ Some p → y.places ≡ slice_set x.places here q → MatchOption why (Strides key p n q) (λ s. (r : PlaceState) × Strides key p n r × (q ≡ record r { stopped = true }))
+  place_runs : (why : Option Stop) (p q : PlaceState) → slice_get x.places here ≡ Some p → y.places ≡ slice_set x.places here q → MatchOption why (Strides key p n q) (λ s. (r : PlaceState) × Strides key p n r × (q ≡ record r { stopped = true }) × (p.stopped ≢ true → IsHindered r key s))
       → (w : World) → StandsForWorld x w → Repeats x w n here key y
   place_runs None p q is set ran w stand =
       let r = strides_run x here key p bounded (belong here p is) is n q ran w stand in
@@ -132,14 +132,6 @@ world_after_stop program bounds old new here key most n why before world one = r
   none_stopped = λ on. absurd (on refl);
   few = few_after Keeps old new here (changes_by Keeps old new here key most n why (λ p q s. s.kept) one) world.few;
 }
-
--- a world that has not stopped is refused for want of memory alone
-pub run_memory : (program : Module) (bounds : List ℕ) (old new : List PlaceState) (here key most n : ℕ) (why : Option Stop) (s : Stop) (before : Bool) → IsWorld program bounds old before → before ≢ true → RunsOne old new here key most n why → why ≡ Some s → s ≡ refusal.Memory
-run_memory program bounds old new here key most n why s before world goes one is = at_place (slice_get old here) refl
-  where
-    at_place : (o : Option PlaceState) → slice_get old here ≡ o → s ≡ refusal.Memory
-    at_place None missing = absurd (let e = (one.gone missing).1 in cc)
-    at_place (Some p) there = let t = one.there p there in subst (λ o. IfSome o (λ r. r ≡ refusal.Memory)) is (t.2.memory (world.none_stopped goes here p there))
 
 -- where fewer steps were made, no activity has the key
 pub run_none : (x y : WorldState) (here place key most n : ℕ) (why : Option Stop) → here ≡ place → RunsOne x.places y.places here key most n why → why ≡ None → n < most → IsIdleNow y place key

@@ -1,16 +1,16 @@
 -- When a world of the program stands for a world of the machine.
-use Rattle.std.specs.Prelude.{◌≡◌, ◌≢◌, ℕ, ◌+◌, ◌<◌, ◌≤◌, Bool, List, length, replicate, Option, Some, None, MatchOption, IfSome, Result, Ok, IfOk, IfErr, true, slice_get, slice_set, take}
+use Rattle.std.specs.Prelude.{◌≡◌, ◌≢◌, ◌⊎◌, ℕ, ◌+◌, ◌<◌, ◌≤◌, Bool, List, length, replicate, Option, Some, None, MatchOption, IfSome, Result, Ok, IfOk, IfErr, true, slice_get, slice_set, take}
 use Rattle.slab.specs.Slab.{get}
 use Rattle.x10_kinds.specs.declared.stop.Stop.{Stop}
 use Rattle.x10_kinds.specs.declared.stop.Stop.TheVariants as stop
 use Rattle.x10_model.specs.Modules.{Module}
 use Rattle.x10_model.specs.declared.event.Event.{Event}
-use Rattle.x10_model.specs.declared.event.Event.TheVariants.{Step}
+use Rattle.x10_model.specs.declared.event.Event.TheVariants.{Step, Deliver}
 use Rattle.x10_model.specs.Places as machine
 use Rattle.x10_model.specs.Places.{Setting, Effect}
 use Rattle.x10_model.specs.Worlds.{World, Ideal, Happens, Steps, Run, WithinBounds}
 use Rattle.x10_place.specs.Stays.{StayState}
-use Rattle.x10_place.specs.StandsFor.{PlaceState, StandsFor, LeadsAll, Keeps, IsIdleAt}
+use Rattle.x10_place.specs.StandsFor.{PlaceState, StandsFor, LeadsAll, Keeps, IsIdleAt, IsHindered}
 use Rattle.x10_place.specs.Stretches.{Strides}
 use Rattle.x10_world.specs.Tied.{Tied}
 
@@ -67,7 +67,7 @@ pub record IsStepped (p q : PlaceState) (key : ℕ) (result : Result (Unit {0}) 
   pub idle : IfOk result (λ u. IsIdleAt p key → q ≡ p)
   pub some : IfOk result (λ u. (a : StayState) → get p.stays key ≡ Some a → LeadsAll p key q)
   pub goes : IfOk result (λ u. q.stopped ≢ true)
-  pub memory : p.stopped ≢ true → IfErr result (λ s. s ≡ stop.Memory)
+  pub hindered : p.stopped ≢ true → IfErr result (IsHindered p key)
   pub stop : IfErr result (λ s. q ≡ record p { stopped = true })
 
 -- what a step of one place of a list does
@@ -79,16 +79,21 @@ pub record StepsOne (old new : List PlaceState) (id key : ℕ) (result : Result 
 -- now would find nothing to do, or one was refused.
 pub record IsRunOn (p q : PlaceState) (key most n : ℕ) (why : Option Stop) : Type 0 where
   pub kept : Keeps p q
-  pub ran : MatchOption why (Strides key p n q) (λ s. (r : PlaceState) × Strides key p n r × (q ≡ record r { stopped = true }))
+  pub ran : MatchOption why (Strides key p n q) (λ s. (r : PlaceState) × Strides key p n r × (q ≡ record r { stopped = true }) × (p.stopped ≢ true → IsHindered r key s))
   pub few : n ≤ most
   pub all : why ≡ None → n < most → IsIdleAt q key
   pub goes : why ≡ None → q.stopped ≢ true
-  pub memory : p.stopped ≢ true → IfSome why (λ s. s ≡ stop.Memory)
 
 -- what they do to one place of a list
 pub record RunsOne (old new : List PlaceState) (id key most n : ℕ) (why : Option Stop) : Type 0 where
   pub gone : slice_get old id ≡ None → (n ≡ 0) × (why ≡ None) × (new ≡ old)
   pub there : (p : PlaceState) → slice_get old id ≡ Some p → (q : PlaceState) × (new ≡ slice_set old id q) × IsRunOn p q key most n why
+
+-- why an event was refused, after which the place has stopped: a step of the activity with the key asked for memory that
+-- was refused, or would have passed a limit
+abbrev pub IsHinderedAt : WorldState → Event → Stop → Type 0
+IsHinderedAt x (Step id key) why = (p : PlaceState) × (slice_get x.places id ≡ Some p) × IsHindered p key why
+IsHinderedAt x (Deliver number) why = ⊥
 
 -- An event of the machine, to a world that the new state stands for.
 abbrev pub Makes : WorldState → World → Event → WorldState → Type 0
@@ -98,6 +103,18 @@ Makes x w event y = (v : World) × Happens Ideal (setting_of x) w event v × Sta
 -- to a world that the new state stands for.
 abbrev pub Runs : WorldState → World → ℕ → List Event → WorldState → Type 0
 Runs x w n events y = (v : World) × Run Ideal (setting_of x) (WithinBounds x.bounds) w (take n events) v × StandsForWorld y v
+
+-- the events before one that was refused were made, and why it was
+pub record IsHaltedRun (x : WorldState) (events : List Event) (y : WorldState) (why : Stop) : Type 0 where
+  pub done : ℕ
+  pub event : Event
+  pub runs : (w : World) → StandsForWorld x w → Runs x w done events y
+  pub is_next : slice_get events done ≡ Some event
+  pub hindered : IsHinderedAt y event why
+
+-- why a run ends before its events do: memory was refused, or there can be no more objects (1), texts (2) or rails (3)
+abbrev pub IsHeapStop : Stop → Type 0
+IsHeapStop why = (why ≡ stop.Memory) ⊎ ((limit : ℕ) × (why ≡ stop.Limit limit) × (1 ≤ limit) × (limit ≤ 3))
 
 -- so many moves of the activity with a key at a place, one after another
 pub data MovesOn (setting : Setting) (here key : ℕ) (u : World) : ℕ → World → Type 0 where

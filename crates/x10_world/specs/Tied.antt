@@ -12,25 +12,15 @@ use Rattle.x10_model.specs.Worlds.{World, Unused, WithinBounds}
 use Rattle.x10_image.specs.Parts.{code_at}
 use Rattle.x10_bounds.specs.Potential.{potential}
 
--- numbers, control and output: operations that change nothing but their place and their own stay there
+-- operations that change nothing but their place and their own stay there: all but those that begin or send an activity,
+-- open a finish or wait for one
 abbrev pub stays_put : Op → Bool
-stays_put op.Intk = true
-stays_put op.Add = true
-stays_put op.Sub = true
-stays_put op.Mul = true
-stays_put op.Div = true
-stays_put op.Rem = true
-stays_put op.Lt = true
-stays_put op.Eq = true
-stays_put op.Move = true
-stays_put op.Jmp = true
-stays_put op.Jz = true
-stays_put op.Loop = true
-stays_put op.Endl = true
-stays_put op.Call = true
-stays_put op.Ret = true
-stays_put op.Print = true
-stays_put _ = false
+stays_put op.Async = false
+stays_put op.At = false
+stays_put op.Ata = false
+stays_put op.Finb = false
+stays_put op.Fine = false
+stays_put _ = true
 
 -- every instruction of the module has one of these operations
 abbrev pub IsLocal : Module → Type 0

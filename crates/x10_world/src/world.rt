@@ -1,12 +1,14 @@
-ghost use Rattle.std.specs.Prelude.{◌≡◌, ◌≢◌, ◌<◌, ◌≤◌, ◌↔◌, ℕ, true, IsTrue, IfOk, IfErr, IsErrOf, IfSome, MatchOption, Ok, Err, None, length};
+ghost use Rattle.std.specs.Prelude.{◌≡◌, ◌≢◌, ◌<◌, ◌≤◌, ◌↔◌, ℕ, true, IsTrue, IfOk, IfErr, IsErrOf, IfSome, MatchOption, Ok, Err, Some, None, length, slice_get};
 ghost use Rattle.x10_kinds.specs.declared.stop.Stop.TheVariants as stop;
+ghost use Rattle.x10_model.specs.declared.event.Event as event;
+ghost use Rattle.x10_model.specs.declared.event.Event.TheVariants.{Step};
 ghost use Rattle.x10_model.specs.Worlds as machine;
 ghost use Rattle.x10_world.specs.declared.fault.OpenFault.TheVariants as fault;
 ghost use Rattle.x10_place.specs.Opening.{IsNextKey};
 ghost use Rattle.x10_world.specs.Endings.{lines_in, lines_at};
 ghost use Rattle.x10_world.specs.Queries.{IsNoPlace, HasPlace, HasNoKey, IsNotFlying, NothingFlies, IsFlyingTo, IsPosted};
 ghost use Rattle.x10_world.specs.Opening.{IsOpenedWorld, IsForbidden};
-ghost use Rattle.x10_world.specs.StandsForWorld.{StandsForWorld, KeepsSetting, StepsOne, RunsOne, Makes, Runs, Repeats, IsIdleNow};
+ghost use Rattle.x10_world.specs.StandsForWorld.{StandsForWorld, KeepsSetting, StepsOne, RunsOne, IsHinderedAt, Makes, Runs, IsHaltedRun, Repeats, IsIdleNow};
 
 use crate::ending::copied_outputs;
 use crate::fault::OpenFault;
@@ -76,7 +78,7 @@ impl<'a> World<'a> {
         ensures err { IfErr result (λ _. (w : machine.World) → StandsForWorld self.old w → StandsForWorld self.new w) }
         ensures goes { IfOk result (λ _. self.new.stopped ≢ true) }
         ensures stop { IfErr result (λ _. self.new.stopped ≡ true) }
-        ensures memory { IfErr result (λ why. why ≡ stop.Memory) }
+        ensures hindered { IfErr result (IsHinderedAt self.new event) }
         ensures kept { KeepsSetting self.old self.new }
     {
         let verified = self.verified;
@@ -100,7 +102,7 @@ impl<'a> World<'a> {
         ensures all { result.1 ≡ None → result.0 ≡ length events.now }
         ensures less { IfSome result.1 (λ _. result.0 < length events.now) }
         ensures stop { IfSome result.1 (λ _. self.new.stopped ≡ true) }
-        ensures memory { IfSome result.1 (λ why. why ≡ stop.Memory) }
+        ensures hindered { IfSome result.1 (λ why. (next : event.Event) × (slice_get events.now result.0 ≡ Some next) × IsHinderedAt self.new next why) }
         ensures kept { KeepsSetting self.old self.new }
     {
         for done in 0..events.len() {
@@ -134,13 +136,14 @@ impl<'a> World<'a> {
         })
     }
 
-    /// The events in their turn. A Stop comes only where a growth was refused. After it every later call answers Stopped,
-    /// and the output is that of the events before the one that was refused.
+    /// The events in their turn. A Stop comes only where a growth was refused, or where there can be no more of what a step
+    /// would make (Limit 1: objects, 2: texts, 3: rails). After it every later call answers Stopped, and the output is that
+    /// of the events before the one that was refused.
     pub fn run(&mut self, events: &[Event]) -> Result<(), Stop>
         ensures all { IfOk result (λ _. (w : machine.World) → StandsForWorld self.old w → Runs self.old w (length events.now) events.now self.new) }
         ensures some { (w : machine.World) → StandsForWorld self.old w → (n : ℕ) × Runs self.old w n events.now self.new }
         ensures stopped { self.old.stopped ≡ true → (result ≡ Err stop.Stopped) × (self.new ≡ self.old) }
-        ensures memory { self.old.stopped ≢ true → IfErr result (λ why. why ≡ stop.Memory) }
+        ensures hindered { self.old.stopped ≢ true → IfErr result (IsHaltedRun self.old events.now self.new) }
         ensures stop { IfErr result (λ _. self.new.stopped ≡ true) }
         ensures kept { KeepsSetting self.old self.new }
     {
@@ -162,7 +165,7 @@ impl<'a> World<'a> {
         ensures few { IfOk result (λ n. n ≤ most) }
         ensures all { IfOk result (λ n. n < most → IsIdleNow self.new place key) }
         ensures stopped { self.old.stopped ≡ true → (result ≡ Err stop.Stopped) × (self.new ≡ self.old) }
-        ensures memory { self.old.stopped ≢ true → IfErr result (λ why. why ≡ stop.Memory) }
+        ensures hindered { self.old.stopped ≢ true → IfErr result (IsHinderedAt self.new (Step place key)) }
         ensures stop { IfErr result (λ _. self.new.stopped ≡ true) }
         ensures kept { KeepsSetting self.old self.new }
     {
