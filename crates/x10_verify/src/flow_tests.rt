@@ -101,7 +101,7 @@ fn instr(words: &str) -> Option<Instr> {
 }
 
 /// Instructions between semicolons, and RET.
-fn code(alloc: Global, text: &str) -> Result<Vec<Instr>, Fail> {
+pub(crate) fn code(alloc: Global, text: &str) -> Result<Vec<Instr>, Fail> {
     let mut code = Vec::new(alloc);
     for words in text.split(';') {
         if let Some(instr) = instr(words) {
