@@ -1,4 +1,4 @@
-//! The flow over lists of instructions, of all operations: an image may not have most of them yet.
+//! The flow over lists of instructions, of all operations: an image may not have all of them yet.
 use crate::fault::FlowCause;
 use crate::known::Known;
 use crate::states::{Entry, arrive, blank, is_waiting};
