@@ -1,5 +1,5 @@
 -- Which instructions print a text: what is noted of it, and what that says of every consistent assignment.
-use Rattle.std.proofs.Common.{◌≡◌, ◌⊎◌, ◌↔◌, ℕ, zero, suc, ◌+◌, ◌<◌, ◌≤◌, Bool, true, false, List, [], ◌∷◌, length, set, Option, Some, None, Vec, refl, sym, ap, subst, ◌∙◌, inl, inr, arith}
+use Rattle.std.proofs.Common.{◌≡◌, ◌⊎◌, ◌↔◌, ℕ, ◌+◌, ◌<◌, ◌≤◌, Bool, true, false, List, length, set, Option, Some, None, Vec, refl, sym, ap, subst, ◌∙◌, inl, inr, arith}
 use Rattle.std.specs.Prelude.{slice_get}
 use Rattle.std.proofs.lemmas.Bool.{and_parts, cases_eq, cases_lt}
 use Rattle.std.proofs.lemmas.Option.{same_Some, slice_get_past, slice_get_within}
@@ -30,9 +30,7 @@ use Rattle.x10_verify.proofs.Tabled.{get_set, get_other}
 -- ---- bits
 
 bit_set : (row : List Bool) (i : ℕ) (b : Bool) → i < length row → bit_in (set row i b) i ≡ b
-bit_set [] i b lt = absurd (omega arith)
-bit_set (x ∷ xs) zero b lt = refl
-bit_set (x ∷ xs) (suc i) b lt = bit_set xs i b (omega arith)
+bit_set row i b lt = let g = get_below row i lt in ap bit_if (get_set row i b g.0 g.1)
 
 -- one instruction more is noted
 pub noted_more : (program : Module) (f pc : ℕ) (table : List Entry) (row : List Bool) (i : Instr) (e : Entry) (b : Bool) → pc < length row → instr_at program f pc ≡ Some i → slice_get table pc ≡ Some e → b ≡ prints_in (Some i) (state_if e.mark e.known)

@@ -21,11 +21,8 @@ use Rattle.x10_image.specs.Parts.{code_in, code_at}
 use Rattle.x10_model.specs.Structure.{bounds_of, is_call}
 use Rattle.x10_verify.proofs.Structured.{bounds_each, has_next}
 use Rattle.x10_verify.proofs.InFunction.{in_function}
-pub use Rattle.x10_model.proofs.Decided.{get_below}
-pub use Rattle.x10_model.proofs.Lists.{all_at}
-
-pub some_below : {X : Type 0} (xs : List X) (i : ℕ) (x : X) → slice_get xs i ≡ Some x → i < length xs
-some_below xs i x e = slice_get_within xs i x e
+use Rattle.x10_model.proofs.Decided.{get_below}
+use Rattle.x10_model.proofs.Lists.{all_at}
 
 below_or_at : (q pc : ℕ) → q < pc + 1 → (q < pc) ⊎ (q ≡ pc)
 below_or_at q pc lt = elim (cases_lt q pc) [ inl less ↦ inl less | inr le ↦ inr (omega arith) ]

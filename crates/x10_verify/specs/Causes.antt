@@ -15,7 +15,8 @@ use Rattle.x10_model.specs.Assignments.{State, Point, IsKind}
 use Rattle.x10_verify.specs.declared.fault.FlowCause.{FlowCause}
 use Rattle.x10_verify.specs.declared.fault.FlowCause.TheVariants as flow
 use Rattle.x10_verify.specs.declared.table.Outcome.{Outcome}
-use Rattle.x10_verify.specs.declared.table.Outcome.TheVariants.{Fixed, Copies, Calls, Returns, Makes, Gets, Puts, Unwraps, Locates, Exports, Opens, FindsHere, FindsSame, Starts, Prints}
+use Rattle.x10_verify.specs.declared.table.Outcome.TheVariants.{Fixed, Copies, Calls, Returns, Makes, Gets, Puts, Unwraps}
+use Rattle.x10_verify.specs.declared.table.Outcome.TheVariants.{Locates, Exports, Opens, FindsHere, FindsSame, Starts, Prints}
 use Rattle.x10_verify.specs.declared.table.Rule.{Rule}
 use Rattle.x10_verify.specs.Knowledge.{Follows, point}
 use Rattle.x10_verify.specs.Rules.{field_of, rule_for, goes_on_of}
@@ -86,7 +87,8 @@ IsCauseOf Makes p s why = ((why ≡ flow.Kind) × (slice_get p.program.classes p
 IsCauseOf Gets p s why = IsRefused s p.instr.b AnObject why ⊎ HasNoField p s p.instr.b why
 IsCauseOf Puts p s why = IsRefused s p.instr.a AnObject why
     ⊎ (HasNoField p s p.instr.a why
-    ⊎ ((class : ℕ) × (field : Kind) × IsKind s p.instr.a (kind.Obj class) × (field_of p.program class p.instr.c ≡ Some field) × IsRefused s p.instr.b (Fitting field) why))
+    ⊎ ((class : ℕ) × (field : Kind) × IsKind s p.instr.a (kind.Obj class) × (field_of p.program class p.instr.c ≡ Some field)
+    × IsRefused s p.instr.b (Fitting field) why))
 IsCauseOf Unwraps p s why = IsRefused s p.instr.b AnObjectOrNull why
 IsCauseOf Locates p s why = IsRefused s p.instr.b AReference why
 IsCauseOf Exports p s why = IsRefused s p.instr.b AnObject why

@@ -38,7 +38,8 @@ pub record IsWeakened (v s : Known) (n : ℕ) (u : Known) (changed : Bool) : Typ
   pub kinds : (r : ℕ) → r < n → kind_in u.kinds r ≡ common_of (kind_in v.kinds r) (kind_in s.kinds r)
   pub rest : (r : ℕ) → n ≤ r → kind_in u.kinds r ≡ kind_in v.kinds r
   pub within : Includes (equations v.homes) (equations u.homes)
-  pub least : (w : State) → IsState w → ((r : ℕ) (want : Kind) → w.kinds r ≡ Some want → IsKind (state_of v) r want × IsKind (state_of s) r want) → Includes (equations v.homes) w.homes → Includes (equations u.homes) w.homes
+  pub least : (w : State) → IsState w → ((r : ℕ) (want : Kind) → w.kinds r ≡ Some want → IsKind (state_of v) r want × IsKind (state_of s) r want)
+      → Includes (equations v.homes) w.homes → Includes (equations u.homes) w.homes
   pub alone : IsAloneIn (state_of v) → IsAloneIn (state_of u)
   pub same : changed ≡ false → u ≡ v
   pub falls : changed ≡ true → (k : ℕ) × (k < n) × (common_of (kind_in v.kinds k) (kind_in s.kinds k) ≢ kind_in v.kinds k)

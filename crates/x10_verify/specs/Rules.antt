@@ -19,7 +19,8 @@ use Rattle.x10_model.specs.Assignments.{State, Point, Edges, IsKind, IsPlaced, F
 use Rattle.x10_verify.specs.declared.table.Effect.{Effect}
 use Rattle.x10_verify.specs.declared.table.Effect.TheVariants.{Keeps, Sets, Joins}
 use Rattle.x10_verify.specs.declared.table.Outcome.{Outcome}
-use Rattle.x10_verify.specs.declared.table.Outcome.TheVariants.{Fixed, Copies, Calls, Returns, Makes, Gets, Puts, Unwraps, Locates, Exports, Opens, FindsHere, FindsSame, Starts, Prints}
+use Rattle.x10_verify.specs.declared.table.Outcome.TheVariants.{Fixed, Copies, Calls, Returns, Makes, Gets, Puts, Unwraps}
+use Rattle.x10_verify.specs.declared.table.Outcome.TheVariants.{Locates, Exports, Opens, FindsHere, FindsSame, Starts, Prints}
 use Rattle.x10_verify.specs.declared.table.Rule.{Rule}
 use Rattle.x10_verify.specs.declared.fault.FlowCause.{FlowCause}
 
@@ -136,9 +137,12 @@ Settles (Fixed effect) p s e = e ≡ effect
 Settles Copies p s e = (kind : Kind) × (s.kinds p.instr.b ≡ Some kind) × (e ≡ Sets kind (like_if (has_place kind) (term.Reg p.instr.b)))
 Settles (Calls at) p s e = (callee : Function) × IsCalled p s at callee × GivesBack p at callee.result e
 Settles Returns p s e = ReturnsWell p s p.function.result × (e ≡ Keeps)
-Settles Makes p s e = (kinds : List Kind) × (slice_get p.program.classes p.instr.x ≡ Some kinds) × KindsAre s p.instr.b kinds × (e ≡ Sets (kind.Obj p.instr.x) None)
-Settles Gets p s e = (class : ℕ) × (field : Kind) × IsKind s p.instr.b (kind.Obj class) × (field_of p.program class p.instr.c ≡ Some field) × (e ≡ Sets field None)
-Settles Puts p s e = (class : ℕ) × (field : Kind) × IsKind s p.instr.a (kind.Obj class) × (field_of p.program class p.instr.c ≡ Some field) × IsKind s p.instr.b field × (e ≡ Keeps)
+Settles Makes p s e = (kinds : List Kind) × (slice_get p.program.classes p.instr.x ≡ Some kinds)
+    × KindsAre s p.instr.b kinds × (e ≡ Sets (kind.Obj p.instr.x) None)
+Settles Gets p s e = (class : ℕ) × (field : Kind) × IsKind s p.instr.b (kind.Obj class) × (field_of p.program class p.instr.c ≡ Some field)
+    × (e ≡ Sets field None)
+Settles Puts p s e = (class : ℕ) × (field : Kind) × IsKind s p.instr.a (kind.Obj class) × (field_of p.program class p.instr.c ≡ Some field)
+    × IsKind s p.instr.b field × (e ≡ Keeps)
 Settles Unwraps p s e = (class : ℕ) × IsKind s p.instr.b (kind.Opt class) × (e ≡ Sets (kind.Obj class) None)
 Settles Locates p s e = (class : ℕ) × IsKind s p.instr.b (kind.GRef class) × (e ≡ Sets kind.Place (Some (term.Reg p.instr.b)))
 Settles Exports p s e = (class : ℕ) × IsKind s p.instr.b (kind.Obj class) × (e ≡ Sets (kind.GRef class) (Some term.Here))

@@ -20,7 +20,8 @@ use Rattle.x10_verify.specs.States.{Arrives, stated, waits}
 
 -- the rule of instruction q holds in a state, and what follows knows no more than it is given
 abbrev pub Holds : Module → Function → (ℕ → Option State) → ℕ → State → Type 0
-Holds program function states q s = (instr : Instr) × (out : Edges) × (slice_get function.code q ≡ Some instr) × Permits instr.op (point program function q instr) s out × ((edge : ℕ × State) → IsIn edge out → Reaches states edge)
+Holds program function states q s = (instr : Instr) × (out : Edges) × (slice_get function.code q ≡ Some instr)
+    × Permits instr.op (point program function q instr) s out × ((edge : ℕ × State) → IsIn edge out → Reaches states edge)
 
 -- Sound: each state is one, and the rule of each that doesn't wait holds. Least: every consistent assignment has a state
 -- there that knows no more. Nothing before `at` waits.
@@ -39,7 +40,8 @@ Steps program function at old (Err cause) new = Solves program function at old �
 
 -- what became of the jump to x: its state has changed, and is to be looked at next where it is no later instruction
 abbrev pub JumpsIf : Bool → Instr → ℕ → ℕ → Known → List Entry → ℕ → List Entry → Type 0
-JumpsIf true i at len known old next new = (changed : Bool) × (i.x < len) × Arrives old i.x known new changed × (((changed ≡ true) × (i.x ≤ at) × (next ≡ i.x)) ⊎ ((changed ≡ true → at < i.x) × (next ≡ at + 1)))
+JumpsIf true i at len known old next new = (changed : Bool) × (i.x < len) × Arrives old i.x known new changed
+    × (((changed ≡ true) × (i.x ≤ at) × (next ≡ i.x)) ⊎ ((changed ≡ true → at < i.x) × (next ≡ at + 1)))
 JumpsIf false i at len known old next new = (next ≡ at + 1) × (new ≡ old)
 
 abbrev pub Jumps : Instr → ℕ → ℕ → Known → List Entry → Result ℕ FlowCause → List Entry → Type 0
@@ -48,7 +50,8 @@ Jumps i at len known old (Err cause) new = (is_target (form_of i.op).x ≡ true)
 
 -- what became of the next instruction
 abbrev pub GoesOnIf : Bool → Instr → ℕ → ℕ → Effect → Known → List Entry → List Entry → Type 0
-GoesOnIf true i at len effect known old new = (changed : Bool) × (t : Known) × (at + 1 < len) × IsNarrow (state_of t) × (IsState (state_of known) → SameState (state_of t) (after i.a (state_of known) effect)) × Arrives old (at + 1) t new changed
+GoesOnIf true i at len effect known old new = (changed : Bool) × (t : Known) × (at + 1 < len) × IsNarrow (state_of t)
+    × (IsState (state_of known) → SameState (state_of t) (after i.a (state_of known) effect)) × Arrives old (at + 1) t new changed
 GoesOnIf false i at len effect known old new = new ≡ old
 
 abbrev pub GoesOn : Instr → ℕ → ℕ → Effect → Known → List Entry → Result Unit FlowCause → List Entry → Type 0

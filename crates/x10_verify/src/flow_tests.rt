@@ -1,4 +1,4 @@
-//! The flow over lists of instructions, of all operations: an image may not have most of them yet.
+//! The flow over lists of instructions, of all operations: an image may not have all of them yet.
 use crate::fault::FlowCause;
 use crate::known::Known;
 use crate::states::{Entry, arrive, blank, is_waiting};
@@ -101,7 +101,7 @@ fn instr(words: &str) -> Option<Instr> {
 }
 
 /// Instructions between semicolons, and RET.
-fn code(alloc: Global, text: &str) -> Result<Vec<Instr>, Fail> {
+pub(crate) fn code(alloc: Global, text: &str) -> Result<Vec<Instr>, Fail> {
     let mut code = Vec::new(alloc);
     for words in text.split(';') {
         if let Some(instr) = instr(words) {

@@ -23,3 +23,5 @@ pub use verified::{Verified, verify};
 
 #[cfg(test)]
 mod flow_tests;
+#[cfg(test)]
+mod printing_tests;

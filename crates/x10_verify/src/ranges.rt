@@ -1,11 +1,12 @@
 //! Whether what an instruction names is there.
 ghost use Rattle.std.specs.Prelude.{◌≡◌, ◌↔◌, ◌<◌, ◌≤◌, IsTrue, length, Some, slice_get};
+ghost use Rattle.x10_code.specs.Table.{form_of};
 ghost use Rattle.x10_image.specs.Parts.{signature_of};
 ghost use Rattle.x10_model.specs.Modules.{Function};
 ghost use Rattle.x10_model.specs.Ranges.{function_at, argument_count, result_for, IsThere, IsInRange, IsResultRegister, AreArgumentRegisters, result_of, parameters_of, fields_of};
 ghost use Rattle.x10_verify.specs.Ranges.{SaysOf};
 
-use x10_code::{Instr, Op, Operand, form};
+use x10_code::{Instr, Operand, form};
 use x10_image::{ImageView, SigView};
 use x10_model::Slot;
 
@@ -33,6 +34,8 @@ fn is_there(
 ) -> bool
     requires there { f < length image.now.functions }
     requires signature { SaysOf image.now f signature.now }
+    requires result { operand ≡ Operand.Result → (form_of instr.op).a ≡ Operand.Result }
+    requires arguments { operand ≡ Operand.Arguments → (form_of instr.op).b ≡ Operand.Arguments }
     ensures { (function : Function) → function_at image.now f ≡ Some function → IsTrue result ↔ IsThere image.now function instr operand n }
 {
     match operand {
@@ -52,15 +55,24 @@ fn is_there(
 
 // Whether a result's register is there, where there is a result.
 fn result_fits(image: &ImageView, signature: &SigView, instr: Instr, n: u32) -> bool
+    requires { (form_of instr.op).a ≡ Operand.Result }
     ensures { (function : Function) → signature.now ≡ signature_of function → IsTrue result ↔ IsResultRegister function (result_for image.now function instr instr.op) n }
 {
-    let result = match instr.op {
-        Op::Ret => signature.result(),
-        _ => callee_result(image, instr),
-    };
-    match result {
+    match named_result(image, signature, instr) {
         None => true,
         Some(_) => n < u32::from(signature.registers()),
+    }
+}
+
+// What the function gives that an instruction calls, or else the one that it ends.
+fn named_result(image: &ImageView, signature: &SigView, instr: Instr) -> Option<Slot>
+    requires { (form_of instr.op).a ≡ Operand.Result }
+    ensures { (function : Function) → signature.now ≡ signature_of function → result ≡ result_for image.now function instr instr.op }
+{
+    if form(instr.op).x == Operand::Function {
+        callee_result(image, instr)
+    } else {
+        signature.result()
     }
 }
 
@@ -77,13 +89,24 @@ fn callee_result(image: &ImageView, instr: Instr) -> Option<Slot>
 
 // Whether the registers of the arguments are there.
 fn arguments_fit(image: &ImageView, signature: &SigView, instr: Instr, n: u32) -> bool
+    requires { (form_of instr.op).b ≡ Operand.Arguments }
     ensures { (function : Function) → signature.now ≡ signature_of function → IsTrue result ↔ AreArgumentRegisters function (argument_count image.now instr instr.op) n }
 {
-    let count = match instr.op {
-        Op::New => field_count(image, instr),
-        _ => parameter_count(image, instr),
-    };
+    let count = named_count(image, instr);
     (count != 0 || n == 0) && n as usize + count <= usize::from(signature.registers())
+}
+
+// How many registers an instruction asks for: one for each field of a class, or for each parameter of a function.
+fn named_count(image: &ImageView, instr: Instr) -> usize
+    requires { (form_of instr.op).b ≡ Operand.Arguments }
+    ensures value { result ≡ argument_count image.now instr instr.op }
+    ensures few { result ≤ 16 }
+{
+    if form(instr.op).x == Operand::Class {
+        field_count(image, instr)
+    } else {
+        parameter_count(image, instr)
+    }
 }
 
 // How many fields the class has that an instruction names.
