@@ -10,7 +10,8 @@ use Rattle.x10_code.specs.Table.{form_of}
 use Rattle.x10_model.specs.Modules.{Module, Function, FitsFunction, FitsImage}
 use Rattle.x10_model.specs.Ranges.{function_at, instr_at, instr_in, fields_of, argument_count, AreArgumentRegisters, IsThere, IsInRange}
 use Rattle.x10_image.specs.Parts.{code_in, code_at}
-use Rattle.x10_verify.proofs.Wholes.{function_fits, some_below}
+use Rattle.std.proofs.lemmas.Option.{slice_get_within}
+use Rattle.x10_verify.proofs.Wholes.{function_fits}
 use Rattle.x10_place.specs.declared.route.Local.{Local}
 use Rattle.x10_place.specs.declared.route.Local.TheVariants as local
 use Rattle.x10_place.specs.declared.route.Route.{Route}
@@ -32,7 +33,7 @@ sizes classes f fits = record { parameters = fits.parameters; registers = fits.r
 
 -- the function of a frame that stands at an instruction
 pub function_within : (program : Module) (index at count n : ℕ) → IsWithin program index at count → n ≡ index → n < length program.functions
-function_within program index at count n h e = subst (λ k. k < length program.functions) (sym e) (some_below program.functions index h.function h.is_function)
+function_within program index at count n h e = subst (λ k. k < length program.functions) (sym e) (slice_get_within program.functions index h.function h.is_function)
 
 pub pc_within : (program : Module) (index at count n pc : ℕ) → IsWithin program index at count → n ≡ index → pc ≡ at → pc < length (code_at program n)
 pc_within program index at count n pc h e g =

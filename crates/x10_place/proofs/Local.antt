@@ -35,7 +35,7 @@ use Rattle.x10_place.specs.Routes.{route_of}
 use Rattle.x10_place.specs.StandsFor.{Far, context, Assigned, HoldRegisters, StandsForFrame}
 use Rattle.std.proofs.Math.ListN.{length-set}
 use Rattle.std.proofs.lemmas.Bool.{eqb-true, eq-eqb}
-use Rattle.x10_verify.proofs.Wholes.{get_below}
+use Rattle.x10_model.proofs.Decided.{get_below}
 use Rattle.x10_place.proofs.Maps.{some_is}
 use Rattle.x10_place.proofs.Words.{Reads, reads, reads_int, words_written}
 use Rattle.x10_place.proofs.Objects.{ObjectAt, object_at, word_in}

@@ -16,7 +16,8 @@ use Rattle.x10_model.specs.Places.{Setting, Effect, Message}
 use Rattle.x10_model.specs.Moves.{Moves}
 use Rattle.x10_model.specs.Worlds.{World, Ideal, Allows, Steps, steps, idle, no_place, no_stay, not_flying, Post, Unused, Flying}
 use Rattle.x10_verify.specs.Certified.{Certified, IsCertified}
-use Rattle.x10_verify.proofs.Wholes.{all_at, function_fits}
+use Rattle.x10_model.proofs.Lists.{all_at}
+use Rattle.x10_verify.proofs.Wholes.{function_fits}
 use Rattle.x10_place.specs.Stays.{StayState}
 use Rattle.x10_place.specs.StandsFor as place
 use Rattle.x10_place.specs.StandsFor.{PlaceState, StandsFor, Leads, Keeps}
