@@ -36,6 +36,17 @@ pub fn is_supported(op: Op) -> bool
             | Op::Rget
             | Op::Rset
             | Op::Rlen
+            | Op::Here
+            | Op::Placek
+            | Op::Placen
+            | Op::Placei
+            | Op::Nextp
+            | Op::Count
+            | Op::Home
+            | Op::Gnew
+            | Op::Gopen
+            | Op::Ifhere
+            | Op::Ifsame
             | Op::Print
     )
 }

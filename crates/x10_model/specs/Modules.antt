@@ -59,6 +59,17 @@ is_supported op.Rail = true
 is_supported op.Rget = true
 is_supported op.Rset = true
 is_supported op.Rlen = true
+is_supported op.Here = true
+is_supported op.Placek = true
+is_supported op.Placen = true
+is_supported op.Placei = true
+is_supported op.Nextp = true
+is_supported op.Count = true
+is_supported op.Home = true
+is_supported op.Gnew = true
+is_supported op.Gopen = true
+is_supported op.Ifhere = true
+is_supported op.Ifsame = true
 is_supported op.Print = true
 is_supported _ = false
 
