@@ -1,6 +1,5 @@
 //! The heap of a place.
 ghost use Rattle.std.specs.Prelude.{◌≡◌, ◌<◌, ◌≤◌, ◌+◌, ◌^◌, ◌++◌, List, ℕ, IfOk, IfErr, Ok, Err, Some, None, length, replicate, slice_get, nat_lt};
-ghost use Rattle.std.specs.String.{string_bytes};
 ghost use Rattle.x10_kinds.specs.declared.stop.Stop.TheVariants as stop;
 ghost use Rattle.x10_model.specs.Modules.{FitsText};
 ghost use Rattle.x10_model.specs.Frames.{FitsRail};
@@ -57,15 +56,6 @@ fn next_number(count: usize, limit: u8) -> Result<u32, Stop>
         Ok(number) if number < u32::MAX => Ok(number),
         _ => Err(Stop::Limit(limit)),
     }
-}
-
-/// The bytes of one text and then of another.
-fn joined(alloc: Global, first: &str, second: &str) -> Result<String, AllocError>
-    ensures { IfOk result (λ text. string_bytes text ≡ first.now ++ second.now) }
-{
-    let mut text = String::from_str(alloc, first)?;
-    text.push_str(second)?;
-    Ok(text)
 }
 
 /// Each number of a row of bytes is below 256, for clauses that say so. Does nothing.
@@ -256,10 +246,10 @@ impl Heap {
         ensures err { IfErr result (λ why. (self.new ≡ self.old) × Refuses (length self.old.texts) 2 why) }
     {
         let number = next_number(self.texts.len(), TEXTS)?;
-        let Ok(text) = String::from_str(self.alloc, text) else {
+        let Ok(text) = Text::new(self.alloc, text) else {
             return Err(Stop::Memory);
         };
-        let Ok(()) = self.texts.push(Text { text }) else {
+        let Ok(()) = self.texts.push(text) else {
             return Err(Stop::Memory);
         };
         Ok(number)
@@ -271,7 +261,7 @@ impl Heap {
         ensures value { slice_get self.now.texts text ≡ Some result.now }
         ensures fits { FitsText result.now }
     {
-        self.texts[text as usize].text.as_str()
+        self.texts[text as usize].as_str()
     }
 
     /// A new text of two joined, the first before the second; none where it would be longer than 65,535 bytes, and then
@@ -289,10 +279,10 @@ impl Heap {
             return Ok(None);
         }
         let number = next_number(self.texts.len(), TEXTS)?;
-        let Ok(text) = joined(self.alloc, first, second) else {
+        let Ok(text) = Text::joined(self.alloc, first, second) else {
             return Err(Stop::Memory);
         };
-        let Ok(()) = self.texts.push(Text { text }) else {
+        let Ok(()) = self.texts.push(text) else {
             return Err(Stop::Memory);
         };
         Ok(Some(number))
