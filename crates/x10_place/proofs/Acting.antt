@@ -1,6 +1,6 @@
 -- What calls of the heap give is what operations of a frame do.
 use Rattle.std.proofs.Common.{◌≡◌, ℕ, ℤ, ◌+◌, ◌<◌, ◌≤◌, ◌^◌, Bool, true, false, List, ◌++◌, length, Option, Some, None, Result, Ok, Err, refl, sym, ap, ap₂, subst, ◌∙◌, arith}
-use Rattle.std.specs.Prelude.{IsSome, nat_le, slice_get, slice_index, slice_set}
+use Rattle.std.specs.Prelude.{◌-◌, ◌*◌, IsSome, nat_le, slice_get, slice_index, slice_set}
 use Rattle.std.proofs.lemmas.Bool.{le-leb, lt-leb}
 use Rattle.x10_kinds.specs.declared.stop.Stop.{Stop}
 use Rattle.x10_kinds.specs.declared.stop.Stop.TheVariants as stop
@@ -9,12 +9,13 @@ use Rattle.x10_model.specs.declared.limits.TheConstants.{MOST_BYTES}
 use Rattle.x10_model.specs.Modules.{Module}
 use Rattle.x10_model.specs.Moves.{byte_at}
 use Rattle.x10_model.proofs.Decided.{get_below}
-use Rattle.x10_heap.specs.Heaps.{HeapState, with_text, IsJoined, IsFull}
+use Rattle.x10_heap.specs.declared.export.Export.{Export}
+use Rattle.x10_heap.specs.Heaps.{HeapState, ObjectState, with_export, with_text, IsJoined, IsFull}
 use Rattle.x10_place.specs.declared.frame.CallFrame.{CallFrame}
 use Rattle.x10_place.specs.declared.route.Local.{Local}
 use Rattle.x10_place.specs.declared.route.Local.TheVariants as local
 use Rattle.x10_place.specs.declared.route.Make.TheVariants as make
-use Rattle.x10_place.specs.Frames.{workspace, space_of, Acts, Reads, SetsByte, byte_set, Makes, Joins, ReadsMake, Overfills, rail_in, text_in, word_at, int_at}
+use Rattle.x10_place.specs.Frames.{workspace, space_of, Acts, Reads, SetsByte, byte_set, Makes, Joins, ReadsMake, Overfills, rail_in, text_in, object_in, id_of, reference_word, NamesObject, ExportsObject, word_at, int_at}
 use Rattle.x10_place.specs.Stays.{GoesNextWith}
 
 -- ---- bytes of rails
@@ -53,6 +54,35 @@ module _ (program : Module) (l : Local) (is : l ≡ local.SetByte) (words : List
         bytes_there.1,
         subst (λ o. SetsByte o bytes_there.0 (workspace pc words loops heap) i (workspace q words loops new)) (sym at) (record { pc_is = next; words_are = refl; loops_are = refl; heap_is = heap_is }),
       )
+
+-- ---- global references
+
+-- the object that a reference names
+pub opens : (program : Module) (l : Local) (pc : ℕ) (words loops : List ℕ) (heap : HeapState) (i : Instr) (reference word a : ℕ) → l ≡ local.Open → Reads l heap words i → reference ≡ word_at words i.b → a ≡ i.a
+    → ((e : Export) → slice_get heap.exports (id_of reference) ≡ Some e → word ≡ e.object + 1) → Acts l program (workspace pc words loops heap) i (workspace (pc + 1) (slice_set words a word) loops heap)
+opens program l pc words loops heap i reference word a is reads reference_is a_is names =
+    let e = get_below heap.exports (id_of (word_at words i.b)) (subst (λ k. Reads k heap words i) is reads) in
+    let word_is = names e.0 (ap (λ n. slice_get heap.exports (id_of n)) reference_is ∙ e.1) in
+    subst (λ k. Acts k program (workspace pc words loops heap) i (workspace (pc + 1) (slice_set words a word) loops heap)) (sym is)
+    (e.0, e.1, record { pc_is = refl; words_are = ap₂ (λ r w. slice_set words r w) a_is word_is; loops_are = refl; heap_is = refl })
+
+-- a reference is made
+pub exports : (f g : CallFrame) (heap new : HeapState) (here id r p q : ℕ) (i : Instr) → NamesObject heap f.registers.items i.b → r ≡ word_at f.registers.items i.b → id ≡ length heap.exports → length heap.exports < 2 ^ 32
+    → ((o : ObjectState) → slice_get heap.objects (r - 1) ≡ Some o → new ≡ with_export heap o.class (r - 1)) → p ≡ here → q ≡ id → GoesNextWith f i.a (p + 65536 * q) g → ExportsObject here (space_of f heap) i (space_of g new)
+exports f g heap new here id r p q i names r_is id_is few made p_is q_is goes =
+    let o = get_below heap.objects (object_in f.registers.items i.b) names.there in
+    let new_is = made o.0 (ap (λ n. slice_get heap.objects (n - 1)) r_is ∙ o.1) in
+    record {
+      few = few;
+      object = o.0;
+      is_object = o.1;
+      becomes = record {
+        pc_is = goes.pc_is;
+        words_are = goes.words_are ∙ ap₂ (λ m n. slice_set f.registers.items i.a (reference_word m n)) p_is (q_is ∙ id_is);
+        loops_are = goes.loops_are;
+        heap_is = new_is ∙ ap (λ n. with_export heap o.0.class (n - 1)) r_is;
+      };
+    }
 
 -- ---- texts joined
 

@@ -1,5 +1,5 @@
 -- The ends of functions, and what is printed: the program's steps are the machine's.
-use Rattle.std.proofs.Common.{◌≡◌, ◌⊎◌, ℕ, ◌+◌, ◌<◌, List, [], ◌∷◌, ◌++◌, length, Option, Some, None, refl, sym, ap, subst, ◌∙◌, inl, inr, arith}
+use Rattle.std.proofs.Common.{◌≡◌, ◌⊎◌, ℕ, ◌+◌, ◌<◌, ◌≤◌, List, [], ◌∷◌, ◌++◌, length, Option, Some, None, refl, sym, ap, subst, ◌∙◌, inl, inr, arith}
 use Rattle.std.specs.Prelude.{Bool, reverse, slice_get, slice_index, slice_set, string_bytes, IfSome}
 use Rattle.x10_kinds.specs.declared.kind.Kind.TheVariants as kind
 use Rattle.x10_kinds.specs.declared.homes.Term.TheVariants as term
@@ -99,7 +99,7 @@ result_register program function i slot e there is =
     let register = subst (λ q. IsResultRegister function (result_for program function i q) i.a) e at in
     subst (λ q. IsResultRegister function q i.a) is register
 
-module _ (setting : Setting) (here : ℕ) (far : Far) (m : machine.Place) (key : ℕ) (s : Stay) (assigned : Assigned setting.program) (heap : HeapState) (holds : HoldsHeap (context setting here heap far) m.cells) (a : StayState) (h : StandsForStay setting.program assigned (context setting here heap far) a s) (i : Instr) (fetched : IsFetchedFor setting.program a.top i) where
+module _ (setting : Setting) (here : ℕ) (far : Far) (m : machine.Place) (key : ℕ) (s : Stay) (assigned : Assigned setting.program) (heap : HeapState) (holds : HoldsHeap (context setting here heap far) m.cells) (few : setting.places ≤ 64) (a : StayState) (h : StandsForStay setting.program assigned (context setting here heap far) a s) (i : Instr) (fetched : IsFetchedFor setting.program a.top i) where
   abbrev x : Context
   x = context setting here heap far
 
@@ -176,7 +176,7 @@ module _ (setting : Setting) (here : ℕ) (far : Far) (m : machine.Place) (key :
       let known = number function h.top.is_function (assigned a.top.function function h.top.is_function) h.top.state h.top.is_state in
       (Int z, reads_int x h.top.state s.top.registers a.top.registers.items i.a h.top.words known ∙ ap (λ n. Some (Int n)) (sym is), refl)
   printed (line.Text t) (text, is) =
-      let v = reads x h.top.state s.top.registers a.top.registers.items i.a kind.Text h.top.words (text_known setting.program assigned x refl m.cells holds a.top s.top h.top i fetched text) in
+      let v = reads x h.top.state s.top.registers a.top.registers.items i.a kind.Text h.top.words (text_known setting.program assigned x refl m.cells holds few a.top s.top h.top i fetched text) in
       (Text (string_bytes t), v.1 ∙ ap Some (v.2.2 ∙ ap Text (some_is v.2.0 (string_bytes t) (sym v.2.1 ∙ is))), refl)
 
   pub print_moves : (b : StayState) (out : Edges) (l : Line) → IsPrinted setting.program heap a.top i.a l → Permits op.Print (point_of setting.program function a.top i) h.top.state out

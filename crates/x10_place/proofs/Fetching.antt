@@ -19,11 +19,13 @@ use Rattle.x10_place.specs.declared.route.Route.TheVariants as route
 use Rattle.x10_place.specs.declared.route.Partial.TheVariants as partial
 use Rattle.x10_place.specs.declared.route.Make.{Make}
 use Rattle.x10_place.specs.declared.route.Make.TheVariants as make
+use Rattle.x10_place.specs.declared.route.Site.{Site}
+use Rattle.x10_place.specs.declared.route.Site.TheVariants as site
 use Rattle.x10_place.specs.declared.route.Number.TheVariants as number
 use Rattle.x10_heap.specs.Heaps.{HeapState}
 use Rattle.x10_model.specs.declared.limits.TheConstants.{MOST_BYTES}
 use Rattle.x10_model.specs.Moves.{is_zero, byte_at, rail_length}
-use Rattle.x10_place.specs.Frames.{Workspace, Becomes, HasSizes, IsWithin, IsFetched, Takes, CopiesUnless, SetsByte, Acts, Asks, Makes, Joins, MakesRail, AsksMake, word_at, int_at, turns_left}
+use Rattle.x10_place.specs.Frames.{Workspace, Becomes, HasSizes, IsWithin, IsFetched, Takes, CopiesUnless, SetsByte, Acts, Asks, Makes, Joins, MakesRail, AsksMake, Puts, ActsAt, AsksAt, ExportsObject, numbered, is_at, are_same, word_at, int_at, turns_left}
 use Rattle.x10_place.specs.Routes.{route_of}
 
 pub sizes : (classes : ℕ) (f : Function) → FitsFunction classes f → HasSizes classes f
@@ -99,6 +101,11 @@ module _ (program : Module) (index at count : ℕ) (i : Instr) (h : IsFetched pr
   asks_by op.Get l n r = asks_at local.GetField l r ((omega (arith, n.0, h.registers), omega (arith, n.1, h.registers)))
   asks_by op.Put l n r = asks_at local.SetField l r ((omega (arith, n.0, h.registers), omega (arith, n.1, h.registers)))
   asks_by op.Rset l n r = asks_at local.SetByte l r ((omega (arith, n.0, h.registers), omega (arith, n.1, h.registers), omega (arith, n.2, h.registers), omega (arith, n.3, h.sizes.length.1)))
+  asks_by op.Placei l n r = asks_at (local.Number number.PlaceNumber) l r ((omega (arith, n.0, h.registers), omega (arith, n.1, h.registers)))
+  asks_by op.Placek l n r = asks_at local.Place l r (omega (arith, n.0, h.registers))
+  asks_by op.Home l n r = asks_at local.Home l r ((omega (arith, n.0, h.registers), omega (arith, n.1, h.registers)))
+  asks_by op.Gopen l n r = asks_at local.Open l r ((omega (arith, n.0, h.registers), omega (arith, n.1, h.registers)))
+  asks_by op.Ifsame l n r = asks_at local.SamePlace l r ((omega (arith, n.0, h.registers), omega (arith, n.1, h.registers), omega (arith, n.3, h.sizes.length.1)))
   asks_by op.Div l n r = asks_at (local.Partial partial.Quotient) l r ((omega (arith, n.0, h.registers), omega (arith, n.1, h.registers), omega (arith, n.2, h.registers), omega (arith, n.3, h.sizes.length.1)))
   asks_by op.Rem l n r = asks_at (local.Partial partial.Remainder) l r ((omega (arith, n.0, h.registers), omega (arith, n.1, h.registers), omega (arith, n.2, h.registers), omega (arith, n.3, h.sizes.length.1)))
   asks_by op.Move l n r = asks_at local.Copy l r ((omega (arith, n.0, h.registers), omega (arith, n.1, h.registers)))
@@ -116,6 +123,7 @@ module _ (program : Module) (index at count : ℕ) (i : Instr) (h : IsFetched pr
   Targets (local.Partial d) = i.x < length h.function.code
   Targets local.NotNull = i.x < length h.function.code
   Targets local.SetByte = i.x < length h.function.code
+  Targets local.SamePlace = i.x < length h.function.code
   Targets local.Jump = i.x < length h.function.code
   Targets local.JumpIfZero = i.x < length h.function.code
   Targets local.EndLoop = i.x < length h.function.code
@@ -133,6 +141,11 @@ module _ (program : Module) (index at count : ℕ) (i : Instr) (h : IsFetched pr
   targets_by op.Eq l n r = targets_at (local.Number number.Equal) l r tt
   targets_by op.Tlen l n r = targets_at (local.Number number.TextLength) l r tt
   targets_by op.Rlen l n r = targets_at (local.Number number.RailLength) l r tt
+  targets_by op.Placei l n r = targets_at (local.Number number.PlaceNumber) l r tt
+  targets_by op.Placek l n r = targets_at local.Place l r tt
+  targets_by op.Home l n r = targets_at local.Home l r tt
+  targets_by op.Gopen l n r = targets_at local.Open l r tt
+  targets_by op.Ifsame l n r = targets_at local.SamePlace l r n.3
   targets_by op.Div l n r = targets_at (local.Partial partial.Quotient) l r n.3
   targets_by op.Rem l n r = targets_at (local.Partial partial.Remainder) l r n.3
   targets_by op.Rget l n r = targets_at (local.Partial partial.Byte) l r n.3
@@ -199,6 +212,58 @@ module _ (program : Module) (index at count : ℕ) (i : Instr) (h : IsFetched pr
   pub make_targets : (k : Make) → route_of i.op ≡ route.Make k → MakeTargets k
   make_targets k r = make_targets_by i.op k (named i.op refl) r
 
+  -- ---- operations that go by the place
+
+  site_no_return : (k : Site) → route_of i.op ≡ route.Site k → i.op ≢ op.Ret
+  site_no_return k e f = absurd (let g : route.Return ≡ route.Site k = ap route_of (sym f) ∙ e in cc)
+
+  pub site_next : (k : Site) → route_of i.op ≡ route.Site k → at + 1 < length h.function.code
+  site_next k e = h.next (site_no_return k e)
+
+  site_at : (j k : Site) → route.Site j ≡ route.Site k → AsksAt j count i → AsksAt k count i
+  site_at j k e asked = subst (λ q. AsksAt q count i) (let same : j ≡ k = cc in same) asked
+
+  site_by : (o : Op) (k : Site) → Named o → route_of o ≡ route.Site k → AsksAt k count i
+  site_by op.Here k n r = site_at site.Here k r (omega (arith, n.0, h.registers))
+  site_by op.Count k n r = site_at site.Count k r (omega (arith, n.0, h.registers))
+  site_by op.Nextp k n r = site_at site.Next k r ((omega (arith, n.0, h.registers), omega (arith, n.1, h.registers)))
+  site_by op.Placen k n r = site_at site.Numbered k r ((omega (arith, n.0, h.registers), omega (arith, n.1, h.registers), omega (arith, n.3, h.sizes.length.1)))
+  site_by op.Ifhere k n r = site_at site.IsHere k r ((omega (arith, n.0, h.registers), omega (arith, n.3, h.sizes.length.1)))
+  site_by _ k n r = absurd cc
+
+  pub site_asks : (k : Site) → route_of i.op ≡ route.Site k → AsksAt k count i
+  site_asks k r = site_by i.op k (named i.op refl) r
+
+  abbrev pub SiteTargets : Site → Type 0
+  SiteTargets site.Numbered = i.x < length h.function.code
+  SiteTargets site.IsHere = i.x < length h.function.code
+  SiteTargets _ = Unit {0}
+
+  site_targets_at : (j k : Site) → route.Site j ≡ route.Site k → SiteTargets j → SiteTargets k
+  site_targets_at j k e target = subst SiteTargets (let same : j ≡ k = cc in same) target
+
+  site_targets_by : (o : Op) (k : Site) → Named o → route_of o ≡ route.Site k → SiteTargets k
+  site_targets_by op.Here k n r = site_targets_at site.Here k r tt
+  site_targets_by op.Count k n r = site_targets_at site.Count k r tt
+  site_targets_by op.Nextp k n r = site_targets_at site.Next k r tt
+  site_targets_by op.Placen k n r = site_targets_at site.Numbered k r n.3
+  site_targets_by op.Ifhere k n r = site_targets_at site.IsHere k r n.3
+  site_targets_by _ k n r = absurd cc
+
+  pub site_targets : (k : Site) → route_of i.op ≡ route.Site k → SiteTargets k
+  site_targets k r = site_targets_by i.op k (named i.op refl) r
+
+  -- a global reference is made
+  export_by : (o : Op) → Named o → route_of o ≡ route.Export → (i.a < count) × (i.b < count)
+  export_by op.Gnew n r = (omega (arith, n.0, h.registers), omega (arith, n.1, h.registers))
+  export_by _ n r = absurd cc
+
+  pub export_asks : route_of i.op ≡ route.Export → (i.a < count) × (i.b < count)
+  export_asks r = export_by i.op (named i.op refl) r
+
+  pub export_next : route_of i.op ≡ route.Export → at + 1 < length h.function.code
+  export_next e = h.next (λ f. absurd (let g : route.Return ≡ route.Export = ap route_of (sym f) ∙ e in cc))
+
 -- ---- where the frame stands afterwards
 
 module _ (program : Module) (index : ℕ) (v : Workspace) (i : Instr) (h : IsFetched program index v.pc (length v.words) i) where
@@ -213,6 +278,10 @@ module _ (program : Module) (index : ℕ) (v : Workspace) (i : Instr) (h : IsFet
   next_or : (b : Bool) (x n count : ℕ) → x < count → n < count → (if b then x else n) < count
   next_or true x n count lx ln = lx
   next_or false x n count lx ln = ln
+
+  or_next : (b : Bool) (x n count : ℕ) → x < count → n < count → (if b then n else x) < count
+  or_next true x n count lx ln = ln
+  or_next false x n count lx ln = lx
 
   takes_within : (z : Option ℤ) (w : Workspace) → Takes v i z w → v.pc + 1 < length h.function.code → i.x < length h.function.code → IsWithin program index w.pc (length w.words)
   takes_within (Some z) w t next target = lands w _ _ _ _ t.2 next (simp length-set refl)
@@ -235,6 +304,10 @@ module _ (program : Module) (index : ℕ) (v : Workspace) (i : Instr) (h : IsFet
   within_by local.SetField w acts next target = lands w _ _ _ _ acts.becomes next refl
   within_by local.SetByte w acts next target = byte_within (byte_at acts.0 (int_at v.words i.b)) acts.0 w acts.2 next target
   within_by local.Copy w acts next target = lands w _ _ _ _ acts next (simp length-set refl)
+  within_by local.Place w acts next target = lands w _ _ _ _ acts next (simp length-set refl)
+  within_by local.Home w acts next target = lands w _ _ _ _ acts next (simp length-set refl)
+  within_by local.Open w acts next target = lands w _ _ _ _ acts.2 next (simp length-set refl)
+  within_by local.SamePlace w acts next target = lands w _ _ _ _ acts (or_next (are_same v.words i.a i.b) i.x (v.pc + 1) (length h.function.code) target next) refl
   within_by local.Jump w acts next target = lands w _ _ _ _ acts target refl
   within_by local.JumpIfZero w acts next target = lands w _ _ _ _ acts (next_or (is_zero (int_at v.words i.a)) i.x (v.pc + 1) (length h.function.code) target next) refl
   within_by local.Loop w acts next target = lands w _ _ _ _ acts next refl
@@ -259,3 +332,20 @@ module _ (program : Module) (index : ℕ) (v : Workspace) (i : Instr) (h : IsFet
 
   pub make_within : (k : Make) (w : Workspace) → route_of i.op ≡ route.Make k → Makes k program v i w → IsWithin program index w.pc (length w.words)
   make_within k w r makes = made_within k w makes (make_next program index v.pc (length v.words) i h k r) (make_targets program index v.pc (length v.words) i h k r)
+
+  puts_within : (word : Option ℕ) (w : Workspace) → Puts word v i w → v.pc + 1 < length h.function.code → i.x < length h.function.code → IsWithin program index w.pc (length w.words)
+  puts_within (Some word) w p next target = lands w _ _ _ _ p next (simp length-set refl)
+  puts_within None w p next target = lands w _ _ _ _ p target refl
+
+  at_within : (k : Site) (here places : ℕ) (w : Workspace) → ActsAt k here places v i w → v.pc + 1 < length h.function.code → SiteTargets program index v.pc (length v.words) i h k → IsWithin program index w.pc (length w.words)
+  at_within site.Here here places w p next target = lands w _ _ _ _ p next (simp length-set refl)
+  at_within site.Count here places w p next target = lands w _ _ _ _ p.2 next (simp length-set refl)
+  at_within site.Next here places w p next target = lands w _ _ _ _ p next (simp length-set refl)
+  at_within site.Numbered here places w p next target = puts_within (numbered places (int_at v.words i.b)) w p next target
+  at_within site.IsHere here places w p next target = lands w _ _ _ _ p (or_next (is_at v.words i.a here) i.x (v.pc + 1) (length h.function.code) target next) refl
+
+  pub site_within : (k : Site) (here places : ℕ) (w : Workspace) → route_of i.op ≡ route.Site k → ActsAt k here places v i w → IsWithin program index w.pc (length w.words)
+  site_within k here places w r acts = at_within k here places w acts (site_next program index v.pc (length v.words) i h k r) (site_targets program index v.pc (length v.words) i h k r)
+
+  pub export_within : (here : ℕ) (w : Workspace) → route_of i.op ≡ route.Export → ExportsObject here v i w → IsWithin program index w.pc (length w.words)
+  export_within here w r exports = lands w _ _ _ _ exports.becomes (export_next program index v.pc (length v.words) i h r) (simp length-set refl)

@@ -14,6 +14,7 @@ pub mod Growing
 pub mod Reading
 pub mod Local
 pub mod Made
+pub mod Sited
 pub mod Acting
 pub mod Printing
 pub mod Calls

@@ -1,10 +1,12 @@
 -- Operations of one frame: what the program does to its words is what the machine does to its values.
 use Rattle.std.proofs.Common.{◌≡◌, ℕ, ℤ, ◌+◌, ◌-◌, ◌<◌, Bool, true, false, List, length, Option, Some, None, refl, sym, ap, subst, ◌∙◌, inl, inr, arith}
-use Rattle.std.specs.Prelude.{◌⊎◌, ◌*◌, ◌==◌, ◌^◌, pos, nat_lt, if◌then◌else◌, slice_get, slice_index, slice_set}
+use Rattle.std.specs.Prelude.{◌⊎◌, ◌*◌, ◌==◌, ◌^◌, pos, nat_lt, IsTrue, option_map, if◌then◌else◌, slice_get, slice_index, slice_set}
 use Rattle.std.specs.Int.{w64, cast_signed}
 use Rattle.x10_kinds.specs.declared.kind.Kind.{Kind}
 use Rattle.x10_kinds.specs.declared.kind.Kind.TheVariants as kind
+use Rattle.x10_kinds.specs.declared.homes.Term.{Term}
 use Rattle.x10_kinds.specs.declared.homes.Term.TheVariants as term
+use Rattle.x10_kinds.specs.Equations.{IsTerm, joined}
 use Rattle.x10_kinds.specs.Kinds.{has_place}
 use Rattle.x10_code.specs.declared.op.Op.{Op}
 use Rattle.x10_code.specs.declared.op.Op.TheVariants as op
@@ -13,13 +15,14 @@ use Rattle.x10_code.specs.Table.{form_of}
 use Rattle.x10_model.specs.Maps.{with_entry, IsIn}
 use Rattle.x10_model.specs.Modules.{Module, Function}
 use Rattle.x10_model.specs.Ranges.{IsThere}
-use Rattle.x10_model.specs.Values.{Value, Int, Text, Rail, Object, Null, Fields, Bytes, Cells}
+use Rattle.x10_model.specs.Values.{Value, Int, Place, Text, Rail, Object, Null, Ref, Fields, Bytes, Cells}
 use Rattle.x10_model.specs.Places as machine
 use Rattle.x10_model.specs.Places.{Setting, Stay, Works, with_stay, goes, next, writes}
-use Rattle.x10_model.specs.Moves.{Situation, Does, is_zero, writes_or_goes, byte_at, byte_value}
-use Rattle.x10_model.specs.Assignments.{State, Point, Edges, onward, onward_or, gives, like_if, IsKind, Permits, Reaches}
+use Rattle.x10_model.specs.Moves.{Situation, Does, is_zero, place_of, writes_or_goes, next_or_goes, byte_at, byte_value}
+use Rattle.x10_model.specs.Assignments.{State, Point, Edges, onward, onward_or, gives, like_if, IsKind, IsPlaced, Permits, Reaches}
+use Rattle.x10_heap.specs.declared.export.Export.{Export}
 use Rattle.x10_heap.specs.Heaps.{HeapState, ObjectState}
-use Rattle.x10_heap.specs.Words.{Context, IsWordOf, IsObjectWord, AreWordsOf, IsObjectCell, HoldsObject, rail_cell, HoldsHeap}
+use Rattle.x10_heap.specs.Words.{Context, IsWordOf, IsObjectWord, AreWordsOf, IsObjectCell, HoldsObject, rail_cell, HoldsHeap, export_as, has_class, is_named}
 use Rattle.x10_heap.proofs.Growing.{Grows, grows_not}
 use Rattle.x10_place.specs.declared.frame.CallFrame.{CallFrame}
 use Rattle.x10_place.specs.declared.route.Route.TheVariants as route
@@ -29,17 +32,19 @@ use Rattle.x10_place.specs.declared.route.Partial.{Partial}
 use Rattle.x10_place.specs.declared.route.Partial.TheVariants as partial
 use Rattle.x10_place.specs.declared.route.Number.{Number}
 use Rattle.x10_place.specs.declared.route.Number.TheVariants as number
-use Rattle.x10_place.specs.Homes.{AreHomes}
-use Rattle.x10_place.specs.Frames.{Workspace, space_of, Becomes, IsFetchedFor, Acts, Writes, Takes, CopiesUnless, GetsField, as_value, given, tried, size, byte_in, rail_in, text_in, object_in, int_at, word_at, turns_left}
+use Rattle.x10_place.specs.Homes.{AreHomes, IsLike, place_at, place_in}
+use Rattle.x10_place.specs.Frames.{Workspace, space_of, Becomes, IsFetchedFor, Acts, Writes, Takes, CopiesUnless, GetsField, as_value, given, tried, size, byte_in, rail_in, text_in, object_in, int_at, word_at, home_of, id_of, are_same, turns_left}
 use Rattle.x10_place.specs.Routes.{route_of}
-use Rattle.x10_place.specs.StandsFor.{Far, context, Assigned, HoldRegisters, StandsForFrame}
+use Rattle.x10_place.specs.StandsFor.{Far, context, Assigned, HoldRegisters, StandsForFrame, HoldsExports, IsWithinPlaces}
 use Rattle.std.proofs.Math.ListN.{length-set}
+use Rattle.std.proofs.Math.Nat.{mod-eq_of_lt}
 use Rattle.std.proofs.lemmas.Bool.{eqb-true, eq-eqb}
+use Rattle.std.proofs.lemmas.Option.{slice_get-map}
 use Rattle.x10_model.proofs.Decided.{get_below}
 use Rattle.x10_place.proofs.Maps.{some_is}
 use Rattle.x10_place.proofs.Words.{Reads, reads, reads_int, words_written}
 use Rattle.x10_place.proofs.Objects.{ObjectAt, object_at, word_in}
-use Rattle.x10_place.proofs.Homes.{homes_written, move_like}
+use Rattle.x10_place.proofs.Homes.{homes_written, homes_joined, move_like}
 use Rattle.x10_place.proofs.Framed.{FrameAfter, after_of, point_of, slots_written, in_range, small, count, frame_after}
 
 abbrev pub situated : (setting : Setting) (here : ℕ) (m : machine.Place) (key : ℕ) (s : Stay) → Function → Instr → Situation
@@ -77,6 +82,10 @@ heap_kept local.NotNull program w i v keeps acts = copied (word_at w.words i.b =
 heap_kept local.GetField program w i v keeps acts = acts.becomes.heap_is
 heap_kept local.SetField program w i v keeps acts = absurd keeps
 heap_kept local.SetByte program w i v keeps acts = absurd keeps
+heap_kept local.Place program w i v keeps acts = acts.heap_is
+heap_kept local.Home program w i v keeps acts = acts.heap_is
+heap_kept local.Open program w i v keeps acts = acts.2.heap_is
+heap_kept local.SamePlace program w i v keeps acts = acts.heap_is
 heap_kept local.Jump program w i v keeps acts = acts.heap_is
 heap_kept local.JumpIfZero program w i v keeps acts = acts.heap_is
 heap_kept local.Loop program w i v keeps acts = acts.heap_is
@@ -112,12 +121,22 @@ module _ (setting : Setting) (here : ℕ) (far : Far) (m : machine.Place) (key :
 
   -- ---- registers
 
-  -- a value and its word are written, of which no place is known
+  -- a value and its word are written, like a term or like none that is known
+  pub writes_like : (g : CallFrame) (k : Kind) (like : Option Term) (v : Value) (word : ℕ) → IsWordOf x k word v → IsLike here s.top.registers like v → i.a < length f.registers.items → FrameAfter f g (f.pc + 1) (slice_set f.registers.items i.a word) f.loops
+      → Reaches states (f.pc + 1, gives point h.state k like) → StandsForFrame setting.program assigned x g (writes s.top i.a v)
+  writes_like g k like v word e is_like lt b reached = after g (writes s.top i.a v) (f.pc + 1) (gives point h.state k like) (slice_set f.registers.items i.a word) f.loops b reached refl pc_next
+      (words_written x h.state s.top.registers f.registers.items i.a k like v word lt h.words e)
+      (homes_written x.here h.state.homes s.top.registers i.a like v h.homes is_like) h.slots h.loops
+
   pub writes_word : (g : CallFrame) (k : Kind) (v : Value) (word : ℕ) → IsWordOf x k word v → i.a < length f.registers.items → FrameAfter f g (f.pc + 1) (slice_set f.registers.items i.a word) f.loops
       → Reaches states (f.pc + 1, gives point h.state k None) → StandsForFrame setting.program assigned x g (writes s.top i.a v)
-  writes_word g k v word e lt b reached = after g (writes s.top i.a v) (f.pc + 1) (gives point h.state k None) (slice_set f.registers.items i.a word) f.loops b reached refl pc_next
-      (words_written x h.state s.top.registers f.registers.items i.a k None v word lt h.words e)
-      (homes_written x.here h.state.homes s.top.registers i.a None v h.homes tt) h.slots h.loops
+  writes_word g k v word e lt b reached = writes_like g k None v word e tt lt b reached
+
+  -- two terms are known to stand for one place
+  pub goes_joined : (g : CallFrame) (t u : Term) → IsTerm t → IsTerm u → place_at here s.top.registers t ≡ place_at here s.top.registers u → FrameAfter f g (f.pc + 1) f.registers.items f.loops
+      → Reaches states (f.pc + 1, record h.state { homes = joined h.state.homes t u }) → StandsForFrame setting.program assigned x g (next s.top)
+  goes_joined g t u t_term u_term same b reached = after g (next s.top) (f.pc + 1) (record h.state { homes = joined h.state.homes t u }) f.registers.items f.loops b reached refl pc_next h.words
+      (homes_joined here h.state.homes s.top.registers t u h.homes t_term u_term same) h.slots h.loops
 
   writes_number : (g : CallFrame) (z : ℤ) (word : ℕ) → z ≡ cast_signed w64 word → i.a < length f.registers.items → FrameAfter f g (f.pc + 1) (slice_set f.registers.items i.a word) f.loops
       → Reaches states (f.pc + 1, gives point h.state kind.Int None) → StandsForFrame setting.program assigned x g (writes s.top i.a (Int z))
@@ -168,12 +187,10 @@ module _ (setting : Setting) (here : ℕ) (far : Far) (m : machine.Place) (key :
       → i.a < length f.registers.items → i.b < 64 → FrameAfter f g (f.pc + 1) (slice_set f.registers.items i.a (word_at f.registers.items i.b)) f.loops → Moved op.Move g
   moves_word g out k edges known e lt few b =
       let held = h.words i.b k known in
-      let t = gives point h.state k (like_if (has_place k) (term.Reg i.b)) in (
+      let like = like_if (has_place k) (term.Reg i.b) in (
         writes s.top i.a held.0,
         (held.0, held.1, (refl, refl)),
-        after g (writes s.top i.a held.0) (f.pc + 1) t (slice_set f.registers.items i.a (word_at f.registers.items i.b)) f.loops b (edge_next out t edges e) refl pc_next
-            (words_written x h.state s.top.registers f.registers.items i.a k (like_if (has_place k) (term.Reg i.b)) held.0 (word_at f.registers.items i.b) lt h.words held.2)
-            (homes_written x.here h.state.homes s.top.registers i.a (like_if (has_place k) (term.Reg i.b)) held.0 h.homes (move_like x.here s.top.registers i.b held.0 (has_place k) few held.1)) h.slots h.loops,
+        writes_like g k like held.0 (word_at f.registers.items i.b) held.2 (move_like here s.top.registers i.b held.0 (has_place k) few held.1) lt b (edge_next out (gives point h.state k like) edges e),
       )
 
   jumps_if : (g : CallFrame) (b : Bool) → FrameAfter f g (if b then i.x else f.pc + 1) f.registers.items f.loops → Reaches states (f.pc + 1, h.state) → Reaches states (i.x, h.state)
@@ -208,23 +225,45 @@ module _ (setting : Setting) (here : ℕ) (far : Far) (m : machine.Place) (key :
   pub record Done (o : Op) (g : CallFrame) (new : HeapState) : Type 0 where
     pub top : machine.CallFrame
     pub cells : Cells
-    pub does : Does o (situated setting here m key s h.function i) (with_stay (record m { cells = cells }) key (Some (record s { top = top }))) Works
+    pub exports : List machine.Export
+    pub does : Does o (situated setting here m key s h.function i) (with_stay (record m { cells = cells; exports = exports }) key (Some (record s { top = top }))) Works
     pub stands : StandsForFrame setting.program assigned (context setting here new far) g top
     pub holds : HoldsHeap (context setting here new far) cells
     pub grows : Grows x (context setting here new far)
-    pub exports : new.exports ≡ heap.exports
+    pub exported : HoldsExports new exports
 
   at : (k l : Local) (w v : Workspace) → route.Local k ≡ route.Local l → Acts l setting.program w i v → Acts k setting.program w i v
   at k l w v e acts = subst (λ q. Acts q setting.program w i v) (let same : l ≡ k = cc in same) acts
 
-  module _ (held : HoldsHeap x m.cells) (l : Local) (g : CallFrame) (kept : HeapState) (out : Edges) (same : g.function ≡ f.function) (edges : (edge : ℕ × State) → IsIn edge out → Reaches states edge) (acts : Acts l setting.program (space_of f heap) i (space_of g kept)) where
+  -- a register that stands for a place
+  module _ (site : IsWithinPlaces setting.program here setting.places) where
+    place_small : (p : ℕ) → p < setting.places → home_of p ≡ p
+    place_small p lt = mod-eq_of_lt (omega (arith, lt, site.few))
+
+    pub placed_in : (r : ℕ) → IsPlaced h.state r → (v : Value) × (s.top.registers r ≡ Some v) × (place_of v ≡ Some (home_of (word_at f.registers.items r)))
+    placed_in r (inl k) =
+        let t = reads x h.state s.top.registers f.registers.items r kind.Place h.words k in
+        (t.0, t.1, ap place_of t.2.1 ∙ ap Some (sym (place_small (word_at f.registers.items r) t.2.0)))
+    placed_in r (inr k) =
+        let t = reads x h.state s.top.registers f.registers.items r (kind.GRef k.0) h.words k.1 in
+        (t.0, t.1, ap place_of t.2.3)
+
+  pub register_small : (o : Op) → i.op ≡ o → (IsThere setting.program h.function i (form_of o).a i.a → i.a < h.function.registers) → i.a < 64
+  register_small o e a = let lt = a (there o e).0 in omega (arith, lt, (small setting.program assigned x f s.top h i fetched).registers.1)
+
+  -- the export that a name is of
+  named_export : (o : Option Export) (class : ℕ) → IsTrue (has_class o class) → (e : Export) × (o ≡ Some e) × (e.class ≡ class)
+  named_export None class named = absurd cc
+  named_export (Some e) class named = (e, refl, eqb-true e.class class named)
+
+  module _ (held : HoldsHeap x m.cells) (exported : HoldsExports heap m.exports) (site : IsWithinPlaces setting.program here setting.places) (l : Local) (g : CallFrame) (kept : HeapState) (out : Edges) (same : g.function ≡ f.function) (edges : (edge : ℕ × State) → IsIn edge out → Reaches states edge) (acts : Acts l setting.program (space_of f heap) i (space_of g kept)) where
     by : (k : Local) → route.Local k ≡ route.Local l → Acts k setting.program (space_of f heap) i (space_of g kept)
     by k r = at k l (space_of f heap) (space_of g kept) r acts
 
     -- the heap is as it was
     unchanged : (k : Local) (o : Op) → Keeps k → route.Local k ≡ route.Local l → Moved o g → Done o g kept
     unchanged k o keeps r moved = subst (λ hp. Done o g hp) (sym (heap_kept k setting.program (space_of f heap) i (space_of g kept) keeps (by k r)))
-        (record { top = moved.0; cells = m.cells; does = moved.1; stands = moved.2; holds = held; grows = grows_not x; exports = refl })
+        (record { top = moved.0; cells = m.cells; exports = m.exports; does = moved.1; stands = moved.2; holds = held; grows = grows_not x; exported = exported })
 
     went : (pc : ℕ) (words loops : List ℕ) → Becomes (space_of g kept) pc words loops heap → FrameAfter f g pc words loops
     went pc words loops b = after_of f g kept heap pc words loops same b
@@ -274,6 +313,63 @@ module _ (setting : Setting) (here : ℕ) (far : Far) (m : machine.Place) (key :
           writes_word g k field.1 c.word (subst (λ w. IsWordOf x k w field.1) same-word field.4) (room op.Get e (λ a. a)) (went (f.pc + 1) (slice_set f.registers.items i.a c.word) f.loops c.becomes) (edge_next out (gives point h.state k None) edges to),
         )
 
+    -- the place of a global reference
+    homes_in : (class : ℕ) → i.op ≡ op.Home → Reads x s.top.registers f.registers.items i.b (kind.GRef class) → Acts local.Home setting.program (space_of f heap) i (space_of g kept) → out ≡ onward point (gives point h.state kind.Place (Some (term.Reg i.b))) → Moved op.Home g
+    homes_in class e (v, is, (home, id, named, value_is)) home_acts to =
+        let word = word_at f.registers.items i.b in (
+          writes s.top i.a (Place (home_of word)),
+          (home_of word, id_of word, class, is ∙ ap Some value_is, (refl, refl)),
+          writes_like g kind.Place (Some (term.Reg i.b)) (Place (home_of word)) (home_of word) (home, refl) (register_few op.Home e (λ b. b), ap place_in is ∙ ap place_of value_is)
+              (room op.Home e (λ a. a)) (went (f.pc + 1) (slice_set f.registers.items i.a (home_of word)) f.loops home_acts) (edge_next out (gives point h.state kind.Place (Some (term.Reg i.b))) edges to),
+        )
+
+    -- the object that a global reference of this place names
+    opens : (class : ℕ) → i.op ≡ op.Gopen → Reads x s.top.registers f.registers.items i.b (kind.GRef class) → IsTrue (h.state.homes (term.Reg i.b) term.Here) → Acts local.Open setting.program (space_of f heap) i (space_of g kept)
+        → out ≡ onward point (gives point h.state (kind.Obj class) None) → Moved op.Gopen g
+    opens class e (v, is, (home, small_id, named, value_is)) known acts to =
+        let word = word_at f.registers.items i.b in
+        let at_home : home_of word ≡ here = same_some (home_of word) here (sym (ap place_in is ∙ ap place_of value_is) ∙ h.homes (term.Reg i.b) term.Here (register_few op.Gopen e (λ b. b)) tt known) in
+        let here_named : IsTrue (has_class (slice_get heap.exports (id_of word)) class) = chosen (home_of word == here) (has_class (slice_get heap.exports (id_of word)) class) (far (home_of word) (id_of word) class) (eq-eqb (home_of word) here at_home) named in
+        let found = named_export (slice_get heap.exports (id_of word)) class here_named in
+        let same_export : found.0 ≡ acts.0 = some_is found.0 acts.0 (sym found.1 ∙ acts.1) in
+        let object = exported.named (id_of word) found.0 found.1 in
+        let reference = 2 * found.0.object in
+        let there_is : slice_get m.exports (id_of word) ≡ Some (record { class = class; object = reference }) =
+        ap (λ es. slice_get es (id_of word)) exported.exports_are ∙ slice_get-map export_as heap.exports (id_of word) ∙ ap (option_map export_as) found.1 ∙ ap (λ c. Some (record { class = c; object = reference })) found.2 in (
+          writes s.top i.a (Object reference),
+          (id_of word, class, reference, is ∙ ap Some (value_is ∙ ap (λ p. Ref p (id_of word) class) at_home), there_is, (refl, refl)),
+          writes_word g (kind.Obj class) (Object reference) (acts.0.object + 1)
+              (record { number = found.0.object; object = object.0; word_is = ap (λ (q : Export). q.object + 1) (sym same_export); is_there = object.1; class_is = object.2 ∙ found.2; value_is = refl })
+              (room op.Gopen e (λ a. a)) (went (f.pc + 1) (slice_set f.registers.items i.a (acts.0.object + 1)) f.loops acts.2) (edge_next out (gives point h.state (kind.Obj class) None) edges to),
+        )
+      where
+        same_some : (a b : ℕ) → Some a ≡ Some b → a ≡ b
+        same_some a b e = some_is a b e
+
+        chosen : (b p q : Bool) → b ≡ true → IsTrue (if b then p else q) → IsTrue p
+        chosen true p q e n = n
+        chosen false p q e n = absurd cc
+
+    -- two registers stand for one place, or they don't
+    compares : (b : Bool) → i.op ≡ op.Ifsame → are_same f.registers.items i.a i.b ≡ b → IsPlaced h.state i.a → IsPlaced h.state i.b → Becomes (space_of g kept) (if b then f.pc + 1 else i.x) f.registers.items f.loops heap
+        → out ≡ onward_or point (record h.state { homes = joined h.state.homes (term.Reg i.a) (term.Reg i.b) }) h.state → Moved op.Ifsame g
+    compares true e is ka kb c to =
+        let v = placed_in site i.a ka in
+        let w = placed_in site i.b kb in
+        let same = eqb-true (home_of (word_at f.registers.items i.a)) (home_of (word_at f.registers.items i.b)) is in (
+          next s.top,
+          (v.0, w.0, home_of (word_at f.registers.items i.a), home_of (word_at f.registers.items i.b), v.1, w.1, v.2, w.2, (ap (λ b. with_stay m key (Some (record s { top = next_or_goes (situated setting here m key s h.function i) b }))) (sym is), refl)),
+          goes_joined g (term.Reg i.a) (term.Reg i.b) (register_small op.Ifsame e (λ a. a)) (register_few op.Ifsame e (λ b. b)) (ap place_in v.1 ∙ v.2 ∙ ap Some same ∙ sym (ap place_in w.1 ∙ w.2)) (went (f.pc + 1) f.registers.items f.loops c)
+              (edge_first out (record h.state { homes = joined h.state.homes (term.Reg i.a) (term.Reg i.b) }) h.state edges to),
+        )
+    compares false e is ka kb c to =
+        let v = placed_in site i.a ka in
+        let w = placed_in site i.b kb in (
+          goes s.top i.x,
+          (v.0, w.0, home_of (word_at f.registers.items i.a), home_of (word_at f.registers.items i.b), v.1, w.1, v.2, w.2, (ap (λ b. with_stay m key (Some (record s { top = next_or_goes (situated setting here m key s h.function i) b }))) (sym is), refl)),
+          goes_to g i.x h.state (went i.x f.registers.items f.loops c) (edge_target out (record h.state { homes = joined h.state.homes (term.Reg i.a) (term.Reg i.b) }) h.state edges to) refl,
+        )
+
     rail_cell_at : (w : ℕ) (bytes : List ℕ) → slice_get heap.rails w ≡ Some bytes → m.cells (2 * w + 1) ≡ Some (Bytes bytes)
     rail_cell_at w bytes e = held.rails w ∙ ap rail_cell e
 
@@ -300,6 +396,21 @@ module _ (setting : Setting) (here : ℕ) (far : Far) (m : machine.Place) (key :
         let z = int_at f.registers.items i.c in
         attempts op.Rget partial.Byte (byte_value (byte_at t.2.0 z)) e (ap (λ o. byte_in o z) t.2.1) (λ a. a) r permits.2
         (2 * word_at f.registers.items i.b + 1, t.2.0, z, t.1 ∙ ap Some t.2.2, rail_cell_at (word_at f.registers.items i.b) t.2.0 t.2.1, number_of i.c permits.1, (refl, refl))
+    local_moves op.Placei e np ns r permits =
+        let t = reads x h.state s.top.registers f.registers.items i.b kind.Place h.words permits.0 in
+        sums op.Placei number.PlaceNumber (Int (pos (word_at f.registers.items i.b))) e refl (λ a. a) r permits.1 (word_at f.registers.items i.b, t.1 ∙ ap Some t.2.1, (refl, refl))
+    local_moves op.Placek e np ns r permits =
+        let lt : i.x < setting.program.least_places = (there op.Placek e).2 in
+        unchanged local.Place op.Placek tt r (
+          writes s.top i.a (Place i.x),
+          (refl, refl),
+          writes_like g kind.Place (Some (term.Place i.x)) (Place i.x) i.x (omega (arith, lt, site.enough), refl) (omega (arith, lt, site.enough, site.few), refl) (room op.Placek e (λ a. a))
+              (went (f.pc + 1) (slice_set f.registers.items i.a i.x) f.loops (by local.Place r)) (edge_next out (gives point h.state kind.Place (Some (term.Place i.x))) edges permits),
+        )
+    local_moves op.Home e np ns r permits = unchanged local.Home op.Home tt r (homes_in permits.0 e (reads x h.state s.top.registers f.registers.items i.b (kind.GRef permits.0) h.words permits.1) (by local.Home r) permits.2)
+    local_moves op.Gopen e np ns r permits =
+        unchanged local.Open op.Gopen tt r (opens permits.0 e (reads x h.state s.top.registers f.registers.items i.b (kind.GRef permits.0) h.words permits.1) permits.2 (by local.Open r) permits.3)
+    local_moves op.Ifsame e np ns r permits = unchanged local.SamePlace op.Ifsame tt r (compares (are_same f.registers.items i.a i.b) e refl permits.0 permits.1 (by local.SamePlace r) permits.2)
     local_moves op.Null e np ns r permits = unchanged local.Null op.Null tt r (
       writes s.top i.a Null,
       (refl, refl),

@@ -33,11 +33,11 @@ use Rattle.x10_place.specs.declared.route.Make.{Make}
 use Rattle.x10_place.specs.declared.route.Make.TheVariants as make
 use Rattle.x10_place.specs.Frames.{Workspace, space_of, Becomes, IsFetchedFor, Acts, SetsField, SetsByte, byte_set, Makes, MakesText, Joins, MakesObject, MakesRail, rail_in, text_in, object_in, int_at, word_at}
 use Rattle.x10_place.specs.Routes.{route_of}
-use Rattle.x10_place.specs.StandsFor.{Far, context, Assigned, HoldRegisters, StandsForFrame}
+use Rattle.x10_place.specs.StandsFor.{Far, context, Assigned, HoldRegisters, StandsForFrame, HoldsExports}
 use Rattle.x10_place.proofs.Maps.{some_is}
 use Rattle.x10_place.proofs.Words.{Reads, reads, reads_int, of_kind}
 use Rattle.x10_place.proofs.Framed.{FrameAfter, after_of, point_of, in_range, small, count}
-use Rattle.x10_place.proofs.Growing.{frame_kept}
+use Rattle.x10_place.proofs.Growing.{frame_kept, exports_kept}
 use Rattle.x10_place.proofs.Local.{situated, Done, states, point, there, room, goes_to, goes_next, writes_word, edge_next, edge_first, edge_target}
 use Rattle.x10_place.proofs.Objects.{ObjectAt, object_at, word_in, words_set}
 
@@ -106,7 +106,7 @@ gives_fields x cells sit s words holds typed b (k ∷ kinds) fit few =
 
 -- ---- the operations
 
-module _ (setting : Setting) (here : ℕ) (far : Far) (m : machine.Place) (key : ℕ) (s : Stay) (assigned : Assigned setting.program) (heap : HeapState) (f : CallFrame) (h : StandsForFrame setting.program assigned (context setting here heap far) f s.top) (i : Instr) (fetched : IsFetchedFor setting.program f i) (held : HoldsHeap (context setting here heap far) m.cells) where
+module _ (setting : Setting) (here : ℕ) (far : Far) (m : machine.Place) (key : ℕ) (s : Stay) (assigned : Assigned setting.program) (heap : HeapState) (f : CallFrame) (h : StandsForFrame setting.program assigned (context setting here heap far) f s.top) (i : Instr) (fetched : IsFetchedFor setting.program f i) (held : HoldsHeap (context setting here heap far) m.cells) (exported : HoldsExports heap m.exports) where
   abbrev x : Context
   x = context setting here heap far
 
@@ -136,12 +136,13 @@ module _ (setting : Setting) (here : ℕ) (far : Far) (m : machine.Place) (key :
     jumps o t does to b = subst (λ hp. Result o g hp) (sym b.heap_is) (record {
       top = goes s.top i.x;
       cells = m.cells;
+      exports = m.exports;
       does = does;
       stands = goes_to setting here far m key s assigned heap f h i fetched g i.x h.state (after_of f g kept heap i.x f.registers.items f.loops same b)
           (edge_target setting here far m key s assigned heap f h i fetched out t h.state edges to) refl;
       holds = held;
       grows = grows_not x;
-      exports = refl;
+      exported = exported;
     })
 
     -- a word is written to register a, and the heap has grown
@@ -151,12 +152,13 @@ module _ (setting : Setting) (here : ℕ) (far : Far) (m : machine.Place) (key :
     written o k v word new cells e a grows holds exports is to b does = subst (λ hp. Result o g hp) (sym b.heap_is) (record {
       top = writes s.top i.a v;
       cells = cells;
+      exports = m.exports;
       does = does;
       stands = writes_word setting here far m key s assigned new f (later new grows) i fetched g k v word is (register o e a)
           (after_of f g kept new (f.pc + 1) (slice_set f.registers.items i.a word) f.loops same b) to;
       holds = holds;
       grows = grows;
-      exports = exports;
+      exported = exports_kept x (y new) grows m.exports exports exported;
     })
 
     -- ---- texts
@@ -238,6 +240,7 @@ module _ (setting : Setting) (here : ℕ) (far : Far) (m : machine.Place) (key :
         let cell : Result op.Put g new = record {
           top = next s.top;
           cells = cells;
+          exports = m.exports;
           does = (
             o.reference,
             class,
@@ -258,7 +261,7 @@ module _ (setting : Setting) (here : ℕ) (far : Far) (m : machine.Place) (key :
           stands = goes_next setting here far m key s assigned new f (later new grows) i fetched g (moved new o.object same_object sets.becomes) (edge_next setting here far m key s assigned heap f h i fetched out h.state edges to);
           holds = holds_object x (y new) grows m.cells number changed kinds values held at known_as words refl (ap_few heap.objects number changed held.few_objects) held.few_texts;
           grows = grows;
-          exports = refl;
+          exported = exports_kept x (y new) grows m.exports refl exported;
         } in
         subst (λ hp. Result op.Put g hp) (sym (sets.becomes.heap_is ∙ ap (λ q. with_field heap number q i.c word) (sym same_object))) cell
       where
@@ -320,13 +323,14 @@ module _ (setting : Setting) (here : ℕ) (far : Far) (m : machine.Place) (key :
         subst (λ hp. Result op.Rset g hp) (sym sets.heap_is) (record {
           top = next s.top;
           cells = cells;
+          exports = m.exports;
           does = (2 * number + 1, bytes, z, w, v_is ∙ ap Some value_is, held.rails number ∙ ap rail_cell rail,
             reads_int x h.state s.top.registers f.registers.items i.b h.words kb, reads_int x h.state s.top.registers f.registers.items i.c h.words kc,
             subst (λ o. moves.SetsByte sit (2 * number + 1) bytes z w o (with_stay (record m { cells = cells }) key (Some (record s { top = next s.top }))) Works) (sym some) (refl, refl));
           stands = goes_next setting here far m key s assigned new f (later new grows) i fetched g (after_of f g kept new (f.pc + 1) f.registers.items f.loops same sets) (edge_first setting here far m key s assigned heap f h i fetched out h.state h.state edges to);
           holds = holds_rail x (y new) grows m.cells number changed held at refl (few_rails heap.rails number changed held.few_rails) held.few_texts;
           grows = grows;
-          exports = refl;
+          exported = exports_kept x (y new) grows m.exports refl exported;
         })
       where
         low : ℤ → ℤ

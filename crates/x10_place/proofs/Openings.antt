@@ -18,7 +18,7 @@ use Rattle.x10_verify.proofs.Wholes.{function_fits}
 use Rattle.x10_heap.specs.Heaps.{HeapState, ObjectState, empty}
 use Rattle.x10_heap.specs.Words.{Context, HoldsHeap}
 use Rattle.x10_place.specs.Stays.{StayState, StoreState, new_store, AreCalling, IsPlaced}
-use Rattle.x10_place.specs.StandsFor.{Far, PlaceState, store_of, context_of, Assigned, HoldRegisters, line_as, StandsForStay, HoldsExports, StandsFor, IsStanding, setting_of}
+use Rattle.x10_place.specs.StandsFor.{IsWithinPlaces, Far, PlaceState, store_of, context_of, Assigned, HoldRegisters, line_as, StandsForStay, HoldsExports, StandsFor, IsStanding, setting_of}
 use Rattle.x10_place.specs.Opening.{IsMain, HoldsOnly, opening_place, opened_at, Opens}
 use Rattle.x10_place.proofs.Maps.{some_is, at_key, off_key, same_or_not, none_some}
 use Rattle.x10_place.proofs.Homes.{homes_weaken, homes_entry}
@@ -111,7 +111,7 @@ empty_exports heap e = subst (λ h. HoldsExports h []) (sym e) (record { exports
 pub record IsFresh (p : PlaceState) (opened : ℕ) : Type 0 where
   pub fits : FitsImage p.program
   pub assigned : Assigned p.program
-  pub within : p.id < p.places
+  pub site : IsWithinPlaces p.program p.id p.places
   pub heap : p.heap ≡ empty
   pub lines : p.lines ≡ []
   pub opened_is : p.opened ≡ opened
@@ -134,7 +134,7 @@ module _ (far : Far) (p : PlaceState) where
       )
       | inr ne ↦ absurd (none_some (get p.stays k) b (only.others k ne) e)
     ];
-    within = fresh.within;
+    site = fresh.site;
     heap = empty_heap (context_of far p) fresh.heap;
     exports = empty_exports p.heap fresh.heap;
     opened = sym fresh.opened_is;
@@ -150,7 +150,7 @@ module _ (far : Far) (p : PlaceState) where
     assigned = fresh.assigned;
     none = λ k e. refl;
     some = λ k b e. absurd (none_some (get p.stays k) b (none k) e);
-    within = fresh.within;
+    site = fresh.site;
     heap = empty_heap (context_of far p) fresh.heap;
     exports = empty_exports p.heap fresh.heap;
     opened = sym fresh.opened_is;
@@ -172,11 +172,11 @@ pub opened_else : (id n : ℕ) → n ≡ 0 → (id ≡ 0 → ⊥) → n ≡ open
 opened_else id n e ne = e ∙ sym (ap (λ b. cond b 1 0) (not_zero id ne))
 
 -- a place with a new store is fresh
-pub fresh : (p : PlaceState) (store : StoreState) (n : ℕ) → FitsImage p.program → Assigned p.program → p.id < p.places → store_of p ≡ store → store ≡ new_store n → n ≡ opened_at p.id → IsFresh p (opened_at p.id)
-fresh p store n fits assigned within seen new opened = record {
+pub fresh : (p : PlaceState) (store : StoreState) (n : ℕ) → FitsImage p.program → Assigned p.program → IsWithinPlaces p.program p.id p.places → store_of p ≡ store → store ≡ new_store n → n ≡ opened_at p.id → IsFresh p (opened_at p.id)
+fresh p store n fits assigned site seen new opened = record {
   fits = fits;
   assigned = assigned;
-  within = within;
+  site = site;
   heap = ap (λ (s : StoreState). s.heap) (seen ∙ new);
   lines = ap (λ (s : StoreState). s.lines) (seen ∙ new);
   opened_is = ap (λ (s : StoreState). s.opened) (seen ∙ new) ∙ opened;

@@ -12,14 +12,18 @@ use Rattle.x10_verify.proofs.Wholes.{function_fits}
 use Rattle.x10_place.specs.declared.frame.CallFrame.{CallFrame}
 use Rattle.x10_place.specs.declared.route.Route.{Route}
 use Rattle.x10_place.specs.declared.route.Route.TheVariants as route
-use Rattle.x10_place.specs.Frames.{Workspace, space_of, IsWithin, IsInside, IsFetched, IsFetchedFor, Acts, Makes}
+use Rattle.x10_place.specs.Frames.{Workspace, space_of, IsWithin, IsInside, IsFetched, IsFetchedFor, Acts, Makes, ActsAt, ExportsObject}
 use Rattle.x10_place.specs.Routes.{route_of}
-use Rattle.x10_place.specs.Stays.{StayState, StoreState, IsCalling, AreCalling, IsPlaced, GoesNext, GoesNextWith, GoesOn, Calls, Resumes, Returns, Prints, ChangesTop, Steps}
+use Rattle.x10_place.specs.Stays.{StayState, StoreState, Location, IsCalling, AreCalling, IsPlaced, GoesNext, GoesNextWith, GoesOn, Calls, Resumes, Returns, Prints, ChangesTop, Steps}
 use Rattle.x10_place.proofs.Chains.{chain_last, chain_more}
-use Rattle.x10_place.proofs.Fetching.{local_within, make_within}
+use Rattle.x10_place.proofs.Fetching.{local_within, make_within, site_within, export_within}
 use Rattle.x10_place.proofs.Returning.{goes_on}
 
 -- ---- routes of one operation each
+
+pub is_export : (o : Op) → route_of o ≡ route.Export → o ≡ op.Gnew
+is_export op.Gnew e = refl
+is_export _ e = absurd cc
 
 pub is_call : (o : Op) → route_of o ≡ route.Call → o ≡ op.Call
 is_call op.Call e = refl
@@ -103,16 +107,20 @@ resumed_placed program a b i placed h =
 
 -- ---- all operations
 
-placed_by : (r : Route) (program : Module) (a b : StayState) (s t : StoreState) (i : Instr) (goes : Bool) → FitsImage program → IsPlaced program a → IsFetchedFor program a.top i → route_of i.op ≡ r → goes ≡ true → Steps r program a s i goes b t → IsPlaced program b
-placed_by (route.Local l) program a b s t i goes fits placed fetched e on h =
-    top_placed (λ v w. Acts l program v i w) program a b s t placed h.1 (local_within program a.top.function (space_of a.top s.heap) i fetched l (space_of b.top t.heap) e h.1.changes)
-placed_by (route.Make k) program a b s t i goes fits placed fetched e on h =
-    top_placed (λ v w. Makes k program v i w) program a b s t placed h.1 (make_within program a.top.function (space_of a.top s.heap) i fetched k (space_of b.top t.heap) e h.1.changes)
-placed_by route.Call program a b s t i goes fits placed fetched e on h = called_placed program a b i fits placed fetched (is_call i.op e) h.1
-placed_by route.Return program a b s t i goes fits placed fetched e on h = resumed_placed program a b i placed (subst (λ g. Returns program a i g b) on h.0)
-placed_by route.Print program a b s t i goes fits placed fetched e on h = print_placed program a b s t i placed fetched (λ f. absurd (let g = sym (is_print i.op e) ∙ f in cc)) h.1
-placed_by route.Later program a b s t i goes fits placed fetched e on h = absurd h
+placed_by : (r : Route) (at : Location) (a b : StayState) (s t : StoreState) (i : Instr) (goes : Bool) → FitsImage at.program → IsPlaced at.program a → IsFetchedFor at.program a.top i → route_of i.op ≡ r → goes ≡ true → Steps r at a s i goes b t → IsPlaced at.program b
+placed_by (route.Local l) at a b s t i goes fits placed fetched e on h =
+    top_placed (λ v w. Acts l at.program v i w) at.program a b s t placed h.1 (local_within at.program a.top.function (space_of a.top s.heap) i fetched l (space_of b.top t.heap) e h.1.changes)
+placed_by (route.Make k) at a b s t i goes fits placed fetched e on h =
+    top_placed (λ v w. Makes k at.program v i w) at.program a b s t placed h.1 (make_within at.program a.top.function (space_of a.top s.heap) i fetched k (space_of b.top t.heap) e h.1.changes)
+placed_by (route.Site k) at a b s t i goes fits placed fetched e on h =
+    top_placed (λ v w. ActsAt k at.here at.places v i w) at.program a b s t placed h.1 (site_within at.program a.top.function (space_of a.top s.heap) i fetched k at.here at.places (space_of b.top t.heap) e h.1.changes)
+placed_by route.Export at a b s t i goes fits placed fetched e on h =
+    top_placed (λ v w. ExportsObject at.here v i w) at.program a b s t placed h.1 (export_within at.program a.top.function (space_of a.top s.heap) i fetched at.here (space_of b.top t.heap) e h.1.changes)
+placed_by route.Call at a b s t i goes fits placed fetched e on h = called_placed at.program a b i fits placed fetched (is_call i.op e) h.1
+placed_by route.Return at a b s t i goes fits placed fetched e on h = resumed_placed at.program a b i placed (subst (λ g. Returns at.program a i g b) on h.0)
+placed_by route.Print at a b s t i goes fits placed fetched e on h = print_placed at.program a b s t i placed fetched (λ f. absurd (let g = sym (is_print i.op e) ∙ f in cc)) h.1
+placed_by route.Later at a b s t i goes fits placed fetched e on h = absurd h
 
 -- a stay that goes on stands where it can go on
-pub steps_placed : (program : Module) (a b : StayState) (s t : StoreState) (i : Instr) (goes : Bool) → FitsImage program → IsPlaced program a → IsFetchedFor program a.top i → goes ≡ true → Steps (route_of i.op) program a s i goes b t → IsPlaced program b
-steps_placed program a b s t i goes fits placed fetched on h = placed_by (route_of i.op) program a b s t i goes fits placed fetched refl on h
+pub steps_placed : (at : Location) (a b : StayState) (s t : StoreState) (i : Instr) (goes : Bool) → FitsImage at.program → IsPlaced at.program a → IsFetchedFor at.program a.top i → goes ≡ true → Steps (route_of i.op) at a s i goes b t → IsPlaced at.program b
+steps_placed at a b s t i goes fits placed fetched on h = placed_by (route_of i.op) at a b s t i goes fits placed fetched refl on h

@@ -1,6 +1,7 @@
 -- What operations read in the heap is there, since words have the kinds that the verifier knows.
-use Rattle.std.proofs.Common.{◌≡◌, ℕ, ◌<◌, List, length, Option, Some, None, refl, sym, ap, subst, ◌∙◌}
-use Rattle.std.specs.Prelude.{slice_get, slice_index}
+use Rattle.std.proofs.Common.{◌≡◌, ℕ, ◌+◌, ◌-◌, ◌<◌, ◌≤◌, ◌^◌, ◌==◌, Bool, true, false, List, length, Option, Some, None, refl, sym, ap, subst, ◌∙◌, arith}
+use Rattle.std.specs.Prelude.{IsTrue, if◌then◌else◌, slice_get, slice_index}
+use Rattle.std.proofs.lemmas.Bool.{eq-eqb}
 use Rattle.std.proofs.lemmas.Option.{slice_get_within}
 use Rattle.x10_kinds.specs.declared.kind.Kind.{Kind}
 use Rattle.x10_kinds.specs.declared.kind.Kind.TheVariants as kind
@@ -8,13 +9,17 @@ use Rattle.x10_code.specs.declared.op.Op.{Op}
 use Rattle.x10_code.specs.declared.op.Op.TheVariants as op
 use Rattle.x10_code.specs.declared.instr.Instr.{Instr}
 use Rattle.x10_model.specs.Modules.{Module, Function}
-use Rattle.x10_model.specs.Ranges.{function_at}
+use Rattle.x10_code.specs.Table.{form_of}
+use Rattle.x10_kinds.specs.declared.homes.Term.TheVariants as term
+use Rattle.x10_model.specs.Moves.{place_of}
+use Rattle.x10_model.specs.Ranges.{function_at, IsThere}
 use Rattle.x10_model.specs.Places as machine
 use Rattle.x10_model.specs.Assignments.{State, HasAssignment, Edges, IsKind, Permits}
 use Rattle.x10_model.specs.Values.{Cells}
 use Rattle.x10_verify.specs.Printing.{PrintsText}
 use Rattle.x10_heap.specs.Heaps.{HeapState}
-use Rattle.x10_heap.specs.Words.{Context, HoldsHeap}
+use Rattle.x10_heap.specs.declared.export.Export.{Export}
+use Rattle.x10_heap.specs.Words.{Context, HoldsHeap, has_class}
 use Rattle.x10_place.specs.declared.frame.CallFrame.{CallFrame}
 use Rattle.x10_place.specs.declared.route.Local.{Local}
 use Rattle.x10_place.specs.declared.route.Local.TheVariants as local
@@ -22,19 +27,22 @@ use Rattle.x10_place.specs.declared.route.Number.TheVariants as number
 use Rattle.x10_place.specs.declared.route.Partial.TheVariants as partial
 use Rattle.x10_place.specs.declared.route.Make.{Make}
 use Rattle.x10_place.specs.declared.route.Make.TheVariants as make
+use Rattle.x10_place.specs.declared.route.Site.{Site}
+use Rattle.x10_place.specs.declared.route.Site.TheVariants as site
 use Rattle.x10_place.specs.declared.route.Route.{Route}
 use Rattle.x10_place.specs.declared.route.Route.TheVariants as route
 use Rattle.x10_place.specs.Frames as frames
-use Rattle.x10_place.specs.Frames.{IsFetchedFor, NamesField, ReadsMake, word_at}
+use Rattle.x10_place.specs.Frames.{IsFetchedFor, NamesField, ReadsMake, ReadsAt, NamesObject, word_at, home_of, id_of}
 use Rattle.x10_place.specs.Routes.{route_of}
-use Rattle.x10_place.specs.Stays.{StayState, ReadsHeap}
+use Rattle.x10_place.specs.Homes.{place_in}
+use Rattle.x10_place.specs.Stays.{StayState, Location, ReadsHeap}
 use Rattle.x10_place.specs.StandsFor.{context, Assigned, StandsForFrame, IsTyped, IsTypedFrame}
 use Rattle.x10_place.proofs.Maps.{some_is}
 use Rattle.x10_place.proofs.Words.{reads}
-use Rattle.x10_place.proofs.Framed.{point_of, is_instr, rule}
+use Rattle.x10_place.proofs.Framed.{point_of, is_instr, in_range, small, rule}
 use Rattle.x10_place.proofs.Objects.{object_at, field_there}
 
-module _ (program : Module) (assigned : Assigned program) (x : Context) (same_classes : x.classes ≡ program.classes) (cells : Cells) (holds : HoldsHeap x cells) (f : CallFrame) (c : machine.CallFrame) (h : StandsForFrame program assigned x f c) (i : Instr) (fetched : IsFetchedFor program f i) where
+module _ (program : Module) (assigned : Assigned program) (x : Context) (same_classes : x.classes ≡ program.classes) (cells : Cells) (holds : HoldsHeap x cells) (few : x.places ≤ 64) (f : CallFrame) (c : machine.CallFrame) (h : StandsForFrame program assigned x f c) (i : Instr) (fetched : IsFetchedFor program f i) where
   -- a register that holds a text, or a rail
   text_there : (r : ℕ) → IsKind h.state r kind.Text → word_at f.registers.items r < length x.heap.texts
   text_there r k = let t = reads x h.state c.registers f.registers.items r kind.Text h.words k in slice_get_within x.heap.texts (word_at f.registers.items r) t.2.0 t.2.1
@@ -48,6 +56,22 @@ module _ (program : Module) (assigned : Assigned program) (x : Context) (same_cl
       let v = reads x h.state c.registers f.registers.items r (kind.Obj class) h.words known in
       let o = object_at x cells class kinds (word_at f.registers.items r) v.0 holds v.2 (ap (λ cs. slice_get cs class) same_classes ∙ classes) in
       record { not_null = o.not_null; has_field = field_there x cells class kinds (word_at f.registers.items r) v.0 n k o field }
+
+  -- a global reference that is known to be of this place
+  export_there : (r class : ℕ) → r < 64 → IsKind h.state r (kind.GRef class) → IsTrue (h.state.homes (term.Reg r) term.Here) → id_of (word_at f.registers.items r) < length x.heap.exports
+  export_there r class small k known =
+      let t = reads x h.state c.registers f.registers.items r (kind.GRef class) h.words k in
+      let word = word_at f.registers.items r in
+      let home : home_of word ≡ x.here = some_is (home_of word) x.here (sym (ap place_in t.1 ∙ ap place_of t.2.3) ∙ h.homes (term.Reg r) term.Here small tt known) in
+      there (slice_get x.heap.exports (id_of word)) refl (chosen (home_of word == x.here) (has_class (slice_get x.heap.exports (id_of word)) class) (x.far (home_of word) (id_of word) class) (eq-eqb (home_of word) x.here home) t.2.2)
+    where
+      chosen : (b p q : Bool) → b ≡ true → IsTrue (if b then p else q) → IsTrue p
+      chosen true p q e n = n
+      chosen false p q e n = absurd cc
+
+      there : (o : Option Export) → slice_get x.heap.exports (id_of (word_at f.registers.items r)) ≡ o → IsTrue (has_class o class) → id_of (word_at f.registers.items r) < length x.heap.exports
+      there None is named = absurd cc
+      there (Some e) is named = slice_get_within x.heap.exports (id_of (word_at f.registers.items r)) e is
 
   -- where a PRINT prints a text, its register is known to hold one
   pub text_known : PrintsText program f.function f.pc → IsKind h.state i.a kind.Text
@@ -71,32 +95,45 @@ module _ (program : Module) (assigned : Assigned program) (x : Context) (same_cl
   made : (j k : Make) → route.Make j ≡ route.Make k → ReadsMake j x.heap f.registers.items i → ReadsMake k x.heap f.registers.items i
   made j k e reads = subst (λ q. ReadsMake q x.heap f.registers.items i) (let same : j ≡ k = cc in same) reads
 
-  reads_by : (o : Op) (l : Local) (out : Edges) → Permits o (point_of program h.function f i) h.state out → route_of o ≡ route.Local l → frames.Reads l x.heap f.registers.items i
-  reads_by op.Tlen l out p r = at (local.Number number.TextLength) l r (text_there i.b p.0)
-  reads_by op.Rlen l out p r = at (local.Number number.RailLength) l r (rail_there i.b p.0)
-  reads_by op.Rget l out p r = at (local.Partial partial.Byte) l r (rail_there i.b p.0)
-  reads_by op.Rset l out p r = at local.SetByte l r (rail_there i.a p.0)
-  reads_by op.Get l out p r = at local.GetField l r (field_at i.b p.0 p.1 i.c p.2 p.3 p.4 p.5)
-  reads_by op.Put l out p r = at local.SetField l r (field_at i.a p.0 p.1 i.c p.2 p.3 p.4 p.5)
-  reads_by op.Intk l out p r = at (local.Number number.Constant) l r tt
-  reads_by op.Add l out p r = at (local.Number number.Sum) l r tt
-  reads_by op.Sub l out p r = at (local.Number number.Difference) l r tt
-  reads_by op.Mul l out p r = at (local.Number number.Product) l r tt
-  reads_by op.Lt l out p r = at (local.Number number.Less) l r tt
-  reads_by op.Eq l out p r = at (local.Number number.Equal) l r tt
-  reads_by op.Div l out p r = at (local.Partial partial.Quotient) l r tt
-  reads_by op.Rem l out p r = at (local.Partial partial.Remainder) l r tt
-  reads_by op.Move l out p r = at local.Copy l r tt
-  reads_by op.Null l out p r = at local.Null l r tt
-  reads_by op.Ifobj l out p r = at local.NotNull l r tt
-  reads_by op.Jmp l out p r = at local.Jump l r tt
-  reads_by op.Jz l out p r = at local.JumpIfZero l r tt
-  reads_by op.Loop l out p r = at local.Loop l r tt
-  reads_by op.Endl l out p r = at local.EndLoop l r tt
-  reads_by _ l out p r = absurd cc
+  register_small : i.op ≡ op.Gopen → i.b < 64
+  register_small e =
+      let lt : i.b < h.function.registers = subst (λ q. IsThere program h.function i (form_of q).b i.b) e (in_range program assigned x f c h i fetched).b in
+      omega (arith, lt, (small program assigned x f c h i fetched).registers.1)
+
+  sited : (j k : Site) → route.Site j ≡ route.Site k → ReadsAt j x.places f.registers.items i → ReadsAt k x.places f.registers.items i
+  sited j k e reads = subst (λ q. ReadsAt q x.places f.registers.items i) (let same : j ≡ k = cc in same) reads
+
+  reads_by : (o : Op) → i.op ≡ o → (l : Local) (out : Edges) → Permits o (point_of program h.function f i) h.state out → route_of o ≡ route.Local l → frames.Reads l x.heap f.registers.items i
+  reads_by op.Tlen e l out p r = at (local.Number number.TextLength) l r (text_there i.b p.0)
+  reads_by op.Rlen e l out p r = at (local.Number number.RailLength) l r (rail_there i.b p.0)
+  reads_by op.Rget e l out p r = at (local.Partial partial.Byte) l r (rail_there i.b p.0)
+  reads_by op.Rset e l out p r = at local.SetByte l r (rail_there i.a p.0)
+  reads_by op.Placei e l out p r = at (local.Number number.PlaceNumber) l r (let t = reads x h.state c.registers f.registers.items i.b kind.Place h.words p.0 in let lt = t.2.0 in omega (arith, lt, few))
+  reads_by op.Placek e l out p r = at local.Place l r tt
+  reads_by op.Home e l out p r = at local.Home l r tt
+  reads_by op.Ifsame e l out p r = at local.SamePlace l r tt
+  reads_by op.Gopen e l out p r = at local.Open l r (export_there i.b p.0 (register_small e) p.1 p.2)
+  reads_by op.Get e l out p r = at local.GetField l r (field_at i.b p.0 p.1 i.c p.2 p.3 p.4 p.5)
+  reads_by op.Put e l out p r = at local.SetField l r (field_at i.a p.0 p.1 i.c p.2 p.3 p.4 p.5)
+  reads_by op.Intk e l out p r = at (local.Number number.Constant) l r tt
+  reads_by op.Add e l out p r = at (local.Number number.Sum) l r tt
+  reads_by op.Sub e l out p r = at (local.Number number.Difference) l r tt
+  reads_by op.Mul e l out p r = at (local.Number number.Product) l r tt
+  reads_by op.Lt e l out p r = at (local.Number number.Less) l r tt
+  reads_by op.Eq e l out p r = at (local.Number number.Equal) l r tt
+  reads_by op.Div e l out p r = at (local.Partial partial.Quotient) l r tt
+  reads_by op.Rem e l out p r = at (local.Partial partial.Remainder) l r tt
+  reads_by op.Move e l out p r = at local.Copy l r tt
+  reads_by op.Null e l out p r = at local.Null l r tt
+  reads_by op.Ifobj e l out p r = at local.NotNull l r tt
+  reads_by op.Jmp e l out p r = at local.Jump l r tt
+  reads_by op.Jz e l out p r = at local.JumpIfZero l r tt
+  reads_by op.Loop e l out p r = at local.Loop l r tt
+  reads_by op.Endl e l out p r = at local.EndLoop l r tt
+  reads_by _ e l out p r = absurd cc
 
   pub local_reads : (l : Local) → route_of i.op ≡ route.Local l → frames.Reads l x.heap f.registers.items i
-  local_reads l r = let at = rule program assigned x f c h i fetched in reads_by i.op l at.0 at.1 r
+  local_reads l r = let at = rule program assigned x f c h i fetched in reads_by i.op refl l at.0 at.1 r
 
   makes_by : (o : Op) (k : Make) (out : Edges) → Permits o (point_of program h.function f i) h.state out → route_of o ≡ route.Make k → ReadsMake k x.heap f.registers.items i
   makes_by op.Tcat k out p r = made make.JoinedText k r (text_there i.b p.0, text_there i.c p.1)
@@ -108,18 +145,45 @@ module _ (program : Module) (assigned : Assigned program) (x : Context) (same_cl
   make_reads : (k : Make) → route_of i.op ≡ route.Make k → ReadsMake k x.heap f.registers.items i
   make_reads k r = let at = rule program assigned x f c h i fetched in makes_by i.op k at.0 at.1 r
 
--- what the step of a stay reads
-pub stay_reads : (program : Module) (assigned : Assigned program) (x : Context) → x.classes ≡ program.classes → (cells : Cells) → HoldsHeap x cells → (a : StayState) (c : machine.CallFrame) → StandsForFrame program assigned x a.top c → (i : Instr) → IsFetchedFor program a.top i
-    → (r : Route) → route_of i.op ≡ r → ReadsHeap r program a x.heap i
-stay_reads program assigned x classes cells holds a c h i fetched (route.Local l) e = local_reads program assigned x classes cells holds a.top c h i fetched l e
-stay_reads program assigned x classes cells holds a c h i fetched (route.Make k) e = make_reads program assigned x classes cells holds a.top c h i fetched k e
-stay_reads program assigned x classes cells holds a c h i fetched route.Print e = prints_there program assigned x classes cells holds a.top c h i fetched
-stay_reads program assigned x classes cells holds a c h i fetched route.Call e = tt
-stay_reads program assigned x classes cells holds a c h i fetched route.Return e = tt
-stay_reads program assigned x classes cells holds a c h i fetched route.Later e = tt
+  site_by : (o : Op) (k : Site) (out : Edges) → Permits o (point_of program h.function f i) h.state out → route_of o ≡ route.Site k → ReadsAt k x.places f.registers.items i
+  site_by op.Nextp k out p r = sited site.Next k r (let t = reads x h.state c.registers f.registers.items i.b kind.Place h.words p.0 in t.2.0)
+  site_by op.Here k out p r = sited site.Here k r tt
+  site_by op.Count k out p r = sited site.Count k r tt
+  site_by op.Placen k out p r = sited site.Numbered k r tt
+  site_by op.Ifhere k out p r = sited site.IsHere k r tt
+  site_by _ k out p r = absurd cc
 
-pub typed_reads : (program : Module) (heap : HeapState) (a : StayState) → IsTyped program heap a → (i : Instr) → IsFetchedFor program a.top i → ReadsHeap (route_of i.op) program a heap i
-typed_reads program heap a t i fetched = stay_reads program t.assigned (context (record { program = program; places = t.places }) t.here heap t.far) refl t.cells t.holds a t.stay.top t.stands.top i fetched (route_of i.op) refl
+  site_reads : (k : Site) → route_of i.op ≡ route.Site k → ReadsAt k x.places f.registers.items i
+  site_reads k r = let at = rule program assigned x f c h i fetched in site_by i.op k at.0 at.1 r
+
+  export_by : (o : Op) (out : Edges) → Permits o (point_of program h.function f i) h.state out → route_of o ≡ route.Export → NamesObject x.heap f.registers.items i.b
+  export_by op.Gnew out p r =
+      let t = reads x h.state c.registers f.registers.items i.b (kind.Obj p.0) h.words p.1 in
+      let some = t.2 in
+      let lt = slice_get_within x.heap.objects some.number some.object some.is_there in
+      record { not_null = omega (arith, some.word_is); there = omega (arith, some.word_is, lt) }
+  export_by _ out p r = absurd cc
+
+  export_reads : route_of i.op ≡ route.Export → NamesObject x.heap f.registers.items i.b
+  export_reads r = let at = rule program assigned x f c h i fetched in export_by i.op at.0 at.1 r
+
+-- what the step of a stay reads
+module _ (at : Location) (heap : HeapState) (a : StayState) (t : IsTyped at heap a) (i : Instr) (fetched : IsFetchedFor at.program a.top i) where
+  abbrev x : Context
+  x = context (record { program = at.program; places = at.places }) at.here heap t.far
+
+  by_route : (r : Route) → route_of i.op ≡ r → ReadsHeap r at a heap i
+  by_route (route.Local l) e = local_reads at.program t.assigned x refl t.cells t.holds t.site.few a.top t.stay.top t.stands.top i fetched l e
+  by_route (route.Make k) e = make_reads at.program t.assigned x refl t.cells t.holds t.site.few a.top t.stay.top t.stands.top i fetched k e
+  by_route (route.Site k) e = site_reads at.program t.assigned x refl t.cells t.holds t.site.few a.top t.stay.top t.stands.top i fetched k e
+  by_route route.Export e = export_reads at.program t.assigned x refl t.cells t.holds t.site.few a.top t.stay.top t.stands.top i fetched e
+  by_route route.Print e = prints_there at.program t.assigned x refl t.cells t.holds t.site.few a.top t.stay.top t.stands.top i fetched
+  by_route route.Call e = tt
+  by_route route.Return e = tt
+  by_route route.Later e = tt
+
+  pub typed_reads : ReadsHeap (route_of i.op) at a heap i
+  typed_reads = by_route (route_of i.op) refl
 
 pub frame_reads : (program : Module) (heap : HeapState) (f : CallFrame) → IsTypedFrame program heap f → (i : Instr) → IsFetchedFor program f i → (l : Local) → route_of i.op ≡ route.Local l → frames.Reads l heap f.registers.items i
-frame_reads program heap f t i fetched l r = local_reads program t.assigned (context (record { program = program; places = t.places }) t.here heap t.far) refl t.cells t.holds f t.frame t.stands i fetched l r
+frame_reads program heap f t i fetched l r = local_reads program t.assigned (context (record { program = program; places = t.places }) t.here heap t.far) refl t.cells t.holds t.site.few f t.frame t.stands i fetched l r

@@ -18,10 +18,10 @@ use Rattle.x10_place.specs.declared.route.Route.TheVariants as route
 use Rattle.x10_place.specs.Frames.{IsFetchedFor}
 use Rattle.x10_place.specs.Routes.{route_of}
 use Rattle.x10_place.specs.Stays.{StayState, StoreState, Steps}
-use Rattle.x10_place.specs.StandsFor.{Far, context, context_of, PlaceState, store_of, with_stays, line_as, Assigned, StandsForStay, HoldsExports, StandsFor, setting_of, Leads, LeadsAll}
+use Rattle.x10_place.specs.StandsFor.{Far, context, context_of, PlaceState, store_of, with_stays, line_as, Assigned, StandsForStay, StandsFor, setting_of, location_of, Leads, LeadsAll}
 use Rattle.x10_place.proofs.Maps.{some_is, at_key, off_key, same_or_not, none_some}
 use Rattle.x10_place.proofs.Framed.{point_of, is_instr, in_range, rule}
-use Rattle.x10_place.proofs.Growing.{stay_kept, exports_kept}
+use Rattle.x10_place.proofs.Growing.{stay_kept}
 use Rattle.x10_place.proofs.Local.{situated}
 use Rattle.x10_place.proofs.Ends.{ret_ends}
 use Rattle.x10_place.proofs.Going.{Goes, stay_goes}
@@ -39,14 +39,14 @@ module _ (far : Far) (p : PlaceState) (m : machine.Place) (h : StandsFor far p m
 
   -- one stay goes on alike, and all others are kept
   changed : (a : StayState) (s : Stay) (is : StandsForStay p.program h.assigned (context_of far p) a s) (i : Instr) (fetched : IsFetchedFor p.program a.top i) (o : Op) (b : StayState) (t : StoreState)
-      → (to : Goes (setting_of p) p.id far m key s h.assigned (store_of p) h.heap a is i fetched o b t) → Updates p.stays slab key (Some b) → StandsFor far (with_stays p slab t) (with_stay to.base key (Some to.stay))
+      → (to : Goes (setting_of p) p.id far m key s h.assigned (store_of p) h.heap h.exports h.site a is i fetched o b t) → Updates p.stays slab key (Some b) → StandsFor far (with_stays p slab t) (with_stay to.base key (Some to.stay))
   changed a s is i fetched o b t to up = record {
     assigned = h.assigned;
     none = λ k e. none_at k e (same_or_not k key);
     some = λ k c e. some_at k c e (same_or_not k key);
-    within = h.within;
+    site = h.site;
     heap = to.holds;
-    exports = subst (λ es. HoldsExports t.heap es) (sym to.exports) (exports_kept (context_of far p) (after t) to.grows m.exports to.same_exports h.exports);
+    exports = to.now_exported;
     opened = to.opened ∙ h.opened ∙ sym to.same_opened;
     lines = to.lines h.lines;
   }
@@ -69,7 +69,7 @@ module _ (far : Far) (p : PlaceState) (m : machine.Place) (h : StandsFor far p m
     assigned = h.assigned;
     none = λ k e. none_at k e (same_or_not k key);
     some = λ k b e. some_at k b e (same_or_not k key);
-    within = h.within;
+    site = h.site;
     heap = h.heap;
     exports = h.exports;
     opened = h.opened;
@@ -111,9 +111,9 @@ module _ (far : Far) (p : PlaceState) (m : machine.Place) (stands : StandsFor fa
   Led = (effect : Effect) × Leads far p m key effect (with_stays p slab t)
 
   -- the stay goes on
-  leads_on : Steps (route_of i.op) p.program a (store_of p) i true b t → Updates p.stays slab key (Some b) → Led
+  leads_on : Steps (route_of i.op) (location_of p) a (store_of p) i true b t → Updates p.stays slab key (Some b) → Led
   leads_on steps up =
-      let to = stay_goes (setting_of p) p.id far m key s stands.assigned (store_of p) stands.heap a h i fetched image b t steps in (
+      let to = stay_goes (setting_of p) p.id far m key s stands.assigned (store_of p) stands.heap stands.exports stands.site a h i fetched image b t steps in (
         Works,
         (
           with_stay to.base key (Some to.stay),
@@ -123,9 +123,11 @@ module _ (far : Far) (p : PlaceState) (m : machine.Place) (stands : StandsFor fa
       )
 
   -- the stay ends
-  leads_off : (r : Route) → route_of i.op ≡ r → Steps r p.program a (store_of p) i false b t → Updates p.stays slab key None → Led
+  leads_off : (r : Route) → route_of i.op ≡ r → Steps r (location_of p) a (store_of p) i false b t → Updates p.stays slab key None → Led
   leads_off (route.Local l) e steps up = absurd (let f = steps.0 in cc)
   leads_off (route.Make m) e steps up = absurd (let f = steps.0 in cc)
+  leads_off (route.Site k) e steps up = absurd (let f = steps.0 in cc)
+  leads_off route.Export e steps up = absurd (let f = steps.0 in cc)
   leads_off route.Call e steps up = absurd (let f = steps.0 in cc)
   leads_off route.Print e steps up = absurd (let f = steps.0 in cc)
   leads_off route.Later e steps up = absurd steps
@@ -139,18 +141,18 @@ module _ (far : Far) (p : PlaceState) (m : machine.Place) (stands : StandsFor fa
           with_stay m key None,
           moves (setting_of p) p.id far m key stands.assigned (store_of p) a s h i fetched (with_stay m key None) (Ends root None) is
               (subst (λ q. Does q (situated (setting_of p) p.id m key s h.top.function i) (with_stay m key None) (Ends root None)) (sym ret)
-              (ret_ends (setting_of p) p.id far m key s stands.assigned p.heap stands.heap a h i fetched at.0 ret permits steps.0)),
+              (ret_ends (setting_of p) p.id far m key s stands.assigned p.heap stands.heap stands.site.few a h i fetched at.0 ret permits steps.0)),
           ended far p m stands key slab up,
         ),
       )
 
-  leads : (goes : Bool) → Steps (route_of i.op) p.program a (store_of p) i goes b t → Updates p.stays slab key (kept_if goes b) → Led
+  leads : (goes : Bool) → Steps (route_of i.op) (location_of p) a (store_of p) i goes b t → Updates p.stays slab key (kept_if goes b) → Led
   leads true steps up = leads_on steps up
   leads false steps up = leads_off (route_of i.op) refl steps up
 
 -- a step of the stay under a key
 pub step_leads : (p : PlaceState) (key : ℕ) (slab : Slab StayState) (t : StoreState) (a b : StayState) (goes : Bool) (i : Instr) → get p.stays key ≡ Some a → FitsImage p.program → IsFetchedFor p.program a.top i
-    → Steps (route_of i.op) p.program a (store_of p) i goes b t → Updates p.stays slab key (kept_if goes b) → LeadsAll p key (with_stays p slab t)
+    → Steps (route_of i.op) (location_of p) a (store_of p) i goes b t → Updates p.stays slab key (kept_if goes b) → LeadsAll p key (with_stays p slab t)
 step_leads p key slab t a b goes i e image fetched steps up far m stands =
     let found = stands.some key a e in
     leads far p m stands key slab a found.0 found.1 found.2 i fetched image b t goes steps up

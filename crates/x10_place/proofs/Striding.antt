@@ -15,7 +15,7 @@ use Rattle.x10_place.specs.declared.route.Route.TheVariants as route
 use Rattle.x10_place.specs.declared.route.Make.{Make}
 use Rattle.x10_place.specs.declared.route.Make.TheVariants as make
 use Rattle.x10_place.specs.Stays.{StayState, StoreState, OverfillsBy, Refuses, Steps}
-use Rattle.x10_place.specs.StandsFor.{Far, IsTyped, IsOverfull, IsHindered, PlaceState, store_of, with_stays, StandsFor, IsStanding, LeadsAll, Keeps}
+use Rattle.x10_place.specs.StandsFor.{location_of, Far, IsTyped, IsOverfull, IsHindered, PlaceState, store_of, with_stays, StandsFor, IsStanding, LeadsAll, Keeps}
 use Rattle.x10_place.specs.Stretches.{IsStep, Stretch, still, further, EndsStretch, IsStopped, IsStride, Strides, at_once, onward}
 use Rattle.x10_place.proofs.Maps.{none_some}
 use Rattle.x10_place.proofs.Steps.{kept_if, step_leads}
@@ -40,7 +40,7 @@ rewritten slab key a b c e = record {
 
 -- ---- strides
 
-a_stride : (p : PlaceState) (key : ℕ) (a b : StayState) (slab : Slab StayState) (t : StoreState) (goes : Bool) → FitsImage p.program → get p.stays key ≡ Some a → IsStep p.program a (store_of p) goes b t → Updates p.stays slab key (kept_if goes b) → IsStride key p (with_stays p slab t)
+a_stride : (p : PlaceState) (key : ℕ) (a b : StayState) (slab : Slab StayState) (t : StoreState) (goes : Bool) → FitsImage p.program → get p.stays key ≡ Some a → IsStep (location_of p) a (store_of p) goes b t → Updates p.stays slab key (kept_if goes b) → IsStride key p (with_stays p slab t)
 a_stride p key a b slab t goes image e step up = record {
   there = (a, e);
   leads = step_leads p key slab t a b goes step.instr e image step.fetched step.steps up;
@@ -49,18 +49,18 @@ a_stride p key a b slab t goes image e step up = record {
 }
 
 -- the steps of a stay are steps of its place
-strides : (p : PlaceState) (key : ℕ) (a : StayState) (n : ℕ) (b : StayState) (t : StoreState) → FitsImage p.program → get p.stays key ≡ Some a → Stretch p.program a (store_of p) n b t → Strides key p n (with_stays p (with_value p.stays key b) t)
+strides : (p : PlaceState) (key : ℕ) (a : StayState) (n : ℕ) (b : StayState) (t : StoreState) → FitsImage p.program → get p.stays key ≡ Some a → Stretch (location_of p) a (store_of p) n b t → Strides key p n (with_stays p (with_value p.stays key b) t)
 strides p key a n b t image e (still) = subst (λ slab. Strides key p 0 (with_stays p slab (store_of p))) (sym (with_same p.stays key a e)) at_once
 strides p key a n b t image e (further k c d before after stretch step) =
     let at = with_stays p (with_value p.stays key c) before in
     onward k at (with_stays p (with_value p.stays key d) after) (strides p key a k c before image e stretch)
     (a_stride at key c d (with_value p.stays key d) after true image ((written p.stays key a c e).changed) step (rewritten p.stays key a c d e))
 
-pub strides_on : (p v : PlaceState) (key : ℕ) (a : StayState) (n : ℕ) (b : StayState) (t : StoreState) → p ≡ v → FitsImage p.program → get p.stays key ≡ Some a → Stretch p.program a (store_of p) n b t → Strides key v n (with_stays p (with_value p.stays key b) t)
+pub strides_on : (p v : PlaceState) (key : ℕ) (a : StayState) (n : ℕ) (b : StayState) (t : StoreState) → p ≡ v → FitsImage p.program → get p.stays key ≡ Some a → Stretch (location_of p) a (store_of p) n b t → Strides key v n (with_stays p (with_value p.stays key b) t)
 strides_on p v key a n b t seen image e stretch = subst (λ u. Strides key u n (with_stays p (with_value p.stays key b) t)) seen (strides p key a n b t image e stretch)
 
 -- the last one ends the stay
-pub strides_end : (p v : PlaceState) (key : ℕ) (a : StayState) (n : ℕ) (b : StayState) (t : StoreState) (slab : Slab StayState) → p ≡ v → FitsImage p.program → get p.stays key ≡ Some a → EndsStretch p.program a (store_of p) n b t → Updates (with_value p.stays key b) slab key None
+pub strides_end : (p v : PlaceState) (key : ℕ) (a : StayState) (n : ℕ) (b : StayState) (t : StoreState) (slab : Slab StayState) → p ≡ v → FitsImage p.program → get p.stays key ≡ Some a → EndsStretch (location_of p) a (store_of p) n b t → Updates (with_value p.stays key b) slab key None
     → Strides key v n (with_stays p slab t)
 strides_end p v key a n b t slab seen image e ends up =
     let q = with_stays p slab t in
@@ -87,7 +87,7 @@ strides_standing p key n q s (onward k r t far stride) = standing_after r q key 
 
 -- whether the place has stopped is nothing to the machine
 pub stopped_stands : (far : Far) (p : PlaceState) (m : machine.Place) (b : Bool) → StandsFor far p m → StandsFor far (record p { stopped = b }) m
-stopped_stands far p m b s = record { assigned = s.assigned; none = s.none; some = s.some; within = s.within; heap = s.heap; exports = s.exports; opened = s.opened; lines = s.lines }
+stopped_stands far p m b s = record { assigned = s.assigned; none = s.none; some = s.some; site = s.site; heap = s.heap; exports = s.exports; opened = s.opened; lines = s.lines }
 
 pub stopped_standing : (p : PlaceState) (b : Bool) → IsStanding p → IsStanding (record p { stopped = b })
 stopped_standing p b s = (s.0, stopped_stands any p s.0 b s.1)
@@ -106,10 +106,10 @@ same_stopped p e = ap (λ b. record p { stopped = b }) e
 -- ---- words have their kinds
 
 -- the words of each stay of a place
-pub typed_at : (p : PlaceState) (key : ℕ) (a : StayState) → IsStanding p → get p.stays key ≡ Some a → IsTyped p.program p.heap a
+pub typed_at : (p : PlaceState) (key : ℕ) (a : StayState) → IsStanding p → get p.stays key ≡ Some a → IsTyped (location_of p) p.heap a
 typed_at p key a s e =
     let found = s.1.some key a e in
-    record { assigned = s.1.assigned; places = p.places; here = p.id; far = any; stay = found.0; stands = found.2; cells = s.0.cells; holds = s.1.heap }
+    record { assigned = s.1.assigned; site = s.1.site; named = s.1.exports.named; far = any; stay = found.0; stands = found.2; cells = s.0.cells; holds = s.1.heap }
 
 -- ---- refusals
 
@@ -122,6 +122,15 @@ hindered_by (route.Make m) p key b i why there fetched e (inr limit) = inr (limi
   instr_is = subst (λ o. instr_in o b.top.pc ≡ Some i) (sym fetched.is_function) fetched.is_instr;
   overfills = subst (λ q. OverfillsBy q p.heap b.top.registers.items i limit.0) (sym e) limit.2;
 })
+hindered_by route.Export p key b i why there fetched e (inl memory) = inl memory
+hindered_by route.Export p key b i why there fetched e (inr limit) = inr (limit.0, limit.1, record {
+  stay = b;
+  is_there = there;
+  instr = i;
+  instr_is = subst (λ o. instr_in o b.top.pc ≡ Some i) (sym fetched.is_function) fetched.is_instr;
+  overfills = subst (λ q. OverfillsBy q p.heap b.top.registers.items i limit.0) (sym e) (limit.2, limit.3);
+})
+hindered_by (route.Site k) p key b i why there fetched e memory = inl memory
 hindered_by (route.Local l) p key b i why there fetched e memory = inl memory
 hindered_by route.Call p key b i why there fetched e memory = inl memory
 hindered_by route.Return p key b i why there fetched e memory = inl memory
@@ -132,17 +141,19 @@ hindered_by route.Later p key b i why there fetched e memory = inl memory
 pub hindered : (p : PlaceState) (key : ℕ) (b : StayState) (i : Instr) (why : Stop) → get p.stays key ≡ Some b → IsFetchedFor p.program b.top i → Refuses (route_of i.op) b p.heap i why → IsHindered p key why
 hindered p key b i why there fetched refuses = hindered_by (route_of i.op) p key b i why there fetched refl refuses
 
-pub hindered_after : (p : PlaceState) (key : ℕ) (a b : StayState) (t : StoreState) (why : Stop) → get p.stays key ≡ Some a → IsStopped p.program b t why → IsHindered (with_stays p (with_value p.stays key b) t) key why
+pub hindered_after : (p : PlaceState) (key : ℕ) (a b : StayState) (t : StoreState) (why : Stop) → get p.stays key ≡ Some a → IsStopped (location_of p) b t why → IsHindered (with_stays p (with_value p.stays key b) t) key why
 hindered_after p key a b t why e stopped = hindered (with_stays p (with_value p.stays key b) t) key b stopped.instr why ((written p.stays key a b e).changed) stopped.fetched stopped.refuses
 
-limits_made : (m : Make) (heap : HeapState) (words : List ℕ) (i : Instr) (limit : ℕ) → Overfills m heap words i limit → (1 ≤ limit) × (limit ≤ 3)
+limits_made : (m : Make) (heap : HeapState) (words : List ℕ) (i : Instr) (limit : ℕ) → Overfills m heap words i limit → (1 ≤ limit) × (limit ≤ 4)
 limits_made make.Text heap words i limit h = (omega (arith, h.0), omega (arith, h.0))
 limits_made make.JoinedText heap words i limit h = (omega (arith, h.0), omega (arith, h.0))
 limits_made make.Object heap words i limit h = (omega (arith, h.0), omega (arith, h.0))
 limits_made make.Rail heap words i limit h = (omega (arith, h.0), omega (arith, h.0))
 
-limits_by : (r : Route) (heap : HeapState) (words : List ℕ) (i : Instr) (limit : ℕ) → OverfillsBy r heap words i limit → (1 ≤ limit) × (limit ≤ 3)
+limits_by : (r : Route) (heap : HeapState) (words : List ℕ) (i : Instr) (limit : ℕ) → OverfillsBy r heap words i limit → (1 ≤ limit) × (limit ≤ 4)
 limits_by (route.Make m) heap words i limit h = limits_made m heap words i limit h
+limits_by route.Export heap words i limit h = (omega (arith, h.0), omega (arith, h.0))
+limits_by (route.Site k) heap words i limit h = absurd h
 limits_by (route.Local l) heap words i limit h = absurd h
 limits_by route.Call heap words i limit h = absurd h
 limits_by route.Return heap words i limit h = absurd h
@@ -150,5 +161,5 @@ limits_by route.Print heap words i limit h = absurd h
 limits_by route.Later heap words i limit h = absurd h
 
 -- which limits a step may pass
-pub limits : (p : PlaceState) (key limit : ℕ) → IsOverfull p key limit → (1 ≤ limit) × (limit ≤ 3)
+pub limits : (p : PlaceState) (key limit : ℕ) → IsOverfull p key limit → (1 ≤ limit) × (limit ≤ 4)
 limits p key limit h = limits_by (route_of h.instr.op) p.heap h.stay.top.registers.items h.instr limit h.overfills

@@ -1,5 +1,5 @@
 -- Call frames: what an instruction does to the words in the registers and to the turns of the loops.
-use Rattle.std.specs.Prelude.{◌≡◌, ◌≢◌, ℕ, ℤ, pos, ◌+ℤ◌, ◌-ℤ◌, ◌*ℤ◌, int_lt, ◌+◌, ◌-◌, ◌^◌, ◌<◌, ◌≤◌, ◌⊎◌, Bool, true, false, ◌==◌, nat_lt, nat_le, List, ◌++◌, length, replicate, Option, Some, None, IfSome, if◌then◌else◌, slice_get, slice_index, slice_set}
+use Rattle.std.specs.Prelude.{◌≡◌, ◌≢◌, ℕ, ℤ, pos, negsuc, ◌+ℤ◌, ◌-ℤ◌, ◌*ℤ◌, int_lt, ◌+◌, ◌-◌, ◌*◌, ◌/◌, ◌%◌, ◌^◌, ◌<◌, ◌≤◌, ◌⊎◌, Bool, true, false, ◌==◌, nat_lt, nat_le, List, ◌++◌, length, replicate, Option, Some, None, IfSome, if◌then◌else◌, slice_get, slice_index, slice_set}
 use Rattle.std.specs.List.{AllByRecursion, slice_range}
 use Rattle.std.specs.Int.{w64, cast_signed, int_rem_euclid}
 use Rattle.std.specs.Ordering.{int_eq}
@@ -13,7 +13,8 @@ use Rattle.x10_model.specs.Ranges.{function_at, IsInRange}
 use Rattle.x10_model.specs.Values.{Value, Int}
 use Rattle.x10_model.specs.declared.limits.TheConstants.{MOST_BYTES}
 use Rattle.x10_model.specs.Moves.{is_zero, wrapped, quotient, remainder, truth, rail_length, byte_at, byte_value, index_of}
-use Rattle.x10_heap.specs.Heaps.{HeapState, ObjectState, HasField, with_object, with_rail, with_text, with_field, with_byte, IsFull}
+use Rattle.x10_heap.specs.Heaps.{HeapState, ObjectState, HasField, with_object, with_rail, with_text, with_field, with_byte, with_export, IsFull}
+use Rattle.x10_heap.specs.declared.export.Export.{Export}
 use Rattle.x10_place.specs.declared.frame.CallFrame.{CallFrame}
 use Rattle.x10_place.specs.declared.route.Local.{Local}
 use Rattle.x10_place.specs.declared.route.Local.TheVariants as local
@@ -23,6 +24,8 @@ use Rattle.x10_place.specs.declared.route.Number.{Number}
 use Rattle.x10_place.specs.declared.route.Number.TheVariants as number
 use Rattle.x10_place.specs.declared.route.Make.{Make}
 use Rattle.x10_place.specs.declared.route.Make.TheVariants as make
+use Rattle.x10_place.specs.declared.route.Site.{Site}
+use Rattle.x10_place.specs.declared.route.Site.TheVariants as site
 
 -- what an operation of one frame works on: the number of the next instruction, the words in the registers, the turns
 -- that open loops have left, and the heap of the place
@@ -121,6 +124,30 @@ byte_in (Some bytes) z = byte_value (byte_at bytes z)
 abbrev pub byte_set : HeapState → ℕ → List ℕ → (index number : ℤ) → HeapState
 byte_set heap rail bytes index number = with_byte heap rail bytes (index_of index) (index_of (int_rem_euclid number (pos 256)))
 
+-- ---- places
+
+-- the place that the word of a place or of a global reference stands for, and the reference's number there
+abbrev pub home_of : ℕ → ℕ
+home_of word = word % 65536
+
+abbrev pub id_of : ℕ → ℕ
+id_of word = word / 65536
+
+abbrev pub reference_word : (home id : ℕ) → ℕ
+reference_word home id = home + 65536 * id
+
+-- two registers stand for one place
+abbrev pub are_same : List ℕ → ℕ → ℕ → Bool
+are_same words r s = home_of (word_at words r) == home_of (word_at words s)
+
+abbrev pub is_at : List ℕ → ℕ → ℕ → Bool
+is_at words r place = home_of (word_at words r) == place
+
+-- the number of a place, if there is one
+abbrev pub numbered : ℕ → ℤ → Option ℕ
+numbered places (pos n) = if nat_lt n places then Some n else None
+numbered places (negsuc n) = None
+
 -- ---- operations of one frame
 
 abbrev pub as_value : Option ℤ → Option Value
@@ -137,6 +164,7 @@ given number.Less program heap words i = Some (truth (int_lt (int_at words i.b) 
 given number.Equal program heap words i = Some (truth (int_eq (int_at words i.b) (int_at words i.c)))
 given number.RailLength program heap words i = size (rail_in heap words i.b)
 given number.TextLength program heap words i = size (text_in heap words i.b)
+given number.PlaceNumber program heap words i = Some (Int (pos (word_at words i.b)))
 
 -- the same, where there may be none
 abbrev pub tried : Partial → HeapState → List ℕ → Instr → Option Value
@@ -191,6 +219,10 @@ Acts local.NotNull program w i v = CopiesUnless (word_at w.words i.b == 0) w i v
 Acts local.GetField program w i v = GetsField w i v
 Acts local.SetField program w i v = SetsField w i v
 Acts local.SetByte program w i v = (bytes : List ℕ) × (rail_in w.heap w.words i.a ≡ Some bytes) × SetsByte (byte_at bytes (int_at w.words i.b)) bytes w i v
+Acts local.Place program w i v = Becomes v (w.pc + 1) (slice_set w.words i.a i.x) w.loops w.heap
+Acts local.Home program w i v = Becomes v (w.pc + 1) (slice_set w.words i.a (home_of (word_at w.words i.b))) w.loops w.heap
+Acts local.Open program w i v = (e : Export) × (slice_get w.heap.exports (id_of (word_at w.words i.b)) ≡ Some e) × Becomes v (w.pc + 1) (slice_set w.words i.a (e.object + 1)) w.loops w.heap
+Acts local.SamePlace program w i v = Becomes v (if are_same w.words i.a i.b then w.pc + 1 else i.x) w.words w.loops w.heap
 Acts local.Jump program w i v = Becomes v i.x w.words w.loops w.heap
 Acts local.JumpIfZero program w i v = Becomes v (if is_zero (int_at w.words i.a) then i.x else w.pc + 1) w.words w.loops w.heap
 Acts local.Loop program w i v = Becomes v (w.pc + 1) w.words (slice_set w.loops i.a i.x) w.heap
@@ -201,6 +233,7 @@ abbrev pub AsksNumber : Number → Module → ℕ → Instr → Type 0
 AsksNumber number.Constant program registers i = (i.a < registers) × (i.x < length program.ints)
 AsksNumber number.RailLength program registers i = (i.a < registers) × (i.b < registers)
 AsksNumber number.TextLength program registers i = (i.a < registers) × (i.b < registers)
+AsksNumber number.PlaceNumber program registers i = (i.a < registers) × (i.b < registers)
 AsksNumber _ program registers i = (i.a < registers) × (i.b < registers) × (i.c < registers)
 
 -- what an operation of one frame asks: the registers, slots and constants that it names are there, and its target is a
@@ -214,6 +247,10 @@ Asks local.NotNull program registers i = (i.a < registers) × (i.b < registers) 
 Asks local.GetField program registers i = (i.a < registers) × (i.b < registers)
 Asks local.SetField program registers i = (i.a < registers) × (i.b < registers)
 Asks local.SetByte program registers i = (i.a < registers) × (i.b < registers) × (i.c < registers) × (i.x < 2 ^ 16)
+Asks local.Place program registers i = i.a < registers
+Asks local.Home program registers i = (i.a < registers) × (i.b < registers)
+Asks local.Open program registers i = (i.a < registers) × (i.b < registers)
+Asks local.SamePlace program registers i = (i.a < registers) × (i.b < registers) × (i.x < 2 ^ 16)
 Asks local.Jump program registers i = i.x < 2 ^ 16
 Asks local.JumpIfZero program registers i = (i.a < registers) × (i.x < 2 ^ 16)
 Asks local.Loop program registers i = i.a < 8
@@ -223,6 +260,7 @@ Asks local.EndLoop program registers i = (i.a < 8) × (i.x < 2 ^ 16)
 abbrev pub ReadsNumber : Number → HeapState → List ℕ → Instr → Type 0
 ReadsNumber number.RailLength heap words i = word_at words i.b < length heap.rails
 ReadsNumber number.TextLength heap words i = word_at words i.b < length heap.texts
+ReadsNumber number.PlaceNumber heap words i = word_at words i.b < 2 ^ 16
 ReadsNumber _ heap words i = Unit {0}
 
 abbrev pub ReadsPartial : Partial → HeapState → List ℕ → Instr → Type 0
@@ -235,6 +273,7 @@ Reads (local.Partial d) heap words i = ReadsPartial d heap words i
 Reads local.GetField heap words i = NamesField heap words i.b i.c
 Reads local.SetField heap words i = NamesField heap words i.a i.c
 Reads local.SetByte heap words i = word_at words i.a < length heap.rails
+Reads local.Open heap words i = id_of (word_at words i.b) < length heap.exports
 Reads _ heap words i = Unit {0}
 
 -- ---- what is made in the heap
@@ -297,6 +336,52 @@ Overfills make.Rail heap words i limit = (limit ≡ 3) × IsFull (length heap.ra
 -- why it makes nothing: memory was refused, or there can be no more
 abbrev pub IsRefused : Make → HeapState → List ℕ → Instr → Stop → Type 0
 IsRefused m heap words i why = (why ≡ stop.Memory) ⊎ ((limit : ℕ) × (why ≡ stop.Limit limit) × Overfills m heap words i limit)
+
+-- ---- by the place
+
+-- what goes to register a; where there is nothing, the next instruction is x
+abbrev pub Puts : Option ℕ → Workspace → Instr → Workspace → Type 0
+Puts (Some word) w i v = Becomes v (w.pc + 1) (slice_set w.words i.a word) w.loops w.heap
+Puts None w i v = Becomes v i.x w.words w.loops w.heap
+
+-- what an operation does at a place, one of so many
+abbrev pub ActsAt : Site → (here places : ℕ) → Workspace → Instr → Workspace → Type 0
+ActsAt site.Here here places w i v = Puts (Some here) w i v
+ActsAt site.Count here places w i v = Writes w i (pos places) v
+ActsAt site.Next here places w i v = Puts (Some ((word_at w.words i.b + 1) % places)) w i v
+ActsAt site.Numbered here places w i v = Puts (numbered places (int_at w.words i.b)) w i v
+ActsAt site.IsHere here places w i v = Becomes v (if is_at w.words i.a here then w.pc + 1 else i.x) w.words w.loops w.heap
+
+-- what it asks of the number of registers
+abbrev pub AsksAt : Site → ℕ → Instr → Type 0
+AsksAt site.Here registers i = i.a < registers
+AsksAt site.Count registers i = i.a < registers
+AsksAt site.Next registers i = (i.a < registers) × (i.b < registers)
+AsksAt site.Numbered registers i = (i.a < registers) × (i.b < registers) × (i.x < 2 ^ 16)
+AsksAt site.IsHere registers i = (i.a < registers) × (i.x < 2 ^ 16)
+
+-- the register stands for a place that there is
+abbrev pub ReadsAt : Site → ℕ → List ℕ → Instr → Type 0
+ReadsAt site.Next places words i = word_at words i.b < places
+ReadsAt _ places words i = Unit {0}
+
+-- ---- global references
+
+-- the object in register b is exported under the next number, and the reference goes to register a
+pub record ExportsObject (here : ℕ) (w : Workspace) (i : Instr) (v : Workspace) : Type 0 where
+  pub few : length w.heap.exports < 2 ^ 32
+  pub object : ObjectState
+  pub is_object : slice_get w.heap.objects (object_in w.words i.b) ≡ Some object
+  pub becomes : Becomes v (w.pc + 1) (slice_set w.words i.a (reference_word here (length w.heap.exports))) w.loops (with_export w.heap object.class (object_in w.words i.b))
+
+-- the register names an object
+pub record NamesObject (heap : HeapState) (words : List ℕ) (r : ℕ) : Type 0 where
+  pub not_null : 0 < word_at words r
+  pub there : object_in words r < length heap.objects
+
+-- why there is no export: memory was refused, or there can be no more
+abbrev pub IsExportRefused : HeapState → Stop → Type 0
+IsExportRefused heap why = (why ≡ stop.Memory) ⊎ ((limit : ℕ) × (why ≡ stop.Limit limit) × (limit ≡ 4) × IsFull (length heap.exports))
 
 -- ---- calls
 

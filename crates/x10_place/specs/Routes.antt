@@ -7,6 +7,7 @@ use Rattle.x10_place.specs.declared.route.Local.TheVariants as local
 use Rattle.x10_place.specs.declared.route.Partial.TheVariants as partial
 use Rattle.x10_place.specs.declared.route.Number.TheVariants as number
 use Rattle.x10_place.specs.declared.route.Make.TheVariants as make
+use Rattle.x10_place.specs.declared.route.Site.TheVariants as site
 
 abbrev pub route_of : Op → Route
 route_of op.Intk = route.Local (local.Number number.Constant)
@@ -37,17 +38,17 @@ route_of op.Rail = route.Make make.Rail
 route_of op.Rget = route.Local (local.Partial partial.Byte)
 route_of op.Rset = route.Local local.SetByte
 route_of op.Rlen = route.Local (local.Number number.RailLength)
-route_of op.Here = route.Later
-route_of op.Placek = route.Later
-route_of op.Placen = route.Later
-route_of op.Placei = route.Later
-route_of op.Nextp = route.Later
-route_of op.Count = route.Later
-route_of op.Home = route.Later
-route_of op.Gnew = route.Later
-route_of op.Gopen = route.Later
-route_of op.Ifhere = route.Later
-route_of op.Ifsame = route.Later
+route_of op.Here = route.Site site.Here
+route_of op.Placek = route.Local local.Place
+route_of op.Placen = route.Site site.Numbered
+route_of op.Placei = route.Local (local.Number number.PlaceNumber)
+route_of op.Nextp = route.Site site.Next
+route_of op.Count = route.Site site.Count
+route_of op.Home = route.Local local.Home
+route_of op.Gnew = route.Export
+route_of op.Gopen = route.Local local.Open
+route_of op.Ifhere = route.Site site.IsHere
+route_of op.Ifsame = route.Local local.SamePlace
 route_of op.Async = route.Later
 route_of op.At = route.Later
 route_of op.Ata = route.Later

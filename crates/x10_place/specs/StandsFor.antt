@@ -1,5 +1,5 @@
 -- When a place of the program stands for a place of the machine.
-use Rattle.std.specs.Prelude.{◌≡◌, ℕ, ◌<◌, ◌⊎◌, Bool, true, false, List, [], ◌∷◌, ◌++◌, length, map, reverse, Option, Some, None, slice_get, slice_index}
+use Rattle.std.specs.Prelude.{◌≡◌, ℕ, ◌<◌, ◌≤◌, ◌⊎◌, Bool, true, false, List, [], ◌∷◌, ◌++◌, length, map, reverse, Option, Some, None, slice_get, slice_index}
 use Rattle.std.specs.Prelude.{string_bytes}
 use Rattle.slab.specs.Slab.{Slab, get}
 use Rattle.x10_kinds.specs.declared.kind.Kind.{Kind}
@@ -24,7 +24,7 @@ use Rattle.x10_place.specs.declared.line.Line.{Line}
 use Rattle.x10_place.specs.declared.line.Line.TheVariants as line
 use Rattle.x10_place.specs.Homes.{AreHomes}
 use Rattle.x10_place.specs.Routes.{route_of}
-use Rattle.x10_place.specs.Stays.{StayState, StoreState, IsPlaced, OverfillsBy}
+use Rattle.x10_place.specs.Stays.{StayState, StoreState, Location, IsPlaced, OverfillsBy}
 
 -- what callers see of a place: the module with the bounds of its functions, its number and how many there are, the stays
 -- by key, the heap, the lines of output, how many finishes it opened, and whether it has stopped
@@ -62,6 +62,9 @@ context setting here heap far = record { classes = setting.program.classes; here
 -- what does not change in a run
 abbrev pub setting_of : PlaceState → Setting
 setting_of p = record { program = p.program; places = p.places }
+
+abbrev pub location_of : PlaceState → Location
+location_of p = record { program = p.program; here = p.id; places = p.places }
 
 abbrev pub context_of : Far → PlaceState → Context
 context_of far p = context (setting_of p) p.id p.heap far
@@ -118,34 +121,46 @@ pub record StandsForStay (program : Module) (assigned : Assigned program) (x : C
 
 -- ---- words with their kinds
 
+-- each export names an object of its class
+abbrev pub AreNamed : HeapState → Type 0
+AreNamed heap = (id : ℕ) (e : Export) → slice_get heap.exports id ≡ Some e → (o : ObjectState) × (slice_get heap.objects e.object ≡ Some o) × (o.class ≡ e.class)
+
+-- a place that there is, one of a number that is permitted
+pub record IsWithinPlaces (program : Module) (here places : ℕ) : Type 0 where
+  pub within : here < places
+  pub enough : program.least_places ≤ places
+  pub few : places ≤ 64
+
 -- The words of a call frame have the kinds that the verifier knows: beside this heap it stands for some call frame.
 pub record IsTypedFrame (program : Module) (heap : HeapState) (f : CallFrame) : Type 0 where
   pub assigned : Assigned program
   pub places : ℕ
   pub here : ℕ
+  pub site : IsWithinPlaces program here places
+  pub named : AreNamed heap
   pub far : Far
   pub frame : machine.CallFrame
   pub stands : StandsForFrame program assigned (context (record { program = program; places = places }) here heap far) f frame
   pub cells : Cells
   pub holds : HoldsHeap (context (record { program = program; places = places }) here heap far) cells
 
--- The same of all words of a stay: beside this heap it stands for some stay.
-pub record IsTyped (program : Module) (heap : HeapState) (a : StayState) : Type 0 where
-  pub assigned : Assigned program
-  pub places : ℕ
-  pub here : ℕ
+-- The same of all words of a stay: at its place, beside this heap, it stands for some stay.
+pub record IsTyped (at : Location) (heap : HeapState) (a : StayState) : Type 0 where
+  pub assigned : Assigned at.program
+  pub site : IsWithinPlaces at.program at.here at.places
+  pub named : AreNamed heap
   pub far : Far
   pub stay : Stay
-  pub stands : StandsForStay program assigned (context (record { program = program; places = places }) here heap far) a stay
+  pub stands : StandsForStay at.program assigned (context (record { program = at.program; places = at.places }) at.here heap far) a stay
   pub cells : Cells
-  pub holds : HoldsHeap (context (record { program = program; places = places }) here heap far) cells
+  pub holds : HoldsHeap (context (record { program = at.program; places = at.places }) at.here heap far) cells
 
 -- ---- places
 
 -- the machine's exports are those of the heap, and each names an object of its class
 pub record HoldsExports (heap : HeapState) (exports : List machine.Export) : Type 0 where
   pub exports_are : exports ≡ map export_as heap.exports
-  pub named : (id : ℕ) (e : Export) → slice_get heap.exports id ≡ Some e → (o : ObjectState) × (slice_get heap.objects e.object ≡ Some o) × (o.class ≡ e.class)
+  pub named : AreNamed heap
 
 -- A place of the program stands for a place of the machine, where it is known what other places export: the same stays
 -- under the same keys, the same heap, exports and output, and as many finishes opened.
@@ -153,7 +168,7 @@ pub record StandsFor (far : Far) (p : PlaceState) (m : machine.Place) : Type 0 w
   pub assigned : Assigned p.program
   pub none : (key : ℕ) → get p.stays key ≡ None → m.stays key ≡ None
   pub some : (key : ℕ) (a : StayState) → get p.stays key ≡ Some a → (s : Stay) × (m.stays key ≡ Some s) × StandsForStay p.program assigned (context_of far p) a s
-  pub within : p.id < p.places
+  pub site : IsWithinPlaces p.program p.id p.places
   pub heap : HoldsHeap (context_of far p) m.cells
   pub exports : HoldsExports p.heap m.exports
   pub opened : m.opened ≡ p.opened

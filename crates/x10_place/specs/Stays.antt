@@ -11,16 +11,17 @@ use Rattle.x10_model.specs.Assignments.{State, IsKind}
 use Rattle.x10_model.specs.Places.{Finish, Origin}
 use Rattle.x10_model.specs.Ranges.{function_at, instr_at, result_of}
 use Rattle.x10_finish.specs.declared.finish.Finish as finish
-use Rattle.x10_heap.specs.Heaps.{HeapState, empty}
+use Rattle.x10_heap.specs.Heaps.{HeapState, empty, IsFull}
 use Rattle.x10_verify.specs.Least.{HasLeast}
 use Rattle.x10_verify.specs.Printing.{PrintsText}
 use Rattle.x10_place.specs.declared.frame.CallFrame.{CallFrame}
 use Rattle.x10_place.specs.declared.stay.Origin as stay
+use Rattle.x10_place.specs.declared.stay.Spot.{Spot}
 use Rattle.x10_place.specs.declared.line.Line.{Line}
 use Rattle.x10_place.specs.declared.line.Line.TheVariants as line
 use Rattle.x10_place.specs.declared.route.Route.{Route}
 use Rattle.x10_place.specs.declared.route.Route.TheVariants as route
-use Rattle.x10_place.specs.Frames.{Workspace, space_of, word_at, int_at, IsInside, IsFetchedFor, Acts, Reads, Makes, ReadsMake, Overfills, IsRefused, IsEntered}
+use Rattle.x10_place.specs.Frames.{Workspace, space_of, word_at, int_at, IsInside, IsFetchedFor, Acts, Reads, Makes, ReadsMake, Overfills, IsRefused, ActsAt, ReadsAt, ExportsObject, NamesObject, IsExportRefused, IsEntered}
 
 -- what callers see of a stay: the frame of the function that it executes, and those of the functions that called it, the
 -- last one last; the numbers of the finishes that it opened and hasn't closed, the last one first, and the one that it
@@ -41,6 +42,15 @@ pub record StoreState : Type 0 where
 
 abbrev pub new_store : ℕ → StoreState
 new_store opened = record { heap = empty; lines = []; opened = opened }
+
+-- where a stay is: a place of a run of a module, by its number, one of so many
+pub record Location : Type 0 where
+  pub program : Module
+  pub here : ℕ
+  pub places : ℕ
+
+abbrev pub location : Module → Spot → Location
+location program spot = record { program = program; here = spot.here; places = spot.places }
 
 abbrev pub finish_as : finish.Finish → Finish
 finish_as f = record { home = f.home; number = f.number }
@@ -140,27 +150,33 @@ pub record Prints (program : Module) (a : StayState) (s : StoreState) (i : Instr
   pub store : t ≡ record s { lines = s.lines ++ printed ∷ [] }
 
 -- what an operation does to a stay and to what the place keeps, and whether the stay goes on
-abbrev pub Steps : Route → Module → StayState → StoreState → Instr → Bool → StayState → StoreState → Type 0
-Steps (route.Local l) program a s i goes b t = (goes ≡ true) × ChangesTop (λ v w. Acts l program v i w) a s b t
-Steps (route.Make m) program a s i goes b t = (goes ≡ true) × ChangesTop (λ v w. Makes m program v i w) a s b t
-Steps route.Call program a s i goes b t = (goes ≡ true) × Calls program a i b × (t ≡ s)
-Steps route.Return program a s i goes b t = Returns program a i goes b × (t ≡ s)
-Steps route.Print program a s i goes b t = (goes ≡ true) × Prints program a s i b t
-Steps route.Later program a s i goes b t = ⊥
+abbrev pub Steps : Route → Location → StayState → StoreState → Instr → Bool → StayState → StoreState → Type 0
+Steps (route.Local l) at a s i goes b t = (goes ≡ true) × ChangesTop (λ v w. Acts l at.program v i w) a s b t
+Steps (route.Make m) at a s i goes b t = (goes ≡ true) × ChangesTop (λ v w. Makes m at.program v i w) a s b t
+Steps (route.Site k) at a s i goes b t = (goes ≡ true) × ChangesTop (λ v w. ActsAt k at.here at.places v i w) a s b t
+Steps route.Export at a s i goes b t = (goes ≡ true) × ChangesTop (λ v w. ExportsObject at.here v i w) a s b t
+Steps route.Call at a s i goes b t = (goes ≡ true) × Calls at.program a i b × (t ≡ s)
+Steps route.Return at a s i goes b t = Returns at.program a i goes b × (t ≡ s)
+Steps route.Print at a s i goes b t = (goes ≡ true) × Prints at.program a s i b t
+Steps route.Later at a s i goes b t = ⊥
 
--- what an operation reads in the heap is there
-abbrev pub ReadsHeap : Route → Module → StayState → HeapState → Instr → Type 0
-ReadsHeap (route.Local l) program a heap i = Reads l heap a.top.registers.items i
-ReadsHeap (route.Make m) program a heap i = ReadsMake m heap a.top.registers.items i
-ReadsHeap route.Print program a heap i = PrintsText program a.top.function a.top.pc → word_at a.top.registers.items i.a < length heap.texts
-ReadsHeap _ program a heap i = Unit {0}
+-- what an operation reads in the heap, or of places, is there
+abbrev pub ReadsHeap : Route → Location → StayState → HeapState → Instr → Type 0
+ReadsHeap (route.Local l) at a heap i = Reads l heap a.top.registers.items i
+ReadsHeap (route.Make m) at a heap i = ReadsMake m heap a.top.registers.items i
+ReadsHeap (route.Site k) at a heap i = ReadsAt k at.places a.top.registers.items i
+ReadsHeap route.Export at a heap i = NamesObject heap a.top.registers.items i.b
+ReadsHeap route.Print at a heap i = PrintsText at.program a.top.function a.top.pc → word_at a.top.registers.items i.a < length heap.texts
+ReadsHeap _ at a heap i = Unit {0}
 
 -- an operation would make one more of what there can be no more of
 abbrev pub OverfillsBy : Route → HeapState → List ℕ → Instr → ℕ → Type 0
 OverfillsBy (route.Make m) heap words i limit = Overfills m heap words i limit
+OverfillsBy route.Export heap words i limit = (limit ≡ 4) × IsFull (length heap.exports)
 OverfillsBy _ heap words i limit = ⊥
 
 -- why an operation is refused: for want of memory, or since there can be no more of what it makes
 abbrev pub Refuses : Route → StayState → HeapState → Instr → Stop → Type 0
 Refuses (route.Make m) a heap i why = IsRefused m heap a.top.registers.items i why
+Refuses route.Export a heap i why = IsExportRefused heap why
 Refuses _ a heap i why = why ≡ stop.Memory

@@ -9,7 +9,7 @@ use Rattle.x10_place.specs.declared.route.Local.{Local}
 use Rattle.x10_place.specs.declared.stay.Pause.{Pause}
 use Rattle.x10_place.specs.declared.stay.Pause.TheVariants as pause
 use Rattle.x10_place.specs.Frames.{Workspace, IsFetched, IsFetchedFor, Acts}
-use Rattle.x10_place.specs.Stays.{StayState, StoreState, IsPlaced, Steps, Refuses}
+use Rattle.x10_place.specs.Stays.{StayState, StoreState, Location, IsPlaced, Steps, Refuses}
 use Rattle.x10_place.specs.StandsFor.{PlaceState, Keeps, LeadsAll}
 use Rattle.x10_place.specs.Routes.{route_of}
 
@@ -31,37 +31,37 @@ pub data Locally (program : Module) (function : ℕ) (v : Workspace) : ℕ → W
 -- ---- of a stay
 
 -- a step of a stay that stands at an instruction
-pub record IsStep (program : Module) (a : StayState) (s : StoreState) (goes : Bool) (b : StayState) (t : StoreState) : Type 0 where
-  pub placed : IsPlaced program a
+pub record IsStep (at : Location) (a : StayState) (s : StoreState) (goes : Bool) (b : StayState) (t : StoreState) : Type 0 where
+  pub placed : IsPlaced at.program a
   pub instr : Instr
-  pub fetched : IsFetchedFor program a.top instr
-  pub steps : Steps (route_of instr.op) program a s instr goes b t
+  pub fetched : IsFetchedFor at.program a.top instr
+  pub steps : Steps (route_of instr.op) at a s instr goes b t
 
 -- so many steps, after each of which the stay goes on
-pub data Stretch (program : Module) (a : StayState) (s : StoreState) : ℕ → StayState → StoreState → Type 0 where
-  still : Stretch program a s 0 a s
-  further : (n : ℕ) (b c : StayState) (t u : StoreState) → Stretch program a s n b t → IsStep program b t true c u → Stretch program a s (n + 1) c u
+pub data Stretch (at : Location) (a : StayState) (s : StoreState) : ℕ → StayState → StoreState → Type 0 where
+  still : Stretch at a s 0 a s
+  further : (n : ℕ) (b c : StayState) (t u : StoreState) → Stretch at a s n b t → IsStep at b t true c u → Stretch at a s (n + 1) c u
 
 -- so many steps, and the last one ends the stay
-pub record EndsStretch (program : Module) (a : StayState) (s : StoreState) (n : ℕ) (c : StayState) (u : StoreState) : Type 0 where
+pub record EndsStretch (at : Location) (a : StayState) (s : StoreState) (n : ℕ) (c : StayState) (u : StoreState) : Type 0 where
   pub before : ℕ
   pub count : n ≡ before + 1
   pub last : StayState
   pub kept : StoreState
-  pub stretch : Stretch program a s before last kept
-  pub ends : IsStep program last kept false c u
+  pub stretch : Stretch at a s before last kept
+  pub ends : IsStep at last kept false c u
 
 -- the stay stands at an instruction whose step is refused
-pub record IsStopped (program : Module) (a : StayState) (s : StoreState) (why : Stop) : Type 0 where
+pub record IsStopped (at : Location) (a : StayState) (s : StoreState) (why : Stop) : Type 0 where
   pub instr : Instr
-  pub fetched : IsFetchedFor program a.top instr
+  pub fetched : IsFetchedFor at.program a.top instr
   pub refuses : Refuses (route_of instr.op) a s.heap instr why
 
 -- so many steps, and why no more at once
-abbrev pub Paused : Pause → Module → StayState → StoreState → ℕ → StayState → StoreState → Type 0
-Paused pause.Goes program a s n b t = Stretch program a s n b t
-Paused (pause.Refused why) program a s n b t = Stretch program a s n b t × IsStopped program b t why
-Paused pause.Ended program a s n b t = EndsStretch program a s n b t
+abbrev pub Paused : Pause → Location → StayState → StoreState → ℕ → StayState → StoreState → Type 0
+Paused pause.Goes at a s n b t = Stretch at a s n b t
+Paused (pause.Refused why) at a s n b t = Stretch at a s n b t × IsStopped at b t why
+Paused pause.Ended at a s n b t = EndsStretch at a s n b t
 
 -- ---- at a place
 

@@ -11,7 +11,7 @@ ghost use Rattle.x10_place.specs.StandsFor.{IsTypedFrame};
 ghost use Rattle.x10_place.specs.Stays.{GoesNext, GoesNextWith};
 ghost use Rattle.x10_place.specs.Stretches.{Locally};
 
-use crate::heap::{field, rail_byte, rail_length, set_field, set_rail_byte, text_length};
+use crate::heap::{field, object_of, rail_byte, rail_length, set_field, set_rail_byte, text_length};
 use crate::route::{Local, Number, Partial, Route, classify};
 use crate::store::Store;
 use smallvec::SmallVec;
@@ -82,6 +82,7 @@ fn number(
         Number::Equal => i64::from(int(registers, instr.b) == int(registers, instr.c)),
         Number::RailLength => rail_length(heap, registers[usize::from(instr.b)]),
         Number::TextLength => text_length(heap, registers[usize::from(instr.b)]),
+        Number::PlaceNumber => registers[usize::from(instr.b)] as i64,
     }
 }
 
@@ -167,6 +168,26 @@ fn act(
                 return instr.x as u16;
             }
             pc + 1
+        }
+        Local::Place => {
+            registers[usize::from(instr.a)] = u64::from(instr.x);
+            pc + 1
+        }
+        Local::Home => {
+            registers[usize::from(instr.a)] = registers[usize::from(instr.b)] % 65_536;
+            pc + 1
+        }
+        Local::Open => {
+            let word = object_of(heap, registers[usize::from(instr.b)]);
+            registers[usize::from(instr.a)] = word;
+            pc + 1
+        }
+        Local::SamePlace => {
+            let (one, other) = (
+                registers[usize::from(instr.a)],
+                registers[usize::from(instr.b)],
+            );
+            if one % 65_536 == other % 65_536 { pc + 1 } else { instr.x as u16 }
         }
         Local::Jump => instr.x as u16,
         Local::JumpIfZero => {

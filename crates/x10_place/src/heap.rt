@@ -1,8 +1,9 @@
 //! What words name in the heap of a place: a text or a rail is its number there, an object one more, since 0 is null.
-ghost use Rattle.std.specs.Prelude.{◌≡◌, ◌-◌, ◌<◌, List, ℕ, true, false, IsSome, None, Some, length, pos, slice_get};
+ghost use Rattle.std.specs.Prelude.{◌≡◌, ◌+◌, ◌-◌, ◌<◌, List, ℕ, true, false, IsSome, None, Some, length, pos, slice_get};
 ghost use Rattle.x10_heap.specs.Heaps.{ObjectState, HasField, with_field};
 ghost use Rattle.x10_model.specs.Moves.{byte_at, byte_value};
-ghost use Rattle.x10_place.specs.Frames.{as_value, byte_set};
+ghost use Rattle.x10_heap.specs.declared.export.Export.{Export};
+ghost use Rattle.x10_place.specs.Frames.{as_value, byte_set, id_of};
 
 use x10_heap::Heap;
 
@@ -15,6 +16,17 @@ pub(crate) fn field(heap: &Heap, object: u64, field: u8) -> u64
 {
     heap.fits();
     heap.get((object - 1) as u32, field)
+}
+
+/// The word of the object that a global reference of this place names.
+#[inline(always)]
+pub(crate) fn object_of(heap: &Heap, reference: u64) -> u64
+    requires { id_of reference < length heap.now.exports }
+    ensures { (e : Export) → slice_get heap.now.exports (id_of reference) ≡ Some e → result ≡ e.object + 1 }
+{
+    heap.fits();
+    let id = (reference / 65_536) as u32;
+    u64::from(heap.opened(id).object) + 1
 }
 
 /// Writes a word to a field of an object.

@@ -8,6 +8,7 @@ mod making;
 mod opening;
 mod place;
 mod route;
+mod site;
 mod stay;
 mod store;
 

@@ -8,7 +8,7 @@ ghost use Rattle.x10_place.specs.Stretches.{Strides};
 
 use crate::line::Line;
 use crate::opening::with_main;
-use crate::stay::{Pause, Stay};
+use crate::stay::{Pause, Spot, Stay};
 use crate::store::Store;
 use slab::Slab;
 use std::alloc::{AllocError, Global};
@@ -57,7 +57,8 @@ fn remove(stays: &mut Slab<Stay>, key: usize)
 
 impl<'a> Place<'a> {
     /// One step of the activity with a key. A Stop comes only where a growth was refused, where there can be no more of
-    /// what the step would make (Limit 1: objects, 2: texts, 3: rails; at most 2^32 - 1 of each), or after another Stop;
+    /// what the step would make (Limit 1: objects, 2: texts, 3: rails, 4: global
+    /// references; at most 2^32 - 1 of each), or after another Stop;
     /// the output is then that of the steps before it. Constant time, but that CALL, NEW, RAIL, TEXTK, TCAT and PRINT of
     /// a text also copy or fill what they make, and that a list that grows is copied now and then. These and PRINT of a
     /// number alone take memory.
@@ -76,12 +77,16 @@ impl<'a> Place<'a> {
             return Err(Stop::Stopped);
         }
         let verified = self.verified;
+        let spot = Spot {
+            here: self.id,
+            places: self.places,
+        };
         let Some(stay) = self.stays.get_mut(key) else {
             return Ok(Stepped::Idle);
         };
         verified.certificate();
         let instr = verified.fetch(usize::from(stay.top.function), usize::from(stay.top.pc));
-        match stay.step(self.alloc, verified, &mut self.store, instr) {
+        match stay.step(self.alloc, verified, spot, &mut self.store, instr) {
             Ok(true) => Ok(Stepped::Moved),
             Ok(false) => {
                 remove(&mut self.stays, key);
@@ -111,11 +116,15 @@ impl<'a> Place<'a> {
             return (0, Some(Stop::Stopped));
         }
         let verified = self.verified;
+        let spot = Spot {
+            here: self.id,
+            places: self.places,
+        };
         let Some(stay) = self.stays.get_mut(key) else {
             return (0, None);
         };
         verified.certificate();
-        let (done, pause) = stay.run(self.alloc, verified, &mut self.store, most);
+        let (done, pause) = stay.run(self.alloc, verified, spot, &mut self.store, most);
         match pause {
             Pause::Goes => (done, None),
             Pause::Ended => {
@@ -138,7 +147,9 @@ impl<'a> Place<'a> {
         id: u16,
         places: u16,
     ) -> Result<Place<'a>, AllocError>
-        requires { id < places }
+        requires within { id < places }
+        requires enough { verified.now.program.least_places ≤ places }
+        requires few { places ≤ 64 }
         ensures fields { IfOk result (IsNew verified.now id places) }
         ensures elsewhere { IfErr result (λ _. id ≡ 0) }
         ensures opening { IfOk result Opens }

@@ -15,6 +15,8 @@ pub(crate) enum Number {
     Equal,
     RailLength,
     TextLength,
+    /// That of a place.
+    PlaceNumber,
 }
 
 /// What gives a number, or none: a quotient or remainder by 0, or a byte of a rail where there is none.
@@ -44,6 +46,14 @@ pub(crate) enum Local {
     SetField,
     /// Writes a byte of a rail, or goes to x where there is none.
     SetByte,
+    /// Writes place x to a register.
+    Place,
+    /// Writes the home of a global reference to a register.
+    Home,
+    /// Writes the object that a global reference names to a register.
+    Open,
+    /// Goes on where two registers stand for one place, else to x.
+    SamePlace,
     /// Goes to x.
     Jump,
     /// Goes to x where a register is 0.
@@ -52,6 +62,21 @@ pub(crate) enum Local {
     Loop,
     /// Ends a turn of a loop.
     EndLoop,
+}
+
+/// An operation that changes its own call frame alone, by the place where it is executed.
+#[derive(Clone, Copy, Debug, PartialEq, Eq)]
+pub(crate) enum Site {
+    /// Writes this place to a register.
+    Here,
+    /// Writes how many places there are to a register.
+    Count,
+    /// Writes the place after another one to a register; the first after the last.
+    Next,
+    /// Writes the place with a number to a register, or goes to x where there is none.
+    Numbered,
+    /// Goes on where a register stands for this place, else to x.
+    IsHere,
 }
 
 /// What an operation makes in the heap.
@@ -72,6 +97,9 @@ pub(crate) enum Make {
 pub(crate) enum Route {
     Local(Local),
     Make(Make),
+    Site(Site),
+    /// Makes a global reference to an object.
+    Export,
     Call,
     Return,
     Print,
@@ -113,21 +141,17 @@ pub(crate) fn classify(op: Op) -> Route
         Op::Rget => Route::Local(Local::Partial(Partial::Byte)),
         Op::Rset => Route::Local(Local::SetByte),
         Op::Rlen => Route::Local(Local::Number(Number::RailLength)),
-        Op::Here
-        | Op::Placek
-        | Op::Placen
-        | Op::Placei
-        | Op::Nextp
-        | Op::Count
-        | Op::Home
-        | Op::Gnew
-        | Op::Gopen
-        | Op::Ifhere
-        | Op::Ifsame
-        | Op::Async
-        | Op::At
-        | Op::Ata
-        | Op::Finb
-        | Op::Fine => Route::Later,
+        Op::Here => Route::Site(Site::Here),
+        Op::Placek => Route::Local(Local::Place),
+        Op::Placen => Route::Site(Site::Numbered),
+        Op::Placei => Route::Local(Local::Number(Number::PlaceNumber)),
+        Op::Nextp => Route::Site(Site::Next),
+        Op::Count => Route::Site(Site::Count),
+        Op::Home => Route::Local(Local::Home),
+        Op::Gnew => Route::Export,
+        Op::Gopen => Route::Local(Local::Open),
+        Op::Ifhere => Route::Site(Site::IsHere),
+        Op::Ifsame => Route::Local(Local::SamePlace),
+        Op::Async | Op::At | Op::Ata | Op::Finb | Op::Fine => Route::Later,
     }
 }

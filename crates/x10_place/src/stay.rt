@@ -5,11 +5,10 @@ ghost use Rattle.x10_kinds.specs.declared.stop.Stop.TheVariants as stop;
 ghost use Rattle.x10_code.specs.declared.instr.Instr.{Instr};
 ghost use Rattle.x10_model.specs.Modules.{is_supported};
 ghost use Rattle.x10_verify.specs.Printing.{PrintsText};
-ghost use Rattle.x10_place.specs.declared.route.Route.TheVariants as route;
 ghost use Rattle.x10_place.specs.Frames.{IsFetchedFor, word_at};
 ghost use Rattle.x10_place.specs.Routes.{route_of};
 ghost use Rattle.x10_place.specs.StandsFor.{IsTyped};
-ghost use Rattle.x10_place.specs.Stays.{IsPlaced, Calls, Returns, IsPrinted, Prints, ReadsHeap, OverfillsBy, Refuses, Steps};
+ghost use Rattle.x10_place.specs.Stays.{location, IsPlaced, Calls, Returns, IsPrinted, Prints, ReadsHeap, OverfillsBy, Refuses, Steps};
 ghost use Rattle.x10_place.specs.Stretches.{Paused};
 
 use crate::frame::CallFrame;
@@ -23,6 +22,13 @@ use x10_finish::Finish;
 use x10_heap::Heap;
 use x10_kinds::Stop;
 use x10_verify::Verified;
+
+/// A place of a run: its number, and how many places there are.
+#[derive(Clone, Copy, Debug, PartialEq, Eq)]
+pub(crate) struct Spot {
+    pub(crate) here: u16,
+    pub(crate) places: u16,
+}
 
 /// The stay that waits for a result: at which place, and its key there.
 #[derive(Clone, Copy, Debug, PartialEq, Eq)]
@@ -129,7 +135,7 @@ impl Stay {
     ) -> Result<(), AllocError>
         requires fetched { IsFetchedFor verified.now.program self.old.top instr }
         requires op { instr.op ≡ op.Print }
-        requires reads { ReadsHeap route.Print verified.now.program self.old store.old.heap instr }
+        requires reads { PrintsText verified.now.program self.old.top.function self.old.top.pc → word_at self.old.top.registers.items instr.a < length store.old.heap.texts }
         requires there { instr.a < length self.old.top.registers.items }
         requires next { self.old.top.pc + 1 < 2 ^ 16 }
         ensures ok { OnOk result (Prints verified.now.program self.old store.old instr self.new store.new) }
@@ -146,14 +152,15 @@ impl Stay {
         &mut self,
         alloc: Global,
         verified: &Verified,
+        spot: Spot,
         store: &mut Store,
         instr: Instr,
     ) -> Result<bool, Stop>
         requires placed { IsPlaced verified.now.program self.old }
         requires fetched { IsFetchedFor verified.now.program self.old.top instr }
         requires supported { IsTrue (is_supported instr.op) }
-        requires reads { ReadsHeap (route_of instr.op) verified.now.program self.old store.old.heap instr }
-        ensures ok { IfOk result (λ goes. Steps (route_of instr.op) verified.now.program self.old store.old instr goes self.new store.new) }
+        requires reads { ReadsHeap (route_of instr.op) (location verified.now.program spot) self.old store.old.heap instr }
+        ensures ok { IfOk result (λ goes. Steps (route_of instr.op) (location verified.now.program spot) self.old store.old instr goes self.new store.new) }
         ensures err { IfErr result (λ why. (self.new ≡ self.old) × (store.new ≡ store.old) × Refuses (route_of instr.op) self.old store.old.heap instr why) }
         ensures full { (limit : ℕ) → OverfillsBy (route_of instr.op) store.old.heap self.old.top.registers.items instr limit → result ≡ Err (stop.Limit limit) }
     {
@@ -164,6 +171,14 @@ impl Stay {
             }
             Route::Make(make) => {
                 self.top.make(verified, &mut store.heap, make, instr)?;
+                return Ok(true);
+            }
+            Route::Site(site) => {
+                self.top.act_at(spot, site, instr);
+                return Ok(true);
+            }
+            Route::Export => {
+                self.top.export(spot, &mut store.heap, instr)?;
                 return Ok(true);
             }
             Route::Return => return Ok(self.ret(verified, store, instr)),
@@ -196,13 +211,14 @@ impl Stay {
         &mut self,
         alloc: Global,
         verified: &Verified,
+        spot: Spot,
         store: &mut Store,
         most: u64,
     ) -> (u64, Pause)
-        requires typed { IsTyped verified.now.program store.old.heap self.old }
+        requires typed { IsTyped (location verified.now.program spot) store.old.heap self.old }
         requires some { 0 < most }
-        ensures ran { Paused result.1 verified.now.program self.old store.old result.0 self.new store.new }
-        ensures typed { result.1 ≢ Pause.Ended → IsTyped verified.now.program store.new.heap self.new }
+        ensures ran { Paused result.1 (location verified.now.program spot) self.old store.old result.0 self.new store.new }
+        ensures typed { result.1 ≢ Pause.Ended → IsTyped (location verified.now.program spot) store.new.heap self.new }
         ensures few { result.0 ≤ most }
         ensures moves { result.1 ≡ Pause.Goes → 0 < result.0 }
     {
@@ -212,7 +228,7 @@ impl Stay {
             return (done, Pause::Goes);
         }
         let instr = verified.fetch(usize::from(self.top.function), usize::from(self.top.pc));
-        match self.step(alloc, verified, store, instr) {
+        match self.step(alloc, verified, spot, store, instr) {
             Ok(true) => (done + 1, Pause::Goes),
             Ok(false) => (done + 1, Pause::Ended),
             Err(why) => (done, Pause::Refused(why)),
@@ -224,17 +240,18 @@ impl Stay {
         &mut self,
         alloc: Global,
         verified: &Verified,
+        spot: Spot,
         store: &mut Store,
         most: u64,
     ) -> (u64, Pause)
-        requires { IsTyped verified.now.program store.old.heap self.old }
-        ensures ran { Paused result.1 verified.now.program self.old store.old result.0 self.new store.new }
+        requires { IsTyped (location verified.now.program spot) store.old.heap self.old }
+        ensures ran { Paused result.1 (location verified.now.program spot) self.old store.old result.0 self.new store.new }
         ensures few { result.0 ≤ most }
         ensures all { result.1 ≡ Pause.Goes → result.0 ≡ most }
     {
         let mut done = 0;
         while done < most {
-            let (count, pause) = self.stride(alloc, verified, store, most - done);
+            let (count, pause) = self.stride(alloc, verified, spot, store, most - done);
             done += count;
             match pause {
                 Pause::Goes => {}

@@ -32,7 +32,7 @@ step-requires-clause-reads c =
       in_range = c.fetch-instr.ensures.in_range;
       follows = c.fetch-instr.ensures.follows;
     }) in
-    typed_reads c.self.inside.verified.now.program c.self.inside.store.heap c.in-Some.stay.now (typed_at (place_of c.self.inside.verified.now c.self.inside.id c.self.inside.places c.self.inside.stays c.self.inside.store c.self.inside.stopped) c.args.key c.in-Some.stay.now c.self.invariant (sym c.in-Some.ensures.value)) c.fetch-instr.result fetched
+    typed_reads (record { program = c.self.inside.verified.now.program; here = c.self.inside.id; places = c.self.inside.places }) c.self.inside.store.heap c.in-Some.stay.now (typed_at (place_of c.self.inside.verified.now c.self.inside.id c.self.inside.places c.self.inside.stays c.self.inside.store c.self.inside.stopped) c.args.key c.in-Some.stay.now c.self.invariant (sym c.in-Some.ensures.value)) c.fetch-instr.result fetched
 
 pub invariant_of-self-in-Ok-true : goal.invariant_of-self-in-Ok-true
 invariant_of-self-in-Ok-true c =
