@@ -22,10 +22,10 @@ use Rattle.x10_copy.specs.Captured.{IsCaptured, IsCopied}
 use Rattle.x10_copy.proofs.Position.{number_there}
 use Rattle.x10_copy.proofs.Reaching.{fields_fit, whole}
 
-abbrev as_object : ℕ → ℕ
+abbrev pub as_object : ℕ → ℕ
 as_object p = 2 * p
 
-abbrev as_rail : ℕ → ℕ
+abbrev pub as_rail : ℕ → ℕ
 as_rail p = 2 * p + 1
 
 -- the references of the parts
@@ -106,7 +106,7 @@ module _ (x : Context) (n : Names) where
       let found : AreFound n h.kinds object.fields = rw e at f in
       rw e (h.cell_is ∙ ap (λ (vs : List Value). Some (Fields object.class vs)) (values_are h.kinds object.fields h.values found h.words))
 
-distinct_map : (f : ℕ → ℕ) (xs : List ℕ) → ((a b : ℕ) → f a ≡ f b → a ≡ b) → AreDistinct xs → AreDistinct (map f xs)
+pub distinct_map : (f : ℕ → ℕ) (xs : List ℕ) → ((a b : ℕ) → f a ≡ f b → a ≡ b) → AreDistinct xs → AreDistinct (map f xs)
 distinct_map f xs one d i j y e g =
     let li : i < length xs = omega (arith, slice_get_within (map f xs) i y e, length-map xs f) in
     let lj : j < length xs = omega (arith, slice_get_within (map f xs) j y g, length-map xs f) in

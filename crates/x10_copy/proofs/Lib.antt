@@ -13,3 +13,5 @@ pub mod Sounding
 pub mod Reaching
 pub mod Copying
 pub mod OfKinds
+pub mod Taking
+pub mod Receiving
