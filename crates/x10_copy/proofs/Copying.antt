@@ -117,13 +117,13 @@ distinct_map f xs one d i j y e g =
 
 -- ---- the copy
 
-node_there : (x : Context) (n : Names) (k : ℕ) → k < length n.objects
+pub node_there : (x : Context) (n : Names) (k : ℕ) → k < length n.objects
     → slice_get (nodes_of x.classes x.heap n n.objects) k ≡ Some (node_of x.classes n (object_at x.heap (get_or n.objects k 0)))
 node_there x n k lt =
     let f : ℕ → Node = λ p. node_of x.classes n (object_at x.heap p) in
     slice_get-map f n.objects k ∙ ap (λ (o : Option ℕ). option_map f o) (slice_get-get_or n.objects k 0 lt)
 
-mapped : (texts : List (List ℕ)) (ns : List Node) (k : ℕ) (node : copies.Node) (m : Node) → slice_get (map (marshalling.node_of texts) ns) k ≡ Some node
+pub mapped : (texts : List (List ℕ)) (ns : List Node) (k : ℕ) (node : copies.Node) (m : Node) → slice_get (map (marshalling.node_of texts) ns) k ≡ Some node
     → slice_get ns k ≡ Some m → node ≡ marshalling.node_of texts m
 mapped texts ns k node m e f =
     let g : slice_get (map (marshalling.node_of texts) ns) k ≡ Some (marshalling.node_of texts m) = slice_get-map (marshalling.node_of texts) ns k ∙ ap
@@ -171,16 +171,4 @@ is_copy x cells n kinds words values most holds stand once there fits =
           let is : rail_at x.heap p ≡ bytes = sym (get_or-map (rail_at x.heap) n.rails i 0 [] lt) ∙ get_or_from_slice_get g.rails i bytes [] e in
           ap cells (get_or-map as_rail n.rails i 0 0 lt) ∙ holds.rails p ∙ ap rail_cell (slice_get-get_or x.heap.rails p [] (there.rails i lt).below) ∙ ap
           (λ (b : List ℕ). Some (Bytes b)) is;
-    }
-
-pub copied : (classes : List (List Kind)) (places : ℕ) (heap : HeapState) (kinds : List Kind) (words : List ℕ) (head : Head) (bytes : List ℕ)
-    → IsCaptured classes places heap kinds words head bytes → IsCopied classes places heap kinds words head bytes
-copied classes places heap kinds words head bytes h x cells values ec ep eh holds stand =
-    let k : IsCaptured x.classes x.places x.heap kinds words head bytes = rw (ec, ep, eh) h in
-    record {
-      graph = graph_of x.classes x.heap k.names kinds words;
-      fits = k.fits;
-      spelled = k.spelled;
-      of_kinds = k.of_kinds;
-      captures = (names_of k.names, is_copy x cells k.names kinds words values (most_roots head) holds stand k.once k.there k.fits);
     }

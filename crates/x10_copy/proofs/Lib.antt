@@ -12,6 +12,7 @@ pub mod Telling
 pub mod Sounding
 pub mod Reaching
 pub mod Copying
+pub mod Naming
 pub mod OfKinds
 pub mod Taking
 pub mod Receiving
