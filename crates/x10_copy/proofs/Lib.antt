@@ -16,3 +16,4 @@ pub mod Naming
 pub mod OfKinds
 pub mod Taking
 pub mod Receiving
+pub mod Lawful

@@ -36,11 +36,25 @@ value_named x (Ref home id class) at far = elim (cases_eq home x.here) [
   | inr n ↦ rw (ne_eqb home x.here n) (far n)
 ]
 
+anywhere : (x : Context) → ((home id class : ℕ) → IsTrue (x.far home id class)) → (v : Value)
+    → OfReference (λ home id class. (home ≡ x.here → ⊥) → IsTrue (x.far home id class)) v
+anywhere x any (Int z) = tt
+anywhere x any (Place p) = tt
+anywhere x any (Text t) = tt
+anywhere x any (Rail r) = tt
+anywhere x any (Object r) = tt
+anywhere x any Null = tt
+anywhere x any (Ref home id class) = λ n. any home id class
+
 all_named : (x : Context) (s : Snapshot) → NamesExports x.here (map export_as x.heap.exports) s → AreNamedElsewhere x s → AreNamed x s
 all_named x s at far = record {
   roots = λ v is. value_named x v (at.roots v is) (far.roots v is);
   fields = λ k node v e is. value_named x v (at.fields k node v e is) (far.fields k node v e is);
 }
+
+-- where any reference is taken as one
+pub named_anywhere : (x : Context) (s : Snapshot) → ((home id class : ℕ) → IsTrue (x.far home id class)) → AreNamedElsewhere x s
+named_anywhere x s any = record { roots = λ v is. anywhere x any v; fields = λ k node v e is. anywhere x any v }
 
 of_classes : (m : Module) (x : Context) (slots : List Slot) (s : Snapshot) → x.classes ≡ m.classes → FitKinds m slots s
     → FitTheirKinds x.classes (kinds_of slots) s

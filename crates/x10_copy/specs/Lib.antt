@@ -8,3 +8,4 @@ pub mod Arrived
 pub mod Taken
 pub mod Fitting
 pub mod Soundness
+pub mod Laws
