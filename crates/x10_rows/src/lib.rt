@@ -18,6 +18,8 @@ mod images;
 #[cfg(test)]
 mod kinds;
 #[cfg(test)]
+mod large_copies;
+#[cfg(test)]
 mod listing;
 #[cfg(test)]
 mod places;
