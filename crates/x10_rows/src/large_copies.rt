@@ -26,7 +26,7 @@ const EACH: u32 = 15;
 
 /// The word of the object after this one in a list of so many.
 fn next(number: u32, count: u32) -> u64 {
-    if number + 1 < count {
+    if number.saturating_add(1) < count {
         u64::from(number) + 2
     } else {
         0
