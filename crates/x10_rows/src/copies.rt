@@ -268,9 +268,9 @@ fn refused(alloc: Global, rt: &impl Abort, image: &ImageView, slots: &[Slot], gr
     answer.err()
 }
 
-/// Each fault by itself: kinds of the roots, fields of an object, a home, what a global reference names.
+/// Kinds of the roots, and fields of an object.
 #[test]
-fn each_fault_is_named(rt: HostRuntime) -> Result<(), Fail> {
+fn kinds_are_asked_for(rt: HostRuntime) -> Result<(), Fail> {
     let bytes = assemble(rt.alloc(), MIXED)?;
     let image = ImageView::read(rt.alloc(), &bytes)?;
     let int = slot(Kind::Int);
@@ -288,6 +288,14 @@ fn each_fault_is_named(rt: HostRuntime) -> Result<(), Fail> {
     assert_eq!(rt; refused(rt.alloc(), &rt, &image, &[slot(Kind::Obj(9))], &no_class), Some(Refusal::Kind));
     let swapped = [0, 1, 0, 0, 0, 0, 0, 1, 5, 0, 0, 0, 3, 2, 2, 0, 1, 7, 0, 0, 0, 0, 0, 0, 0, 2u8];
     assert_eq!(rt; refused(rt.alloc(), &rt, &image, &[slot(Kind::Obj(3))], &swapped), Some(Refusal::Kind));
+    Ok(())
+}
+
+/// Homes, and what a global reference names.
+#[test]
+fn references_are_asked_for(rt: HostRuntime) -> Result<(), Fail> {
+    let bytes = assemble(rt.alloc(), MIXED)?;
+    let image = ImageView::read(rt.alloc(), &bytes)?;
     let away = [0, 1, 0, 0, 0, 0, 0, 0, 7, 0, 0, 0, 0, 0, 5, 0, 2u8];
     assert_eq!(rt; refused(rt.alloc(), &rt, &image, &[slot(Kind::GRef(2))], &away), None);
     assert_eq!(rt; refused(rt.alloc(), &rt, &image, &[here(2)], &away), Some(Refusal::Home));
@@ -318,33 +326,53 @@ fn the_first_fault_is_named(rt: HostRuntime) -> Result<(), Fail> {
     Ok(())
 }
 
+/// The frame of `mixed`; where a growth was refused it is tried again, with the same marks.
+fn captured(
+    alloc: Global,
+    rt: &impl Abort,
+    marks: &mut Marks,
+    heap: &Heap,
+    image: &ImageView,
+) -> Option<Vec<u8>> {
+    let slots = mixed_slots();
+    match frame_with(alloc, rt, marks, heap, image, &slots, &WORDS) {
+        Ok(frame) => Some(frame),
+        Err(why) => {
+            assert!(rt; matches!(why, Stop::Memory));
+            frame_with(alloc, rt, marks, heap, image, &slots, &WORDS).ok()
+        }
+    }
+}
+
+/// Whether that frame arrives; where a growth was refused nothing has changed, and it is tried again.
+fn taken_in(alloc: Global, rt: &impl Abort, heap: &mut Heap, image: &ImageView) -> bool {
+    let slots = mixed_slots();
+    match arrival(alloc, heap, image, &SHARED, &slots) {
+        Ok(_) => true,
+        Err(why) => {
+            assert!(rt; matches!(why, Refusal::Memory));
+            assert!(rt; counts(heap) == (1, 1, 1));
+            arrival(alloc, heap, image, &SHARED, &slots).is_ok()
+        }
+    }
+}
+
 /// Every answer is right, or it is that a growth was refused and all is as before: to be run with each allocation failing
-/// in turn. What is tried again succeeds, with the same marks.
+/// in turn.
 #[test]
-fn memory_refused(rt: HostRuntime) -> Result<(), Fail> {
+fn memory_refused(rt: HostRuntime) {
     let Ok(bytes) = assemble(rt.alloc(), MIXED) else {
-        return Ok(());
+        return;
     };
     let Ok(image) = ImageView::read(rt.alloc(), &bytes) else {
-        return Ok(());
+        return;
     };
     let (Ok(heap), Ok(mut other)) = (mixed(rt.alloc()), host(rt.alloc(), &rt)) else {
-        return Ok(());
+        return;
     };
-    let slots = mixed_slots();
     let mut marks = Marks::new(rt.alloc());
-    let frame = frame_with(rt.alloc(), &rt, &mut marks, &heap, &image, &slots, &WORDS);
-    assert!(rt; frame.is_ok() || matches!(frame, Err(Stop::Memory)));
-    let again = frame_with(rt.alloc(), &rt, &mut marks, &heap, &image, &slots, &WORDS);
-    assert!(rt; frame.is_ok() || again.is_ok());
-    let frame = if frame.is_ok() { frame? } else { again? };
-    assert!(rt; frame.as_slice() == &SHARED[..]);
-    let roots = arrival(rt.alloc(), &mut other, &image, &frame, &slots);
-    assert!(rt; roots.is_ok() || matches!(roots, Err(Refusal::Memory)));
-    if roots.is_err() {
-        assert_eq!(rt; counts(&other), (1, 1, 1));
-        arrival(rt.alloc(), &mut other, &image, &frame, &slots)?;
-    }
-    assert_eq!(rt; counts(&other), (6, 2, 3));
-    Ok(())
+    let frame = captured(rt.alloc(), &rt, &mut marks, &heap, &image);
+    assert!(rt; frame.is_some_and(|bytes| bytes.as_slice() == &SHARED[..]));
+    assert!(rt; taken_in(rt.alloc(), &rt, &mut other, &image));
+    assert!(rt; counts(&other) == (6, 2, 3));
 }
