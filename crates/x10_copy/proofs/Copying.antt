@@ -16,9 +16,6 @@ use Rattle.x10_model.specs.Marshalling.{text_or_empty, value_of, snapshot_of}
 use Rattle.x10_model.specs.Frames.{Node, Tables, tables_of, none, uses, turn, used_after, FitsItem, FitsItems, FitsGraph}
 use Rattle.x10_copy.specs.Names.{Names, number, item_of, items_of, IsFound, AreFound}
 use Rattle.x10_copy.specs.Graphs.{kinds_at, no_object, object_at, text_at, rail_at, node_of, nodes_of, graph_of, AreOnce, AreThere}
-use Rattle.x10_frame.specs.declared.head.Head.{Head}
-use Rattle.x10_frame.specs.Heads.{most_roots}
-use Rattle.x10_copy.specs.Captured.{IsCaptured, IsCopied}
 use Rattle.x10_copy.proofs.Position.{number_there}
 use Rattle.x10_copy.proofs.Reaching.{fields_fit, whole}
 

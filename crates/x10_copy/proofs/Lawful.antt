@@ -3,14 +3,13 @@ use Rattle.std.proofs.Common.{◌≡◌, ◌↔◌, ◌⊎◌, ℕ, ◌^◌, ◌
 use Rattle.std.specs.Prelude.{IsTrue}
 use Rattle.std.specs.List.{AllByRecursion}
 use Rattle.x10_kinds.specs.declared.kind.Kind.{Kind}
-use Rattle.x10_heap.specs.declared.export.Export.{Export}
 use Rattle.x10_heap.specs.Heaps.{HeapState}
 use Rattle.x10_heap.specs.Words.{Context, export_as, is_named}
 use Rattle.x10_model.specs.declared.slot.Slot.{Slot}
 use Rattle.x10_model.specs.Modules.{NamesClassBelow, FitsClass, FitsSlot}
 use Rattle.x10_model.specs.Values.{Value, Int, Place, Text, Rail, Object, Null, Ref}
 use Rattle.x10_model.specs.Signatures.{HasHome, FitSlots, AreOfKinds}
-use Rattle.x10_model.specs.Copies.{Names, named, Snapshot, IsOfKindIn}
+use Rattle.x10_model.specs.Copies.{Names, named, IsOfKindIn}
 use Rattle.x10_model.specs.Deliveries.{IsExported, FitsPlace}
 use Rattle.x10_model.specs.Marshalling.{snapshot_of}
 use Rattle.x10_model.specs.Places as places

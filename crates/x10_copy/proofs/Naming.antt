@@ -1,5 +1,5 @@
 -- What was captured is a snapshot by the machine's definitions, and each global reference in it names an object.
-use Rattle.std.proofs.Common.{◌≡◌, ℕ, zero, suc, ◌*◌, ◌<◌, List, [], ◌∷◌, length, get_or, map, Option, Some, slice_get, ap, subst, ◌∙◌, inl, inr, arith}
+use Rattle.std.proofs.Common.{◌≡◌, ℕ, zero, suc, ◌*◌, ◌<◌, List, [], ◌∷◌, length, get_or, map, Option, Some, slice_get, subst, arith}
 use Rattle.std.specs.Prelude.{IsTrue}
 use Rattle.std.proofs.lemmas.List.{length-map}
 use Rattle.std.proofs.lemmas.Option.{slice_get-get_or, slice_get_within, get_or_from_slice_get}
@@ -7,7 +7,6 @@ use Rattle.x10_kinds.specs.declared.kind.Kind.{Kind}
 use Rattle.x10_kinds.specs.declared.kind.Kind.TheVariants as kind
 use Rattle.x10_heap.specs.Heaps.{HeapState, ObjectState}
 use Rattle.x10_heap.specs.Words.{Context, is_named, IsWordOf, AreWordsOf, HoldsObject, HoldsHeap}
-use Rattle.x10_model.specs.Maps.{IsIn}
 use Rattle.x10_model.specs.Values.{Value, Cells}
 use Rattle.x10_model.specs.Copies as copies
 use Rattle.x10_model.specs.Marshalling as marshalling
@@ -16,7 +15,7 @@ use Rattle.x10_model.specs.Frames.{Graph}
 use Rattle.x10_frame.specs.declared.head.Head.{Head}
 use Rattle.x10_frame.specs.Heads.{most_roots}
 use Rattle.x10_copy.specs.Names.{Names, item_of, items_of}
-use Rattle.x10_copy.specs.Graphs.{kinds_at, no_object, object_at, text_at, node_of, graph_of, AreThere}
+use Rattle.x10_copy.specs.Graphs.{kinds_at, no_object, object_at, node_of, graph_of, AreThere}
 use Rattle.x10_copy.specs.References.{OfReference, AreNamed}
 use Rattle.x10_copy.specs.Captured.{IsCaptured, IsCopied}
 use Rattle.x10_copy.proofs.Copying.{names_of, node_there, mapped, is_copy}

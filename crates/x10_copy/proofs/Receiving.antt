@@ -1,8 +1,7 @@
 -- What arrived is what the machine takes in, whatever is known of other places.
-use Rattle.std.proofs.Common.{◌≡◌, ℕ, ◌≤◌, ◌^◌, List, map, Some, slice_get, subst, eq-eqb, inl, inr, arith}
+use Rattle.std.proofs.Common.{◌≡◌, ℕ, List, map, subst, eq-eqb, inl, inr, arith}
 use Rattle.std.specs.Prelude.{IsTrue}
 use Rattle.std.proofs.lemmas.Bool.{cases_eq, ne_eqb}
-use Rattle.x10_heap.specs.declared.export.Export.{Export}
 use Rattle.x10_heap.specs.Heaps.{HeapState, IsWithinLimits}
 use Rattle.x10_heap.specs.Words.{Context, export_as, is_named}
 use Rattle.x10_model.specs.declared.slot.Slot.{Slot}
@@ -16,7 +15,7 @@ use Rattle.x10_frame.specs.Heads.{graph_of}
 use Rattle.x10_frame.proofs.Shows.{graph_fits}
 use Rattle.x10_copy.specs.Captured.{kinds_of, FitTheirKinds}
 use Rattle.x10_copy.specs.References.{OfReference, AreNamed, AreNamedElsewhere}
-use Rattle.x10_copy.specs.Arrived.{FitKinds, FitsArrival, IsArrived}
+use Rattle.x10_copy.specs.Arrived.{FitKinds, IsArrived}
 use Rattle.x10_copy.specs.Taken.{IsTakenIn}
 use Rattle.x10_copy.proofs.Telling.{named_tells}
 use Rattle.x10_copy.proofs.Taking.{takes_in}

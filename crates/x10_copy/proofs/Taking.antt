@@ -1,5 +1,5 @@
 -- What arrives is taken in by the machine's definitions.
-use Rattle.std.proofs.Common.{◌≡◌, ℕ, zero, suc, ◌+◌, ◌-◌, ◌*◌, ◌/◌, ◌%◌, ◌^◌, ◌<◌, ◌≤◌, ◌==◌, Bool, true, false, List, [], ◌∷◌, ◌++◌, length, get_or, map, Option, Some, None, slice_get, refl, sym, ap, subst, ◌∙◌, inl, inr, arith, lt-ltb, le-ltb}
+use Rattle.std.proofs.Common.{◌≡◌, ℕ, zero, suc, ◌+◌, ◌-◌, ◌*◌, ◌/◌, ◌%◌, ◌^◌, ◌<◌, ◌≤◌, ◌==◌, Bool, List, [], ◌∷◌, ◌++◌, length, get_or, map, Option, Some, None, slice_get, refl, sym, ap, subst, ◌∙◌, inl, inr, arith, lt-ltb, le-ltb}
 use Rattle.std.specs.Prelude.{IsTrue, nat_lt, option_map, if◌then◌else◌}
 use Rattle.std.specs.Int.{w64}
 use Rattle.std.proofs.Math.Path.{ap₂}
@@ -11,9 +11,8 @@ use Rattle.x10_kinds.specs.declared.kind.Kind.{Kind}
 use Rattle.x10_kinds.specs.declared.kind.Kind.TheVariants as kind
 use Rattle.x10_heap.specs.Heaps.{HeapState, ObjectState}
 use Rattle.x10_heap.specs.Words.{Context, is_named, IsObjectWord, IsWordOf, AreWordsOf, IsObjectCell, HoldsObject, rail_cell, HoldsHeap}
-use Rattle.x10_model.specs.Maps.{IsIn}
 use Rattle.x10_model.specs.Signatures.{AreOfKinds}
-use Rattle.x10_model.specs.Values.{Value, Int, Place, Text, Rail, Object, Null, Ref, Cell, Fields, Bytes, Cells}
+use Rattle.x10_model.specs.Values.{Value, Int, Text, Rail, Object, Ref, Cell, Fields, Cells}
 use Rattle.x10_model.specs.Copies as copies
 use Rattle.x10_model.specs.Copies.{Snapshot, named, IsNodeOf, IsOfKindIn, AreNamesOf, IsCopy, IsName, Arrives}
 use Rattle.x10_model.specs.Marshalling as marshalling
@@ -301,41 +300,41 @@ module _ (x : Context) (g : Graph) where
       other_object m apart = elim (cases_lt m base) [
         | inl lt ↦ old_object m lt
         | inr le ↦ (
-          let k = m - base in
-          let is : base + k ≡ m = omega (arith, le) in
-          let past : length g.nodes ≤ k = elim (cases_lt k (length g.nodes)) [
-            | inl lt ↦ absurd (apart (subst (λ (r : ℕ). IsName n (2 * r)) is (object_name k lt)))
-            | inr ge ↦ ge
-          ] in
-          ap (λ (r : ℕ). after (2 * r)) (sym is) ∙ new_object k
-          ∙ ap object_cell (slice_get_past s.nodes k (omega (arith, past, length-map g.nodes (marshalling.node_of g.texts)))) ∙ sym (no_object m le)
-        )
+            let k = m - base in
+            let is : base + k ≡ m = omega (arith, le) in
+            let past : length g.nodes ≤ k = elim (cases_lt k (length g.nodes)) [
+              | inl lt ↦ absurd (apart (subst (λ (r : ℕ). IsName n (2 * r)) is (object_name k lt)))
+              | inr ge ↦ ge
+            ] in
+            ap (λ (r : ℕ). after (2 * r)) (sym is) ∙ new_object k
+            ∙ ap object_cell (slice_get_past s.nodes k (omega (arith, past, length-map g.nodes (marshalling.node_of g.texts)))) ∙ sym (no_object m le)
+            )
       ]
 
       other_rail : (m : ℕ) → (IsName n (2 * m + 1) → ⊥) → after (2 * m + 1) ≡ old (2 * m + 1)
       other_rail m apart = elim (cases_lt m rails_base) [
         | inl lt ↦ old_rail m lt
         | inr le ↦ (
-          let i = m - rails_base in
-          let is : rails_base + i ≡ m = omega (arith, le) in
-          let past : length g.rails ≤ i = elim (cases_lt i (length g.rails)) [
-            | inl lt ↦ absurd (apart (subst (λ (r : ℕ). IsName n (2 * r + 1)) is (rail_name i lt)))
-            | inr ge ↦ ge
-          ] in
-          ap (λ (r : ℕ). after (2 * r + 1)) (sym is) ∙ new_rail i ∙ ap rail_cell (slice_get_past g.rails i past) ∙ sym (no_rail m le)
-        )
+            let i = m - rails_base in
+            let is : rails_base + i ≡ m = omega (arith, le) in
+            let past : length g.rails ≤ i = elim (cases_lt i (length g.rails)) [
+              | inl lt ↦ absurd (apart (subst (λ (r : ℕ). IsName n (2 * r + 1)) is (rail_name i lt)))
+              | inr ge ↦ ge
+            ] in
+            ap (λ (r : ℕ). after (2 * r + 1)) (sym is) ∙ new_rail i ∙ ap rail_cell (slice_get_past g.rails i past) ∙ sym (no_rail m le)
+            )
       ]
 
       others : (reference : ℕ) → (IsName n reference → ⊥) → after reference ≡ old reference
       others reference apart = elim (cases_eq (reference % 2) 0) [
         | inl e ↦ (
-          let is : reference ≡ 2 * (reference / 2) = omega (arith, e) in
-          ap after is ∙ other_object (reference / 2) (subst (λ (r : ℕ). IsName n r → ⊥) is apart) ∙ ap old (sym is)
-        )
+            let is : reference ≡ 2 * (reference / 2) = omega (arith, e) in
+            ap after is ∙ other_object (reference / 2) (subst (λ (r : ℕ). IsName n r → ⊥) is apart) ∙ ap old (sym is)
+            )
         | inr e ↦ (
-          let is : reference ≡ 2 * (reference / 2) + 1 = omega (arith, e) in
-          ap after is ∙ other_rail (reference / 2) (subst (λ (r : ℕ). IsName n r → ⊥) is apart) ∙ ap old (sym is)
-        )
+            let is : reference ≡ 2 * (reference / 2) + 1 = omega (arith, e) in
+            ap after is ∙ other_rail (reference / 2) (subst (λ (r : ℕ). IsName n r → ⊥) is apart) ∙ ap old (sym is)
+            )
       ]
 
       -- ---- the heap
@@ -380,22 +379,22 @@ module _ (x : Context) (g : Graph) where
         holds_all m = elim (cases_lt m base) [
           | inl lt ↦ holds_old m lt
           | inr le ↦ (
-            let is : base + (m - base) ≡ m = omega (arith, le) in
-            subst Holds is (holds_new (m - base) (slice_get g.nodes (m - base)) refl)
-          )
+              let is : base + (m - base) ≡ m = omega (arith, le) in
+              subst Holds is (holds_new (m - base) (slice_get g.nodes (m - base)) refl)
+              )
         ]
 
         rails_all : (m : ℕ) → after (2 * m + 1) ≡ rail_cell (slice_get new.rails m)
         rails_all m = elim (cases_lt m rails_base) [
           | inl lt ↦ (
-            let at = get_below x.heap.rails m lt in
-            old_rail m lt ∙ holds.rails m ∙ ap rail_cell (at.1 ∙ sym (front x.heap.rails g.rails m at.0 at.1))
-          )
+              let at = get_below x.heap.rails m lt in
+              old_rail m lt ∙ holds.rails m ∙ ap rail_cell (at.1 ∙ sym (front x.heap.rails g.rails m at.0 at.1))
+              )
           | inr le ↦ (
-            let is : rails_base + (m - rails_base) ≡ m = omega (arith, le) in
-            subst (λ (r : ℕ). after (2 * r + 1) ≡ rail_cell (slice_get new.rails r)) is
-            (new_rail (m - rails_base) ∙ ap rail_cell (sym (back x.heap.rails g.rails (m - rails_base))))
-          )
+              let is : rails_base + (m - rails_base) ≡ m = omega (arith, le) in
+              subst (λ (r : ℕ). after (2 * r + 1) ≡ rail_cell (slice_get new.rails r)) is
+              (new_rail (m - rails_base) ∙ ap rail_cell (sym (back x.heap.rails g.rails (m - rails_base))))
+              )
         ]
 
         copy : IsCopy after (map (named n) s.roots) s n

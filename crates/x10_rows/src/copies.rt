@@ -45,20 +45,17 @@ const WORDS: [u64; 16] = [2, 0, 1, 2, 1, 1, u64::MAX, 1, 0, 1, 6, 5, 2, 0, 0, 0]
 
 /// Their frame: the objects 1, 5, 4, 2 and 3 of `mixed` in this order, its texts 1 and 2, and its rail 1.
 const SHARED: [u8; 317] = [
-    1, 1, 0, 0, 0, 1, 0, 0, 0, 0, 0, 1, 0, 0, 0, 16, 0, 2, 0, 1, 0, 5, 5, 0,
-    0, 6, 3, 0, 0, 3, 0, 1, 3, 0, 0, 4, 0, 0, 1, 255, 255, 255, 255, 255, 255, 255, 255, 2,
-    0, 1, 7, 0, 0, 0, 0, 0, 0, 0, 2, 7, 0, 1, 0, 0, 0, 0, 0, 2, 5, 0, 1, 5,
-    0, 2, 5, 0, 0, 1, 0, 0, 0, 0, 0, 0, 0, 0, 2, 0, 0, 6, 0, 0, 0, 4, 115, 97,
-    109, 101, 0, 0, 0, 4, 115, 97, 109, 101, 0, 0, 0, 2, 0, 0, 0, 0, 4, 5, 0, 3, 5, 0,
-    4, 3, 0, 0, 4, 0, 0, 0, 1, 16, 1, 0, 0, 0, 0, 0, 0, 0, 0, 1, 0, 0, 0, 0,
-    0, 0, 0, 1, 1, 0, 0, 0, 0, 0, 0, 0, 2, 1, 0, 0, 0, 0, 0, 0, 0, 3, 1, 0,
-    0, 0, 0, 0, 0, 0, 4, 1, 0, 0, 0, 0, 0, 0, 0, 5, 1, 0, 0, 0, 0, 0, 0, 0,
-    6, 1, 0, 0, 0, 0, 0, 0, 0, 7, 1, 0, 0, 0, 0, 0, 0, 0, 8, 1, 0, 0, 0, 0,
-    0, 0, 0, 9, 1, 0, 0, 0, 0, 0, 0, 0, 10, 1, 0, 0, 0, 0, 0, 0, 0, 11, 1, 0,
-    0, 0, 0, 0, 0, 0, 12, 1, 0, 0, 0, 0, 0, 0, 0, 13, 1, 0, 0, 0, 0, 0, 0, 0,
-    14, 1, 255, 255, 255, 255, 255, 255, 255, 255, 0, 0, 4, 5, 0, 0, 5, 0, 2, 3, 0, 1, 4, 0,
-    0, 0, 0, 4, 6, 5, 0, 2, 3, 0, 0, 4, 0, 0, 0, 0, 4, 5, 0, 2, 5, 0, 4, 3,
-    0, 1, 4, 0, 0,
+    1, 1, 0, 0, 0, 1, 0, 0, 0, 0, 0, 1, 0, 0, 0, 16, 0, 2, 0, 1, 0, 5, 5, 0, 0, 6, 3, 0, 0, 3, 0,
+    1, 3, 0, 0, 4, 0, 0, 1, 255, 255, 255, 255, 255, 255, 255, 255, 2, 0, 1, 7, 0, 0, 0, 0, 0, 0,
+    0, 2, 7, 0, 1, 0, 0, 0, 0, 0, 2, 5, 0, 1, 5, 0, 2, 5, 0, 0, 1, 0, 0, 0, 0, 0, 0, 0, 0, 2, 0, 0,
+    6, 0, 0, 0, 4, 115, 97, 109, 101, 0, 0, 0, 4, 115, 97, 109, 101, 0, 0, 0, 2, 0, 0, 0, 0, 4, 5,
+    0, 3, 5, 0, 4, 3, 0, 0, 4, 0, 0, 0, 1, 16, 1, 0, 0, 0, 0, 0, 0, 0, 0, 1, 0, 0, 0, 0, 0, 0, 0,
+    1, 1, 0, 0, 0, 0, 0, 0, 0, 2, 1, 0, 0, 0, 0, 0, 0, 0, 3, 1, 0, 0, 0, 0, 0, 0, 0, 4, 1, 0, 0, 0,
+    0, 0, 0, 0, 5, 1, 0, 0, 0, 0, 0, 0, 0, 6, 1, 0, 0, 0, 0, 0, 0, 0, 7, 1, 0, 0, 0, 0, 0, 0, 0, 8,
+    1, 0, 0, 0, 0, 0, 0, 0, 9, 1, 0, 0, 0, 0, 0, 0, 0, 10, 1, 0, 0, 0, 0, 0, 0, 0, 11, 1, 0, 0, 0,
+    0, 0, 0, 0, 12, 1, 0, 0, 0, 0, 0, 0, 0, 13, 1, 0, 0, 0, 0, 0, 0, 0, 14, 1, 255, 255, 255, 255,
+    255, 255, 255, 255, 0, 0, 4, 5, 0, 0, 5, 0, 2, 3, 0, 1, 4, 0, 0, 0, 0, 4, 6, 5, 0, 2, 3, 0, 0,
+    4, 0, 0, 0, 0, 4, 5, 0, 2, 5, 0, 4, 3, 0, 1, 4, 0, 0,
 ];
 
 /// What stands before the graph in a frame for place 1.
@@ -214,7 +211,10 @@ fn mixed(alloc: Global) -> Result<Heap, Stop> {
     heap.new_object(0, &[0, 5, 1, 1])?;
     heap.new_object(0, &[5, 4, 2, 1])?;
     heap.new_object(0, &[2, 5, 2, 1])?;
-    heap.new_object(1, &[0, 1, 2, 3, 4, 5, 6, 7, 8, 9, 10, 11, 12, 13, 14, u64::MAX])?;
+    heap.new_object(
+        1,
+        &[0, 1, 2, 3, 4, 5, 6, 7, 8, 9, 10, 11, 12, 13, 14, u64::MAX],
+    )?;
     heap.new_object(2, &[])?;
     Ok(heap)
 }
@@ -255,7 +255,13 @@ fn shared_parts_go_once(rt: HostRuntime) -> Result<(), Fail> {
 }
 
 /// Why a graph doesn't arrive at `host`, if it doesn't; then that is as it was.
-fn refused(alloc: Global, rt: &impl Abort, image: &ImageView, slots: &[Slot], graph: &[u8]) -> Option<Refusal> {
+fn refused(
+    alloc: Global,
+    rt: &impl Abort,
+    image: &ImageView,
+    slots: &[Slot],
+    graph: &[u8],
+) -> Option<Refusal> {
     let Ok(mut heap) = host(alloc, rt) else {
         return Some(Refusal::Memory);
     };
@@ -276,18 +282,44 @@ fn kinds_are_asked_for(rt: HostRuntime) -> Result<(), Fail> {
     let int = slot(Kind::Int);
     let number = [0, 1, 0, 0, 0, 0, 0, 0, 1, 0, 0, 0, 0, 0, 0, 0, 5u8];
     assert_eq!(rt; refused(rt.alloc(), &rt, &image, &[int], &number), None);
-    assert_eq!(rt; refused(rt.alloc(), &rt, &image, &[], &number), Some(Refusal::Kind));
-    assert_eq!(rt; refused(rt.alloc(), &rt, &image, &[int, int], &number), Some(Refusal::Kind));
-    assert_eq!(rt; refused(rt.alloc(), &rt, &image, &[slot(Kind::Text)], &number), Some(Refusal::Kind));
+    assert_eq!(rt;
+        refused(rt.alloc(), &rt, &image, &[], &number),
+        Some(Refusal::Kind)
+    );
+    assert_eq!(rt;
+        refused(rt.alloc(), &rt, &image, &[int, int], &number),
+        Some(Refusal::Kind)
+    );
+    assert_eq!(rt;
+        refused(rt.alloc(), &rt, &image, &[slot(Kind::Text)], &number),
+        Some(Refusal::Kind)
+    );
     let null = [0, 1, 0, 0, 0, 0, 0, 0, 6u8];
-    assert_eq!(rt; refused(rt.alloc(), &rt, &image, &[slot(Kind::Opt(0))], &null), None);
-    assert_eq!(rt; refused(rt.alloc(), &rt, &image, &[slot(Kind::Obj(0))], &null), Some(Refusal::Kind));
+    assert_eq!(rt;
+        refused(rt.alloc(), &rt, &image, &[slot(Kind::Opt(0))], &null),
+        None
+    );
+    assert_eq!(rt;
+        refused(rt.alloc(), &rt, &image, &[slot(Kind::Obj(0))], &null),
+        Some(Refusal::Kind)
+    );
     let longer = [0, 1, 0, 0, 0, 0, 0, 1, 5, 0, 0, 0, 2, 1, 6u8];
-    assert_eq!(rt; refused(rt.alloc(), &rt, &image, &[slot(Kind::Obj(2))], &longer), Some(Refusal::Kind));
+    assert_eq!(rt;
+        refused(rt.alloc(), &rt, &image, &[slot(Kind::Obj(2))], &longer),
+        Some(Refusal::Kind)
+    );
     let no_class = [0, 1, 0, 0, 0, 0, 0, 1, 5, 0, 0, 0, 9, 0u8];
-    assert_eq!(rt; refused(rt.alloc(), &rt, &image, &[slot(Kind::Obj(9))], &no_class), Some(Refusal::Kind));
-    let swapped = [0, 1, 0, 0, 0, 0, 0, 1, 5, 0, 0, 0, 3, 2, 2, 0, 1, 7, 0, 0, 0, 0, 0, 0, 0, 2u8];
-    assert_eq!(rt; refused(rt.alloc(), &rt, &image, &[slot(Kind::Obj(3))], &swapped), Some(Refusal::Kind));
+    assert_eq!(rt;
+        refused(rt.alloc(), &rt, &image, &[slot(Kind::Obj(9))], &no_class),
+        Some(Refusal::Kind)
+    );
+    let swapped = [
+        0, 1, 0, 0, 0, 0, 0, 1, 5, 0, 0, 0, 3, 2, 2, 0, 1, 7, 0, 0, 0, 0, 0, 0, 0, 2u8,
+    ];
+    assert_eq!(rt;
+        refused(rt.alloc(), &rt, &image, &[slot(Kind::Obj(3))], &swapped),
+        Some(Refusal::Kind)
+    );
     Ok(())
 }
 
@@ -297,16 +329,33 @@ fn references_are_asked_for(rt: HostRuntime) -> Result<(), Fail> {
     let bytes = assemble(rt.alloc(), MIXED)?;
     let image = ImageView::read(rt.alloc(), &bytes)?;
     let away = [0, 1, 0, 0, 0, 0, 0, 0, 7, 0, 0, 0, 0, 0, 5, 0, 2u8];
-    assert_eq!(rt; refused(rt.alloc(), &rt, &image, &[slot(Kind::GRef(2))], &away), None);
-    assert_eq!(rt; refused(rt.alloc(), &rt, &image, &[here(2)], &away), Some(Refusal::Home));
+    assert_eq!(rt;
+        refused(rt.alloc(), &rt, &image, &[slot(Kind::GRef(2))], &away),
+        None
+    );
+    assert_eq!(rt;
+        refused(rt.alloc(), &rt, &image, &[here(2)], &away),
+        Some(Refusal::Home)
+    );
     let named = [0, 1, 0, 0, 0, 0, 0, 0, 7, 0, 1, 0, 0, 0, 0, 0, 2u8];
     assert_eq!(rt; refused(rt.alloc(), &rt, &image, &[here(2)], &named), None);
     let nothing = [0, 1, 0, 0, 0, 0, 0, 0, 7, 0, 1, 0, 0, 0, 1, 0, 2u8];
-    assert_eq!(rt; refused(rt.alloc(), &rt, &image, &[here(2)], &nothing), Some(Refusal::Ref));
+    assert_eq!(rt;
+        refused(rt.alloc(), &rt, &image, &[here(2)], &nothing),
+        Some(Refusal::Ref)
+    );
     let of_another = [0, 1, 0, 0, 0, 0, 0, 0, 7, 0, 1, 0, 0, 0, 0, 0, 0u8];
-    assert_eq!(rt; refused(rt.alloc(), &rt, &image, &[here(0)], &of_another), Some(Refusal::Ref));
-    let field = [0, 1, 0, 0, 0, 0, 0, 1, 5, 0, 0, 0, 3, 2, 7, 0, 1, 0, 0, 0, 9, 0, 2, 2, 0, 0u8];
-    assert_eq!(rt; refused(rt.alloc(), &rt, &image, &[slot(Kind::Obj(3))], &field), Some(Refusal::Ref));
+    assert_eq!(rt;
+        refused(rt.alloc(), &rt, &image, &[here(0)], &of_another),
+        Some(Refusal::Ref)
+    );
+    let field = [
+        0, 1, 0, 0, 0, 0, 0, 1, 5, 0, 0, 0, 3, 2, 7, 0, 1, 0, 0, 0, 9, 0, 2, 2, 0, 0u8,
+    ];
+    assert_eq!(rt;
+        refused(rt.alloc(), &rt, &image, &[slot(Kind::Obj(3))], &field),
+        Some(Refusal::Ref)
+    );
     Ok(())
 }
 
@@ -316,13 +365,32 @@ fn the_first_fault_is_named(rt: HostRuntime) -> Result<(), Fail> {
     let bytes = assemble(rt.alloc(), MIXED)?;
     let image = ImageView::read(rt.alloc(), &bytes)?;
     let any = slot(Kind::GRef(2));
-    let both = [0, 2, 0, 0, 0, 0, 0, 0, 7, 0, 0, 0, 0, 0, 5, 0, 2, 7, 0, 1, 0, 0, 0, 1, 0, 2u8];
-    assert_eq!(rt; refused(rt.alloc(), &rt, &image, &[here(2), any], &both), Some(Refusal::Home));
-    assert_eq!(rt; refused(rt.alloc(), &rt, &image, &[any, any], &both), Some(Refusal::Ref));
-    assert_eq!(rt; refused(rt.alloc(), &rt, &image, &[here(2), here(0)], &both), Some(Refusal::Kind));
-    let turned = [0, 2, 0, 0, 0, 0, 0, 0, 7, 0, 1, 0, 0, 0, 1, 0, 2, 7, 0, 0, 0, 0, 0, 5, 0, 2u8];
-    assert_eq!(rt; refused(rt.alloc(), &rt, &image, &[any, here(2)], &turned), Some(Refusal::Home));
-    assert_eq!(rt; refused(rt.alloc(), &rt, &image, &[here(0), here(2)], &turned), Some(Refusal::Kind));
+    let both = [
+        0, 2, 0, 0, 0, 0, 0, 0, 7, 0, 0, 0, 0, 0, 5, 0, 2, 7, 0, 1, 0, 0, 0, 1, 0, 2u8,
+    ];
+    assert_eq!(rt;
+        refused(rt.alloc(), &rt, &image, &[here(2), any], &both),
+        Some(Refusal::Home)
+    );
+    assert_eq!(rt;
+        refused(rt.alloc(), &rt, &image, &[any, any], &both),
+        Some(Refusal::Ref)
+    );
+    assert_eq!(rt;
+        refused(rt.alloc(), &rt, &image, &[here(2), here(0)], &both),
+        Some(Refusal::Kind)
+    );
+    let turned = [
+        0, 2, 0, 0, 0, 0, 0, 0, 7, 0, 1, 0, 0, 0, 1, 0, 2, 7, 0, 0, 0, 0, 0, 5, 0, 2u8,
+    ];
+    assert_eq!(rt;
+        refused(rt.alloc(), &rt, &image, &[any, here(2)], &turned),
+        Some(Refusal::Home)
+    );
+    assert_eq!(rt;
+        refused(rt.alloc(), &rt, &image, &[here(0), here(2)], &turned),
+        Some(Refusal::Kind)
+    );
     Ok(())
 }
 

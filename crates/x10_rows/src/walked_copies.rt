@@ -76,7 +76,10 @@ fn word(dice: &mut Dice, counts: &Counts, kind: Kind) -> u64 {
             }
             object_word(dice, counts, class)
         }
-        Kind::GRef(_) => dice.below(3).wrapping_mul(65_536).wrapping_add(dice.below(2)),
+        Kind::GRef(_) => dice
+            .below(3)
+            .wrapping_mul(65_536)
+            .wrapping_add(dice.below(2)),
     }
 }
 
@@ -101,7 +104,13 @@ fn add_bytes(heap: &mut Heap, dice: &mut Dice, counts: &Counts) -> Option<()> {
 }
 
 /// An object of a class with random fields.
-fn add_object(heap: &mut Heap, dice: &mut Dice, counts: &Counts, class: &ClassView, number: u16) -> Option<()> {
+fn add_object(
+    heap: &mut Heap,
+    dice: &mut Dice,
+    counts: &Counts,
+    class: &ClassView,
+    number: u16,
+) -> Option<()> {
     let mut words = [0u64; 16];
     let len = class.len().min(16);
     for j in 0..len {
@@ -117,7 +126,13 @@ fn random_heap(alloc: Global, dice: &mut Dice, image: &ImageView, counts: &Count
     for _ in 0..counts.fours {
         for class in 0..4 {
             if usize::from(class) < image.classes() {
-                add_object(&mut heap, dice, counts, &image.class(usize::from(class)), class)?;
+                add_object(
+                    &mut heap,
+                    dice,
+                    counts,
+                    &image.class(usize::from(class)),
+                    class,
+                )?;
             }
         }
     }
@@ -221,8 +236,10 @@ impl Walk {
     fn same(&mut self, from: &Heap, to: &Heap, kind: Kind, here: u64, there: u64) -> bool {
         match kind {
             Kind::Int | Kind::Place | Kind::GRef(_) => here == there,
-            Kind::Text => self.texts.meet(here, there).is_some() && same_text(from, to, here, there),
-            Kind::Rail => self.rails.meet(here, there).is_some() && same_rail(from, to, here, there),
+            Kind::Text => self.texts.meet(here, there).is_some()
+                && same_text(from, to, here, there),
+            Kind::Rail => self.rails.meet(here, there).is_some()
+                && same_rail(from, to, here, there),
             Kind::Obj(_) => self.objects_meet(here, there),
             Kind::Opt(_) => here == 0 && there == 0 || self.objects_meet(here, there),
         }
@@ -323,7 +340,13 @@ fn is_copy(
 }
 
 /// Whether what a random heap sends arrives as a copy.
-fn arrives(alloc: Global, rt: &impl Abort, image: &ImageView, marks: &mut Marks, seed: u64) -> Option<bool> {
+fn arrives(
+    alloc: Global,
+    rt: &impl Abort,
+    image: &ImageView,
+    marks: &mut Marks,
+    seed: u64,
+) -> Option<bool> {
     let mut dice = Dice::new(seed);
     let counts = Counts {
         texts: dice.below(4).wrapping_add(1),
