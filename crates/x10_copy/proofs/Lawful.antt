@@ -1,8 +1,10 @@
 -- Captures and arrivals keep their laws.
-use Rattle.std.proofs.Common.{◌≡◌, ◌↔◌, ◌⊎◌, ℕ, ◌^◌, ◌<◌, Bool, true, false, List, [], ◌∷◌, length, map, refl, subst, inl, inr}
-use Rattle.std.specs.Prelude.{IsTrue}
+use Rattle.std.proofs.Common.{◌≡◌, ◌↔◌, ◌⊎◌, ℕ, ◌^◌, ◌<◌, Bool, true, false, List, [], ◌∷◌, length, map, Option, Some, None, slice_get, refl, sym, ap, subst, ◌∙◌, inl, inr}
+use Rattle.std.specs.Prelude.{IsTrue, option_map}
 use Rattle.std.specs.List.{AllByRecursion}
+use Rattle.std.proofs.lemmas.Option.{slice_get-map}
 use Rattle.x10_kinds.specs.declared.kind.Kind.{Kind}
+use Rattle.x10_heap.specs.declared.export.Export.{Export}
 use Rattle.x10_heap.specs.Heaps.{HeapState}
 use Rattle.x10_heap.specs.Words.{Context, export_as, is_named}
 use Rattle.x10_model.specs.declared.slot.Slot.{Slot}
@@ -19,7 +21,7 @@ use Rattle.x10_copy.specs.declared.refusal.Refusal.TheVariants as refusal
 use Rattle.x10_copy.specs.Captured.{kinds_of}
 use Rattle.x10_copy.specs.References.{OfReference}
 use Rattle.x10_copy.specs.Arrived.{HaveHomes, FitKinds}
-use Rattle.x10_copy.specs.Laws.{StandingIsSound, KnowsExports, CapturesFit, FittingIsTaken, ArrivalsFit, FaultsAreMisfits}
+use Rattle.x10_copy.specs.Laws.{StandingIsSound, KnowsExports, CapturesFit, FittingIsTaken, ArrivalsFit, FaultsAreMisfits, FittingStays}
 use Rattle.x10_copy.specs.Fitting.{all_fit}
 use Rattle.x10_copy.proofs.Telling.{named_tells, roots_tell}
 use Rattle.x10_copy.proofs.Standing.{words_sound, heap_sound}
@@ -126,3 +128,36 @@ faults_are_misfits setting place here home heap slots g refusal.Home e h =
     inr (λ fits. h.1 ((slots_told (IsOfKindIn (snapshot_of g)) home (snapshot_of g).roots slots).0 fits).1)
 faults_are_misfits setting place here home heap slots g refusal.Ref e h = inl (λ fits. h.2 (rw (← e) fits.exports))
 faults_are_misfits setting place here home heap slots g _ e h = absurd h
+
+-- ---- what fits goes on to fit
+
+export_stays : (old new : List Export) (id : ℕ) (r : places.Export) (o : Option Export) → slice_get old id ≡ o
+    → ((id : ℕ) (export : Export) → slice_get old id ≡ Some export → slice_get new id ≡ Some export)
+    → slice_get (map export_as old) id ≡ Some r → slice_get (map export_as new) id ≡ Some r
+export_stays old new id r None e keeps h =
+    let f : slice_get (map export_as old) id ≡ None = slice_get-map export_as old id ∙ ap (λ (o : Option Export). option_map export_as o) e in
+    absurd cc
+export_stays old new id r (Some x) e keeps h =
+    let f : slice_get (map export_as old) id ≡ Some (export_as x) = slice_get-map export_as old id ∙ ap (λ (o : Option Export). option_map export_as o) e in
+    slice_get-map export_as new id ∙ ap (λ (o : Option Export). option_map export_as o) (keeps id x e) ∙ sym f ∙ h
+
+still_exported : (here : ℕ) (old new : List Export) (v : Value)
+    → ((id : ℕ) (export : Export) → slice_get old id ≡ Some export → slice_get new id ≡ Some export)
+    → IsExported here (map export_as old) v → IsExported here (map export_as new) v
+still_exported here old new (Int z) keeps h = tt
+still_exported here old new (Place p) keeps h = tt
+still_exported here old new (Text t) keeps h = tt
+still_exported here old new (Rail r) keeps h = tt
+still_exported here old new (Object r) keeps h = tt
+still_exported here old new Null keeps h = tt
+still_exported here old new (Ref home id class) keeps h = λ e. let is = h e in (is.0, export_stays old new id _ (slice_get old id) refl keeps is.1)
+
+pub fitting_stays : FittingStays
+fitting_stays m here home old new slots s keeps h = record {
+  kinds = h.kinds;
+  homes = h.homes;
+  exports = record {
+    roots = λ v is. still_exported here old.exports new.exports v keeps (h.exports.roots v is);
+    fields = λ k node v there is. still_exported here old.exports new.exports v keeps (h.exports.fields k node v there is);
+  };
+}

@@ -1,6 +1,7 @@
 -- Laws of captures and arrivals.
-use Rattle.std.specs.Prelude.{◌≡◌, ◌↔◌, ◌⊎◌, ℕ, IsTrue, List, length, map, slice_get}
+use Rattle.std.specs.Prelude.{◌≡◌, ◌↔◌, ◌⊎◌, ℕ, IsTrue, List, length, map, Some, slice_get}
 use Rattle.std.specs.List.{AllByRecursion}
+use Rattle.x10_heap.specs.declared.export.Export.{Export}
 use Rattle.x10_heap.specs.Heaps.{HeapState}
 use Rattle.x10_heap.specs.Words.{Context, export_as, has_class, is_named, AreWordsOf, HoldsHeap}
 use Rattle.x10_model.specs.declared.slot.Slot.{Slot}
@@ -65,3 +66,10 @@ FaultsAreMisfits =
     (setting : Setting) (place : places.Place) (here home : ℕ) (heap : HeapState) (slots : List Slot) (g : Graph) (why : Refusal)
     → place.exports ≡ map export_as heap.exports → IsMisfit setting.program here home heap slots g why
     → (FitsPlace setting here place (snapshot_of g) → ⊥) ⊎ (FitSlots (IsOfKindIn (snapshot_of g)) home (snapshot_of g).roots slots → ⊥)
+
+-- what fits a place fits it as long as what it exports stays
+abbrev pub FittingStays : Type 0
+FittingStays =
+    (m : Module) (here home : ℕ) (old new : HeapState) (slots : List Slot) (s : Snapshot)
+    → ((id : ℕ) (export : Export) → slice_get old.exports id ≡ Some export → slice_get new.exports id ≡ Some export)
+    → FitsArrival m here home old slots s → FitsArrival m here home new slots s
