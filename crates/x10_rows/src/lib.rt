@@ -32,6 +32,8 @@ mod verifying;
 #[cfg(test)]
 mod walk;
 #[cfg(test)]
+mod walked_copies;
+#[cfg(test)]
 mod worlds;
 #[cfg(test)]
 mod writers;
