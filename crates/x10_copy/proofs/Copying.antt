@@ -16,16 +16,13 @@ use Rattle.x10_model.specs.Marshalling.{text_or_empty, value_of, snapshot_of}
 use Rattle.x10_model.specs.Frames.{Node, Tables, tables_of, none, uses, turn, used_after, FitsItem, FitsItems, FitsGraph}
 use Rattle.x10_copy.specs.Names.{Names, number, item_of, items_of, IsFound, AreFound}
 use Rattle.x10_copy.specs.Graphs.{kinds_at, no_object, object_at, text_at, rail_at, node_of, nodes_of, graph_of, AreOnce, AreThere}
-use Rattle.x10_frame.specs.declared.head.Head.{Head}
-use Rattle.x10_frame.specs.Heads.{most_roots}
-use Rattle.x10_copy.specs.Captured.{IsCaptured, IsCopied}
 use Rattle.x10_copy.proofs.Position.{number_there}
 use Rattle.x10_copy.proofs.Reaching.{fields_fit, whole}
 
-abbrev as_object : ℕ → ℕ
+abbrev pub as_object : ℕ → ℕ
 as_object p = 2 * p
 
-abbrev as_rail : ℕ → ℕ
+abbrev pub as_rail : ℕ → ℕ
 as_rail p = 2 * p + 1
 
 -- the references of the parts
@@ -106,7 +103,7 @@ module _ (x : Context) (n : Names) where
       let found : AreFound n h.kinds object.fields = rw e at f in
       rw e (h.cell_is ∙ ap (λ (vs : List Value). Some (Fields object.class vs)) (values_are h.kinds object.fields h.values found h.words))
 
-distinct_map : (f : ℕ → ℕ) (xs : List ℕ) → ((a b : ℕ) → f a ≡ f b → a ≡ b) → AreDistinct xs → AreDistinct (map f xs)
+pub distinct_map : (f : ℕ → ℕ) (xs : List ℕ) → ((a b : ℕ) → f a ≡ f b → a ≡ b) → AreDistinct xs → AreDistinct (map f xs)
 distinct_map f xs one d i j y e g =
     let li : i < length xs = omega (arith, slice_get_within (map f xs) i y e, length-map xs f) in
     let lj : j < length xs = omega (arith, slice_get_within (map f xs) j y g, length-map xs f) in
@@ -117,13 +114,13 @@ distinct_map f xs one d i j y e g =
 
 -- ---- the copy
 
-node_there : (x : Context) (n : Names) (k : ℕ) → k < length n.objects
+pub node_there : (x : Context) (n : Names) (k : ℕ) → k < length n.objects
     → slice_get (nodes_of x.classes x.heap n n.objects) k ≡ Some (node_of x.classes n (object_at x.heap (get_or n.objects k 0)))
 node_there x n k lt =
     let f : ℕ → Node = λ p. node_of x.classes n (object_at x.heap p) in
     slice_get-map f n.objects k ∙ ap (λ (o : Option ℕ). option_map f o) (slice_get-get_or n.objects k 0 lt)
 
-mapped : (texts : List (List ℕ)) (ns : List Node) (k : ℕ) (node : copies.Node) (m : Node) → slice_get (map (marshalling.node_of texts) ns) k ≡ Some node
+pub mapped : (texts : List (List ℕ)) (ns : List Node) (k : ℕ) (node : copies.Node) (m : Node) → slice_get (map (marshalling.node_of texts) ns) k ≡ Some node
     → slice_get ns k ≡ Some m → node ≡ marshalling.node_of texts m
 mapped texts ns k node m e f =
     let g : slice_get (map (marshalling.node_of texts) ns) k ≡ Some (marshalling.node_of texts m) = slice_get-map (marshalling.node_of texts) ns k ∙ ap
@@ -171,16 +168,4 @@ is_copy x cells n kinds words values most holds stand once there fits =
           let is : rail_at x.heap p ≡ bytes = sym (get_or-map (rail_at x.heap) n.rails i 0 [] lt) ∙ get_or_from_slice_get g.rails i bytes [] e in
           ap cells (get_or-map as_rail n.rails i 0 0 lt) ∙ holds.rails p ∙ ap rail_cell (slice_get-get_or x.heap.rails p [] (there.rails i lt).below) ∙ ap
           (λ (b : List ℕ). Some (Bytes b)) is;
-    }
-
-pub copied : (classes : List (List Kind)) (places : ℕ) (heap : HeapState) (kinds : List Kind) (words : List ℕ) (head : Head) (bytes : List ℕ)
-    → IsCaptured classes places heap kinds words head bytes → IsCopied classes places heap kinds words head bytes
-copied classes places heap kinds words head bytes h x cells values ec ep eh holds stand =
-    let k : IsCaptured x.classes x.places x.heap kinds words head bytes = rw (ec, ep, eh) h in
-    record {
-      graph = graph_of x.classes x.heap k.names kinds words;
-      fits = k.fits;
-      spelled = k.spelled;
-      of_kinds = k.of_kinds;
-      captures = (names_of k.names, is_copy x cells k.names kinds words values (most_roots head) holds stand k.once k.there k.fits);
     }

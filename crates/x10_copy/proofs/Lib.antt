@@ -12,4 +12,8 @@ pub mod Telling
 pub mod Sounding
 pub mod Reaching
 pub mod Copying
+pub mod Naming
 pub mod OfKinds
+pub mod Taking
+pub mod Receiving
+pub mod Lawful

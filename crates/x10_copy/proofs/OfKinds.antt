@@ -1,5 +1,5 @@
 -- What was captured is of the kinds that were asked for.
-use Rattle.std.proofs.Common.{◌≡◌, ◌⊎◌, ℕ, zero, suc, ◌+◌, ◌-◌, ◌<◌, ◌≤◌, List, [], ◌∷◌, length, get_or, take, map, Option, Some, slice_get, refl, sym, ap, subst, ◌∙◌, inl, inr, arith}
+use Rattle.std.proofs.Common.{◌≡◌, ℕ, zero, suc, ◌+◌, ◌-◌, ◌<◌, List, [], ◌∷◌, length, get_or, take, map, Option, Some, slice_get, refl, sym, ap, ◌∙◌, inl, inr, arith}
 use Rattle.std.specs.Prelude.{option_map}
 use Rattle.std.proofs.lemmas.List.{length-map, take_all}
 use Rattle.std.proofs.lemmas.Option.{slice_get-get_or, slice_get_within, slice_get-map, get_or_from_slice_get}
@@ -13,7 +13,7 @@ use Rattle.x10_model.specs.Marshalling as marshalling
 use Rattle.x10_model.specs.Marshalling.{value_of, snapshot_of}
 use Rattle.x10_model.specs.Frames.{Node, Graph}
 use Rattle.x10_copy.specs.Names.{Names, number, items_of, item_of, IsFound, AreFound, IsObject, IsSound, AreSound}
-use Rattle.x10_copy.specs.Graphs.{kinds_at, object_at, node_of, rail_at, nodes_of, graph_of, AreThere, IsSoundAt}
+use Rattle.x10_copy.specs.Graphs.{kinds_at, object_at, node_of, rail_at, graph_of, IsSoundAt}
 use Rattle.x10_copy.specs.Captured.{FitTheirKinds}
 use Rattle.x10_copy.specs.Walks.{Walked}
 use Rattle.x10_copy.proofs.Position.{number_there}

@@ -10,7 +10,6 @@ use Rattle.x10_model.specs.Modules.{NamesClassBelow, FitsClass}
 use Rattle.x10_model.specs.Values.{Value, Cells}
 use Rattle.x10_copy.specs.Names.{IsObject, IsSound, AreSound}
 use Rattle.x10_copy.specs.Graphs.{kinds_at, no_object, object_at, IsSoundAt}
-use Rattle.x10_copy.specs.Captured.{CanCapture}
 
 record IsSmall (heap : HeapState) : Type 0 where
   objects : length heap.objects ≤ 2 ^ 32
@@ -90,17 +89,3 @@ heap_sound x cells few fits h p lt =
     let cell = subst (λ (o : _). HoldsObject x o (cells (2 * p))) (slice_get-get_or x.heap.objects p no_object lt) (h.objects p) in
     let s = cell_sound x (object_at x.heap p) _ few fits (small x cells h) cell in
     record { class = s.0; small = omega (arith, s.0, few); count = s.1; words = s.2 }
-
--- ---- by what a capture asks
-
-pub captured_words : (classes : List (List Kind)) (places : ℕ) (heap : HeapState) (kinds : List Kind) (words : List ℕ)
-    → CanCapture classes places heap kinds words → length classes < 2 ^ 16 → AllByRecursion (NamesClassBelow (length classes)) kinds
-    → AreSound places heap kinds words
-captured_words classes places heap kinds words s few c =
-    rw (← s.places_are, ← s.heap_is) (words_sound s.context s.cells kinds words s.values (rw s.classes_are few) (rw s.classes_are c) s.holds s.words_are)
-
-pub captured_heap : (classes : List (List Kind)) (places : ℕ) (heap : HeapState) (kinds : List Kind) (words : List ℕ)
-    → CanCapture classes places heap kinds words → length classes < 2 ^ 16 → AllByRecursion (FitsClass (length classes)) classes
-    → (p : ℕ) → p < length heap.objects → IsSoundAt classes places heap p
-captured_heap classes places heap kinds words s few f =
-    rw (← s.places_are, ← s.heap_is, ← s.classes_are) (heap_sound s.context s.cells (rw s.classes_are few) (rw s.classes_are f) s.holds)

@@ -172,7 +172,7 @@ Named exports id class = (object : ℕ) × (slice_get (map export_as exports) id
 class_is : (e : places.Export) (f : places.Export) → Some e ≡ Some f → e.class ≡ f.class
 class_is e f is = let same : e ≡ f = cc in ap (λ (x : places.Export). x.class) same
 
-named_tells : (exports : List Export) (id class : ℕ) → IsTrue (has_class (slice_get exports id) class) ↔ Named exports id class
+pub named_tells : (exports : List Export) (id class : ℕ) → IsTrue (has_class (slice_get exports id) class) ↔ Named exports id class
 named_tells [] id class = (λ h. absurd cc, λ h. absurd (let e = h.1 in cc))
 named_tells (x ∷ xs) zero class = (
   λ h. (2 * x.object, ap (λ (c : ℕ). Some (record { class = c; object = 2 * x.object })) (eqb-true x.class class h)),

@@ -17,20 +17,10 @@ use Rattle.x10_frame.specs.declared.head.Head.{Head}
 use Rattle.x10_frame.specs.Heads.{with_graph, most_roots}
 use Rattle.x10_copy.specs.Names.{Names}
 use Rattle.x10_copy.specs.Graphs.{graph_of, AreOnce, AreThere}
+use Rattle.x10_copy.specs.References.{AreNamed}
 
 abbrev pub kinds_of : List Slot → List Kind
 kinds_of slots = map (λ s. s.kind) slots
-
--- Words that a capture may begin with: they stand for values of their kinds, in a heap that stands for cells.
-pub record CanCapture (classes : List (List Kind)) (places : ℕ) (heap : HeapState) (kinds : List Kind) (words : List ℕ) : Type 0 where
-  pub context : Context
-  pub classes_are : context.classes ≡ classes
-  pub places_are : context.places ≡ places
-  pub heap_is : context.heap ≡ heap
-  pub cells : Cells
-  pub holds : HoldsHeap context cells
-  pub values : List Value
-  pub words_are : AreWordsOf context kinds words values
 
 -- the roots of a snapshot are of these kinds, and each of its nodes has the fields of its class
 pub record FitTheirKinds (classes : List (List Kind)) (kinds : List Kind) (s : Snapshot) : Type 0 where
@@ -49,13 +39,14 @@ pub record IsCaptured (classes : List (List Kind)) (places : ℕ) (heap : HeapSt
   pub of_kinds : FitTheirKinds classes kinds (snapshot_of (graph_of classes heap names kinds words))
 
 -- The same by the machine's definitions, where cells stand for the heap and values for the words: the frame's graph is a
--- snapshot of the values, with sharing and cycles kept.
+-- snapshot of the values, with sharing and cycles kept, and each global reference in it names an object.
 pub record IsSnapshot (x : Context) (cells : Cells) (kinds : List Kind) (values : List Value) (head : Head) (bytes : List ℕ) : Type 0 where
   pub graph : Graph
   pub fits : FitsGraph x.places (most_roots head) graph
   pub spelled : bytes ≡ spelling (with_graph head graph)
   pub of_kinds : FitTheirKinds x.classes kinds (snapshot_of graph)
   pub captures : Captures cells values (snapshot_of graph)
+  pub named : AreNamed x (snapshot_of graph)
 
 -- whatever the heap and the words stand for
 abbrev pub IsCopied : (classes : List (List Kind)) (places : ℕ) (heap : HeapState) (kinds : List Kind) (words : List ℕ) → Head → List ℕ → Type 0

@@ -1,8 +1,11 @@
 pub mod Numbered
 pub mod Names
 pub mod Graphs
+pub mod References
 pub mod Captured
 pub mod Walks
 pub mod Arrived
+pub mod Taken
 pub mod Fitting
 pub mod Soundness
+pub mod Laws

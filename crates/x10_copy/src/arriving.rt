@@ -6,6 +6,7 @@ ghost use Rattle.x10_model.specs.Marshalling.{snapshot_of};
 ghost use Rattle.x10_model.specs.Deliveries.{NamesExports};
 ghost use Rattle.x10_heap.specs.Words.{export_as};
 ghost use Rattle.x10_copy.specs.Arrived.{arrived, FitKinds, FitsArrival, IsRefusal, IsMisfit, IsArrived, IsLonger, StopsAll, same_stop};
+ghost use Rattle.x10_copy.specs.Taken.{IsTakenIn};
 
 use crate::adding::{Bases, Roots, add_objects, add_rails, add_texts, root_words};
 use crate::fitting::{have_homes, nodes_exported, nodes_fit, roots_exported, roots_fit};
@@ -101,6 +102,7 @@ pub fn arrive(
     slots: &[Slot],
 ) -> Result<Roots, Refusal>
     ensures ok { IfOk result (λ roots. IsArrived image.now here home heap.old slots.now (graph_of view.now) roots.items heap.new) }
+    ensures taken { IfOk result (λ roots. IsTakenIn image.now here heap.old slots.now view.now roots.items heap.new) }
     ensures err { IfErr result (λ why. (heap.new ≡ heap.old) × IsRefusal image.now here home heap.old slots.now (graph_of view.now) why) }
 {
     check(view, heap, image, here, home, slots)?;
@@ -112,7 +114,10 @@ pub fn arrive(
     };
     let words = root_words(alloc, view, &bases)?;
     match add_all(heap, view, &bases) {
-        Ok(()) => Ok(words),
+        Ok(()) => {
+            heap.fits();
+            Ok(words)
+        }
         Err(why) => {
             heap.truncate(objects, rails, texts);
             Err(refusal_of(why))

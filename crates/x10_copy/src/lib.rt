@@ -5,6 +5,7 @@ mod adding;
 mod arriving;
 mod capturing;
 mod fitting;
+pub mod laws;
 mod mark;
 mod marks;
 mod note;

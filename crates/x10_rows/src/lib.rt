@@ -18,6 +18,8 @@ mod images;
 #[cfg(test)]
 mod kinds;
 #[cfg(test)]
+mod large_copies;
+#[cfg(test)]
 mod listing;
 #[cfg(test)]
 mod places;
@@ -29,6 +31,8 @@ mod usage;
 mod verifying;
 #[cfg(test)]
 mod walk;
+#[cfg(test)]
+mod walked_copies;
 #[cfg(test)]
 mod worlds;
 #[cfg(test)]

@@ -2,7 +2,7 @@ use Rattle.std.proofs.Common.{get_or, arith}
 use Rattle.x10_copy.specs.Captured.{kinds_of}
 use Rattle.x10_copy.proofs.Walking.{words_of, wordy}
 use Rattle.x10_copy.proofs.Finished.{captured_is}
-use Rattle.x10_copy.proofs.Copying.{copied}
+use Rattle.x10_copy.proofs.Naming.{copied}
 use Rattle.x10_copy.proofs.capturing.capture.Goals as goal
 
 pub written-requires-clause-words : goal.written-requires-clause-words
