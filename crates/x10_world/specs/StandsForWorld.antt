@@ -112,9 +112,10 @@ pub record IsHaltedRun (x : WorldState) (events : List Event) (y : WorldState) (
   pub is_next : slice_get events done ≡ Some event
   pub hindered : IsHinderedAt y event why
 
--- why a run ends before its events do: memory was refused, or there can be no more objects (1), texts (2) or rails (3)
+-- why a run ends before its events do: memory was refused, or there can be no more objects (1), texts (2), rails (3) or
+-- global references (4)
 abbrev pub IsHeapStop : Stop → Type 0
-IsHeapStop why = (why ≡ stop.Memory) ⊎ ((limit : ℕ) × (why ≡ stop.Limit limit) × (1 ≤ limit) × (limit ≤ 3))
+IsHeapStop why = (why ≡ stop.Memory) ⊎ ((limit : ℕ) × (why ≡ stop.Limit limit) × (1 ≤ limit) × (limit ≤ 4))
 
 -- so many moves of the activity with a key at a place, one after another
 pub data MovesOn (setting : Setting) (here key : ℕ) (u : World) : ℕ → World → Type 0 where

@@ -1,4 +1,4 @@
-ghost use Rattle.std.specs.Prelude.{IfOk};
+ghost use Rattle.std.specs.Prelude.{◌≤◌, IfOk};
 ghost use Rattle.x10_world.specs.Opening.{AreOpened};
 
 use std::alloc::{AllocError, Global};
@@ -11,6 +11,8 @@ pub(crate) fn places_of<'a>(
     verified: &'a Verified<'a>,
     count: u16,
 ) -> Result<Vec<Place<'a>>, AllocError>
+    requires enough { verified.now.program.least_places ≤ count }
+    requires few { count ≤ 64 }
     ensures { IfOk result (λ list. AreOpened verified.now count list.items) }
 {
     let mut list = Vec::with_capacity(alloc, usize::from(count))?;

@@ -137,7 +137,7 @@ impl<'a> World<'a> {
     }
 
     /// The events in their turn. A Stop comes only where a growth was refused, or where there can be no more of what a step
-    /// would make (Limit 1: objects, 2: texts, 3: rails). After it every later call answers Stopped, and the output is that
+    /// would make (Limit 1: objects, 2: texts, 3: rails, 4: global references). After it every later call answers Stopped, and the output is that
     /// of the events before the one that was refused.
     pub fn run(&mut self, events: &[Event]) -> Result<(), Stop>
         ensures all { IfOk result (λ _. (w : machine.World) → StandsForWorld self.old w → Runs self.old w (length events.now) events.now self.new) }
