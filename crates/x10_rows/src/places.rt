@@ -1,12 +1,13 @@
 //! A place by itself: its calls, and what they answer.
 use crate::seven::SEVEN;
+use std::alloc::Global;
 use std::test::*;
 use x10_asm::assemble;
 use x10_code::Op;
 use x10_image::ImageView;
 use x10_kinds::Stop;
 use x10_place::{Line, Place, Stepped};
-use x10_verify::verify;
+use x10_verify::{Verified, verify};
 
 /// A number and four times that, through three calls; the innermost has one register more than a frame holds in place.
 const DEEP: &str = "places 1
@@ -35,6 +36,19 @@ end
 entry 3
 ";
 
+/// A place of a run on so many places, where its module runs on so many.
+fn place_of<'a>(
+    alloc: Global,
+    verified: &'a Verified<'a>,
+    id: u16,
+    places: u16,
+) -> Option<Place<'a>> {
+    if id >= places || places > 64 || verified.image().least() > places {
+        return None;
+    }
+    Place::new(alloc, verified, id, places).ok()
+}
+
 /// Whether the activity with a key moves.
 fn moves(place: &mut Place, key: usize) -> bool {
     matches!(place.step(key), Ok(Stepped::Moved))
@@ -56,7 +70,7 @@ fn ran(place: &mut Place, key: usize, most: u64) -> Option<u64> {
 #[test]
 fn step_by_step(rt: HostRuntime) -> Result<(), Fail> {
     let verified = verify(rt.alloc(), ImageView::read(rt.alloc(), &SEVEN)?)?;
-    let mut place = Place::new(rt.alloc(), &verified, 0, 1)?;
+    let mut place = place_of(rt.alloc(), &verified, 0, 1).ok_or("place 0 is there")?;
     let key = place.next_key(0).ok_or("main is there")?;
     for op in [Op::Intk, Op::Print, Op::Ret] {
         assert!(rt; !place.closed());
@@ -74,7 +88,7 @@ fn step_by_step(rt: HostRuntime) -> Result<(), Fail> {
 #[test]
 fn at_a_stretch(rt: HostRuntime) -> Result<(), Fail> {
     let verified = verify(rt.alloc(), ImageView::read(rt.alloc(), &SEVEN)?)?;
-    let mut place = Place::new(rt.alloc(), &verified, 0, 1)?;
+    let mut place = place_of(rt.alloc(), &verified, 0, 1).ok_or("place 0 is there")?;
     let key = place.next_key(0).ok_or("main is there")?;
     assert_eq!(rt; ran(&mut place, 99, 5), Some(0));
     assert_eq!(rt; ran(&mut place, key, 2), Some(2));
@@ -89,7 +103,7 @@ fn at_a_stretch(rt: HostRuntime) -> Result<(), Fail> {
 #[test]
 fn another_place(rt: HostRuntime) -> Result<(), Fail> {
     let verified = verify(rt.alloc(), ImageView::read(rt.alloc(), &SEVEN)?)?;
-    let mut place = Place::new(rt.alloc(), &verified, 1, 2)?;
+    let mut place = place_of(rt.alloc(), &verified, 1, 2).ok_or("place 1 is there")?;
     assert!(rt; place.next_key(0).is_none());
     assert!(rt; idles(&mut place, 0));
     assert!(rt; !place.closed());
@@ -115,7 +129,7 @@ fn memory_refused(rt: HostRuntime) -> Result<(), Fail> {
     let Ok(verified) = verify(rt.alloc(), view) else {
         return Ok(());
     };
-    let Ok(mut place) = Place::new(rt.alloc(), &verified, 0, 1) else {
+    let Some(mut place) = place_of(rt.alloc(), &verified, 0, 1) else {
         return Ok(());
     };
     let key = place.next_key(0).ok_or("main is there")?;
