@@ -195,7 +195,7 @@ fn each_fault_is_met(rt: HostRuntime) {
     assert_eq!(rt; changed(&rt, 17, 1), Some(ImageFault::Entry));
     assert_eq!(rt; changed(&rt, 32, 1), Some(ImageFault::Entry));
     assert_eq!(rt; changed(&rt, 42, 1), Some(ImageFault::Code(0, 0)));
-    assert_eq!(rt; changed(&rt, 56, 0x10), Some(ImageFault::Code(0, 2)));
+    assert_eq!(rt; changed(&rt, 56, 0x2a), Some(ImageFault::Code(0, 2)));
     assert_eq!(rt; changed(&rt, 4, 9), Some(ImageFault::Version));
     assert_eq!(rt; changed(&rt, 3, 9), Some(ImageFault::Magic));
 }

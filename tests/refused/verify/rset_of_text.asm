@@ -1,0 +1,14 @@
+; RSET asks for a Rail, and a text is none: no text changes.
+;
+; $ x10p verify rset_of_text.x10
+; status 1: verify: Kind 0 0
+places 1
+int 7
+func 2 0 none text int
+RSET 0 1 1 1
+RET 0
+end
+func 1 0 none
+RET 0
+end
+entry 1
