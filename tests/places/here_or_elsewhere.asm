@@ -1,3 +1,18 @@
+; IFHERE goes on where its register is this place, and else goes to its label.
+;
+; $ x10p bounds here_or_elsewhere.x10
+; 0 7
+; 1 28
+; $ x10p run here_or_elsewhere.x10
+; 0: 1
+; 0: 2
+; 0: 1
+; takes 19 events
+; $ x10p run here_or_elsewhere.x10 --places 3
+; 0: 1
+; 0: 2
+; 0: 2
+; takes 19 events
 places 2
 int 1
 int 2

@@ -1,3 +1,11 @@
+; A parameter `here:0` is a global reference whose home is here. So it can be opened without a question.
+;
+; $ x10p bounds home_in_a_parameter.x10
+; 0 3
+; 1 9
+; $ x10p run home_in_a_parameter.x10
+; 0: 9
+; takes 9 events
 places 1
 class int
 int 9

@@ -1,3 +1,12 @@
+; A global reference and a place stand in fields. Nothing is known of the home of what comes out of a field, so
+; IFHERE asks.
+;
+; $ x10p bounds in_a_field.x10
+; 0 17
+; $ x10p run in_a_field.x10
+; 0: 7
+; 0: 0
+; takes 14 events
 places 1
 class gref:1 place
 class int

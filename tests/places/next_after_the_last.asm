@@ -1,3 +1,21 @@
+; After the last place comes the first.
+;
+; $ x10p bounds next_after_the_last.x10
+; 0 24
+; $ x10p run next_after_the_last.x10
+; 0: 0
+; 0: 1
+; 0: 0
+; 0: 1
+; 0: 0
+; takes 24 events
+; $ x10p run next_after_the_last.x10 --places 3
+; 0: 0
+; 0: 1
+; 0: 2
+; 0: 0
+; 0: 1
+; takes 24 events
 places 2
 func 4 1 none
   HERE 0

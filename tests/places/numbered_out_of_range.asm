@@ -1,3 +1,25 @@
+; PLACEN goes to its label where there is no place with the number: -1, the least number, 2^32, and as many as there
+; are. It finds place 0 and the last one.
+;
+; $ x10p bounds numbered_out_of_range.x10
+; 0 5
+; 1 50
+; $ x10p run numbered_out_of_range.x10
+; 0: 777
+; 0: 0
+; 0: 777
+; 0: 777
+; 0: 777
+; 0: 0
+; takes 38 events
+; $ x10p run numbered_out_of_range.x10 --places 3
+; 0: 777
+; 0: 0
+; 0: 777
+; 0: 777
+; 0: 777
+; 0: 2
+; takes 38 events
 places 1
 int -1
 int 0

@@ -1,3 +1,12 @@
+; Two global references name one object. What is written through one is read through the other, and their home is here.
+;
+; $ x10p bounds opened_at_home.x10
+; 0 17
+; $ x10p run opened_at_home.x10
+; 0: 40
+; 0: 42
+; 0: 0
+; takes 17 events
 places 1
 class int
 int 40

@@ -1,3 +1,20 @@
+; IFSAME compares two places, or the homes of global references with them, and goes to its label where they differ.
+;
+; $ x10p bounds same_place_or_not.x10
+; 0 7
+; 1 31
+; $ x10p run same_place_or_not.x10
+; 0: 2
+; 0: 1
+; 0: 5
+; 0: 2
+; takes 23 events
+; $ x10p run same_place_or_not.x10 --places 3
+; 0: 2
+; 0: 2
+; 0: 5
+; 0: 3
+; takes 23 events
 places 2
 class int
 int 1
