@@ -9,9 +9,9 @@ ghost use Rattle.x10_model.specs.ReadingImages.{is_within, is_entry};
 ghost use Rattle.x10_image.specs.Written as written;
 ghost use Rattle.x10_image.specs.Written.{function_shown, Passes, Hinders};
 
-use crate::supported::is_supported;
 use crate::fault::ImageFault;
 use crate::module::{Function, Module};
+use crate::supported::is_supported;
 use x10_code::{Instr, has_spelling};
 use x10_kinds::Kind;
 use x10_model::Slot;

@@ -4,12 +4,12 @@ ghost use Rattle.x10_model.specs.Readers.{int, times, numbered};
 ghost use Rattle.x10_model.specs.ReadingImages.{Short, kind_at, slot_at, class_at, text_at, instruction_at, function_at};
 ghost use Rattle.x10_image.specs.Faults.{Passes};
 
-use crate::supported::is_supported;
 use crate::fault::ImageFault;
 use crate::fields::{
     after_zero_byte, after_zero_u16, byte_at, byte_at_most, has, registers_at, u16_at, u16_within,
 };
 use crate::kinds::{kind_at, result_at, slot_at};
+use crate::supported::is_supported;
 use x10_code::decode_slice;
 use x10_model::limits::{MOST_FIELDS, MOST_INSTRUCTIONS, MOST_LOOPS, MOST_PARAMETERS};
 

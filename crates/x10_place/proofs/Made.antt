@@ -255,8 +255,11 @@ module _ (setting : Setting) (here : ℕ) (far : Far) (m : machine.Place) (key :
             field,
             of_kind x m.cells k word u held fits,
             slice_get_within o.values i.c old.1 old.3,
-            (ap (λ (cs : Cells). with_stay (record m { cells = cs }) key (Some (record s { top = next s.top })))
-                (ap (λ r. with_entry m.cells r (Some (Fields o.object.class values))) (sym o.reference_is) ∙ ap (λ c. with_entry m.cells o.reference (Some (Fields c values))) o.class_is), refl),
+            (
+              ap (λ (cs : Cells). with_stay (record m { cells = cs }) key (Some (record s { top = next s.top })))
+                  (ap (λ r. with_entry m.cells r (Some (Fields o.object.class values))) (sym o.reference_is) ∙ ap (λ c. with_entry m.cells o.reference (Some (Fields c values))) o.class_is),
+              refl,
+            ),
           );
           stands = goes_next setting here far m key s assigned new f (later new grows) i fetched g (moved new o.object same_object sets.becomes) (edge_next setting here far m key s assigned heap f h i fetched out h.state edges to);
           holds = holds_object x (y new) grows m.cells number changed kinds values held at known_as words refl (ap_few heap.objects number changed held.few_objects) held.few_texts;
@@ -288,20 +291,29 @@ module _ (setting : Setting) (here : ℕ) (far : Far) (m : machine.Place) (key :
         written op.Rail kind.Rail (Rail reference) (length heap.rails) new cells e (λ a. a) (grows_rail zeros)
         (holds_rail x (y new) (grows_rail zeros) m.cells (length heap.rails) zeros held (written_last heap.rails zeros) refl (one_more heap.rails zeros (2 ^ 32) makes.few) held.few_texts)
         refl (zeros, (written_last heap.rails zeros).at, refl)
-        (edge_first setting here far m key s assigned heap f h i fetched out (gives (point setting here far m key s assigned heap f h i fetched) h.state kind.Rail None) h.state edges to) makes.becomes
-        (int_at f.registers.items i.b, reads_int x h.state s.top.registers f.registers.items i.b h.words k,
-        subst (λ o. moves.MakesRail sit o (with_stay (record m { cells = cells }) key (Some (record s { top = writes s.top i.a (Rail reference) }))) Works) (sym some)
-        (reference, held.rails (length heap.rails) ∙ ap rail_cell (none_past heap.rails), (refl, refl)))
+        (edge_first setting here far m key s assigned heap f h i fetched out (gives (point setting here far m key s assigned heap f h i fetched) h.state kind.Rail None) h.state edges to) makes.becomes (
+          int_at f.registers.items i.b,
+          reads_int x h.state s.top.registers f.registers.items i.b h.words k,
+          subst (λ o. moves.MakesRail sit o (with_stay (record m { cells = cells }) key (Some (record s { top = writes s.top i.a (Rail reference) }))) Works) (sym some)
+              (reference, held.rails (length heap.rails) ∙ ap rail_cell (none_past heap.rails), (refl, refl)),
+        )
 
     -- a byte of the rail in register a is written
     byte_sets : (byte : Option ℕ) (bytes : List ℕ) → rail_in heap f.registers.items i.a ≡ Some bytes → byte_at bytes (int_at f.registers.items i.b) ≡ byte → Reads x s.top.registers f.registers.items i.a kind.Rail → IsKind h.state i.b kind.Int → IsKind h.state i.c kind.Int
         → SetsByte byte bytes (space_of f heap) i (space_of g kept) → out ≡ onward_or (point setting here far m key s assigned heap f h i fetched) h.state h.state → Result op.Rset g kept
     byte_sets None bytes rail none (v, v_is, (old, there_is, value_is)) kb kc sets to =
         let rail_is = some_is old bytes (sym there_is ∙ rail) in
-        jumps op.Rset h.state
-        (2 * word_at f.registers.items i.a + 1, bytes, int_at f.registers.items i.b, int_at f.registers.items i.c, v_is ∙ ap Some value_is, held.rails (word_at f.registers.items i.a) ∙ ap rail_cell rail,
-        reads_int x h.state s.top.registers f.registers.items i.b h.words kb, reads_int x h.state s.top.registers f.registers.items i.c h.words kc,
-        subst (λ o. moves.SetsByte sit (2 * word_at f.registers.items i.a + 1) bytes (int_at f.registers.items i.b) (int_at f.registers.items i.c) o (with_stay m key (Some (record s { top = goes s.top i.x }))) Works) (sym none) (refl, refl)) to sets
+        jumps op.Rset h.state (
+          2 * word_at f.registers.items i.a + 1,
+          bytes,
+          int_at f.registers.items i.b,
+          int_at f.registers.items i.c,
+          v_is ∙ ap Some value_is,
+          held.rails (word_at f.registers.items i.a) ∙ ap rail_cell rail,
+          reads_int x h.state s.top.registers f.registers.items i.b h.words kb,
+          reads_int x h.state s.top.registers f.registers.items i.c h.words kc,
+          subst (λ o. moves.SetsByte sit (2 * word_at f.registers.items i.a + 1) bytes (int_at f.registers.items i.b) (int_at f.registers.items i.c) o (with_stay m key (Some (record s { top = goes s.top i.x }))) Works) (sym none) (refl, refl),
+        ) to sets
     byte_sets (Some byte) bytes rail some (v, v_is, (old, there_is, value_is)) kb kc sets to =
         let number = word_at f.registers.items i.a in
         let z = int_at f.registers.items i.b in
@@ -324,9 +336,17 @@ module _ (setting : Setting) (here : ℕ) (far : Far) (m : machine.Place) (key :
           top = next s.top;
           cells = cells;
           exports = m.exports;
-          does = (2 * number + 1, bytes, z, w, v_is ∙ ap Some value_is, held.rails number ∙ ap rail_cell rail,
-            reads_int x h.state s.top.registers f.registers.items i.b h.words kb, reads_int x h.state s.top.registers f.registers.items i.c h.words kc,
-            subst (λ o. moves.SetsByte sit (2 * number + 1) bytes z w o (with_stay (record m { cells = cells }) key (Some (record s { top = next s.top }))) Works) (sym some) (refl, refl));
+          does = (
+            2 * number + 1,
+            bytes,
+            z,
+            w,
+            v_is ∙ ap Some value_is,
+            held.rails number ∙ ap rail_cell rail,
+            reads_int x h.state s.top.registers f.registers.items i.b h.words kb,
+            reads_int x h.state s.top.registers f.registers.items i.c h.words kc,
+            subst (λ o. moves.SetsByte sit (2 * number + 1) bytes z w o (with_stay (record m { cells = cells }) key (Some (record s { top = next s.top }))) Works) (sym some) (refl, refl),
+          );
           stands = goes_next setting here far m key s assigned new f (later new grows) i fetched g (after_of f g kept new (f.pc + 1) f.registers.items f.loops same sets) (edge_first setting here far m key s assigned heap f h i fetched out h.state h.state edges to);
           holds = holds_rail x (y new) grows m.cells number changed held at refl (few_rails heap.rails number changed held.few_rails) held.few_texts;
           grows = grows;

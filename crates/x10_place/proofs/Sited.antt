@@ -136,14 +136,14 @@ module _ (setting : Setting) (here : ℕ) (far : Far) (m : machine.Place) (key :
         unchanged op.Ifhere (next s.top) c.heap_is
         (v.0, home_of (word_at f.registers.items i.a), v.1, v.2, (ap (λ b. with_stay m key (Some (record s { top = next_or_goes sit b }))) (sym is), refl))
         (goes_joined setting here far m key s assigned heap f h i fetched g (term.Reg i.a) term.Here (register_small setting here far m key s assigned heap f h i fetched op.Ifhere e (λ a. a)) tt
-            (ap place_in v.1 ∙ v.2 ∙ ap Some (eqb-true (home_of (word_at f.registers.items i.a)) here is)) (went (f.pc + 1) f.registers.items f.loops c)
-            (edge_first setting here far m key s assigned heap f h i fetched out (record h.state { homes = joined h.state.homes (term.Reg i.a) term.Here }) h.state edges to))
+        (ap place_in v.1 ∙ v.2 ∙ ap Some (eqb-true (home_of (word_at f.registers.items i.a)) here is)) (went (f.pc + 1) f.registers.items f.loops c)
+        (edge_first setting here far m key s assigned heap f h i fetched out (record h.state { homes = joined h.state.homes (term.Reg i.a) term.Here }) h.state edges to))
     is_here false e is k c to =
         let v = placed_in setting here far m key s assigned heap f h i fetched spot i.a k in
         unchanged op.Ifhere (goes s.top i.x) c.heap_is
         (v.0, home_of (word_at f.registers.items i.a), v.1, v.2, (ap (λ b. with_stay m key (Some (record s { top = next_or_goes sit b }))) (sym is), refl))
         (goes_to setting here far m key s assigned heap f h i fetched g i.x h.state (went i.x f.registers.items f.loops c)
-            (edge_target setting here far m key s assigned heap f h i fetched out (record h.state { homes = joined h.state.homes (term.Reg i.a) term.Here }) h.state edges to) refl)
+        (edge_target setting here far m key s assigned heap f h i fetched out (record h.state { homes = joined h.state.homes (term.Reg i.a) term.Here }) h.state edges to) refl)
 
     pub site_moves : (k : Site) (o : Op) → i.op ≡ o → route_of o ≡ route.Site k → Permits o (point setting here far m key s assigned heap f h i fetched) h.state out → ActsAt k here setting.places (space_of f heap) i (space_of g kept) → Result o g kept
     site_moves site.Here op.Here e r permits p = unchanged op.Here (writes s.top i.a (Place here)) p.heap_is (refl, refl)

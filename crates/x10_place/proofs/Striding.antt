@@ -115,21 +115,29 @@ typed_at p key a s e =
 
 hindered_by : (r : Route) (p : PlaceState) (key : ℕ) (b : StayState) (i : Instr) (why : Stop) → get p.stays key ≡ Some b → IsFetchedFor p.program b.top i → route_of i.op ≡ r → Refuses r b p.heap i why → IsHindered p key why
 hindered_by (route.Make m) p key b i why there fetched e (inl memory) = inl memory
-hindered_by (route.Make m) p key b i why there fetched e (inr limit) = inr (limit.0, limit.1, record {
-  stay = b;
-  is_there = there;
-  instr = i;
-  instr_is = subst (λ o. instr_in o b.top.pc ≡ Some i) (sym fetched.is_function) fetched.is_instr;
-  overfills = subst (λ q. OverfillsBy q p.heap b.top.registers.items i limit.0) (sym e) limit.2;
-})
+hindered_by (route.Make m) p key b i why there fetched e (inr limit) = inr (
+  limit.0,
+  limit.1,
+  record {
+    stay = b;
+    is_there = there;
+    instr = i;
+    instr_is = subst (λ o. instr_in o b.top.pc ≡ Some i) (sym fetched.is_function) fetched.is_instr;
+    overfills = subst (λ q. OverfillsBy q p.heap b.top.registers.items i limit.0) (sym e) limit.2;
+  },
+)
 hindered_by route.Export p key b i why there fetched e (inl memory) = inl memory
-hindered_by route.Export p key b i why there fetched e (inr limit) = inr (limit.0, limit.1, record {
-  stay = b;
-  is_there = there;
-  instr = i;
-  instr_is = subst (λ o. instr_in o b.top.pc ≡ Some i) (sym fetched.is_function) fetched.is_instr;
-  overfills = subst (λ q. OverfillsBy q p.heap b.top.registers.items i limit.0) (sym e) (limit.2, limit.3);
-})
+hindered_by route.Export p key b i why there fetched e (inr limit) = inr (
+  limit.0,
+  limit.1,
+  record {
+    stay = b;
+    is_there = there;
+    instr = i;
+    instr_is = subst (λ o. instr_in o b.top.pc ≡ Some i) (sym fetched.is_function) fetched.is_instr;
+    overfills = subst (λ q. OverfillsBy q p.heap b.top.registers.items i limit.0) (sym e) (limit.2, limit.3);
+  },
+)
 hindered_by (route.Site k) p key b i why there fetched e memory = inl memory
 hindered_by (route.Local l) p key b i why there fetched e memory = inl memory
 hindered_by route.Call p key b i why there fetched e memory = inl memory

@@ -11,7 +11,9 @@ ghost use Rattle.x10_place.specs.StandsFor.{IsTypedFrame};
 ghost use Rattle.x10_place.specs.Stays.{GoesNext, GoesNextWith};
 ghost use Rattle.x10_place.specs.Stretches.{Locally};
 
-use crate::heap::{field, object_of, rail_byte, rail_length, set_field, set_rail_byte, text_length};
+use crate::heap::{
+    field, object_of, rail_byte, rail_length, set_field, set_rail_byte, text_length,
+};
 use crate::route::{Local, Number, Partial, Route, classify};
 use crate::store::Store;
 use smallvec::SmallVec;
@@ -62,13 +64,7 @@ fn remainder(x: i64, y: i64) -> Option<i64>
 
 /// The number that an operation gives.
 #[inline(always)]
-fn number(
-    registers: &[u64],
-    heap: &Heap,
-    verified: &Verified,
-    number: Number,
-    instr: Instr,
-) -> i64
+fn number(registers: &[u64], heap: &Heap, verified: &Verified, number: Number, instr: Instr) -> i64
     requires asks { AsksNumber number verified.now.program (length registers.now) instr }
     requires reads { ReadsNumber number heap.now registers.now instr }
     ensures { Some (Int result) ≡ given number verified.now.program heap.now registers.now instr }
@@ -187,7 +183,11 @@ fn act(
                 registers[usize::from(instr.a)],
                 registers[usize::from(instr.b)],
             );
-            if one % 65_536 == other % 65_536 { pc + 1 } else { instr.x as u16 }
+            if one % 65_536 == other % 65_536 {
+                pc + 1
+            } else {
+                instr.x as u16
+            }
         }
         Local::Jump => instr.x as u16,
         Local::JumpIfZero => {

@@ -56,7 +56,12 @@ impl CallFrame {
     }
 
     /// An object of a class, with its fields from register b on.
-    fn make_object(&mut self, verified: &Verified, heap: &mut Heap, instr: Instr) -> Result<(), Stop>
+    fn make_object(
+        &mut self,
+        verified: &Verified,
+        heap: &mut Heap,
+        instr: Instr,
+    ) -> Result<(), Stop>
         requires asks { AsksMake make.Object verified.now.program (length self.old.registers.items) instr }
         requires next { self.old.pc + 1 < 2 ^ 16 }
         ensures ok { IfOk result (λ _. Makes make.Object verified.now.program (space_of self.old heap.old) instr (space_of self.new heap.new)) }

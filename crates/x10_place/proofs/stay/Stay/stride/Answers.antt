@@ -68,9 +68,10 @@ returns-in-Err-clause-ran c =
     let before = stretched (location c.args.verified.now.program c.args.spot) (record { top = c.self.inside.top; callers = c.self.inside.callers.items; finishes = c.self.inside.finishes.items; inherited = finish_as c.self.inside.inherited; away = c.self.inside.away; back = origin_as c.self.inside.back }) c.args.self.now (record { heap = c.store.inside.heap; lines = c.store.inside.lines.items; opened = c.store.inside.opened }) c.args.store.now c.stretch-done.new.self c.stretch-done.new.heap c.stretch-done.result c.certificate.ensures.fits c.self.view_is c.store.view_is c.requires.typed c.stretch-done.ensures.ran c.stretch-done.ensures.kept in
     let fetched : IsFetched c.args.verified.now.program c.stretch-done.new.self.function c.stretch-done.new.self.pc (length c.stretch-done.new.self.registers.items) c.fetch-instr.result =
     fetched_within c.args.verified.now.program c.stretch-done.new.self.function c.stretch-done.new.self.pc (length c.stretch-done.new.self.registers.items) c.from.result c.from-2.result c.fetch-instr.result c.certificate.ensures.fits c.stretch-done.ensures.inside
-    (record { function_is = c.from.ensures; pc_is = c.from-2.ensures; value = c.fetch-instr.ensures.value; in_range = c.fetch-instr.ensures.in_range; follows = c.fetch-instr.ensures.follows }) in
-    (unchanged (location c.args.verified.now.program c.args.spot) c.args.self.now _ c.step.new.self c.args.store.now _ c.step.new.store c.stretch-done.result before.stretch c.in-Err.ensures.err.0 c.in-Err.ensures.err.1,
-    stopped_at (location c.args.verified.now.program c.args.spot) _ c.step.new.self _ c.step.new.store c.fetch-instr.result c.in-Err.why fetched c.in-Err.ensures.err.0 c.in-Err.ensures.err.1 c.in-Err.ensures.err.2)
+    (record { function_is = c.from.ensures; pc_is = c.from-2.ensures; value = c.fetch-instr.ensures.value; in_range = c.fetch-instr.ensures.in_range; follows = c.fetch-instr.ensures.follows }) in (
+      unchanged (location c.args.verified.now.program c.args.spot) c.args.self.now _ c.step.new.self c.args.store.now _ c.step.new.store c.stretch-done.result before.stretch c.in-Err.ensures.err.0 c.in-Err.ensures.err.1,
+      stopped_at (location c.args.verified.now.program c.args.spot) _ c.step.new.self _ c.step.new.store c.fetch-instr.result c.in-Err.why fetched c.in-Err.ensures.err.0 c.in-Err.ensures.err.1 c.in-Err.ensures.err.2,
+    )
 
 pub returns-in-Err-clause-typed : goal.returns-in-Err-clause-typed
 returns-in-Err-clause-typed c =
