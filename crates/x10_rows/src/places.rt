@@ -10,8 +10,11 @@ use x10_place::{Line, Place, Stepped};
 use x10_verify::{Verified, verify};
 
 /// A number and four times that, through three calls; the innermost has one register more than a frame holds in place.
+/// Then an object, a reference to it, a rail and two texts, of which the second is printed.
 const DEEP: &str = "places 1
+class int
 int 5
+text \"0123456789\"
 func 9 0 int int
 ADD 0 0 0
 RET 0
@@ -26,11 +29,17 @@ CALL 1 0 1
 ADD 0 0 1
 RET 0
 end
-func 2 0 none
+func 4 0 none
 INTK 1 0
 PRINT 1
 CALL 0 1 2
 PRINT 0
+NEW 2 0 0
+GNEW 3 2
+RAIL 2 1 10
+TEXTK 2 0
+TCAT 3 2 2 10
+PRINT 3
 RET 0
 end
 entry 3
@@ -133,7 +142,7 @@ fn memory_refused(rt: HostRuntime) -> Result<(), Fail> {
         return Ok(());
     };
     let key = place.next_key(0).ok_or("main is there")?;
-    for _ in 0..13 {
+    for _ in 0..19 {
         let (at, lines) = (place.at(key), place.output().len());
         if !moves(&mut place, key) {
             assert!(rt; stays(&mut place, key, at, lines));
