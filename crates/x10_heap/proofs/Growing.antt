@@ -1,5 +1,5 @@
 -- Heaps that grow: what words and cells stand for is kept.
-use Rattle.std.proofs.Common.{◌≡◌, ◌≢◌, ◌⊎◌, ℕ, zero, suc, ◌+◌, ◌*◌, ◌<◌, ◌≤◌, ◌^◌, ◌==◌, Bool, true, false, List, [], ◌∷◌, ◌++◌, length, Option, Some, None, refl, sym, ap, subst, ◌∙◌, inl, inr, arith}
+use Rattle.std.proofs.Common.{◌≡◌, ◌⊎◌, ℕ, zero, suc, ◌+◌, ◌*◌, ◌<◌, ◌≤◌, ◌^◌, ◌==◌, Bool, true, false, List, [], ◌∷◌, ◌++◌, length, Option, Some, None, refl, sym, ap, subst, ◌∙◌, inl, inr, arith}
 use Rattle.std.specs.Prelude.{◌/◌, ◌%◌, IsTrue, if◌then◌else◌, slice_get, slice_set}
 use Rattle.std.proofs.lemmas.Bool.{eqb-true, eq-eqb, cases_Bool}
 use Rattle.x10_kinds.specs.declared.kind.Kind.{Kind}
@@ -7,7 +7,7 @@ use Rattle.x10_kinds.specs.declared.kind.Kind.TheVariants as kind
 use Rattle.x10_model.specs.Maps.{with_entry}
 use Rattle.x10_model.specs.Values.{Value, Cell, Fields, Bytes, Cells}
 use Rattle.x10_heap.specs.declared.export.Export.{Export}
-use Rattle.x10_heap.specs.Heaps.{HeapState, ObjectState}
+use Rattle.x10_heap.specs.Heaps.{ObjectState}
 use Rattle.x10_heap.specs.Words.{Context, has_class, is_named, IsObjectWord, IsWordOf, AreWordsOf, IsObjectCell, HoldsObject, rail_cell, HoldsHeap}
 
 -- ---- lists

@@ -1,6 +1,6 @@
 -- What calls of the heap give is what operations of a frame do.
-use Rattle.std.proofs.Common.{◌≡◌, ℕ, ℤ, ◌+◌, ◌<◌, ◌≤◌, ◌^◌, Bool, true, false, List, ◌++◌, length, Option, Some, None, Result, Ok, Err, refl, sym, ap, ap₂, subst, ◌∙◌, arith}
-use Rattle.std.specs.Prelude.{◌-◌, ◌*◌, IsSome, nat_le, slice_get, slice_index, slice_set}
+use Rattle.std.proofs.Common.{◌≡◌, ℕ, ℤ, ◌+◌, ◌<◌, ◌≤◌, ◌^◌, List, ◌++◌, length, Option, Some, None, Result, Ok, Err, refl, sym, ap, ap₂, subst, ◌∙◌}
+use Rattle.std.specs.Prelude.{◌-◌, ◌*◌, IsSome, slice_get, slice_set}
 use Rattle.std.proofs.lemmas.Bool.{le-leb, lt-leb}
 use Rattle.x10_kinds.specs.declared.stop.Stop.{Stop}
 use Rattle.x10_kinds.specs.declared.stop.Stop.TheVariants as stop
@@ -10,7 +10,7 @@ use Rattle.x10_model.specs.Modules.{Module}
 use Rattle.x10_model.specs.Moves.{byte_at}
 use Rattle.x10_model.proofs.Decided.{get_below}
 use Rattle.x10_heap.specs.declared.export.Export.{Export}
-use Rattle.x10_heap.specs.Heaps.{HeapState, ObjectState, with_export, with_text, IsJoined, IsFull}
+use Rattle.x10_heap.specs.Heaps.{HeapState, ObjectState, with_export, IsJoined, IsFull}
 use Rattle.x10_place.specs.declared.frame.CallFrame.{CallFrame}
 use Rattle.x10_place.specs.declared.route.Local.{Local}
 use Rattle.x10_place.specs.declared.route.Local.TheVariants as local

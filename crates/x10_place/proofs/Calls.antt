@@ -1,6 +1,6 @@
 -- Calls: what the program does to frames is what the machine does to call frames.
 use Rattle.std.proofs.Common.{◌≡◌, ℕ, zero, suc, ◌+◌, ◌<◌, ◌≤◌, List, [], ◌∷◌, length, replicate, Option, Some, refl, sym, ap, subst, ◌∙◌, arith}
-use Rattle.std.specs.Prelude.{Bool, IsTrue, reverse, slice_get, slice_index}
+use Rattle.std.specs.Prelude.{IsTrue, reverse, slice_get, slice_index}
 use Rattle.std.specs.List.{AllByRecursion}
 use Rattle.x10_kinds.specs.declared.kind.Kind.{Kind}
 use Rattle.x10_kinds.specs.declared.kind.Kind.TheVariants as kind

@@ -1,5 +1,5 @@
 -- Callers: each stands at a call of the function of the next one.
-use Rattle.std.proofs.Common.{◌≡◌, ℕ, ◌<◌, List, [], ◌∷◌, ◌++◌, length, refl, sym, subst}
+use Rattle.std.proofs.Common.{◌≡◌, ℕ, List, [], ◌∷◌, ◌++◌, refl, sym, subst}
 use Rattle.x10_model.specs.Modules.{Module}
 use Rattle.x10_place.specs.declared.frame.CallFrame.{CallFrame}
 use Rattle.x10_place.specs.Stays.{StayState, IsCalling, AreCalling, IsPlaced, next_function}

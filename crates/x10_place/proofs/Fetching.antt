@@ -1,6 +1,6 @@
 -- Instructions as they are fetched for a frame, and what operations of one frame ask of them.
 use Rattle.std.proofs.Common.{◌≡◌, ◌≢◌, ℕ, ◌+◌, ◌<◌, ◌≤◌, ◌^◌, List, length, Option, Some, None, refl, sym, ap, subst, ◌∙◌, arith}
-use Rattle.std.specs.Prelude.{ℤ, ◌++◌, ◌==◌, nat_le, slice_get, slice_set, nat_lt, if◌then◌else◌, Bool, true, false}
+use Rattle.std.specs.Prelude.{ℤ, ◌++◌, ◌==◌, nat_le, slice_get, nat_lt, if◌then◌else◌, Bool, true, false}
 use Rattle.std.proofs.Math.ListN.{length-set}
 use Rattle.x10_kinds.specs.declared.kind.Kind.{Kind}
 use Rattle.x10_code.specs.declared.op.Op.{Op}
@@ -14,7 +14,6 @@ use Rattle.std.proofs.lemmas.Option.{slice_get_within}
 use Rattle.x10_verify.proofs.Wholes.{function_fits}
 use Rattle.x10_place.specs.declared.route.Local.{Local}
 use Rattle.x10_place.specs.declared.route.Local.TheVariants as local
-use Rattle.x10_place.specs.declared.route.Route.{Route}
 use Rattle.x10_place.specs.declared.route.Route.TheVariants as route
 use Rattle.x10_place.specs.declared.route.Partial.TheVariants as partial
 use Rattle.x10_place.specs.declared.route.Make.{Make}

@@ -1,5 +1,5 @@
 -- A step after which a stay goes on: the stay of the machine that it stands for makes it too.
-use Rattle.std.proofs.Common.{◌≡◌, ℕ, Bool, true, false, List, [], ◌∷◌, ◌++◌, map, Option, Some, None, refl, sym, ap, subst, ◌∙◌}
+use Rattle.std.proofs.Common.{◌≡◌, ℕ, true, false, List, [], ◌∷◌, ◌++◌, map, Option, Some, None, refl, sym, ap, subst, ◌∙◌}
 use Rattle.std.specs.Prelude.{reverse}
 use Rattle.x10_code.specs.declared.op.Op.{Op}
 use Rattle.x10_code.specs.declared.op.Op.TheVariants as op
@@ -18,12 +18,11 @@ use Rattle.x10_place.specs.declared.frame.CallFrame.{CallFrame}
 use Rattle.x10_place.specs.declared.line.Line.{Line}
 use Rattle.x10_place.specs.declared.route.Local.{Local}
 use Rattle.x10_place.specs.declared.route.Local.TheVariants as local
-use Rattle.x10_place.specs.declared.route.Make.{Make}
 use Rattle.x10_place.specs.declared.route.Route.{Route}
 use Rattle.x10_place.specs.declared.route.Route.TheVariants as route
-use Rattle.x10_place.specs.Frames.{space_of, IsFetchedFor, Acts, Makes}
+use Rattle.x10_place.specs.Frames.{space_of, IsFetchedFor, Acts}
 use Rattle.x10_place.specs.Routes.{route_of}
-use Rattle.x10_place.specs.Stays.{StayState, StoreState, Location, IsPlaced, ChangesTop, Prints, Steps}
+use Rattle.x10_place.specs.Stays.{StayState, StoreState, Location, IsPlaced, Prints, Steps}
 use Rattle.x10_place.specs.StandsFor.{Far, context, line_as, Assigned, StandsForFrame, StandForCallers, IsAtHome, StandsForStay, HoldsExports, IsWithinPlaces, IsTyped, IsTypedFrame}
 use Rattle.x10_place.proofs.Framed.{point_of, rule}
 use Rattle.x10_place.proofs.Growing.{callers_kept}

@@ -1,7 +1,6 @@
 -- Frames and stays, as the heap grows: what they stand for is kept.
-use Rattle.std.proofs.Common.{◌≡◌, ℕ, List, [], ◌∷◌, Option, Some, None, refl, sym, subst, ◌∙◌}
+use Rattle.std.proofs.Common.{◌≡◌, ℕ, List, [], ◌∷◌, Option, Some, sym, subst, ◌∙◌}
 use Rattle.std.specs.Prelude.{slice_get, map}
-use Rattle.x10_kinds.specs.declared.kind.Kind.{Kind}
 use Rattle.x10_model.specs.Modules.{Module}
 use Rattle.x10_model.specs.Places as machine
 use Rattle.x10_model.specs.Places.{Stay}

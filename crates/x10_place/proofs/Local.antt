@@ -1,6 +1,6 @@
 -- Operations of one frame: what the program does to its words is what the machine does to its values.
 use Rattle.std.proofs.Common.{◌≡◌, ℕ, ℤ, ◌+◌, ◌-◌, ◌<◌, Bool, true, false, List, length, Option, Some, None, refl, sym, ap, subst, ◌∙◌, inl, inr, arith}
-use Rattle.std.specs.Prelude.{◌⊎◌, ◌*◌, ◌==◌, ◌^◌, pos, nat_lt, IsTrue, option_map, if◌then◌else◌, slice_get, slice_index, slice_set}
+use Rattle.std.specs.Prelude.{◌*◌, ◌==◌, pos, nat_lt, IsTrue, option_map, if◌then◌else◌, slice_get, slice_index, slice_set}
 use Rattle.std.specs.Int.{w64, cast_signed}
 use Rattle.x10_kinds.specs.declared.kind.Kind.{Kind}
 use Rattle.x10_kinds.specs.declared.kind.Kind.TheVariants as kind
@@ -15,14 +15,14 @@ use Rattle.x10_code.specs.Table.{form_of}
 use Rattle.x10_model.specs.Maps.{with_entry, IsIn}
 use Rattle.x10_model.specs.Modules.{Module, Function}
 use Rattle.x10_model.specs.Ranges.{IsThere}
-use Rattle.x10_model.specs.Values.{Value, Int, Place, Text, Rail, Object, Null, Ref, Fields, Bytes, Cells}
+use Rattle.x10_model.specs.Values.{Value, Int, Place, Object, Null, Ref, Bytes, Cells}
 use Rattle.x10_model.specs.Places as machine
 use Rattle.x10_model.specs.Places.{Setting, Stay, Works, with_stay, goes, next, writes}
 use Rattle.x10_model.specs.Moves.{Situation, Does, is_zero, place_of, writes_or_goes, next_or_goes, byte_at, byte_value}
 use Rattle.x10_model.specs.Assignments.{State, Point, Edges, onward, onward_or, gives, like_if, IsKind, IsPlaced, Permits, Reaches}
 use Rattle.x10_heap.specs.declared.export.Export.{Export}
 use Rattle.x10_heap.specs.Heaps.{HeapState, ObjectState}
-use Rattle.x10_heap.specs.Words.{Context, IsWordOf, IsObjectWord, AreWordsOf, IsObjectCell, HoldsObject, rail_cell, HoldsHeap, export_as, has_class, is_named}
+use Rattle.x10_heap.specs.Words.{Context, IsWordOf, rail_cell, HoldsHeap, export_as, has_class}
 use Rattle.x10_heap.proofs.Growing.{Grows, grows_not}
 use Rattle.x10_place.specs.declared.frame.CallFrame.{CallFrame}
 use Rattle.x10_place.specs.declared.route.Route.TheVariants as route
@@ -33,7 +33,7 @@ use Rattle.x10_place.specs.declared.route.Partial.TheVariants as partial
 use Rattle.x10_place.specs.declared.route.Number.{Number}
 use Rattle.x10_place.specs.declared.route.Number.TheVariants as number
 use Rattle.x10_place.specs.Homes.{AreHomes, IsLike, place_at, place_in}
-use Rattle.x10_place.specs.Frames.{Workspace, space_of, Becomes, IsFetchedFor, Acts, Writes, Takes, CopiesUnless, GetsField, as_value, given, tried, size, byte_in, rail_in, text_in, object_in, int_at, word_at, home_of, id_of, are_same, turns_left}
+use Rattle.x10_place.specs.Frames.{Workspace, space_of, Becomes, IsFetchedFor, Acts, Writes, Takes, CopiesUnless, GetsField, as_value, given, tried, size, byte_in, int_at, word_at, home_of, id_of, are_same, turns_left}
 use Rattle.x10_place.specs.Routes.{route_of}
 use Rattle.x10_place.specs.StandsFor.{Far, context, Assigned, HoldRegisters, StandsForFrame, HoldsExports, IsWithinPlaces}
 use Rattle.std.proofs.Math.ListN.{length-set}

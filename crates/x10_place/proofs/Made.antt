@@ -1,6 +1,6 @@
 -- Operations that make something in the heap, or write to it: what the program does to its words is what the machine does
 -- to its values.
-use Rattle.std.proofs.Common.{◌≡◌, ◌⊎◌, ℕ, zero, suc, ◌+◌, ◌-◌, ◌*◌, ◌<◌, ◌≤◌, ◌^◌, Bool, true, false, List, [], ◌∷◌, ◌++◌, length, take, drop, replicate, Option, Some, None, refl, sym, ap, ap₂, subst, ◌∙◌, inl, inr, arith}
+use Rattle.std.proofs.Common.{◌≡◌, ℕ, zero, suc, ◌+◌, ◌-◌, ◌*◌, ◌<◌, ◌≤◌, ◌^◌, Bool, true, false, List, [], ◌∷◌, ◌++◌, length, take, drop, replicate, Option, Some, None, refl, sym, ap, ap₂, subst, ◌∙◌, inl, inr, arith}
 use Rattle.std.specs.Prelude.{ℤ, pos, nat_le, slice_get, slice_index, slice_set}
 use Rattle.std.specs.Int.{int_rem_euclid}
 use Rattle.std.specs.List.{slice_range}
@@ -14,9 +14,8 @@ use Rattle.x10_code.specs.declared.instr.Instr.{Instr}
 use Rattle.x10_code.specs.Table.{form_of}
 use Rattle.x10_model.specs.declared.limits.TheConstants.{MOST_BYTES}
 use Rattle.x10_model.specs.Maps.{with_entry, IsIn}
-use Rattle.x10_model.specs.Modules.{Module, Function}
 use Rattle.x10_model.specs.Ranges.{fields_of, argument_count, AreArgumentRegisters, IsThere}
-use Rattle.x10_model.specs.Values.{Value, Int, Text, Rail, Object, Fields, Bytes, Cells, IsOfKind}
+use Rattle.x10_model.specs.Values.{Value, Text, Rail, Object, Fields, Bytes, Cells, IsOfKind}
 use Rattle.x10_model.specs.Signatures.{AreOfKinds}
 use Rattle.x10_model.specs.Places as machine
 use Rattle.x10_model.specs.Places.{Setting, Stay, Works, with_stay, goes, next, writes}
@@ -25,20 +24,20 @@ use Rattle.x10_model.specs.Moves.{Situation, Does, HoldsFrom, writes_or_goes, jo
 use Rattle.x10_model.specs.Assignments.{State, Edges, IsKind, KindsFit, onward, onward_or, gives, Permits, Reaches}
 use Rattle.x10_heap.specs.Heaps.{HeapState, ObjectState, with_object, with_rail, with_text, with_field}
 use Rattle.x10_heap.specs.Words.{Context, IsWordOf, AreWordsOf, HoldsObject, rail_cell, HoldsHeap}
-use Rattle.x10_heap.proofs.Growing.{Grows, grows_not, IsWritten, written_last, written_at, last_kept, word_kept, words_kept, holds_object, holds_rail, holds_texts, same_or_not}
+use Rattle.x10_heap.proofs.Growing.{Grows, grows_not, IsWritten, written_last, written_at, last_kept, words_kept, holds_object, holds_rail, holds_texts, same_or_not}
 use Rattle.x10_place.specs.declared.frame.CallFrame.{CallFrame}
 use Rattle.x10_place.specs.declared.route.Route.TheVariants as route
 use Rattle.x10_place.specs.declared.route.Local.TheVariants as local
 use Rattle.x10_place.specs.declared.route.Make.{Make}
 use Rattle.x10_place.specs.declared.route.Make.TheVariants as make
-use Rattle.x10_place.specs.Frames.{Workspace, space_of, Becomes, IsFetchedFor, Acts, SetsField, SetsByte, byte_set, Makes, MakesText, Joins, MakesObject, MakesRail, rail_in, text_in, object_in, int_at, word_at}
+use Rattle.x10_place.specs.Frames.{space_of, Becomes, IsFetchedFor, Acts, SetsField, SetsByte, byte_set, Makes, MakesText, Joins, MakesObject, MakesRail, rail_in, object_in, int_at, word_at}
 use Rattle.x10_place.specs.Routes.{route_of}
 use Rattle.x10_place.specs.StandsFor.{Far, context, Assigned, HoldRegisters, StandsForFrame, HoldsExports}
 use Rattle.x10_place.proofs.Maps.{some_is}
 use Rattle.x10_place.proofs.Words.{Reads, reads, reads_int, of_kind}
-use Rattle.x10_place.proofs.Framed.{FrameAfter, after_of, point_of, in_range, small, count}
+use Rattle.x10_place.proofs.Framed.{FrameAfter, after_of, in_range, count}
 use Rattle.x10_place.proofs.Growing.{frame_kept, exports_kept}
-use Rattle.x10_place.proofs.Local.{situated, Done, states, point, there, room, goes_to, goes_next, writes_word, edge_next, edge_first, edge_target}
+use Rattle.x10_place.proofs.Local.{situated, Done, states, point, room, goes_to, goes_next, writes_word, edge_next, edge_first, edge_target}
 use Rattle.x10_place.proofs.Objects.{ObjectAt, object_at, word_in, words_set}
 
 -- ---- what may be written

@@ -1,10 +1,10 @@
 -- Objects and rails that words name, in cells that stand for the heap.
-use Rattle.std.proofs.Common.{◌≡◌, ℕ, zero, suc, ◌+◌, ◌-◌, ◌*◌, ◌<◌, ◌≤◌, List, [], ◌∷◌, length, Option, Some, None, refl, sym, ap, subst, ◌∙◌, arith}
+use Rattle.std.proofs.Common.{◌≡◌, ℕ, zero, suc, ◌-◌, ◌*◌, ◌<◌, List, [], ◌∷◌, Some, refl, sym, ap, subst, ◌∙◌, arith}
 use Rattle.std.specs.Prelude.{slice_get, slice_set}
 use Rattle.std.proofs.lemmas.Option.{slice_get_within}
 use Rattle.x10_kinds.specs.declared.kind.Kind.{Kind}
 use Rattle.x10_model.specs.Values.{Value, Object, Fields, Cells}
-use Rattle.x10_heap.specs.Heaps.{HeapState, ObjectState, HasField}
+use Rattle.x10_heap.specs.Heaps.{ObjectState, HasField}
 use Rattle.x10_heap.specs.Words.{Context, IsWordOf, IsObjectWord, AreWordsOf, IsObjectCell, HoldsObject, HoldsHeap}
 use Rattle.x10_place.proofs.Maps.{some_is}
 

@@ -1,5 +1,5 @@
 -- Places at the beginning, and which keys are in use.
-use Rattle.std.proofs.Common.{◌≡◌, ◌↔◌, ℕ, zero, suc, ◌+◌, ◌<◌, ◌≤◌, ◌==◌, Bool, true, false, cond, List, [], ◌∷◌, length, map, Option, Some, None, refl, sym, ap, subst, ◌∙◌, inl, inr, arith}
+use Rattle.std.proofs.Common.{◌≡◌, ◌↔◌, ℕ, zero, suc, ◌+◌, ◌≤◌, ◌==◌, Bool, true, false, cond, List, [], ◌∷◌, length, map, Option, Some, None, refl, sym, ap, subst, ◌∙◌, inl, inr, arith}
 use Rattle.std.specs.Prelude.{IsTrue, IsSome, reverse, slice_get, slice_index, slice_index_or}
 use Rattle.std.proofs.lemmas.Bool.{eqb-true, eq-eqb, ne_eqb}
 use Rattle.slab.specs.Slab.{Slab, get, entries_from, slab_len}
@@ -15,7 +15,7 @@ use Rattle.x10_model.specs.Moves.{new_stay}
 use Rattle.x10_model.specs.Worlds.{first_place, empty_place}
 use Rattle.x10_model.specs.Assignments.{State, IsBelow, parameter_kind, entry_state}
 use Rattle.x10_verify.proofs.Wholes.{function_fits}
-use Rattle.x10_heap.specs.Heaps.{HeapState, ObjectState, empty}
+use Rattle.x10_heap.specs.Heaps.{HeapState, empty}
 use Rattle.x10_heap.specs.Words.{Context, HoldsHeap}
 use Rattle.x10_place.specs.Stays.{StayState, StoreState, new_store, AreCalling, IsPlaced}
 use Rattle.x10_place.specs.StandsFor.{IsWithinPlaces, Far, PlaceState, store_of, context_of, Assigned, HoldRegisters, line_as, StandsForStay, HoldsExports, StandsFor, IsStanding, setting_of}

@@ -1,20 +1,20 @@
 -- Each stay stands where it can go on: what keeps that.
-use Rattle.std.proofs.Common.{◌≡◌, ◌≢◌, ℕ, ◌+◌, ◌<◌, ◌≤◌, true, false, List, [], ◌∷◌, ◌++◌, length, Option, Some, None, refl, sym, ap, subst, ◌∙◌, arith}
-use Rattle.std.specs.Prelude.{Bool, slice_get, slice_set}
+use Rattle.std.proofs.Common.{◌≡◌, ◌≢◌, ℕ, ◌+◌, ◌<◌, ◌≤◌, true, length, Option, Some, None, refl, sym, ap, subst, ◌∙◌, arith}
+use Rattle.std.specs.Prelude.{Bool}
 use Rattle.std.proofs.Math.ListN.{length-set}
 use Rattle.x10_code.specs.declared.op.Op.{Op}
 use Rattle.x10_code.specs.declared.op.Op.TheVariants as op
 use Rattle.x10_code.specs.declared.instr.Instr.{Instr}
-use Rattle.x10_model.specs.Modules.{Module, Function, FitsImage}
+use Rattle.x10_model.specs.Modules.{Module, FitsImage}
 use Rattle.x10_model.specs.declared.slot.Slot.{Slot}
 use Rattle.x10_model.specs.Ranges.{function_at, instr_at, instr_in, result_of}
 use Rattle.x10_verify.proofs.Wholes.{function_fits}
 use Rattle.x10_place.specs.declared.frame.CallFrame.{CallFrame}
 use Rattle.x10_place.specs.declared.route.Route.{Route}
 use Rattle.x10_place.specs.declared.route.Route.TheVariants as route
-use Rattle.x10_place.specs.Frames.{Workspace, space_of, IsWithin, IsInside, IsFetched, IsFetchedFor, Acts, Makes, ActsAt, ExportsObject}
+use Rattle.x10_place.specs.Frames.{Workspace, space_of, IsWithin, IsInside, IsFetchedFor, Acts, Makes, ActsAt, ExportsObject}
 use Rattle.x10_place.specs.Routes.{route_of}
-use Rattle.x10_place.specs.Stays.{StayState, StoreState, Location, IsCalling, AreCalling, IsPlaced, GoesNext, GoesNextWith, GoesOn, Calls, Resumes, Returns, Prints, ChangesTop, Steps}
+use Rattle.x10_place.specs.Stays.{StayState, StoreState, Location, AreCalling, IsPlaced, GoesNext, GoesNextWith, GoesOn, Calls, Resumes, Returns, Prints, ChangesTop, Steps}
 use Rattle.x10_place.proofs.Chains.{chain_last, chain_more}
 use Rattle.x10_place.proofs.Fetching.{local_within, make_within, site_within, export_within}
 use Rattle.x10_place.proofs.Returning.{goes_on}

@@ -1,5 +1,5 @@
 -- What a PRINT prints, as the verifier tells it.
-use Rattle.std.proofs.Common.{◌≡◌, ℕ, Some, refl, sym, ap, subst, ◌∙◌}
+use Rattle.std.proofs.Common.{◌≡◌, ℕ, Some, sym, subst, ◌∙◌}
 use Rattle.std.specs.Prelude.{slice_get}
 use Rattle.x10_kinds.specs.declared.kind.Kind.TheVariants as kind
 use Rattle.x10_code.specs.declared.op.Op.TheVariants as op
@@ -7,7 +7,7 @@ use Rattle.x10_code.specs.declared.instr.Instr.{Instr}
 use Rattle.x10_model.specs.Modules.{Module, Function}
 use Rattle.x10_model.specs.Ranges.{function_at}
 use Rattle.x10_model.specs.Assignments.{State, HasAssignment, IsKind}
-use Rattle.x10_verify.specs.Least.{IsReached, HasLeast}
+use Rattle.x10_verify.specs.Least.{IsReached}
 use Rattle.x10_place.specs.declared.frame.CallFrame.{CallFrame}
 use Rattle.x10_place.specs.Frames.{IsFetchedFor}
 use Rattle.x10_place.specs.Stays.{PrintsNumber}

@@ -1,6 +1,6 @@
 -- What operations read in the heap is there, since words have the kinds that the verifier knows.
-use Rattle.std.proofs.Common.{◌≡◌, ℕ, ◌+◌, ◌-◌, ◌<◌, ◌≤◌, ◌^◌, ◌==◌, Bool, true, false, List, length, Option, Some, None, refl, sym, ap, subst, ◌∙◌, arith}
-use Rattle.std.specs.Prelude.{IsTrue, if◌then◌else◌, slice_get, slice_index}
+use Rattle.std.proofs.Common.{◌≡◌, ℕ, ◌<◌, ◌≤◌, ◌==◌, Bool, true, false, List, length, Option, Some, None, refl, sym, ap, subst, ◌∙◌, arith}
+use Rattle.std.specs.Prelude.{IsTrue, if◌then◌else◌, slice_get}
 use Rattle.std.proofs.lemmas.Bool.{eq-eqb}
 use Rattle.std.proofs.lemmas.Option.{slice_get_within}
 use Rattle.x10_kinds.specs.declared.kind.Kind.{Kind}
@@ -12,7 +12,7 @@ use Rattle.x10_model.specs.Modules.{Module, Function}
 use Rattle.x10_code.specs.Table.{form_of}
 use Rattle.x10_kinds.specs.declared.homes.Term.TheVariants as term
 use Rattle.x10_model.specs.Moves.{place_of}
-use Rattle.x10_model.specs.Ranges.{function_at, IsThere}
+use Rattle.x10_model.specs.Ranges.{IsThere}
 use Rattle.x10_model.specs.Places as machine
 use Rattle.x10_model.specs.Assignments.{State, HasAssignment, Edges, IsKind, Permits}
 use Rattle.x10_model.specs.Values.{Cells}

@@ -1,12 +1,12 @@
 -- A function ends, and its caller goes on.
 use Rattle.std.proofs.Common.{◌≡◌, ◌≢◌, ℕ, ◌+◌, ◌<◌, ◌^◌, true, false, List, [], ◌∷◌, ◌++◌, length, Option, Some, None, sym, ap, subst, ◌∙◌, arith}
-use Rattle.std.specs.Prelude.{is_some, slice_set}
+use Rattle.std.specs.Prelude.{is_some}
 use Rattle.x10_code.specs.declared.op.Op.TheVariants as op
 use Rattle.x10_code.specs.declared.instr.Instr.{Instr}
 use Rattle.x10_code.specs.Table.{form_of}
 use Rattle.x10_model.specs.Modules.{Module, Function, FitsImage}
 use Rattle.x10_model.specs.declared.slot.Slot.{Slot}
-use Rattle.x10_model.specs.Ranges.{function_at, instr_at, instr_in, result_of, result_for, IsThere, IsInRange, IsResultRegister}
+use Rattle.x10_model.specs.Ranges.{function_at, instr_at, result_of, result_for, IsThere, IsResultRegister}
 use Rattle.x10_image.specs.Parts.{Signature, signature_of, code_in, code_at}
 use Rattle.x10_verify.proofs.Wholes.{function_fits}
 use Rattle.x10_place.specs.declared.frame.CallFrame.{CallFrame}

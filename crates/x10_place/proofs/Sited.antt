@@ -1,8 +1,7 @@
 -- Operations that go by the place, and global references: what the program does to its words is what the machine does to
 -- its values.
-use Rattle.std.proofs.Common.{◌≡◌, ◌⊎◌, ℕ, ℤ, ◌+◌, ◌-◌, ◌*◌, ◌<◌, ◌≤◌, ◌^◌, Bool, true, false, List, [], ◌∷◌, ◌++◌, length, map, Option, Some, None, refl, sym, ap, ap₂, subst, ◌∙◌, inl, inr, arith}
-use Rattle.std.specs.Prelude.{◌==◌, ◌/◌, ◌%◌, pos, negsuc, nat_lt, IsTrue, if◌then◌else◌, slice_get, slice_set}
-use Rattle.std.specs.Int.{w64, cast_signed}
+use Rattle.std.proofs.Common.{◌≡◌, ℕ, ℤ, ◌+◌, ◌*◌, ◌<◌, ◌^◌, Bool, true, false, List, [], ◌∷◌, ◌++◌, length, map, Option, Some, None, refl, sym, ap, ap₂, subst, ◌∙◌, inl, inr, arith}
+use Rattle.std.specs.Prelude.{◌==◌, ◌%◌, pos, negsuc, nat_lt, IsTrue, if◌then◌else◌, slice_get, slice_set}
 use Rattle.std.proofs.lemmas.Bool.{eqb-true, eq-eqb, ltb-true}
 use Rattle.std.proofs.lemmas.Nat.{mod_below}
 use Rattle.x10_kinds.specs.declared.kind.Kind.TheVariants as kind
@@ -13,12 +12,11 @@ use Rattle.x10_code.specs.declared.op.Op.TheVariants as op
 use Rattle.x10_code.specs.declared.instr.Instr.{Instr}
 use Rattle.x10_code.specs.Table.{form_of}
 use Rattle.x10_model.specs.Maps.{IsIn}
-use Rattle.x10_model.specs.Modules.{Module, Function}
 use Rattle.x10_model.specs.Ranges.{IsThere}
 use Rattle.x10_model.specs.Values.{Value, Int, Place, Object, Ref, Fields, IsOfKind}
 use Rattle.x10_model.specs.Places as machine
 use Rattle.x10_model.specs.Places.{Setting, Stay, Works, with_stay, goes, next, writes}
-use Rattle.x10_model.specs.Moves.{Situation, Does, place_of, place_number, writes_or_goes, next_or_goes}
+use Rattle.x10_model.specs.Moves.{Situation, Does, place_number, writes_or_goes, next_or_goes}
 use Rattle.x10_model.specs.Assignments.{State, Edges, IsKind, IsPlaced, onward, onward_or, gives, Permits, Reaches}
 use Rattle.x10_heap.specs.declared.export.Export.{Export}
 use Rattle.x10_heap.specs.Heaps.{HeapState, ObjectState, with_export}

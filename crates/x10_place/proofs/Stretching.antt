@@ -1,17 +1,17 @@
 -- Steps of one stay at a stretch.
-use Rattle.std.proofs.Common.{◌≡◌, ◌≢◌, ℕ, zero, suc, ◌+◌, ◌<◌, ◌≤◌, Bool, true, false, List, length, refl, sym, ap, subst, ◌∙◌, arith, add_assoc}
+use Rattle.std.proofs.Common.{◌≡◌, ◌≢◌, ℕ, ◌+◌, Bool, true, false, refl, sym, ap, subst, ◌∙◌, arith}
 use Rattle.x10_kinds.specs.declared.stop.Stop.{Stop}
 use Rattle.x10_code.specs.declared.instr.Instr.{Instr}
-use Rattle.x10_model.specs.Modules.{Module, FitsImage}
+use Rattle.x10_model.specs.Modules.{FitsImage}
 use Rattle.x10_heap.specs.Heaps.{HeapState}
 use Rattle.x10_place.specs.declared.frame.CallFrame.{CallFrame}
 use Rattle.x10_place.specs.declared.route.Route.TheVariants as route
 use Rattle.x10_place.specs.declared.stay.Pause.{Pause}
 use Rattle.x10_place.specs.declared.stay.Pause.TheVariants as pause
-use Rattle.x10_place.specs.Frames.{Workspace, workspace, space_of, with_space, IsWithin, IsInside, IsFetchedFor}
+use Rattle.x10_place.specs.Frames.{Workspace, space_of, with_space, IsFetchedFor}
 use Rattle.x10_place.specs.Routes.{route_of}
-use Rattle.x10_place.specs.Stays.{StayState, StoreState, Location, IsPlaced, AreCalling, Refuses, Steps}
-use Rattle.x10_place.specs.Stretches.{IsLocalStep, Locally, none, more, IsStep, Stretch, still, further, EndsStretch, IsStopped, Paused}
+use Rattle.x10_place.specs.Stays.{StayState, StoreState, Location, IsPlaced, Refuses, Steps}
+use Rattle.x10_place.specs.Stretches.{IsLocalStep, Locally, none, more, Stretch, still, further, EndsStretch, IsStopped, Paused}
 use Rattle.x10_place.specs.StandsFor.{IsTyped}
 use Rattle.x10_place.proofs.Going.{typed_after}
 

@@ -1,5 +1,5 @@
 -- Steps of a stay are steps of its place, and a place stands for some place of the machine after each of them.
-use Rattle.std.proofs.Common.{◌≡◌, ℕ, zero, suc, ◌+◌, ◌≤◌, Bool, true, false, List, [], ◌∷◌, Option, Some, None, refl, sym, ap, subst, ◌∙◌, inl, inr, arith}
+use Rattle.std.proofs.Common.{◌≡◌, ℕ, zero, suc, ◌≤◌, Bool, true, false, List, [], ◌∷◌, Option, Some, None, refl, sym, ap, subst, ◌∙◌, inl, inr, arith}
 use Rattle.std.specs.Prelude.{slice_index_or, slice_set}
 use Rattle.slab.specs.Slab.{Slab, get, Updates, with_value}
 use Rattle.x10_code.specs.declared.instr.Instr.{Instr}
@@ -14,8 +14,8 @@ use Rattle.x10_place.specs.declared.route.Route.{Route}
 use Rattle.x10_place.specs.declared.route.Route.TheVariants as route
 use Rattle.x10_place.specs.declared.route.Make.{Make}
 use Rattle.x10_place.specs.declared.route.Make.TheVariants as make
-use Rattle.x10_place.specs.Stays.{StayState, StoreState, OverfillsBy, Refuses, Steps}
-use Rattle.x10_place.specs.StandsFor.{location_of, Far, IsTyped, IsOverfull, IsHindered, PlaceState, store_of, with_stays, StandsFor, IsStanding, LeadsAll, Keeps}
+use Rattle.x10_place.specs.Stays.{StayState, StoreState, OverfillsBy, Refuses}
+use Rattle.x10_place.specs.StandsFor.{location_of, Far, IsTyped, IsOverfull, IsHindered, PlaceState, store_of, with_stays, StandsFor, IsStanding, LeadsAll}
 use Rattle.x10_place.specs.Stretches.{IsStep, Stretch, still, further, EndsStretch, IsStopped, IsStride, Strides, at_once, onward}
 use Rattle.x10_place.proofs.Maps.{none_some}
 use Rattle.x10_place.proofs.Steps.{kept_if, step_leads}

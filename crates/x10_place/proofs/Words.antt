@@ -1,15 +1,14 @@
 -- Words that stand for values: weakening what is known, reading a number, writing a register.
-use Rattle.std.proofs.Common.{◌≡◌, ◌⊎◌, ℕ, ◌+◌, ◌*◌, ◌<◌, List, length, get_or, set, Option, Some, None, refl, sym, ap, subst, ◌∙◌, inl, inr, get_or-set_same, get_or-set_other}
-use Rattle.std.specs.Prelude.{slice_get, slice_index, slice_set}
+use Rattle.std.proofs.Common.{◌≡◌, ℕ, ◌*◌, ◌<◌, List, length, get_or, set, Option, Some, refl, sym, ap, subst, ◌∙◌, inl, inr, get_or-set_same, get_or-set_other}
+use Rattle.std.specs.Prelude.{slice_index, slice_set}
 use Rattle.std.specs.Int.{w64, cast_signed}
 use Rattle.x10_kinds.specs.declared.kind.Kind.{Kind}
 use Rattle.x10_kinds.specs.declared.kind.Kind.TheVariants as kind
 use Rattle.x10_kinds.specs.declared.homes.Term.{Term}
 use Rattle.x10_kinds.specs.Kinds.{Fits}
 use Rattle.x10_model.specs.Maps.{with_entry}
-use Rattle.x10_model.specs.Values.{Value, Int, Object, Fields, Cells, IsObjectOf, IsOfKind}
+use Rattle.x10_model.specs.Values.{Value, Int, Fields, Cells, IsObjectOf, IsOfKind}
 use Rattle.x10_model.specs.Assignments.{State, IsKind, IsBelow, set as set_kind}
-use Rattle.x10_heap.specs.Heaps.{ObjectState}
 use Rattle.x10_heap.specs.Words.{Context, IsObjectWord, IsWordOf, HoldsObject, rail_cell, HoldsHeap}
 use Rattle.x10_place.specs.StandsFor.{HoldRegisters}
 use Rattle.x10_place.proofs.Maps.{some_is, at_key, off_key, same_or_not}

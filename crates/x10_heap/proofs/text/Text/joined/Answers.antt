@@ -1,4 +1,4 @@
-use Rattle.std.proofs.Common.{◌≡◌, ◌++◌, List, ℕ, sym, ap, ap₂, subst, ◌∙◌}
+use Rattle.std.proofs.Common.{◌++◌, sym, ap₂, subst, ◌∙◌}
 use Rattle.x10_model.specs.Modules.{FitsText}
 use Rattle.x10_heap.proofs.Texts.{joined_fits}
 use Rattle.x10_heap.proofs.text.Text.joined.Goals as goal

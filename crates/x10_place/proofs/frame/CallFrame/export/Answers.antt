@@ -1,4 +1,3 @@
-use Rattle.std.proofs.Common.{refl}
 use Rattle.x10_place.proofs.Acting.{exports}
 use Rattle.x10_place.proofs.frame.CallFrame.export.Goals as goal
 

@@ -1,5 +1,5 @@
-use Rattle.std.proofs.Common.{◌≡◌, List, ℕ, length, sym, ap, subst, refl, ◌∙◌}
-use Rattle.x10_place.specs.Frames.{workspace, space_of, with_space, IsWithin, IsFetched, IsFetchedFor}
+use Rattle.std.proofs.Common.{List, ℕ, length, sym, subst, refl, ◌∙◌}
+use Rattle.x10_place.specs.Frames.{workspace, space_of, with_space, IsWithin, IsFetched}
 use Rattle.x10_place.specs.StandsFor.{IsTypedFrame}
 use Rattle.x10_place.specs.Stretches.{Locally, none, more}
 use Rattle.x10_place.proofs.Fetching.{function_within, fetched_within, next_small, local_next, local_asks, local_within}

@@ -1,7 +1,7 @@
-use Rattle.std.proofs.Common.{◌≡◌, ◌<◌, false, ap, refl}
+use Rattle.std.proofs.Common.{◌≡◌, false, refl}
 use Rattle.x10_place.specs.StandsFor.{place_of}
 use Rattle.x10_place.specs.Opening.{opened_at, Opens}
-use Rattle.x10_place.proofs.Openings.{IsFresh, fresh, opened_then, opened_else, opened_first, opened_empty, opens_standing}
+use Rattle.x10_place.proofs.Openings.{fresh, opened_then, opened_else, opened_first, opened_empty, opens_standing}
 use Rattle.x10_place.proofs.place.Place.new.Goals.{then-id-eq0+in_ok-stays, else-id-eq0, then-id-eq0-2, else-id-eq0-2}
 use Rattle.x10_place.proofs.place.Place.new.Goals as goal
 

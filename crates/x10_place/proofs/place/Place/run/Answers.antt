@@ -1,5 +1,4 @@
 use Rattle.std.proofs.Common.{◌≡◌, true, sym, refl, subst}
-use Rattle.slab.specs.Slab.{with_value}
 use Rattle.x10_place.specs.StandsFor.{PlaceState, place_of}
 use Rattle.x10_place.specs.declared.stay.Pause.TheVariants as pause
 use Rattle.x10_place.specs.Stretches.{Strides, at_once, Paused}

@@ -1,4 +1,4 @@
-use Rattle.std.proofs.Common.{◌≡◌, true, sym, ap, subst, ◌∙◌}
+use Rattle.std.proofs.Common.{sym, ap, subst, ◌∙◌}
 use Rattle.slab.specs.Slab.{with_value}
 use Rattle.x10_place.specs.Frames.{IsFetchedFor}
 use Rattle.x10_place.specs.Stays.{StayState}

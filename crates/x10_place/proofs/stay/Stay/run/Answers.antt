@@ -1,4 +1,4 @@
-use Rattle.std.proofs.Common.{◌≡◌, ◌+◌, arith, refl, subst}
+use Rattle.std.proofs.Common.{◌+◌, arith, refl, subst}
 use Rattle.x10_place.specs.Stays.{location}
 use Rattle.x10_place.specs.declared.stay.Pause.TheVariants as pause
 use Rattle.x10_place.specs.Stretches.{still, Paused}
