@@ -47,6 +47,9 @@ pub fn is_supported(op: Op) -> bool
             | Op::Gopen
             | Op::Ifhere
             | Op::Ifsame
+            | Op::Async
+            | Op::Finb
+            | Op::Fine
             | Op::Print
     )
 }

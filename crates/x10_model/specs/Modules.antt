@@ -70,6 +70,9 @@ is_supported op.Gnew = true
 is_supported op.Gopen = true
 is_supported op.Ifhere = true
 is_supported op.Ifsame = true
+is_supported op.Async = true
+is_supported op.Finb = true
+is_supported op.Fine = true
 is_supported op.Print = true
 is_supported _ = false
 
