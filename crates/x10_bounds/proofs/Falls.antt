@@ -121,13 +121,13 @@ falls_loop loops earlier code pc i slots s at is =
 -- ---- the ends of loops
 
 -- an ENDL stands in a loop, whose slot and whose first instruction it names
-record ClosesLoop (code : List Instr) (i : Instr) (pc : ℕ) : Type 0 where
-  opener : ℕ
-  limit : ℕ
-  rs : List Region
-  inside : around code pc ≡ Turning opener limit ∷ rs
-  slot : i.a ≡ depth_of rs
-  back : i.x ≡ opener + 1
+pub record ClosesLoop (code : List Instr) (i : Instr) (pc : ℕ) : Type 0 where
+  pub opener : ℕ
+  pub limit : ℕ
+  pub rs : List Region
+  pub inside : around code pc ≡ Turning opener limit ∷ rs
+  pub slot : i.a ≡ depth_of rs
+  pub back : i.x ≡ opener + 1
 
 closes_in : (loops : ℕ) (code : List Instr) (i : Instr) (pc : ℕ) (rs : List Region) → around code pc ≡ rs → nests op.Endl rs ≡ true → has_slot loops rs i op.Endl ≡ true → jumps_back rs i.x ≡ true → ClosesLoop code i pc
 closes_in loops code i pc [] e n s j = absurd cc
@@ -141,7 +141,7 @@ closes_in loops code i pc (Turning o l ∷ rs) e n s j = record {
   back = eqb-true i.x (o + 1) j;
 }
 
-closes_loop : (loops : ℕ) (code : List Instr) (pc : ℕ) (i : Instr) → IsStructured loops code → slice_get code pc ≡ Some i → i.op ≡ op.Endl → ClosesLoop code i pc
+pub closes_loop : (loops : ℕ) (code : List Instr) (pc : ℕ) (i : Instr) → IsStructured loops code → slice_get code pc ≡ Some i → i.op ≡ op.Endl → ClosesLoop code i pc
 closes_loop loops code pc i s at is = closes_in loops code i pc (around code pc) refl
     (subst (λ p. nests p (around code pc) ≡ true) is (all_nest code s.nests pc i at))
     (slot_holds loops code pc i op.Endl s at is)
@@ -263,18 +263,18 @@ pending_jump earlier code slots pc x le leaves =
     let is : around code x ≡ left h.count (around code pc) = h.is ∙ ap (λ rs. rs ++ left h.count (around code pc)) none in
     subst (λ rs. pending earlier code slots rs ≤ pending earlier code slots (around code pc)) (sym is) (pending_left earlier code slots h.count (around code pc))
 
-record JumpsForward (code : List Instr) (pc x : ℕ) : Type 0 where
-  later : pc < x
-  within : x < length code
-  leaves : leaves_loops (around code pc) (around code x) ≡ true
+pub record JumpsForward (code : List Instr) (pc x : ℕ) : Type 0 where
+  pub later : pc < x
+  pub within : x < length code
+  pub leaves : leaves_loops (around code pc) (around code x) ≡ true
 
-forward_is : (code : List Instr) (pc x : ℕ) → jumps_forward code pc x ≡ true → JumpsForward code pc x
+pub forward_is : (code : List Instr) (pc x : ℕ) → jumps_forward code pc x ≡ true → JumpsForward code pc x
 forward_is code pc x e =
     let h = and_parts (nat_lt pc x && nat_lt x (length code)) (leaves_loops (around code pc) (around code x)) e in
     let k = and_parts (nat_lt pc x) (nat_lt x (length code)) h.0 in
     record { later = ltb-true pc x k.0; within = ltb-true x (length code) k.1; leaves = h.1 }
 
-jump_is : (code : List Instr) (pc : ℕ) (i : Instr) (o : Op) → o ≢ op.Endl → is_target (form_of o).x ≡ true → jumps_well code pc i o ≡ true → jumps_forward code pc i.x ≡ true
+pub jump_is : (code : List Instr) (pc : ℕ) (i : Instr) (o : Op) → o ≢ op.Endl → is_target (form_of o).x ≡ true → jumps_well code pc i o ≡ true → jumps_forward code pc i.x ≡ true
 jump_is code pc i op.Endl ne t e = absurd (ne refl)
 jump_is code pc i o ne t e = ap (λ b. if b then jumps_forward code pc i.x else true) (sym t) ∙ e
 

@@ -6,6 +6,7 @@ pub mod Failing
 pub mod Falls
 pub mod InOrder
 pub mod Levels
+pub mod OpenFinishes
 pub mod SpotTests
 pub mod Spots
 pub mod Sums

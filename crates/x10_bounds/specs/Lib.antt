@@ -1,5 +1,6 @@
 pub mod Faults
 pub mod Potential
+pub mod OpenFinishes
 pub mod Regions
 pub mod Shapes
 pub mod Spots
