@@ -4,12 +4,13 @@ use Rattle.slab.specs.Slab.{Slab, get}
 use Rattle.x10_model.specs.Modules.{Module, Function, IsEntry}
 use Rattle.x10_model.specs.Ranges.{function_at}
 use Rattle.x10_model.specs.Places as machine
-use Rattle.x10_model.specs.Places.{Setting}
+use Rattle.x10_model.specs.Places.{Setting, Finish, root}
+use Rattle.x10_model.specs.Totals.{zeros, first_totals}
 use Rattle.x10_model.specs.Worlds.{first_place, empty_place}
 use Rattle.x10_verify.specs.Certified.{Certified}
-use Rattle.x10_place.specs.Stays.{StayState}
+use Rattle.x10_place.specs.Stays.{StayState, StoreState, HasBook, kept_in}
 use Rattle.x10_heap.specs.Heaps.{empty}
-use Rattle.x10_place.specs.StandsFor.{PlaceState, IsAtHome, setting_of, StandsFor}
+use Rattle.x10_place.specs.StandsFor.{PlaceState, store_of, first_number, setting_of, StandsFor}
 
 -- the entry function at its first instruction, under the root finish
 pub record IsMain (program : Module) (a : StayState) : Type 0 where
@@ -21,7 +22,10 @@ pub record IsMain (program : Module) (a : StayState) : Type 0 where
   pub registers : function.registers ≤ length a.top.registers.items
   pub loops : a.top.loops ≡ replicate 8 0
   pub callers : a.callers ≡ []
-  pub home : IsAtHome a
+  pub finishes : a.finishes ≡ []
+  pub inherited : a.inherited ≡ root
+  pub away : a.away ≡ false
+  pub back : a.back ≡ None
 
 -- one activity, and no other
 pub record HoldsOnly (slab : Slab StayState) (key : ℕ) (a : StayState) : Type 0 where
@@ -32,23 +36,28 @@ pub record HoldsOnly (slab : Slab StayState) (key : ℕ) (a : StayState) : Type 
 abbrev pub opening_place : Setting → ℕ → ℕ → machine.Place
 opening_place setting key id = if id == 0 then first_place setting key else empty_place 0
 
--- how many finishes a place has opened at the beginning: place 0 the root
-abbrev pub opened_at : ℕ → ℕ
-opened_at id = if id == 0 then 1 else 0
+-- what a place keeps at the beginning: nothing is made, printed or opened, but that place 0 has opened the root, under
+-- which main lives
+pub record IsNewStore (id places : ℕ) (s : StoreState) : Type 0 where
+  pub heap : s.heap ≡ empty
+  pub lines : s.lines ≡ []
+  pub opened : s.opened ≡ first_number id
+  pub here : s.here ≡ id
+  pub places_is : s.places ≡ places
+  pub totals : (f : Finish) → s.totals f ≡ first_totals id f
+  pub kept : (n : ℕ) → kept_in (s.books n) ≡ (λ p. zeros)
+  pub unopened : (n : ℕ) → s.opened ≤ n → s.books n ≡ None
+  pub root : id ≡ 0 → HasBook s.books 0
 
 -- the place stands for the machine's place at the beginning, whatever other places export
 abbrev pub Opens : PlaceState → Type 0
 Opens p = (key : ℕ) × ((far : ℕ → ℕ → ℕ → Bool) → StandsFor far p (opening_place (setting_of p) key p.id))
 
--- a place as it was asked for, with nothing in its heap and no output
+-- a place as it was asked for, with what a place keeps at the beginning
 pub record IsNew (verified : Certified) (id places : ℕ) (p : PlaceState) : Type 0 where
   pub program : p.program ≡ verified.program
   pub bounds : p.bounds ≡ verified.bounds
-  pub id_is : p.id ≡ id
-  pub places_is : p.places ≡ places
-  pub heap : p.heap ≡ empty
-  pub lines : p.lines ≡ []
-  pub opened : p.opened ≡ opened_at id
+  pub store : IsNewStore id places (store_of p)
   pub stopped : p.stopped ≡ false
 
 -- the key is in use, and none from a number up to it is

@@ -1,33 +1,44 @@
 -- When a place of the program stands for a place of the machine.
-use Rattle.std.specs.Prelude.{◌≡◌, ℕ, ◌<◌, ◌≤◌, ◌⊎◌, Bool, true, false, List, [], ◌∷◌, ◌++◌, length, map, reverse, Option, Some, None, slice_get, slice_index}
+use Rattle.std.specs.Prelude.{◌≡◌, ℕ, ◌<◌, ◌≤◌, ◌⊎◌, Bool, true, false, List, [], ◌∷◌, ◌++◌, ◌==◌, ◌^◌, length, map, Option, if◌then◌else◌, Some, None, slice_get, slice_index}
 use Rattle.std.specs.Prelude.{string_bytes}
 use Rattle.slab.specs.Slab.{Slab, get}
 use Rattle.x10_kinds.specs.declared.kind.Kind.{Kind}
 use Rattle.x10_kinds.specs.declared.stop.Stop.{Stop}
 use Rattle.x10_kinds.specs.declared.stop.Stop.TheVariants as stop
 use Rattle.x10_code.specs.declared.op.Op.{Op}
+use Rattle.x10_code.specs.declared.op.Op.TheVariants as op
 use Rattle.x10_code.specs.declared.instr.Instr.{Instr}
 use Rattle.x10_model.specs.Modules.{Module, Function}
 use Rattle.x10_model.specs.Moves.{Moves}
 use Rattle.x10_model.specs.Ranges.{function_at, instr_at}
 use Rattle.x10_model.specs.Assignments.{State}
 use Rattle.x10_model.specs.Places as machine
-use Rattle.x10_model.specs.Places.{Setting, Effect, Stay, root, Number, Words}
+use Rattle.x10_model.specs.Places.{Setting, Finish, Effect, Waits, Closes, Stay, Number, Words}
+use Rattle.x10_model.specs.Totals.{Totals, Cut, nothing, Did, totals_after, is_reported}
+use Rattle.x10_model.specs.Worlds.{sent}
 use Rattle.x10_model.specs.Values.{Value, Cells}
 use Rattle.x10_verify.specs.Certified.{Certified}
 use Rattle.x10_verify.specs.Least.{HasLeast}
 use Rattle.x10_heap.specs.declared.export.Export.{Export}
 use Rattle.x10_heap.specs.Heaps.{HeapState, ObjectState}
 use Rattle.x10_heap.specs.Words.{Context, export_as, IsWordOf, HoldsHeap}
+use Rattle.x10_finish.specs.Counts.{IsLargest}
+use Rattle.x10_finish.specs.Nesting.{nth}
+use Rattle.x10_finish.specs.Watching.{closes, IsTallied}
 use Rattle.x10_place.specs.declared.frame.CallFrame.{CallFrame}
 use Rattle.x10_place.specs.declared.line.Line.{Line}
 use Rattle.x10_place.specs.declared.line.Line.TheVariants as line
+use Rattle.x10_place.specs.declared.place.Stepped.{Stepped}
+use Rattle.x10_place.specs.declared.place.Stepped.TheVariants as stepped
+use Rattle.x10_place.specs.declared.route.Route.{Route}
+use Rattle.x10_place.specs.declared.route.Route.TheVariants as route
 use Rattle.x10_place.specs.Homes.{AreHomes}
 use Rattle.x10_place.specs.Routes.{route_of}
-use Rattle.x10_place.specs.Stays.{StayState, StoreState, Location, IsPlaced, OverfillsBy}
+use Rattle.x10_place.specs.Stays.{StayState, StoreState, Location, IsPlaced, IsDoneHere, HasBook, OverfillsBy, finish_at, kept_in, innermost_at}
 
--- what callers see of a place: the module with the bounds of its functions, its number and how many there are, the stays
--- by key, the heap, the lines of output, how many finishes it opened, and whether it has stopped
+-- What callers see of a place: the module with the bounds of its functions, its number and how many there are, the stays
+-- by key, the heap, the lines of output, how many finishes it opened, what it has counted of each finish, what it keeps
+-- of reports for each finish of its own that is open, and whether it has stopped.
 pub record PlaceState : Type 0 where
   pub program : Module
   pub bounds : List ℕ
@@ -37,19 +48,25 @@ pub record PlaceState : Type 0 where
   pub heap : HeapState
   pub lines : List Line
   pub opened : ℕ
+  pub totals : Finish → Totals
+  pub books : ℕ → Option Cut
   pub stopped : Bool
 
 -- what it keeps for all its stays
 abbrev pub store_of : PlaceState → StoreState
-store_of p = record { heap = p.heap; lines = p.lines; opened = p.opened }
+store_of p = record { heap = p.heap; lines = p.lines; opened = p.opened; here = p.id; places = p.places; totals = p.totals; books = p.books }
+
+-- how much room there is for stays is nobody's affair
+abbrev pub plain : Slab StayState → Slab StayState
+plain slab = record slab { capacity = 0 }
 
 -- a place as its fields are seen
-abbrev pub place_of : Certified → ℕ → ℕ → Slab StayState → StoreState → Bool → PlaceState
-place_of verified id places stays store stopped = record { program = verified.program; bounds = verified.bounds; id = id; places = places; stays = stays; heap = store.heap; lines = store.lines; opened = store.opened; stopped = stopped }
+abbrev pub place_of : Certified → Slab StayState → StoreState → Bool → PlaceState
+place_of verified stays store stopped = record { program = verified.program; bounds = verified.bounds; id = store.here; places = store.places; stays = plain stays; heap = store.heap; lines = store.lines; opened = store.opened; totals = store.totals; books = store.books; stopped = stopped }
 
 -- the place with other stays, and what it then keeps for them
 abbrev pub with_stays : PlaceState → Slab StayState → StoreState → PlaceState
-with_stays p stays s = record p { stays = stays; heap = s.heap; lines = s.lines; opened = s.opened }
+with_stays p stays s = record p { stays = plain stays; id = s.here; places = s.places; heap = s.heap; lines = s.lines; opened = s.opened; totals = s.totals; books = s.books }
 
 -- which home, number and class name an object at another place
 abbrev pub Far : Type 0
@@ -101,10 +118,9 @@ abbrev pub StandForCallers : (program : Module) → Assigned program → Context
 StandForCallers program assigned x fs [] = fs ≡ []
 StandForCallers program assigned x fs (c ∷ cs) = (before : List CallFrame) × (f : CallFrame) × (fs ≡ before ++ f ∷ []) × StandsForFrame program assigned x f c × StandForCallers program assigned x before cs
 
--- what no operation so far changes: no finish is open but the root, and nobody is away or was sent here
-pub record IsAtHome (a : StayState) : Type 0 where
-  pub finishes : a.finishes ≡ []
-  pub inherited : a.inherited ≡ root
+-- what no operation so far changes: nobody is away or was sent here, and all finishes are of this place
+pub record IsAtHome (here : ℕ) (a : StayState) : Type 0 where
+  pub inherited : a.inherited.home ≡ here
   pub away : a.away ≡ false
   pub back : a.back ≡ None
 
@@ -113,11 +129,11 @@ pub record StandsForStay (program : Module) (assigned : Assigned program) (x : C
   pub placed : IsPlaced program a
   pub top : StandsForFrame program assigned x a.top s.top
   pub callers : StandForCallers program assigned x a.callers s.callers
-  pub finishes : s.finishes ≡ reverse a.finishes
+  pub finishes : s.finishes ≡ a.finishes
   pub inherited : s.inherited ≡ a.inherited
   pub away : s.away ≡ a.away
   pub back : s.back ≡ a.back
-  pub home : IsAtHome a
+  pub home : IsAtHome x.here a
 
 -- ---- words with their kinds
 
@@ -162,8 +178,23 @@ pub record HoldsExports (heap : HeapState) (exports : List machine.Export) : Typ
   pub exports_are : exports ≡ map export_as heap.exports
   pub named : AreNamed heap
 
+-- the least number of the finishes that stays of a place open: at place 0 the root has number 0
+abbrev pub first_number : ℕ → ℕ
+first_number id = if id == 0 then 1 else 0
+
+-- Each finish that a stay has open has a number that its place gave, and a book. No two are the same, and a number that was
+-- not given yet has no book. At place 0 there is the root's book.
+pub record AreBooked (id : ℕ) (stays : ℕ → Option Stay) (opened : ℕ) (books : ℕ → Option Cut) : Type 0 where
+  pub booked : (k i n : ℕ) (s : Stay) → stays k ≡ Some s → nth s.finishes i ≡ Some n → HasBook books n
+  pub numbered : (k i n : ℕ) (s : Stay) → stays k ≡ Some s → nth s.finishes i ≡ Some n → (first_number id ≤ n) × (n < opened)
+  pub apart : (k l i j n : ℕ) (s t : Stay) → stays k ≡ Some s → stays l ≡ Some t → nth s.finishes i ≡ Some n → nth t.finishes j ≡ Some n → (k ≡ l) × (i ≡ j)
+  pub unopened : (n : ℕ) → opened ≤ n → books n ≡ None
+  pub first : first_number id ≤ opened
+  pub root : id ≡ 0 → HasBook books 0
+
 -- A place of the program stands for a place of the machine, where it is known what other places export: the same stays
--- under the same keys, the same heap, exports and output, and as many finishes opened.
+-- under the same keys, the same heap, exports and output, and as many finishes opened. It has counted how many of its
+-- stays inherited each finish, and keeps a book of each finish that is open here.
 pub record StandsFor (far : Far) (p : PlaceState) (m : machine.Place) : Type 0 where
   pub assigned : Assigned p.program
   pub none : (key : ℕ) → get p.stays key ≡ None → m.stays key ≡ None
@@ -173,6 +204,8 @@ pub record StandsFor (far : Far) (p : PlaceState) (m : machine.Place) : Type 0 w
   pub exports : HoldsExports p.heap m.exports
   pub opened : m.opened ≡ p.opened
   pub lines : m.lines ≡ map line_as p.lines
+  pub tallied : IsTallied m.stays p.totals
+  pub booked : AreBooked p.id m.stays p.opened p.books
 
 -- some place of the machine is stood for, whatever other places export
 abbrev pub IsStanding : PlaceState → Type 0
@@ -185,14 +218,43 @@ pub record Keeps (p q : PlaceState) : Type 0 where
   pub id : q.id ≡ p.id
   pub places : q.places ≡ p.places
 
+-- What a move changes of what is counted and kept, of each finish but the one that it closes. It closes one that may end;
+-- it puts out no message, and no report is due.
+pub record IsCountedBy (s : StoreState) (effect : Effect) (t : StoreState) : Type 0 where
+  pub here : t.here ≡ s.here
+  pub places : t.places ≡ s.places
+  pub totals : (f : Finish) → closes s.here effect f ≡ false → t.totals f ≡ totals_after f (s.totals f) (Did effect)
+  pub kept : (n : ℕ) → closes s.here effect (finish_at s.here n) ≡ false → kept_in (t.books n) ≡ kept_in (s.books n)
+  pub done : (n : ℕ) → effect ≡ Closes n → IsDoneHere s n × (t.totals (finish_at s.here n) ≡ nothing)
+  pub silent : sent effect ≡ None
+  pub unreported : (f : Finish) → is_reported s.here f (s.totals f) (Did effect) ≡ false
+
+-- a step finds nothing to do exactly where the move waits at the end of a finish
+abbrev pub Answers : Stepped → Effect → Type 0
+Answers stepped.Idle effect = (number : ℕ) × (effect ≡ Waits number)
+Answers stepped.Moved effect = (number : ℕ) → effect ≡ Waits number → ⊥
+
 -- From a place of the machine that the old state stands for, the move of the activity with the key leads to one that
 -- the new state stands for.
-abbrev pub Leads : Far → PlaceState → machine.Place → ℕ → Effect → PlaceState → Type 0
-Leads far p m key effect q = (new : machine.Place) × Moves (setting_of p) p.id m key new effect × StandsFor far q new
+pub record Leads (far : Far) (p : PlaceState) (m : machine.Place) (key : ℕ) (answer : Stepped) (q : PlaceState) : Type 0 where
+  pub effect : Effect
+  pub new : machine.Place
+  pub moves : Moves (setting_of p) p.id m key new effect
+  pub stands : StandsFor far q new
+  pub counted : IsCountedBy (store_of p) effect (store_of q)
+  pub answers : Answers answer effect
 
 -- each place of the machine that the state stands for makes such a move
-abbrev pub LeadsAll : PlaceState → ℕ → PlaceState → Type 0
-LeadsAll p key q = (far : Far) (m : machine.Place) → StandsFor far p m → (effect : Effect) × Leads far p m key effect q
+abbrev pub LeadsAll : PlaceState → ℕ → Stepped → PlaceState → Type 0
+LeadsAll p key answer q = (far : Far) (m : machine.Place) → StandsFor far p m → Leads far p m key answer q
+
+-- an activity would begin that there can't be: its key (10), or how many live under its finish (6), would be too large
+abbrev pub OverfillsBegin : PlaceState → StayState → ℕ → Type 0
+OverfillsBegin p a limit = ((limit ≡ 10) × (2 ^ 32 ≤ p.stays.vacant_key)) ⊎ ((limit ≡ 6) × (p.stays.vacant_key < 2 ^ 32) × IsLargest (p.totals (innermost_at p.id a)).live)
+
+abbrev pub Overfills : Route → PlaceState → StayState → Instr → ℕ → Type 0
+Overfills route.Begin p a i limit = OverfillsBegin p a limit
+Overfills r p a i limit = OverfillsBy r a (store_of p) i limit
 
 -- the instruction of the activity with the key would make one more of what there can be no more of
 pub record IsOverfull (p : PlaceState) (key limit : ℕ) : Type 0 where
@@ -200,20 +262,23 @@ pub record IsOverfull (p : PlaceState) (key limit : ℕ) : Type 0 where
   pub is_there : get p.stays key ≡ Some stay
   pub instr : Instr
   pub instr_is : instr_at p.program stay.top.function stay.top.pc ≡ Some instr
-  pub overfills : OverfillsBy (route_of instr.op) p.heap stay.top.registers.items instr limit
+  pub overfills : Overfills (route_of instr.op) p stay instr limit
 
 -- why a step of the activity with the key is not made: memory was refused, or it would pass a limit
 abbrev pub IsHindered : PlaceState → ℕ → Stop → Type 0
 IsHindered p key why = (why ≡ stop.Memory) ⊎ ((limit : ℕ) × (why ≡ stop.Limit limit) × IsOverfull p key limit)
 
--- a step of the activity with the key would find nothing to do: there is none
-abbrev pub IsIdleAt : PlaceState → ℕ → Type 0
-IsIdleAt p key = get p.stays key ≡ None
+-- the operation of an instruction of a function
+abbrev pub IsOperation : Module → ℕ → ℕ → Op → Type 0
+IsOperation program function pc op = (i : Instr) × (instr_at program function pc ≡ Some i) × (i.op ≡ op)
+
+-- a step of the activity with the key would find nothing to do: there is none, it is away, or it stands at the end of a
+-- finish that may not end yet
+pub data IsIdleAt (p : PlaceState) (key : ℕ) : Type 0 where
+  nobody : get p.stays key ≡ None → IsIdleAt p key
+  away : (a : StayState) → get p.stays key ≡ Some a → a.away ≡ true → IsIdleAt p key
+  waits : (a : StayState) (number : ℕ) (outer : List ℕ) → get p.stays key ≡ Some a → IsOperation p.program a.top.function a.top.pc op.Fine → a.finishes ≡ number ∷ outer → (IsDoneHere (store_of p) number → ⊥) → IsIdleAt p key
 
 -- the activity with the key stands at an instruction of a function
 abbrev pub IsAt : Slab StayState → ℕ → ℕ → ℕ → Type 0
 IsAt slab key function pc = (a : StayState) × (get slab key ≡ Some a) × (a.top.function ≡ function) × (a.top.pc ≡ pc)
-
--- the operation of an instruction of a function
-abbrev pub IsOperation : Module → ℕ → ℕ → Op → Type 0
-IsOperation program function pc op = (i : Instr) × (instr_at program function pc ≡ Some i) × (i.op ≡ op)

@@ -1,5 +1,8 @@
 -- Stays of activities at a place: what they are, and what a step does to one and to what the place keeps.
-use Rattle.std.specs.Prelude.{◌≡◌, ℕ, ◌+◌, ◌<◌, Bool, true, false, List, [], ◌∷◌, ◌++◌, length, Option, Some, None, slice_get, slice_set, string_bytes}
+use Rattle.std.specs.Prelude.{◌≡◌, ℕ, ◌+◌, ◌<◌, ◌≤◌, ◌^◌, ◌⊎◌, Bool, false, List, [], ◌∷◌, ◌++◌, length, Option, Some, None, slice_get, slice_set, string_bytes}
+use Rattle.std.specs.BTreeMap.{BTreeMap}
+use Rattle.std.specs.BTreeMap as map
+use Rattle.std.specs.Ordering.{nat_cmp}
 use Rattle.x10_kinds.specs.declared.kind.Kind.TheVariants as kind
 use Rattle.x10_kinds.specs.declared.stop.Stop.{Stop}
 use Rattle.x10_kinds.specs.declared.stop.Stop.TheVariants as stop
@@ -8,14 +11,23 @@ use Rattle.x10_code.specs.declared.instr.Instr.{Instr}
 use Rattle.x10_model.specs.Modules.{Module, Function}
 use Rattle.x10_model.specs.declared.slot.Slot.{Slot}
 use Rattle.x10_model.specs.Assignments.{State, IsKind}
-use Rattle.x10_model.specs.Places.{Finish, Origin}
+use Rattle.x10_model.specs.Maps.{with_entry}
+use Rattle.x10_model.specs.Places.{Finish, Origin, innermost_of}
+use Rattle.x10_model.specs.Totals.{Totals, Cut, nothing, zeros, begins_one, ends_one, if_same, IsDoneAt}
 use Rattle.x10_model.specs.Ranges.{function_at, instr_at, result_of}
+use Rattle.x10_image.specs.Parts.{code_at}
+use Rattle.x10_bounds.specs.OpenFinishes.{finishes_around}
 use Rattle.x10_finish.specs.declared.finish.Finish as finish
+use Rattle.x10_finish.specs.Books.{Kept, kept_of}
+use Rattle.x10_finish.specs.Counts.{IsLargest}
+use Rattle.x10_finish.specs.Nesting.{nth}
 use Rattle.x10_heap.specs.Heaps.{HeapState, empty, IsFull}
 use Rattle.x10_verify.specs.Least.{HasLeast}
 use Rattle.x10_verify.specs.Printing.{PrintsText}
 use Rattle.x10_place.specs.declared.frame.CallFrame.{CallFrame}
 use Rattle.x10_place.specs.declared.stay.Origin as stay
+use Rattle.x10_place.specs.declared.stay.Outcome.{Outcome}
+use Rattle.x10_place.specs.declared.stay.Outcome.TheVariants as outcome
 use Rattle.x10_place.specs.declared.stay.Spot.{Spot}
 use Rattle.x10_place.specs.declared.line.Line.{Line}
 use Rattle.x10_place.specs.declared.line.Line.TheVariants as line
@@ -34,14 +46,59 @@ pub record StayState : Type 0 where
   pub away : Bool
   pub back : Option Origin
 
--- what a place keeps for all its stays: the heap, the lines of output, and how many finishes it opened
+-- What a place keeps for all its stays: the heap, the lines of output, how many finishes it opened; which place it is, of
+-- how many; what it has counted of each finish; and of each finish that it opened and that is open, by its number, what
+-- other places have reported.
 pub record StoreState : Type 0 where
   pub heap : HeapState
   pub lines : List Line
   pub opened : ℕ
+  pub here : ℕ
+  pub places : ℕ
+  pub totals : Finish → Totals
+  pub books : ℕ → Option Cut
 
-abbrev pub new_store : ℕ → StoreState
-new_store opened = record { heap = empty; lines = []; opened = opened }
+-- the cut that a book keeps, by the number of its finish
+abbrev pub cut_of : Option Kept → Option Cut
+cut_of None = None
+cut_of (Some b) = Some (kept_of b)
+
+abbrev pub books_of : BTreeMap ℕ Kept → ℕ → Option Cut
+books_of books n = cut_of (map.get nat_cmp books n)
+
+-- each book is that of a finish of this place, under its number
+pub record IsBookOf (here places n : ℕ) (b : Kept) : Type 0 where
+  pub home : b.home ≡ here
+  pub number : b.number ≡ n
+  pub places_are : b.places ≡ places
+
+abbrev pub AreBooks : ℕ → ℕ → BTreeMap ℕ Kept → Type 0
+AreBooks here places books = (n : ℕ) (b : Kept) → map.get nat_cmp books n ≡ Some b → IsBookOf here places n b
+
+-- the finish with a number that a place opened
+abbrev pub finish_at : ℕ → ℕ → Finish
+finish_at here number = record { home = here; number = number }
+
+-- what a home keeps of a finish: nothing was reported where it has no book
+abbrev pub kept_in : Option Cut → Cut
+kept_in None = λ p. zeros
+kept_in (Some cut) = cut
+
+-- a book is kept of the finish with a number
+abbrev pub HasBook : (ℕ → Option Cut) → ℕ → Type 0
+HasBook books n = (cut : Cut) × (books n ≡ Some cut)
+
+-- the totals of one finish change
+abbrev pub changed_at : (Finish → Totals) → Finish → (Totals → Totals) → Finish → Totals
+changed_at totals f change g = if_same g f (change (totals g)) (totals g)
+
+-- the home lets the finish with a number end
+abbrev pub IsDoneHere : StoreState → ℕ → Type 0
+IsDoneHere s n = IsDoneAt s.places s.here (s.totals (finish_at s.here n)) (kept_in (s.books n))
+
+-- there can be no more of what is counted so far
+abbrev pub IsOut : ℕ → Type 0
+IsOut count = 2 ^ 32 ≤ count + 1
 
 -- where a stay is: a place of a run of a module, by its number, one of so many
 pub record Location : Type 0 where
@@ -79,9 +136,19 @@ abbrev pub AreCalling : Module → List CallFrame → ℕ → Type 0
 AreCalling program [] top = Unit {0}
 AreCalling program (f ∷ fs) top = IsCalling program f (next_function fs top) × AreCalling program fs top
 
+-- how many finishes of its function a frame stands in
+abbrev pub open_at : Module → CallFrame → ℕ
+open_at program f = finishes_around (code_at program f.function) f.pc
+
+abbrev pub open_in : Module → List CallFrame → ℕ
+open_in program [] = 0
+open_in program (f ∷ fs) = open_at program f + open_in program fs
+
+-- the stay stands where it can go on, with as many finishes open as its frames stand in
 pub record IsPlaced (program : Module) (a : StayState) : Type 0 where
   pub top : IsInside program a.top
   pub callers : AreCalling program a.callers a.top.function
+  pub finishes : length a.finishes ≡ open_in program a.callers + open_at program a.top
 
 -- ---- steps
 
@@ -127,10 +194,16 @@ pub record Resumes (program : Module) (a : StayState) (i : Instr) (b : StayState
   pub goes : GoesOn (result_of (function_at program a.top.function)) caller call a.top i b.top
   pub rest : b ≡ record a { top = b.top; callers = b.callers }
 
+-- the last function of a stay ends, and with it the stay: one fewer lives under the finish that it inherited
+pub record EndsStay (a : StayState) (s t : StoreState) : Type 0 where
+  pub callers : a.callers ≡ []
+  pub store : t ≡ record s { totals = changed_at s.totals a.inherited ends_one }
+
 -- a function ends: its caller goes on, or there is none
-abbrev pub Returns : Module → StayState → Instr → Bool → StayState → Type 0
-Returns program a i true b = Resumes program a i b
-Returns program a i false b = a.callers ≡ []
+abbrev pub Returns : Module → StayState → StoreState → Instr → Outcome → StayState → StoreState → Type 0
+Returns program a s i outcome.Goes b t = Resumes program a i b × (t ≡ s)
+Returns program a s i outcome.Ends b t = EndsStay a s t
+Returns program a s i _ b t = ⊥
 
 -- the least consistent assignment knows a number where the PRINT stands, if it has a state there
 abbrev pub PrintsNumber : Module → ℕ → ℕ → ℕ → Type 0
@@ -149,34 +222,94 @@ pub record Prints (program : Module) (a : StayState) (s : StoreState) (i : Instr
   pub rest : b ≡ record a { top = b.top }
   pub store : t ≡ record s { lines = s.lines ++ printed ∷ [] }
 
--- what an operation does to a stay and to what the place keeps, and whether the stay goes on
-abbrev pub Steps : Route → Location → StayState → StoreState → Instr → Bool → StayState → StoreState → Type 0
-Steps (route.Local l) at a s i goes b t = (goes ≡ true) × ChangesTop (λ v w. Acts l at.program v i w) a s b t
-Steps (route.Make m) at a s i goes b t = (goes ≡ true) × ChangesTop (λ v w. Makes m at.program v i w) a s b t
-Steps (route.Site k) at a s i goes b t = (goes ≡ true) × ChangesTop (λ v w. ActsAt k at.here at.places v i w) a s b t
-Steps route.Export at a s i goes b t = (goes ≡ true) × ChangesTop (λ v w. ExportsObject at.here v i w) a s b t
-Steps route.Call at a s i goes b t = (goes ≡ true) × Calls at.program a i b × (t ≡ s)
-Steps route.Return at a s i goes b t = Returns at.program a i goes b × (t ≡ s)
-Steps route.Print at a s i goes b t = (goes ≡ true) × Prints at.program a s i b t
-Steps route.Later at a s i goes b t = ⊥
+-- ---- finishes
 
--- what an operation reads in the heap, or of places, is there
-abbrev pub ReadsHeap : Route → Location → StayState → HeapState → Instr → Type 0
-ReadsHeap (route.Local l) at a heap i = Reads l heap a.top.registers.items i
-ReadsHeap (route.Make m) at a heap i = ReadsMake m heap a.top.registers.items i
-ReadsHeap (route.Site k) at a heap i = ReadsAt k at.places a.top.registers.items i
-ReadsHeap route.Export at a heap i = NamesObject heap a.top.registers.items i.b
-ReadsHeap route.Print at a heap i = PrintsText at.program a.top.function a.top.pc → word_at a.top.registers.items i.a < length heap.texts
-ReadsHeap _ at a heap i = Unit {0}
+-- a finish is opened: it takes the next number, and nothing was reported of it yet
+pub record OpensFinish (a : StayState) (s : StoreState) (b : StayState) (t : StoreState) : Type 0 where
+  pub top : GoesNext a.top b.top
+  pub rest : b ≡ record a { top = b.top; finishes = s.opened ∷ a.finishes }
+  pub store : t ≡ record s { opened = s.opened + 1; books = with_entry s.books s.opened (Some (λ p. zeros)) }
 
--- an operation would make one more of what there can be no more of
-abbrev pub OverfillsBy : Route → HeapState → List ℕ → Instr → ℕ → Type 0
-OverfillsBy (route.Make m) heap words i limit = Overfills m heap words i limit
-OverfillsBy route.Export heap words i limit = (limit ≡ 4) × IsFull (length heap.exports)
-OverfillsBy _ heap words i limit = ⊥
+-- the innermost finish may end, and is closed: what was counted of it goes, and its book
+pub record ClosesFinish (a : StayState) (s : StoreState) (b : StayState) (t : StoreState) : Type 0 where
+  pub number : ℕ
+  pub innermost : a.finishes ≡ number ∷ b.finishes
+  pub done : IsDoneHere s number
+  pub top : GoesNext a.top b.top
+  pub rest : b ≡ record a { top = b.top; finishes = b.finishes }
+  pub store : t ≡ record s { totals = changed_at s.totals (finish_at s.here number) (λ u. nothing); books = with_entry s.books number None }
 
--- why an operation is refused: for want of memory, or since there can be no more of what it makes
-abbrev pub Refuses : Route → StayState → HeapState → Instr → Stop → Type 0
-Refuses (route.Make m) a heap i why = IsRefused m heap a.top.registers.items i why
-Refuses route.Export a heap i why = IsExportRefused heap why
-Refuses _ a heap i why = why ≡ stop.Memory
+-- it may not end yet, and nothing changes
+pub record WaitsAtFinish (a : StayState) (s : StoreState) (b : StayState) (t : StoreState) : Type 0 where
+  pub number : ℕ
+  pub outer : List ℕ
+  pub innermost : a.finishes ≡ number ∷ outer
+  pub waits : IsDoneHere s number → ⊥
+  pub stay : b ≡ a
+  pub store : t ≡ s
+
+abbrev pub LeavesFinish : StayState → StoreState → Outcome → StayState → StoreState → Type 0
+LeavesFinish a s outcome.Goes b t = ClosesFinish a s b t
+LeavesFinish a s outcome.Waits b t = WaitsAtFinish a s b t
+LeavesFinish a s _ b t = ⊥
+
+-- ---- all operations
+
+-- What an operation does to a stay and to what the place keeps, and what becomes of the stay. An activity is begun by the
+-- place: to the stay nothing has happened yet.
+abbrev pub Steps : Route → Location → StayState → StoreState → Instr → Outcome → StayState → StoreState → Type 0
+Steps (route.Local l) at a s i o b t = (o ≡ outcome.Goes) × ChangesTop (λ v w. Acts l at.program v i w) a s b t
+Steps (route.Make m) at a s i o b t = (o ≡ outcome.Goes) × ChangesTop (λ v w. Makes m at.program v i w) a s b t
+Steps (route.Site k) at a s i o b t = (o ≡ outcome.Goes) × ChangesTop (λ v w. ActsAt k at.here at.places v i w) a s b t
+Steps route.Export at a s i o b t = (o ≡ outcome.Goes) × ChangesTop (λ v w. ExportsObject at.here v i w) a s b t
+Steps route.Call at a s i o b t = (o ≡ outcome.Goes) × Calls at.program a i b × (t ≡ s)
+Steps route.Return at a s i o b t = Returns at.program a s i o b t
+Steps route.Print at a s i o b t = (o ≡ outcome.Goes) × Prints at.program a s i b t
+Steps route.OpenFinish at a s i o b t = (o ≡ outcome.Goes) × OpensFinish a s b t
+Steps route.CloseFinish at a s i o b t = LeavesFinish a s o b t
+Steps route.Begin at a s i o b t = (o ≡ outcome.Begins) × (b ≡ a) × (t ≡ s)
+Steps route.Later at a s i o b t = ⊥
+
+-- the innermost finish is open at this place
+abbrev pub HasFinish : StayState → StoreState → Type 0
+HasFinish a s = (number : ℕ) × (outer : List ℕ) × (a.finishes ≡ number ∷ outer) × HasBook s.books number
+
+-- what an operation reads in the heap, of places or of finishes is there
+abbrev pub ReadsStore : Route → Location → StayState → StoreState → Instr → Type 0
+ReadsStore (route.Local l) at a s i = Reads l s.heap a.top.registers.items i
+ReadsStore (route.Make m) at a s i = ReadsMake m s.heap a.top.registers.items i
+ReadsStore (route.Site k) at a s i = ReadsAt k at.places a.top.registers.items i
+ReadsStore route.Export at a s i = NamesObject s.heap a.top.registers.items i.b
+ReadsStore route.Print at a s i = PrintsText at.program a.top.function a.top.pc → word_at a.top.registers.items i.a < length s.heap.texts
+ReadsStore route.Return at a s i = 0 < (s.totals a.inherited).live
+ReadsStore route.CloseFinish at a s i = HasFinish a s
+ReadsStore _ at a s i = Unit {0}
+
+-- an operation of a stay would make one more of what there can be no more of
+abbrev pub OverfillsBy : Route → StayState → StoreState → Instr → ℕ → Type 0
+OverfillsBy (route.Make m) a s i limit = Overfills m s.heap a.top.registers.items i limit
+OverfillsBy route.Export a s i limit = (limit ≡ 4) × IsFull (length s.heap.exports)
+OverfillsBy route.OpenFinish a s i limit = (limit ≡ 5) × IsOut s.opened
+OverfillsBy _ a s i limit = ⊥
+
+-- why an operation of a stay is refused: for want of memory, or since there can be no more of what it makes
+abbrev pub Refuses : Route → StayState → StoreState → Instr → Stop → Type 0
+Refuses (route.Make m) a s i why = IsRefused m s.heap a.top.registers.items i why
+Refuses route.Export a s i why = IsExportRefused s.heap why
+Refuses route.OpenFinish a s i why = (why ≡ stop.Memory) ⊎ ((why ≡ stop.Limit 5) × IsOut s.opened)
+Refuses _ a s i why = why ≡ stop.Memory
+
+-- ---- activities that begin
+
+-- the innermost finish of a stay
+abbrev pub innermost_at : ℕ → StayState → Finish
+innermost_at here a = innermost_of here a.inherited a.finishes
+
+-- a stay at the first instruction of a function, with the arguments in its first registers, under a finish
+pub record IsBegun (program : Module) (words : List ℕ) (i : Instr) (under : Finish) (c : StayState) : Type 0 where
+  pub entered : IsEntered program words i c.top
+  pub callers : c.callers ≡ []
+  pub finishes : c.finishes ≡ []
+  pub inherited : c.inherited ≡ under
+  pub away : c.away ≡ false
+  pub back : c.back ≡ None

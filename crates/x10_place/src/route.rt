@@ -103,6 +103,12 @@ pub(crate) enum Route {
     Call,
     Return,
     Print,
+    /// Opens a finish.
+    OpenFinish,
+    /// Closes the innermost finish, or waits there.
+    CloseFinish,
+    /// Begins an activity at this place.
+    Begin,
     /// An operation that no image may have yet.
     Later,
 }
@@ -152,6 +158,9 @@ pub(crate) fn classify(op: Op) -> Route
         Op::Gopen => Route::Local(Local::Open),
         Op::Ifhere => Route::Site(Site::IsHere),
         Op::Ifsame => Route::Local(Local::SamePlace),
-        Op::Async | Op::At | Op::Ata | Op::Finb | Op::Fine => Route::Later,
+        Op::Async => Route::Begin,
+        Op::Finb => Route::OpenFinish,
+        Op::Fine => Route::CloseFinish,
+        Op::At | Op::Ata => Route::Later,
     }
 }
