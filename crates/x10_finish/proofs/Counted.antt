@@ -28,7 +28,7 @@ use Rattle.x10_finish.proofs.Following.{Live, Fly, not_unused, live_same, live_n
 same_self : (f g : Finish) → f ≡ g → same_finish f g ≡ true
 same_self f g e = (let h = eq-eqb f.home g.home (ap (λ (x : Finish). x.home) e) in let n = eq-eqb f.number g.number (ap (λ (x : Finish). x.number) e) in rw (h, n) refl)
 
-apart_by : (f g : Finish) → same_finish f g ≡ false → f ≡ g → ⊥
+pub apart_by : (f g : Finish) → same_finish f g ≡ false → f ≡ g → ⊥
 apart_by f g no_more e = absurd (let x = same_self f g e in cc)
 
 -- ---- one event or none

@@ -1,5 +1,5 @@
 -- Ledgers: what a change of one count does to the totals of all finishes.
-use Rattle.std.proofs.Common.{◌≡◌, ℕ, ◌==◌, Bool, true, false, cond, if◌then◌else◌, List, Option, Some, is_some, Result, Ok, Err, OnOk, OnErr, IfErr, inl, inr, refl, sym, ◌∙◌, ap, subst, arith}
+use Rattle.std.proofs.Common.{◌≡◌, ℕ, ◌==◌, Bool, true, false, cond, if◌then◌else◌, List, Option, Some, None, is_some, Result, Ok, Err, OnOk, OnErr, IfErr, inl, inr, refl, sym, ◌∙◌, ap, subst, arith}
 use Rattle.std.proofs.lemmas.Bool.{eqb-true}
 use Rattle.std.specs.Ordering.{nat_cmp, ordering_then, is_eq}
 use Rattle.std.specs.declared.cmp.Ordering.{Ordering}
@@ -15,7 +15,7 @@ use Rattle.x10_finish.specs.declared.count.Count.{Count}
 use Rattle.x10_finish.specs.declared.count.Change.{Change}
 use Rattle.x10_finish.specs.declared.count.Change.TheVariants.{Begins, Sends, Receives}
 use Rattle.x10_finish.specs.Counts.{counted, IsWhole, IsLargest, IsFull}
-use Rattle.x10_finish.specs.Ledgers.{named, key_of, finish_cmp, count_of, counted_or_nothing, Ledger, totals_of, is_met, AreWhole, Counts, Refuses}
+use Rattle.x10_finish.specs.Ledgers.{named, key_of, finish_cmp, count_of, counted_or_nothing, Ledger, totals_of, is_met, AreWhole, Counts, Forgets, Refuses}
 
 equal_then : (o p : Ordering) → is_eq (ordering_then o p) ≡ (if is_eq o then is_eq p else false)
 equal_then Less p = refl
@@ -69,6 +69,33 @@ whole_then places false w c o h g e = g e
 
 pub AreWhole-by : (places : ℕ) (old new : List (Finish × Count)) (k : Finish) (w : Count) → Writes old k w new → IsWhole places w → AreWhole places old → AreWhole places new
 AreWhole-by places old new k w h g all f c e = whole_then places (is_at (finish_cmp k) f) w c (count_of old f) g (all f c) (sym (h f) ∙ e)
+
+-- one count goes
+abbrev pub Removes : List (Finish × Count) → Finish → List (Finish × Count) → Type 0
+Removes old k new = (q : Finish) → count_of new q ≡ cond (is_at (finish_cmp k) q) None (count_of old q)
+
+gone : (b : Bool) (o : Option Count) → counted_or_nothing (cond b None o) ≡ (if b then nothing else counted_or_nothing o)
+gone true o = refl
+gone false o = refl
+
+unmet : (b : Bool) (o : Option Count) → is_some (cond b None o) ≡ (if b then false else is_some o)
+unmet true o = refl
+unmet false o = refl
+
+pub Forgets-by : (old new : Ledger) (k : Finish) → new.place ≡ old.place → new.places ≡ old.places → Removes old.counts k new.counts → Forgets old (named k) new
+Forgets-by old new k e p h = record {
+  place = e;
+  places = p;
+  totals = λ g. ap counted_or_nothing (h (key_of g)) ∙ gone (is_at (finish_cmp k) (key_of g)) (count_of old.counts (key_of g)) ∙ ap (λ b. if b then nothing else totals_of old g) (at_is_same k g);
+  met = λ g. ap is_some (h (key_of g)) ∙ unmet (is_at (finish_cmp k) (key_of g)) (count_of old.counts (key_of g)) ∙ ap (λ b. if b then false else is_met old g) (at_is_same k g);
+}
+
+whole_left : (places : ℕ) (b : Bool) (c : Count) (o : Option Count) → (o ≡ Some c → IsWhole places c) → cond b None o ≡ Some c → IsWhole places c
+whole_left places true c o g e = absurd cc
+whole_left places false c o g e = g e
+
+pub AreWhole-left : (places : ℕ) (old new : List (Finish × Count)) (k : Finish) → Removes old k new → AreWhole places old → AreWhole places new
+AreWhole-left places old new k h all f c e = whole_left places (is_at (finish_cmp k) f) c (count_of old f) (all f c) (sym (h f) ∙ e)
 
 -- what was not counted yet is not full
 pub not_full : (change : Change) (t : Totals) → t ≡ nothing → IsFull change t → ⊥

@@ -18,3 +18,4 @@ pub mod Telling
 pub mod Following
 pub mod Counted
 pub mod InRange
+pub mod Tallied

@@ -59,6 +59,13 @@ pub record Counts (old : Ledger) (f : machine.Finish) (change : Totals → Total
   pub totals : (g : machine.Finish) → totals_of new g ≡ if_same g f (change (totals_of old g)) (totals_of old g)
   pub met : (g : machine.Finish) → is_met new g ≡ (if same_finish g f then true else is_met old g)
 
+-- what was counted of one finish is gone, and it isn't met any more; all else stays
+pub record Forgets (old : Ledger) (f : machine.Finish) (new : Ledger) : Type 0 where
+  pub place : new.place ≡ old.place
+  pub places : new.places ≡ old.places
+  pub totals : (g : machine.Finish) → totals_of new g ≡ if_same g f nothing (totals_of old g)
+  pub met : (g : machine.Finish) → is_met new g ≡ (if same_finish g f then false else is_met old g)
+
 -- why something is not counted: a growth was refused, which only a finish that was not met asks for, or a count that
 -- would have grown has its largest value
 abbrev pub Refuses : Bool → Type 0 → Stop → Type 0

@@ -8,3 +8,4 @@ pub mod Nesting
 pub mod Chains
 pub mod Closing
 pub mod Telling
+pub mod Watching

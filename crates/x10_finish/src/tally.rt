@@ -5,7 +5,7 @@ ghost use Rattle.x10_model.specs.Places as machine;
 ghost use Rattle.x10_model.specs.Totals.{nothing, begins_one, ends_one, sends_to, receives_from};
 ghost use Rattle.x10_finish.specs.Counts.{Fits, IsFull, IsLargest, changed};
 ghost use Rattle.x10_finish.specs.declared.count.Change.TheVariants as change;
-ghost use Rattle.x10_finish.specs.Ledgers.{Ledger, finish_cmp, count_of, totals_of, is_met, named, Counts, Refuses, gives_report, IsAnswer};
+ghost use Rattle.x10_finish.specs.Ledgers.{Ledger, finish_cmp, count_of, totals_of, is_met, named, Counts, Forgets, Refuses, gives_report, IsAnswer};
 
 use crate::count::{Change, Count, apply, no_count};
 use crate::finish::Finish;
@@ -182,6 +182,13 @@ impl Tally {
         let report = self.leaving(finish)?;
         self.left(finish);
         Ok(report)
+    }
+
+    /// A finish has ended at its home: what was counted of it goes, and its memory is given back.
+    pub fn forget(&mut self, finish: Finish)
+        ensures { Forgets self.old (named finish) self.new }
+    {
+        let _ = self.counts.remove(&finish);
     }
 
     /// How many activities under a finish live here.
