@@ -6,6 +6,7 @@ use Rattle.std.specs.Ordering.{int_eq}
 use Rattle.x10_kinds.specs.declared.kind.Kind.{Kind}
 use Rattle.x10_kinds.specs.declared.stop.Stop.{Stop}
 use Rattle.x10_kinds.specs.declared.stop.Stop.TheVariants as stop
+use Rattle.x10_code.specs.declared.op.Op.{Op}
 use Rattle.x10_code.specs.declared.op.Op.TheVariants as op
 use Rattle.x10_code.specs.declared.instr.Instr.{Instr}
 use Rattle.x10_model.specs.Modules.{Module, Function, FitsSlot}
@@ -384,6 +385,12 @@ abbrev pub IsExportRefused : HeapState → Stop → Type 0
 IsExportRefused heap why = (why ≡ stop.Memory) ⊎ ((limit : ℕ) × (why ≡ stop.Limit limit) × (limit ≡ 4) × IsFull (length heap.exports))
 
 -- ---- calls
+
+-- the operations that pass arguments to a function of this place
+abbrev pub Passes : Op → Type 0
+Passes op.Call = Unit {0}
+Passes op.Async = Unit {0}
+Passes _ = ⊥
 
 -- the frame of the function that an instruction calls, at its beginning
 pub record IsEntered (program : Module) (words : List ℕ) (i : Instr) (f : CallFrame) : Type 0 where

@@ -8,7 +8,7 @@ use Rattle.x10_model.specs.Places.{Setting, Finish, root}
 use Rattle.x10_model.specs.Totals.{zeros, first_totals}
 use Rattle.x10_model.specs.Worlds.{first_place, empty_place}
 use Rattle.x10_verify.specs.Certified.{Certified}
-use Rattle.x10_place.specs.Stays.{StayState, StoreState, HasBook, kept_in}
+use Rattle.x10_place.specs.Stays.{StayState, StoreState, HasBook, totals_in, books_in, kept_in}
 use Rattle.x10_heap.specs.Heaps.{empty}
 use Rattle.x10_place.specs.StandsFor.{PlaceState, store_of, first_number, setting_of, StandsFor}
 
@@ -44,10 +44,10 @@ pub record IsNewStore (id places : ℕ) (s : StoreState) : Type 0 where
   pub opened : s.opened ≡ first_number id
   pub here : s.here ≡ id
   pub places_is : s.places ≡ places
-  pub totals : (f : Finish) → s.totals f ≡ first_totals id f
-  pub kept : (n : ℕ) → kept_in (s.books n) ≡ (λ p. zeros)
-  pub unopened : (n : ℕ) → s.opened ≤ n → s.books n ≡ None
-  pub root : id ≡ 0 → HasBook s.books 0
+  pub totals : (f : Finish) → totals_in s f ≡ first_totals id f
+  pub kept : (n : ℕ) → kept_in (books_in s n) ≡ (λ p. zeros)
+  pub unopened : (n : ℕ) → s.opened ≤ n → books_in s n ≡ None
+  pub root : id ≡ 0 → HasBook (books_in s) 0
 
 -- the place stands for the machine's place at the beginning, whatever other places export
 abbrev pub Opens : PlaceState → Type 0

@@ -22,7 +22,9 @@ use Rattle.x10_verify.specs.Least.{HasLeast}
 use Rattle.x10_heap.specs.declared.export.Export.{Export}
 use Rattle.x10_heap.specs.Heaps.{HeapState, ObjectState}
 use Rattle.x10_heap.specs.Words.{Context, export_as, IsWordOf, HoldsHeap}
+use Rattle.x10_finish.specs.Books.{Kept}
 use Rattle.x10_finish.specs.Counts.{IsLargest}
+use Rattle.x10_finish.specs.Ledgers.{Ledger, totals_of}
 use Rattle.x10_finish.specs.Nesting.{nth}
 use Rattle.x10_finish.specs.Watching.{closes, IsTallied}
 use Rattle.x10_place.specs.declared.frame.CallFrame.{CallFrame}
@@ -34,7 +36,7 @@ use Rattle.x10_place.specs.declared.route.Route.{Route}
 use Rattle.x10_place.specs.declared.route.Route.TheVariants as route
 use Rattle.x10_place.specs.Homes.{AreHomes}
 use Rattle.x10_place.specs.Routes.{route_of}
-use Rattle.x10_place.specs.Stays.{StayState, StoreState, Location, IsPlaced, IsDoneHere, HasBook, OverfillsBy, finish_at, kept_in, innermost_at}
+use Rattle.x10_place.specs.Stays.{StayState, StoreState, Location, IsPlaced, IsDoneHere, HasBook, OverfillsBy, finish_at, totals_in, books_of, books_in, kept_in, innermost_at}
 
 -- What callers see of a place: the module with the bounds of its functions, its number and how many there are, the stays
 -- by key, the heap, the lines of output, how many finishes it opened, what it has counted of each finish, what it keeps
@@ -48,13 +50,13 @@ pub record PlaceState : Type 0 where
   pub heap : HeapState
   pub lines : List Line
   pub opened : ℕ
-  pub totals : Finish → Totals
-  pub books : ℕ → Option Cut
+  pub ledger : Ledger
+  pub books : List (ℕ × Kept)
   pub stopped : Bool
 
 -- what it keeps for all its stays
 abbrev pub store_of : PlaceState → StoreState
-store_of p = record { heap = p.heap; lines = p.lines; opened = p.opened; here = p.id; places = p.places; totals = p.totals; books = p.books }
+store_of p = record { heap = p.heap; lines = p.lines; opened = p.opened; here = p.id; places = p.places; ledger = p.ledger; books = p.books }
 
 -- how much room there is for stays is nobody's affair
 abbrev pub plain : Slab StayState → Slab StayState
@@ -62,11 +64,11 @@ plain slab = record slab { capacity = 0 }
 
 -- a place as its fields are seen
 abbrev pub place_of : Certified → Slab StayState → StoreState → Bool → PlaceState
-place_of verified stays store stopped = record { program = verified.program; bounds = verified.bounds; id = store.here; places = store.places; stays = plain stays; heap = store.heap; lines = store.lines; opened = store.opened; totals = store.totals; books = store.books; stopped = stopped }
+place_of verified stays store stopped = record { program = verified.program; bounds = verified.bounds; id = store.here; places = store.places; stays = plain stays; heap = store.heap; lines = store.lines; opened = store.opened; ledger = store.ledger; books = store.books; stopped = stopped }
 
 -- the place with other stays, and what it then keeps for them
 abbrev pub with_stays : PlaceState → Slab StayState → StoreState → PlaceState
-with_stays p stays s = record p { stays = plain stays; id = s.here; places = s.places; heap = s.heap; lines = s.lines; opened = s.opened; totals = s.totals; books = s.books }
+with_stays p stays s = record p { stays = plain stays; id = s.here; places = s.places; heap = s.heap; lines = s.lines; opened = s.opened; ledger = s.ledger; books = s.books }
 
 -- which home, number and class name an object at another place
 abbrev pub Far : Type 0
@@ -171,6 +173,19 @@ pub record IsTyped (at : Location) (heap : HeapState) (a : StayState) : Type 0 w
   pub cells : Cells
   pub holds : HoldsHeap (context (record { program = at.program; places = at.places }) at.here heap far) cells
 
+-- The place counts the stay, and keeps a book of each finish that it has open.
+pub record IsRegistered (at : Location) (s : StoreState) (a : StayState) : Type 0 where
+  pub here : s.here ≡ at.here
+  pub places : s.places ≡ at.places
+  pub live : 0 < (totals_in s a.inherited).live
+  pub are_open : (i n : ℕ) → nth a.finishes i ≡ Some n → HasBook (books_in s) n × (n < s.opened)
+  pub once : (i j n : ℕ) → nth a.finishes i ≡ Some n → nth a.finishes j ≡ Some n → i ≡ j
+
+-- a stay that can make steps at its place
+pub record IsWorking (at : Location) (s : StoreState) (a : StayState) : Type 0 where
+  pub typed : IsTyped at s.heap a
+  pub registered : IsRegistered at s a
+
 -- ---- places
 
 -- the machine's exports are those of the heap, and each names an object of its class
@@ -204,8 +219,8 @@ pub record StandsFor (far : Far) (p : PlaceState) (m : machine.Place) : Type 0 w
   pub exports : HoldsExports p.heap m.exports
   pub opened : m.opened ≡ p.opened
   pub lines : m.lines ≡ map line_as p.lines
-  pub tallied : IsTallied m.stays p.totals
-  pub booked : AreBooked p.id m.stays p.opened p.books
+  pub tallied : IsTallied m.stays (totals_of p.ledger)
+  pub booked : AreBooked p.id m.stays p.opened (books_of p.books)
 
 -- some place of the machine is stood for, whatever other places export
 abbrev pub IsStanding : PlaceState → Type 0
@@ -223,11 +238,11 @@ pub record Keeps (p q : PlaceState) : Type 0 where
 pub record IsCountedBy (s : StoreState) (effect : Effect) (t : StoreState) : Type 0 where
   pub here : t.here ≡ s.here
   pub places : t.places ≡ s.places
-  pub totals : (f : Finish) → closes s.here effect f ≡ false → t.totals f ≡ totals_after f (s.totals f) (Did effect)
-  pub kept : (n : ℕ) → closes s.here effect (finish_at s.here n) ≡ false → kept_in (t.books n) ≡ kept_in (s.books n)
-  pub done : (n : ℕ) → effect ≡ Closes n → IsDoneHere s n × (t.totals (finish_at s.here n) ≡ nothing)
+  pub totals : (f : Finish) → closes s.here effect f ≡ false → totals_in t f ≡ totals_after f (totals_in s f) (Did effect)
+  pub kept : (n : ℕ) → closes s.here effect (finish_at s.here n) ≡ false → kept_in (books_in t n) ≡ kept_in (books_in s n)
+  pub done : (n : ℕ) → effect ≡ Closes n → IsDoneHere s n × (totals_in t (finish_at s.here n) ≡ nothing)
   pub silent : sent effect ≡ None
-  pub unreported : (f : Finish) → is_reported s.here f (s.totals f) (Did effect) ≡ false
+  pub unreported : (f : Finish) → is_reported s.here f (totals_in s f) (Did effect) ≡ false
 
 -- a step finds nothing to do exactly where the move waits at the end of a finish
 abbrev pub Answers : Stepped → Effect → Type 0
@@ -250,7 +265,7 @@ LeadsAll p key answer q = (far : Far) (m : machine.Place) → StandsFor far p m 
 
 -- an activity would begin that there can't be: its key (10), or how many live under its finish (6), would be too large
 abbrev pub OverfillsBegin : PlaceState → StayState → ℕ → Type 0
-OverfillsBegin p a limit = ((limit ≡ 10) × (2 ^ 32 ≤ p.stays.vacant_key)) ⊎ ((limit ≡ 6) × (p.stays.vacant_key < 2 ^ 32) × IsLargest (p.totals (innermost_at p.id a)).live)
+OverfillsBegin p a limit = ((limit ≡ 10) × (2 ^ 32 ≤ p.stays.vacant_key)) ⊎ ((limit ≡ 6) × (p.stays.vacant_key < 2 ^ 32) × IsLargest (totals_of p.ledger (innermost_at p.id a)).live)
 
 abbrev pub Overfills : Route → PlaceState → StayState → Instr → ℕ → Type 0
 Overfills route.Begin p a i limit = OverfillsBegin p a limit

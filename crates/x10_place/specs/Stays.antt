@@ -1,7 +1,7 @@
 -- Stays of activities at a place: what they are, and what a step does to one and to what the place keeps.
 use Rattle.std.specs.Prelude.{◌≡◌, ℕ, ◌+◌, ◌<◌, ◌≤◌, ◌^◌, ◌⊎◌, Bool, false, List, [], ◌∷◌, ◌++◌, length, Option, Some, None, slice_get, slice_set, string_bytes}
-use Rattle.std.specs.BTreeMap.{BTreeMap}
-use Rattle.std.specs.BTreeMap as map
+use Rattle.std.specs.BTreeMap.{is_at}
+use Rattle.std.specs.Map.{lookup}
 use Rattle.std.specs.Ordering.{nat_cmp}
 use Rattle.x10_kinds.specs.declared.kind.Kind.TheVariants as kind
 use Rattle.x10_kinds.specs.declared.stop.Stop.{Stop}
@@ -19,6 +19,7 @@ use Rattle.x10_image.specs.Parts.{code_at}
 use Rattle.x10_bounds.specs.OpenFinishes.{finishes_around}
 use Rattle.x10_finish.specs.declared.finish.Finish as finish
 use Rattle.x10_finish.specs.Books.{Kept, kept_of}
+use Rattle.x10_finish.specs.Ledgers.{Ledger, totals_of}
 use Rattle.x10_finish.specs.Counts.{IsLargest}
 use Rattle.x10_finish.specs.Nesting.{nth}
 use Rattle.x10_heap.specs.Heaps.{HeapState, empty, IsFull}
@@ -55,16 +56,26 @@ pub record StoreState : Type 0 where
   pub opened : ℕ
   pub here : ℕ
   pub places : ℕ
-  pub totals : Finish → Totals
-  pub books : ℕ → Option Cut
+  pub ledger : Ledger
+  pub books : List (ℕ × Kept)
+
+-- what it has counted of each finish
+abbrev pub totals_in : StoreState → Finish → Totals
+totals_in s = totals_of s.ledger
 
 -- the cut that a book keeps, by the number of its finish
 abbrev pub cut_of : Option Kept → Option Cut
 cut_of None = None
 cut_of (Some b) = Some (kept_of b)
 
-abbrev pub books_of : BTreeMap ℕ Kept → ℕ → Option Cut
-books_of books n = cut_of (map.get nat_cmp books n)
+abbrev pub book_at : List (ℕ × Kept) → ℕ → Option Kept
+book_at books n = lookup (is_at (nat_cmp n)) books
+
+abbrev pub books_of : List (ℕ × Kept) → ℕ → Option Cut
+books_of books n = cut_of (book_at books n)
+
+abbrev pub books_in : StoreState → ℕ → Option Cut
+books_in s = books_of s.books
 
 -- each book is that of a finish of this place, under its number
 pub record IsBookOf (here places n : ℕ) (b : Kept) : Type 0 where
@@ -72,8 +83,8 @@ pub record IsBookOf (here places n : ℕ) (b : Kept) : Type 0 where
   pub number : b.number ≡ n
   pub places_are : b.places ≡ places
 
-abbrev pub AreBooks : ℕ → ℕ → BTreeMap ℕ Kept → Type 0
-AreBooks here places books = (n : ℕ) (b : Kept) → map.get nat_cmp books n ≡ Some b → IsBookOf here places n b
+abbrev pub AreBooks : ℕ → ℕ → List (ℕ × Kept) → Type 0
+AreBooks here places books = (n : ℕ) (b : Kept) → book_at books n ≡ Some b → IsBookOf here places n b
 
 -- the finish with a number that a place opened
 abbrev pub finish_at : ℕ → ℕ → Finish
@@ -94,11 +105,17 @@ changed_at totals f change g = if_same g f (change (totals g)) (totals g)
 
 -- the home lets the finish with a number end
 abbrev pub IsDoneHere : StoreState → ℕ → Type 0
-IsDoneHere s n = IsDoneAt s.places s.here (s.totals (finish_at s.here n)) (kept_in (s.books n))
+IsDoneHere s n = IsDoneAt s.places s.here (totals_in s (finish_at s.here n)) (kept_in (books_in s n))
 
--- there can be no more of what is counted so far
-abbrev pub IsOut : ℕ → Type 0
-IsOut count = 2 ^ 32 ≤ count + 1
+-- a store with other finishes opened, other totals and other books, and all else as it was
+pub record Recounts (s t : StoreState) (opened : ℕ) (totals : Finish → Totals) (books : ℕ → Option Cut) : Type 0 where
+  pub heap : t.heap ≡ s.heap
+  pub lines : t.lines ≡ s.lines
+  pub here : t.here ≡ s.here
+  pub places_are : t.places ≡ s.places
+  pub opened_is : t.opened ≡ opened
+  pub totals_are : (f : Finish) → totals_in t f ≡ totals f
+  pub books_are : (n : ℕ) → books_in t n ≡ books n
 
 -- where a stay is: a place of a run of a module, by its number, one of so many
 pub record Location : Type 0 where
@@ -197,7 +214,7 @@ pub record Resumes (program : Module) (a : StayState) (i : Instr) (b : StayState
 -- the last function of a stay ends, and with it the stay: one fewer lives under the finish that it inherited
 pub record EndsStay (a : StayState) (s t : StoreState) : Type 0 where
   pub callers : a.callers ≡ []
-  pub store : t ≡ record s { totals = changed_at s.totals a.inherited ends_one }
+  pub store : Recounts s t s.opened (changed_at (totals_in s) a.inherited ends_one) (books_in s)
 
 -- a function ends: its caller goes on, or there is none
 abbrev pub Returns : Module → StayState → StoreState → Instr → Outcome → StayState → StoreState → Type 0
@@ -228,7 +245,7 @@ pub record Prints (program : Module) (a : StayState) (s : StoreState) (i : Instr
 pub record OpensFinish (a : StayState) (s : StoreState) (b : StayState) (t : StoreState) : Type 0 where
   pub top : GoesNext a.top b.top
   pub rest : b ≡ record a { top = b.top; finishes = s.opened ∷ a.finishes }
-  pub store : t ≡ record s { opened = s.opened + 1; books = with_entry s.books s.opened (Some (λ p. zeros)) }
+  pub store : Recounts s t (s.opened + 1) (totals_in s) (with_entry (books_in s) s.opened (Some (λ p. zeros)))
 
 -- the innermost finish may end, and is closed: what was counted of it goes, and its book
 pub record ClosesFinish (a : StayState) (s : StoreState) (b : StayState) (t : StoreState) : Type 0 where
@@ -237,7 +254,7 @@ pub record ClosesFinish (a : StayState) (s : StoreState) (b : StayState) (t : St
   pub done : IsDoneHere s number
   pub top : GoesNext a.top b.top
   pub rest : b ≡ record a { top = b.top; finishes = b.finishes }
-  pub store : t ≡ record s { totals = changed_at s.totals (finish_at s.here number) (λ u. nothing); books = with_entry s.books number None }
+  pub store : Recounts s t s.opened (changed_at (totals_in s) (finish_at s.here number) (λ u. nothing)) (with_entry (books_in s) number None)
 
 -- it may not end yet, and nothing changes
 pub record WaitsAtFinish (a : StayState) (s : StoreState) (b : StayState) (t : StoreState) : Type 0 where
@@ -272,7 +289,7 @@ Steps route.Later at a s i o b t = ⊥
 
 -- the innermost finish is open at this place
 abbrev pub HasFinish : StayState → StoreState → Type 0
-HasFinish a s = (number : ℕ) × (outer : List ℕ) × (a.finishes ≡ number ∷ outer) × HasBook s.books number
+HasFinish a s = (number : ℕ) × (outer : List ℕ) × (a.finishes ≡ number ∷ outer) × HasBook (books_in s) number
 
 -- what an operation reads in the heap, of places or of finishes is there
 abbrev pub ReadsStore : Route → Location → StayState → StoreState → Instr → Type 0
@@ -281,7 +298,7 @@ ReadsStore (route.Make m) at a s i = ReadsMake m s.heap a.top.registers.items i
 ReadsStore (route.Site k) at a s i = ReadsAt k at.places a.top.registers.items i
 ReadsStore route.Export at a s i = NamesObject s.heap a.top.registers.items i.b
 ReadsStore route.Print at a s i = PrintsText at.program a.top.function a.top.pc → word_at a.top.registers.items i.a < length s.heap.texts
-ReadsStore route.Return at a s i = 0 < (s.totals a.inherited).live
+ReadsStore route.Return at a s i = 0 < (totals_in s a.inherited).live
 ReadsStore route.CloseFinish at a s i = HasFinish a s
 ReadsStore _ at a s i = Unit {0}
 
@@ -289,14 +306,14 @@ ReadsStore _ at a s i = Unit {0}
 abbrev pub OverfillsBy : Route → StayState → StoreState → Instr → ℕ → Type 0
 OverfillsBy (route.Make m) a s i limit = Overfills m s.heap a.top.registers.items i limit
 OverfillsBy route.Export a s i limit = (limit ≡ 4) × IsFull (length s.heap.exports)
-OverfillsBy route.OpenFinish a s i limit = (limit ≡ 5) × IsOut s.opened
+OverfillsBy route.OpenFinish a s i limit = (limit ≡ 5) × IsFull s.opened
 OverfillsBy _ a s i limit = ⊥
 
 -- why an operation of a stay is refused: for want of memory, or since there can be no more of what it makes
 abbrev pub Refuses : Route → StayState → StoreState → Instr → Stop → Type 0
 Refuses (route.Make m) a s i why = IsRefused m s.heap a.top.registers.items i why
 Refuses route.Export a s i why = IsExportRefused s.heap why
-Refuses route.OpenFinish a s i why = (why ≡ stop.Memory) ⊎ ((why ≡ stop.Limit 5) × IsOut s.opened)
+Refuses route.OpenFinish a s i why = (why ≡ stop.Memory) ⊎ ((why ≡ stop.Limit 5) × IsFull s.opened)
 Refuses _ a s i why = why ≡ stop.Memory
 
 -- ---- activities that begin

@@ -1,19 +1,24 @@
 -- Steps of one activity at a stretch.
-use Rattle.std.specs.Prelude.{◌≡◌, ◌≢◌, ℕ, ◌+◌, None, Some, length}
-use Rattle.slab.specs.Slab.{get}
+use Rattle.std.specs.Prelude.{◌≡◌, ◌≢◌, ◌⊎◌, ℕ, ◌+◌, ◌<◌, ◌≤◌, Bool, false, Option, None, Some, IfSome, Result, Ok, Err, IfOk, IfErr, length}
+use Rattle.slab.specs.Slab.{Slab, get}
 use Rattle.x10_kinds.specs.declared.stop.Stop.{Stop}
+use Rattle.x10_kinds.specs.declared.stop.Stop.TheVariants as stop
+use Rattle.x10_code.specs.declared.op.Op.TheVariants as op
 use Rattle.x10_code.specs.declared.instr.Instr.{Instr}
 use Rattle.x10_model.specs.Modules.{Module}
+use Rattle.x10_model.specs.Totals.{begins_one}
+use Rattle.x10_verify.specs.Certified.{Certified}
 use Rattle.x10_place.specs.declared.route.Route.TheVariants as route
 use Rattle.x10_place.specs.declared.route.Local.{Local}
+use Rattle.x10_place.specs.declared.place.Stepped.{Stepped}
 use Rattle.x10_place.specs.declared.place.Stepped.TheVariants as stepped
 use Rattle.x10_place.specs.declared.stay.Outcome.{Outcome}
 use Rattle.x10_place.specs.declared.stay.Outcome.TheVariants as outcome
 use Rattle.x10_place.specs.declared.stay.Pause.{Pause}
 use Rattle.x10_place.specs.declared.stay.Pause.TheVariants as pause
 use Rattle.x10_place.specs.Frames.{Workspace, IsFetched, IsFetchedFor, Acts}
-use Rattle.x10_place.specs.Stays.{StayState, StoreState, Location, IsPlaced, Steps, Refuses}
-use Rattle.x10_place.specs.StandsFor.{PlaceState, Keeps, LeadsAll}
+use Rattle.x10_place.specs.Stays.{StayState, StoreState, Location, IsPlaced, GoesNext, IsBegun, innermost_at, totals_in, books_in, changed_at, Recounts, Steps, Refuses}
+use Rattle.x10_place.specs.StandsFor.{PlaceState, place_of, plain, Keeps, IsStanding, LeadsAll, IsIdleAt, IsOverfull, IsHindered, OverfillsBegin}
 use Rattle.x10_place.specs.Routes.{route_of}
 
 -- ---- of one frame
@@ -95,3 +100,56 @@ pub record BeginsLast (key : ℕ) (p : PlaceState) (n : ℕ) (q : PlaceState) : 
   pub last : PlaceState
   pub strides : Strides key p before last
   pub begins : HasBegun last q
+
+-- ---- as a place makes them
+
+-- an activity begins by the instruction of the stay with a key: that stay goes on, and the new one has a key that was free
+pub record BeginsAt (program : Module) (old : Slab StayState) (s : StoreState) (key : ℕ) (new : Slab StayState) (t : StoreState) : Type 0 where
+  pub stay : StayState
+  pub is_there : get old key ≡ Some stay
+  pub instr : Instr
+  pub fetched : IsFetchedFor program stay.top instr
+  pub is_async : instr.op ≡ op.Async
+  pub next : StayState
+  pub goes : GoesNext stay.top next.top
+  pub rest : next ≡ record stay { top = next.top }
+  pub other : ℕ
+  pub free : get old other ≡ None
+  pub child : StayState
+  pub begun : IsBegun program stay.top.registers.items instr (innermost_at s.here stay) child
+  pub now_next : get new key ≡ Some next
+  pub now_child : get new other ≡ Some child
+  pub others : (k : ℕ) → (k ≡ key → ⊥) → (k ≡ other → ⊥) → get new k ≡ get old k
+  pub store : Recounts s t s.opened (changed_at (totals_in s) (innermost_at s.here stay) begins_one) (books_in s)
+
+-- nothing has changed, but that there may be more room
+pub record IsUntouched (old : Slab StayState) (s : StoreState) (new : Slab StayState) (t : StoreState) : Type 0 where
+  pub stays : plain new ≡ plain old
+  pub store : t ≡ s
+
+-- why an activity doesn't begin
+abbrev pub RefusesBegin : Certified → Slab StayState → StoreState → ℕ → Stop → Type 0
+RefusesBegin verified stays s key why = (why ≡ stop.Memory) ⊎ ((limit : ℕ) × (why ≡ stop.Limit limit) × (a : StayState) × (get stays key ≡ Some a) × OverfillsBegin (place_of verified stays s false) a limit)
+
+-- What a step of the stay with a key does to the stays of a place and to what it keeps for them. Whether the place has
+-- stopped is nothing to it.
+pub record IsAdvanced (verified : Certified) (old : Slab StayState) (s : StoreState) (key : ℕ) (result : Result Stepped Stop) (new : Slab StayState) (t : StoreState) : Type 0 where
+  pub idle : (stopped : Bool) → IsIdleAt (place_of verified old s stopped) key → (result ≡ Ok stepped.Idle) × IsUntouched old s new t
+  pub only : (stopped : Bool) → result ≡ Ok stepped.Idle → IsIdleAt (place_of verified old s stopped) key
+  pub some : (stopped : Bool) (a : StayState) → get old key ≡ Some a → a.away ≡ false → IfOk result (λ answer. LeadsAll (place_of verified old s stopped) key answer (place_of verified new t stopped))
+  pub refused : (stopped : Bool) → IfErr result (IsHindered (place_of verified old s stopped) key)
+  pub same : IfErr result (λ why. IsUntouched old s new t)
+  pub full : (stopped : Bool) (limit : ℕ) → IsOverfull (place_of verified old s stopped) key limit → result ≡ Err (stop.Limit limit)
+  pub standing : IsStanding (place_of verified new t false)
+  pub here : t.here ≡ s.here
+  pub places : t.places ≡ s.places
+
+-- what up to so many steps do
+pub record IsRun (verified : Certified) (old : Slab StayState) (s : StoreState) (key most n : ℕ) (why : Option Stop) (new : Slab StayState) (t : StoreState) : Type 0 where
+  pub ran : (stopped : Bool) → Strides key (place_of verified old s stopped) n (place_of verified new t stopped)
+  pub few : n ≤ most
+  pub all : why ≡ None → n < most → (stopped : Bool) → IsIdleAt (place_of verified new t stopped) key ⊎ BeginsLast key (place_of verified old s stopped) n (place_of verified new t stopped)
+  pub refused : IfSome why (λ stop. (stopped : Bool) → IsHindered (place_of verified new t stopped) key stop)
+  pub standing : IsStanding (place_of verified new t false)
+  pub here : t.here ≡ s.here
+  pub places : t.places ≡ s.places

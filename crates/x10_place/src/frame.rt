@@ -1,11 +1,10 @@
 //! Call frames: a function that is being executed, and what an instruction does to it.
 ghost use Rattle.std.specs.Prelude.{◌≡◌, ◌≢◌, ◌+◌, ◌<◌, ◌≤◌, ◌^◌, ℕ, OnErr, IfOk, Some, length, slice_index};
 ghost use Rattle.std.specs.Int.{w64, cast_signed};
-ghost use Rattle.x10_code.specs.declared.op.Op.TheVariants as op;
 ghost use Rattle.x10_model.specs.Moves as machine;
 ghost use Rattle.x10_model.specs.Values.{Int};
 ghost use Rattle.x10_place.specs.declared.route.Local.TheVariants as local;
-ghost use Rattle.x10_place.specs.Frames.{IsInside, IsFetchedFor, int_at, workspace, space_of, with_space, as_value, given, tried, Acts, AsksNumber, Asks, ReadsNumber, ReadsPartial, Reads, IsEntered};
+ghost use Rattle.x10_place.specs.Frames.{IsInside, IsFetchedFor, int_at, workspace, space_of, with_space, as_value, given, tried, Acts, AsksNumber, Asks, ReadsNumber, ReadsPartial, Reads, Passes, IsEntered};
 ghost use Rattle.x10_place.specs.Routes.{route_of};
 ghost use Rattle.x10_place.specs.StandsFor.{IsTypedFrame};
 ghost use Rattle.x10_place.specs.Stays.{GoesNext, GoesNextWith};
@@ -283,8 +282,8 @@ impl CallFrame {
         most
     }
 
-    /// The frame of the function that an instruction calls, at its first instruction, with the arguments in its first
-    /// registers.
+    /// The frame of the function that an instruction calls, or begins an activity with, at its first instruction, with the
+    /// arguments in its first registers.
     pub(crate) fn callee(
         &self,
         alloc: Global,
@@ -293,7 +292,7 @@ impl CallFrame {
         instr: Instr,
     ) -> Result<CallFrame, AllocError>
         requires fetched { IsFetchedFor verified.now.program self.now instr }
-        requires op { instr.op ≡ op.Call }
+        requires op { Passes instr.op }
         ensures entered { IfOk result (IsEntered verified.now.program self.now.registers.items instr) }
         ensures kept { store.new ≡ store.old }
     {

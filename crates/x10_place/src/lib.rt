@@ -10,6 +10,7 @@ mod place;
 mod route;
 mod site;
 mod stay;
+mod step;
 mod store;
 
 pub use frame::CallFrame;

@@ -1,14 +1,15 @@
-ghost use Rattle.std.specs.Prelude.{◌≡◌, ◌≢◌, ◌<◌, ◌≤◌, ◌↔◌, ℕ, true, IsTrue, IfOk, IfErr, IfSome, MatchOption, Ok, Err, Some, None};
-ghost use Rattle.slab.specs.Slab.{get, Updates};
+ghost use Rattle.std.specs.Prelude.{◌≡◌, ◌≢◌, ◌<◌, ◌≤◌, ◌↔◌, ◌⊎◌, ℕ, true, false, IsTrue, IfOk, IfErr, IfSome, MatchOption, Ok, Err, Some, None};
+ghost use Rattle.slab.specs.Slab.{get};
 ghost use Rattle.x10_kinds.specs.declared.stop.Stop.TheVariants as stop;
-ghost use Rattle.x10_place.specs.StandsFor.{PlaceState, LeadsAll, Keeps, IsIdleAt, IsOverfull, IsHindered, IsAt, IsOperation};
+ghost use Rattle.x10_place.specs.StandsFor.{PlaceState, store_of, LeadsAll, Keeps, IsIdleAt, IsOverfull, IsHindered, IsAt, IsOperation};
 ghost use Rattle.x10_place.specs.Opening.{IsNew, IsNextKey, Opens};
-ghost use Rattle.x10_place.specs.Stays.{StayState};
-ghost use Rattle.x10_place.specs.Stretches.{Strides};
+ghost use Rattle.x10_place.specs.Stays.{StayState, IsDoneHere};
+ghost use Rattle.x10_place.specs.Stretches.{Strides, BeginsLast};
 
 use crate::line::Line;
 use crate::opening::with_main;
-use crate::stay::{Pause, Spot, Stay};
+use crate::stay::{Spot, Stay};
+use crate::step::{run_in, step_in};
 use crate::store::Store;
 use slab::Slab;
 use std::alloc::{AllocError, Global};
@@ -20,7 +21,7 @@ use x10_verify::Verified;
 /// What a step did.
 #[derive(Clone, Copy, Debug, PartialEq, Eq)]
 pub enum Stepped {
-    /// Nothing: there is no activity with the key.
+    /// Nothing: there is no activity with the key, it is away, or it waits at the end of a finish.
     Idle,
     /// One move of the activity.
     Moved,
@@ -31,8 +32,6 @@ pub enum Stepped {
 pub struct Place<'a> {
     alloc: Global,
     verified: &'a Verified<'a>,
-    id: u16,
-    places: u16,
     stays: Slab<Stay>,
     store: Store,
     stopped: bool,
@@ -43,29 +42,24 @@ impl<'a> Model for Place<'a> {
 
     ghost Value = { PlaceState };
 
-    ghost view = { λ a. place_of a.verified.now a.id a.places a.stays a.store a.stopped };
+    ghost view = { λ a. place_of a.verified.now a.stays a.store a.stopped };
 
-    ghost invariant = { λ a. IsStanding (place_of a.verified.now a.id a.places a.stays a.store a.stopped) };
-}
-
-/// Takes a stay away.
-fn remove(stays: &mut Slab<Stay>, key: usize)
-    ensures { Updates stays.old stays.new key None }
-{
-    stays.try_remove(key);
+    ghost invariant = { λ a. IsStanding (place_of a.verified.now a.stays a.store a.stopped) };
 }
 
 impl<'a> Place<'a> {
-    /// One step of the activity with a key. A Stop comes only where a growth was refused, where there can be no more of
-    /// what the step would make (Limit 1: objects, 2: texts, 3: rails, 4: global
-    /// references; at most 2^32 - 1 of each), or after another Stop;
-    /// the output is then that of the steps before it. Constant time, but that CALL, NEW, RAIL, TEXTK, TCAT and PRINT of
-    /// a text also copy or fill what they make, and that a list that grows is copied now and then. These and PRINT of a
-    /// number alone take memory.
+    /// One step of the activity with a key. It is Idle, and nothing has changed, exactly where there is no such activity,
+    /// where it is away, or where it stands at the end of a finish that may not end yet. A Stop comes only where a growth
+    /// was refused, where there can be no more of what the step would make (Limit 1: objects, 2: texts, 3: rails, 4: global
+    /// references, 5: finishes; at most 2^32 - 1 of each; 6: activities that live under one finish; 10: the number of a
+    /// key), or after another Stop; the output is then that of the steps before it. Constant time, but that CALL, ASYNC,
+    /// NEW, RAIL, TEXTK, TCAT and PRINT of a text also copy or fill what they make, that FINB makes a number for each two
+    /// places and FINE looks at them where the finish may end, that a finish is looked up in logarithmic time, and that a
+    /// list that grows is copied now and then. These and PRINT of a number alone take memory.
     pub fn step(&mut self, key: usize) -> Result<Stepped, Stop>
         ensures idle { self.old.stopped ≢ true → IsIdleAt self.old key → (result ≡ Ok Stepped.Idle) × (self.new ≡ self.old) }
-        ensures some { (a : StayState) → get self.old.stays key ≡ Some a → IfOk result (λ _. LeadsAll self.old key self.new) }
-        ensures moved { (a : StayState) → get self.old.stays key ≡ Some a → IfOk result (λ stepped. stepped ≡ Stepped.Moved) }
+        ensures only { self.old.stopped ≢ true → result ≡ Ok Stepped.Idle → IsIdleAt self.old key }
+        ensures some { (a : StayState) → get self.old.stays key ≡ Some a → a.away ≡ false → IfOk result (λ stepped. LeadsAll self.old key stepped self.new) }
         ensures stopped { self.old.stopped ≡ true → result ≡ Err stop.Stopped }
         ensures refused { self.old.stopped ≢ true → IfErr result (IsHindered self.old key) }
         ensures full { self.old.stopped ≢ true → (limit : ℕ) → IsOverfull self.old key limit → result ≡ Err (stop.Limit limit) }
@@ -77,37 +71,20 @@ impl<'a> Place<'a> {
             return Err(Stop::Stopped);
         }
         let verified = self.verified;
-        let spot = Spot {
-            here: self.id,
-            places: self.places,
-        };
-        let Some(stay) = self.stays.get_mut(key) else {
-            return Ok(Stepped::Idle);
-        };
         verified.certificate();
-        let instr = verified.fetch(usize::from(stay.top.function), usize::from(stay.top.pc));
-        match stay.step(self.alloc, verified, spot, &mut self.store, instr) {
-            Ok(true) => Ok(Stepped::Moved),
-            Ok(false) => {
-                remove(&mut self.stays, key);
-                Ok(Stepped::Moved)
-            }
-            Err(why) => {
-                self.stopped = true;
-                Err(why)
-            }
-        }
+        let made = step_in(self.alloc, verified, &mut self.stays, &mut self.store, key);
+        self.stopped = made.is_err();
+        made
     }
-}
 
-impl<'a> Place<'a> {
-    /// Up to so many steps of the activity with a key, one after another: as many as come before it has ended, or before
-    /// one that is refused. How many were made, and why no more, where one was refused. Each is as `step` makes it, and
-    /// moves; but the activity is looked up once, and operations of one call frame touch nothing else.
+    /// Up to so many steps of the activity with a key, one after another: as many as come before it has ended, before one
+    /// that finds nothing to do or is refused, or up to one that begins an activity, after which others may come. How many
+    /// were made, and why no more, where one was refused. Each is as `step` makes it, and moves; but the activity is looked
+    /// up once, and operations of one call frame touch nothing else.
     pub fn run(&mut self, key: usize, most: u64) -> (u64, Option<Stop>)
         ensures ran { MatchOption result.1 (Strides key self.old result.0 self.new) (λ why. (p : PlaceState) × Strides key self.old result.0 p × (self.new ≡ record p { stopped = true }) × (self.old.stopped ≢ true → IsHindered p key why)) }
         ensures few { result.0 ≤ most }
-        ensures all { result.1 ≡ None → result.0 < most → IsIdleAt self.new key }
+        ensures all { result.1 ≡ None → result.0 < most → IsIdleAt self.new key ⊎ BeginsLast key self.old result.0 self.new }
         ensures stopped { self.old.stopped ≡ true → (result.0 ≡ 0) × (result.1 ≡ Some stop.Stopped) }
         ensures goes { result.1 ≡ None → self.new.stopped ≢ true }
         ensures kept { Keeps self.old self.new }
@@ -116,26 +93,10 @@ impl<'a> Place<'a> {
             return (0, Some(Stop::Stopped));
         }
         let verified = self.verified;
-        let spot = Spot {
-            here: self.id,
-            places: self.places,
-        };
-        let Some(stay) = self.stays.get_mut(key) else {
-            return (0, None);
-        };
         verified.certificate();
-        let (done, pause) = stay.run(self.alloc, verified, spot, &mut self.store, most);
-        match pause {
-            Pause::Goes => (done, None),
-            Pause::Ended => {
-                remove(&mut self.stays, key);
-                (done, None)
-            }
-            Pause::Refused(why) => {
-                self.stopped = true;
-                (done, Some(why))
-            }
-        }
+        let (done, why) = run_in(self.alloc, verified, &mut self.stays, &mut self.store, key, most);
+        self.stopped = why.is_some();
+        (done, why)
     }
 }
 
@@ -161,14 +122,14 @@ impl<'a> Place<'a> {
         } else {
             Slab::new(alloc)
         };
-        let opened = if id == 0 { 1 } else { 0 };
+        let Ok(store) = Store::new(alloc, Spot { here: id, places }) else {
+            return Err(AllocError);
+        };
         Ok(Place {
             alloc,
             verified,
-            id,
-            places,
             stays,
-            store: Store::new(alloc, opened),
+            store,
             stopped: false,
         })
     }
@@ -204,10 +165,12 @@ impl<'a> Place<'a> {
         &self.store.lines
     }
 
-    /// Whether the run has ended: at place 0, whether no activity is left; elsewhere false.
+    /// Whether the root finish may end: at place 0, whether no activity under it lives here, and as many have come to each
+    /// place as were sent there, as far as was reported; elsewhere false. Logarithmic time in the finishes that are open,
+    /// but linear in the places where no activity lives here.
     pub fn closed(&self) -> bool
-        ensures { IsTrue result ↔ ((self.now.id ≡ 0) × ((k : ℕ) → get self.now.stays k ≡ None)) }
+        ensures { IsTrue result ↔ ((self.now.id ≡ 0) × IsDoneHere (store_of self.now) 0) }
     {
-        self.id == 0 && self.stays.is_empty()
+        self.store.spot().here == 0 && self.store.is_done(0)
     }
 }

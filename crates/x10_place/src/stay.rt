@@ -1,5 +1,5 @@
 //! The stay of an activity at this place, and one step of it.
-ghost use Rattle.std.specs.Prelude.{◌≡◌, ◌≢◌, ◌+◌, ◌<◌, ◌≤◌, ◌^◌, ℕ, true, Err, IsTrue, OnErr, OnOk, IfErr, IfOk, length};
+ghost use Rattle.std.specs.Prelude.{◌≡◌, ◌+◌, ◌<◌, ◌≤◌, ◌^◌, ◌⊎◌, ℕ, Err, IsTrue, OnErr, OnOk, IfErr, IfOk, length};
 ghost use Rattle.x10_code.specs.declared.op.Op.TheVariants as op;
 ghost use Rattle.x10_kinds.specs.declared.stop.Stop.TheVariants as stop;
 ghost use Rattle.x10_code.specs.declared.instr.Instr.{Instr};
@@ -7,8 +7,9 @@ ghost use Rattle.x10_model.specs.Modules.{is_supported};
 ghost use Rattle.x10_verify.specs.Printing.{PrintsText};
 ghost use Rattle.x10_place.specs.Frames.{IsFetchedFor, word_at};
 ghost use Rattle.x10_place.specs.Routes.{route_of};
-ghost use Rattle.x10_place.specs.StandsFor.{IsTyped};
-ghost use Rattle.x10_place.specs.Stays.{location, IsPlaced, Calls, Returns, IsPrinted, Prints, ReadsHeap, OverfillsBy, Refuses, Steps};
+ghost use Rattle.x10_heap.specs.Heaps.{IsFull};
+ghost use Rattle.x10_place.specs.StandsFor.{IsWorking};
+ghost use Rattle.x10_place.specs.Stays.{location, totals_in, finish_as, innermost_at, IsBegun, IsPlaced, Calls, Returns, IsPrinted, Prints, OpensFinish, LeavesFinish, HasFinish, ReadsStore, OverfillsBy, Refuses, Steps};
 ghost use Rattle.x10_place.specs.Stretches.{Paused};
 
 use crate::frame::CallFrame;
@@ -51,11 +52,25 @@ pub struct Stay {
 }
 
 impl Model for Stay {
+    ghost use Rattle.std.specs.Prelude.{reverse};
     ghost use Rattle.x10_place.specs.Stays.{StayState, finish_as, origin_as};
 
     ghost Value = { StayState };
 
-    ghost view = { λ a. record { top = a.top; callers = a.callers.items; finishes = a.finishes.items; inherited = finish_as a.inherited; away = a.away; back = origin_as a.back } };
+    ghost view = { λ a. record { top = a.top; callers = a.callers.items; finishes = reverse a.finishes.items; inherited = finish_as a.inherited; away = a.away; back = origin_as a.back } };
+}
+
+/// What becomes of a stay by a step.
+#[derive(Clone, Copy, Debug, PartialEq, Eq)]
+pub(crate) enum Outcome {
+    /// It goes on.
+    Goes,
+    /// It has ended.
+    Ends,
+    /// It waits at the end of a finish that may not end yet; nothing has changed.
+    Waits,
+    /// Its instruction begins an activity, which its place has to do; nothing has changed.
+    Begins,
 }
 
 impl Stay {
@@ -80,16 +95,17 @@ impl Stay {
         Ok(())
     }
 
-    /// The function ends, and its caller goes on with the result, if there is one. False where no function called it.
-    fn ret(&mut self, verified: &Verified, store: &mut Store, instr: Instr) -> bool
+    /// The function ends, and its caller goes on with the result, if there is one; or the stay ends with it.
+    fn ret(&mut self, verified: &Verified, store: &mut Store, instr: Instr) -> Outcome
         requires placed { IsPlaced verified.now.program self.old }
         requires fetched { IsFetchedFor verified.now.program self.old.top instr }
         requires op { instr.op ≡ op.Ret }
-        ensures returns { Returns verified.now.program self.old instr result self.new }
-        ensures kept { store.new ≡ store.old }
+        requires live { 0 < (totals_in store.old self.old.inherited).live }
+        ensures returns { Returns verified.now.program self.old store.old instr result self.new store.new }
     {
         let Some(mut caller) = self.callers.pop() else {
-            return false;
+            store.end(self.inherited);
+            return Outcome::Ends;
         };
         verified.certificate();
         let call = verified.fetch(usize::from(caller.function), usize::from(caller.pc));
@@ -101,7 +117,79 @@ impl Stay {
         }
         let ended = std::mem::replace(&mut self.top, caller);
         store.keep(ended.into_registers());
-        true
+        Outcome::Goes
+    }
+
+    /// The innermost finish that is open here, or the one that the stay inherited.
+    pub(crate) fn innermost(&self, here: u16) -> Finish
+        ensures { finish_as result ≡ innermost_at here self.now }
+    {
+        match self.finishes.last() {
+            Some(number) => Finish {
+                home: here,
+                number: *number,
+            },
+            None => self.inherited,
+        }
+    }
+
+    /// The stay of the activity that an instruction begins under a finish.
+    pub(crate) fn child(
+        &self,
+        alloc: Global,
+        verified: &Verified,
+        store: &mut Store,
+        instr: Instr,
+        under: Finish,
+    ) -> Result<Stay, AllocError>
+        requires fetched { IsFetchedFor verified.now.program self.now.top instr }
+        requires op { instr.op ≡ op.Async }
+        ensures begun { IfOk result (IsBegun verified.now.program self.now.top.registers.items instr (finish_as under)) }
+        ensures kept { store.new ≡ store.old }
+    {
+        Ok(Stay {
+            top: self.top.callee(alloc, verified, store, instr)?,
+            callers: Vec::new(alloc),
+            finishes: Vec::new(alloc),
+            inherited: under,
+            away: false,
+            back: None,
+        })
+    }
+
+    /// A finish is opened. Where it is refused, nothing has changed.
+    fn open_finish(&mut self, store: &mut Store) -> Result<(), Stop>
+        requires next { self.old.top.pc + 1 < 2 ^ 16 }
+        requires within { store.old.here < store.old.places }
+        ensures ok { OnOk result (OpensFinish self.old store.old self.new store.new) }
+        ensures err { IfErr result (λ why. (self.new ≡ self.old) × (store.new ≡ store.old) × ((why ≡ stop.Memory) ⊎ ((why ≡ stop.Limit 5) × IsFull store.old.opened))) }
+        ensures full { IsFull store.old.opened → result ≡ Err (stop.Limit 5) }
+    {
+        let number = store.next_number()?;
+        if self.finishes.reserve(1).is_err() {
+            return Err(Stop::Memory);
+        }
+        store.open_finish(number)?;
+        self.finishes.push_reserved(number);
+        self.top.next();
+        Ok(())
+    }
+
+    /// The innermost finish is closed, or the stay waits there.
+    fn close_finish(&mut self, store: &mut Store) -> Outcome
+        requires next { self.old.top.pc + 1 < 2 ^ 16 }
+        requires open { HasFinish self.old store.old }
+        ensures leaves { LeavesFinish self.old store.old result self.new store.new }
+    {
+        let last = self.finishes.len() - 1;
+        let number = self.finishes[last];
+        if !store.is_done(number) {
+            return Outcome::Waits;
+        }
+        store.close_finish(number);
+        self.finishes.truncate(last);
+        self.top.next();
+        Outcome::Goes
     }
 
     /// The line that a PRINT of a register gives: its number, or its text, which is copied.
@@ -147,7 +235,7 @@ impl Stay {
         Ok(())
     }
 
-    /// One step. False where the stay has ended by it. Where it is refused, nothing has changed.
+    /// One step: what becomes of the stay. Where it is refused, nothing has changed.
     pub(crate) fn step(
         &mut self,
         alloc: Global,
@@ -155,39 +243,46 @@ impl Stay {
         spot: Spot,
         store: &mut Store,
         instr: Instr,
-    ) -> Result<bool, Stop>
+    ) -> Result<Outcome, Stop>
         requires placed { IsPlaced verified.now.program self.old }
         requires fetched { IsFetchedFor verified.now.program self.old.top instr }
         requires supported { IsTrue (is_supported instr.op) }
-        requires reads { ReadsHeap (route_of instr.op) (location verified.now.program spot) self.old store.old.heap instr }
-        ensures ok { IfOk result (λ goes. Steps (route_of instr.op) (location verified.now.program spot) self.old store.old instr goes self.new store.new) }
-        ensures err { IfErr result (λ why. (self.new ≡ self.old) × (store.new ≡ store.old) × Refuses (route_of instr.op) self.old store.old.heap instr why) }
-        ensures full { (limit : ℕ) → OverfillsBy (route_of instr.op) store.old.heap self.old.top.registers.items instr limit → result ≡ Err (stop.Limit limit) }
+        requires within { store.old.here < store.old.places }
+        requires reads { ReadsStore (route_of instr.op) (location verified.now.program spot) self.old store.old instr }
+        ensures ok { IfOk result (λ outcome. Steps (route_of instr.op) (location verified.now.program spot) self.old store.old instr outcome self.new store.new) }
+        ensures err { IfErr result (λ why. (self.new ≡ self.old) × (store.new ≡ store.old) × Refuses (route_of instr.op) self.old store.old instr why) }
+        ensures full { (limit : ℕ) → OverfillsBy (route_of instr.op) self.old store.old instr limit → result ≡ Err (stop.Limit limit) }
     {
         let made = match classify(instr.op) {
             Route::Local(local) => {
                 self.top.act(&mut store.heap, verified, local, instr);
-                return Ok(true);
+                return Ok(Outcome::Goes);
             }
             Route::Make(make) => {
                 self.top.make(verified, &mut store.heap, make, instr)?;
-                return Ok(true);
+                return Ok(Outcome::Goes);
             }
             Route::Site(site) => {
                 self.top.act_at(spot, site, instr);
-                return Ok(true);
+                return Ok(Outcome::Goes);
             }
             Route::Export => {
                 self.top.export(spot, &mut store.heap, instr)?;
-                return Ok(true);
+                return Ok(Outcome::Goes);
             }
+            Route::OpenFinish => {
+                self.open_finish(store)?;
+                return Ok(Outcome::Goes);
+            }
+            Route::CloseFinish => return Ok(self.close_finish(store)),
             Route::Return => return Ok(self.ret(verified, store, instr)),
+            Route::Begin => return Ok(Outcome::Begins),
             Route::Call => self.call(alloc, verified, store, instr),
             Route::Print => self.print(alloc, verified, store, instr),
             Route::Later => unreachable!(),
         };
         match made {
-            Ok(()) => Ok(true),
+            Ok(()) => Ok(Outcome::Goes),
             Err(_) => Err(Stop::Memory),
         }
     }
@@ -200,6 +295,10 @@ pub(crate) enum Pause {
     Goes,
     /// It has ended.
     Ended,
+    /// It waits at the end of a finish that may not end yet.
+    Waits,
+    /// The next one begins an activity, which its place has to do.
+    Begins,
     /// The next one was refused.
     Refused(Stop),
 }
@@ -215,12 +314,13 @@ impl Stay {
         store: &mut Store,
         most: u64,
     ) -> (u64, Pause)
-        requires typed { IsTyped (location verified.now.program spot) store.old.heap self.old }
+        requires typed { IsWorking (location verified.now.program spot) store.old self.old }
         requires some { 0 < most }
         ensures ran { Paused result.1 (location verified.now.program spot) self.old store.old result.0 self.new store.new }
-        ensures typed { result.1 ≢ Pause.Ended → IsTyped (location verified.now.program spot) store.new.heap self.new }
+        ensures typed { result.1 ≡ Pause.Goes → IsWorking (location verified.now.program spot) store.new self.new }
         ensures few { result.0 ≤ most }
         ensures moves { result.1 ≡ Pause.Goes → 0 < result.0 }
+        ensures begins { result.1 ≡ Pause.Begins → result.0 < most }
     {
         verified.certificate();
         let done = self.top.stretch(&mut store.heap, verified, most);
@@ -229,13 +329,16 @@ impl Stay {
         }
         let instr = verified.fetch(usize::from(self.top.function), usize::from(self.top.pc));
         match self.step(alloc, verified, spot, store, instr) {
-            Ok(true) => (done + 1, Pause::Goes),
-            Ok(false) => (done + 1, Pause::Ended),
+            Ok(Outcome::Goes) => (done + 1, Pause::Goes),
+            Ok(Outcome::Ends) => (done + 1, Pause::Ended),
+            Ok(Outcome::Waits) => (done, Pause::Waits),
+            Ok(Outcome::Begins) => (done, Pause::Begins),
             Err(why) => (done, Pause::Refused(why)),
         }
     }
 
-    /// So many steps, or as many as come before the stay has ended, or before one that is refused: how many were made.
+    /// So many steps, or as many as come before the stay has ended, or before one that waits, begins an activity or is
+    /// refused: how many were made.
     pub(crate) fn run(
         &mut self,
         alloc: Global,
@@ -244,19 +347,18 @@ impl Stay {
         store: &mut Store,
         most: u64,
     ) -> (u64, Pause)
-        requires { IsTyped (location verified.now.program spot) store.old.heap self.old }
+        requires { IsWorking (location verified.now.program spot) store.old self.old }
         ensures ran { Paused result.1 (location verified.now.program spot) self.old store.old result.0 self.new store.new }
         ensures few { result.0 ≤ most }
         ensures all { result.1 ≡ Pause.Goes → result.0 ≡ most }
+        ensures begins { result.1 ≡ Pause.Begins → result.0 < most }
     {
         let mut done = 0;
         while done < most {
             let (count, pause) = self.stride(alloc, verified, spot, store, most - done);
             done += count;
-            match pause {
-                Pause::Goes => {}
-                Pause::Ended => return (done, Pause::Ended),
-                Pause::Refused(why) => return (done, Pause::Refused(why)),
+            if pause != Pause::Goes {
+                return (done, pause);
             }
         }
         (done, Pause::Goes)

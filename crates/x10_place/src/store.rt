@@ -1,41 +1,81 @@
 //! What a place keeps for all its stays.
-ghost use Rattle.std.specs.Prelude.{◌≡◌, ◌≤◌, ◌++◌, ◌∷◌, [], IfOk, OnOk, OnErr, length};
-ghost use Rattle.x10_place.specs.Stays.{new_store};
+ghost use Rattle.std.specs.Prelude.{◌≡◌, ◌≤◌, ◌<◌, ◌^◌, ◌++◌, ◌∷◌, [], ◌⊎◌, ◌↔◌, ◌+◌, None, Err, IfErr, IfOk, IsTrue, OnErr, OnOk, Some, length};
+ghost use Rattle.x10_heap.specs.Heaps.{IsFull};
+ghost use Rattle.x10_finish.specs.Counts.{IsLargest};
+ghost use Rattle.x10_kinds.specs.declared.stop.Stop.TheVariants as stop;
+ghost use Rattle.x10_model.specs.Maps.{with_entry};
+ghost use Rattle.x10_model.specs.Totals.{zeros, nothing, begins_one, ends_one};
+ghost use Rattle.x10_place.specs.Opening.{IsNewStore};
+ghost use Rattle.x10_place.specs.Stays.{finish_as, finish_at, totals_in, books_in, changed_at, Recounts, HasBook, IsDoneHere};
 
 use crate::line::Line;
+use crate::stay::Spot;
 use smallvec::SmallVec;
 use std::alloc::{AllocError, Global};
+use std::collections::BTreeMap;
 use std::marker::Model;
+use x10_finish::{Book, Finish, Tally};
 use x10_heap::Heap;
+use x10_kinds::Stop;
 
-/// What a place keeps for all its stays: the heap, the lines of output, and how many finishes it opened; and the
-/// registers of frames that ended, for those to come.
+/// The limit of finishes that one place opens.
+const FINISHES: u8 = 5;
+
+/// What a place keeps for all its stays: the heap, the lines of output, and how many finishes it opened; what it has
+/// counted of each finish, and a book of each that it opened and that is open; and the registers of frames that ended,
+/// for those to come.
 #[derive(Drop)]
 pub(crate) struct Store {
+    alloc: Global,
     pub(crate) heap: Heap,
     pub(crate) lines: Vec<Line>,
     opened: u32,
+    tally: Tally,
+    books: BTreeMap<u32, Book>,
     spare: Vec<SmallVec<u64, 8>>,
 }
 
 impl Model for Store {
-    ghost use Rattle.x10_place.specs.Stays.{StoreState};
+    ghost use Rattle.x10_place.specs.Stays.{StoreState, AreBooks};
 
     ghost Value = { StoreState };
 
-    ghost view = { λ s. record { heap = s.heap; lines = s.lines.items; opened = s.opened } };
+    ghost view = { λ s. record { heap = s.heap; lines = s.lines.items; opened = s.opened; here = s.tally.place; places = s.tally.places; ledger = s.tally; books = s.books.entries } };
+
+    ghost invariant = { λ s. AreBooks s.tally.place s.tally.places s.books.entries };
 }
 
 impl Store {
-    /// Nothing yet, but that a place may begin with a finish that counts as opened by it. Takes no memory.
-    pub(crate) fn new(alloc: Global, opened: u32) -> Store
-        ensures { result ≡ new_store opened }
+    /// Nothing yet, but that place 0 begins with main under the root finish. Takes memory at place 0 alone.
+    pub(crate) fn new(alloc: Global, spot: Spot) -> Result<Store, Stop>
+        requires { spot.here < spot.places }
+        ensures ok { IfOk result (IsNewStore spot.here spot.places) }
+        ensures err { IfErr result (λ _. spot.here ≡ 0) }
     {
-        Store {
+        let mut store = Store {
+            alloc,
             heap: Heap::new(alloc),
             lines: Vec::new(alloc),
-            opened,
+            opened: 0,
+            tally: Tally::new(alloc, spot.here, spot.places),
+            books: BTreeMap::new(alloc),
             spare: Vec::new(alloc),
+        };
+        if spot.here == 0 {
+            store.open_finish(0)?;
+            store.begin(Finish { home: 0, number: 0 })?;
+        }
+        Ok(store)
+    }
+
+    /// Which place it is, of how many.
+    pub(crate) fn spot(&self) -> Spot
+        ensures here { result.here ≡ self.now.here }
+        ensures places { result.places ≡ self.now.places }
+    {
+        Spot {
+            here: self.tally.place(),
+            places: self.tally.places(),
         }
     }
 
@@ -74,5 +114,85 @@ impl Store {
         if self.spare.len() < self.spare.capacity() {
             self.spare.push_reserved(registers);
         }
+    }
+}
+
+impl Store {
+    /// The finish with a number that was opened here.
+    fn finish(&self, number: u32) -> Finish
+        ensures { finish_as result ≡ finish_at self.now.here number }
+    {
+        Finish {
+            home: self.tally.place(),
+            number,
+        }
+    }
+
+    /// The number that the next finish takes, if there can be one more.
+    pub(crate) fn next_number(&self) -> Result<u32, Stop>
+        ensures ok { IfOk result (λ number. (number ≡ self.now.opened) × (number + 1 < 2 ^ 32)) }
+        ensures err { IfErr result (λ why. (why ≡ stop.Limit 5) × IsFull self.now.opened) }
+        ensures full { IsFull self.now.opened → result ≡ Err (stop.Limit 5) }
+    {
+        if self.opened == u32::MAX {
+            return Err(Stop::Limit(FINISHES));
+        }
+        Ok(self.opened)
+    }
+
+    /// Opens the finish with the next number. Where memory is refused, nothing has changed.
+    pub(crate) fn open_finish(&mut self, number: u32) -> Result<(), Stop>
+        requires next { number ≡ self.old.opened }
+        requires few { number + 1 < 2 ^ 32 }
+        requires within { self.old.here < self.old.places }
+        ensures ok { OnOk result (Recounts self.old self.new (self.old.opened + 1) (totals_in self.old) (with_entry (books_in self.old) self.old.opened (Some (λ p. zeros)))) }
+        ensures err { IfErr result (λ why. (self.new ≡ self.old) × (why ≡ stop.Memory)) }
+    {
+        let book = Book::open(self.alloc, self.finish(number), self.tally.places())?;
+        if self.books.insert(number, book).is_err() {
+            return Err(Stop::Memory);
+        }
+        self.opened = number + 1;
+        Ok(())
+    }
+
+    /// Whether a finish that is open here may end.
+    pub(crate) fn is_done(&self, number: u32) -> bool
+        requires { HasBook (books_in self.now) number }
+        ensures { IsTrue result ↔ IsDoneHere self.now number }
+    {
+        self.books[&number].done(&self.tally)
+    }
+
+    /// Closes a finish that is open here: its book goes, and what was counted of it. Takes no memory.
+    pub(crate) fn close_finish(&mut self, number: u32)
+        ensures { Recounts self.old self.new self.old.opened (changed_at (totals_in self.old) (finish_at self.old.here number) (λ t. nothing)) (with_entry (books_in self.old) number None) }
+    {
+        let finish = self.finish(number);
+        self.books.remove(&number);
+        self.tally.forget(finish);
+    }
+
+    /// How many activities under a finish live here.
+    pub(crate) fn live(&self, finish: Finish) -> u32
+        ensures { result ≡ (totals_in self.now (finish_as finish)).live }
+    {
+        self.tally.live(finish)
+    }
+
+    /// An activity begins here under a finish. Where it is refused, nothing has changed.
+    pub(crate) fn begin(&mut self, finish: Finish) -> Result<(), Stop>
+        ensures ok { OnOk result (Recounts self.old self.new self.old.opened (changed_at (totals_in self.old) (finish_as finish) begins_one) (books_in self.old)) }
+        ensures err { IfErr result (λ why. (self.new ≡ self.old) × ((why ≡ stop.Memory) ⊎ ((why ≡ stop.Limit 6) × IsLargest (totals_in self.old (finish_as finish)).live))) }
+    {
+        self.tally.began(finish)
+    }
+
+    /// An activity under a finish ends here. Takes no memory.
+    pub(crate) fn end(&mut self, finish: Finish)
+        requires { 0 < (totals_in self.old (finish_as finish)).live }
+        ensures { Recounts self.old self.new self.old.opened (changed_at (totals_in self.old) (finish_as finish) ends_one) (books_in self.old) }
+    {
+        self.tally.left(finish);
     }
 }

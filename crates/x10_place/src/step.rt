@@ -1,0 +1,149 @@
+//! One step of a stay at its place, and steps of one at a stretch.
+ghost use Rattle.std.specs.Prelude.{◌≡◌, ◌+◌, ◌<◌, ◌^◌, ℕ, false, Err, IfErr, OnErr, OnOk, None, Some};
+ghost use Rattle.slab.specs.Slab.{get, Updates};
+ghost use Rattle.x10_code.specs.declared.instr.Instr as instr;
+ghost use Rattle.x10_code.specs.declared.op.Op.TheVariants as op;
+ghost use Rattle.x10_kinds.specs.declared.stop.Stop.TheVariants as stop;
+ghost use Rattle.x10_place.specs.Frames.{IsFetchedFor};
+ghost use Rattle.x10_place.specs.StandsFor.{place_of, IsStanding, OverfillsBegin};
+ghost use Rattle.x10_place.specs.Stays.{StayState, GoesNext};
+ghost use Rattle.x10_place.specs.Stretches.{BeginsAt, IsUntouched, RefusesBegin, IsAdvanced, IsRun};
+
+use crate::place::Stepped;
+use crate::stay::{Outcome, Pause, Spot, Stay};
+use crate::store::Store;
+use slab::Slab;
+use std::alloc::Global;
+use x10_code::Instr;
+use x10_kinds::Stop;
+use x10_verify::Verified;
+
+/// The greatest key that a stay may have, and the limit that it is.
+const MOST_KEYS: usize = 4_294_967_295;
+const KEYS: u8 = 10;
+
+/// The limit of activities that live under one finish at one place.
+const LIVE: u8 = 6;
+
+/// Takes a stay away.
+fn remove(stays: &mut Slab<Stay>, key: usize)
+    ensures { Updates stays.old stays.new key None }
+{
+    stays.try_remove(key);
+}
+
+/// The stay with a key goes on to its next instruction.
+fn go_on(stays: &mut Slab<Stay>, key: usize)
+    requires { (a : StayState) × (get stays.old key ≡ Some a) × (a.top.pc + 1 < 2 ^ 16) }
+    ensures { (a : StayState) → get stays.old key ≡ Some a → (b : StayState) × GoesNext a.top b.top × (b ≡ record a { top = b.top }) × Updates stays.old stays.new key (Some b) }
+{
+    if let Some(stay) = stays.get_mut(key) {
+        stay.top.next();
+    }
+}
+
+/// An activity begins by the instruction of the stay with a key. Where it is refused, nothing has changed.
+fn begin(
+    alloc: Global,
+    verified: &Verified,
+    stays: &mut Slab<Stay>,
+    store: &mut Store,
+    key: usize,
+) -> Result<(), Stop>
+    requires { (a : StayState) × (i : instr.Instr) × (get stays.old key ≡ Some a) × IsFetchedFor verified.now.program a.top i × (i.op ≡ op.Async) }
+    ensures ok { OnOk result (BeginsAt verified.now.program stays.old store.old key stays.new store.new) }
+    ensures err { OnErr result (IsUntouched stays.old store.old stays.new store.new) }
+    ensures refused { IfErr result (RefusesBegin verified.now stays.old store.old key) }
+    ensures full { (limit : ℕ) (a : StayState) → get stays.old key ≡ Some a → OverfillsBegin (place_of verified.now stays.old store.old false) a limit → result ≡ Err (stop.Limit limit) }
+{
+    if stays.vacant_key() > MOST_KEYS {
+        return Err(Stop::Limit(KEYS));
+    }
+    let stay = &stays[key];
+    let under = stay.innermost(store.spot().here);
+    if store.live(under) == u32::MAX {
+        return Err(Stop::Limit(LIVE));
+    }
+    verified.certificate();
+    let instr = verified.fetch(usize::from(stay.top.function), usize::from(stay.top.pc));
+    let Ok(child) = stay.child(alloc, verified, store, instr, under) else {
+        return Err(Stop::Memory);
+    };
+    if stays.reserve(1).is_err() {
+        return Err(Stop::Memory);
+    }
+    store.begin(under)?;
+    stays.insert_reserved(child);
+    go_on(stays, key);
+    Ok(())
+}
+
+/// One step of the stay with a key.
+pub(crate) fn step_in(
+    alloc: Global,
+    verified: &Verified,
+    stays: &mut Slab<Stay>,
+    store: &mut Store,
+    key: usize,
+) -> Result<Stepped, Stop>
+    requires { IsStanding (place_of verified.now stays.old store.old false) }
+    ensures { IsAdvanced verified.now stays.old store.old key result stays.new store.new }
+{
+    verified.certificate();
+    let spot = store.spot();
+    let Some(stay) = stays.get_mut(key) else {
+        return Ok(Stepped::Idle);
+    };
+    if stay.away {
+        return Ok(Stepped::Idle);
+    }
+    let instr = verified.fetch(usize::from(stay.top.function), usize::from(stay.top.pc));
+    match stay.step(alloc, verified, spot, store, instr) {
+        Ok(Outcome::Goes) => Ok(Stepped::Moved),
+        Ok(Outcome::Waits) => Ok(Stepped::Idle),
+        Ok(Outcome::Ends) => {
+            remove(stays, key);
+            Ok(Stepped::Moved)
+        }
+        Ok(Outcome::Begins) => match begin(alloc, verified, stays, store, key) {
+            Ok(()) => Ok(Stepped::Moved),
+            Err(why) => Err(why),
+        },
+        Err(why) => Err(why),
+    }
+}
+
+/// Up to so many steps of the stay with a key: how many were made, and why no more, where one was refused.
+pub(crate) fn run_in(
+    alloc: Global,
+    verified: &Verified,
+    stays: &mut Slab<Stay>,
+    store: &mut Store,
+    key: usize,
+    most: u64,
+) -> (u64, Option<Stop>)
+    requires { IsStanding (place_of verified.now stays.old store.old false) }
+    ensures { IsRun verified.now stays.old store.old key most result.0 result.1 stays.new store.new }
+{
+    verified.certificate();
+    let spot = store.spot();
+    let Some(stay) = stays.get_mut(key) else {
+        return (0, None);
+    };
+    if stay.away {
+        return (0, None);
+    }
+    let (done, pause) = stay.run(alloc, verified, spot, store, most);
+    match pause {
+        Pause::Goes | Pause::Waits => (done, None),
+        Pause::Ended => {
+            remove(stays, key);
+            (done, None)
+        }
+        Pause::Refused(why) => (done, Some(why)),
+        Pause::Begins => match begin(alloc, verified, stays, store, key) {
+            Ok(()) => (done + 1, None),
+            Err(why) => (done, Some(why)),
+        },
+    }
+}
