@@ -19,3 +19,4 @@ pub mod Following
 pub mod Counted
 pub mod InRange
 pub mod Tallied
+pub mod Watching
