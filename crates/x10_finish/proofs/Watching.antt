@@ -1,35 +1,33 @@
 -- What holds of a world and its counts is kept by each event.
-use Rattle.std.proofs.Common.{◌≡◌, ℕ, suc, ◌+◌, ◌<◌, ◌≤◌, ◌&&◌, Bool, true, false, if◌then◌else◌, [], ◌∷◌, Option, Some, None, inl, inr, refl, sym, ◌∙◌, ap, subst, arith}
+use Rattle.std.proofs.Common.{◌≡◌, ℕ, ◌<◌, ◌≤◌, ◌&&◌, Bool, true, false, if◌then◌else◌, [], ◌∷◌, Option, Some, None, inl, inr, refl, sym, ◌∙◌, ap, subst, arith}
 use Rattle.std.proofs.Math.Path.{fun_ext}
 use Rattle.std.proofs.lemmas.Bool.{cases_eq}
-use Rattle.std.proofs.lemmas.Option.{same_Some}
 use Rattle.x10_model.specs.declared.event.Event.TheVariants.{Step, Deliver}
 use Rattle.x10_model.specs.Maps.{with_entry}
-use Rattle.x10_model.specs.Places as places
+use Rattle.x10_model.specs.Places as machine
 use Rattle.x10_model.specs.Places.{Setting, Finish, root, Stay, Message, Spawn, Shift, Back, receiver, Effect, Waits, Works, Begins, Spawns, Shifts, Opens, Closes, Ends}
 use Rattle.x10_model.specs.Moves.{Moves}
-use Rattle.x10_model.specs.Deliveries.{Receives}
-use Rattle.x10_model.specs.Totals.{Totals, Did, Took, totals_after, is_last, is_reported, IsDoneAt}
-use Rattle.x10_model.specs.Worlds.{same_finish, Unused, Net, Book, World, sent, net_after, Quiet, Allows, Steps, Delivers, steps, delivers, opening}
+use Rattle.x10_model.specs.Totals.{Totals, nothing, Did, Took, totals_after, is_last, is_reported, IsDoneAt, first_totals}
+use Rattle.x10_model.specs.Worlds.{same_finish, Unused, Net, World, sent, net_after, Quiet, Allows, Steps, Delivers, steps, delivers, opening}
 use Rattle.x10_finish.specs.Detection as detection
 use Rattle.x10_finish.specs.Detection.{Told, told_of, taken, Counting, Event, start, after, after_all, IsCounted}
 use Rattle.x10_finish.specs.Stays.{MovesStay}
-use Rattle.x10_finish.specs.Nesting.{stays_in, opened_in, stays_of, opened_of, nth, IsOpen, IsHeld}
-use Rattle.x10_finish.specs.Closing.{IsSound}
+use Rattle.x10_finish.specs.Nesting.{stays_in, stays_of, opened_of, nth, IsHeld}
 use Rattle.x10_finish.specs.Telling.{Inherits, Tells, IsInRange, GoesTo, counted_as, counted_in, counting_at_opening}
-use Rattle.x10_finish.specs.Watching.{IsCurrent, WorldCounts, counting_of, IsFollowed, IsWatched, AreFirst, OpeningIsWatched, closes, IsMoved, ClosesDone, world_after, MovesAreWatched, IsDelivered, DeliveriesAreWatched, IsSame, IsTakenIn, CountsReport, ReportsAreWatched, DoneIsOver, OverIsDone, EndedIsDone, StaysAreCounted}
+use Rattle.x10_finish.specs.Watching.{IsCurrent, WorldCounts, counting_of, IsFollowed, IsWatched, AreFirst, OpeningIsWatched, IsMoved, ClosesDone, world_after, MovesAreWatched, IsDelivered, DeliveriesAreWatched, IsSame, IsTakenIn, CountsReport, ReportsAreWatched, DoneIsOver, OverIsDone, EndedIsDone, StaysAreCounted, IsUncounted}
 use Rattle.x10_finish.proofs.Stays.{stays_change}
 use Rattle.x10_finish.proofs.Ledgers.{same_is}
-use Rattle.x10_finish.proofs.Counting.{entry_same, counted_after, counted_after_all}
-use Rattle.x10_finish.proofs.Nesting.{at_stay, no_stay, grown}
-use Rattle.x10_finish.proofs.Sound.{there_in, stays_after, opened_after, opened_same, entry_self, overwritten, net_with}
+use Rattle.x10_finish.proofs.Counting.{counted_after, counted_after_all}
+use Rattle.x10_finish.proofs.Nesting.{no_stay}
+use Rattle.x10_finish.proofs.Sound.{there_in, net_with}
 use Rattle.x10_finish.proofs.Closing.{sound_opening, sound_happens, allowed_ideal, ended_quiet}
-use Rattle.x10_finish.proofs.Rooted.{HadOpen, open_back, had_same, had_rest, had_none, opened_or_new, rooted_opening, rooted_happens, root_over}
+use Rattle.x10_finish.proofs.Rooted.{rooted_opening, rooted_happens, root_over}
 use Rattle.x10_finish.proofs.Listed.{over_is_quiet}
 use Rattle.x10_finish.proofs.HowMany.{many_some}
 use Rattle.x10_finish.proofs.Telling.{done_is_quiet, quiet_is_done}
 use Rattle.x10_finish.proofs.Counted.{moves_are_counted, deliveries_are_counted, opening_is_counted}
 use Rattle.x10_finish.proofs.InRange.{opening_is_in_range, moves_stay_in_range, deliveries_stay_in_range}
+use Rattle.x10_finish.proofs.Current.{unopened_apart, same_opened, moved_opened, moved_current, not_closed, moved_none, received_opened, received_current, received_none}
 
 -- ---- the counts of one finish
 
@@ -47,18 +45,24 @@ totals_same a b c here t at ct others too p = elim (cases_eq p here) [
   | inr apart ↦ others p apart ∙ sym (too p apart)
 ]
 
+uncounted_same : (c d : WorldCounts) (f : Finish) → IsUncounted c f → IsSame c d f → IsUncounted d f
+uncounted_same c d f none same = record { totals = λ p. same.totals p ∙ none.totals p; kept = same.kept ∙ none.kept; told = λ n. ap (λ (g : ℕ → Option Told). g n) same.told ∙ none.told n }
+
 -- ---- at the opening
 
-first_parts : (setting : Setting) (f : Finish) (b : Bool) → (let s = if b then after f.home start (detection.Begins 0) else start in (s.told ≡ (λ n. None)) × (s.kept ≡ start.kept))
-first_parts setting f true = (refl, refl)
-first_parts setting f false = (refl, refl)
+first_parts : (f : Finish) (b : Bool) → (let s = if b then after f.home start (detection.Begins 0) else start in (s.told ≡ (λ n. None)) × (s.kept ≡ start.kept))
+first_parts f true = (refl, refl)
+first_parts f false = (refl, refl)
 
 opening_followed : (setting : Setting) (key : ℕ) (c : WorldCounts) → 0 < setting.places → AreFirst c → (f : Finish) → IsFollowed setting.places (opening setting key).net c f
 opening_followed setting key c lt first f =
     let counted = opening_is_counted setting key f lt in
-    let parts = first_parts setting f (same_finish f root) in
+    let parts = first_parts f (same_finish f root) in
     followed setting.places (opening setting key).net c f (counting_at_opening f) counted.0 counted.1
     (counting_same (counting_at_opening f) c f (λ p. counted.2 p ∙ sym (first.totals p f)) (parts.0 ∙ sym (fun_ext (first.told f))) (parts.1 ∙ sym (first.kept f)))
+
+first_none : (f : Finish) (p : ℕ) → same_finish f root ≡ false → first_totals p f ≡ nothing
+first_none f p e = rw e refl
 
 pub opening_is_watched : OpeningIsWatched
 opening_is_watched setting key c lt first = record {
@@ -66,6 +70,11 @@ opening_is_watched setting key c lt first = record {
   rooted = rooted_opening setting key lt;
   range = opening_is_in_range setting key lt;
   each = λ f current. opening_followed setting key c lt first f;
+  fresh = λ f le. record {
+    totals = λ p. first.totals p f ∙ first_none f p (unopened_apart (opening setting key).net (opening setting key).book f root (sound_opening setting key lt) le (inl refl));
+    kept = first.kept f;
+    told = first.told f;
+  };
 }
 
 -- ---- what the counts say
@@ -93,98 +102,6 @@ stays_are_counted places w c here key stay i there =
     let held = i.sound.nested.inherited here key stay there in
     let e = i.each stay.inherited (inl held) in
     (held, many_some (Inherits (stays_of w.net) stay.inherited here) (c.totals here stay.inherited).live key (e.tells.live here) (stay, there, refl))
-
--- ---- what hasn't closed after a move had not closed before
-
-open_before : (net : Net) (here key : ℕ) (old new : places.Place) (o : Option Stay) (f : Finish) → net.places here ≡ Some old → new.stays ≡ with_entry old.stays key o → HadOpen (stays_of net) here o → IsOpen (λ p. stays_in (with_entry net.places here (Some new) p)) f → IsOpen (stays_of net) f
-open_before net here key old new o f e stays had is_open = open_back (stays_of net) here key o f had (subst (λ x. IsOpen x f) (stays_after net here key old new o e stays) is_open)
-
--- what is open was open before, or is new
-moved_open : (net : Net) (here key number : ℕ) (old new : places.Place) (effect : Effect) (f : Finish) → net.places here ≡ Some old → (m : MovesStay here old key new effect) → IsOpen (stays_of (net_after net here new effect number)) f → IsCurrent net f
-moved_open net here key number old new (Waits n) f e m is_open =
-    inl (inr (subst (λ (x : ℕ → Option places.Place). IsOpen (λ p. stays_in (x p)) f) (entry_self net.places here (Some new) (e ∙ ap Some (sym m.changes))) is_open))
-moved_open net here key number old new Works f e m is_open =
-    (let c = m.changes in inl (inr (open_before net here key old new (Some c.0) f e c.2.stays (had_same (stays_of net) here key m.stay c.0 (there_in net here key old new Works e m) c.1.finishes_are) is_open)))
-moved_open net here key number old new (Spawns message function under) f e m is_open =
-    (let c = m.changes in inl (inr (open_before net here key old new (Some c.0) f e c.6.stays (had_same (stays_of net) here key m.stay c.0 (there_in net here key old new (Spawns message function under) e m) c.3.finishes_are) is_open)))
-moved_open net here key number old new (Shifts message under) f e m is_open =
-    (let c = m.changes in inl (inr (open_before net here key old new (Some c.0) f e c.7.stays (had_same (stays_of net) here key m.stay c.0 (there_in net here key old new (Shifts message under) e m) c.4.finishes_are) is_open)))
-moved_open net here key number old new (Closes n) f e m is_open =
-    (let c = m.changes in inl (inr (open_before net here key old new (Some c.0) f e c.4.stays (had_rest (stays_of net) here key n c.1 m.stay c.0 (there_in net here key old new (Closes n) e m) c.2 c.3.finishes_are) is_open)))
-moved_open net here key number old new (Ends under back) f e m is_open = inl (inr (open_before net here key old new None f e m.changes.3.stays (λ t is. no_stay t is) is_open))
-moved_open net here key number old new (Begins other function under) f e m is_open =
-    let c = m.changes in
-    let mid = record old { stays = with_entry old.stays key (Some c.0) } in
-    let between : Net = record net { places = with_entry net.places here (Some mid) } in
-    let again = subst (λ (x : ℕ → Option places.Place). IsOpen (λ p. stays_in (x p)) f) (sym (overwritten net.places here (Some mid) (Some new))) is_open in
-    let first = open_before between here other mid new (Some c.1) f (entry_same net.places here (Some mid)) c.6 (had_none (stays_of between) here c.1 c.3.finishes) again in
-    inl (inr (open_before net here key old mid (Some c.0) f e refl (had_same (stays_of net) here key m.stay c.0 (there_in net here key old new (Begins other function under) e m) c.2.finishes_are) first))
-moved_open net here key number old new (Opens n inside) f e m is_open =
-    let c = m.changes in
-    let is : n ≡ opened_of net here = c.2 ∙ sym (ap opened_in e) in
-    elim (opened_or_new (stays_of net) (opened_of net) here key m.stay c.0 f (there_in net here key old new (Opens n inside) e m) (c.1.finishes_are ∙ ap (λ x. x ∷ m.stay.finishes) is)
-    (subst (λ x. IsOpen x f) (stays_after net here key old new (Some c.0) e c.4.stays) is_open)) [
-      | inl now ↦ inr (let home = ap (λ (x : Finish). opened_of net x.home) now in let number_is = ap (λ (x : Finish). x.number) now in omega (arith, home, number_is))
-      | inr was ↦ inl (inr was)
-    ]
-
-same_count : (net : Net) (here p : ℕ) (old new : places.Place) → net.places here ≡ Some old → new.opened ≡ old.opened → opened_of net p ≤ opened_in (with_entry net.places here (Some new) p)
-same_count net here p old new e same = (let is = ap (λ (x : ℕ → ℕ). x p) (opened_same net here old new e same) in omega (arith, is))
-
--- no place has opened fewer
-moved_opened : (net : Net) (here key number p : ℕ) (old new : places.Place) (effect : Effect) → net.places here ≡ Some old → (m : MovesStay here old key new effect) → opened_of net p ≤ opened_of (net_after net here new effect number) p
-moved_opened net here key number p old new (Waits n) e m = same_count net here p old new e (ap (λ (x : places.Place). x.opened) m.changes)
-moved_opened net here key number p old new Works e m = same_count net here p old new e m.changes.2.opened_is
-moved_opened net here key number p old new (Begins other function under) e m = same_count net here p old new e m.changes.7
-moved_opened net here key number p old new (Spawns message function under) e m = same_count net here p old new e m.changes.6.opened_is
-moved_opened net here key number p old new (Shifts message under) e m = same_count net here p old new e m.changes.7.opened_is
-moved_opened net here key number p old new (Closes n) e m = same_count net here p old new e m.changes.4.opened_is
-moved_opened net here key number p old new (Ends under back) e m = same_count net here p old new e m.changes.3.opened_is
-moved_opened net here key number p old new (Opens n inside) e m =
-    let more = grown (opened_of net) here p in
-    let is = ap (λ (x : ℕ → ℕ). x p) (opened_after net here (opened_of net here + 1) new (m.changes.4.opened_is ∙ ap (λ x. x + 1) (sym (ap opened_in e)))) in
-    omega (arith, more, is)
-
-moved_current : (net : Net) (here key number : ℕ) (old new : places.Place) (effect : Effect) (f : Finish) → net.places here ≡ Some old → MovesStay here old key new effect → IsCurrent (net_after net here new effect number) f → IsCurrent net f
-moved_current net here key number old new effect f e m (inl (inl is)) = inl (inl is)
-moved_current net here key number old new effect f e m (inl (inr is_open)) = moved_open net here key number old new effect f e m is_open
-moved_current net here key number old new effect f e m (inr le) = inr (let more = moved_opened net here key number f.home old new effect e m in omega (arith, le, more))
-
--- the finish that a move closes has closed
-closed_gone : (net : Net) (book : Book) (here key number n : ℕ) (old new : places.Place) → IsSound net book → net.places here ≡ Some old → (m : MovesStay here old key new (Closes n)) → IsCurrent (net_after net here new (Closes n) number) (record { home = here; number = n }) → ⊥
-closed_gone net book here key number n old new i e m (inl (inl is)) =
-    let there = there_in net here key old new (Closes n) e m in
-    no_stay _ (sym i.nested.root_outer ∙ ap net.enclosing (sym is) ∙ i.nested.enclosed here key 0 n m.stay there (ap (λ xs. nth xs 0) m.changes.2))
-closed_gone net book here key number n old new i e m (inl (inr (k, j, u, at, h))) =
-    let c = m.changes in
-    let there = there_in net here key old new (Closes n) e m in
-    let top = ap (λ xs. nth xs 0) c.2 in
-    at_stay (λ o. o ≡ Some u → ⊥) (stays_of net) here key here k (Some c.0)
-    (λ eh ek is. (let rest : nth c.1 j ≡ Some n = sym (ap (λ xs. nth xs j) (ap (λ (x : Stay). x.finishes) (sym (same_Some c.0 u is)) ∙ c.3.finishes_are)) ∙ h in
-    let same = (i.nested.apart here key key 0 (suc j) n m.stay m.stay there there top (ap (λ xs. nth xs (suc j)) c.2 ∙ rest)).1 in
-    omega (arith, same)))
-    (λ other is. other (refl, sym (i.nested.apart here key k 0 j n m.stay u there is top h).0))
-    (ap (λ x. x here k) (sym (stays_after net here key old new (Some c.0) e c.4.stays)) ∙ at)
-closed_gone net book here key number n old new i e m (inr le) =
-    let lt = i.nested.numbered here key 0 n m.stay (there_in net here key old new (Closes n) e m) (ap (λ xs. nth xs 0) m.changes.2) in
-    let more = moved_opened net here key number here old new (Closes n) e m in
-    omega (arith, le, lt, more)
-
-is_false : (b : Bool) → (b ≡ true → ⊥) → b ≡ false
-is_false true h = absurd (h refl)
-is_false false h = refl
-
-not_closed : (net : Net) (book : Book) (here key number : ℕ) (old new : places.Place) (effect : Effect) (f : Finish) → IsSound net book → net.places here ≡ Some old → (m : MovesStay here old key new effect) → IsCurrent (net_after net here new effect number) f → closes here effect f ≡ false
-not_closed net book here key number old new (Waits n) f i e m current = refl
-not_closed net book here key number old new Works f i e m current = refl
-not_closed net book here key number old new (Begins other function under) f i e m current = refl
-not_closed net book here key number old new (Spawns message function under) f i e m current = refl
-not_closed net book here key number old new (Shifts message under) f i e m current = refl
-not_closed net book here key number old new (Opens n inside) f i e m current = refl
-not_closed net book here key number old new (Ends under back) f i e m current = refl
-not_closed net book here key number old new (Closes n) f i e m current =
-    let g : Finish = record { home = here; number = n } in
-    is_false (same_finish f g) (λ t. closed_gone net book here key number n old new i e m (subst (IsCurrent (net_after net here new (Closes n) number)) (same_is f g t) current))
 
 -- ---- what an event changes of reports
 
@@ -222,7 +139,7 @@ moved_kept f s here report (Ends under back) = unkept f.home s (detection.Ends h
 
 -- ---- moves
 
-moved_followed : (setting : Setting) (net : Net) (c d : WorldCounts) (here key number report : ℕ) (old new : places.Place) (effect : Effect) (f : Finish) → IsFollowed setting.places net c f → net.places here ≡ Some old → Moves setting here old key new effect → net.posts number ≡ Unused
+moved_followed : (setting : Setting) (net : Net) (c d : WorldCounts) (here key number report : ℕ) (old new : machine.Place) (effect : Effect) (f : Finish) → IsFollowed setting.places net c f → net.places here ≡ Some old → Moves setting here old key new effect → net.posts number ≡ Unused
     → here < setting.places → GoesTo setting.places (sent effect) → c.told f report ≡ None → IsMoved here effect report c d f → IsFollowed setting.places (net_after net here new effect number) d f
 moved_followed setting net c d here key number report old new effect f i e moves unused lh goes told m =
     let s = counting_of c f i.flying in
@@ -233,17 +150,24 @@ moved_followed setting net c d here key number report old new effect f i e moves
     (counting_same a d f (totals_same a.totals s.totals (λ p. d.totals p f) here (totals_after f (c.totals here f) (Did effect)) x.here_is m.here_is x.others m.others)
     (moved_told f s here report effect ∙ sym m.told) (moved_kept f s here report effect ∙ sym m.kept))
 
-quiet_allowed : (places_count : ℕ) (w : World) (c : WorldCounts) (here key : ℕ) (old new : places.Place) (effect : Effect) → IsWatched places_count w c → w.net.places here ≡ Some old → (m : MovesStay here old key new effect) → here < places_count → ClosesDone places_count here c effect → Allows Quiet w here effect
-quiet_allowed count w c here key old new (Waits n) i e m lh done = tt
-quiet_allowed count w c here key old new Works i e m lh done = tt
-quiet_allowed count w c here key old new (Begins other function under) i e m lh done = tt
-quiet_allowed count w c here key old new (Spawns message function under) i e m lh done = tt
-quiet_allowed count w c here key old new (Shifts message under) i e m lh done = tt
-quiet_allowed count w c here key old new (Opens n inside) i e m lh done = tt
-quiet_allowed count w c here key old new (Ends under back) i e m lh done = tt
-quiet_allowed count w c here key old new (Closes n) i e m lh done =
+moved_fresh : (here : ℕ) (effect : Effect) (report : ℕ) (c d : WorldCounts) (f : Finish) → IsMoved here effect report c d f → (totals_after f (c.totals here f) (Did effect) ≡ c.totals here f) × (is_reported here f (c.totals here f) (Did effect) ≡ false) → IsSame c d f
+moved_fresh here effect report c d f m none = record {
+  totals = totals_same (λ p. d.totals p f) (λ p. c.totals p f) (λ p. c.totals p f) here (c.totals here f) (m.here_is ∙ none.0) refl m.others (λ p apart. refl);
+  kept = m.kept;
+  told = m.told ∙ ap (λ b. if b then with_entry (c.told f) report (Some (told_of here (c.totals here f))) else c.told f) none.1;
+}
+
+quiet_allowed : (places : ℕ) (w : World) (c : WorldCounts) (here key : ℕ) (old new : machine.Place) (effect : Effect) → IsWatched places w c → w.net.places here ≡ Some old → (m : MovesStay here old key new effect) → here < places → ClosesDone places here c effect → Allows Quiet w here effect
+quiet_allowed places w c here key old new (Waits n) i e m lh done = tt
+quiet_allowed places w c here key old new Works i e m lh done = tt
+quiet_allowed places w c here key old new (Begins other function under) i e m lh done = tt
+quiet_allowed places w c here key old new (Spawns message function under) i e m lh done = tt
+quiet_allowed places w c here key old new (Shifts message under) i e m lh done = tt
+quiet_allowed places w c here key old new (Opens n inside) i e m lh done = tt
+quiet_allowed places w c here key old new (Ends under back) i e m lh done = tt
+quiet_allowed places w c here key old new (Closes n) i e m lh done =
     let held : IsHeld (stays_of w.net) (record { home = here; number = n }) = inr (key, 0, m.stay, there_in w.net here key old new (Closes n) e m, ap (λ xs. nth xs 0) m.changes.2) in
-    done_quiet count w c (record { home = here; number = n }) i held lh done
+    done_quiet places w c (record { home = here; number = n }) i held lh done
 
 pub moves_are_watched : MovesAreWatched
 moves_are_watched setting w c d here key number report old new effect i e moves unused lh goes told counts done =
@@ -280,27 +204,14 @@ moves_are_watched setting w c d here key number report old new effect i e moves 
         range = moves_stay_in_range setting setting.places w.net here key number old new effect i.range moves lh goes;
         each = λ f current. moved_followed setting w.net c d here key number report old new effect f (i.each f (moved_current w.net here key number old new effect f e m current)) e moves unused lh goes (told f)
             (counts f (not_closed w.net w.book here key number old new effect f i.sound e m current));
+        fresh = λ f le. (let more = moved_opened w.net here key number f.home old new effect e m in
+            let before : opened_of w.net f.home ≤ f.number = omega (arith, le, more) in
+            uncounted_same c d f (i.fresh f before)
+            (moved_fresh here effect report c d f (counts f (not_closed w.net w.book here key number old new effect f i.sound e m (inr le))) (moved_none w.net w.book here key old new effect f (c.totals here f) i.sound e m before)));
       },
     )
 
 -- ---- deliveries
-
-received_open : (setting : Setting) (net : Net) (here key number : ℕ) (old new : places.Place) (message : Message) (f : Finish) → net.places here ≡ Some old → Receives setting here old message key new → IsOpen (stays_of (net_with net here new number)) f → IsOpen (stays_of net) f
-received_open setting net here key number old new (Spawn from to under function graph) f e r is_open = open_before net here key old new _ f e (ap (λ (p : places.Place). p.stays) r.1.new_is) (had_none (stays_of net) here _ refl) is_open
-received_open setting net here key number old new (Shift from to waiting under function graph) f e r is_open = open_before net here key old new _ f e (ap (λ (p : places.Place). p.stays) r.1.new_is) (had_none (stays_of net) here _ refl) is_open
-received_open setting net here key number old new (Back from to waiting graph) f e r is_open =
-    open_before net here key old new _ f e (ap (λ (p : places.Place). p.stays) r.2.new_is) (had_same (stays_of net) here key r.2.stay _ (ap (λ o. stays_in o key) e ∙ r.2.waits.is_there) refl) is_open
-
-received_opened : (setting : Setting) (here key : ℕ) (old new : places.Place) (message : Message) → Receives setting here old message key new → new.opened ≡ old.opened
-received_opened setting here key old new (Spawn from to under function graph) r = ap (λ (p : places.Place). p.opened) r.1.new_is
-received_opened setting here key old new (Shift from to waiting under function graph) r = ap (λ (p : places.Place). p.opened) r.1.new_is
-received_opened setting here key old new (Back from to waiting graph) r = ap (λ (p : places.Place). p.opened) r.2.new_is
-
-received_current : (setting : Setting) (net : Net) (here key number : ℕ) (old new : places.Place) (message : Message) (f : Finish) → net.places here ≡ Some old → Receives setting here old message key new → IsCurrent (net_with net here new number) f → IsCurrent net f
-received_current setting net here key number old new message f e r (inl (inl is)) = inl (inl is)
-received_current setting net here key number old new message f e r (inl (inr is_open)) = inl (inr (received_open setting net here key number old new message f e r is_open))
-received_current setting net here key number old new message f e r (inr le) =
-    inr (let more = same_count net here f.home old new e (received_opened setting here key old new message r) in omega (arith, le, more))
 
 received_told : (f : Finish) (s : Counting) (message : Message) → (after_all f.home s (counted_in f message)).told ≡ s.told
 received_told f s (Spawn from to under function graph) = unreported f.home s (detection.Arrives from to) (same_finish f under) refl
@@ -323,6 +234,13 @@ received_followed setting w v c d number delivery f i e m =
     (counting_same a d f (totals_same a.totals s.totals (λ p. d.totals p f) delivery.here (totals_after f (c.totals delivery.here f) (Took delivery.message)) x.here_is m.here_is x.others m.others)
     (received_told f s delivery.message ∙ sym m.told) (received_kept f s delivery.message ∙ sym m.kept))
 
+received_fresh : (here : ℕ) (message : Message) (c d : WorldCounts) (f : Finish) → IsDelivered here message c d f → totals_after f (c.totals here f) (Took message) ≡ c.totals here f → IsSame c d f
+received_fresh here message c d f m none = record {
+  totals = totals_same (λ p. d.totals p f) (λ p. c.totals p f) (λ p. c.totals p f) here (c.totals here f) (m.here_is ∙ none) refl m.others (λ p apart. refl);
+  kept = m.kept;
+  told = m.told;
+}
+
 pub deliveries_are_watched : DeliveriesAreWatched
 deliveries_are_watched setting w v c d number delivery i lh counts =
     let net = net_with w.net delivery.here delivery.new number in
@@ -332,33 +250,48 @@ deliveries_are_watched setting w v c d number delivery i lh counts =
       range = subst (λ (n : Net). IsInRange setting.places (stays_of n) n.posts) (sym delivery.net_is) (deliveries_stay_in_range setting.places w.net delivery.here number delivery.new i.range lh);
       each = λ f current. (let before = received_current setting w.net delivery.here delivery.key number delivery.old delivery.new delivery.message f delivery.place_is delivery.receives (subst (λ n. IsCurrent n f) delivery.net_is current) in
           subst (λ n. IsFollowed setting.places n d f) (sym delivery.net_is) (received_followed setting w v c d number delivery f i (i.each f before) (counts f)));
+      fresh = λ f le. (let more = same_opened w.net delivery.here f.home delivery.old delivery.new delivery.place_is (received_opened setting delivery.here delivery.key delivery.old delivery.new delivery.message delivery.receives) in
+          let now : opened_of net f.home ≤ f.number = subst (λ n. opened_of n f.home ≤ f.number) delivery.net_is le in
+          let before : opened_of w.net f.home ≤ f.number = omega (arith, now, more) in
+          uncounted_same c d f (i.fresh f before) (received_fresh delivery.here delivery.message c d f (counts f) (received_none w.net w.book number delivery.message f (c.totals delivery.here f) i.sound delivery.flying before)));
     }
 
 -- ---- reports
 
 -- the counts of a finish that stay
-same_followed : (places_count : ℕ) (net : Net) (c d : WorldCounts) (f : Finish) → IsFollowed places_count net c f → IsSame c d f → IsFollowed places_count net d f
-same_followed count net c d f i same =
-    followed count net d f (counting_of c f i.flying) i.tells i.counted (counting_same (counting_of c f i.flying) d f (λ p. sym (same.totals p)) (sym same.told) (sym same.kept))
+same_followed : (places : ℕ) (net : Net) (c d : WorldCounts) (f : Finish) → IsFollowed places net c f → IsSame c d f → IsFollowed places net d f
+same_followed places net c d f i same =
+    followed places net d f (counting_of c f i.flying) i.tells i.counted (counting_same (counting_of c f i.flying) d f (λ p. sym (same.totals p)) (sym same.told) (sym same.kept))
 
 -- and those of one whose home takes in a report
-taken_followed : (places_count : ℕ) (net : Net) (c d : WorldCounts) (f : Finish) (number : ℕ) (t : Told) → c.told f number ≡ Some t → IsFollowed places_count net c f → IsTakenIn number c d f → IsFollowed places_count net d f
-taken_followed count net c d f number t there i m =
+taken_followed : (places : ℕ) (net : Net) (c d : WorldCounts) (f : Finish) (number : ℕ) (t : Told) → c.told f number ≡ Some t → IsFollowed places net c f → IsTakenIn number c d f → IsFollowed places net d f
+taken_followed places net c d f number t there i m =
     let s = counting_of c f i.flying in
     let a = after f.home s (detection.TakesIn number) in
-    followed count net d f a (record { live = i.tells.live; flying = i.tells.flying }) (counted_after count f.home s (detection.TakesIn number) i.counted (t, there)) (counting_same a d f (λ p. sym (m.totals p)) (sym m.told) (sym m.kept))
+    followed places net d f a (record { live = i.tells.live; flying = i.tells.flying }) (counted_after places f.home s (detection.TakesIn number) i.counted (t, there)) (counting_same a d f (λ p. sym (m.totals p)) (sym m.told) (sym m.kept))
 
-reported : (places_count : ℕ) (w : World) (c d : WorldCounts) (f g : Finish) (number : ℕ) (t : Told) (b : Bool) → same_finish g f ≡ b → IsWatched places_count w c → c.told f number ≡ Some t → CountsReport w.net f number c d → IsCurrent w.net g → IsFollowed places_count w.net d g
-reported count w c d f g number t true e i there m current =
+-- a report that flies is of a finish that was opened
+told_opened : {A : Type 0} (places : ℕ) (w : World) (c : WorldCounts) (f : Finish) (number : ℕ) (t : Told) → IsWatched places w c → c.told f number ≡ Some t → opened_of w.net f.home ≤ f.number → A
+told_opened places w c f number t i there le = no_stay t (sym ((i.fresh f le).told number) ∙ there)
+
+reported : (places : ℕ) (w : World) (c d : WorldCounts) (f g : Finish) (number : ℕ) (t : Told) (b : Bool) → same_finish g f ≡ b → IsWatched places w c → c.told f number ≡ Some t → CountsReport w.net f number c d → IsCurrent w.net g → IsFollowed places w.net d g
+reported places w c d f g number t false e i there m current = same_followed places w.net c d g (i.each g current) (m.others g e)
+reported places w c d f g number t true e i there m current =
     let is = same_is g f e in
-    let now = subst (IsCurrent w.net) is current in
-    subst (IsFollowed count w.net d) (sym is) (taken_followed count w.net c d f number t there (i.each f now) (m.this now))
-reported count w c d f g number t false e i there m current = same_followed count w.net c d g (i.each g current) (m.others g e)
+    elim (subst (IsCurrent w.net) is current) [
+      | inl held ↦ subst (IsFollowed places w.net d) (sym is) (taken_followed places w.net c d f number t there (i.each f (inl held)) (m.this held))
+      | inr le ↦ told_opened places w c f number t i there le
+    ]
+
+reported_fresh : (places : ℕ) (w : World) (c d : WorldCounts) (f g : Finish) (number : ℕ) (t : Told) (b : Bool) → same_finish g f ≡ b → IsWatched places w c → c.told f number ≡ Some t → CountsReport w.net f number c d → opened_of w.net g.home ≤ g.number → IsUncounted d g
+reported_fresh places w c d f g number t false e i there m le = uncounted_same c d g (i.fresh g le) (m.others g e)
+reported_fresh places w c d f g number t true e i there m le = told_opened places w c f number t i there (subst (λ (x : Finish). opened_of w.net x.home ≤ x.number) (same_is g f e) le)
 
 pub reports_are_watched : ReportsAreWatched
-reports_are_watched count w c d f number t i there m = record {
+reports_are_watched places w c d f number t i there m = record {
   sound = i.sound;
   rooted = i.rooted;
   range = i.range;
-  each = λ g current. reported count w c d f g number t (same_finish g f) refl i there m current;
+  each = λ g current. reported places w c d f g number t (same_finish g f) refl i there m current;
+  fresh = λ g le. reported_fresh places w c d f g number t (same_finish g f) refl i there m le;
 }
