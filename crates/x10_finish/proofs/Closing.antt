@@ -159,7 +159,7 @@ pub quiet_ended : (w : World) (f : Finish) (key : ℕ) (owner : Stay) → IsSoun
 quiet_ended w f key owner i there top quiet a governs lives =
     nothing_inside (stays_of w.net) (opened_of w.net) w.net.enclosing w.net.posts i.nested f key owner there top (unused_finish w.net f quiet) (unders_of w.book a) governs (inl (lives_used w a i lives))
 
-allowed_ideal : (w : World) (here key : ℕ) (old new : places.Place) (effect : Effect) → IsSound w.net w.book → w.net.places here ≡ Some old → MovesStay here old key new effect → Allows Quiet w here effect → Allows Ideal w here effect
+pub allowed_ideal : (w : World) (here key : ℕ) (old new : places.Place) (effect : Effect) → IsSound w.net w.book → w.net.places here ≡ Some old → MovesStay here old key new effect → Allows Quiet w here effect → Allows Ideal w here effect
 allowed_ideal w here key old new (Waits n) i e m allowed = tt
 allowed_ideal w here key old new Works i e m allowed = tt
 allowed_ideal w here key old new (Begins other function under) i e m allowed = tt

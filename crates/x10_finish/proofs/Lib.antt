@@ -19,3 +19,5 @@ pub mod Following
 pub mod Counted
 pub mod InRange
 pub mod Tallied
+pub mod Current
+pub mod Watching

@@ -38,10 +38,10 @@ held_back stays stays' f back (inl r) = inl r
 held_back stays stays' f back (inr o) = inr (back o)
 
 -- what a stay has now was open before
-abbrev HadOpen : Stays → ℕ → Option Stay → Type 0
+abbrev pub HadOpen : Stays → ℕ → Option Stay → Type 0
 HadOpen stays here o = (t : Stay) → o ≡ Some t → (i : ℕ) (f : Finish) → nth t.finishes i ≡ Some f.number → f.home ≡ here → IsOpen stays f
 
-open_back : (stays : Stays) (here key : ℕ) (o : Option Stay) (f : Finish) → HadOpen stays here o → IsOpen (with_pair stays here key o) f → IsOpen stays f
+pub open_back : (stays : Stays) (here key : ℕ) (o : Option Stay) (f : Finish) → HadOpen stays here o → IsOpen (with_pair stays here key o) f → IsOpen stays f
 open_back stays here key o f had (k, i, s, e, h) =
     at_stay (λ x. x ≡ Some s → IsOpen stays f) stays here key f.home k o (λ eh ek is. had s is i f h eh) (λ other is. (k, i, s, is, h)) e
 
@@ -60,15 +60,15 @@ rooted_changes net here key old new o r e w had =
     (rooted_back (stays_of net) (with_pair (stays_of net) here key o) (opened_of net) (opened_of net) net.enclosing r (λ f. open_back (stays_of net) here key o f had) (λ p. omega arith)))
 
 -- a stay with no more finishes than one that was there
-had_same : (stays : Stays) (here key : ℕ) (s t : Stay) → stays here key ≡ Some s → t.finishes ≡ s.finishes → HadOpen stays here (Some t)
+pub had_same : (stays : Stays) (here key : ℕ) (s t : Stay) → stays here key ≡ Some s → t.finishes ≡ s.finishes → HadOpen stays here (Some t)
 had_same stays here key s t there stack u is i f h eh =
     (key, i, s, ap (λ x. stays x key) eh ∙ there, ap (λ xs. nth xs i) (sym (ap (λ (x : Stay). x.finishes) (sym (same_Some t u is)) ∙ stack)) ∙ h)
 
-had_rest : (stays : Stays) (here key n : ℕ) (rest : List ℕ) (s t : Stay) → stays here key ≡ Some s → s.finishes ≡ n ∷ rest → t.finishes ≡ rest → HadOpen stays here (Some t)
+pub had_rest : (stays : Stays) (here key n : ℕ) (rest : List ℕ) (s t : Stay) → stays here key ≡ Some s → s.finishes ≡ n ∷ rest → t.finishes ≡ rest → HadOpen stays here (Some t)
 had_rest stays here key n rest s t there whole stack u is i f h eh =
     (key, suc i, s, ap (λ x. stays x key) eh ∙ there, ap (λ xs. nth xs (suc i)) whole ∙ ap (λ xs. nth xs i) (sym (ap (λ (x : Stay). x.finishes) (sym (same_Some t u is)) ∙ stack)) ∙ h)
 
-had_none : (stays : Stays) (here : ℕ) (t : Stay) → t.finishes ≡ [] → HadOpen stays here (Some t)
+pub had_none : (stays : Stays) (here : ℕ) (t : Stay) → t.finishes ≡ [] → HadOpen stays here (Some t)
 had_none stays here t empty u is i f h eh = no_stay f.number (sym (ap (λ xs. nth xs i) (ap (λ (x : Stay). x.finishes) (sym (same_Some t u is)) ∙ empty)) ∙ h)
 
 -- enclosing one finish more leaves the others as they are
@@ -99,7 +99,7 @@ only_more enclosing opened here inside only f g e =
     (λ was. (let lt = only f g was in let le = grown opened here f.home in omega (arith, lt, le))) e
 
 -- a finish that is open is the new one, or was open
-opened_or_new : (stays : Stays) (opened : ℕ → ℕ) (here key : ℕ) (s t : Stay) (f : Finish) → stays here key ≡ Some s → t.finishes ≡ opened here ∷ s.finishes → IsOpen (with_pair stays here key (Some t)) f
+pub opened_or_new : (stays : Stays) (opened : ℕ → ℕ) (here key : ℕ) (s t : Stay) (f : Finish) → stays here key ≡ Some s → t.finishes ≡ opened here ∷ s.finishes → IsOpen (with_pair stays here key (Some t)) f
     → (f ≡ record { home = here; number = opened here }) ⊎ IsOpen stays f
 opened_or_new stays opened here key s t f there stack (k, i, u, e, h) =
     at_stay (λ x. x ≡ Some u → (f ≡ record { home = here; number = opened here }) ⊎ IsOpen stays f) stays here key f.home k (Some t)
@@ -168,14 +168,14 @@ received_rooted setting net here key number (Back from to waiting graph) old new
 rooted_at : (net after : Net) → after ≡ net → IsRooted (stays_of net) (opened_of net) net.enclosing → IsRooted (stays_of after) (opened_of after) after.enclosing
 rooted_at net after e r = subst (λ x. IsRooted (stays_of x) (opened_of x) x.enclosing) (sym e) r
 
-rooted_happens : (setting : Setting) (w v : World) (event : Event) → IsSound w.net w.book → IsRooted (stays_of w.net) (opened_of w.net) w.net.enclosing → Happens Quiet setting w event v → IsRooted (stays_of v.net) (opened_of v.net) v.net.enclosing
+pub rooted_happens : (setting : Setting) (w v : World) (event : Event) → IsSound w.net w.book → IsRooted (stays_of w.net) (opened_of w.net) w.net.enclosing → Happens Quiet setting w event v → IsRooted (stays_of v.net) (opened_of v.net) v.net.enclosing
 rooted_happens setting w v event i r (steps here key u s) =
     rooted_at (net_after w.net here s.new s.effect s.number) v.net s.net_is (moved_rooted w.net w.book here key s.number s.old s.new s.effect i r s.place_is (stays_change setting here key s.old s.new s.effect s.moves))
 rooted_happens setting w v event i r (delivers number u d) =
     rooted_at (net_with w.net d.here d.new number) v.net d.net_is (received_rooted setting w.net d.here d.key number d.message d.old d.new r d.place_is d.receives)
 rooted_happens setting w v event i r (idle e h) = r
 
-rooted_opening : (setting : Setting) (key : ℕ) → 0 < setting.places → (let net = (opening setting key).net in IsRooted (stays_of net) (opened_of net) net.enclosing)
+pub rooted_opening : (setting : Setting) (key : ℕ) → 0 < setting.places → (let net = (opening setting key).net in IsRooted (stays_of net) (opened_of net) net.enclosing)
 rooted_opening setting key lt =
     let net = (opening setting key).net in
     subst (λ x. IsRooted x (opened_of net) net.enclosing) (sym (fun_ext (λ p. fun_ext (λ k. opening_row setting key p k lt)))) (record {

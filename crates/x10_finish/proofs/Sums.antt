@@ -1,5 +1,5 @@
 -- Sums over the numbers below a bound, and over a square.
-use Rattle.std.proofs.Common.{◌≡◌, ◌≢◌, ℕ, zero, suc, ◌+◌, ◌*◌, ◌<◌, ◌≤◌, ◌⊎◌, inl, inr, refl, sym, ap, arith}
+use Rattle.std.proofs.Common.{◌≡◌, ◌≢◌, ℕ, zero, suc, ◌+◌, ◌*◌, ◌<◌, ◌≤◌, inl, inr, refl, sym, ap, arith}
 use Rattle.x10_finish.specs.Pairs.{sum_below, sum_square}
 use Rattle.x10_model.proofs.Balance.{last_or_below}
 

@@ -4,7 +4,7 @@ use Rattle.x10_model.specs.Maps.{with_entry}
 use Rattle.x10_model.specs.Places as machine
 use Rattle.x10_model.specs.Places.{Setting, Finish, root, Stay, Message, Effect, Closes}
 use Rattle.x10_model.specs.Moves.{Moves}
-use Rattle.x10_model.specs.Totals.{Totals, Cut, zeros, Did, Took, totals_after, first_totals, is_reported, IsDoneAt}
+use Rattle.x10_model.specs.Totals.{Totals, Cut, nothing, zeros, Did, Took, totals_after, first_totals, is_reported, IsDoneAt}
 use Rattle.x10_model.specs.Worlds.{same_finish, Unused, Flying, Net, World, sent, net_after, book_after, HasEnded, IsOver, Ideal, Steps, Delivers, opening}
 use Rattle.x10_finish.specs.Detection.{Told, told_of, taken, Counting, IsCounted}
 use Rattle.x10_finish.specs.Nesting.{stays_of, opened_of, IsHeld}
@@ -33,12 +33,19 @@ pub record IsFollowed (places : ℕ) (net : Net) (c : WorldCounts) (f : Finish) 
   pub tells : Tells (stays_of net) net.posts f (counting_of c f flying)
   pub counted : IsCounted places f.home (counting_of c f flying)
 
+-- nothing is counted of the finish, kept or in flight
+pub record IsUncounted (c : WorldCounts) (f : Finish) : Type 0 where
+  pub totals : (p : ℕ) → c.totals p f ≡ nothing
+  pub kept : c.kept f ≡ (λ p. zeros)
+  pub told : (number : ℕ) → c.told f number ≡ None
+
 -- what holds of each world and its counts
 pub record IsWatched (places : ℕ) (w : World) (c : WorldCounts) : Type 0 where
   pub sound : IsSound w.net w.book
   pub rooted : IsRooted (stays_of w.net) (opened_of w.net) w.net.enclosing
   pub range : IsInRange places (stays_of w.net) w.net.posts
   pub each : (f : Finish) → IsCurrent w.net f → IsFollowed places w.net c f
+  pub fresh : (f : Finish) → opened_of w.net f.home ≤ f.number → IsUncounted c f
 
 -- ---- at the opening
 
@@ -113,9 +120,9 @@ pub record IsTakenIn (number : ℕ) (old new : WorldCounts) (f : Finish) : Type 
   pub kept : new.kept f ≡ taken (old.kept f) (old.told f number)
   pub told : new.told f ≡ with_entry (old.told f) number None
 
--- a report of a finish comes home; where the finish has closed, its counts don't matter
+-- a report of a finish comes home; where the finish has closed, its counts don't matter any more
 pub record CountsReport (net : Net) (f : Finish) (number : ℕ) (old new : WorldCounts) : Type 0 where
-  pub this : IsCurrent net f → IsTakenIn number old new f
+  pub this : IsHeld (stays_of net) f → IsTakenIn number old new f
   pub others : (g : Finish) → same_finish g f ≡ false → IsSame old new g
 
 abbrev pub ReportsAreWatched : Type 0

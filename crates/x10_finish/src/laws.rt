@@ -4,6 +4,7 @@ ghost use Rattle.x10_finish.specs.Detection.{DoneIsAtRest, AtRestIsDone};
 ghost use Rattle.x10_finish.specs.Stays.{StaysChange};
 ghost use Rattle.x10_finish.specs.Telling.{DoneIsQuiet, QuietIsDone, MovesAreCounted, DeliveriesAreCounted, OpeningIsCounted, OpeningIsInRange, MovesStayInRange, DeliveriesStayInRange};
 ghost use Rattle.x10_finish.specs.Closing.{QuietIsIdeal, EndedIsQuiet, RootIsOver, OpeningIsSound, QuietEventIsIdeal, StaysAreListed, OverIsQuiet};
+ghost use Rattle.x10_finish.specs.Watching.{OpeningIsWatched, MovesAreWatched, DeliveriesAreWatched, ReportsAreWatched, DoneIsOver, OverIsDone, EndedIsDone, StaysAreCounted};
 
 /// After any events under a finish, reports taken in late and in any order: where nothing lives at its home and the
 /// book balances, nothing under the finish lives anywhere or is in flight.
@@ -89,4 +90,47 @@ pub fn all_is_in_range()
     ensures opening { OpeningIsInRange }
     ensures moves { MovesStayInRange }
     ensures deliveries { DeliveriesStayInRange }
+{}
+
+/// What is kept of a world and the counts of all its finishes that haven't closed holds at the opening, where main's stay
+/// alone is counted.
+pub fn opening_is_watched()
+    ensures { OpeningIsWatched }
+{}
+
+/// And after each move that closes a finish only where its home may let it end, when the counts of each other finish change
+/// as a place's do: such a move is a step in which a finish closes only where every activity that it governs has ended.
+pub fn moves_are_watched()
+    ensures { MovesAreWatched }
+{}
+
+/// And after each delivery.
+pub fn deliveries_are_watched()
+    ensures { DeliveriesAreWatched }
+{}
+
+/// And after each report that the home of a finish takes in, or drops where the finish has closed.
+pub fn reports_are_watched()
+    ensures { ReportsAreWatched }
+{}
+
+/// In such a world no activity lives where the home of the root may let it end.
+pub fn done_is_over()
+    ensures { DoneIsOver }
+{}
+
+/// And where no activity lives, no message and no report of the root is in flight, its home may let it end.
+pub fn over_is_done()
+    ensures { OverIsDone }
+{}
+
+/// So may the home of a finish whose owner works at its end, where all that it governs has ended and no message and no
+/// report of it is in flight.
+pub fn ended_is_done()
+    ensures { EndedIsDone }
+{}
+
+/// In such a world what a stay inherited is the root or open, and counts as live at its place.
+pub fn stays_are_counted()
+    ensures { StaysAreCounted }
 {}

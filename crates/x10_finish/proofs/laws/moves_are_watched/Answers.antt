@@ -1,0 +1,5 @@
+use Rattle.x10_finish.proofs.Watching.{moves_are_watched}
+use Rattle.x10_finish.proofs.laws.moves_are_watched.Goals as goal
+
+pub returns : goal.returns
+returns c = moves_are_watched

@@ -1,0 +1,5 @@
+use Rattle.x10_finish.proofs.Watching.{over_is_done}
+use Rattle.x10_finish.proofs.laws.over_is_done.Goals as goal
+
+pub returns : goal.returns
+returns c = over_is_done

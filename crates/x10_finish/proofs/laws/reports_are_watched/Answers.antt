@@ -1,0 +1,5 @@
+use Rattle.x10_finish.proofs.Watching.{reports_are_watched}
+use Rattle.x10_finish.proofs.laws.reports_are_watched.Goals as goal
+
+pub returns : goal.returns
+returns c = reports_are_watched

@@ -1,0 +1,5 @@
+use Rattle.x10_finish.proofs.Watching.{stays_are_counted}
+use Rattle.x10_finish.proofs.laws.stays_are_counted.Goals as goal
+
+pub returns : goal.returns
+returns c = stays_are_counted
