@@ -1,0 +1,4 @@
+pub mod Bounded
+pub mod Spending
+pub mod Budgets
+pub mod BudgetMoves
