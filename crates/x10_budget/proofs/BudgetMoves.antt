@@ -1,19 +1,17 @@
 -- A move keeps activities within their budgets.
-use Rattle.std.proofs.Common.{◌≡◌, ℕ, ◌+◌, ◌<◌, ◌≤◌, false, List, [], ◌∷◌, Option, Some, None, Ok, inl, inr, refl, sym, ◌∙◌, ap, subst, arith}
+use Rattle.std.proofs.Common.{◌≡◌, ℕ, ◌+◌, ◌<◌, ◌≤◌, false, List, [], ◌∷◌, Option, Some, None, inl, inr, refl, sym, ◌∙◌, ap, subst, arith}
 use Rattle.std.specs.Prelude.{slice_index}
 use Rattle.std.proofs.lemmas.Bool.{cases_eq}
 use Rattle.x10_model.specs.Maps.{with_entry, with_pair}
 use Rattle.x10_model.specs.Modules.{Module}
-use Rattle.x10_model.specs.Structure.{bounds_of}
 use Rattle.x10_model.specs.Places as places
 use Rattle.x10_model.specs.Places.{Setting, Finish, Stay, Message, Effect, Waits, Works, Begins, Spawns, Shifts, Opens, Closes, Ends}
-use Rattle.x10_model.specs.Moves.{Moves}
 use Rattle.x10_model.specs.Worlds.{World, Net, Activity, Book, counted, left, started, enclosing_after}
 use Rattle.x10_finish.specs.Nesting.{stays_in, Stays, stays_of}
 use Rattle.x10_finish.specs.Chains.{Name, IsAmong, IsChain}
 use Rattle.x10_finish.specs.Closing.{chains_of, unders_of, IsSound}
 use Rattle.x10_finish.proofs.Counting.{entry_same}
-use Rattle.x10_finish.proofs.Sound.{entry_self, map_entry, stays_after, chains_counted, chains_started, chains_left, first_in, overwritten, free_after}
+use Rattle.x10_finish.proofs.Sound.{entry_self, map_entry, stays_after, chains_counted, chains_started, chains_left, first_in, overwritten}
 use Rattle.x10_budget.specs.Budget.{left_of, left_of_any, left_of_all, left_for, IsWithinBudget, world_after, BudgetAfterMove}
 use Rattle.x10_budget.proofs.Budgets.{functions_of, steps_of, spent_in, IsWithinOf, Fits, fits_of, within_as, fits_less, fits_begun, fits_put, within_index, left_apart, left_first, spent_other, spent_apart, spent_own, kept_of, free_apart}
 use Rattle.x10_budget.proofs.Spending.{left_for_any, Takes, TakesTwo, Spends, move_spends}

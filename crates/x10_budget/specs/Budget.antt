@@ -1,12 +1,13 @@
 -- Budgets of steps: what an activity has taken, with what its stays can still take and what the message that carries it
 -- will begin, is within the bound of its first function.
 use Rattle.std.specs.Prelude.{◌≡◌, ℕ, ◌+◌, ◌<◌, ◌≤◌, Bool, List, [], ◌∷◌, take, Option, Some, None, Ok, if◌then◌else◌, slice_get, slice_index}
+use Rattle.x10_model.specs.declared.event.Event.{Event}
 use Rattle.x10_model.specs.Modules.{Module}
 use Rattle.x10_model.specs.Structure.{bounds_of}
 use Rattle.x10_model.specs.Places as places
 use Rattle.x10_model.specs.Places.{Setting, CallFrame, Stay, Message, Spawn, Shift, Back, Effect}
 use Rattle.x10_model.specs.Moves.{Moves}
-use Rattle.x10_model.specs.Worlds.{Flying, World, net_after, book_after, Delivers, WithinBounds, opening}
+use Rattle.x10_model.specs.Worlds.{Flying, World, net_after, book_after, Rule, Quiet, Delivers, Happens, Run, WithinBounds, opening}
 use Rattle.x10_image.specs.Parts.{code_at}
 use Rattle.x10_bounds.specs.Potential.{potential}
 use Rattle.x10_finish.specs.Nesting.{Stays, stays_of}
@@ -78,6 +79,16 @@ abbrev pub BudgetAfterDelivery : Type 0
 BudgetAfterDelivery = (setting : Setting) (bounds : List ℕ) (w v : World) (number : ℕ) → bounds_of setting.program ≡ Ok bounds → IsSound w.net w.book → IsWithinBudget setting.program bounds w
     → Delivers setting w number v → IsWithinBudget setting.program bounds v
 
--- and then it has taken no more
+-- the same of any event, whenever finishes may close
+abbrev pub BudgetAfterEvent : Type 0
+BudgetAfterEvent = (rule : Rule) (setting : Setting) (bounds : List ℕ) (w v : World) (event : Event) → bounds_of setting.program ≡ Ok bounds → IsSound w.net w.book → IsWithinBudget setting.program bounds w
+    → Happens rule setting w event v → IsWithinBudget setting.program bounds v
+
+-- activities within their budgets have taken no more steps than their bounds
 abbrev pub BudgetBounds : Type 0
 BudgetBounds = (program : Module) (bounds : List ℕ) (w : World) → IsWithinBudget program bounds w → WithinBounds bounds w
+
+-- so in each world of a run no activity has
+abbrev pub RunsAreWithinBounds : Type 0
+RunsAreWithinBounds = (setting : Setting) (key : ℕ) (bounds : List ℕ) (events : List Event) (w : World) → 0 < setting.places → bounds_of setting.program ≡ Ok bounds
+    → Run Quiet setting (λ u. Unit {0}) (opening setting key) events w → Run Quiet setting (WithinBounds bounds) (opening setting key) events w
