@@ -55,13 +55,13 @@ opened_same net here old new e same = opened_after net here old.opened new same 
 
 -- ---- activities after a step
 
-chains_counted : (book : Book) (a : ℕ) → chains_of (counted book a) ≡ chains_of book
+pub chains_counted : (book : Book) (a : ℕ) → chains_of (counted book a) ≡ chains_of book
 chains_counted book a = map_entry (λ (x : Activity). x.stays) book.activities a _ (chains_of book) (λ j. refl) ∙ entry_self (chains_of book) a (chains_of book a) refl
 
 unders_counted : (book : Book) (a : ℕ) → unders_of (counted book a) ≡ unders_of book
 unders_counted book a = map_entry (λ (x : Activity). x.under) book.activities a _ (unders_of book) (λ j. refl) ∙ entry_self (unders_of book) a (unders_of book a) refl
 
-chains_started : (book : Book) (a function : ℕ) (under : Finish) (stays : List Name) → chains_of (started (counted book a) function under stays) ≡ with_entry (chains_of book) book.begun stays
+pub chains_started : (book : Book) (a function : ℕ) (under : Finish) (stays : List Name) → chains_of (started (counted book a) function under stays) ≡ with_entry (chains_of book) book.begun stays
 chains_started book a function under stays =
     map_entry (λ (x : Activity). x.stays) (counted book a).activities book.begun _ (chains_of (counted book a)) (λ j. refl) ∙ ap (λ f. with_entry f book.begun stays) (chains_counted book a)
 
@@ -85,7 +85,7 @@ sound_as net book stays opened chains unders es eo ec eu n l c = record {
 pub there_in : (net : Net) (here key : ℕ) (old new : places.Place) (effect : Effect) → net.places here ≡ Some old → (m : MovesStay here old key new effect) → stays_of net here key ≡ Some m.stay
 there_in net here key old new effect e m = ap (λ o. stays_in o key) e ∙ m.is_there
 
-first_in : (net : Net) (book : Book) (here key : ℕ) (s : Stay) → IsSound net book → stays_of net here key ≡ Some s → s.away ≡ false → (book.belongs here key < book.begun) × (rest : List Name) × (chains_of book (book.belongs here key) ≡ (here, key) ∷ rest)
+pub first_in : (net : Net) (book : Book) (here key : ℕ) (s : Stay) → IsSound net book → stays_of net here key ≡ Some s → s.away ≡ false → (book.belongs here key < book.begun) × (rest : List Name) × (chains_of book (book.belongs here key) ≡ (here, key) ∷ rest)
 first_in net book here key s i there ready =
     let known = i.linked.known here key s there in
     let first = ready_first (stays_of net) (unders_of book (book.belongs here key)) (chains_of book (book.belongs here key)) here key s (i.linked.chained (book.belongs here key) known.0) known.1 there ready in
@@ -244,7 +244,7 @@ ended_parts net book here key s i there ready empty rest first =
       none,
     )
 
-chains_left : (book : Book) (a : ℕ) (x : Name) (rest : List Name) → chains_of book a ≡ x ∷ rest → chains_of (left (counted book a) a) ≡ with_entry (chains_of book) a rest
+pub chains_left : (book : Book) (a : ℕ) (x : Name) (rest : List Name) → chains_of book a ≡ x ∷ rest → chains_of (left (counted book a) a) ≡ with_entry (chains_of book) a rest
 chains_left book a x rest first =
     map_entry (λ (y : Activity). y.stays) (counted book a).activities a _ (chains_of (counted book a)) (λ j. refl)
     ∙ ap (λ (f : ℕ → List Name). with_entry f a (rest_of (f a))) (chains_counted book a) ∙ ap (λ (xs : List Name). with_entry (chains_of book) a (rest_of xs)) first
@@ -279,7 +279,7 @@ after_ends net book here key number under old new s (Some origin) back i e there
 
 -- ---- a message that is taken in
 
-chains_entered : (book : Book) (a here key : ℕ) → chains_of (entered book a here key) ≡ with_entry (chains_of book) a ((here, key) ∷ chains_of book a)
+pub chains_entered : (book : Book) (a here key : ℕ) → chains_of (entered book a here key) ≡ with_entry (chains_of book) a ((here, key) ∷ chains_of book a)
 chains_entered book a here key = map_entry (λ (y : Activity). y.stays) book.activities a _ (chains_of book) (λ j. refl)
 
 unders_entered : (book : Book) (a here key : ℕ) → unders_of (entered book a here key) ≡ unders_of book

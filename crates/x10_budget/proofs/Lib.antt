@@ -1,0 +1,6 @@
+pub mod Bounded
+pub mod Spending
+pub mod Budgets
+pub mod BudgetMoves
+pub mod BudgetDeliveries
+pub mod BudgetRuns

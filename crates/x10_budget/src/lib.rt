@@ -1,0 +1,36 @@
+//! No activity takes more steps than its bound: laws of the machine's definitions. Each function does nothing: its
+//! contract is a law, and the check proves it.
+#![tactic(auto)]
+
+ghost use Rattle.x10_budget.specs.Budget.{BudgetAtOpening, BudgetAfterMove, BudgetAfterDelivery, BudgetAfterEvent, BudgetBounds, RunsAreWithinBounds};
+
+/// At the opening the activities are within their budgets.
+pub fn budget_at_opening()
+    ensures { BudgetAtOpening }
+{}
+
+/// And after a move, of whatever operation.
+pub fn budget_after_move()
+    ensures { BudgetAfterMove }
+{}
+
+/// And after a delivery.
+pub fn budget_after_delivery()
+    ensures { BudgetAfterDelivery }
+{}
+
+/// And so after any event.
+pub fn budget_after_event()
+    ensures { BudgetAfterEvent }
+{}
+
+/// And where they are, none has taken more steps than its bound.
+pub fn budget_bounds()
+    ensures { BudgetBounds }
+{}
+
+/// In each world of a run, in which finishes close only where they are quiet, none has: the program is one that has
+/// bounds, there is a place at least, and any number of activities and messages are on their way.
+pub fn runs_are_within_bounds()
+    ensures { RunsAreWithinBounds }
+{}
