@@ -1,6 +1,6 @@
 -- Calls: what the program does to frames is what the machine does to call frames.
-use Rattle.std.proofs.Common.{◌≡◌, ℕ, zero, suc, ◌+◌, ◌<◌, ◌≤◌, List, [], ◌∷◌, length, replicate, Option, Some, refl, sym, ap, subst, ◌∙◌, arith}
-use Rattle.std.specs.Prelude.{IsTrue, reverse, slice_get, slice_index}
+use Rattle.std.proofs.Common.{◌≡◌, ℕ, zero, suc, ◌+◌, ◌<◌, ◌≤◌, List, [], ◌∷◌, length, replicate, Option, Some, None, refl, sym, ap, ap₂, subst, ◌∙◌, arith}
+use Rattle.std.specs.Prelude.{IsTrue, slice_get, slice_index}
 use Rattle.std.specs.List.{AllByRecursion}
 use Rattle.x10_kinds.specs.declared.kind.Kind.{Kind}
 use Rattle.x10_kinds.specs.declared.kind.Kind.TheVariants as kind
@@ -14,8 +14,8 @@ use Rattle.x10_model.specs.Ranges.{function_at, parameters_of, argument_count, A
 use Rattle.x10_model.specs.Values.{Value, Int, Place, Text, Rail, Object, Null, Ref, Cells, IsOfKind}
 use Rattle.x10_model.specs.Signatures.{HasHome, FitsSlotAt, FitSlots}
 use Rattle.x10_model.specs.Places as machine
-use Rattle.x10_model.specs.Places.{Setting, Stay, Works, with_stay}
-use Rattle.x10_model.specs.Moves.{Situation, Does, HoldsFrom, place_of, entry_frame}
+use Rattle.x10_model.specs.Places.{Setting, Finish, Stay, innermost, innermost_of, Works, Begins, with_stay, next}
+use Rattle.x10_model.specs.Moves.{Situation, Does, HoldsFrom, place_of, entry_frame, new_stay}
 use Rattle.x10_model.specs.Assignments.{State, Edges, SlotsFit, FitsAs, parameter_kind, entry_state, Permits}
 use Rattle.x10_verify.proofs.Wholes.{function_fits}
 use Rattle.x10_place.specs.declared.frame.CallFrame.{CallFrame}
@@ -23,7 +23,7 @@ use Rattle.x10_heap.specs.Heaps.{HeapState}
 use Rattle.x10_heap.specs.Words.{Context, IsWordOf, HoldsHeap}
 use Rattle.x10_place.specs.Homes.{AreHomes, place_in}
 use Rattle.x10_place.specs.Frames.{IsFetchedFor, IsEntered}
-use Rattle.x10_place.specs.Stays.{StayState, IsPlaced, Calls}
+use Rattle.x10_place.specs.Stays.{StayState, IsPlaced, Calls, IsBegun, innermost_at}
 use Rattle.x10_place.specs.StandsFor.{Far, context, Assigned, HoldRegisters, StandsForFrame, IsAtHome, StandsForStay}
 use Rattle.x10_place.proofs.Maps.{some_is}
 use Rattle.x10_place.proofs.Words.{of_kind, reads, words_weaken}
@@ -136,27 +136,67 @@ module _ (setting : Setting) (here : ℕ) (far : Far) (m : machine.Place) (key :
           let lt : r < length e.callee.parameters = subst (λ (g : Function). r < length g.parameters) (sym same) (slot_below callee.parameters r want k) in
           (v.0, v.1, subst (λ w. IsWordOf x want w v.0) (sym (e.arguments r lt)) v.2)
 
+  -- what a call, or the begin of an activity, passes
+  passed : (callee : Function) → FitsImage setting.program → function_at setting.program i.x ≡ Some callee → SlotsFit h.top.state term.Here i.b callee.parameters → i.b + length callee.parameters ≤ function.registers
+      → (vs : List Value) × PassesWords x m.cells sit a.top.registers.items i.b callee.parameters vs
+  passed callee image is slots counted =
+      let few = (small setting.program assigned x a.top s.top h.top i fetched).registers.1 in
+      passes_words (length setting.program.classes) x m.cells holds sit h.top.state a.top.registers.items h.top.words h.top.homes i.b callee.parameters (omega (arith, counted, few)) (function_fits setting.program i.x callee image is).slots slots
+
   pub call_moves : (b : StayState) (out : Edges) → FitsImage setting.program → IsPlaced setting.program b → i.op ≡ op.Call → Permits op.Call (point_of setting.program function a.top i) h.top.state out → Calls setting.program a i b
       → (t : Stay) × Does op.Call sit (with_stay m key (Some t)) Works × StandsForStay setting.program assigned x b t
   call_moves b out image placed o permits calls =
       let callee = permits.0 in
       let is = permits.2.0 in
-      let callee-fits = function_fits setting.program i.x callee image is in
       let range = subst (λ q. IsThere setting.program function i (form_of q).b i.b) o (in_range setting.program assigned x a.top s.top h.top i fetched).b in
       let count : AreArgumentRegisters function (argument_count setting.program i op.Call) i.b = subst (λ q. AreArgumentRegisters function (argument_count setting.program i q) i.b) o range in
       let counted : i.b + length callee.parameters ≤ function.registers = subst (λ g. i.b + length (parameters_of g) ≤ function.registers) is count.1 in
-      let few = (small setting.program assigned x a.top s.top h.top i fetched).registers.1 in
-      let passed = passes_words (length setting.program.classes) x m.cells holds sit h.top.state a.top.registers.items h.top.words h.top.homes i.b callee.parameters (omega (arith, counted, few)) callee-fits.slots permits.2.1 in (
-        record s { top = entry_frame i.x passed.0; callers = s.top ∷ s.callers },
-        (callee, passed.0, record { callee_is = is; held = passed.1.held; fit = passed.1.fit }, refl, refl),
+      let passes = passed callee image is permits.2.1 counted in (
+        record s { top = entry_frame i.x passes.0; callers = s.top ∷ s.callers },
+        (callee, passes.0, record { callee_is = is; held = passes.1.held; fit = passes.1.fit }, refl, refl),
         record {
           placed = placed;
-          top = entered_stands callee passed.0 b.top callee-fits.parameters calls.entered is passed.1;
+          top = entered_stands callee passes.0 b.top (function_fits setting.program i.x callee image is).parameters calls.entered is passes.1;
           callers = (a.callers, a.top, ap (λ (y : StayState). y.callers) calls.rest, h.top, h.callers);
-          finishes = h.finishes ∙ ap (λ (y : StayState). reverse y.finishes) (sym calls.rest);
+          finishes = h.finishes ∙ ap (λ (y : StayState). y.finishes) (sym calls.rest);
           inherited = h.inherited ∙ ap (λ (y : StayState). y.inherited) (sym calls.rest);
           away = h.away ∙ ap (λ (y : StayState). y.away) (sym calls.rest);
           back = h.back ∙ ap (λ (y : StayState). y.back) (sym calls.rest);
-          home = subst (λ (y : StayState). IsAtHome y) (sym calls.rest) (record { finishes = h.home.finishes; inherited = h.home.inherited; away = h.home.away; back = h.home.back });
+          home = subst (λ (y : StayState). IsAtHome here y) (sym calls.rest) (record { inherited = h.home.inherited; away = h.home.away; back = h.home.back });
         },
       )
+
+  innermost_home : (inherited : Finish) (ns : List ℕ) → inherited.home ≡ here → (innermost_of here inherited ns).home ≡ here
+  innermost_home inherited [] e = e
+  innermost_home inherited (n ∷ ns) e = refl
+
+  -- the activity that begins, and what of it is said
+  pub record Begun (key : ℕ) (c : StayState) : Type 0 where
+    pub child : Stay
+    pub does : m.stays key ≡ None → Does op.Async sit (with_stay (with_stay m sit.key (Some (record s { top = next s.top }))) key (Some child)) (Begins key i.x (innermost here s))
+    pub stands : StandsForStay setting.program assigned x c child
+
+  pub begin_moves : (other : ℕ) (c : StayState) (out : Edges) → FitsImage setting.program → IsPlaced setting.program c → i.op ≡ op.Async → Permits op.Async (point_of setting.program function a.top i) h.top.state out
+      → IsBegun setting.program a.top.registers.items i (innermost_at here a) c → Begun other c
+  begin_moves other c out image placed o permits begun =
+      let callee = permits.0 in
+      let is = permits.1.0 in
+      let range = subst (λ q. IsThere setting.program function i (form_of q).b i.b) o (in_range setting.program assigned x a.top s.top h.top i fetched).b in
+      let count : AreArgumentRegisters function (argument_count setting.program i op.Async) i.b = subst (λ q. AreArgumentRegisters function (argument_count setting.program i q) i.b) o range in
+      let counted : i.b + length callee.parameters ≤ function.registers = subst (λ g. i.b + length (parameters_of g) ≤ function.registers) is count.1 in
+      let passes = passed callee image is permits.1.1 counted in
+      let under : innermost here s ≡ innermost_at here a = ap₂ (λ f ns. innermost_of here f ns) h.inherited h.finishes in
+      record {
+        child = new_stay i.x passes.0 (innermost here s) None;
+        does = λ free. (callee, passes.0, other, record { callee_is = is; held = passes.1.held; fit = passes.1.fit }, permits.2, free, refl, refl);
+        stands = record {
+          placed = placed;
+          top = entered_stands callee passes.0 c.top (function_fits setting.program i.x callee image is).parameters begun.entered is passes.1;
+          callers = begun.callers;
+          finishes = sym begun.finishes;
+          inherited = under ∙ sym begun.inherited;
+          away = sym begun.away;
+          back = sym begun.back;
+          home = record { inherited = ap (λ (f : Finish). f.home) begun.inherited ∙ innermost_home a.inherited a.finishes h.home.inherited; away = begun.away; back = begun.back };
+        };
+      }

@@ -1,6 +1,6 @@
 -- The ends of functions, and what is printed: the program's steps are the machine's.
 use Rattle.std.proofs.Common.{◌≡◌, ℕ, ◌+◌, ◌<◌, ◌≤◌, List, [], ◌∷◌, ◌++◌, length, Option, Some, None, refl, sym, ap, subst, ◌∙◌, arith}
-use Rattle.std.specs.Prelude.{reverse, slice_set, string_bytes, IfSome}
+use Rattle.std.specs.Prelude.{slice_set, string_bytes, IfSome}
 use Rattle.x10_kinds.specs.declared.kind.Kind.TheVariants as kind
 use Rattle.x10_kinds.specs.declared.homes.Term.TheVariants as term
 use Rattle.x10_code.specs.declared.op.Op.TheVariants as op
@@ -13,9 +13,9 @@ use Rattle.x10_model.specs.Ranges.{function_at, instr_at, instr_in, result_of, r
 use Rattle.x10_model.specs.Values.{Value, Int, Text, Cells, IsOfKind}
 use Rattle.x10_model.specs.Signatures.{FitsSlotAt}
 use Rattle.x10_model.specs.Places as machine
-use Rattle.x10_model.specs.Places.{Setting, Stay, Effect, Works, Ends, root, with_stay, next, writes}
+use Rattle.x10_model.specs.Places.{Setting, Stay, Effect, Works, Ends, with_stay, next, writes}
 use Rattle.x10_model.specs.Moves.{Situation, Does, GivesBack, SendsBack, Returns, resumed, line_of, with_line}
-use Rattle.x10_model.specs.Assignments.{State, Edges, ReturnsWell, GivesResult, gives, like_if, Permits, Reaches}
+use Rattle.x10_model.specs.Assignments.{State, Edges, ReturnsWell, GivesResult, onward, gives, like_if, Permits, Reaches}
 use Rattle.x10_place.specs.declared.frame.CallFrame.{CallFrame}
 use Rattle.x10_heap.specs.Heaps.{HeapState}
 use Rattle.x10_heap.specs.Words.{Context, IsWordOf, HoldsHeap}
@@ -119,17 +119,17 @@ module _ (setting : Setting) (here : ℕ) (far : Far) (m : machine.Place) (key :
       (Some v.0, (v.1, v.2), (v.2, v.3))
 
   -- the last function of an activity ends
-  ends_stay : (result : Option Value) (cs : List machine.CallFrame) → s.callers ≡ cs → StandForCallers setting.program assigned x a.callers cs → a.callers ≡ [] → GivesBack sit function.result result → Does op.Ret sit (with_stay m key None) (Ends root None)
-  ends_stay result [] is callers none given = (
+  ends_stay : (result : Option Value) (cs : List machine.CallFrame) → s.callers ≡ cs → StandForCallers setting.program assigned x a.callers cs → a.callers ≡ [] → a.finishes ≡ [] → GivesBack sit function.result result → Does op.Ret sit (with_stay m key None) (Ends s.inherited None)
+  ends_stay result [] is callers none closed given = (
     result,
     given,
-    subst (λ cs. Returns sit cs result (with_stay m key None) (Ends root None)) (sym is)
-        (None, h.finishes ∙ ap reverse h.home.finishes, subst (λ o. SendsBack sit result o None) (sym (h.back ∙ h.home.back)) refl, refl, ap (λ f. Ends f None) (sym (h.inherited ∙ h.home.inherited))),
+    subst (λ cs. Returns sit cs result (with_stay m key None) (Ends s.inherited None)) (sym is)
+        (None, h.finishes ∙ closed, subst (λ o. SendsBack sit result o None) (sym (h.back ∙ h.home.back)) refl, refl, refl),
   )
-  ends_stay result (c ∷ cs) is callers none given = absurd (not_empty callers.0 callers.1 (sym callers.2 ∙ none))
+  ends_stay result (c ∷ cs) is callers none closed given = absurd (not_empty callers.0 callers.1 (sym callers.2 ∙ none))
 
-  pub ret_ends : (out : Edges) → i.op ≡ op.Ret → Permits op.Ret (point_of setting.program function a.top i) h.top.state out → a.callers ≡ [] → Does op.Ret sit (with_stay m key None) (Ends root None)
-  ret_ends out o permits none = let back = gives_back function.result o refl permits.0 in ends_stay back.0 s.callers refl h.callers none back.1
+  pub ret_ends : (out : Edges) → i.op ≡ op.Ret → Permits op.Ret (point_of setting.program function a.top i) h.top.state out → a.callers ≡ [] → a.finishes ≡ [] → Does op.Ret sit (with_stay m key None) (Ends s.inherited None)
+  ret_ends out o permits none closed = let back = gives_back function.result o refl permits.0 in ends_stay back.0 s.callers refl h.callers none closed back.1
 
   -- a called function ends
   resumes_stay : (b : StayState) (placed : IsPlaced setting.program b) (r : Resumes setting.program a i b) (result : Option Value) (cs : List machine.CallFrame) → s.callers ≡ cs → StandForCallers setting.program assigned x a.callers cs → GivesBack sit function.result result → IsGiven x m.cells function.result result (word_at a.top.registers.items i.a)
@@ -154,16 +154,25 @@ module _ (setting : Setting) (here : ℕ) (far : Far) (m : machine.Place) (key :
           placed = placed;
           top = goes_after setting.program assigned x m.cells r.caller c stands r.call r.fetched r.op_is function.result result (word_at a.top.registers.items i.a) t a.top b.top i (ap result_of callee) gives reached word refl goes;
           callers = subst (λ fs. StandForCallers setting.program assigned x fs cs) (sym same.0) callers.4;
-          finishes = h.finishes ∙ ap (λ (y : StayState). reverse y.finishes) (sym r.rest);
+          finishes = h.finishes ∙ ap (λ (y : StayState). y.finishes) (sym r.rest);
           inherited = h.inherited ∙ ap (λ (y : StayState). y.inherited) (sym r.rest);
           away = h.away ∙ ap (λ (y : StayState). y.away) (sym r.rest);
           back = h.back ∙ ap (λ (y : StayState). y.back) (sym r.rest);
-          home = subst (λ (y : StayState). IsAtHome y) (sym r.rest) (record { finishes = h.home.finishes; inherited = h.home.inherited; away = h.home.away; back = h.home.back });
+          home = subst (λ (y : StayState). IsAtHome here y) (sym r.rest) (record { inherited = h.home.inherited; away = h.home.away; back = h.home.back });
         },
       )
 
   pub ret_resumes : (b : StayState) (out : Edges) → IsPlaced setting.program b → i.op ≡ op.Ret → Permits op.Ret (point_of setting.program function a.top i) h.top.state out → Resumes setting.program a i b → (t : Stay) × Does op.Ret sit (with_stay m key (Some t)) Works × StandsForStay setting.program assigned x b t
   ret_resumes b out placed o permits r = let back = gives_back function.result o refl permits.0 in resumes_stay b placed r back.0 s.callers refl h.callers back.1 back.2
+
+  -- ---- the next instruction
+
+  pub next_stands : (b : StayState) (out : Edges) → out ≡ onward (point_of setting.program function a.top i) h.top.state → ((edge : ℕ × State) → IsIn edge out → Reaches (assigned a.top.function function h.top.is_function).0 edge) → GoesNext a.top b.top
+      → StandsForFrame setting.program assigned x b.top (next s.top)
+  next_stands b out is edges goes =
+      frame_after setting.program assigned x a.top s.top h.top i fetched b.top (next s.top) (a.top.pc + 1) h.top.state a.top.registers.items a.top.loops
+      (record { function_is = goes.function_is; pc_is = goes.pc_is; words_are = goes.words_are; loops_are = goes.loops_are })
+      (edges (a.top.pc + 1, h.top.state) (subst (λ (o : Edges). IsIn (a.top.pc + 1, h.top.state) o) (sym is) (0, refl))) refl (ap (λ n. n + 1) h.top.pc_is) h.top.words h.top.homes h.top.slots h.top.loops
 
   -- ---- output
 
@@ -185,7 +194,5 @@ module _ (setting : Setting) (here : ℕ) (far : Far) (m : machine.Place) (key :
   print_moves b out l is permits edges goes =
       let v = printed l is in (
         (v.0, line_as l, v.1, v.2, (refl, refl)),
-        frame_after setting.program assigned x a.top s.top h.top i fetched b.top (next s.top) (a.top.pc + 1) h.top.state a.top.registers.items a.top.loops
-            (record { function_is = goes.function_is; pc_is = goes.pc_is; words_are = goes.words_are; loops_are = goes.loops_are })
-            (edges (a.top.pc + 1, h.top.state) (subst (λ (o : Edges). IsIn (a.top.pc + 1, h.top.state) o) (sym permits.1) (0, refl))) refl (ap (λ n. n + 1) h.top.pc_is) h.top.words h.top.homes h.top.slots h.top.loops,
+        next_stands b out permits.1 edges goes,
       )

@@ -6,8 +6,11 @@ use Rattle.x10_kinds.specs.declared.kind.Kind.{Kind}
 use Rattle.x10_code.specs.declared.op.Op.{Op}
 use Rattle.x10_code.specs.declared.op.Op.TheVariants as op
 use Rattle.x10_code.specs.declared.instr.Instr.{Instr}
+use Rattle.x10_code.specs.declared.operands.Operand.{Operand}
+use Rattle.x10_code.specs.declared.operands.Operand.TheVariants as operand
 use Rattle.x10_code.specs.Table.{form_of}
 use Rattle.x10_model.specs.Modules.{Module, Function, FitsFunction, FitsImage}
+use Rattle.x10_model.specs.Structure.{is_target}
 use Rattle.x10_model.specs.Ranges.{function_at, instr_at, instr_in, fields_of, argument_count, AreArgumentRegisters, IsThere, IsInRange}
 use Rattle.x10_image.specs.Parts.{code_in, code_at}
 use Rattle.std.proofs.lemmas.Option.{slice_get_within}
@@ -117,52 +120,6 @@ module _ (program : Module) (index at count : ℕ) (i : Instr) (h : IsFetched pr
   pub local_asks : (l : Local) → route_of i.op ≡ route.Local l → Asks l program count i
   local_asks l r = asks_by i.op l (named i.op refl) r
 
-  -- a target is an instruction of the function
-  abbrev pub Targets : Local → Type 0
-  Targets (local.Partial d) = i.x < length h.function.code
-  Targets local.NotNull = i.x < length h.function.code
-  Targets local.SetByte = i.x < length h.function.code
-  Targets local.SamePlace = i.x < length h.function.code
-  Targets local.Jump = i.x < length h.function.code
-  Targets local.JumpIfZero = i.x < length h.function.code
-  Targets local.EndLoop = i.x < length h.function.code
-  Targets _ = Unit {0}
-
-  targets_at : (k l : Local) → route.Local k ≡ route.Local l → Targets k → Targets l
-  targets_at k l e target = subst Targets (let same : k ≡ l = cc in same) target
-
-  targets_by : (o : Op) (l : Local) → Named o → route_of o ≡ route.Local l → Targets l
-  targets_by op.Intk l n r = targets_at (local.Number number.Constant) l r tt
-  targets_by op.Add l n r = targets_at (local.Number number.Sum) l r tt
-  targets_by op.Sub l n r = targets_at (local.Number number.Difference) l r tt
-  targets_by op.Mul l n r = targets_at (local.Number number.Product) l r tt
-  targets_by op.Lt l n r = targets_at (local.Number number.Less) l r tt
-  targets_by op.Eq l n r = targets_at (local.Number number.Equal) l r tt
-  targets_by op.Tlen l n r = targets_at (local.Number number.TextLength) l r tt
-  targets_by op.Rlen l n r = targets_at (local.Number number.RailLength) l r tt
-  targets_by op.Placei l n r = targets_at (local.Number number.PlaceNumber) l r tt
-  targets_by op.Placek l n r = targets_at local.Place l r tt
-  targets_by op.Home l n r = targets_at local.Home l r tt
-  targets_by op.Gopen l n r = targets_at local.Open l r tt
-  targets_by op.Ifsame l n r = targets_at local.SamePlace l r n.3
-  targets_by op.Div l n r = targets_at (local.Partial partial.Quotient) l r n.3
-  targets_by op.Rem l n r = targets_at (local.Partial partial.Remainder) l r n.3
-  targets_by op.Rget l n r = targets_at (local.Partial partial.Byte) l r n.3
-  targets_by op.Null l n r = targets_at local.Null l r tt
-  targets_by op.Ifobj l n r = targets_at local.NotNull l r n.3
-  targets_by op.Get l n r = targets_at local.GetField l r tt
-  targets_by op.Put l n r = targets_at local.SetField l r tt
-  targets_by op.Rset l n r = targets_at local.SetByte l r n.3
-  targets_by op.Move l n r = targets_at local.Copy l r tt
-  targets_by op.Jmp l n r = targets_at local.Jump l r n.3
-  targets_by op.Jz l n r = targets_at local.JumpIfZero l r n.3
-  targets_by op.Loop l n r = targets_at local.Loop l r tt
-  targets_by op.Endl l n r = targets_at local.EndLoop l r n.3
-  targets_by _ l n r = absurd cc
-
-  pub local_targets : (l : Local) → route_of i.op ≡ route.Local l → Targets l
-  local_targets l r = targets_by i.op l (named i.op refl) r
-
   -- ---- operations that make something
 
   make_no_return : (k : Make) → route_of i.op ≡ route.Make k → i.op ≢ op.Ret
@@ -192,25 +149,6 @@ module _ (program : Module) (index at count : ℕ) (i : Instr) (h : IsFetched pr
   pub make_asks : (k : Make) → route_of i.op ≡ route.Make k → AsksMake k program count i
   make_asks k r = made_by i.op k refl (named i.op refl) r
 
-  -- a target is an instruction of the function
-  abbrev pub MakeTargets : Make → Type 0
-  MakeTargets make.JoinedText = i.x < length h.function.code
-  MakeTargets make.Rail = i.x < length h.function.code
-  MakeTargets _ = Unit {0}
-
-  make_targets_at : (j k : Make) → route.Make j ≡ route.Make k → MakeTargets j → MakeTargets k
-  make_targets_at j k e target = subst MakeTargets (let same : j ≡ k = cc in same) target
-
-  make_targets_by : (o : Op) (k : Make) → Named o → route_of o ≡ route.Make k → MakeTargets k
-  make_targets_by op.Textk k n r = make_targets_at make.Text k r tt
-  make_targets_by op.Tcat k n r = make_targets_at make.JoinedText k r n.3
-  make_targets_by op.New k n r = make_targets_at make.Object k r tt
-  make_targets_by op.Rail k n r = make_targets_at make.Rail k r n.3
-  make_targets_by _ k n r = absurd cc
-
-  pub make_targets : (k : Make) → route_of i.op ≡ route.Make k → MakeTargets k
-  make_targets k r = make_targets_by i.op k (named i.op refl) r
-
   -- ---- operations that go by the place
 
   site_no_return : (k : Site) → route_of i.op ≡ route.Site k → i.op ≢ op.Ret
@@ -233,25 +171,6 @@ module _ (program : Module) (index at count : ℕ) (i : Instr) (h : IsFetched pr
   pub site_asks : (k : Site) → route_of i.op ≡ route.Site k → AsksAt k count i
   site_asks k r = site_by i.op k (named i.op refl) r
 
-  abbrev pub SiteTargets : Site → Type 0
-  SiteTargets site.Numbered = i.x < length h.function.code
-  SiteTargets site.IsHere = i.x < length h.function.code
-  SiteTargets _ = Unit {0}
-
-  site_targets_at : (j k : Site) → route.Site j ≡ route.Site k → SiteTargets j → SiteTargets k
-  site_targets_at j k e target = subst SiteTargets (let same : j ≡ k = cc in same) target
-
-  site_targets_by : (o : Op) (k : Site) → Named o → route_of o ≡ route.Site k → SiteTargets k
-  site_targets_by op.Here k n r = site_targets_at site.Here k r tt
-  site_targets_by op.Count k n r = site_targets_at site.Count k r tt
-  site_targets_by op.Nextp k n r = site_targets_at site.Next k r tt
-  site_targets_by op.Placen k n r = site_targets_at site.Numbered k r n.3
-  site_targets_by op.Ifhere k n r = site_targets_at site.IsHere k r n.3
-  site_targets_by _ k n r = absurd cc
-
-  pub site_targets : (k : Site) → route_of i.op ≡ route.Site k → SiteTargets k
-  site_targets k r = site_targets_by i.op k (named i.op refl) r
-
   -- a global reference is made
   export_by : (o : Op) → Named o → route_of o ≡ route.Export → (i.a < count) × (i.b < count)
   export_by op.Gnew n r = (omega (arith, n.0, h.registers), omega (arith, n.1, h.registers))
@@ -263,88 +182,185 @@ module _ (program : Module) (index at count : ℕ) (i : Instr) (h : IsFetched pr
   pub export_next : route_of i.op ≡ route.Export → at + 1 < length h.function.code
   export_next e = h.next (λ f. absurd (let g : route.Return ≡ route.Export = ap route_of (sym f) ∙ e in cc))
 
--- ---- where the frame stands afterwards
+-- ---- where the frame stands afterwards: at the next instruction or at x
 
-module _ (program : Module) (index : ℕ) (v : Workspace) (i : Instr) (h : IsFetched program index v.pc (length v.words) i) where
-  lands : (w : Workspace) (pc : ℕ) (words loops : List ℕ) (heap : HeapState) → Becomes w pc words loops heap → pc < length h.function.code → length words ≡ length v.words → IsWithin program index w.pc (length w.words)
-  lands w pc words loops heap b lt same = record {
-    function = h.function;
-    is_function = h.is_function;
-    pc = subst (λ n. n < length h.function.code) (sym b.pc_is) lt;
-    registers = subst (λ n. h.function.registers ≤ n) (sym (ap length b.words_are ∙ same)) h.registers;
-  }
+module _ (i : Instr) (P : ℕ → Type 0) (jump : is_target (form_of i.op).x ≡ true → P i.x) where
+  -- a jump goes where P holds
+  abbrev pub Targets : Local → Type 0
+  Targets (local.Partial d) = P i.x
+  Targets local.NotNull = P i.x
+  Targets local.SetByte = P i.x
+  Targets local.SamePlace = P i.x
+  Targets local.Jump = P i.x
+  Targets local.JumpIfZero = P i.x
+  Targets local.EndLoop = P i.x
+  Targets _ = Unit {0}
 
-  next_or : (b : Bool) (x n count : ℕ) → x < count → n < count → (if b then x else n) < count
-  next_or true x n count lx ln = lx
-  next_or false x n count lx ln = ln
+  targets_at : (k l : Local) → route.Local k ≡ route.Local l → Targets k → Targets l
+  targets_at k l e target = subst Targets (let same : k ≡ l = cc in same) target
 
-  or_next : (b : Bool) (x n count : ℕ) → x < count → n < count → (if b then n else x) < count
-  or_next true x n count lx ln = ln
-  or_next false x n count lx ln = lx
+  targets_by : (o : Op) (l : Local) → (is_target (form_of o).x ≡ true → P i.x) → route_of o ≡ route.Local l → Targets l
+  targets_by op.Intk l n r = targets_at (local.Number number.Constant) l r tt
+  targets_by op.Add l n r = targets_at (local.Number number.Sum) l r tt
+  targets_by op.Sub l n r = targets_at (local.Number number.Difference) l r tt
+  targets_by op.Mul l n r = targets_at (local.Number number.Product) l r tt
+  targets_by op.Lt l n r = targets_at (local.Number number.Less) l r tt
+  targets_by op.Eq l n r = targets_at (local.Number number.Equal) l r tt
+  targets_by op.Tlen l n r = targets_at (local.Number number.TextLength) l r tt
+  targets_by op.Rlen l n r = targets_at (local.Number number.RailLength) l r tt
+  targets_by op.Placei l n r = targets_at (local.Number number.PlaceNumber) l r tt
+  targets_by op.Placek l n r = targets_at local.Place l r tt
+  targets_by op.Home l n r = targets_at local.Home l r tt
+  targets_by op.Gopen l n r = targets_at local.Open l r tt
+  targets_by op.Ifsame l n r = targets_at local.SamePlace l r (n refl)
+  targets_by op.Div l n r = targets_at (local.Partial partial.Quotient) l r (n refl)
+  targets_by op.Rem l n r = targets_at (local.Partial partial.Remainder) l r (n refl)
+  targets_by op.Rget l n r = targets_at (local.Partial partial.Byte) l r (n refl)
+  targets_by op.Null l n r = targets_at local.Null l r tt
+  targets_by op.Ifobj l n r = targets_at local.NotNull l r (n refl)
+  targets_by op.Get l n r = targets_at local.GetField l r tt
+  targets_by op.Put l n r = targets_at local.SetField l r tt
+  targets_by op.Rset l n r = targets_at local.SetByte l r (n refl)
+  targets_by op.Move l n r = targets_at local.Copy l r tt
+  targets_by op.Jmp l n r = targets_at local.Jump l r (n refl)
+  targets_by op.Jz l n r = targets_at local.JumpIfZero l r (n refl)
+  targets_by op.Loop l n r = targets_at local.Loop l r tt
+  targets_by op.Endl l n r = targets_at local.EndLoop l r (n refl)
+  targets_by _ l n r = absurd cc
 
-  takes_within : (z : Option ℤ) (w : Workspace) → Takes v i z w → v.pc + 1 < length h.function.code → i.x < length h.function.code → IsWithin program index w.pc (length w.words)
-  takes_within (Some z) w t next target = lands w _ _ _ _ t.2 next (simp length-set refl)
-  takes_within None w t next target = lands w _ _ _ _ t target refl
+  pub local_targets : (l : Local) → route_of i.op ≡ route.Local l → Targets l
+  local_targets l r = targets_by i.op l jump r
 
-  copies_within : (b : Bool) (w : Workspace) → CopiesUnless b v i w → v.pc + 1 < length h.function.code → i.x < length h.function.code → IsWithin program index w.pc (length w.words)
-  copies_within true w c next target = lands w _ _ _ _ c target refl
-  copies_within false w c next target = lands w _ _ _ _ c next (simp length-set refl)
+  abbrev pub MakeTargets : Make → Type 0
+  MakeTargets make.JoinedText = P i.x
+  MakeTargets make.Rail = P i.x
+  MakeTargets _ = Unit {0}
 
-  byte_within : (byte : Option ℕ) (bytes : List ℕ) (w : Workspace) → SetsByte byte bytes v i w → v.pc + 1 < length h.function.code → i.x < length h.function.code → IsWithin program index w.pc (length w.words)
-  byte_within None bytes w c next target = lands w _ _ _ _ c target refl
-  byte_within (Some byte) bytes w c next target = lands w _ _ _ _ c next refl
+  make_targets_at : (j k : Make) → route.Make j ≡ route.Make k → MakeTargets j → MakeTargets k
+  make_targets_at j k e target = subst MakeTargets (let same : j ≡ k = cc in same) target
 
-  within_by : (l : Local) (w : Workspace) → Acts l program v i w → v.pc + 1 < length h.function.code → Targets program index v.pc (length v.words) i h l → IsWithin program index w.pc (length w.words)
-  within_by (local.Number n) w acts next target = lands w _ _ _ _ acts.2.2 next (simp length-set refl)
-  within_by (local.Partial d) w acts next target = takes_within acts.0 w acts.2 next target
-  within_by local.Null w acts next target = lands w _ _ _ _ acts next (simp length-set refl)
-  within_by local.NotNull w acts next target = copies_within (word_at v.words i.b == 0) w acts next target
-  within_by local.GetField w acts next target = lands w _ _ _ _ acts.becomes next (simp length-set refl)
-  within_by local.SetField w acts next target = lands w _ _ _ _ acts.becomes next refl
-  within_by local.SetByte w acts next target = byte_within (byte_at acts.0 (int_at v.words i.b)) acts.0 w acts.2 next target
-  within_by local.Copy w acts next target = lands w _ _ _ _ acts next (simp length-set refl)
-  within_by local.Place w acts next target = lands w _ _ _ _ acts next (simp length-set refl)
-  within_by local.Home w acts next target = lands w _ _ _ _ acts next (simp length-set refl)
-  within_by local.Open w acts next target = lands w _ _ _ _ acts.2 next (simp length-set refl)
-  within_by local.SamePlace w acts next target = lands w _ _ _ _ acts (or_next (are_same v.words i.a i.b) i.x (v.pc + 1) (length h.function.code) target next) refl
-  within_by local.Jump w acts next target = lands w _ _ _ _ acts target refl
-  within_by local.JumpIfZero w acts next target = lands w _ _ _ _ acts (next_or (is_zero (int_at v.words i.a)) i.x (v.pc + 1) (length h.function.code) target next) refl
-  within_by local.Loop w acts next target = lands w _ _ _ _ acts next refl
-  within_by local.EndLoop w acts next target = lands w _ _ _ _ acts (next_or (nat_lt 0 (turns_left v.loops i.a)) i.x (v.pc + 1) (length h.function.code) target next) refl
+  make_targets_by : (o : Op) (k : Make) → (is_target (form_of o).x ≡ true → P i.x) → route_of o ≡ route.Make k → MakeTargets k
+  make_targets_by op.Textk k n r = make_targets_at make.Text k r tt
+  make_targets_by op.Tcat k n r = make_targets_at make.JoinedText k r (n refl)
+  make_targets_by op.New k n r = make_targets_at make.Object k r tt
+  make_targets_by op.Rail k n r = make_targets_at make.Rail k r (n refl)
+  make_targets_by _ k n r = absurd cc
 
-  pub local_within : (l : Local) (w : Workspace) → route_of i.op ≡ route.Local l → Acts l program v i w → IsWithin program index w.pc (length w.words)
-  local_within l w r acts = within_by l w acts (local_next program index v.pc (length v.words) i h l r) (local_targets program index v.pc (length v.words) i h l r)
+  pub make_targets : (k : Make) → route_of i.op ≡ route.Make k → MakeTargets k
+  make_targets k r = make_targets_by i.op k jump r
 
-  joins_within : (b : Bool) (text : List ℕ) (w : Workspace) → Joins b text v i w → v.pc + 1 < length h.function.code → i.x < length h.function.code → IsWithin program index w.pc (length w.words)
-  joins_within true text w c next target = lands w _ _ _ _ c.becomes next (simp length-set refl)
-  joins_within false text w c next target = lands w _ _ _ _ c target refl
+  abbrev pub SiteTargets : Site → Type 0
+  SiteTargets site.Numbered = P i.x
+  SiteTargets site.IsHere = P i.x
+  SiteTargets _ = Unit {0}
 
-  rail_within : (n : Option ℕ) (w : Workspace) → MakesRail n v i w → v.pc + 1 < length h.function.code → i.x < length h.function.code → IsWithin program index w.pc (length w.words)
-  rail_within None w c next target = lands w _ _ _ _ c target refl
-  rail_within (Some n) w c next target = lands w _ _ _ _ c.becomes next (simp length-set refl)
+  site_targets_at : (j k : Site) → route.Site j ≡ route.Site k → SiteTargets j → SiteTargets k
+  site_targets_at j k e target = subst SiteTargets (let same : j ≡ k = cc in same) target
 
-  made_within : (k : Make) (w : Workspace) → Makes k program v i w → v.pc + 1 < length h.function.code → MakeTargets program index v.pc (length v.words) i h k → IsWithin program index w.pc (length w.words)
-  made_within make.Text w c next target = lands w _ _ _ _ c.2.becomes next (simp length-set refl)
-  made_within make.JoinedText w c next target = joins_within (nat_le (length c.0 + length c.1) MOST_BYTES) (c.0 ++ c.1) w c.4 next target
-  made_within make.Object w c next target = lands w _ _ _ _ c.2.becomes next (simp length-set refl)
-  made_within make.Rail w c next target = rail_within (rail_length (int_at v.words i.b)) w c next target
+  site_targets_by : (o : Op) (k : Site) → (is_target (form_of o).x ≡ true → P i.x) → route_of o ≡ route.Site k → SiteTargets k
+  site_targets_by op.Here k n r = site_targets_at site.Here k r tt
+  site_targets_by op.Count k n r = site_targets_at site.Count k r tt
+  site_targets_by op.Nextp k n r = site_targets_at site.Next k r tt
+  site_targets_by op.Placen k n r = site_targets_at site.Numbered k r (n refl)
+  site_targets_by op.Ifhere k n r = site_targets_at site.IsHere k r (n refl)
+  site_targets_by _ k n r = absurd cc
 
-  pub make_within : (k : Make) (w : Workspace) → route_of i.op ≡ route.Make k → Makes k program v i w → IsWithin program index w.pc (length w.words)
-  make_within k w r makes = made_within k w makes (make_next program index v.pc (length v.words) i h k r) (make_targets program index v.pc (length v.words) i h k r)
+  pub site_targets : (k : Site) → route_of i.op ≡ route.Site k → SiteTargets k
+  site_targets k r = site_targets_by i.op k jump r
 
-  puts_within : (word : Option ℕ) (w : Workspace) → Puts word v i w → v.pc + 1 < length h.function.code → i.x < length h.function.code → IsWithin program index w.pc (length w.words)
-  puts_within (Some word) w p next target = lands w _ _ _ _ p next (simp length-set refl)
-  puts_within None w p next target = lands w _ _ _ _ p target refl
+  -- the frame lands where P holds, with as many registers
+  abbrev pub Lands : Workspace → Workspace → Type 0
+  Lands v w = P w.pc × (length w.words ≡ length v.words)
 
-  at_within : (k : Site) (here places : ℕ) (w : Workspace) → ActsAt k here places v i w → v.pc + 1 < length h.function.code → SiteTargets program index v.pc (length v.words) i h k → IsWithin program index w.pc (length w.words)
-  at_within site.Here here places w p next target = lands w _ _ _ _ p next (simp length-set refl)
-  at_within site.Count here places w p next target = lands w _ _ _ _ p.2 next (simp length-set refl)
-  at_within site.Next here places w p next target = lands w _ _ _ _ p next (simp length-set refl)
-  at_within site.Numbered here places w p next target = puts_within (numbered places (int_at v.words i.b)) w p next target
-  at_within site.IsHere here places w p next target = lands w _ _ _ _ p (or_next (is_at v.words i.a here) i.x (v.pc + 1) (length h.function.code) target next) refl
+  module _ (program : Module) (v : Workspace) (next : P (v.pc + 1)) where
+    lands : (w : Workspace) (pc : ℕ) (words loops : List ℕ) (heap : HeapState) → Becomes w pc words loops heap → P pc → length words ≡ length v.words → Lands v w
+    lands w pc words loops heap b at same = (subst P (sym b.pc_is) at, ap length b.words_are ∙ same)
 
-  pub site_within : (k : Site) (here places : ℕ) (w : Workspace) → route_of i.op ≡ route.Site k → ActsAt k here places v i w → IsWithin program index w.pc (length w.words)
-  site_within k here places w r acts = at_within k here places w acts (site_next program index v.pc (length v.words) i h k r) (site_targets program index v.pc (length v.words) i h k r)
+    next_or : (b : Bool) (x n : ℕ) → P x → P n → P (if b then x else n)
+    next_or true x n lx ln = lx
+    next_or false x n lx ln = ln
 
-  pub export_within : (here : ℕ) (w : Workspace) → route_of i.op ≡ route.Export → ExportsObject here v i w → IsWithin program index w.pc (length w.words)
-  export_within here w r exports = lands w _ _ _ _ exports.becomes (export_next program index v.pc (length v.words) i h r) (simp length-set refl)
+    or_next : (b : Bool) (x n : ℕ) → P x → P n → P (if b then n else x)
+    or_next true x n lx ln = ln
+    or_next false x n lx ln = lx
+
+    takes_within : (z : Option ℤ) (w : Workspace) → Takes v i z w → P i.x → Lands v w
+    takes_within (Some z) w t target = lands w _ _ _ _ t.2 next (simp length-set refl)
+    takes_within None w t target = lands w _ _ _ _ t target refl
+
+    copies_within : (b : Bool) (w : Workspace) → CopiesUnless b v i w → P i.x → Lands v w
+    copies_within true w c target = lands w _ _ _ _ c target refl
+    copies_within false w c target = lands w _ _ _ _ c next (simp length-set refl)
+
+    byte_within : (byte : Option ℕ) (bytes : List ℕ) (w : Workspace) → SetsByte byte bytes v i w → P i.x → Lands v w
+    byte_within None bytes w c target = lands w _ _ _ _ c target refl
+    byte_within (Some byte) bytes w c target = lands w _ _ _ _ c next refl
+
+    within_by : (l : Local) (w : Workspace) → Acts l program v i w → Targets l → Lands v w
+    within_by (local.Number n) w acts target = lands w _ _ _ _ acts.2.2 next (simp length-set refl)
+    within_by (local.Partial d) w acts target = takes_within acts.0 w acts.2 target
+    within_by local.Null w acts target = lands w _ _ _ _ acts next (simp length-set refl)
+    within_by local.NotNull w acts target = copies_within (word_at v.words i.b == 0) w acts target
+    within_by local.GetField w acts target = lands w _ _ _ _ acts.becomes next (simp length-set refl)
+    within_by local.SetField w acts target = lands w _ _ _ _ acts.becomes next refl
+    within_by local.SetByte w acts target = byte_within (byte_at acts.0 (int_at v.words i.b)) acts.0 w acts.2 target
+    within_by local.Copy w acts target = lands w _ _ _ _ acts next (simp length-set refl)
+    within_by local.Place w acts target = lands w _ _ _ _ acts next (simp length-set refl)
+    within_by local.Home w acts target = lands w _ _ _ _ acts next (simp length-set refl)
+    within_by local.Open w acts target = lands w _ _ _ _ acts.2 next (simp length-set refl)
+    within_by local.SamePlace w acts target = lands w _ _ _ _ acts (or_next (are_same v.words i.a i.b) i.x (v.pc + 1) target next) refl
+    within_by local.Jump w acts target = lands w _ _ _ _ acts target refl
+    within_by local.JumpIfZero w acts target = lands w _ _ _ _ acts (next_or (is_zero (int_at v.words i.a)) i.x (v.pc + 1) target next) refl
+    within_by local.Loop w acts target = lands w _ _ _ _ acts next refl
+    within_by local.EndLoop w acts target = lands w _ _ _ _ acts (next_or (nat_lt 0 (turns_left v.loops i.a)) i.x (v.pc + 1) target next) refl
+
+    pub local_lands : (l : Local) (w : Workspace) → route_of i.op ≡ route.Local l → Acts l program v i w → Lands v w
+    local_lands l w r acts = within_by l w acts (local_targets l r)
+
+    joins_within : (b : Bool) (text : List ℕ) (w : Workspace) → Joins b text v i w → P i.x → Lands v w
+    joins_within true text w c target = lands w _ _ _ _ c.becomes next (simp length-set refl)
+    joins_within false text w c target = lands w _ _ _ _ c target refl
+
+    rail_within : (n : Option ℕ) (w : Workspace) → MakesRail n v i w → P i.x → Lands v w
+    rail_within None w c target = lands w _ _ _ _ c target refl
+    rail_within (Some n) w c target = lands w _ _ _ _ c.becomes next (simp length-set refl)
+
+    made_within : (k : Make) (w : Workspace) → Makes k program v i w → MakeTargets k → Lands v w
+    made_within make.Text w c target = lands w _ _ _ _ c.2.becomes next (simp length-set refl)
+    made_within make.JoinedText w c target = joins_within (nat_le (length c.0 + length c.1) MOST_BYTES) (c.0 ++ c.1) w c.4 target
+    made_within make.Object w c target = lands w _ _ _ _ c.2.becomes next (simp length-set refl)
+    made_within make.Rail w c target = rail_within (rail_length (int_at v.words i.b)) w c target
+
+    pub make_lands : (k : Make) (w : Workspace) → route_of i.op ≡ route.Make k → Makes k program v i w → Lands v w
+    make_lands k w r makes = made_within k w makes (make_targets k r)
+
+    puts_within : (word : Option ℕ) (w : Workspace) → Puts word v i w → P i.x → Lands v w
+    puts_within (Some word) w p target = lands w _ _ _ _ p next (simp length-set refl)
+    puts_within None w p target = lands w _ _ _ _ p target refl
+
+    at_within : (k : Site) (here places : ℕ) (w : Workspace) → ActsAt k here places v i w → SiteTargets k → Lands v w
+    at_within site.Here here places w p target = lands w _ _ _ _ p next (simp length-set refl)
+    at_within site.Count here places w p target = lands w _ _ _ _ p.2 next (simp length-set refl)
+    at_within site.Next here places w p target = lands w _ _ _ _ p next (simp length-set refl)
+    at_within site.Numbered here places w p target = puts_within (numbered places (int_at v.words i.b)) w p target
+    at_within site.IsHere here places w p target = lands w _ _ _ _ p (or_next (is_at v.words i.a here) i.x (v.pc + 1) target next) refl
+
+    pub site_lands : (k : Site) (here places : ℕ) (w : Workspace) → route_of i.op ≡ route.Site k → ActsAt k here places v i w → Lands v w
+    site_lands k here places w r acts = at_within k here places w acts (site_targets k r)
+
+    pub export_lands : (here : ℕ) (w : Workspace) → ExportsObject here v i w → Lands v w
+    export_lands here w exports = lands w _ _ _ _ exports.becomes next (simp length-set refl)
+
+-- the frame stands at an instruction of its function again
+pub within_again : (program : Module) (index : ℕ) (v w : Workspace) (i : Instr) (h : IsFetched program index v.pc (length v.words) i) → (w.pc < length h.function.code) × (length w.words ≡ length v.words) → IsWithin program index w.pc (length w.words)
+within_again program index v w i h lands = record {
+  function = h.function;
+  is_function = h.is_function;
+  pc = lands.0;
+  registers = subst (λ n. h.function.registers ≤ n) (sym lands.1) h.registers;
+}
+
+-- a target is an instruction of the function
+pub target_there : (program : Module) (f : Function) (i : Instr) (o : Operand) → IsThere program f i o i.x → is_target o ≡ true → i.x < length f.code
+target_there program f i operand.Target there e = there
+target_there program f i _ there e = absurd cc

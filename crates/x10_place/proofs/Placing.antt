@@ -1,22 +1,30 @@
--- Each stay stands where it can go on: what keeps that.
-use Rattle.std.proofs.Common.{◌≡◌, ◌≢◌, ℕ, ◌+◌, ◌<◌, ◌≤◌, true, length, Option, Some, None, refl, sym, ap, subst, ◌∙◌, arith}
-use Rattle.std.specs.Prelude.{Bool}
+-- Each stay stands where it can go on, with as many finishes open as its frames stand in: what keeps that.
+use Rattle.std.proofs.Common.{◌≡◌, ◌≢◌, ℕ, ◌+◌, ◌<◌, ◌≤◌, true, List, [], ◌∷◌, ◌++◌, length, Option, Some, None, refl, sym, ap, ap₂, subst, ◌∙◌, arith}
+use Rattle.std.specs.Prelude.{slice_get}
 use Rattle.std.proofs.Math.ListN.{length-set}
 use Rattle.x10_code.specs.declared.op.Op.{Op}
 use Rattle.x10_code.specs.declared.op.Op.TheVariants as op
 use Rattle.x10_code.specs.declared.instr.Instr.{Instr}
-use Rattle.x10_model.specs.Modules.{Module, FitsImage}
+use Rattle.x10_model.specs.Modules.{Module, Function, FitsImage}
+use Rattle.x10_model.specs.Places.{Finish}
 use Rattle.x10_model.specs.declared.slot.Slot.{Slot}
 use Rattle.x10_model.specs.Ranges.{function_at, instr_at, instr_in, result_of}
+use Rattle.x10_model.specs.Structure.{is_target}
+use Rattle.x10_code.specs.Table.{form_of}
+use Rattle.x10_image.specs.Parts.{code_in, code_at}
+use Rattle.x10_bounds.specs.OpenFinishes.{finishes_around, FinishesMatch}
+use Rattle.x10_bounds.proofs.EachFunction.{function_matches}
+use Rattle.x10_verify.specs.Certified.{Certified, IsCertified}
 use Rattle.x10_verify.proofs.Wholes.{function_fits}
 use Rattle.x10_place.specs.declared.frame.CallFrame.{CallFrame}
 use Rattle.x10_place.specs.declared.route.Route.{Route}
 use Rattle.x10_place.specs.declared.route.Route.TheVariants as route
 use Rattle.x10_place.specs.Frames.{Workspace, space_of, IsWithin, IsInside, IsFetchedFor, Acts, Makes, ActsAt, ExportsObject}
 use Rattle.x10_place.specs.Routes.{route_of}
-use Rattle.x10_place.specs.Stays.{StayState, StoreState, Location, AreCalling, IsPlaced, GoesNext, GoesNextWith, GoesOn, Calls, Resumes, Returns, Prints, ChangesTop, Steps}
+use Rattle.x10_place.specs.declared.stay.Outcome.TheVariants as outcome
+use Rattle.x10_place.specs.Stays.{StayState, StoreState, Location, AreCalling, open_at, open_in, IsPlaced, GoesNext, GoesNextWith, GoesOn, Calls, Resumes, Prints, ChangesTop, OpensFinish, ClosesFinish, IsBegun, Steps}
 use Rattle.x10_place.proofs.Chains.{chain_last, chain_more}
-use Rattle.x10_place.proofs.Fetching.{local_within, make_within, site_within, export_within}
+use Rattle.x10_place.proofs.Fetching.{within_again, target_there, local_lands, make_lands, site_lands, export_lands}
 use Rattle.x10_place.proofs.Returning.{goes_on}
 
 -- ---- routes of one operation each
@@ -36,6 +44,40 @@ is_return _ e = absurd cc
 pub is_print : (o : Op) → route_of o ≡ route.Print → o ≡ op.Print
 is_print op.Print e = refl
 is_print _ e = absurd cc
+
+pub is_open_finish : (o : Op) → route_of o ≡ route.OpenFinish → o ≡ op.Finb
+is_open_finish op.Finb e = refl
+is_open_finish _ e = absurd cc
+
+pub is_close_finish : (o : Op) → route_of o ≡ route.CloseFinish → o ≡ op.Fine
+is_close_finish op.Fine e = refl
+is_close_finish _ e = absurd cc
+
+pub is_begin : (o : Op) → route_of o ≡ route.Begin → o ≡ op.Async
+is_begin op.Async e = refl
+is_begin _ e = absurd cc
+
+-- the routes of operations that leave as many finishes open
+stays_in : Route → Type 0
+stays_in route.OpenFinish = ⊥
+stays_in route.CloseFinish = ⊥
+stays_in _ = Unit {0}
+
+pub not_finb : (o : Op) (r : Route) → route_of o ≡ r → stays_in r → o ≢ op.Finb
+not_finb o r e s f = subst stays_in (sym e ∙ ap route_of f) s
+
+pub not_fine : (o : Op) (r : Route) → route_of o ≡ r → stays_in r → o ≢ op.Fine
+not_fine o r e s f = subst stays_in (sym e ∙ ap route_of f) s
+
+-- ---- modules
+
+-- what the verifier knows of a module's code, beside its assignments
+pub record IsChecked (program : Module) : Type 0 where
+  pub fits : FitsImage program
+  pub finishes : (f : ℕ) (function : Function) → function_at program f ≡ Some function → FinishesMatch function.code
+
+pub checked : (c : Certified) → IsCertified c → IsChecked c.program
+checked c certified = record { fits = certified.fits; finishes = λ f function is. function_matches c.program c.bounds f function certified.verified.bounds_are is }
 
 -- ---- one frame
 
@@ -58,24 +100,72 @@ inside_with program f g register word h lt goes = inside_at program f g h goes.f
 abbrev pub fetched_inside : (program : Module) (f : CallFrame) (i : Instr) (fetched : IsFetchedFor program f i) → f.pc < length fetched.function.code → IsInside program f
 fetched_inside program f i fetched lt = record { function = fetched.function; is_function = fetched.is_function; pc = lt; registers = fetched.registers }
 
+-- an instruction of a frame that was fetched
+module _ (program : Module) (checks : IsChecked program) (f : CallFrame) (i : Instr) (fetched : IsFetchedFor program f i) where
+  matches : FinishesMatch fetched.function.code
+  matches = checks.finishes f.function fetched.function fetched.is_function
+
+  -- how many finishes a frame of this function stands in
+  open_by : (g : CallFrame) → g.function ≡ f.function → open_at program g ≡ finishes_around fetched.function.code g.pc
+  open_by g same = ap (λ o. finishes_around (code_in o) g.pc) (ap (λ n. function_at program n) same ∙ fetched.is_function)
+
+  -- one instruction further
+  pub open_onward : (g : CallFrame) → g.function ≡ f.function → g.pc ≡ f.pc + 1 → i.op ≢ op.Finb → i.op ≢ op.Fine → open_at program g ≡ open_at program f
+  open_onward g same next a b = open_by g same ∙ ap (finishes_around fetched.function.code) next ∙ matches.onward f.pc i fetched.is_instr a b ∙ sym (open_by f refl)
+
+  pub open_opens : (g : CallFrame) → g.function ≡ f.function → g.pc ≡ f.pc + 1 → i.op ≡ op.Finb → open_at program g ≡ open_at program f + 1
+  open_opens g same next is = open_by g same ∙ ap (finishes_around fetched.function.code) next ∙ matches.opens f.pc i fetched.is_instr is ∙ ap (λ n. n + 1) (sym (open_by f refl))
+
+  pub open_closes : (g : CallFrame) → g.function ≡ f.function → g.pc ≡ f.pc + 1 → i.op ≡ op.Fine → open_at program f ≡ open_at program g + 1
+  open_closes g same next is = open_by f refl ∙ matches.closes f.pc i fetched.is_instr is ∙ ap (λ n. n + 1) (sym (ap (finishes_around fetched.function.code) next) ∙ sym (open_by g same))
+
+  -- a FINE stands in a finish, and a RET in none
+  pub open_some : i.op ≡ op.Fine → (n : ℕ) × (open_at program f ≡ n + 1)
+  open_some is = (finishes_around fetched.function.code (f.pc + 1), open_by f refl ∙ matches.closes f.pc i fetched.is_instr is)
+
+  pub open_none : i.op ≡ op.Ret → open_at program f ≡ 0
+  open_none is = open_by f refl ∙ matches.ends f.pc i fetched.is_instr is
+
+  -- where it stands next: at an instruction, in as many finishes
+  abbrev pub StaysOpen : ℕ → Type 0
+  StaysOpen pc = (pc < length fetched.function.code) × (finishes_around fetched.function.code pc ≡ finishes_around fetched.function.code f.pc)
+
+  pub next_stays : i.op ≢ op.Ret → i.op ≢ op.Finb → i.op ≢ op.Fine → StaysOpen (f.pc + 1)
+  next_stays r a b = (fetched.next r, matches.onward f.pc i fetched.is_instr a b)
+
+  pub jump_stays : is_target (form_of i.op).x ≡ true → StaysOpen i.x
+  jump_stays target = (target_there program fetched.function i (form_of i.op).x fetched.in_range.x target, matches.jump f.pc i fetched.is_instr target)
+
 -- ---- stays
 
--- a stay whose top frame executes the same function, with the same callers
-same_function : (program : Module) (a b : StayState) → IsPlaced program a → IsInside program b.top → b.top.function ≡ a.top.function → b.callers ≡ a.callers → IsPlaced program b
-same_function program a b placed inside same callers = record {
+-- a stay whose top frame executes the same function in as many finishes, with the same callers and finishes
+same_function : (program : Module) (a b : StayState) → IsPlaced program a → IsInside program b.top → b.top.function ≡ a.top.function → open_at program b.top ≡ open_at program a.top → b.callers ≡ a.callers → b.finishes ≡ a.finishes → IsPlaced program b
+same_function program a b placed inside same stood callers finishes = record {
   top = inside;
   callers = subst (λ fs. AreCalling program fs b.top.function) (sym callers) (subst (λ n. AreCalling program a.callers n) (sym same) placed.callers);
+  finishes = ap length finishes ∙ placed.finishes ∙ ap₂ (λ m n. m + n) (ap (open_in program) (sym callers)) (sym stood);
 }
 
--- the top frame and the heap alone changed, and it stands at an instruction
-top_placed : (change : Workspace → Workspace → Type 0) (program : Module) (a b : StayState) (s t : StoreState) → IsPlaced program a → ChangesTop change a s b t → IsWithin program a.top.function b.top.pc (length b.top.registers.items) → IsPlaced program b
-top_placed change program a b s t placed h within =
-    same_function program a b placed (subst (λ n. IsWithin program n b.top.pc (length b.top.registers.items)) (sym h.function_is) within) h.function_is (ap (λ (x : StayState). x.callers) h.rest)
+-- the top frame and the heap alone changed, and it landed where as many finishes are open
+top_placed : (change : Workspace → Workspace → Type 0) (program : Module) (checks : IsChecked program) (a b : StayState) (s t : StoreState) (i : Instr) (fetched : IsFetchedFor program a.top i) → IsPlaced program a → ChangesTop change a s b t
+    → StaysOpen program checks a.top i fetched b.top.pc × (length b.top.registers.items ≡ length a.top.registers.items) → IsPlaced program b
+top_placed change program checks a b s t i fetched placed h lands =
+    same_function program a b placed (subst (λ n. IsWithin program n b.top.pc (length b.top.registers.items)) (sym h.function_is) (within_again program a.top.function (space_of a.top s.heap) (space_of b.top t.heap) i fetched (lands.0.0, lands.1))) h.function_is
+    (open_by program checks a.top i fetched b.top h.function_is ∙ lands.0.1 ∙ sym (open_by program checks a.top i fetched a.top refl)) (ap (λ (x : StayState). x.callers) h.rest) (ap (λ (x : StayState). x.finishes) h.rest)
 
-print_placed : (program : Module) (a b : StayState) (s t : StoreState) (i : Instr) → IsPlaced program a → IsFetchedFor program a.top i → i.op ≢ op.Ret → Prints program a s i b t → IsPlaced program b
-print_placed program a b s t i placed fetched ne h =
-    let next = fetched.next ne in
-    same_function program a b placed (inside_next program a.top b.top (fetched_inside program a.top i fetched (omega (arith, next))) next h.top) h.top.function_is (ap (λ (x : StayState). x.callers) h.rest)
+print_placed : (program : Module) (checks : IsChecked program) (a b : StayState) (s t : StoreState) (i : Instr) → IsPlaced program a → IsFetchedFor program a.top i → i.op ≡ op.Print → Prints program a s i b t → IsPlaced program b
+print_placed program checks a b s t i placed fetched is h =
+    let next = fetched.next (λ e. absurd (let f = sym is ∙ e in cc)) in
+    same_function program a b placed (inside_next program a.top b.top (fetched_inside program a.top i fetched (omega (arith, next))) next h.top) h.top.function_is
+    (open_onward program checks a.top i fetched b.top h.top.function_is h.top.pc_is (λ e. absurd (let f = sym is ∙ e in cc)) (λ e. absurd (let f = sym is ∙ e in cc))) (ap (λ (x : StayState). x.callers) h.rest) (ap (λ (x : StayState). x.finishes) h.rest)
+
+open_more : (program : Module) (fs : List CallFrame) (f : CallFrame) → open_in program (fs ++ f ∷ []) ≡ open_in program fs + open_at program f
+open_more program [] f = omega arith
+open_more program (g ∷ fs) f = let e = open_more program fs f in omega (arith, e)
+
+-- a frame at the first instruction of its function stands in no finish
+open_first : (program : Module) (f : CallFrame) → f.pc ≡ 0 → open_at program f ≡ 0
+open_first program f e = ap (finishes_around (code_at program f.function)) e
 
 -- the callee stands at its first instruction, and its caller at the call
 called_placed : (program : Module) (a b : StayState) (i : Instr) → FitsImage program → IsPlaced program a → IsFetchedFor program a.top i → i.op ≡ op.Call → Calls program a i b → IsPlaced program b
@@ -83,10 +173,13 @@ called_placed program a b i fits placed fetched o h =
     let e = h.entered in
     let is : function_at program b.top.function ≡ Some e.callee = ap (λ n. function_at program n) e.function_is ∙ e.is_callee in
     let long = (function_fits program b.top.function e.callee fits is).length.0 in
+    let callers : b.callers ≡ a.callers ++ a.top ∷ [] = ap (λ (x : StayState). x.callers) h.rest in
+    let opened = ap (open_in program) callers ∙ open_more program a.callers a.top in
     record {
       top = record { function = e.callee; is_function = is; pc = omega (arith, e.pc_is, long); registers = e.registers };
-      callers = subst (λ fs. AreCalling program fs b.top.function) (sym (ap (λ (x : StayState). x.callers) h.rest)) (chain_more program a.callers a.top b.top.function placed.callers
+      callers = subst (λ fs. AreCalling program fs b.top.function) (sym callers) (chain_more program a.callers a.top b.top.function placed.callers
           (record { inside = placed.top; call = i; call_is = at; op_is = o; callee_is = sym e.function_is }));
+      finishes = ap length (ap (λ (x : StayState). x.finishes) h.rest) ∙ placed.finishes ∙ (let none = open_first program b.top e.pc_is in omega (arith, opened, none));
     }
   where
     at : instr_at program a.top.function a.top.pc ≡ Some i
@@ -94,33 +187,124 @@ called_placed program a b i fits placed fetched o h =
 
 -- ---- the end of a call
 
-resumed_inside : (o : Option Slot) (program : Module) (caller f top : CallFrame) (call i : Instr) (fetched : IsFetchedFor program caller call) → caller.pc + 1 < length fetched.function.code → GoesOn o caller call top i f → IsInside program f × (f.function ≡ caller.function)
-resumed_inside None program caller f top call i fetched next h = (inside_next program caller f (fetched_inside program caller call fetched (omega (arith, next))) next h, h.function_is)
-resumed_inside (Some slot) program caller f top call i fetched next h = (inside_with program caller f _ _ (fetched_inside program caller call fetched (omega (arith, next))) next h, h.function_is)
-
 -- the caller stands after its call
-resumed_placed : (program : Module) (a b : StayState) (i : Instr) → IsPlaced program a → Resumes program a i b → IsPlaced program b
-resumed_placed program a b i placed h =
+record IsResumed (program : Module) (caller f : CallFrame) : Type 0 where
+  inside : IsInside program f
+  function_is : f.function ≡ caller.function
+  pc_is : f.pc ≡ caller.pc + 1
+
+resumed_inside : (o : Option Slot) (program : Module) (caller f top : CallFrame) (call i : Instr) (fetched : IsFetchedFor program caller call) → caller.pc + 1 < length fetched.function.code → GoesOn o caller call top i f → IsResumed program caller f
+resumed_inside None program caller f top call i fetched next h = record { inside = inside_next program caller f (fetched_inside program caller call fetched (omega (arith, next))) next h; function_is = h.function_is; pc_is = h.pc_is }
+resumed_inside (Some slot) program caller f top call i fetched next h = record { inside = inside_with program caller f _ _ (fetched_inside program caller call fetched (omega (arith, next))) next h; function_is = h.function_is; pc_is = h.pc_is }
+
+resumed_placed : (program : Module) (checks : IsChecked program) (a b : StayState) (i : Instr) → IsPlaced program a → IsFetchedFor program a.top i → i.op ≡ op.Ret → Resumes program a i b → IsPlaced program b
+resumed_placed program checks a b i placed fetched is h =
     let chain = chain_last program b.callers h.caller a.top.function (subst (λ fs. AreCalling program fs a.top.function) h.callers placed.callers) in
     let at = resumed_inside (result_of (function_at program a.top.function)) program h.caller b.top a.top h.call i h.fetched (h.fetched.next (goes_on h.call h.op_is)) h.goes in
-    record { top = at.0; callers = subst (λ n. AreCalling program b.callers n) (sym at.1) chain.1 }
+    let none = open_none program checks a.top i fetched is in
+    let opened = ap (open_in program) h.callers ∙ open_more program b.callers h.caller in
+    let same = open_onward program checks h.caller h.call h.fetched b.top at.function_is at.pc_is (λ e. absurd (let f = sym h.op_is ∙ e in cc)) (λ e. absurd (let f = sym h.op_is ∙ e in cc)) in
+    record {
+      top = at.inside;
+      callers = subst (λ n. AreCalling program b.callers n) (sym at.function_is) chain.1;
+      finishes = ap length (ap (λ (x : StayState). x.finishes) h.rest) ∙ placed.finishes ∙ (omega (arith, none, opened, same));
+    }
+
+-- ---- finishes
+
+-- one more is open
+opened_placed : (program : Module) (checks : IsChecked program) (a b : StayState) (s t : StoreState) (i : Instr) → IsPlaced program a → IsFetchedFor program a.top i → i.op ≡ op.Finb → OpensFinish a s b t → IsPlaced program b
+opened_placed program checks a b s t i placed fetched is h =
+    let next = fetched.next (λ e. absurd (let f = sym is ∙ e in cc)) in
+    let callers : b.callers ≡ a.callers = ap (λ (x : StayState). x.callers) h.rest in
+    let same = ap (open_in program) callers in
+    let one = open_opens program checks a.top i fetched b.top h.top.function_is h.top.pc_is is in
+    record {
+      top = inside_next program a.top b.top (fetched_inside program a.top i fetched (omega (arith, next))) next h.top;
+      callers = subst (λ fs. AreCalling program fs b.top.function) (sym callers) (subst (λ n. AreCalling program a.callers n) (sym h.top.function_is) placed.callers);
+      finishes = ap length (ap (λ (x : StayState). x.finishes) h.rest) ∙ (let e = placed.finishes in omega (arith, e, same, one));
+    }
+
+-- one fewer is open
+closed_placed : (program : Module) (checks : IsChecked program) (a b : StayState) (s t : StoreState) (i : Instr) → IsPlaced program a → IsFetchedFor program a.top i → i.op ≡ op.Fine → ClosesFinish a s b t → IsPlaced program b
+closed_placed program checks a b s t i placed fetched is h =
+    let next = fetched.next (λ e. absurd (let f = sym is ∙ e in cc)) in
+    let callers : b.callers ≡ a.callers = ap (λ (x : StayState). x.callers) h.rest in
+    let same = ap (open_in program) callers in
+    let one = open_closes program checks a.top i fetched b.top h.top.function_is h.top.pc_is is in
+    let fewer = ap length h.innermost in
+    record {
+      top = inside_next program a.top b.top (fetched_inside program a.top i fetched (omega (arith, next))) next h.top;
+      callers = subst (λ fs. AreCalling program fs b.top.function) (sym callers) (subst (λ n. AreCalling program a.callers n) (sym h.top.function_is) placed.callers);
+      finishes = (let e = placed.finishes in omega (arith, e, same, one, fewer));
+    }
+
+-- a stay that ends has no finish open, and one at a FINE has one
+pub none_open : (program : Module) (checks : IsChecked program) (a : StayState) (i : Instr) → IsPlaced program a → IsFetchedFor program a.top i → i.op ≡ op.Ret → a.callers ≡ [] → a.finishes ≡ []
+none_open program checks a i placed fetched is callers = empty a.finishes (placed.finishes ∙ ap₂ (λ m n. m + n) (ap (open_in program) callers) (open_none program checks a.top i fetched is))
+  where
+    empty : (ns : List ℕ) → length ns ≡ 0 → ns ≡ []
+    empty [] e = refl
+    empty (n ∷ ns) e = absurd (omega (arith, e))
+
+pub some_open : (program : Module) (checks : IsChecked program) (a : StayState) (i : Instr) → IsPlaced program a → IsFetchedFor program a.top i → i.op ≡ op.Fine → (number : ℕ) × (outer : List ℕ) × (a.finishes ≡ number ∷ outer)
+some_open program checks a i placed fetched is = first a.finishes (let n = open_some program checks a.top i fetched is in let e = n.1 in let f = placed.finishes in omega (arith, e, f))
+  where
+    first : (ns : List ℕ) → 1 ≤ length ns → (number : ℕ) × (outer : List ℕ) × (ns ≡ number ∷ outer)
+    first [] e = absurd (omega (arith, e))
+    first (n ∷ ns) e = (n, ns, refl)
+
+-- the parent goes on, and the activity that it begins stands at its first instruction
+pub next_placed : (program : Module) (checks : IsChecked program) (a b : StayState) (i : Instr) → IsPlaced program a → IsFetchedFor program a.top i → i.op ≡ op.Async → GoesNext a.top b.top → b ≡ record a { top = b.top } → IsPlaced program b
+next_placed program checks a b i placed fetched is goes rest =
+    let next = fetched.next (λ e. absurd (let f = sym is ∙ e in cc)) in
+    same_function program a b placed (inside_next program a.top b.top (fetched_inside program a.top i fetched (omega (arith, next))) next goes) goes.function_is
+    (open_onward program checks a.top i fetched b.top goes.function_is goes.pc_is (λ e. absurd (let f = sym is ∙ e in cc)) (λ e. absurd (let f = sym is ∙ e in cc))) (ap (λ (x : StayState). x.callers) rest) (ap (λ (x : StayState). x.finishes) rest)
+
+pub begun_placed : (program : Module) (words : List ℕ) (i : Instr) (under : Finish) (c : StayState) → FitsImage program → IsBegun program words i under c → IsPlaced program c
+begun_placed program words i under c fits h =
+    let e = h.entered in
+    let is : function_at program c.top.function ≡ Some e.callee = ap (λ n. function_at program n) e.function_is ∙ e.is_callee in
+    let long = (function_fits program c.top.function e.callee fits is).length.0 in
+    record {
+      top = record { function = e.callee; is_function = is; pc = omega (arith, e.pc_is, long); registers = e.registers };
+      callers = subst (λ fs. AreCalling program fs c.top.function) (sym h.callers) tt;
+      finishes = ap length h.finishes ∙ sym (ap₂ (λ m n. m + n) (ap (open_in program) h.callers) (open_first program c.top e.pc_is));
+    }
 
 -- ---- all operations
 
-placed_by : (r : Route) (at : Location) (a b : StayState) (s t : StoreState) (i : Instr) (goes : Bool) → FitsImage at.program → IsPlaced at.program a → IsFetchedFor at.program a.top i → route_of i.op ≡ r → goes ≡ true → Steps r at a s i goes b t → IsPlaced at.program b
-placed_by (route.Local l) at a b s t i goes fits placed fetched e on h =
-    top_placed (λ v w. Acts l at.program v i w) at.program a b s t placed h.1 (local_within at.program a.top.function (space_of a.top s.heap) i fetched l (space_of b.top t.heap) e h.1.changes)
-placed_by (route.Make k) at a b s t i goes fits placed fetched e on h =
-    top_placed (λ v w. Makes k at.program v i w) at.program a b s t placed h.1 (make_within at.program a.top.function (space_of a.top s.heap) i fetched k (space_of b.top t.heap) e h.1.changes)
-placed_by (route.Site k) at a b s t i goes fits placed fetched e on h =
-    top_placed (λ v w. ActsAt k at.here at.places v i w) at.program a b s t placed h.1 (site_within at.program a.top.function (space_of a.top s.heap) i fetched k at.here at.places (space_of b.top t.heap) e h.1.changes)
-placed_by route.Export at a b s t i goes fits placed fetched e on h =
-    top_placed (λ v w. ExportsObject at.here v i w) at.program a b s t placed h.1 (export_within at.program a.top.function (space_of a.top s.heap) i fetched at.here (space_of b.top t.heap) e h.1.changes)
-placed_by route.Call at a b s t i goes fits placed fetched e on h = called_placed at.program a b i fits placed fetched (is_call i.op e) h.1
-placed_by route.Return at a b s t i goes fits placed fetched e on h = resumed_placed at.program a b i placed (subst (λ g. Returns at.program a i g b) on h.0)
-placed_by route.Print at a b s t i goes fits placed fetched e on h = print_placed at.program a b s t i placed fetched (λ f. absurd (let g = sym (is_print i.op e) ∙ f in cc)) h.1
-placed_by route.Later at a b s t i goes fits placed fetched e on h = absurd h
+module _ (at : Location) (checks : IsChecked at.program) (a b : StayState) (s t : StoreState) (i : Instr) (placed : IsPlaced at.program a) (fetched : IsFetchedFor at.program a.top i) where
+  abbrev Stays : ℕ → Type 0
+  Stays = StaysOpen at.program checks a.top i fetched
 
--- a stay that goes on stands where it can go on
-pub steps_placed : (at : Location) (a b : StayState) (s t : StoreState) (i : Instr) (goes : Bool) → FitsImage at.program → IsPlaced at.program a → IsFetchedFor at.program a.top i → goes ≡ true → Steps (route_of i.op) at a s i goes b t → IsPlaced at.program b
-steps_placed at a b s t i goes fits placed fetched on h = placed_by (route_of i.op) at a b s t i goes fits placed fetched refl on h
+  next_in : (r : Route) → route_of i.op ≡ r → stays_in r → i.op ≢ op.Ret → Stays (a.top.pc + 1)
+  next_in r e in_as_many ne = next_stays at.program checks a.top i fetched ne (not_finb i.op r e in_as_many) (not_fine i.op r e in_as_many)
+
+  jump_in : is_target (form_of i.op).x ≡ true → Stays i.x
+  jump_in = jump_stays at.program checks a.top i fetched
+
+  placed_by : (r : Route) → route_of i.op ≡ r → Steps r at a s i outcome.Goes b t → IsPlaced at.program b
+  placed_by (route.Local l) e h =
+      top_placed (λ v w. Acts l at.program v i w) at.program checks a b s t i fetched placed h.1
+      (local_lands i Stays jump_in at.program (space_of a.top s.heap) (next_in (route.Local l) e tt (λ f. absurd (let g : route.Return ≡ route.Local l = ap route_of (sym f) ∙ e in cc))) l (space_of b.top t.heap) e h.1.changes)
+  placed_by (route.Make k) e h =
+      top_placed (λ v w. Makes k at.program v i w) at.program checks a b s t i fetched placed h.1
+      (make_lands i Stays jump_in at.program (space_of a.top s.heap) (next_in (route.Make k) e tt (λ f. absurd (let g : route.Return ≡ route.Make k = ap route_of (sym f) ∙ e in cc))) k (space_of b.top t.heap) e h.1.changes)
+  placed_by (route.Site k) e h =
+      top_placed (λ v w. ActsAt k at.here at.places v i w) at.program checks a b s t i fetched placed h.1
+      (site_lands i Stays jump_in at.program (space_of a.top s.heap) (next_in (route.Site k) e tt (λ f. absurd (let g : route.Return ≡ route.Site k = ap route_of (sym f) ∙ e in cc))) k at.here at.places (space_of b.top t.heap) e h.1.changes)
+  placed_by route.Export e h =
+      top_placed (λ v w. ExportsObject at.here v i w) at.program checks a b s t i fetched placed h.1
+      (export_lands i Stays jump_in at.program (space_of a.top s.heap) (next_in route.Export e tt (λ f. absurd (let g : route.Return ≡ route.Export = ap route_of (sym f) ∙ e in cc))) at.here (space_of b.top t.heap) h.1.changes)
+  placed_by route.Call e h = called_placed at.program a b i checks.fits placed fetched (is_call i.op e) h.1
+  placed_by route.Return e h = resumed_placed at.program checks a b i placed fetched (is_return i.op e) h.0
+  placed_by route.Print e h = print_placed at.program checks a b s t i placed fetched (is_print i.op e) h.1
+  placed_by route.OpenFinish e h = opened_placed at.program checks a b s t i placed fetched (is_open_finish i.op e) h.1
+  placed_by route.CloseFinish e h = closed_placed at.program checks a b s t i placed fetched (is_close_finish i.op e) h
+  placed_by route.Begin e h = absurd (let f = h.0 in cc)
+  placed_by route.Later e h = absurd h
+
+  -- a stay that goes on stands where it can go on
+  pub steps_placed : Steps (route_of i.op) at a s i outcome.Goes b t → IsPlaced at.program b
+  steps_placed h = placed_by (route_of i.op) refl h

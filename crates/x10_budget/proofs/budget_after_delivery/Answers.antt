@@ -1,5 +1,0 @@
-use Rattle.x10_budget.proofs.BudgetDeliveries.{budget_after_delivery}
-use Rattle.x10_budget.proofs.budget_after_delivery.Goals as goal
-
-pub returns : goal.returns
-returns c = budget_after_delivery

@@ -1,5 +1,0 @@
-use Rattle.x10_budget.proofs.BudgetRuns.{budget_after_event}
-use Rattle.x10_budget.proofs.budget_after_event.Goals as goal
-
-pub returns : goal.returns
-returns c = budget_after_event

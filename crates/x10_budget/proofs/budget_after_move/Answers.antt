@@ -1,5 +1,0 @@
-use Rattle.x10_budget.proofs.BudgetMoves.{budget_after_move}
-use Rattle.x10_budget.proofs.budget_after_move.Goals as goal
-
-pub returns : goal.returns
-returns c = budget_after_move

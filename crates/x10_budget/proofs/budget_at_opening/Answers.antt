@@ -1,5 +1,0 @@
-use Rattle.x10_budget.proofs.BudgetRuns.{budget_at_opening}
-use Rattle.x10_budget.proofs.budget_at_opening.Goals as goal
-
-pub returns : goal.returns
-returns c = budget_at_opening

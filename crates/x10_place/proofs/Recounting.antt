@@ -1,0 +1,127 @@
+-- What moves change of what a place counts and keeps of finishes.
+use Rattle.std.proofs.Common.{◌≡◌, ◌⊎◌, ℕ, ◌+◌, ◌-◌, ◌≤◌, ◌==◌, ◌&&◌, Bool, true, false, not, Option, Some, None, refl, sym, ap, subst, ◌∙◌, inl, inr, arith}
+use Rattle.std.specs.Prelude.{if◌then◌else◌}
+use Rattle.std.proofs.lemmas.Bool.{eqb-true, eq-eqb}
+use Rattle.x10_model.specs.Maps.{with_entry}
+use Rattle.x10_model.specs.Places.{Finish, Effect, Waits, Works, Begins, Opens, Closes, Ends}
+use Rattle.x10_model.specs.Totals.{Totals, Cut, nothing, zeros, begins_one, ends_one, if_same, is_last, is_reported, Did}
+use Rattle.x10_model.specs.Worlds.{same_finish}
+use Rattle.x10_finish.specs.Watching.{closes}
+use Rattle.x10_place.specs.Stays.{StoreState, totals_in, books_in, finish_at, kept_in, changed_at, IsDoneHere, Recounts}
+use Rattle.x10_place.specs.StandsFor.{IsCountedBy}
+use Rattle.x10_place.proofs.Maps.{at_key, off_key, same_or_not}
+
+-- a number that was not given yet has no book
+abbrev pub Unopened : StoreState → Type 0
+Unopened s = (n : ℕ) → s.opened ≤ n → books_in s n ≡ None
+
+-- the same finishes are counted, and the same books kept
+pub record IsSameCount (s t : StoreState) : Type 0 where
+  pub here : t.here ≡ s.here
+  pub places : t.places ≡ s.places
+  pub ledger : t.ledger ≡ s.ledger
+  pub books : t.books ≡ s.books
+  pub opened : t.opened ≡ s.opened
+
+pub same_count : (s : StoreState) → IsSameCount s s
+same_count s = record { here = refl; places = refl; ledger = refl; books = refl; opened = refl }
+
+totals_same : (s t : StoreState) → IsSameCount s t → (f : Finish) → totals_in t f ≡ totals_in s f
+totals_same s t h f = ap (λ l. totals_in (record s { ledger = l }) f) h.ledger
+
+books_same : (s t : StoreState) → IsSameCount s t → (n : ℕ) → books_in t n ≡ books_in s n
+books_same s t h n = ap (λ bs. books_in (record s { books = bs }) n) h.books
+
+pub works_count : (s t : StoreState) → IsSameCount s t → IsCountedBy s Works t
+works_count s t h = record {
+  here = h.here;
+  places = h.places;
+  totals = λ f c. totals_same s t h f;
+  kept = λ n c. ap kept_in (books_same s t h n);
+  done = λ n e. absurd cc;
+  silent = refl;
+  unreported = λ f. refl;
+}
+
+pub waits_count : (s : StoreState) (number : ℕ) → IsCountedBy s (Waits number) s
+waits_count s number = record { here = refl; places = refl; totals = λ f c. refl; kept = λ n c. refl; done = λ n e. absurd cc; silent = refl; unreported = λ f. refl }
+
+same_self : (n : ℕ) → (n == n) ≡ true
+same_self n = eq-eqb n n refl
+
+pub opens_count : (s t : StoreState) (inside : Finish) → Unopened s → Recounts s t (s.opened + 1) (totals_in s) (with_entry (books_in s) s.opened (Some (λ p. zeros))) → IsCountedBy s (Opens s.opened inside) t
+opens_count s t inside unopened h = record {
+  here = h.here;
+  places = h.places_are;
+  totals = λ f c. h.totals_are f;
+  kept = λ n c. ap kept_in (h.books_are n) ∙ elim (same_or_not n s.opened) [
+    | inl e ↦ subst (λ k. kept_in (with_entry (books_in s) s.opened (Some (λ p. zeros)) k) ≡ kept_in (books_in s k)) (sym e)
+        (ap kept_in (at_key (books_in s) s.opened (Some (λ p. zeros))) ∙ sym (ap kept_in (unopened s.opened (omega arith))))
+    | inr ne ↦ ap kept_in (off_key (books_in s) s.opened (Some (λ p. zeros)) n ne)
+  ];
+  done = λ n e. absurd cc;
+  silent = refl;
+  unreported = λ f. refl;
+}
+
+if_false : {A : Type 0} (b : Bool) (x y : A) → b ≡ false → (if b then x else y) ≡ y
+if_false true x y e = absurd cc
+if_false false x y e = refl
+
+if_true : {A : Type 0} (b : Bool) (x y : A) → b ≡ true → (if b then x else y) ≡ x
+if_true true x y e = refl
+if_true false x y e = absurd cc
+
+-- another finish of this place has another number
+other_number : (here n number : ℕ) → closes here (Closes number) (finish_at here n) ≡ false → (n ≡ number → ⊥)
+other_number here n number c e = absurd (let f : true ≡ false = sym (if_true (here == here) (n == number) false (same_self here) ∙ eq-eqb n number e) ∙ c in cc)
+
+pub itself_closed : (here number : ℕ) → closes here (Closes number) (finish_at here number) ≡ true
+itself_closed here number = if_true (here == here) (number == number) false (same_self here) ∙ same_self number
+
+pub closes_count : (s t : StoreState) (number : ℕ) → IsDoneHere s number → Recounts s t s.opened (changed_at (totals_in s) (finish_at s.here number) (λ u. nothing)) (with_entry (books_in s) number None) → IsCountedBy s (Closes number) t
+closes_count s t number done h = record {
+  here = h.here;
+  places = h.places_are;
+  totals = λ f c. h.totals_are f ∙ if_false (same_finish f (finish_at s.here number)) nothing (totals_in s f) c;
+  kept = λ n c. ap kept_in (h.books_are n ∙ off_key (books_in s) number None n (other_number s.here n number c));
+  done = λ n e. let same : number ≡ n = cc in subst (λ k. IsDoneHere s k × (totals_in t (finish_at s.here k) ≡ nothing)) same
+      (done, h.totals_are (finish_at s.here number) ∙ if_true (same_finish (finish_at s.here number) (finish_at s.here number)) nothing (totals_in s (finish_at s.here number)) (itself_closed s.here number));
+  silent = refl;
+  unreported = λ f. refl;
+}
+
+pub begins_count : (s t : StoreState) (key function : ℕ) (under : Finish) → Recounts s t s.opened (changed_at (totals_in s) under begins_one) (books_in s) → IsCountedBy s (Begins key function under) t
+begins_count s t key function under h = record {
+  here = h.here;
+  places = h.places_are;
+  totals = λ f c. h.totals_are f;
+  kept = λ n c. ap kept_in (h.books_are n);
+  done = λ n e. absurd cc;
+  silent = refl;
+  unreported = λ f. refl;
+}
+
+-- no report goes to this place itself
+none_home : (here : ℕ) (f under : Finish) (t : Totals) → under.home ≡ here → (b : Bool) → same_finish f under ≡ b → (b && is_last f.home here t) ≡ false
+none_home here f under t home false e = refl
+none_home here f under t home true e = at_home (f.home == here) (t.live - 1 == 0) (eq-eqb f.home here (first (f.home == under.home) (f.number == under.number) refl e ∙ home))
+  where
+    first : (b c : Bool) → (f.home == under.home) ≡ b → (if b then c else false) ≡ true → f.home ≡ under.home
+    first true c is e = eqb-true f.home under.home is
+    first false c is e = absurd cc
+
+    at_home : (b c : Bool) → b ≡ true → (not b && c) ≡ false
+    at_home true c e = refl
+    at_home false c e = absurd cc
+
+pub ends_count : (s t : StoreState) (under : Finish) → under.home ≡ s.here → Recounts s t s.opened (changed_at (totals_in s) under ends_one) (books_in s) → IsCountedBy s (Ends under None) t
+ends_count s t under home h = record {
+  here = h.here;
+  places = h.places_are;
+  totals = λ f c. h.totals_are f;
+  kept = λ n c. ap kept_in (h.books_are n);
+  done = λ n e. absurd cc;
+  silent = refl;
+  unreported = λ f. none_home s.here f under (totals_in s f) home (same_finish f under) refl;
+}
