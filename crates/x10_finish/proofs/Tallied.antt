@@ -1,5 +1,5 @@
 -- One place by itself: as many live under each finish as stays inherited it, whatever its moves and the messages it takes in.
-use Rattle.std.proofs.Common.{◌≡◌, ℕ, ◌+◌, ◌-◌, Bool, true, false, if◌then◌else◌, Option, Some, None, refl, sym, ◌∙◌, ap, subst}
+use Rattle.std.proofs.Common.{◌≡◌, ℕ, ◌+◌, ◌-◌, ◌<◌, Bool, true, false, if◌then◌else◌, Option, Some, None, refl, sym, ◌∙◌, ap, subst}
 use Rattle.x10_model.specs.Maps.{with_entry}
 use Rattle.x10_model.specs.Copies.{Snapshot}
 use Rattle.x10_model.specs.Places as places
@@ -14,7 +14,7 @@ use Rattle.x10_finish.specs.Watching.{closes, InheritsAt, IsTallied}
 use Rattle.x10_finish.proofs.Ledgers.{same_is}
 use Rattle.x10_finish.proofs.Nesting.{no_stay}
 use Rattle.x10_finish.proofs.Sound.{free_after}
-use Rattle.x10_finish.proofs.HowMany.{none_many}
+use Rattle.x10_finish.proofs.HowMany.{none_many, many_some}
 use Rattle.x10_finish.proofs.Following.{live_same, live_new, live_new_other, live_gone, live_gone_other}
 use Rattle.x10_finish.proofs.Counted.{apart_by}
 
@@ -118,6 +118,10 @@ same_tallied stays key s t totals totals' tallied there same counts = record {
 
 tallied_at : (old new : ℕ → Option Stay) (totals : Finish → Totals) → new ≡ old → IsTallied old totals → IsTallied new totals
 tallied_at old new totals e t = subst (λ x. IsTallied x totals) (sym e) t
+
+-- what a stay inherited has something that lives
+pub lives_tallied : (stays : ℕ → Option Stay) (key : ℕ) (s : Stay) (totals : Finish → Totals) → IsTallied stays totals → stays key ≡ Some s → 0 < (totals s.inherited).live
+lives_tallied stays key s totals t there = many_some (InheritsAt stays s.inherited) (totals s.inherited).live key (t.live s.inherited) (s, there, refl)
 
 -- ---- messages
 

@@ -39,7 +39,8 @@ pub record IsUncounted (c : WorldCounts) (f : Finish) : Type 0 where
   pub kept : c.kept f ≡ (λ p. zeros)
   pub told : (number : ℕ) → c.told f number ≡ None
 
--- what holds of each world and its counts
+-- what holds of each world and its counts: each finish that hasn't closed is followed, and of one that was not opened yet
+-- nothing is counted
 pub record IsWatched (places : ℕ) (w : World) (c : WorldCounts) : Type 0 where
   pub sound : IsSound w.net w.book
   pub rooted : IsRooted (stays_of w.net) (opened_of w.net) w.net.enclosing
