@@ -12,6 +12,6 @@ TIMEFORMAT='%U s'
 for program in "$top"/bench/*.asm; do
     name="$(basename "$program" .asm)"
     "$x10p" asm "$program" "$scratch/$name.x10"
-    echo "$name: $("$x10p" bounds "$scratch/$name.x10" | tail -n 1 | cut -d ' ' -f 2) steps at most"
+    echo "$name: main takes $("$x10p" bounds "$scratch/$name.x10" | tail -n 1 | cut -d ' ' -f 2) steps at most"
     time "$x10p" run "$scratch/$name.x10" --limit 1000000000
 done

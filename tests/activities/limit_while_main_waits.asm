@@ -1,0 +1,54 @@
+; The limit is met while main waits at its FINE and two activities are at work: the lines that were printed until then
+; stand there, and main's isn't among them. With as many events as the run takes it ends well.
+;
+; $ x10p run limit_while_main_waits.x10
+; 0: 1
+; 0: 2
+; 0: 1
+; 0: 2
+; 0: 1
+; 0: 2
+; 0: 1
+; 0: 2
+; 0: 1
+; 0: 2
+; 0: 3
+; takes 45 events
+; $ x10p run limit_while_main_waits.x10 --limit 30
+; 0: 1
+; 0: 2
+; 0: 1
+; 0: 2
+; 0: 1
+; 0: 2
+; 0: 1
+; 0: 2
+; status 2: limit
+; $ x10p run limit_while_main_waits.x10 --limit 5
+; status 2: limit
+; $ x10p run limit_while_main_waits.x10 --limit 1
+; status 2: limit
+places 1
+int 1
+int 2
+int 3
+func 1 1 none int
+  LOOP 0 5
+turn:
+  PRINT 0
+  ENDL 0 @turn
+  RET 0
+end
+; main
+func 2 0 none
+  INTK 0 0
+  INTK 1 1
+  FINB
+  ASYNC 0 0
+  ASYNC 1 0
+  FINE
+  INTK 0 2
+  PRINT 0
+  RET 0
+end
+entry 1
