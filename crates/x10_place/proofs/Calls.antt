@@ -171,9 +171,9 @@ module _ (setting : Setting) (here : ℕ) (far : Far) (m : machine.Place) (key :
   innermost_home inherited (n ∷ ns) e = refl
 
   -- the activity that begins, and what of it is said
-  pub record Begun (key : ℕ) (c : StayState) : Type 0 where
+  pub record Begun (other : ℕ) (c : StayState) : Type 0 where
     pub child : Stay
-    pub does : m.stays key ≡ None → Does op.Async sit (with_stay (with_stay m sit.key (Some (record s { top = next s.top }))) key (Some child)) (Begins key i.x (innermost here s))
+    pub does : m.stays other ≡ None → Does op.Async sit (with_stay (with_stay m key (Some (record s { top = next s.top }))) other (Some child)) (Begins other i.x (innermost here s))
     pub stands : StandsForStay setting.program assigned x c child
 
   pub begin_moves : (other : ℕ) (c : StayState) (out : Edges) → FitsImage setting.program → IsPlaced setting.program c → i.op ≡ op.Async → Permits op.Async (point_of setting.program function a.top i) h.top.state out

@@ -1,10 +1,9 @@
 -- Stays under their keys: what a step leaves there.
-use Rattle.std.proofs.Common.{◌≡◌, ℕ, Bool, true, false, Some, None, refl, sym, subst, ◌∙◌}
+use Rattle.std.proofs.Common.{◌≡◌, ℕ, Some, None, refl, sym, subst, ◌∙◌}
 use Rattle.std.specs.Prelude.{IsSome}
 use Rattle.slab.specs.Slab.{Slab, get, Updates, ContainsKey, with_value}
 use Rattle.slab.proofs.SlabLemmas.{Updates-with_value}
 use Rattle.x10_place.specs.Stays.{StayState}
-use Rattle.x10_place.proofs.Steps.{kept_if}
 
 contains : (slab : Slab StayState) (key : ℕ) (a : StayState) → get slab key ≡ Some a → ContainsKey slab key
 contains slab key a e = subst (λ o. IsSome o) (sym e) refl
@@ -16,10 +15,3 @@ written slab key a b e = Updates-with_value slab key b (contains slab key a e)
 -- a stay was written, and taken away
 pub removed : (slab new : Slab StayState) (key : ℕ) (a b : StayState) → get slab key ≡ Some a → Updates (with_value slab key b) new key None → Updates slab new key None
 removed slab new key a b e up = record { changed = up.changed; others = λ k ne. up.others k ne ∙ (written slab key a b e).others k ne }
-
--- the stay goes on, or it doesn't
-pub kept_is : (slab new : Slab StayState) (key : ℕ) (b : StayState) (goes : Bool) → goes ≡ true → Updates slab new key (Some b) → Updates slab new key (kept_if goes b)
-kept_is slab new key b goes e up = subst (λ g. Updates slab new key (kept_if g b)) (sym e) up
-
-pub gone_is : (slab new : Slab StayState) (key : ℕ) (b : StayState) (goes : Bool) → goes ≡ false → Updates slab new key None → Updates slab new key (kept_if goes b)
-gone_is slab new key b goes e up = subst (λ g. Updates slab new key (kept_if g b)) (sym e) up

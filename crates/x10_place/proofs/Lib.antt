@@ -19,8 +19,12 @@ pub mod Acting
 pub mod Printing
 pub mod Calls
 pub mod Ends
+pub mod Recounting
 pub mod Going
+pub mod Registering
+pub mod Booking
 pub mod Steps
 pub mod Keeping
 pub mod Striding
+pub mod Advancing
 pub mod Openings

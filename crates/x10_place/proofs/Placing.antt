@@ -58,7 +58,7 @@ is_begin op.Async e = refl
 is_begin _ e = absurd cc
 
 -- the routes of operations that leave as many finishes open
-stays_in : Route → Type 0
+abbrev pub stays_in : Route → Type 0
 stays_in route.OpenFinish = ⊥
 stays_in route.CloseFinish = ⊥
 stays_in _ = Unit {0}

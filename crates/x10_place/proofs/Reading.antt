@@ -35,11 +35,13 @@ use Rattle.x10_place.specs.Frames as frames
 use Rattle.x10_place.specs.Frames.{IsFetchedFor, NamesField, ReadsMake, ReadsAt, NamesObject, word_at, home_of, id_of}
 use Rattle.x10_place.specs.Routes.{route_of}
 use Rattle.x10_place.specs.Homes.{place_in}
-use Rattle.x10_place.specs.Stays.{StayState, Location, ReadsHeap}
-use Rattle.x10_place.specs.StandsFor.{context, Assigned, StandsForFrame, IsTyped, IsTypedFrame}
+use Rattle.x10_finish.specs.Nesting.{nth}
+use Rattle.x10_place.specs.Stays.{StayState, StoreState, Location, HasFinish, ReadsStore}
+use Rattle.x10_place.specs.StandsFor.{context, Assigned, StandsForFrame, IsTyped, IsTypedFrame, IsWorking}
 use Rattle.x10_place.proofs.Maps.{some_is}
 use Rattle.x10_place.proofs.Words.{reads}
 use Rattle.x10_place.proofs.Framed.{point_of, is_instr, in_range, small, rule}
+use Rattle.x10_place.proofs.Placing.{IsChecked, is_close_finish, some_open}
 use Rattle.x10_place.proofs.Objects.{object_at, field_there}
 
 module _ (program : Module) (assigned : Assigned program) (x : Context) (same_classes : x.classes ≡ program.classes) (cells : Cells) (holds : HoldsHeap x cells) (few : x.places ≤ 64) (f : CallFrame) (c : machine.CallFrame) (h : StandsForFrame program assigned x f c) (i : Instr) (fetched : IsFetchedFor program f i) where
@@ -168,22 +170,31 @@ module _ (program : Module) (assigned : Assigned program) (x : Context) (same_cl
   export_reads r = let at = rule program assigned x f c h i fetched in export_by i.op at.0 at.1 r
 
 -- what the step of a stay reads
-module _ (at : Location) (heap : HeapState) (a : StayState) (t : IsTyped at heap a) (i : Instr) (fetched : IsFetchedFor at.program a.top i) where
-  abbrev x : Context
-  x = context (record { program = at.program; places = at.places }) at.here heap t.far
+module _ (at : Location) (s : StoreState) (a : StayState) (w : IsWorking at s a) (checks : IsChecked at.program) (i : Instr) (fetched : IsFetchedFor at.program a.top i) where
+  abbrev t : IsTyped at s.heap a
+  t = w.typed
 
-  by_route : (r : Route) → route_of i.op ≡ r → ReadsHeap r at a heap i
+  abbrev x : Context
+  x = context (record { program = at.program; places = at.places }) at.here s.heap t.far
+
+  has_finish : i.op ≡ op.Fine → HasFinish a s
+  has_finish e = let open_one = some_open at.program checks a i t.stands.placed fetched e in (open_one.0, open_one.1, open_one.2, (w.registered.are_open 0 open_one.0 (ap (λ ns. nth ns 0) open_one.2)).0)
+
+  by_route : (r : Route) → route_of i.op ≡ r → ReadsStore r at a s i
   by_route (route.Local l) e = local_reads at.program t.assigned x refl t.cells t.holds t.site.few a.top t.stay.top t.stands.top i fetched l e
   by_route (route.Make k) e = make_reads at.program t.assigned x refl t.cells t.holds t.site.few a.top t.stay.top t.stands.top i fetched k e
   by_route (route.Site k) e = site_reads at.program t.assigned x refl t.cells t.holds t.site.few a.top t.stay.top t.stands.top i fetched k e
   by_route route.Export e = export_reads at.program t.assigned x refl t.cells t.holds t.site.few a.top t.stay.top t.stands.top i fetched e
   by_route route.Print e = prints_there at.program t.assigned x refl t.cells t.holds t.site.few a.top t.stay.top t.stands.top i fetched
   by_route route.Call e = tt
-  by_route route.Return e = tt
+  by_route route.Return e = w.registered.live
+  by_route route.OpenFinish e = tt
+  by_route route.CloseFinish e = has_finish (is_close_finish i.op e)
+  by_route route.Begin e = tt
   by_route route.Later e = tt
 
-  pub typed_reads : ReadsHeap (route_of i.op) at a heap i
-  typed_reads = by_route (route_of i.op) refl
+  pub working_reads : ReadsStore (route_of i.op) at a s i
+  working_reads = by_route (route_of i.op) refl
 
 pub frame_reads : (program : Module) (heap : HeapState) (f : CallFrame) → IsTypedFrame program heap f → (i : Instr) → IsFetchedFor program f i → (l : Local) → route_of i.op ≡ route.Local l → frames.Reads l heap f.registers.items i
 frame_reads program heap f t i fetched l r = local_reads program t.assigned (context (record { program = program; places = t.places }) t.here heap t.far) refl t.cells t.holds t.site.few f t.frame t.stands i fetched l r

@@ -1,5 +1,5 @@
 -- What moves change of what a place counts and keeps of finishes.
-use Rattle.std.proofs.Common.{◌≡◌, ◌⊎◌, ℕ, ◌+◌, ◌-◌, ◌≤◌, ◌==◌, ◌&&◌, Bool, true, false, not, Option, Some, None, refl, sym, ap, subst, ◌∙◌, inl, inr, arith}
+use Rattle.std.proofs.Common.{◌≡◌, ◌⊎◌, ℕ, ◌+◌, ◌-◌, ◌≤◌, ◌==◌, ◌&&◌, Bool, true, false, not, Option, Some, None, refl, sym, ap, ap₂, subst, ◌∙◌, inl, inr, arith}
 use Rattle.std.specs.Prelude.{if◌then◌else◌}
 use Rattle.std.proofs.lemmas.Bool.{eqb-true, eq-eqb}
 use Rattle.x10_model.specs.Maps.{with_entry}
@@ -26,10 +26,10 @@ pub record IsSameCount (s t : StoreState) : Type 0 where
 pub same_count : (s : StoreState) → IsSameCount s s
 same_count s = record { here = refl; places = refl; ledger = refl; books = refl; opened = refl }
 
-totals_same : (s t : StoreState) → IsSameCount s t → (f : Finish) → totals_in t f ≡ totals_in s f
+pub totals_same : (s t : StoreState) → IsSameCount s t → (f : Finish) → totals_in t f ≡ totals_in s f
 totals_same s t h f = ap (λ l. totals_in (record s { ledger = l }) f) h.ledger
 
-books_same : (s t : StoreState) → IsSameCount s t → (n : ℕ) → books_in t n ≡ books_in s n
+pub books_same : (s t : StoreState) → IsSameCount s t → (n : ℕ) → books_in t n ≡ books_in s n
 books_same s t h n = ap (λ bs. books_in (record s { books = bs }) n) h.books
 
 pub works_count : (s t : StoreState) → IsSameCount s t → IsCountedBy s Works t
@@ -64,11 +64,11 @@ opens_count s t inside unopened h = record {
   unreported = λ f. refl;
 }
 
-if_false : {A : Type 0} (b : Bool) (x y : A) → b ≡ false → (if b then x else y) ≡ y
+pub if_false : {A : Type 0} (b : Bool) (x y : A) → b ≡ false → (if b then x else y) ≡ y
 if_false true x y e = absurd cc
 if_false false x y e = refl
 
-if_true : {A : Type 0} (b : Bool) (x y : A) → b ≡ true → (if b then x else y) ≡ x
+pub if_true : {A : Type 0} (b : Bool) (x y : A) → b ≡ true → (if b then x else y) ≡ x
 if_true true x y e = refl
 if_true false x y e = absurd cc
 
@@ -125,3 +125,40 @@ ends_count s t under home h = record {
   silent = refl;
   unreported = λ f. none_home s.here f under (totals_in s f) home (same_finish f under) refl;
 }
+
+-- ---- books
+
+-- what a move changes of the books and of how many finishes were opened
+abbrev pub KeepsBooks : Effect → StoreState → StoreState → Type 0
+KeepsBooks (Opens number inside) s t = (number ≡ s.opened) × (t.opened ≡ s.opened + 1) × ((k : ℕ) → books_in t k ≡ with_entry (books_in s) number (Some (λ p. zeros)) k)
+KeepsBooks (Closes number) s t = (t.opened ≡ s.opened) × ((k : ℕ) → books_in t k ≡ with_entry (books_in s) number None k)
+KeepsBooks _ s t = (t.opened ≡ s.opened) × ((k : ℕ) → books_in t k ≡ books_in s k)
+
+pub works_books : (s t : StoreState) → IsSameCount s t → KeepsBooks Works s t
+works_books s t h = (h.opened, books_same s t h)
+
+-- the heap alone has changed
+pub heap_alone : (s t : StoreState) → t ≡ record s { heap = t.heap } → IsSameCount s t
+heap_alone s t e = record {
+  here = ap (λ (q : StoreState). q.here) e;
+  places = ap (λ (q : StoreState). q.places) e;
+  ledger = ap (λ (q : StoreState). q.ledger) e;
+  books = ap (λ (q : StoreState). q.books) e;
+  opened = ap (λ (q : StoreState). q.opened) e;
+}
+
+-- under the finish that a move closes nothing lives, before and after
+pub closed_none : (s t : StoreState) (effect : Effect) → IsCountedBy s effect t → (f : Finish) → closes s.here effect f ≡ true → ((totals_in s f).live ≡ 0) × ((totals_in t f).live ≡ 0)
+closed_none s t (Closes number) h f e =
+    let same : f ≡ finish_at s.here number = finish_is (f.home == s.here) refl e in
+    let done = h.done number refl in
+    subst (λ g. ((totals_in s g).live ≡ 0) × ((totals_in t g).live ≡ 0)) (sym same) (done.0.0, ap (λ (u : Totals). u.live) done.1)
+  where
+    finish_is : (c : Bool) → (f.home == s.here) ≡ c → (if c then f.number == number else false) ≡ true → f ≡ finish_at s.here number
+    finish_is true is g = ap₂ (λ m n. finish_at m n) (eqb-true f.home s.here is) (eqb-true f.number number g)
+    finish_is false is g = absurd cc
+closed_none s t _ h f e = absurd cc
+
+-- the same, where place and number of places are written as they were
+pub counted_in : (s t : StoreState) (effect : Effect) → IsCountedBy s effect t → IsCountedBy s effect (record t { here = s.here; places = s.places })
+counted_in s t effect h = record { here = refl; places = refl; totals = h.totals; kept = h.kept; done = h.done; silent = h.silent; unreported = h.unreported }

@@ -1,89 +1,99 @@
 -- A step of a place is a move of each place of the machine that it stands for.
-use Rattle.std.proofs.Common.{◌≡◌, ◌⊎◌, ℕ, Bool, true, false, Option, Some, None, refl, sym, ap, subst, ◌∙◌, inl, inr}
-use Rattle.std.specs.Prelude.{slice_get, if◌then◌else◌}
+use Rattle.std.proofs.Common.{◌≡◌, ◌⊎◌, ℕ, ◌+◌, Option, Some, None, refl, sym, ap, ap₂, subst, ◌∙◌, inl, inr}
+use Rattle.std.specs.Prelude.{map, slice_get}
 use Rattle.slab.specs.Slab.{Slab, get, Updates}
-use Rattle.x10_code.specs.declared.op.Op.{Op}
+use Rattle.x10_code.specs.declared.op.Op.TheVariants as op
 use Rattle.x10_code.specs.declared.instr.Instr.{Instr}
 use Rattle.x10_model.specs.Maps.{with_entry}
-use Rattle.x10_model.specs.Modules.{Module, FitsImage}
+use Rattle.x10_model.specs.Modules.{Module}
 use Rattle.x10_model.specs.Ranges.{function_at}
 use Rattle.x10_model.specs.Places as machine
-use Rattle.x10_model.specs.Places.{Setting, Stay, Effect, Works, Ends, root, with_stay}
+use Rattle.x10_model.specs.Places.{Setting, Finish, Stay, innermost, innermost_of, Effect, Waits, Begins, Ends, with_stay, next}
 use Rattle.x10_model.specs.Moves.{Does, Moves}
 use Rattle.x10_model.specs.Assignments.{Permits}
-use Rattle.x10_heap.specs.Words.{Context}
+use Rattle.x10_model.specs.Totals.{begins_one, ends_one}
+use Rattle.x10_finish.specs.Stays.{MovesStay}
+use Rattle.x10_finish.specs.Watching.{IsTallied}
+use Rattle.x10_finish.proofs.Stays.{stays_change}
+use Rattle.x10_finish.proofs.Tallied.{moved_tallied}
+use Rattle.x10_heap.specs.Words.{Context, HoldsHeap}
+use Rattle.x10_heap.proofs.Growing.{Grows, grows_not}
+use Rattle.x10_place.specs.declared.place.Stepped.TheVariants as stepped
 use Rattle.x10_place.specs.declared.route.Route.{Route}
 use Rattle.x10_place.specs.declared.route.Route.TheVariants as route
+use Rattle.x10_place.specs.declared.stay.Outcome.TheVariants as outcome
 use Rattle.x10_place.specs.Frames.{IsFetchedFor}
 use Rattle.x10_place.specs.Routes.{route_of}
-use Rattle.x10_place.specs.Stays.{StayState, StoreState, Steps}
-use Rattle.x10_place.specs.StandsFor.{Far, context, context_of, PlaceState, store_of, with_stays, Assigned, StandsForStay, StandsFor, setting_of, location_of, Leads, LeadsAll}
-use Rattle.x10_place.proofs.Maps.{some_is, at_key, off_key, same_or_not, none_some}
+use Rattle.x10_place.specs.Stays.{StayState, StoreState, totals_in, books_in, changed_at, innermost_at, Recounts, EndsStay, WaitsAtFinish, Steps}
+use Rattle.x10_place.specs.StandsFor.{Far, context, context_of, PlaceState, store_of, with_stays, line_as, Assigned, StandsForStay, StandForCallers, IsAtHome, HoldsExports, StandsFor, setting_of, location_of, IsCountedBy, Leads, LeadsAll}
+use Rattle.x10_place.specs.Stretches.{BeginsAt}
+use Rattle.x10_place.proofs.Maps.{some_is, at_key, off_key, same_or_not}
 use Rattle.x10_place.proofs.Framed.{point_of, is_instr, in_range, rule}
-use Rattle.x10_place.proofs.Growing.{stay_kept}
+use Rattle.x10_place.proofs.Growing.{stay_kept, callers_kept}
 use Rattle.x10_place.proofs.Local.{situated}
-use Rattle.x10_place.proofs.Ends.{ret_ends}
+use Rattle.x10_place.proofs.Calls.{begin_moves}
+use Rattle.x10_place.proofs.Ends.{ret_ends, next_stands}
 use Rattle.x10_place.proofs.Going.{Goes, stay_goes}
-use Rattle.x10_place.proofs.Placing.{is_return}
+use Rattle.x10_place.proofs.Placing.{IsChecked, is_return, is_close_finish, is_begin, none_open, next_placed, begun_placed}
+use Rattle.x10_place.proofs.Booking.{moved_booked}
+use Rattle.x10_place.proofs.Recounting.{KeepsBooks, closed_none, counted_in, waits_count, begins_count, ends_count}
 
 -- ---- the whole place
 
--- a stay of the machine that a stay of the program stands for
-abbrev pub StandsAt : (program : Module) → Assigned program → Context → StayState → Option Stay → Type 0
-StandsAt program assigned x a stay = (s : Stay) × (stay ≡ Some s) × StandsForStay program assigned x a s
+-- a stay of the program, or none, stands for what the machine has under the same key
+abbrev pub Keyed : (program : Module) → Assigned program → Context → Option StayState → Option Stay → Type 0
+Keyed program assigned x None o = o ≡ None
+Keyed program assigned x (Some a) o = (s : Stay) × (o ≡ Some s) × StandsForStay program assigned x a s
 
-module _ (far : Far) (p : PlaceState) (m : machine.Place) (h : StandsFor far p m) (key : ℕ) (slab : Slab StayState) where
-  abbrev after : StoreState → Context
-  after t = context (setting_of p) p.id t.heap far
+keyed_none : (program : Module) (assigned : Assigned program) (x : Context) (o : Option StayState) (s : Option Stay) → Keyed program assigned x o s → o ≡ None → s ≡ None
+keyed_none program assigned x o s h e = subst (λ q. Keyed program assigned x q s) e h
 
-  -- one stay goes on alike, and all others are kept
-  changed : (a : StayState) (s : Stay) (is : StandsForStay p.program h.assigned (context_of far p) a s) (i : Instr) (fetched : IsFetchedFor p.program a.top i) (o : Op) (b : StayState) (t : StoreState)
-      → (to : Goes (setting_of p) p.id far m key s h.assigned (store_of p) h.heap h.exports h.site a is i fetched o b t) → Updates p.stays slab key (Some b) → StandsFor far (with_stays p slab t) (with_stay to.base key (Some to.stay))
-  changed a s is i fetched o b t to up = record {
-    assigned = h.assigned;
-    none = λ k e. none_at k e (same_or_not k key);
-    some = λ k c e. some_at k c e (same_or_not k key);
-    site = h.site;
-    heap = to.holds;
-    exports = to.now_exported;
-    opened = to.opened ∙ h.opened ∙ sym to.same_opened;
-    lines = to.lines h.lines;
-  }
-    where
-      none_at : (k : ℕ) → get slab k ≡ None → (k ≡ key) ⊎ (k ≡ key → ⊥) → with_entry to.base.stays key (Some to.stay) k ≡ None
-      none_at k e (inl same) = absurd (none_some (get slab k) b e (subst (λ q. get slab q ≡ Some b) (sym same) up.changed))
-      none_at k e (inr ne) = off_key to.base.stays key (Some to.stay) k ne ∙ subst (λ (f : ℕ → Option Stay). f k ≡ None) (sym to.stays) (h.none k (sym (up.others k ne) ∙ e))
+keyed_some : (program : Module) (assigned : Assigned program) (x : Context) (o : Option StayState) (s : Option Stay) (a : StayState) → Keyed program assigned x o s → o ≡ Some a → (t : Stay) × (s ≡ Some t) × StandsForStay program assigned x a t
+keyed_some program assigned x o s a h e = subst (λ q. Keyed program assigned x q s) e h
 
-      some_at : (k : ℕ) (c : StayState) → get slab k ≡ Some c → (k ≡ key) ⊎ (k ≡ key → ⊥) → StandsAt p.program h.assigned (after t) c (with_entry to.base.stays key (Some to.stay) k)
-      some_at k c e (inl same) =
-          let b_is : b ≡ c = some_is b c (sym (subst (λ q. get slab q ≡ Some b) (sym same) up.changed) ∙ e) in
-          (to.stay, subst (λ q. with_entry to.base.stays key (Some to.stay) q ≡ Some to.stay) (sym same) (at_key to.base.stays key (Some to.stay)), subst (λ d. StandsForStay p.program h.assigned (after t) d to.stay) b_is to.stands)
-      some_at k c e (inr ne) =
-          let was = h.some k c (sym (up.others k ne) ∙ e) in
-          (was.0, off_key to.base.stays key (Some to.stay) k ne ∙ subst (λ (f : ℕ → Option Stay). f k ≡ Some was.0) (sym to.stays) was.1, stay_kept (context_of far p) (after t) to.grows p.program h.assigned c was.0 was.2)
+keyed_kept : (x y : Context) (grows : Grows x y) (program : Module) (assigned : Assigned program) (o : Option StayState) (s : Option Stay) → Keyed program assigned x o s → Keyed program assigned y o s
+keyed_kept x y grows program assigned None s h = h
+keyed_kept x y grows program assigned (Some a) s h = (h.0, h.1, stay_kept x y grows program assigned a h.0 h.2)
 
-  -- one stay ended alike
-  ended : Updates p.stays slab key None → StandsFor far (with_stays p slab (store_of p)) (with_stay m key None)
-  ended up = record {
-    assigned = h.assigned;
-    none = λ k e. none_at k e (same_or_not k key);
-    some = λ k b e. some_at k b e (same_or_not k key);
-    site = h.site;
-    heap = h.heap;
-    exports = h.exports;
-    opened = h.opened;
-    lines = h.lines;
-  }
-    where
-      none_at : (k : ℕ) → get slab k ≡ None → (k ≡ key) ⊎ (k ≡ key → ⊥) → with_entry m.stays key None k ≡ None
-      none_at k e (inl same) = subst (λ q. with_entry m.stays key None q ≡ None) (sym same) (at_key m.stays key None)
-      none_at k e (inr ne) = off_key m.stays key None k ne ∙ h.none k (sym (up.others k ne) ∙ e)
+module _ (far : Far) (p : PlaceState) (m : machine.Place) (h : StandsFor far p m) where
+  -- what the machine has under each key
+  keyed_of : (k : ℕ) (o : Option StayState) → get p.stays k ≡ o → Keyed p.program h.assigned (context_of far p) o (m.stays k)
+  keyed_of k None e = h.none k e
+  keyed_of k (Some a) e = h.some k a e
 
-      some_at : (k : ℕ) (b : StayState) → get slab k ≡ Some b → (k ≡ key) ⊎ (k ≡ key → ⊥) → StandsAt p.program h.assigned (context_of far p) b (with_entry m.stays key None k)
-      some_at k b e (inl same) = absurd (none_some (get slab k) b (subst (λ q. get slab q ≡ None) (sym same) up.changed) e)
-      some_at k b e (inr ne) =
-          let was = h.some k b (sym (up.others k ne) ∙ e) in
-          (was.0, off_key m.stays key None k ne ∙ was.1, was.2)
+  pub keyed : (k : ℕ) → Keyed p.program h.assigned (context_of far p) (get p.stays k) (m.stays k)
+  keyed k = keyed_of k (get p.stays k) refl
+
+  module _ (slab : Slab StayState) (t : StoreState) where
+    abbrev after : Context
+    after = context (setting_of p) p.id t.heap far
+
+    -- a place whose stays stand key by key, after a move with an effect
+    rebuilt : (key : ℕ) (new : machine.Place) (effect : Effect) → Moves (setting_of p) p.id m key new effect → ((k : ℕ) → Keyed p.program h.assigned after (get slab k) (new.stays k)) → HoldsHeap after new.cells → HoldsExports t.heap new.exports
+        → new.opened ≡ t.opened → new.lines ≡ map line_as t.lines → IsCountedBy (store_of p) effect t → KeepsBooks effect (store_of p) t → StandsFor far (with_stays p slab t) new
+    rebuilt key new effect moves at holds exports opened lines counted books =
+        let changes = stays_change (setting_of p) p.id key m new effect moves in
+        record {
+          assigned = h.assigned;
+          none = λ k e. keyed_none p.program h.assigned after (get slab k) (new.stays k) (at k) e;
+          some = λ k a e. keyed_some p.program h.assigned after (get slab k) (new.stays k) a (at k) e;
+          site = h.site;
+          heap = holds;
+          exports = exports;
+          opened = opened;
+          lines = lines;
+          tallied = moved_tallied p.id key m new effect (totals_in (store_of p)) (totals_in t) h.tallied changes counted.totals (closed_none (store_of p) t effect counted);
+          booked = moved_booked p.id key m new effect (store_of p) t h.booked changes books;
+        }
+
+    -- the stays under the keys after one of them changed
+    keyed_one : (key : ℕ) (a : Option StayState) (s : Option Stay) (stays : ℕ → Option Stay) → stays ≡ m.stays → Grows (context_of far p) after → Updates p.stays slab key a → Keyed p.program h.assigned after a s → (k : ℕ) → Keyed p.program h.assigned after (get slab k) (with_entry stays key s k)
+    keyed_one key a s stays same grows up one k = elim (same_or_not k key) [
+      | inl e ↦ subst (λ q. Keyed p.program h.assigned after (get slab q) (with_entry stays key s q)) (sym e)
+          (subst (λ o. Keyed p.program h.assigned after o (with_entry stays key s key)) (sym up.changed) (subst (λ o. Keyed p.program h.assigned after a o) (sym (at_key stays key s)) one))
+      | inr ne ↦ subst (λ o. Keyed p.program h.assigned after o (with_entry stays key s k)) (sym (up.others k ne))
+          (subst (λ o. Keyed p.program h.assigned after (get p.stays k) o) (sym (off_key stays key s k ne ∙ ap (λ (f : ℕ → Option Stay). f k) same)) (keyed_kept (context_of far p) after grows p.program h.assigned (get p.stays k) (m.stays k) (keyed k)))
+    ]
 
 -- ---- moves
 
@@ -101,57 +111,183 @@ moves setting here far m key assigned st a s h i fetched new effect there does =
   does = does;
 }
 
--- the slab after a step: with the stay as it is now, or without it
-abbrev pub kept_if : Bool → StayState → Option StayState
-kept_if goes b = if goes then Some b else None
-
-module _ (far : Far) (p : PlaceState) (m : machine.Place) (stands : StandsFor far p m) (key : ℕ) (slab : Slab StayState) (a : StayState) (s : Stay) (is : m.stays key ≡ Some s) (h : StandsForStay p.program stands.assigned (context_of far p) a s) (i : Instr) (fetched : IsFetchedFor p.program a.top i) (image : FitsImage p.program) (b : StayState) (t : StoreState) where
-  abbrev Led : Type 0
-  Led = (effect : Effect) × Leads far p m key effect (with_stays p slab t)
-
+module _ (far : Far) (p : PlaceState) (m : machine.Place) (stands : StandsFor far p m) (key : ℕ) (a : StayState) (s : Stay) (is : m.stays key ≡ Some s) (h : StandsForStay p.program stands.assigned (context_of far p) a s) (i : Instr) (fetched : IsFetchedFor p.program a.top i) (checks : IsChecked p.program) where
   -- the stay goes on
-  leads_on : Steps (route_of i.op) (location_of p) a (store_of p) i true b t → Updates p.stays slab key (Some b) → Led
-  leads_on steps up =
-      let to = stay_goes (setting_of p) p.id far m key s stands.assigned (store_of p) stands.heap stands.exports stands.site a h i fetched image b t steps in (
-        Works,
-        (
-          with_stay to.base key (Some to.stay),
-          moves (setting_of p) p.id far m key stands.assigned (store_of p) a s h i fetched (with_stay to.base key (Some to.stay)) Works is to.does,
-          changed far p m stands key slab a s h i fetched i.op b t to up,
-        ),
-      )
+  leads_on : (slab : Slab StayState) (b : StayState) (t : StoreState) → Steps (route_of i.op) (location_of p) a (store_of p) i outcome.Goes b t → Updates p.stays slab key (Some b) → Leads far p m key stepped.Moved (with_stays p slab t)
+  leads_on slab b t steps up =
+      let to = stay_goes (setting_of p) p.id far m key s stands.assigned (store_of p) stands.heap stands.exports stands.site stands.opened refl a h i fetched checks b t steps in
+      let new = with_stay to.base key (Some to.stay) in
+      let moved = moves (setting_of p) p.id far m key stands.assigned (store_of p) a s h i fetched new to.effect is to.does in
+      let counted = to.counted stands.booked.unopened in
+      record {
+        effect = to.effect;
+        new = new;
+        moves = moved;
+        stands = rebuilt far p m stands slab t key new to.effect moved (keyed_one far p m stands slab t key (Some b) (Some to.stay) to.base.stays to.stays to.grows up (to.stay, refl, to.stands)) to.holds to.now_exported to.opened (to.lines stands.lines) counted to.booked;
+        counted = counted_in (store_of p) t to.effect counted;
+        answers = to.works;
+      }
+
+  -- the stay waits at the end of a finish
+  leads_waiting : (b : StayState) (t : StoreState) → route_of i.op ≡ route.CloseFinish → WaitsAtFinish a (store_of p) b t → Leads far p m key stepped.Idle p
+  leads_waiting b t e waits = record {
+    effect = Waits waits.number;
+    new = m;
+    moves = moves (setting_of p) p.id far m key stands.assigned (store_of p) a s h i fetched m (Waits waits.number) is
+        (subst (λ q. Does q (situated (setting_of p) p.id m key s h.top.function i) m (Waits waits.number)) (sym (is_close_finish i.op e)) (waits.number, waits.outer, h.finishes ∙ waits.innermost, inl (refl, refl)));
+    stands = stands;
+    counted = waits_count (store_of p) waits.number;
+    answers = (waits.number, refl);
+  }
 
   -- the stay ends
-  leads_off : (r : Route) → route_of i.op ≡ r → Steps r (location_of p) a (store_of p) i false b t → Updates p.stays slab key None → Led
-  leads_off (route.Local l) e steps up = absurd (let f = steps.0 in cc)
-  leads_off (route.Make m) e steps up = absurd (let f = steps.0 in cc)
-  leads_off (route.Site k) e steps up = absurd (let f = steps.0 in cc)
-  leads_off route.Export e steps up = absurd (let f = steps.0 in cc)
-  leads_off route.Call e steps up = absurd (let f = steps.0 in cc)
-  leads_off route.Print e steps up = absurd (let f = steps.0 in cc)
-  leads_off route.Later e steps up = absurd steps
-  leads_off route.Return e steps up =
+  leads_off : (slab : Slab StayState) (t : StoreState) → route_of i.op ≡ route.Return → EndsStay a (store_of p) t → Updates p.stays slab key None → Leads far p m key stepped.Moved (with_stays p slab t)
+  leads_off slab t e ends up =
       let ret = is_return i.op e in
       let at = rule p.program stands.assigned (context_of far p) a.top s.top h.top i fetched in
       let permits = subst (λ q. Permits q (point_of p.program h.top.function a.top i) h.top.state at.0) ret at.1 in
-      subst (λ st. (effect : Effect) × Leads far p m key effect (with_stays p slab st)) (sym steps.1) (
-        Ends root None,
-        (
-          with_stay m key None,
-          moves (setting_of p) p.id far m key stands.assigned (store_of p) a s h i fetched (with_stay m key None) (Ends root None) is
-              (subst (λ q. Does q (situated (setting_of p) p.id m key s h.top.function i) (with_stay m key None) (Ends root None)) (sym ret)
-              (ret_ends (setting_of p) p.id far m key s stands.assigned p.heap stands.heap stands.site.few a h i fetched at.0 ret permits steps.0)),
-          ended far p m stands key slab up,
-        ),
-      )
+      let new = with_stay m key None in
+      let r = ends.store in
+      let counted = subst (λ f. IsCountedBy (store_of p) (Ends f None) t) (sym h.inherited) (ends_count (store_of p) t a.inherited h.home.inherited r) in
+      let moved = moves (setting_of p) p.id far m key stands.assigned (store_of p) a s h i fetched new (Ends s.inherited None) is
+          (subst (λ q. Does q (situated (setting_of p) p.id m key s h.top.function i) new (Ends s.inherited None)) (sym ret)
+          (ret_ends (setting_of p) p.id far m key s stands.assigned p.heap stands.heap stands.site.few a h i fetched at.0 ret permits ends.callers (none_open p.program checks a i h.placed fetched ret ends.callers))) in
+      let grows = subst (λ n. Grows (context_of far p) (context (setting_of p) p.id n far)) (sym r.heap) (grows_not (context_of far p)) in
+      record {
+        effect = Ends s.inherited None;
+        new = new;
+        moves = moved;
+        stands = rebuilt far p m stands slab t key new (Ends s.inherited None) moved (keyed_one far p m stands slab t key None None m.stays refl grows up refl)
+            (subst (λ n. HoldsHeap (context (setting_of p) p.id n far) m.cells) (sym r.heap) stands.heap) (subst (λ n. HoldsExports n m.exports) (sym r.heap) stands.exports)
+            (stands.opened ∙ sym r.opened_is) (stands.lines ∙ sym (ap (λ ls. map line_as ls) r.lines)) counted (r.opened_is, r.books_are);
+        counted = counted_in (store_of p) t (Ends s.inherited None) counted;
+        answers = λ n f. absurd cc;
+      }
 
-  leads : (goes : Bool) → Steps (route_of i.op) (location_of p) a (store_of p) i goes b t → Updates p.stays slab key (kept_if goes b) → Led
-  leads true steps up = leads_on steps up
-  leads false steps up = leads_off (route_of i.op) refl steps up
+-- an activity begins
+module _ (far : Far) (p : PlaceState) (m : machine.Place) (stands : StandsFor far p m) (key : ℕ) (slab : Slab StayState) (t : StoreState) (checks : IsChecked p.program) (begins : BeginsAt p.program p.stays (store_of p) key slab t) where
+  abbrev later : Context
+  later = context (setting_of p) p.id t.heap far
 
--- a step of the stay under a key
-pub step_leads : (p : PlaceState) (key : ℕ) (slab : Slab StayState) (t : StoreState) (a b : StayState) (goes : Bool) (i : Instr) → get p.stays key ≡ Some a → FitsImage p.program → IsFetchedFor p.program a.top i
-    → Steps (route_of i.op) (location_of p) a (store_of p) i goes b t → Updates p.stays slab key (kept_if goes b) → LeadsAll p key (with_stays p slab t)
-step_leads p key slab t a b goes i e image fetched steps up far m stands =
-    let found = stands.some key a e in
-    leads far p m stands key slab a found.0 found.1 found.2 i fetched image b t goes steps up
+  pub leads_begin : Leads far p m key stepped.Moved (with_stays p slab t)
+  leads_begin =
+      let a : StayState = begins.stay in
+      let b : StayState = begins.next in
+      let i : Instr = begins.instr in
+      let found = stands.some key a begins.is_there in
+      let s : Stay = found.0 in
+      let h : StandsForStay p.program stands.assigned (context_of far p) a s = found.2 in
+      let r = begins.store in
+      let at = rule p.program stands.assigned (context_of far p) a.top s.top h.top i begins.fetched in
+      let permits = subst (λ q. Permits q (point_of p.program h.top.function a.top i) h.top.state at.0) begins.is_async at.1 in
+      let child = begin_moves (setting_of p) p.id far m key s stands.assigned p.heap stands.heap a h i begins.fetched begins.other begins.child at.0 checks.fits (begun_placed p.program a.top.registers.items i (innermost_at p.id a) begins.child checks.fits begins.begun) begins.is_async permits begins.begun in
+      let to : Stay = record s { top = next s.top } in
+      let new = with_stay (with_stay m key (Some to)) begins.other (Some child.child) in
+      let free : m.stays begins.other ≡ None = stands.none begins.other begins.free in
+      let effect : Effect = Begins begins.other i.x (innermost p.id s) in
+      let under : innermost p.id s ≡ innermost_at p.id a = ap₂ (λ f ns. innermost_of p.id f ns) h.inherited h.finishes in
+      let moved = moves (setting_of p) p.id far m key stands.assigned (store_of p) a s h i begins.fetched new effect found.1
+          (subst (λ q. Does q (situated (setting_of p) p.id m key s h.top.function i) new effect) (sym begins.is_async) (child.does free)) in
+      let counted = subst (λ f. IsCountedBy (store_of p) (Begins begins.other i.x f) t) (sym under) (begins_count (store_of p) t begins.other i.x (innermost_at p.id a) r) in
+      let stay : StandsForStay p.program stands.assigned (context_of far p) b to = record {
+        placed = next_placed p.program checks a b i h.placed begins.fetched begins.is_async begins.goes begins.rest;
+        top = next_stands (setting_of p) p.id far m key s stands.assigned p.heap stands.heap stands.site.few a h i begins.fetched b at.0 permits.3 at.2 begins.goes;
+        callers = subst (λ fs. StandForCallers p.program stands.assigned (context_of far p) fs s.callers) (sym (ap (λ (q : StayState). q.callers) begins.rest)) h.callers;
+        finishes = h.finishes ∙ ap (λ (q : StayState). q.finishes) (sym begins.rest);
+        inherited = h.inherited ∙ ap (λ (q : StayState). q.inherited) (sym begins.rest);
+        away = h.away ∙ ap (λ (q : StayState). q.away) (sym begins.rest);
+        back = h.back ∙ ap (λ (q : StayState). q.back) (sym begins.rest);
+        home = subst (λ (q : StayState). IsAtHome p.id q) (sym begins.rest) (record { inherited = h.home.inherited; away = h.home.away; back = h.home.back });
+      } in
+      record {
+        effect = effect;
+        new = new;
+        moves = moved;
+        stands = rebuilt far p m stands slab t key new effect moved (λ k. keyed_two s to child.child (to, refl, stay_on b to stay) (child.child, refl, stay_on begins.child child.child child.stands) k)
+            (subst (λ n. HoldsHeap (context (setting_of p) p.id n far) m.cells) (sym r.heap) stands.heap) (subst (λ n. HoldsExports n m.exports) (sym r.heap) stands.exports)
+            (stands.opened ∙ sym r.opened_is) (stands.lines ∙ sym (ap (λ ls. map line_as ls) r.lines)) counted (r.opened_is, r.books_are);
+        counted = counted_in (store_of p) t effect counted;
+        answers = λ n f. absurd cc;
+      }
+    where
+      -- the heap is as it was
+      stay_on : (c : StayState) (u : Stay) → StandsForStay p.program stands.assigned (context_of far p) c u → StandsForStay p.program stands.assigned later c u
+      stay_on c u = subst (λ n. StandsForStay p.program stands.assigned (context (setting_of p) p.id n far) c u) (sym begins.store.heap)
+
+      keyed_on : (o : Option StayState) (u : Option Stay) → Keyed p.program stands.assigned (context_of far p) o u → Keyed p.program stands.assigned later o u
+      keyed_on o u = subst (λ n. Keyed p.program stands.assigned (context (setting_of p) p.id n far) o u) (sym begins.store.heap)
+
+      keyed_two : (s to child : Stay) → Keyed p.program stands.assigned later (Some begins.next) (Some to) → Keyed p.program stands.assigned later (Some begins.child) (Some child) → (k : ℕ)
+          → Keyed p.program stands.assigned later (get slab k) (with_entry (with_entry m.stays key (Some to)) begins.other (Some child) k)
+      keyed_two s to child first second k = elim (same_or_not k begins.other) [
+        | inl e ↦ subst (λ q. Keyed p.program stands.assigned later (get slab q) (with_entry (with_entry m.stays key (Some to)) begins.other (Some child) q)) (sym e)
+            (subst (λ o. Keyed p.program stands.assigned later o (with_entry (with_entry m.stays key (Some to)) begins.other (Some child) begins.other)) (sym begins.now_child)
+            (subst (λ o. Keyed p.program stands.assigned later (Some begins.child) o) (sym (at_key (with_entry m.stays key (Some to)) begins.other (Some child))) second))
+        | inr ne ↦ subst (λ o. Keyed p.program stands.assigned later (get slab k) o) (sym (off_key (with_entry m.stays key (Some to)) begins.other (Some child) k ne)) (elim (same_or_not k key) [
+          | inl e ↦ subst (λ q. Keyed p.program stands.assigned later (get slab q) (with_entry m.stays key (Some to) q)) (sym e)
+              (subst (λ o. Keyed p.program stands.assigned later o (with_entry m.stays key (Some to) key)) (sym begins.now_next) (subst (λ o. Keyed p.program stands.assigned later (Some begins.next) o) (sym (at_key m.stays key (Some to))) first))
+          | inr off ↦ subst (λ o. Keyed p.program stands.assigned later o (with_entry m.stays key (Some to) k)) (sym (begins.others k off ne))
+              (subst (λ o. Keyed p.program stands.assigned later (get p.stays k) o) (sym (off_key m.stays key (Some to) k off)) (keyed_on (get p.stays k) (m.stays k) (keyed far p m stands k)))
+        ])
+      ]
+
+-- ---- a step of the stay under a key
+
+module _ (p : PlaceState) (key : ℕ) (a : StayState) (i : Instr) (e : get p.stays key ≡ Some a) (checks : IsChecked p.program) (fetched : IsFetchedFor p.program a.top i) where
+  pub step_leads : (slab : Slab StayState) (t : StoreState) (b : StayState) → Steps (route_of i.op) (location_of p) a (store_of p) i outcome.Goes b t → Updates p.stays slab key (Some b) → LeadsAll p key stepped.Moved (with_stays p slab t)
+  step_leads slab t b steps up far m stands = let found = stands.some key a e in leads_on far p m stands key a found.0 found.1 found.2 i fetched checks slab b t steps up
+
+  -- only a RET ends a stay, and only a FINE waits
+  ends_by : (r : Route) (t : StoreState) (b : StayState) → Steps r (location_of p) a (store_of p) i outcome.Ends b t → (r ≡ route.Return) × EndsStay a (store_of p) t
+  ends_by route.Return t b steps = (refl, steps)
+  ends_by (route.Local l) t b steps = absurd (let f = steps.0 in cc)
+  ends_by (route.Make k) t b steps = absurd (let f = steps.0 in cc)
+  ends_by (route.Site k) t b steps = absurd (let f = steps.0 in cc)
+  ends_by route.Export t b steps = absurd (let f = steps.0 in cc)
+  ends_by route.Call t b steps = absurd (let f = steps.0 in cc)
+  ends_by route.Print t b steps = absurd (let f = steps.0 in cc)
+  ends_by route.OpenFinish t b steps = absurd (let f = steps.0 in cc)
+  ends_by route.CloseFinish t b steps = absurd steps
+  ends_by route.Begin t b steps = absurd (let f = steps.0 in cc)
+  ends_by route.Later t b steps = absurd steps
+
+  pub waits_by : (r : Route) (t : StoreState) (b : StayState) → Steps r (location_of p) a (store_of p) i outcome.Waits b t → (r ≡ route.CloseFinish) × WaitsAtFinish a (store_of p) b t
+  waits_by route.CloseFinish t b steps = (refl, steps)
+  waits_by (route.Local l) t b steps = absurd (let f = steps.0 in cc)
+  waits_by (route.Make k) t b steps = absurd (let f = steps.0 in cc)
+  waits_by (route.Site k) t b steps = absurd (let f = steps.0 in cc)
+  waits_by route.Export t b steps = absurd (let f = steps.0 in cc)
+  waits_by route.Call t b steps = absurd (let f = steps.0 in cc)
+  waits_by route.Print t b steps = absurd (let f = steps.0 in cc)
+  waits_by route.OpenFinish t b steps = absurd (let f = steps.0 in cc)
+  waits_by route.Return t b steps = absurd steps
+  waits_by route.Begin t b steps = absurd (let f = steps.0 in cc)
+  waits_by route.Later t b steps = absurd steps
+
+  pub begins_by : (r : Route) (t : StoreState) (b : StayState) → Steps r (location_of p) a (store_of p) i outcome.Begins b t → (r ≡ route.Begin) × (b ≡ a) × (t ≡ store_of p)
+  begins_by route.Begin t b steps = (refl, steps.1, steps.2)
+  begins_by (route.Local l) t b steps = absurd (let f = steps.0 in cc)
+  begins_by (route.Make k) t b steps = absurd (let f = steps.0 in cc)
+  begins_by (route.Site k) t b steps = absurd (let f = steps.0 in cc)
+  begins_by route.Export t b steps = absurd (let f = steps.0 in cc)
+  begins_by route.Call t b steps = absurd (let f = steps.0 in cc)
+  begins_by route.Print t b steps = absurd (let f = steps.0 in cc)
+  begins_by route.OpenFinish t b steps = absurd (let f = steps.0 in cc)
+  begins_by route.CloseFinish t b steps = absurd steps
+  begins_by route.Return t b steps = absurd steps
+  begins_by route.Later t b steps = absurd steps
+
+  pub end_leads : (slab : Slab StayState) (t : StoreState) (b : StayState) → Steps (route_of i.op) (location_of p) a (store_of p) i outcome.Ends b t → Updates p.stays slab key None → LeadsAll p key stepped.Moved (with_stays p slab t)
+  end_leads slab t b steps up far m stands =
+      let found = stands.some key a e in
+      let by = ends_by (route_of i.op) t b steps in
+      leads_off far p m stands key a found.0 found.1 found.2 i fetched checks slab t by.0 by.1 up
+
+  pub wait_leads : (t : StoreState) (b : StayState) → Steps (route_of i.op) (location_of p) a (store_of p) i outcome.Waits b t → LeadsAll p key stepped.Idle p
+  wait_leads t b steps far m stands =
+      let found = stands.some key a e in
+      let by = waits_by (route_of i.op) t b steps in
+      leads_waiting far p m stands key a found.0 found.1 found.2 i fetched checks b t by.0 by.1
+
+pub begin_leads : (p : PlaceState) (key : ℕ) (slab : Slab StayState) (t : StoreState) → IsChecked p.program → BeginsAt p.program p.stays (store_of p) key slab t → LeadsAll p key stepped.Moved (with_stays p slab t)
+begin_leads p key slab t checks begins far m stands = leads_begin far p m stands key slab t checks begins

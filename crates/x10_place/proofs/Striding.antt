@@ -1,24 +1,31 @@
 -- Steps of a stay are steps of its place, and a place stands for some place of the machine after each of them.
-use Rattle.std.proofs.Common.{◌≡◌, ℕ, zero, suc, ◌≤◌, Bool, true, false, List, [], ◌∷◌, Option, Some, None, refl, sym, ap, subst, ◌∙◌, inl, inr, arith}
+use Rattle.std.proofs.Common.{◌≡◌, ◌⊎◌, ℕ, zero, suc, ◌≤◌, Bool, true, false, List, [], ◌∷◌, Option, Some, None, refl, sym, ap, ap₂, subst, ◌∙◌, inl, inr, arith}
 use Rattle.std.specs.Prelude.{slice_index_or, slice_set}
 use Rattle.slab.specs.Slab.{Slab, get, Updates, with_value}
 use Rattle.x10_code.specs.declared.instr.Instr.{Instr}
 use Rattle.x10_kinds.specs.declared.stop.Stop.{Stop}
-use Rattle.x10_model.specs.Modules.{FitsImage}
 use Rattle.x10_model.specs.Ranges.{instr_in}
 use Rattle.x10_model.specs.Places as machine
 use Rattle.x10_heap.specs.Heaps.{HeapState}
-use Rattle.x10_place.specs.Frames.{IsFetchedFor, Overfills}
+use Rattle.x10_verify.specs.Certified.{Certified}
+use Rattle.x10_place.specs.Frames as frames
+use Rattle.x10_place.specs.Frames.{IsFetchedFor}
 use Rattle.x10_place.specs.Routes.{route_of}
+use Rattle.x10_place.specs.declared.place.Stepped.{Stepped}
+use Rattle.x10_place.specs.declared.place.Stepped.TheVariants as stepped
 use Rattle.x10_place.specs.declared.route.Route.{Route}
 use Rattle.x10_place.specs.declared.route.Route.TheVariants as route
 use Rattle.x10_place.specs.declared.route.Make.{Make}
 use Rattle.x10_place.specs.declared.route.Make.TheVariants as make
-use Rattle.x10_place.specs.Stays.{StayState, StoreState, OverfillsBy, Refuses}
-use Rattle.x10_place.specs.StandsFor.{location_of, Far, IsTyped, IsOverfull, IsHindered, PlaceState, store_of, with_stays, StandsFor, IsStanding, LeadsAll}
-use Rattle.x10_place.specs.Stretches.{IsStep, Stretch, still, further, EndsStretch, IsStopped, IsStride, Strides, at_once, onward}
+use Rattle.x10_place.specs.declared.stay.Outcome.TheVariants as outcome
+use Rattle.x10_place.specs.Stays.{StayState, StoreState, Location, OverfillsBy, Refuses}
+use Rattle.x10_place.specs.StandsFor.{location_of, Far, IsWorking, Overfills, IsOverfull, IsStepLimit, IsHindered, PlaceState, place_of, plain, store_of, with_stays, StandsFor, IsStanding, LeadsAll}
+use Rattle.x10_place.specs.Stretches.{IsStep, Stretch, still, further, IsStride, Strides, at_once, onward}
 use Rattle.x10_place.proofs.Maps.{none_some}
-use Rattle.x10_place.proofs.Steps.{kept_if, step_leads}
+use Rattle.x10_place.proofs.Placing.{IsChecked}
+use Rattle.x10_place.proofs.Registering.{registered_at}
+use Rattle.x10_place.proofs.Stretching.{working_after}
+use Rattle.x10_place.proofs.Steps.{step_leads}
 use Rattle.x10_place.proofs.Keeping.{written}
 
 -- ---- slabs
@@ -38,136 +45,167 @@ rewritten slab key a b c e = record {
   others = λ k ne. (written slab key a c e).others k ne ∙ sym ((written slab key a b e).others k ne);
 }
 
+-- how much room there is changes nothing
+plain_rewritten : (slab : Slab StayState) (key : ℕ) (a b c : StayState) → get slab key ≡ Some a → Updates (plain (with_value slab key b)) (with_value slab key c) key (Some c)
+plain_rewritten slab key a b c e = let r = rewritten slab key a b c e in record { changed = r.changed; others = r.others }
+
 -- ---- strides
 
-a_stride : (p : PlaceState) (key : ℕ) (a b : StayState) (slab : Slab StayState) (t : StoreState) (goes : Bool) → FitsImage p.program → get p.stays key ≡ Some a → IsStep (location_of p) a (store_of p) goes b t → Updates p.stays slab key (kept_if goes b) → IsStride key p (with_stays p slab t)
-a_stride p key a b slab t goes image e step up = record {
+-- a place that is seen after a step, by its number and how many there are
+pub seen_after : (v : Certified) (old new : Slab StayState) (s t : StoreState) (stopped : Bool) → t.here ≡ s.here → t.places ≡ s.places → with_stays (place_of v old s stopped) new t ≡ place_of v new t stopped
+seen_after v old new s t stopped here places = ap₂ (λ h k. place_of v new (record t { here = h; places = k }) stopped) (sym here) (sym places)
+
+-- what it keeps, seen in the same way
+same_store : (v : Certified) (old new : Slab StayState) (s t : StoreState) (stopped : Bool) → t.here ≡ s.here → t.places ≡ s.places → store_of (with_stays (place_of v old s stopped) new t) ≡ t
+same_store v old new s t stopped here places = ap₂ (λ h k. record t { here = h; places = k }) (sym here) (sym places)
+
+a_stride : (p : PlaceState) (key : ℕ) (a b : StayState) (slab : Slab StayState) (t : StoreState) → IsChecked p.program → get p.stays key ≡ Some a → IsStep (location_of p) a (store_of p) outcome.Goes b t → Updates p.stays slab key (Some b) → IsStride key p (with_stays p slab t)
+a_stride p key a b slab t checks e step up = record {
   there = (a, e);
-  leads = step_leads p key slab t a b goes step.instr e image step.fetched step.steps up;
+  leads = step_leads p key a step.instr e checks step.fetched slab t b step.steps up;
   kept = record { program = refl; bounds = refl; id = refl; places = refl };
   stopped = refl;
 }
 
--- the steps of a stay are steps of its place
-strides : (p : PlaceState) (key : ℕ) (a : StayState) (n : ℕ) (b : StayState) (t : StoreState) → FitsImage p.program → get p.stays key ≡ Some a → Stretch (location_of p) a (store_of p) n b t → Strides key p n (with_stays p (with_value p.stays key b) t)
-strides p key a n b t image e (still) = subst (λ slab. Strides key p 0 (with_stays p slab (store_of p))) (sym (with_same p.stays key a e)) at_once
-strides p key a n b t image e (further k c d before after stretch step) =
-    let at = with_stays p (with_value p.stays key c) before in
-    onward k at (with_stays p (with_value p.stays key d) after) (strides p key a k c before image e stretch)
-    (a_stride at key c d (with_value p.stays key d) after true image ((written p.stays key a c e).changed) step (rewritten p.stays key a c d e))
+module _ (v : Certified) (old : Slab StayState) (s : StoreState) (stopped : Bool) (checks : IsChecked v.program) (key : ℕ) (a : StayState) (e : get old key ≡ Some a) where
+  abbrev place : PlaceState
+  place = place_of v old s stopped
 
-pub strides_on : (p v : PlaceState) (key : ℕ) (a : StayState) (n : ℕ) (b : StayState) (t : StoreState) → p ≡ v → FitsImage p.program → get p.stays key ≡ Some a → Stretch (location_of p) a (store_of p) n b t → Strides key v n (with_stays p (with_value p.stays key b) t)
-strides_on p v key a n b t seen image e stretch = subst (λ u. Strides key u n (with_stays p (with_value p.stays key b) t)) seen (strides p key a n b t image e stretch)
+  abbrev at : Location
+  at = location_of place
 
--- the last one ends the stay
-pub strides_end : (p v : PlaceState) (key : ℕ) (a : StayState) (n : ℕ) (b : StayState) (t : StoreState) (slab : Slab StayState) → p ≡ v → FitsImage p.program → get p.stays key ≡ Some a → EndsStretch (location_of p) a (store_of p) n b t → Updates (with_value p.stays key b) slab key None
-    → Strides key v n (with_stays p slab t)
-strides_end p v key a n b t slab seen image e ends up =
-    let q = with_stays p slab t in
-    let at = with_stays p (with_value p.stays key ends.last) ends.kept in
-    let there = (written p.stays key a ends.last e).changed in
-    let gone : Updates (with_value p.stays key ends.last) slab key None = record {
-      changed = up.changed;
-      others = λ k ne. up.others k ne ∙ (written p.stays key a b e).others k ne ∙ sym ((written p.stays key a ends.last e).others k ne);
-    } in
-    subst (λ u. Strides key u n q) seen (subst (λ k. Strides key p k q) (sym ends.count)
-    (onward ends.before at q (strides p key a ends.before ends.last ends.kept image e ends.stretch) (a_stride at key ends.last b slab t false image there ends.ends gone)))
+  -- the place with another stay under the key
+  abbrev with_one : StayState → StoreState → PlaceState
+  with_one b t = with_stays place (with_value old key b) t
+
+  -- the steps of a stay are steps of its place
+  strides : (n : ℕ) (b : StayState) (t : StoreState) → IsWorking at s a → Stretch at a s n b t → Strides key place n (with_one b t) × IsWorking at t b
+  strides n b t w (still) = (subst (λ slab. Strides key place 0 (with_stays place slab s)) (sym (with_same old key a e)) at_once, w)
+  strides n b t w (further k c d before after stretch step) =
+      let r = strides k c before w stretch in
+      let so_far = with_one c before in
+      let seen = same_store v old (with_value old key c) s before stopped r.1.registered.here r.1.registered.places in (
+        onward k so_far (with_one d after) r.0
+            (a_stride so_far key c d (with_value old key d) after checks ((written old key a c e).changed) (subst (λ u. IsStep at c u outcome.Goes d after) (sym seen) step) (plain_rewritten old key a c d e)),
+        working_after at c d before after step.instr checks r.1 step.fetched step.steps,
+      )
+
+  -- the stay and the place after so many steps
+  pub record Gone (n : ℕ) (b : StayState) (t : StoreState) : Type 0 where
+    pub strides_are : Strides key place n (place_of v (with_value old key b) t stopped)
+    pub working : IsWorking at t b
+    pub here : t.here ≡ s.here
+    pub places : t.places ≡ s.places
+
+  pub gone : (n : ℕ) (b : StayState) (t : StoreState) → IsWorking at s a → Stretch at a s n b t → Gone n b t
+  gone n b t w stretch =
+      let r = strides n b t w stretch in
+      record {
+        strides_are = subst (λ q. Strides key place n q) (seen_after v old (with_value old key b) s t stopped r.1.registered.here r.1.registered.places) r.0;
+        working = r.1;
+        here = r.1.registered.here;
+        places = r.1.registered.places;
+      }
 
 -- ---- some place of the machine is stood for
 
 abbrev any : Far
 any home id class = true
 
-pub standing_after : (p q : PlaceState) (key : ℕ) → IsStanding p → LeadsAll p key q → IsStanding q
-standing_after p q key s leads = let led = leads any s.0 s.1 in (led.1.0, led.1.2)
+pub standing_after : (p q : PlaceState) (key : ℕ) (answer : Stepped) → IsStanding p → LeadsAll p key answer q → IsStanding q
+standing_after p q key answer s leads = let led = leads any s.0 s.1 in (led.new, led.stands)
 
 pub strides_standing : (p : PlaceState) (key n : ℕ) (q : PlaceState) → IsStanding p → Strides key p n q → IsStanding q
 strides_standing p key n q s (at_once) = s
-strides_standing p key n q s (onward k r t far stride) = standing_after r q key (strides_standing p key k r s far) stride.leads
+strides_standing p key n q s (onward k r t far stride) = standing_after r q key stepped.Moved (strides_standing p key k r s far) stride.leads
 
 -- whether the place has stopped is nothing to the machine
 pub stopped_stands : (far : Far) (p : PlaceState) (m : machine.Place) (b : Bool) → StandsFor far p m → StandsFor far (record p { stopped = b }) m
-stopped_stands far p m b s = record { assigned = s.assigned; none = s.none; some = s.some; site = s.site; heap = s.heap; exports = s.exports; opened = s.opened; lines = s.lines }
+stopped_stands far p m b s = record { assigned = s.assigned; none = s.none; some = s.some; site = s.site; heap = s.heap; exports = s.exports; opened = s.opened; lines = s.lines; tallied = s.tallied; booked = s.booked }
 
 pub stopped_standing : (p : PlaceState) (b : Bool) → IsStanding p → IsStanding (record p { stopped = b })
 stopped_standing p b s = (s.0, stopped_stands any p s.0 b s.1)
-
--- a refused step has changed nothing but that
-pub refused_standing : (p : PlaceState) (key : ℕ) (a b : StayState) (t : StoreState) → get p.stays key ≡ Some a → b ≡ a → t ≡ store_of p → IsStanding p → IsStanding (record (with_stays p (with_value p.stays key b) t) { stopped = true })
-refused_standing p key a b t e same kept s =
-    subst (λ (c : StayState). IsStanding (record (with_stays p (with_value p.stays key c) t) { stopped = true })) (sym same)
-    (subst (λ (slab : Slab StayState). IsStanding (record (with_stays p slab t) { stopped = true })) (sym (with_same p.stays key a e))
-    (subst (λ (u : StoreState). IsStanding (record (with_stays p p.stays u) { stopped = true })) (sym kept) (stopped_standing p true s)))
 
 -- a place that has stopped
 pub same_stopped : (p : PlaceState) → p.stopped ≡ true → p ≡ record p { stopped = true }
 same_stopped p e = ap (λ b. record p { stopped = b }) e
 
--- ---- words have their kinds
+-- ---- each stay can make steps
 
--- the words of each stay of a place
-pub typed_at : (p : PlaceState) (key : ℕ) (a : StayState) → IsStanding p → get p.stays key ≡ Some a → IsTyped (location_of p) p.heap a
-typed_at p key a s e =
+pub working_at : (p : PlaceState) (key : ℕ) (a : StayState) → IsStanding p → get p.stays key ≡ Some a → IsWorking (location_of p) (store_of p) a
+working_at p key a s e =
     let found = s.1.some key a e in
-    record { assigned = s.1.assigned; site = s.1.site; named = s.1.exports.named; far = any; stay = found.0; stands = found.2; cells = s.0.cells; holds = s.1.heap }
+    record {
+      typed = record { assigned = s.1.assigned; site = s.1.site; named = s.1.exports.named; far = any; stay = found.0; stands = found.2; cells = s.0.cells; holds = s.1.heap };
+      registered = registered_at any p s.0 key a s.1 e;
+    }
+
+-- and nobody is away
+pub ready_at : (p : PlaceState) (key : ℕ) (a : StayState) → IsStanding p → get p.stays key ≡ Some a → a.away ≡ false
+ready_at p key a s e = (s.1.some key a e).2.home.away
 
 -- ---- refusals
 
-hindered_by : (r : Route) (p : PlaceState) (key : ℕ) (b : StayState) (i : Instr) (why : Stop) → get p.stays key ≡ Some b → IsFetchedFor p.program b.top i → route_of i.op ≡ r → Refuses r b p.heap i why → IsHindered p key why
-hindered_by (route.Make m) p key b i why there fetched e (inl memory) = inl memory
-hindered_by (route.Make m) p key b i why there fetched e (inr limit) = inr (
-  limit.0,
-  limit.1,
-  record {
-    stay = b;
-    is_there = there;
-    instr = i;
-    instr_is = subst (λ o. instr_in o b.top.pc ≡ Some i) (sym fetched.is_function) fetched.is_instr;
-    overfills = subst (λ q. OverfillsBy q p.heap b.top.registers.items i limit.0) (sym e) limit.2;
-  },
-)
-hindered_by route.Export p key b i why there fetched e (inl memory) = inl memory
-hindered_by route.Export p key b i why there fetched e (inr limit) = inr (
-  limit.0,
-  limit.1,
-  record {
-    stay = b;
-    is_there = there;
-    instr = i;
-    instr_is = subst (λ o. instr_in o b.top.pc ≡ Some i) (sym fetched.is_function) fetched.is_instr;
-    overfills = subst (λ q. OverfillsBy q p.heap b.top.registers.items i limit.0) (sym e) (limit.2, limit.3);
-  },
-)
-hindered_by (route.Site k) p key b i why there fetched e memory = inl memory
-hindered_by (route.Local l) p key b i why there fetched e memory = inl memory
-hindered_by route.Call p key b i why there fetched e memory = inl memory
-hindered_by route.Return p key b i why there fetched e memory = inl memory
-hindered_by route.Print p key b i why there fetched e memory = inl memory
-hindered_by route.Later p key b i why there fetched e memory = inl memory
+overfull_by : (r : Route) (p : PlaceState) (a : StayState) (i : Instr) (limit : ℕ) → OverfillsBy r a (store_of p) i limit → Overfills r p a i limit
+overfull_by route.Begin p a i limit h = absurd h
+overfull_by (route.Local l) p a i limit h = h
+overfull_by (route.Make k) p a i limit h = h
+overfull_by (route.Site k) p a i limit h = h
+overfull_by route.Export p a i limit h = h
+overfull_by route.Call p a i limit h = h
+overfull_by route.Return p a i limit h = h
+overfull_by route.Print p a i limit h = h
+overfull_by route.OpenFinish p a i limit h = h
+overfull_by route.CloseFinish p a i limit h = h
+overfull_by route.Later p a i limit h = h
 
--- why a step at a place is refused
-pub hindered : (p : PlaceState) (key : ℕ) (b : StayState) (i : Instr) (why : Stop) → get p.stays key ≡ Some b → IsFetchedFor p.program b.top i → Refuses (route_of i.op) b p.heap i why → IsHindered p key why
-hindered p key b i why there fetched refuses = hindered_by (route_of i.op) p key b i why there fetched refl refuses
+module _ (p : PlaceState) (key : ℕ) (b : StayState) (there : get p.stays key ≡ Some b) (ready : b.away ≡ false) (i : Instr) (fetched : IsFetchedFor p.program b.top i) where
+  pub overfull : (limit : ℕ) → Overfills (route_of i.op) p b i limit → IsOverfull p key limit
+  overfull limit over = record { stay = b; is_there = there; is_ready = ready; instr = i; instr_is = subst (λ o. instr_in o b.top.pc ≡ Some i) (sym fetched.is_function) fetched.is_instr; overfills = over }
 
-pub hindered_after : (p : PlaceState) (key : ℕ) (a b : StayState) (t : StoreState) (why : Stop) → get p.stays key ≡ Some a → IsStopped (location_of p) b t why → IsHindered (with_stays p (with_value p.stays key b) t) key why
-hindered_after p key a b t why e stopped = hindered (with_stays p (with_value p.stays key b) t) key b stopped.instr why ((written p.stays key a b e).changed) stopped.fetched stopped.refuses
+  overfull_at : (r : Route) → route_of i.op ≡ r → (limit : ℕ) → OverfillsBy r b (store_of p) i limit → IsOverfull p key limit
+  overfull_at r e limit over = overfull limit (overfull_by (route_of i.op) p b i limit (subst (λ q. OverfillsBy q b (store_of p) i limit) (sym e) over))
 
-limits_made : (m : Make) (heap : HeapState) (words : List ℕ) (i : Instr) (limit : ℕ) → Overfills m heap words i limit → (1 ≤ limit) × (limit ≤ 4)
-limits_made make.Text heap words i limit h = (omega (arith, h.0), omega (arith, h.0))
-limits_made make.JoinedText heap words i limit h = (omega (arith, h.0), omega (arith, h.0))
-limits_made make.Object heap words i limit h = (omega (arith, h.0), omega (arith, h.0))
-limits_made make.Rail heap words i limit h = (omega (arith, h.0), omega (arith, h.0))
+  hindered_by : (r : Route) (why : Stop) → route_of i.op ≡ r → Refuses r b (store_of p) i why → IsHindered p key why
+  hindered_by (route.Make m) why e (inl memory) = inl memory
+  hindered_by (route.Make m) why e (inr limit) = inr (limit.0, limit.1, overfull_at (route.Make m) e limit.0 limit.2)
+  hindered_by route.Export why e (inl memory) = inl memory
+  hindered_by route.Export why e (inr limit) = inr (limit.0, limit.1, overfull_at route.Export e limit.0 (limit.2, limit.3))
+  hindered_by route.OpenFinish why e (inl memory) = inl memory
+  hindered_by route.OpenFinish why e (inr limit) = inr (5, limit.0, overfull_at route.OpenFinish e 5 (refl, limit.1))
+  hindered_by route.Call why e memory = inl memory
+  hindered_by route.Print why e memory = inl memory
+  hindered_by (route.Site k) why e h = absurd h
+  hindered_by (route.Local l) why e h = absurd h
+  hindered_by route.Return why e h = absurd h
+  hindered_by route.CloseFinish why e h = absurd h
+  hindered_by route.Begin why e h = absurd h
+  hindered_by route.Later why e h = absurd h
 
-limits_by : (r : Route) (heap : HeapState) (words : List ℕ) (i : Instr) (limit : ℕ) → OverfillsBy r heap words i limit → (1 ≤ limit) × (limit ≤ 4)
-limits_by (route.Make m) heap words i limit h = limits_made m heap words i limit h
-limits_by route.Export heap words i limit h = (omega (arith, h.0), omega (arith, h.0))
-limits_by (route.Site k) heap words i limit h = absurd h
-limits_by (route.Local l) heap words i limit h = absurd h
-limits_by route.Call heap words i limit h = absurd h
-limits_by route.Return heap words i limit h = absurd h
-limits_by route.Print heap words i limit h = absurd h
-limits_by route.Later heap words i limit h = absurd h
+  -- why a step at a place is refused
+  pub hindered : (why : Stop) → Refuses (route_of i.op) b (store_of p) i why → IsHindered p key why
+  hindered why refuses = hindered_by (route_of i.op) why refl refuses
+
+limits_made : (m : Make) (heap : HeapState) (words : List ℕ) (i : Instr) (limit : ℕ) → frames.Overfills m heap words i limit → IsStepLimit limit
+limits_made make.Text heap words i limit h = inl (omega (arith, h.0), omega (arith, h.0))
+limits_made make.JoinedText heap words i limit h = inl (omega (arith, h.0), omega (arith, h.0))
+limits_made make.Object heap words i limit h = inl (omega (arith, h.0), omega (arith, h.0))
+limits_made make.Rail heap words i limit h = inl (omega (arith, h.0), omega (arith, h.0))
+
+limits_by : (r : Route) (p : PlaceState) (a : StayState) (i : Instr) (limit : ℕ) → Overfills r p a i limit → IsStepLimit limit
+limits_by (route.Make m) p a i limit h = limits_made m p.heap a.top.registers.items i limit h
+limits_by route.Export p a i limit h = inl (omega (arith, h.0), omega (arith, h.0))
+limits_by route.OpenFinish p a i limit h = inl (omega (arith, h.0), omega (arith, h.0))
+limits_by route.Begin p a i limit (inl key) = inr key.0
+limits_by route.Begin p a i limit (inr live) = inl (let e = live.0 in omega (arith, e), let e = live.0 in omega (arith, e))
+limits_by (route.Site k) p a i limit h = absurd h
+limits_by (route.Local l) p a i limit h = absurd h
+limits_by route.Call p a i limit h = absurd h
+limits_by route.Return p a i limit h = absurd h
+limits_by route.Print p a i limit h = absurd h
+limits_by route.CloseFinish p a i limit h = absurd h
+limits_by route.Later p a i limit h = absurd h
 
 -- which limits a step may pass
-pub limits : (p : PlaceState) (key limit : ℕ) → IsOverfull p key limit → (1 ≤ limit) × (limit ≤ 4)
-limits p key limit h = limits_by (route_of h.instr.op) p.heap h.stay.top.registers.items h.instr limit h.overfills
+pub limits : (p : PlaceState) (key limit : ℕ) → IsOverfull p key limit → IsStepLimit limit
+limits p key limit h = limits_by (route_of h.instr.op) p h.stay h.instr limit h.overfills

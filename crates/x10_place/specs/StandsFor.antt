@@ -68,7 +68,7 @@ place_of verified stays store stopped = record { program = verified.program; bou
 
 -- the place with other stays, and what it then keeps for them
 abbrev pub with_stays : PlaceState → Slab StayState → StoreState → PlaceState
-with_stays p stays s = record p { stays = plain stays; id = s.here; places = s.places; heap = s.heap; lines = s.lines; opened = s.opened; ledger = s.ledger; books = s.books }
+with_stays p stays s = record p { stays = plain stays; heap = s.heap; lines = s.lines; opened = s.opened; ledger = s.ledger; books = s.books }
 
 -- which home, number and class name an object at another place
 abbrev pub Far : Type 0
@@ -271,13 +271,19 @@ abbrev pub Overfills : Route → PlaceState → StayState → Instr → ℕ → 
 Overfills route.Begin p a i limit = OverfillsBegin p a limit
 Overfills r p a i limit = OverfillsBy r a (store_of p) i limit
 
--- the instruction of the activity with the key would make one more of what there can be no more of
+-- the activity with the key is ready, and its instruction would make one more of what there can be no more of
 pub record IsOverfull (p : PlaceState) (key limit : ℕ) : Type 0 where
   pub stay : StayState
   pub is_there : get p.stays key ≡ Some stay
+  pub is_ready : stay.away ≡ false
   pub instr : Instr
   pub instr_is : instr_at p.program stay.top.function stay.top.pc ≡ Some instr
   pub overfills : Overfills (route_of instr.op) p stay instr limit
+
+-- the limits that a step may pass: objects (1), texts (2), rails (3), global references (4), finishes (5), activities under
+-- one finish (6), and keys (10)
+abbrev pub IsStepLimit : ℕ → Type 0
+IsStepLimit limit = ((1 ≤ limit) × (limit ≤ 6)) ⊎ (limit ≡ 10)
 
 -- why a step of the activity with the key is not made: memory was refused, or it would pass a limit
 abbrev pub IsHindered : PlaceState → ℕ → Stop → Type 0

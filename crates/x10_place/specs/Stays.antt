@@ -314,7 +314,9 @@ abbrev pub Refuses : Route → StayState → StoreState → Instr → Stop → T
 Refuses (route.Make m) a s i why = IsRefused m s.heap a.top.registers.items i why
 Refuses route.Export a s i why = IsExportRefused s.heap why
 Refuses route.OpenFinish a s i why = (why ≡ stop.Memory) ⊎ ((why ≡ stop.Limit 5) × IsFull s.opened)
-Refuses _ a s i why = why ≡ stop.Memory
+Refuses route.Call a s i why = why ≡ stop.Memory
+Refuses route.Print a s i why = why ≡ stop.Memory
+Refuses _ a s i why = ⊥
 
 -- ---- activities that begin
 

@@ -1,0 +1,286 @@
+-- What a step of the stay with a key does to a place, by what becomes of the stay.
+use Rattle.std.proofs.Common.{◌≡◌, ◌≢◌, ◌⊎◌, ℕ, Bool, true, false, List, ◌∷◌, Option, Some, None, Ok, Err, refl, sym, ap, subst, ◌∙◌, inl, inr}
+use Rattle.slab.specs.Slab.{Slab, get, Updates}
+use Rattle.x10_kinds.specs.declared.stop.Stop.{Stop}
+use Rattle.x10_kinds.specs.declared.stop.Stop.TheVariants as stop
+use Rattle.x10_code.specs.declared.op.Op.TheVariants as op
+use Rattle.x10_code.specs.declared.instr.Instr.{Instr}
+use Rattle.x10_model.specs.Modules.{Module}
+use Rattle.x10_model.specs.Ranges.{instr_at, instr_in}
+use Rattle.x10_verify.specs.Certified.{Certified}
+use Rattle.x10_place.specs.declared.place.Stepped.{Stepped}
+use Rattle.x10_place.specs.declared.place.Stepped.TheVariants as stepped
+use Rattle.x10_place.specs.declared.route.Route.{Route}
+use Rattle.x10_place.specs.declared.route.Route.TheVariants as route
+use Rattle.x10_place.specs.declared.stay.Outcome.TheVariants as outcome
+use Rattle.x10_place.specs.Frames.{IsFetchedFor}
+use Rattle.x10_place.specs.Routes.{route_of}
+use Rattle.x10_place.specs.Stays.{StayState, StoreState, IsDoneHere, ClosesFinish, OverfillsBy, Refuses, Steps}
+use Rattle.x10_place.specs.StandsFor.{PlaceState, place_of, plain, store_of, with_stays, location_of, IsStanding, LeadsAll, IsIdleAt, nobody, away, waits, IsOverfull, IsHindered, Overfills, OverfillsBegin}
+use Rattle.x10_place.specs.Stretches.{BeginsAt, IsUntouched, RefusesBegin, IsAdvanced}
+use Rattle.x10_place.proofs.Maps.{some_is, none_some}
+use Rattle.x10_place.proofs.Placing.{IsChecked, is_close_finish}
+use Rattle.x10_place.proofs.Registering.{registered_after}
+use Rattle.x10_place.proofs.Steps.{step_leads, end_leads, wait_leads, begin_leads, waits_by, begins_by}
+use Rattle.x10_place.proofs.Striding.{seen_after, standing_after, stopped_standing, working_at, ready_at, hindered, overfull}
+
+pub untouched : (old : Slab StayState) (s : StoreState) → IsUntouched old s old s
+untouched old s = record { stays = refl; store = refl }
+
+-- a place where nothing has changed stands as it did
+still_standing : (v : Certified) (old new : Slab StayState) (s t : StoreState) → IsUntouched old s new t → IsStanding (place_of v old s false) → IsStanding (place_of v new t false)
+still_standing v old new s t same standing =
+    subst (λ (slab : Slab StayState). IsStanding (record (place_of v new t false) { stays = slab })) (sym same.stays) (subst (λ u. IsStanding (place_of v old u false)) (sym same.store) standing)
+
+-- how much room there is for stays changes nothing
+pub plain_updates : {old new : Slab StayState} {key : ℕ} {o : Option StayState} → Updates old new key o → Updates (plain old) new key o
+plain_updates up = record { changed = up.changed; others = up.others }
+
+plain_begins : {program : Module} {old new : Slab StayState} {s t : StoreState} {key : ℕ} → BeginsAt program old s key new t → BeginsAt program (plain old) s key new t
+plain_begins h = record {
+  stay = h.stay;
+  is_there = h.is_there;
+  instr = h.instr;
+  fetched = h.fetched;
+  is_async = h.is_async;
+  next = h.next;
+  goes = h.goes;
+  rest = h.rest;
+  other = h.other;
+  free = h.free;
+  child = h.child;
+  begun = h.begun;
+  now_next = h.now_next;
+  now_child = h.now_child;
+  others = h.others;
+  store = h.store;
+}
+
+module _ (v : Certified) (old : Slab StayState) (s : StoreState) (key : ℕ) (standing : IsStanding (place_of v old s false)) (checks : IsChecked v.program) where
+  abbrev place : Bool → PlaceState
+  place stopped = place_of v old s stopped
+
+  pub advanced_nobody : get old key ≡ None → IsAdvanced v old s key (Ok stepped.Idle) old s
+  advanced_nobody none = record {
+    idle = λ stopped h. (refl, untouched old s);
+    only = λ stopped e. nobody none;
+    some = λ stopped a e ready. absurd (none_some (get old key) a none e);
+    refused = λ stopped. tt;
+    same = tt;
+    full = λ stopped limit over. absurd (none_some (get old key) over.stay none over.is_there);
+    standing = standing;
+    here = refl;
+    places = refl;
+  }
+
+  pub advanced_away : (a : StayState) → get old key ≡ Some a → a.away ≡ true → IsAdvanced v old s key (Ok stepped.Idle) old s
+  advanced_away a e is = absurd (let ready = ready_at (place false) key a standing e in let f : true ≡ false = sym is ∙ ready in cc)
+
+  module _ (a : StayState) (e : get old key ≡ Some a) (i : Instr) (fetched : IsFetchedFor v.program a.top i) where
+    -- the instruction at which the stay stands
+    instr_is : (j : Instr) → instr_at v.program a.top.function a.top.pc ≡ Some j → j ≡ i
+    instr_is j at = some_is j i (sym at ∙ subst (λ o. instr_in o a.top.pc ≡ Some i) (sym fetched.is_function) fetched.is_instr)
+
+    ready : a.away ≡ false
+    ready = ready_at (place false) key a standing e
+
+    -- where a step would find nothing to do, the stay waits at the end of a finish
+    pub record IsWaiting : Type 0 where
+      pub is_fine : i.op ≡ op.Fine
+      pub number : ℕ
+      pub outer : List ℕ
+      pub innermost : a.finishes ≡ number ∷ outer
+      pub not_done : IsDoneHere s number → ⊥
+
+    idle_waits : (stopped : Bool) → IsIdleAt (place stopped) key → IsWaiting
+    idle_waits stopped (nobody none) = absurd (none_some (get old key) a none e)
+    idle_waits stopped (away b is gone) = absurd (let same = some_is b a (sym is ∙ e) in let f : true ≡ false = sym gone ∙ subst (λ (c : StayState). c.away ≡ false) (sym same) ready in cc)
+    idle_waits stopped (waits b number outer is fine innermost not_done) =
+        let same = some_is b a (sym is ∙ e) in
+        let at = subst (λ (c : StayState). instr_at v.program c.top.function c.top.pc ≡ Some fine.0) same fine.1 in
+        record { is_fine = subst (λ (j : Instr). j.op ≡ op.Fine) (instr_is fine.0 at) fine.2; number = number; outer = outer; innermost = subst (λ (c : StayState). c.finishes ≡ number ∷ outer) same innermost; not_done = not_done }
+
+    -- a step that closes a finish doesn't wait
+    goes_on : (b : StayState) (t : StoreState) → IsWaiting → Steps (route_of i.op) (location_of (place false)) a s i outcome.Goes b t → ⊥
+    goes_on b t w steps =
+        let closes : ClosesFinish a s b t = subst (λ o. Steps (route_of o) (location_of (place false)) a s i outcome.Goes b t) w.is_fine steps in
+        let same : closes.number ≡ w.number = first_is closes.number w.number b.finishes w.outer (sym closes.innermost ∙ w.innermost) in
+        w.not_done (subst (λ n. IsDoneHere s n) same closes.done)
+      where
+        first_is : (m n : ℕ) (ms ns : List ℕ) → m ∷ ms ≡ n ∷ ns → m ≡ n
+        first_is m n ms ns f = cc
+
+    -- a stay that would make too many of something, by its own instruction
+    overfills : (stopped : Bool) (limit : ℕ) → IsOverfull (place stopped) key limit → Overfills (route_of i.op) (place stopped) a i limit
+    overfills stopped limit over =
+        let same = some_is over.stay a (sym over.is_there ∙ e) in
+        let at = subst (λ (c : StayState). instr_at v.program c.top.function c.top.pc ≡ Some over.instr) same over.instr_is in
+        subst (λ (j : Instr). Overfills (route_of j.op) (place stopped) a j limit) (instr_is over.instr at) (subst (λ c. Overfills (route_of over.instr.op) (place stopped) c over.instr limit) same over.overfills)
+
+    -- of an operation that the stay makes by itself
+    overfills_by : (stopped : Bool) (r : Route) → (r ≢ route.Begin) → (limit : ℕ) → Overfills r (place stopped) a i limit → OverfillsBy r a s i limit
+    overfills_by stopped route.Begin ne limit h = absurd (ne refl)
+    overfills_by stopped (route.Local l) ne limit h = h
+    overfills_by stopped (route.Make k) ne limit h = h
+    overfills_by stopped (route.Site k) ne limit h = h
+    overfills_by stopped route.Export ne limit h = h
+    overfills_by stopped route.Call ne limit h = h
+    overfills_by stopped route.Return ne limit h = h
+    overfills_by stopped route.Print ne limit h = h
+    overfills_by stopped route.OpenFinish ne limit h = h
+    overfills_by stopped route.CloseFinish ne limit h = h
+    overfills_by stopped route.Later ne limit h = h
+
+    -- a step that was made was not one too many
+    not_full : (o : _) (b : StayState) (t : StoreState) (r : Route) → o ≢ outcome.Begins → Steps r (location_of (place false)) a s i o b t → r ≢ route.Begin
+    not_full o b t route.Begin ne steps f = ne steps.0
+    not_full o b t r ne steps f = not_begin r o b t ne f steps
+      where
+        not_begin : (r : Route) (o : _) (b : StayState) (t : StoreState) → o ≢ outcome.Begins → r ≡ route.Begin → Steps r (location_of (place false)) a s i o b t → ⊥
+        not_begin r o b t ne f steps = ne (subst (λ q. Steps q (location_of (place false)) a s i o b t) f steps).0
+
+    none_over : (o : _) (b : StayState) (t : StoreState) → o ≢ outcome.Begins → Steps (route_of i.op) (location_of (place false)) a s i o b t → ((limit : ℕ) → OverfillsBy (route_of i.op) a s i limit → ⊥) → (stopped : Bool) (limit : ℕ) → IsOverfull (place stopped) key limit → ⊥
+    none_over o b t ne steps full stopped limit over = full limit (overfills_by stopped (route_of i.op) (not_full o b t (route_of i.op) ne steps) limit (overfills stopped limit over))
+
+    -- ---- the stay goes on
+
+    pub advanced_goes : (new : Slab StayState) (b : StayState) (t : StoreState) → Steps (route_of i.op) (location_of (place false)) a s i outcome.Goes b t → Updates old new key (Some b) → ((limit : ℕ) → OverfillsBy (route_of i.op) a s i limit → ⊥) → IsAdvanced v old s key (Ok stepped.Moved) new t
+    advanced_goes new b t steps up full =
+        let here = (registered_after (location_of (place false)) a b s t i (working_at (place false) key a standing e).registered steps).here in
+        let places = (registered_after (location_of (place false)) a b s t i (working_at (place false) key a standing e).registered steps).places in
+        let leads = λ (stopped : Bool). subst (λ q. LeadsAll (place stopped) key stepped.Moved q) (seen_after v old new s t stopped here places) (step_leads (place stopped) key a i e checks fetched new t b steps (plain_updates up)) in
+        record {
+          idle = λ stopped h. absurd (goes_on b t (idle_waits stopped h) steps);
+          only = λ stopped f. absurd cc;
+          some = λ stopped c is on. leads stopped;
+          refused = λ stopped. tt;
+          same = tt;
+          full = λ stopped limit over. absurd (none_over outcome.Goes b t (λ f. absurd cc) steps full stopped limit over);
+          standing = standing_after (place false) (place_of v new t false) key stepped.Moved standing (leads false);
+          here = here;
+          places = places;
+        }
+
+    -- ---- it ends
+
+    pub advanced_ends : (new : Slab StayState) (b : StayState) (t : StoreState) → Steps (route_of i.op) (location_of (place false)) a s i outcome.Ends b t → Updates old new key None → ((limit : ℕ) → OverfillsBy (route_of i.op) a s i limit → ⊥) → IsAdvanced v old s key (Ok stepped.Moved) new t
+    advanced_ends new b t steps up full =
+        let by = ends_here (route_of i.op) steps in
+        let leads = λ (stopped : Bool). subst (λ q. LeadsAll (place stopped) key stepped.Moved q) (seen_after v old new s t stopped by.0 by.1) (end_leads (place stopped) key a i e checks fetched new t b steps (plain_updates up)) in
+        record {
+          idle = λ stopped h. absurd (subst (λ o. Steps (route_of o) (location_of (place false)) a s i outcome.Ends b t) (idle_waits stopped h).is_fine steps);
+          only = λ stopped f. absurd cc;
+          some = λ stopped c is on. leads stopped;
+          refused = λ stopped. tt;
+          same = tt;
+          full = λ stopped limit over. absurd (none_over outcome.Ends b t (λ f. absurd cc) steps full stopped limit over);
+          standing = standing_after (place false) (place_of v new t false) key stepped.Moved standing (leads false);
+          here = by.0;
+          places = by.1;
+        }
+      where
+        ends_here : (r : Route) → Steps r (location_of (place false)) a s i outcome.Ends b t → (t.here ≡ s.here) × (t.places ≡ s.places)
+        ends_here route.Return h = (h.store.here, h.store.places_are)
+        ends_here (route.Local l) h = absurd (let f = h.0 in cc)
+        ends_here (route.Make k) h = absurd (let f = h.0 in cc)
+        ends_here (route.Site k) h = absurd (let f = h.0 in cc)
+        ends_here route.Export h = absurd (let f = h.0 in cc)
+        ends_here route.Call h = absurd (let f = h.0 in cc)
+        ends_here route.Print h = absurd (let f = h.0 in cc)
+        ends_here route.OpenFinish h = absurd (let f = h.0 in cc)
+        ends_here route.CloseFinish h = absurd h
+        ends_here route.Begin h = absurd (let f = h.0 in cc)
+        ends_here route.Later h = absurd h
+
+    -- ---- it waits at the end of a finish
+
+    -- and has changed nothing
+    pub waits_here : (new : Slab StayState) (b : StayState) (t : StoreState) → Steps (route_of i.op) (location_of (place false)) a s i outcome.Waits b t → (stopped : Bool) → IsIdleAt (place stopped) key
+    waits_here new b t steps stopped =
+        let by = waits_by (place false) key a i e checks fetched (route_of i.op) t b steps in
+        waits a by.1.number by.1.outer e (i, subst (λ o. instr_in o a.top.pc ≡ Some i) (sym fetched.is_function) fetched.is_instr, is_close_finish i.op by.0) by.1.innermost by.1.waits
+
+    pub advanced_waits : (new : Slab StayState) (b : StayState) (t : StoreState) → Steps (route_of i.op) (location_of (place false)) a s i outcome.Waits b t → plain new ≡ plain old → t ≡ s → ((limit : ℕ) → OverfillsBy (route_of i.op) a s i limit → ⊥) → IsAdvanced v old s key (Ok stepped.Idle) new t
+    advanced_waits new b t steps stays store full =
+        let same : IsUntouched old s new t = record { stays = stays; store = store } in
+        record {
+          idle = λ stopped h. (refl, same);
+          only = λ stopped f. waits_here new b t steps stopped;
+          some = λ stopped c is on. subst (λ (slab : Slab StayState). LeadsAll (place stopped) key stepped.Idle (record (place_of v new t stopped) { stays = slab })) (sym stays)
+              (subst (λ u. LeadsAll (place stopped) key stepped.Idle (place_of v old u stopped)) (sym store) (wait_leads (place stopped) key a i e checks fetched t b steps));
+          refused = λ stopped. tt;
+          same = tt;
+          full = λ stopped limit over. absurd (none_over outcome.Waits b t (λ f. absurd cc) steps full stopped limit over);
+          standing = still_standing v old new s t same standing;
+          here = ap (λ (u : StoreState). u.here) store;
+          places = ap (λ (u : StoreState). u.places) store;
+        }
+
+    -- ---- it is refused
+
+    -- where a step would find nothing to do it isn't refused
+    not_refused : (why : Stop) → IsWaiting → Refuses (route_of i.op) a s i why → ⊥
+    not_refused why w refuses = subst (λ o. Refuses (route_of o) a s i why) w.is_fine refuses
+
+    pub advanced_refused : (new : Slab StayState) (t : StoreState) (why : Stop) → plain new ≡ plain old → t ≡ s → Refuses (route_of i.op) a s i why → ((limit : ℕ) → OverfillsBy (route_of i.op) a s i limit → why ≡ stop.Limit limit) → IsAdvanced v old s key (Err why) new t
+    advanced_refused new t why stays store refuses full =
+        let same : IsUntouched old s new t = record { stays = stays; store = store } in
+        record {
+          idle = λ stopped h. absurd (not_refused why (idle_waits stopped h) refuses);
+          only = λ stopped f. absurd cc;
+          some = λ stopped c is on. tt;
+          refused = λ stopped. hindered (place stopped) key a e ready i fetched why refuses;
+          same = same;
+          full = λ stopped limit over. ap Err (full limit (overfills_by stopped (route_of i.op) (not_begin (route_of i.op) refuses) limit (overfills stopped limit over)));
+          standing = still_standing v old new s t same standing;
+          here = ap (λ (u : StoreState). u.here) store;
+          places = ap (λ (u : StoreState). u.places) store;
+        }
+      where
+        not_begin : (r : Route) → Refuses r a s i why → r ≢ route.Begin
+        not_begin r h f = subst (λ q. Refuses q a s i why) f h
+
+    -- ---- an activity begins
+
+    module _ (is_async : i.op ≡ op.Async) where
+      not_waiting : IsWaiting → ⊥
+      not_waiting w = absurd (let f = sym w.is_fine ∙ is_async in cc)
+
+      begin_over : (stopped : Bool) (limit : ℕ) → IsOverfull (place stopped) key limit → OverfillsBegin (place false) a limit
+      begin_over stopped limit over = subst (λ o. Overfills (route_of o) (place stopped) a i limit) is_async (overfills stopped limit over)
+
+      pub advanced_begins : (new : Slab StayState) (t : StoreState) → BeginsAt v.program old s key new t → ((limit : ℕ) → OverfillsBegin (place false) a limit → ⊥) → IsAdvanced v old s key (Ok stepped.Moved) new t
+      advanced_begins new t begins full =
+          let leads = λ (stopped : Bool). subst (λ q. LeadsAll (place stopped) key stepped.Moved q) (seen_after v old new s t stopped begins.store.here begins.store.places_are) (begin_leads (place stopped) key new t checks (plain_begins begins)) in
+          record {
+            idle = λ stopped h. absurd (not_waiting (idle_waits stopped h));
+            only = λ stopped f. absurd cc;
+            some = λ stopped c is on. leads stopped;
+            refused = λ stopped. tt;
+            same = tt;
+            full = λ stopped limit over. absurd (full limit (begin_over stopped limit over));
+            standing = standing_after (place false) (place_of v new t false) key stepped.Moved standing (leads false);
+            here = begins.store.here;
+            places = begins.store.places_are;
+          }
+
+      pub advanced_hindered : (new : Slab StayState) (t : StoreState) (why : Stop) → IsUntouched old s new t → RefusesBegin v old s key why → ((limit : ℕ) → OverfillsBegin (place false) a limit → why ≡ stop.Limit limit) → IsAdvanced v old s key (Err why) new t
+      advanced_hindered new t why same refuses full = record {
+        idle = λ stopped h. absurd (not_waiting (idle_waits stopped h));
+        only = λ stopped f. absurd cc;
+        some = λ stopped c is on. tt;
+        refused = λ stopped. refused_at stopped refuses;
+        same = same;
+        full = λ stopped limit over. ap Err (full limit (begin_over stopped limit over));
+        standing = still_standing v old new s t same standing;
+        here = ap (λ (u : StoreState). u.here) same.store;
+        places = ap (λ (u : StoreState). u.places) same.store;
+      }
+        where
+          refused_at : (stopped : Bool) → RefusesBegin v old s key why → IsHindered (place stopped) key why
+          refused_at stopped (inl memory) = inl memory
+          refused_at stopped (inr h) = inr (
+            h.0,
+            h.1,
+            overfull (place stopped) key a e ready i fetched h.0 (subst (λ o. Overfills (route_of o) (place stopped) a i h.0) (sym is_async) (subst (λ c. OverfillsBegin (place false) c h.0) (some_is h.2 a (sym h.3 ∙ e)) h.4)),
+          )
