@@ -5,6 +5,7 @@ pub mod Numbers
 pub mod Fetching
 pub mod Calling
 pub mod Chains
+pub mod Storing
 pub mod Returning
 pub mod Placing
 pub mod Stretching
