@@ -1,5 +1,6 @@
 -- What a place keeps: the books of its finishes by number, and its totals.
-use Rattle.std.proofs.Common.{◌≡◌, ◌↔◌, ℕ, ◌==◌, ◌&&◌, ◌+◌, Bool, true, false, cond, if◌then◌else◌, List, [], Option, Some, None, IsTrue, Result, Ok, Err, OnOk, refl, sym, ◌∙◌, ap, subst, arith}
+use Rattle.std.proofs.Common.{suc, ◌∷◌, ◌-◌, length, reverse, slice_index_or, ◌≡◌, ◌↔◌, ℕ, ◌==◌, ◌&&◌, ◌+◌, Bool, true, false, cond, if◌then◌else◌, List, [], Option, Some, None, IsTrue, Result, Ok, Err, OnOk, refl, sym, ◌∙◌, ap, subst, arith}
+use Rattle.std.proofs.lemmas.List.{length-reverse, get_or-reverse}
 use Rattle.std.proofs.lemmas.Bool.{eqb-true}
 use Rattle.std.specs.Ordering.{nat_cmp}
 use Rattle.std.specs.Result.{is_err}
@@ -12,7 +13,7 @@ use Rattle.x10_finish.specs.Books.{Kept, finish_of, kept_of}
 use Rattle.x10_heap.specs.Heaps.{empty}
 use Rattle.x10_place.specs.StandsFor.{first_number}
 use Rattle.x10_place.specs.Opening.{IsNewStore}
-use Rattle.x10_place.specs.Stays.{StoreState, book_at, books_of, cut_of, books_in, totals_in, kept_in, finish_at, changed_at, IsBookOf, AreBooks, IsDoneHere, Recounts}
+use Rattle.x10_place.specs.Stays.{StoreState, book_at, books_of, cut_of, books_in, totals_in, kept_in, finish_at, changed_at, IsBookOf, AreBooks, IsDoneHere, StayState, HasFinish, WaitsAtFinish, Recounts}
 use Rattle.x10_place.proofs.Maps.{some_is, none_some, at_key, off_key}
 
 -- a book is found under its own number alone
@@ -118,3 +119,22 @@ new_at_root id places s t u e blank opens begins = subst (λ i. IsNewStore i pla
 pub when_ok : {T E A : Type 0} (r : Result T E) → is_err r ≡ false → OnOk r A → A
 when_ok (Ok x) e h = h
 when_ok (Err x) e h = absurd cc
+
+-- ---- the finishes of a stay, of which the last one pushed is the first
+
+pub last_is : (items : List ℕ) (n d : ℕ) (outer : List ℕ) → reverse items ≡ n ∷ outer → slice_index_or items (length items - 1) d ≡ n
+last_is items n d outer e =
+    let long : length items ≡ suc (length outer) = sym (length-reverse items) ∙ ap length e in
+    let last : length items - 1 - 0 ≡ length items - 1 = omega arith in
+    ap (λ k. slice_index_or items k d) (sym last) ∙ sym (get_or-reverse items 0 d (omega (arith, long))) ∙ ap (λ ns. slice_index_or ns 0 d) e
+
+-- the innermost finish may not end yet
+pub waits_at : (t : Bool) (items : List ℕ) (number : ℕ) (a : StayState) (s : StoreState) → reverse items ≡ a.finishes → number ≡ slice_index_or items (length items - 1) number → HasFinish a s → (IsDoneHere s number → IsTrue t) → t ≡ false → WaitsAtFinish a s a s
+waits_at t items number a s is at held done off = record {
+  number = number;
+  outer = held.1;
+  innermost = held.2 ∙ ap (λ n. n ∷ held.1) (sym (at ∙ last_is items held.0 number held.1 (is ∙ held.2)));
+  waits = λ d. absurd (let yes = done d in cc);
+  stay = refl;
+  store = refl;
+}
