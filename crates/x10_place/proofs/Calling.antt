@@ -5,14 +5,12 @@ use Rattle.std.specs.List.{refill}
 use Rattle.std.proofs.lemmas.Bool.{cases_lt}
 use Rattle.std.proofs.lemmas.List.{take_at}
 use Rattle.std.proofs.Math.ListN.{length-set}
-use Rattle.x10_code.specs.declared.op.Op.TheVariants as op
 use Rattle.x10_code.specs.declared.instr.Instr.{Instr}
-use Rattle.x10_code.specs.Table.{form_of}
 use Rattle.x10_model.specs.Modules.{Module, Function}
-use Rattle.x10_model.specs.Ranges.{function_at, IsThere}
+use Rattle.x10_model.specs.Ranges.{function_at}
 use Rattle.x10_image.specs.Parts.{Signature, signature_of}
 use Rattle.x10_place.specs.declared.frame.CallFrame.{CallFrame}
-use Rattle.x10_place.specs.Frames.{word_at, IsFetchedFor, IsEntered}
+use Rattle.x10_place.specs.Frames.{word_at, IsEntered}
 use Rattle.x10_place.proofs.Maps.{same_or_not}
 
 -- so many registers, of which those below n have the words of the caller's from b on
@@ -45,10 +43,6 @@ arguments_more from i registers n w xs ys before lt same e =
     subst (λ zs. ArgumentsTo from i registers zs (n + 1)) (sym is) (arguments_set from i registers n w xs before lt e)
 
 -- ---- the callee
-
--- the function that a call names
-pub function_there : (program : Module) (f : CallFrame) (i : Instr) → IsFetchedFor program f i → i.op ≡ op.Call → i.x < length program.functions
-function_there program f i fetched e = subst (λ o. IsThere program fetched.function i (form_of o).x i.x) e fetched.in_range.x
 
 -- a callee's registers hold its arguments
 pub entered : (program image : Module) (from : List ℕ) (i : Instr) (words : List ℕ) (s : Signature) (n count : ℕ) (f : CallFrame) → image ≡ program → (g : Function) × (function_at image i.x ≡ Some g) × (s ≡ signature_of g)

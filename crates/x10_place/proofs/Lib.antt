@@ -5,6 +5,8 @@ pub mod Numbers
 pub mod Fetching
 pub mod Calling
 pub mod Chains
+pub mod Storing
+pub mod Beginning
 pub mod Returning
 pub mod Placing
 pub mod Stretching

@@ -1,6 +1,6 @@
 use Rattle.std.proofs.Common.{◌≡◌, ◌<◌, length, sym, ap, subst, ◌∙◌}
 use Rattle.x10_place.specs.declared.frame.CallFrame.{CallFrame}
-use Rattle.x10_place.specs.Stays.{StayState}
+use Rattle.x10_place.specs.Stays.{StayState, Resumes}
 use Rattle.x10_place.proofs.Chains.{caller_is}
 use Rattle.x10_place.proofs.Fetching.{IsRefetched, value_at, function_within, pc_within, fetched_within}
 use Rattle.x10_place.specs.Frames.{word_at}
@@ -43,8 +43,8 @@ next-requires c =
     caller_next c.args.verified.now.program c.in-Some.caller c.args.self.now.top.function c.from.result c.from-2.result c.fetch-call.result c.certificate.ensures.fits is.0
     (record { function_is = c.from.ensures; pc_is = c.from-2.ensures; value = c.fetch-call.ensures.value; in_range = c.fetch-call.ensures.in_range; follows = c.fetch-call.ensures.follows })
 
-pub returns-clause-returns : goal.returns-clause-returns
-returns-clause-returns c =
+pub returns : goal.returns
+returns c =
     let callers = ap (λ (a : StayState). a.callers) (sym c.self.view_is) ∙ c.in-Some.ensures.items in
     let is = caller_is c.args.verified.now.program c.args.self.now c.pop.new.self.items c.in-Some.caller c.requires.placed callers in
     let top = ap (λ (a : StayState). a.top.function) c.self.view_is in
@@ -55,8 +55,9 @@ returns-clause-returns c =
     let named = call_named c.args.verified.now.program c.in-Some.caller c.args.self.now.top.function c.fetch-call.result is.0 (value_at c.args.verified.now.program c.in-Some.caller.function c.in-Some.caller.pc c.from.result c.from-2.result c.fetch-call.result fetched) in
     let rest = λ (g : CallFrame) (e : c.if-is_some.caller ≡ g).
     ap (λ (a : StayState). stay_with a c.replace-ended.new.dest c.pop.new.self.items) c.self.view_is ∙ rest_is c.args.self.now c.pop.new.self.items c.replace-ended.new.dest g (c.replace-ended.ensures.after ∙ e) in
-    elim c.if-is_some.branch [
+    let resumes : Resumes c.args.verified.now.program c.args.self.now c.args.instr _ = elim c.if-is_some.branch [
       | then-is_some w ↦ returned_with c.args.verified.now.program c.args.self.now c.args.instr _ c.in-Some.caller w.put.new.self c.fetch-call.result c.result.result w.word.result callers call named result (sym c.is_some.ensures ∙ w.if-is_some.true)
           (w.word.ensures ∙ ap (λ (a : StayState). word_at a.top.registers.items c.args.instr.a) c.self.view_is) w.put.ensures (rest _ w.caller-is)
       | else-is_some w ↦ returned_without c.args.verified.now.program c.args.self.now c.args.instr _ c.in-Some.caller w.next.new.self c.fetch-call.result c.result.result callers call named result (sym c.is_some.ensures ∙ w.if-is_some.false) w.next.ensures (rest _ w.caller-is)
-    ]
+    ] in
+    record { returns = (resumes, c.keep.ensures) }

@@ -1,0 +1,29 @@
+-- An activity that begins at a place: the stay that begins it goes on, and what may refuse it.
+use Rattle.std.proofs.Common.{◌≡◌, ℕ, ◌+◌, ◌<◌, false, inl, inr, Some, refl, sym, ap, subst, ◌∙◌, arith}
+use Rattle.std.specs.Prelude.{IsSome}
+use Rattle.slab.specs.Slab.{Slab, get, Updates, with_value}
+use Rattle.slab.proofs.SlabLemmas.{Updates-with_value}
+use Rattle.x10_verify.specs.Certified.{Certified}
+use Rattle.x10_place.specs.declared.frame.CallFrame.{CallFrame}
+use Rattle.x10_place.specs.StandsFor.{place_of, OverfillsBegin}
+use Rattle.x10_place.specs.Stays.{StayState, StoreState, GoesNext, totals_in, innermost_at}
+use Rattle.x10_place.proofs.Maps.{some_is}
+
+abbrev stepped_on : StayState → CallFrame → StayState
+stepped_on a f = record a { top = f }
+
+-- the stay with a key went on, and nothing else changed
+pub went_on : (slab : Slab StayState) (key : ℕ) (a b : StayState) (f : CallFrame) → get slab key ≡ Some a → GoesNext a.top f → get slab key ≡ Some b
+    → (c : StayState) × GoesNext b.top c.top × (c ≡ record b { top = c.top }) × Updates slab (with_value slab key (stepped_on a f)) key (Some c)
+went_on slab key a b f there next e =
+    let same : a ≡ b = some_is a b (sym there ∙ e) in
+    (stepped_on a f, subst (λ (x : StayState). GoesNext x.top f) same next, ap (λ x. stepped_on x f) same, Updates-with_value slab key (stepped_on a f) (subst (λ o. IsSome o) (sym there) refl))
+
+-- there is a key for one activity more, and room under its finish
+pub has_room : (verified : Certified) (slab : Slab StayState) (s : StoreState) (key limit vacant live : ℕ) (a b : StayState) → vacant ≡ slab.vacant_key → vacant < 4294967296 → get slab key ≡ Some a → live ≡ (totals_in s (innermost_at s.here a)).live → (live ≡ 4294967295 → ⊥)
+    → get slab key ≡ Some b → OverfillsBegin (place_of verified slab s false) b limit → ⊥
+has_room verified slab s key limit vacant live a b is few there counted less e (inl (ten, many)) = absurd (omega (arith, is, few, many))
+has_room verified slab s key limit vacant live a b is few there counted less e (inr (six, fits, full)) =
+    let same : a ≡ b = some_is a b (sym there ∙ e) in
+    let at : live ≡ (totals_in s (innermost_at s.here b)).live = counted ∙ ap (λ x. (totals_in s (innermost_at s.here x)).live) same in
+    less (omega (arith, at, full))
