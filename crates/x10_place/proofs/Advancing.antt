@@ -1,28 +1,32 @@
 -- What a step of the stay with a key does to a place, by what becomes of the stay.
-use Rattle.std.proofs.Common.{◌≡◌, ◌≢◌, ◌⊎◌, ℕ, Bool, true, false, List, ◌∷◌, Option, Some, None, Ok, Err, refl, sym, ap, subst, ◌∙◌, inl, inr}
-use Rattle.slab.specs.Slab.{Slab, get, Updates}
+use Rattle.std.proofs.Common.{◌≡◌, ◌≢◌, ◌⊎◌, ℕ, Bool, true, false, List, ◌∷◌, Option, Some, None, Ok, Err, refl, sym, ap, ap₂, subst, ◌∙◌, inl, inr}
+use Rattle.slab.specs.Slab.{Slab, get, Updates, with_value}
 use Rattle.x10_kinds.specs.declared.stop.Stop.{Stop}
 use Rattle.x10_kinds.specs.declared.stop.Stop.TheVariants as stop
 use Rattle.x10_code.specs.declared.op.Op.TheVariants as op
 use Rattle.x10_code.specs.declared.instr.Instr.{Instr}
-use Rattle.x10_model.specs.Modules.{Module}
+use Rattle.x10_model.specs.Modules.{Module, FitsImage}
 use Rattle.x10_model.specs.Ranges.{instr_at, instr_in}
 use Rattle.x10_verify.specs.Certified.{Certified}
 use Rattle.x10_place.specs.declared.place.Stepped.{Stepped}
 use Rattle.x10_place.specs.declared.place.Stepped.TheVariants as stepped
 use Rattle.x10_place.specs.declared.route.Route.{Route}
 use Rattle.x10_place.specs.declared.route.Route.TheVariants as route
+use Rattle.x10_place.specs.declared.stay.Outcome.{Outcome}
 use Rattle.x10_place.specs.declared.stay.Outcome.TheVariants as outcome
+use Rattle.x10_place.specs.declared.stay.Spot.{Spot}
 use Rattle.x10_place.specs.Frames.{IsFetchedFor}
 use Rattle.x10_place.specs.Routes.{route_of}
-use Rattle.x10_place.specs.Stays.{StayState, StoreState, IsDoneHere, ClosesFinish, OverfillsBy, Refuses, Steps}
+use Rattle.x10_place.specs.Stays.{StayState, StoreState, IsDoneHere, ClosesFinish, location, ReadsStore, OverfillsBy, Refuses, Steps}
 use Rattle.x10_place.specs.StandsFor.{PlaceState, place_of, plain, store_of, with_stays, location_of, IsStanding, LeadsAll, IsIdleAt, nobody, away, waits, IsOverfull, IsHindered, Overfills, OverfillsBegin}
 use Rattle.x10_place.specs.Stretches.{BeginsAt, IsUntouched, RefusesBegin, IsAdvanced}
 use Rattle.x10_place.proofs.Maps.{some_is, none_some}
-use Rattle.x10_place.proofs.Placing.{IsChecked, is_close_finish}
+use Rattle.x10_place.proofs.Fetching.{IsRefetched, fetched_within}
+use Rattle.x10_place.proofs.Placing.{IsChecked, is_begin, is_close_finish}
+use Rattle.x10_place.proofs.Reading.{working_reads}
 use Rattle.x10_place.proofs.Registering.{registered_after}
 use Rattle.x10_place.proofs.Steps.{step_leads, end_leads, wait_leads, begin_leads, waits_by, begins_by}
-use Rattle.x10_place.proofs.Striding.{seen_after, standing_after, stopped_standing, working_at, ready_at, hindered, overfull}
+use Rattle.x10_place.proofs.Striding.{with_same, seen_after, standing_after, stopped_standing, working_at, ready_at, hindered, overfull}
 
 pub untouched : (old : Slab StayState) (s : StoreState) → IsUntouched old s old s
 untouched old s = record { stays = refl; store = refl }
@@ -83,6 +87,12 @@ module _ (v : Certified) (old : Slab StayState) (s : StoreState) (key : ℕ) (st
 
     ready : a.away ≡ false
     ready = ready_at (place false) key a standing e
+
+    -- the place makes a move, to new stays and what it then keeps
+    pub record Led (new : Slab StayState) (t : StoreState) : Type 0 where
+      pub leads : (stopped : Bool) → LeadsAll (place stopped) key stepped.Moved (place_of v new t stopped)
+      pub here : t.here ≡ s.here
+      pub places : t.places ≡ s.places
 
     -- where a step would find nothing to do, the stay waits at the end of a finish
     pub record IsWaiting : Type 0 where
@@ -163,34 +173,38 @@ module _ (v : Certified) (old : Slab StayState) (s : StoreState) (key : ℕ) (st
 
     -- ---- it ends
 
+    ends_here : (r : Route) (b : StayState) (t : StoreState) → Steps r (location_of (place false)) a s i outcome.Ends b t → (t.here ≡ s.here) × (t.places ≡ s.places)
+    ends_here route.Return b t h = (h.store.here, h.store.places_are)
+    ends_here (route.Local l) b t h = absurd (let f = h.0 in cc)
+    ends_here (route.Make k) b t h = absurd (let f = h.0 in cc)
+    ends_here (route.Site k) b t h = absurd (let f = h.0 in cc)
+    ends_here route.Export b t h = absurd (let f = h.0 in cc)
+    ends_here route.Call b t h = absurd (let f = h.0 in cc)
+    ends_here route.Print b t h = absurd (let f = h.0 in cc)
+    ends_here route.OpenFinish b t h = absurd (let f = h.0 in cc)
+    ends_here route.CloseFinish b t h = absurd h
+    ends_here route.Begin b t h = absurd (let f = h.0 in cc)
+    ends_here route.Later b t h = absurd h
+
+    pub ends_led : (new : Slab StayState) (b : StayState) (t : StoreState) → Steps (route_of i.op) (location_of (place false)) a s i outcome.Ends b t → Updates old new key None → Led new t
+    ends_led new b t steps up =
+        let by = ends_here (route_of i.op) b t steps in
+        record { leads = λ stopped. subst (λ q. LeadsAll (place stopped) key stepped.Moved q) (seen_after v old new s t stopped by.0 by.1) (end_leads (place stopped) key a i e checks fetched new t b steps (plain_updates up)); here = by.0; places = by.1 }
+
     pub advanced_ends : (new : Slab StayState) (b : StayState) (t : StoreState) → Steps (route_of i.op) (location_of (place false)) a s i outcome.Ends b t → Updates old new key None → ((limit : ℕ) → OverfillsBy (route_of i.op) a s i limit → ⊥) → IsAdvanced v old s key (Ok stepped.Moved) new t
     advanced_ends new b t steps up full =
-        let by = ends_here (route_of i.op) steps in
-        let leads = λ (stopped : Bool). subst (λ q. LeadsAll (place stopped) key stepped.Moved q) (seen_after v old new s t stopped by.0 by.1) (end_leads (place stopped) key a i e checks fetched new t b steps (plain_updates up)) in
+        let led = ends_led new b t steps up in
         record {
           idle = λ stopped h. absurd (subst (λ o. Steps (route_of o) (location_of (place false)) a s i outcome.Ends b t) (idle_waits stopped h).is_fine steps);
           only = λ stopped f. absurd cc;
-          some = λ stopped c is on. leads stopped;
+          some = λ stopped c is on. led.leads stopped;
           refused = λ stopped. tt;
           same = tt;
           full = λ stopped limit over. absurd (none_over outcome.Ends b t (λ f. absurd cc) steps full stopped limit over);
-          standing = standing_after (place false) (place_of v new t false) key stepped.Moved standing (leads false);
-          here = by.0;
-          places = by.1;
+          standing = standing_after (place false) (place_of v new t false) key stepped.Moved standing (led.leads false);
+          here = led.here;
+          places = led.places;
         }
-      where
-        ends_here : (r : Route) → Steps r (location_of (place false)) a s i outcome.Ends b t → (t.here ≡ s.here) × (t.places ≡ s.places)
-        ends_here route.Return h = (h.store.here, h.store.places_are)
-        ends_here (route.Local l) h = absurd (let f = h.0 in cc)
-        ends_here (route.Make k) h = absurd (let f = h.0 in cc)
-        ends_here (route.Site k) h = absurd (let f = h.0 in cc)
-        ends_here route.Export h = absurd (let f = h.0 in cc)
-        ends_here route.Call h = absurd (let f = h.0 in cc)
-        ends_here route.Print h = absurd (let f = h.0 in cc)
-        ends_here route.OpenFinish h = absurd (let f = h.0 in cc)
-        ends_here route.CloseFinish h = absurd h
-        ends_here route.Begin h = absurd (let f = h.0 in cc)
-        ends_here route.Later h = absurd h
 
     -- ---- it waits at the end of a finish
 
@@ -215,6 +229,12 @@ module _ (v : Certified) (old : Slab StayState) (s : StoreState) (key : ℕ) (st
           here = ap (λ (u : StoreState). u.here) store;
           places = ap (λ (u : StoreState). u.places) store;
         }
+
+    -- as the stay leaves it
+    pub advanced_left : (b : StayState) (t : StoreState) → Steps (route_of i.op) (location_of (place false)) a s i outcome.Waits b t → ((limit : ℕ) → OverfillsBy (route_of i.op) a s i limit → ⊥) → IsAdvanced v old s key (Ok stepped.Idle) (with_value old key b) t
+    advanced_left b t steps full =
+        let by = waits_by (place false) key a i e checks fetched (route_of i.op) t b steps in
+        advanced_waits (with_value old key b) b t steps (ap plain (ap (with_value old key) by.1.stay ∙ with_same old key a e)) by.1.store full
 
     -- ---- it is refused
 
@@ -249,38 +269,91 @@ module _ (v : Certified) (old : Slab StayState) (s : StoreState) (key : ℕ) (st
       begin_over : (stopped : Bool) (limit : ℕ) → IsOverfull (place stopped) key limit → OverfillsBegin (place false) a limit
       begin_over stopped limit over = subst (λ o. Overfills (route_of o) (place stopped) a i limit) is_async (overfills stopped limit over)
 
+      pub begins_led : (new : Slab StayState) (t : StoreState) → BeginsAt v.program old s key new t → Led new t
+      begins_led new t begins = record {
+        leads = λ stopped. subst (λ q. LeadsAll (place stopped) key stepped.Moved q) (seen_after v old new s t stopped begins.store.here begins.store.places_are) (begin_leads (place stopped) key new t checks (plain_begins begins));
+        here = begins.store.here;
+        places = begins.store.places_are;
+      }
+
       pub advanced_begins : (new : Slab StayState) (t : StoreState) → BeginsAt v.program old s key new t → ((limit : ℕ) → OverfillsBegin (place false) a limit → ⊥) → IsAdvanced v old s key (Ok stepped.Moved) new t
       advanced_begins new t begins full =
-          let leads = λ (stopped : Bool). subst (λ q. LeadsAll (place stopped) key stepped.Moved q) (seen_after v old new s t stopped begins.store.here begins.store.places_are) (begin_leads (place stopped) key new t checks (plain_begins begins)) in
+          let led = begins_led new t begins in
           record {
             idle = λ stopped h. absurd (not_waiting (idle_waits stopped h));
             only = λ stopped f. absurd cc;
-            some = λ stopped c is on. leads stopped;
+            some = λ stopped c is on. led.leads stopped;
             refused = λ stopped. tt;
             same = tt;
             full = λ stopped limit over. absurd (full limit (begin_over stopped limit over));
-            standing = standing_after (place false) (place_of v new t false) key stepped.Moved standing (leads false);
-            here = begins.store.here;
-            places = begins.store.places_are;
+            standing = standing_after (place false) (place_of v new t false) key stepped.Moved standing (led.leads false);
+            here = led.here;
+            places = led.places;
           }
+
+      pub begin_hindered : (stopped : Bool) (why : Stop) → RefusesBegin v old s key why → IsHindered (place stopped) key why
+      begin_hindered stopped why (inl memory) = inl memory
+      begin_hindered stopped why (inr h) = inr (
+        h.0,
+        h.1,
+        overfull (place stopped) key a e ready i fetched h.0 (subst (λ o. Overfills (route_of o) (place stopped) a i h.0) (sym is_async) (subst (λ c. OverfillsBegin (place false) c h.0) (some_is h.2 a (sym h.3 ∙ e)) h.4)),
+      )
 
       pub advanced_hindered : (new : Slab StayState) (t : StoreState) (why : Stop) → IsUntouched old s new t → RefusesBegin v old s key why → ((limit : ℕ) → OverfillsBegin (place false) a limit → why ≡ stop.Limit limit) → IsAdvanced v old s key (Err why) new t
       advanced_hindered new t why same refuses full = record {
         idle = λ stopped h. absurd (not_waiting (idle_waits stopped h));
         only = λ stopped f. absurd cc;
         some = λ stopped c is on. tt;
-        refused = λ stopped. refused_at stopped refuses;
+        refused = λ stopped. begin_hindered stopped why refuses;
         same = same;
         full = λ stopped limit over. ap Err (full limit (begin_over stopped limit over));
         standing = still_standing v old new s t same standing;
         here = ap (λ (u : StoreState). u.here) same.store;
         places = ap (λ (u : StoreState). u.places) same.store;
       }
-        where
-          refused_at : (stopped : Bool) → RefusesBegin v old s key why → IsHindered (place stopped) key why
-          refused_at stopped (inl memory) = inl memory
-          refused_at stopped (inr h) = inr (
-            h.0,
-            h.1,
-            overfull (place stopped) key a e ready i fetched h.0 (subst (λ o. Overfills (route_of o) (place stopped) a i h.0) (sym is_async) (subst (λ c. OverfillsBegin (place false) c h.0) (some_is h.2 a (sym h.3 ∙ e)) h.4)),
-          )
+
+    -- ---- as the stay hands it to its place
+
+    module _ (b : StayState) (t : StoreState) (steps : Steps (route_of i.op) (location_of (place false)) a s i outcome.Begins b t) where
+      handed : (with_value old key b ≡ old) × (t ≡ s) × (i.op ≡ op.Async)
+      handed =
+          let by = begins_by (place false) key a i e checks fetched (route_of i.op) t b steps in
+          (ap (with_value old key) by.1 ∙ with_same old key a e, by.2, is_begin i.op by.0)
+
+      over_there : (limit : ℕ) → OverfillsBegin (place false) a limit → OverfillsBegin (place_of v (with_value old key b) t false) a limit
+      over_there limit over = subst (λ (slab : Slab StayState). OverfillsBegin (place_of v slab t false) a limit) (sym handed.0) (subst (λ q. OverfillsBegin (place_of v old q false) a limit) (sym handed.1) over)
+
+      still_there : get (with_value old key b) key ≡ Some a
+      still_there = ap (λ (slab : Slab StayState). get slab key) handed.0 ∙ e
+
+      -- what the place asks of the stay whose instruction it makes
+      pub can_begin : (c : StayState) × (j : Instr) × (get (with_value old key b) key ≡ Some c) × IsFetchedFor v.program c.top j × (j.op ≡ op.Async)
+      can_begin = (a, i, still_there, fetched, handed.2)
+
+      pub begun_by : (new : Slab StayState) (u : StoreState) → BeginsAt v.program (with_value old key b) t key new u
+          → ((limit : ℕ) (c : StayState) → get (with_value old key b) key ≡ Some c → OverfillsBegin (place_of v (with_value old key b) t false) c limit → ⊥) → IsAdvanced v old s key (Ok stepped.Moved) new u
+      begun_by new u begins full =
+          advanced_begins handed.2 new u (subst (λ (slab : Slab StayState). BeginsAt v.program slab s key new u) handed.0 (subst (λ q. BeginsAt v.program (with_value old key b) q key new u) handed.1 begins))
+          (λ limit over. full limit a still_there (over_there limit over))
+
+      pub hindered_begin : (new : Slab StayState) (u : StoreState) (why : Stop) → IsUntouched (with_value old key b) t new u → RefusesBegin v (with_value old key b) t key why
+          → ((limit : ℕ) (c : StayState) → get (with_value old key b) key ≡ Some c → OverfillsBegin (place_of v (with_value old key b) t false) c limit → why ≡ stop.Limit limit) → IsAdvanced v old s key (Err why) new u
+      hindered_begin new u why same refuses full =
+          advanced_hindered handed.2 new u why (subst (λ (slab : Slab StayState). IsUntouched slab s new u) handed.0 (subst (λ q. IsUntouched (with_value old key b) q new u) handed.1 same))
+          (subst (λ (slab : Slab StayState). RefusesBegin v slab s key why) handed.0 (subst (λ q. RefusesBegin v (with_value old key b) q key why) handed.1 refuses)) (λ limit over. full limit a still_there (over_there limit over))
+
+-- the steps of a stay at the place that its place says it is
+pub steps_as : (program : Module) (spot : Spot) (s : StoreState) (a : StayState) (i : Instr) (o p : Outcome) (b : StayState) (t : StoreState) → spot.here ≡ s.here → spot.places ≡ s.places → o ≡ p → Steps (route_of i.op) (location program spot) a s i o b t
+    → Steps (route_of i.op) (record { program = program; here = s.here; places = s.places }) a s i p b t
+steps_as program spot s a i o p b t here places same steps =
+    subst (λ at. Steps (route_of i.op) at a s i p b t) (ap₂ (λ h k. location program (record { here = h; places = k })) here places) (subst (λ q. Steps (route_of i.op) (location program spot) a s i q b t) same steps)
+
+-- the instruction of a stay, as it was fetched
+pub fetched_at : (v : Certified) (old : Slab StayState) (s : StoreState) (key : ℕ) (a : StayState) (f pc : ℕ) (i : Instr) → IsStanding (place_of v old s false) → FitsImage v.program → get old key ≡ Some a → IsRefetched v.program a.top.function a.top.pc f pc i → IsFetchedFor v.program a.top i
+fetched_at v old s key a f pc i standing fits e r = fetched_within v.program a.top.function a.top.pc _ f pc i fits (working_at (place_of v old s false) key a standing e).typed.stands.placed.top r
+
+-- what it reads is there
+pub reads_at : (v : Certified) (old : Slab StayState) (s : StoreState) (key : ℕ) (a : StayState) (spot : Spot) (i : Instr) → IsStanding (place_of v old s false) → IsChecked v.program → get old key ≡ Some a → IsFetchedFor v.program a.top i → spot.here ≡ s.here → spot.places ≡ s.places
+    → ReadsStore (route_of i.op) (location v.program spot) a s i
+reads_at v old s key a spot i standing checks e fetched here places =
+    subst (λ at. ReadsStore (route_of i.op) at a s i) (sym (ap₂ (λ h k. location v.program (record { here = h; places = k })) here places)) (working_reads (location_of (place_of v old s false)) s a (working_at (place_of v old s false) key a standing e) checks i fetched)

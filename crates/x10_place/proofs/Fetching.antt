@@ -364,3 +364,9 @@ within_again program index v w i h lands = record {
 pub target_there : (program : Module) (f : Function) (i : Instr) (o : Operand) → IsThere program f i o i.x → is_target o ≡ true → i.x < length f.code
 target_there program f i operand.Target there e = there
 target_there program f i _ there e = absurd cc
+
+-- after an operation of the frame alone
+pub local_within : (program : Module) (index : ℕ) (v : Workspace) (i : Instr) (h : IsFetched program index v.pc (length v.words) i) (l : Local) (w : Workspace) → route_of i.op ≡ route.Local l → Acts l program v i w → IsWithin program index w.pc (length w.words)
+local_within program index v i h l w r acts =
+    within_again program index v w i h
+    (local_lands i (λ n. n < length h.function.code) (λ target. target_there program h.function i (form_of i.op).x h.in_range.x target) program v (local_next program index v.pc (length v.words) i h l r) l w r acts)

@@ -29,4 +29,5 @@ pub mod Steps
 pub mod Keeping
 pub mod Striding
 pub mod Advancing
+pub mod Running
 pub mod Openings

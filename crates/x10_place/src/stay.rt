@@ -357,9 +357,9 @@ impl Stay {
         while done < most {
             let (count, pause) = self.stride(alloc, verified, spot, store, most - done);
             done += count;
-            if pause != Pause::Goes {
+            let Pause::Goes = pause else {
                 return (done, pause);
-            }
+            };
         }
         (done, Pause::Goes)
     }
