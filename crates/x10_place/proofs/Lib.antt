@@ -6,6 +6,7 @@ pub mod Fetching
 pub mod Calling
 pub mod Chains
 pub mod Storing
+pub mod Waiting
 pub mod Beginning
 pub mod Returning
 pub mod Placing

@@ -1,6 +1,5 @@
 -- What a place keeps: the books of its finishes by number, and its totals.
-use Rattle.std.proofs.Common.{suc, ◌∷◌, ◌-◌, length, reverse, slice_index_or, ◌≡◌, ◌↔◌, ℕ, ◌==◌, ◌&&◌, ◌+◌, Bool, true, false, cond, if◌then◌else◌, List, [], Option, Some, None, IsTrue, Result, Ok, Err, OnOk, refl, sym, ◌∙◌, ap, subst, arith}
-use Rattle.std.proofs.lemmas.List.{length-reverse, get_or-reverse}
+use Rattle.std.proofs.Common.{◌≡◌, ◌↔◌, ℕ, ◌==◌, ◌&&◌, ◌+◌, Bool, true, false, cond, if◌then◌else◌, List, [], Option, Some, None, IsTrue, Result, Ok, Err, OnOk, refl, sym, ◌∙◌, ap, subst, arith}
 use Rattle.std.proofs.lemmas.Bool.{eqb-true}
 use Rattle.std.specs.Ordering.{nat_cmp}
 use Rattle.std.specs.Result.{is_err}
@@ -13,17 +12,18 @@ use Rattle.x10_finish.specs.Books.{Kept, finish_of, kept_of}
 use Rattle.x10_heap.specs.Heaps.{empty}
 use Rattle.x10_place.specs.StandsFor.{first_number}
 use Rattle.x10_place.specs.Opening.{IsNewStore}
-use Rattle.x10_place.specs.Stays.{StoreState, book_at, books_of, cut_of, books_in, totals_in, kept_in, finish_at, changed_at, IsBookOf, AreBooks, IsDoneHere, StayState, HasFinish, WaitsAtFinish, Recounts}
+use Rattle.x10_place.specs.Stays.{StoreState, book_at, books_of, cut_of, books_in, totals_in, kept_in, finish_at, changed_at, IsBookOf, AreBooks, IsDoneHere, Recounts}
 use Rattle.x10_place.proofs.Maps.{some_is, none_some, at_key, off_key}
 
 -- a book is found under its own number alone
-pub at_is_same : (k n : ℕ) → is_at (nat_cmp k) n ≡ (n == k)
+at_is_same : (k n : ℕ) → is_at (nat_cmp k) n ≡ (n == k)
 at_is_same k n = grind arith
 
 -- one book is entered, or goes
 abbrev pub Writes : List (ℕ × Kept) → ℕ → Option Kept → List (ℕ × Kept) → Type 0
 Writes old k o new = (n : ℕ) → book_at new n ≡ cond (is_at (nat_cmp k) n) o (book_at old n)
 
+-- a book is entered
 entered_then : (here places n : ℕ) (t : Bool) (w b : Kept) (o : Option Kept) → (t ≡ true → IsBookOf here places n w) → (o ≡ Some b → IsBookOf here places n b) → cond t (Some w) o ≡ Some b → IsBookOf here places n b
 entered_then here places n true w b o h g e = subst (IsBookOf here places n) (some_is w b e) (h refl)
 entered_then here places n false w b o h g e = g e
@@ -32,6 +32,7 @@ pub entered_book : (here places k : ℕ) (old new : List (ℕ × Kept)) (w : Kep
 entered_book here places k old new w h is all n b e =
     entered_then here places n (is_at (nat_cmp k) n) w b (book_at old n) (λ t. subst (λ m. IsBookOf here places m w) (sym (eqb-true n k (sym (at_is_same k n) ∙ t))) is) (all n b) (sym (h n) ∙ e)
 
+-- a book goes
 gone_then : (here places n : ℕ) (t : Bool) (b : Kept) (o : Option Kept) → (o ≡ Some b → IsBookOf here places n b) → cond t None o ≡ Some b → IsBookOf here places n b
 gone_then here places n true b o g e = absurd (none_some None b refl e)
 gone_then here places n false b o g e = g e
@@ -71,6 +72,7 @@ none_counted id f false e apart = subst (λ b. (if same_finish f root && b then 
     never true = refl
     never false = refl
 
+-- at another place than 0 nothing more is done
 pub new_elsewhere : (id places : ℕ) (s : StoreState) → (id ≡ 0 → ⊥) → IsBlank id places s → IsNewStore id places s
 new_elsewhere id places s apart blank = record {
   heap = blank.heap;
@@ -92,6 +94,7 @@ root_kept : (t : Bool) (o : Option Cut) → o ≡ None → kept_in (if t then So
 root_kept true o e = refl
 root_kept false o e = ap kept_in e
 
+-- at place 0 the root is opened, and main begins under it
 new_at_zero : (places : ℕ) (s t u : StoreState) → IsBlank 0 places s → Recounts s t (s.opened + 1) (totals_in s) (with_entry (books_in s) s.opened (Some (λ p. zeros))) → Recounts t u t.opened (changed_at (totals_in t) root begins_one) (books_in t) → IsNewStore 0 places u
 new_at_zero places s t u blank opens begins = record {
   heap = begins.heap ∙ opens.heap ∙ blank.heap;
@@ -107,8 +110,10 @@ new_at_zero places s t u blank opens begins = record {
   where
     opened : u.opened ≡ 1
     opened = begins.opened_is ∙ opens.opened_is ∙ ap (λ n. n + 1) blank.opened
+
     books : (n : ℕ) → books_in u n ≡ with_entry (books_in s) 0 (Some (λ p. zeros)) n
     books n = begins.books_are n ∙ opens.books_are n ∙ ap (λ m. with_entry (books_in s) m (Some (λ p. zeros)) n) blank.opened
+
     none : (n : ℕ) → books_in s n ≡ None
     none n = ap (λ es. books_of es n) blank.books
 
@@ -119,22 +124,3 @@ new_at_root id places s t u e blank opens begins = subst (λ i. IsNewStore i pla
 pub when_ok : {T E A : Type 0} (r : Result T E) → is_err r ≡ false → OnOk r A → A
 when_ok (Ok x) e h = h
 when_ok (Err x) e h = absurd cc
-
--- ---- the finishes of a stay, of which the last one pushed is the first
-
-pub last_is : (items : List ℕ) (n d : ℕ) (outer : List ℕ) → reverse items ≡ n ∷ outer → slice_index_or items (length items - 1) d ≡ n
-last_is items n d outer e =
-    let long : length items ≡ suc (length outer) = sym (length-reverse items) ∙ ap length e in
-    let last : length items - 1 - 0 ≡ length items - 1 = omega arith in
-    ap (λ k. slice_index_or items k d) (sym last) ∙ sym (get_or-reverse items 0 d (omega (arith, long))) ∙ ap (λ ns. slice_index_or ns 0 d) e
-
--- the innermost finish may not end yet
-pub waits_at : (t : Bool) (items : List ℕ) (number : ℕ) (a : StayState) (s : StoreState) → reverse items ≡ a.finishes → number ≡ slice_index_or items (length items - 1) number → HasFinish a s → (IsDoneHere s number → IsTrue t) → t ≡ false → WaitsAtFinish a s a s
-waits_at t items number a s is at held done off = record {
-  number = number;
-  outer = held.1;
-  innermost = held.2 ∙ ap (λ n. n ∷ held.1) (sym (at ∙ last_is items held.0 number held.1 (is ∙ held.2)));
-  waits = λ d. absurd (let yes = done d in cc);
-  stay = refl;
-  store = refl;
-}

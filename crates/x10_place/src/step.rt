@@ -18,8 +18,10 @@ use x10_code::Instr;
 use x10_kinds::Stop;
 use x10_verify::Verified;
 
-/// The greatest key that a stay may have, and the limit that it is.
+/// The greatest key that a stay may have.
 const MOST_KEYS: usize = 4_294_967_295;
+
+/// The limit of keys.
 const KEYS: u8 = 10;
 
 /// The limit of activities that live under one finish at one place.

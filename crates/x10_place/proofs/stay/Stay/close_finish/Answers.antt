@@ -1,6 +1,6 @@
-use Rattle.std.proofs.Common.{ℕ, ◌-◌, slice_index_or, ap, sym, ◌∙◌}
+use Rattle.std.proofs.Common.{ℕ, ◌-◌, slice_index_or, ap, ◌∙◌}
 use Rattle.x10_place.specs.Stays.{StayState}
-use Rattle.x10_place.proofs.Storing.{waits_at}
+use Rattle.x10_place.proofs.Waiting.{waits_at}
 use Rattle.x10_place.proofs.stay.Stay.close_finish.Goals as goal
 
 pub returns-then-not-is_done : goal.returns-then-not-is_done
