@@ -1,5 +1,5 @@
 -- What a step of the stay with a key does to a place, by what becomes of the stay.
-use Rattle.std.proofs.Common.{◌≡◌, ◌≢◌, ◌⊎◌, ℕ, Bool, true, false, List, ◌∷◌, Option, Some, None, Ok, Err, refl, sym, ap, ap₂, subst, ◌∙◌, inl, inr}
+use Rattle.std.proofs.Common.{◌≡◌, ◌≢◌, ℕ, Bool, true, false, List, ◌∷◌, Option, Some, None, Ok, Err, refl, sym, ap, ap₂, subst, ◌∙◌, inl, inr}
 use Rattle.slab.specs.Slab.{Slab, get, Updates, with_value}
 use Rattle.x10_kinds.specs.declared.stop.Stop.{Stop}
 use Rattle.x10_kinds.specs.declared.stop.Stop.TheVariants as stop
@@ -8,7 +8,6 @@ use Rattle.x10_code.specs.declared.instr.Instr.{Instr}
 use Rattle.x10_model.specs.Modules.{Module, FitsImage}
 use Rattle.x10_model.specs.Ranges.{instr_at, instr_in}
 use Rattle.x10_verify.specs.Certified.{Certified}
-use Rattle.x10_place.specs.declared.place.Stepped.{Stepped}
 use Rattle.x10_place.specs.declared.place.Stepped.TheVariants as stepped
 use Rattle.x10_place.specs.declared.route.Route.{Route}
 use Rattle.x10_place.specs.declared.route.Route.TheVariants as route
@@ -18,7 +17,7 @@ use Rattle.x10_place.specs.declared.stay.Spot.{Spot}
 use Rattle.x10_place.specs.Frames.{IsFetchedFor}
 use Rattle.x10_place.specs.Routes.{route_of}
 use Rattle.x10_place.specs.Stays.{StayState, StoreState, IsDoneHere, ClosesFinish, location, ReadsStore, OverfillsBy, Refuses, Steps}
-use Rattle.x10_place.specs.StandsFor.{PlaceState, place_of, plain, store_of, with_stays, location_of, IsStanding, LeadsAll, IsIdleAt, nobody, away, waits, IsOverfull, IsHindered, Overfills, OverfillsBegin}
+use Rattle.x10_place.specs.StandsFor.{PlaceState, place_of, plain, location_of, IsStanding, LeadsAll, IsIdleAt, nobody, away, waits, IsOverfull, IsHindered, Overfills, OverfillsBegin}
 use Rattle.x10_place.specs.Stretches.{BeginsAt, IsUntouched, RefusesBegin, IsAdvanced}
 use Rattle.x10_place.proofs.Maps.{some_is, none_some}
 use Rattle.x10_place.proofs.Fetching.{IsRefetched, fetched_within}
@@ -26,7 +25,7 @@ use Rattle.x10_place.proofs.Placing.{IsChecked, is_begin, is_close_finish}
 use Rattle.x10_place.proofs.Reading.{working_reads}
 use Rattle.x10_place.proofs.Registering.{registered_after}
 use Rattle.x10_place.proofs.Steps.{step_leads, end_leads, wait_leads, begin_leads, waits_by, begins_by}
-use Rattle.x10_place.proofs.Striding.{with_same, seen_after, standing_after, stopped_standing, working_at, ready_at, hindered, overfull}
+use Rattle.x10_place.proofs.Striding.{with_same, seen_after, standing_after, working_at, ready_at, hindered, overfull}
 
 pub untouched : (old : Slab StayState) (s : StoreState) → IsUntouched old s old s
 untouched old s = record { stays = refl; store = refl }

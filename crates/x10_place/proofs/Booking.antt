@@ -1,5 +1,5 @@
 -- Books of a place: after each move there is one for each finish that a stay has open.
-use Rattle.std.proofs.Common.{◌≡◌, ◌⊎◌, ℕ, zero, suc, ◌+◌, ◌<◌, ◌≤◌, List, [], ◌∷◌, Option, Some, None, refl, sym, ap, subst, ◌∙◌, inl, inr, arith}
+use Rattle.std.proofs.Common.{◌≡◌, ◌⊎◌, ℕ, zero, suc, ◌+◌, ◌<◌, ◌≤◌, [], ◌∷◌, Option, Some, None, refl, sym, ap, subst, ◌∙◌, inl, inr, arith}
 use Rattle.x10_model.specs.Maps.{with_entry}
 use Rattle.x10_model.specs.Places as machine
 use Rattle.x10_model.specs.Places.{Stay, Effect, Waits, Works, Begins, Spawns, Shifts, Opens, Closes, Ends}
@@ -36,7 +36,7 @@ found stays key k o s e = elim (same_or_not k key) [
 
 module _ (id opened : ℕ) (stays : ℕ → Option Stay) (books : ℕ → Option Cut) (h : AreBooked id stays opened books) (key : ℕ) where
   -- with no finish open, or none at all
-  without : (o : Option Stay) → ((t : Stay) → o ≡ Some t → t.finishes ≡ []) → AreBooked id (with_entry stays key o) opened books
+  pub without : (o : Option Stay) → ((t : Stay) → o ≡ Some t → t.finishes ≡ []) → AreBooked id (with_entry stays key o) opened books
   without o empty = record {
     booked = λ k i n s is f. elim (found stays key k o s is) [ inl c ↦ absurd (none k i n s c.1 f) | inr c ↦ h.booked k i n s c.1 f ];
     numbered = λ k i n s is f. elim (found stays key k o s is) [ inl c ↦ absurd (none k i n s c.1 f) | inr c ↦ h.numbered k i n s c.1 f ];
@@ -157,6 +157,18 @@ module _ (id opened : ℕ) (stays : ℕ → Option Stay) (books : ℕ → Option
         together k l i j c d (inr a) (inr b) at q = sym a.1 ∙ q ∙ b.1
         together k l i j c d (inl a) (inr b) at q = absurd (b.0 (sym at ∙ a.0))
         together k l i j c d (inr a) (inl b) at q = absurd (a.0 (at ∙ b.0))
+
+-- ---- at the beginning
+
+pub booked_first : (id opened : ℕ) (books : ℕ → Option Cut) → opened ≡ first_number id → ((n : ℕ) → opened ≤ n → books n ≡ None) → (id ≡ 0 → HasBook books 0) → AreBooked id (λ k. None) opened books
+booked_first id opened books is unopened root = record {
+  booked = λ k i n s e. absurd cc;
+  numbered = λ k i n s e. absurd cc;
+  apart = λ k l i j n s t e. absurd cc;
+  unopened = unopened;
+  first = omega (arith, is);
+  root = root;
+}
 
 -- ---- a move
 

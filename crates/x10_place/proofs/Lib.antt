@@ -31,4 +31,5 @@ pub mod Keeping
 pub mod Striding
 pub mod Advancing
 pub mod Running
+pub mod Answering
 pub mod Openings

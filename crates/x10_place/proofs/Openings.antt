@@ -1,51 +1,32 @@
 -- Places at the beginning, and which keys are in use.
-use Rattle.std.proofs.Common.{◌≡◌, ◌↔◌, ℕ, zero, suc, ◌+◌, ◌≤◌, ◌==◌, Bool, true, false, cond, List, [], ◌∷◌, length, map, Option, Some, None, refl, sym, ap, subst, ◌∙◌, inl, inr, arith}
-use Rattle.std.specs.Prelude.{IsTrue, IsSome, reverse, slice_get, slice_index, slice_index_or}
-use Rattle.std.proofs.lemmas.Bool.{eqb-true, eq-eqb, ne_eqb}
-use Rattle.slab.specs.Slab.{Slab, get, entries_from, slab_len}
-use Rattle.slab.proofs.SlabLemmas.{length-entries_from}
+use Rattle.std.proofs.Common.{◌≡◌, ℕ, ◌+◌, ◌≤◌, ◌==◌, Bool, true, false, cond, List, [], ◌∷◌, length, map, Option, Some, None, refl, sym, ap, ap₂, subst, ◌∙◌, inl, inr, arith}
+use Rattle.std.specs.Prelude.{◌&&◌, if◌then◌else◌, IsSome, slice_get, slice_index, slice_index_or}
+use Rattle.std.proofs.lemmas.Bool.{ne_eqb}
+use Rattle.slab.specs.Slab.{Slab, get}
 use Rattle.x10_kinds.specs.declared.kind.Kind.{Kind}
 use Rattle.x10_model.specs.Modules.{Module, Function, FitsImage}
 use Rattle.x10_model.specs.declared.slot.Slot.{Slot}
 use Rattle.x10_model.specs.Values.{Value, Cells, IsOfKind}
 use Rattle.x10_model.specs.Signatures.{FitSlots}
-use Rattle.x10_model.specs.Places.{Stay, root}
+use Rattle.x10_model.specs.Places.{Finish, Stay, root}
+use Rattle.x10_model.specs.Totals.{Totals, nothing, first_totals}
 use Rattle.x10_model.specs.Maps.{with_entry}
 use Rattle.x10_model.specs.Moves.{new_stay}
-use Rattle.x10_model.specs.Worlds.{first_place, empty_place}
+use Rattle.x10_model.specs.Worlds.{same_finish, first_place, empty_place}
+use Rattle.x10_finish.proofs.Tallied.{none_tallied, begun_tallied}
 use Rattle.x10_model.specs.Assignments.{State, IsBelow, parameter_kind, entry_state}
+use Rattle.x10_verify.specs.Certified.{Certified}
 use Rattle.x10_verify.proofs.Wholes.{function_fits}
 use Rattle.x10_heap.specs.Heaps.{HeapState, empty}
 use Rattle.x10_heap.specs.Words.{Context, HoldsHeap}
-use Rattle.x10_place.specs.Stays.{StayState, StoreState, new_store, AreCalling, IsPlaced}
-use Rattle.x10_place.specs.StandsFor.{IsWithinPlaces, Far, PlaceState, store_of, context_of, Assigned, HoldRegisters, line_as, StandsForStay, HoldsExports, StandsFor, IsStanding, setting_of}
-use Rattle.x10_place.specs.Opening.{IsMain, HoldsOnly, opening_place, opened_at, Opens}
+use Rattle.x10_place.specs.Stays.{StayState, StoreState, totals_in, books_in, AreCalling, open_in, IsPlaced}
+use Rattle.x10_place.specs.StandsFor.{IsWithinPlaces, Far, PlaceState, place_of, plain, store_of, first_number, context_of, Assigned, HoldRegisters, line_as, StandsForStay, HoldsExports, StandsFor, IsStanding, setting_of}
+use Rattle.x10_place.specs.Opening.{IsMain, HoldsOnly, opening_place, IsNewStore, Opens}
 use Rattle.x10_place.proofs.Maps.{some_is, at_key, off_key, same_or_not, none_some}
 use Rattle.x10_place.proofs.Homes.{homes_weaken, homes_entry}
 use Rattle.x10_place.proofs.Calls.{no_turns}
-
--- ---- keys in use
-
-none_left : (slots : List (Option StayState)) (k : ℕ) → length (entries_from k slots) ≡ 0 → (i : ℕ) → slice_index_or slots i None ≡ None
-none_left [] k e i = refl
-none_left (None ∷ slots) k e zero = refl
-none_left (None ∷ slots) k e (suc i) = none_left slots (k + 1) e i
-none_left (Some a ∷ slots) k e i = absurd (omega arith)
-
-all_left : (slots : List (Option StayState)) (k : ℕ) → ((i : ℕ) → slice_index_or slots i None ≡ None) → length (entries_from k slots) ≡ 0
-all_left [] k h = refl
-all_left (None ∷ slots) k h = all_left slots (k + 1) (λ i. h (suc i))
-all_left (Some a ∷ slots) k h = absurd (let e = h zero in cc)
-
-pub empty_is : (slab : Slab StayState) (b : Bool) → b ≡ (slab_len slab == 0) → IsTrue b ↔ ((k : ℕ) → get slab k ≡ None)
-empty_is slab b e = (
-  (λ t. none_left slab.slots 0 (length-entries_from 0 slab.slots ∙ eqb-true (slab_len slab) 0 (sym e ∙ t))),
-  (λ h. e ∙ eq-eqb (slab_len slab) 0 (sym (length-entries_from 0 slab.slots) ∙ all_left slab.slots 0 h)),
-)
-
--- at place 0 the run has ended where no activity is left
-pub closed_is : (slab : Slab StayState) (id : ℕ) (b : Bool) → id ≡ 0 → b ≡ (slab_len slab == 0) → IsTrue b ↔ ((id ≡ 0) × ((k : ℕ) → get slab k ≡ None))
-closed_is slab id b e is = let h = empty_is slab b is in ((λ t. (e, h.0 t)), (λ p. h.1 p.1))
+use Rattle.x10_place.proofs.Booking.{without, booked_first}
+use Rattle.x10_place.proofs.Placing.{open_first}
 
 -- ---- main
 
@@ -68,11 +49,12 @@ main_placed program a fits main =
     record {
       top = record { function = main.function; is_function = main.is_function; pc = omega (arith, main.pc, f.length.0); registers = main.registers };
       callers = subst (λ fs. AreCalling program fs a.top.function) (sym main.callers) tt;
+      finishes = ap length main.finishes ∙ sym (ap₂ (λ m n. m + n) (ap (open_in program) main.callers) (open_first program a.top main.pc));
     }
 
 -- main's words stand for main's stay
-main_stands : (program : Module) (assigned : Assigned program) (x : Context) (cells : Cells) (a : StayState) → FitsImage program → IsMain program a → StandsForStay program assigned x a (new_stay program.entry [] root None)
-main_stands program assigned x cells a fits main =
+main_stands : (program : Module) (assigned : Assigned program) (x : Context) (cells : Cells) (a : StayState) → FitsImage program → IsMain program a → x.here ≡ 0 → StandsForStay program assigned x a (new_stay program.entry [] root None)
+main_stands program assigned x cells a fits main first =
     let start = (assigned a.top.function main.function main.is_function).1.consistent.entry in
     record {
       placed = main_placed program a fits main;
@@ -90,11 +72,11 @@ main_stands program assigned x cells a fits main =
         loops = λ slot lt. sym (ap (λ ls. slice_index ls slot) main.loops ∙ no_turns 8 slot);
       };
       callers = main.callers;
-      finishes = sym (ap reverse main.home.finishes);
-      inherited = sym main.home.inherited;
-      away = sym main.home.away;
-      back = sym main.home.back;
-      home = main.home;
+      finishes = sym main.finishes;
+      inherited = sym main.inherited;
+      away = sym main.away;
+      back = sym main.back;
+      home = record { inherited = ap (λ (f : Finish). f.home) main.inherited ∙ sym first; away = main.away; back = main.back };
     }
 
 -- ---- places
@@ -108,18 +90,33 @@ empty_exports : (heap : HeapState) → heap ≡ empty → HoldsExports heap []
 empty_exports heap e = subst (λ h. HoldsExports h []) (sym e) (record { exports_are = refl; named = λ id export is. absurd cc })
 
 -- what a place at the beginning has
-pub record IsFresh (p : PlaceState) (opened : ℕ) : Type 0 where
+pub record IsFresh (p : PlaceState) : Type 0 where
   pub fits : FitsImage p.program
   pub assigned : Assigned p.program
   pub site : IsWithinPlaces p.program p.id p.places
-  pub heap : p.heap ≡ empty
-  pub lines : p.lines ≡ []
-  pub opened_is : p.opened ≡ opened
+  pub store : IsNewStore p.id p.places (store_of p)
+
+-- main alone lives, under the root
+main_lives : (id : ℕ) (f : Finish) (totals : Totals) → id ≡ 0 → totals ≡ first_totals id f → totals.live ≡ (if same_finish f root then 1 else 0)
+main_lives id f totals z e = ap (λ (t : Totals). t.live) (e ∙ ap (λ n. first_totals n f) z) ∙ by (same_finish f root)
+  where
+    by : (b : Bool) → (let t : Totals = if b && true then record nothing { live = 1 } else nothing in t.live) ≡ (if b then 1 else 0)
+    by true = refl
+    by false = refl
+
+-- and nothing elsewhere
+nothing_lives : (id : ℕ) (f : Finish) (totals : Totals) → (id == 0) ≡ false → totals ≡ first_totals id f → totals.live ≡ 0
+nothing_lives id f totals ne e = ap (λ (t : Totals). t.live) e ∙ by (same_finish f root) (id == 0) ne
+  where
+    by : (b c : Bool) → c ≡ false → (let t : Totals = if b && c then record nothing { live = 1 } else nothing in t.live) ≡ 0
+    by true false g = refl
+    by false false g = refl
+    by b true g = absurd cc
 
 module _ (far : Far) (p : PlaceState) where
   -- a place with main alone stands for the first place of the machine
-  pub first_stands : (key : ℕ) (a : StayState) → IsFresh p 1 → IsMain p.program a → HoldsOnly p.stays key a → StandsFor far p (first_place (setting_of p) key)
-  first_stands key a fresh main only = record {
+  pub first_stands : (key : ℕ) (a : StayState) → p.id ≡ 0 → IsFresh p → IsMain p.program a → HoldsOnly p.stays key a → StandsFor far p (first_place (setting_of p) key)
+  first_stands key a zero_is fresh main only = record {
     assigned = fresh.assigned;
     none = λ k e. elim (same_or_not k key) [
       | inl same ↦ absurd (none_some (get p.stays k) a e (subst (λ q. get p.stays q ≡ Some a) (sym same) only.here))
@@ -130,31 +127,35 @@ module _ (far : Far) (p : PlaceState) where
         first,
         subst (λ q. with_entry (λ (n : ℕ). None) key (Some first) q ≡ Some first) (sym same) (at_key (λ (n : ℕ). None) key (Some first)),
         subst (λ x. StandsForStay p.program fresh.assigned (context_of far p) x first) (some_is a b (sym (subst (λ q. get p.stays q ≡ Some a) (sym same) only.here) ∙ e))
-            (main_stands p.program fresh.assigned (context_of far p) (λ r. None) a fresh.fits main),
+            (main_stands p.program fresh.assigned (context_of far p) (λ r. None) a fresh.fits main zero_is),
       )
       | inr ne ↦ absurd (none_some (get p.stays k) b (only.others k ne) e)
     ];
     site = fresh.site;
-    heap = empty_heap (context_of far p) fresh.heap;
-    exports = empty_exports p.heap fresh.heap;
-    opened = sym fresh.opened_is;
-    lines = sym (ap (λ ls. map line_as ls) fresh.lines);
+    heap = empty_heap (context_of far p) fresh.store.heap;
+    exports = empty_exports p.heap fresh.store.heap;
+    opened = sym (fresh.store.opened ∙ ap first_number zero_is);
+    lines = sym (ap (λ ls. map line_as ls) fresh.store.lines);
+    tallied = begun_tallied (λ k. None) root key first (λ f. nothing) (totals_in (store_of p)) (none_tallied (λ f. nothing) (λ f. refl)) refl refl (λ f. main_lives p.id f (totals_in (store_of p) f) zero_is (fresh.store.totals f));
+    booked = without p.id p.opened (λ k. None) (books_in (store_of p)) (booked_first p.id p.opened (books_in (store_of p)) fresh.store.opened fresh.store.unopened fresh.store.root) key (Some first) (λ t e. ap (λ (s : Stay). s.finishes) (sym (some_is first t e)));
   }
     where
       first : Stay
       first = new_stay p.program.entry [] root None
 
   -- a place with no stay stands for an empty one
-  pub empty_stands : IsFresh p 0 → ((k : ℕ) → get p.stays k ≡ None) → StandsFor far p (empty_place 0)
-  empty_stands fresh none = record {
+  pub empty_stands : (p.id == 0) ≡ false → IsFresh p → ((k : ℕ) → get p.stays k ≡ None) → StandsFor far p (empty_place 0)
+  empty_stands ne fresh none = record {
     assigned = fresh.assigned;
     none = λ k e. refl;
     some = λ k b e. absurd (none_some (get p.stays k) b (none k) e);
     site = fresh.site;
-    heap = empty_heap (context_of far p) fresh.heap;
-    exports = empty_exports p.heap fresh.heap;
-    opened = sym fresh.opened_is;
-    lines = sym (ap (λ ls. map line_as ls) fresh.lines);
+    heap = empty_heap (context_of far p) fresh.store.heap;
+    exports = empty_exports p.heap fresh.store.heap;
+    opened = sym (fresh.store.opened ∙ ap (λ b. cond b 1 0) ne);
+    lines = sym (ap (λ ls. map line_as ls) fresh.store.lines);
+    tallied = none_tallied (totals_in (store_of p)) (λ f. nothing_lives p.id f (totals_in (store_of p) f) ne (fresh.store.totals f));
+    booked = booked_first p.id p.opened (books_in (store_of p)) fresh.store.opened fresh.store.unopened fresh.store.root;
   }
 
 -- ---- a place as `new` makes it
@@ -162,38 +163,27 @@ module _ (far : Far) (p : PlaceState) where
 not_zero : (n : ℕ) → (n ≡ 0 → ⊥) → (n == 0) ≡ false
 not_zero n h = ne_eqb n 0 h
 
-fresh_at : (p : PlaceState) (n m : ℕ) → n ≡ m → IsFresh p n → IsFresh p m
-fresh_at p n m e fresh = subst (λ k. IsFresh p k) e fresh
-
-pub opened_then : (id n : ℕ) → n ≡ 1 → id ≡ 0 → n ≡ opened_at id
-opened_then id n e zero-is = e ∙ ap opened_at (sym zero-is)
-
-pub opened_else : (id n : ℕ) → n ≡ 0 → (id ≡ 0 → ⊥) → n ≡ opened_at id
-opened_else id n e ne = e ∙ sym (ap (λ b. cond b 1 0) (not_zero id ne))
-
 -- a place with a new store is fresh
-pub fresh : (p : PlaceState) (store : StoreState) (n : ℕ) → FitsImage p.program → Assigned p.program → IsWithinPlaces p.program p.id p.places → store_of p ≡ store → store ≡ new_store n → n ≡ opened_at p.id → IsFresh p (opened_at p.id)
-fresh p store n fits assigned site seen new opened = record {
+pub fresh : (v : Certified) (slab : Slab StayState) (s : StoreState) (id places : ℕ) → FitsImage v.program → Assigned v.program → IsWithinPlaces v.program id places → IsNewStore id places s → IsFresh (place_of v slab s false)
+fresh v slab s id places fits assigned site new = record {
   fits = fits;
   assigned = assigned;
-  site = site;
-  heap = ap (λ (s : StoreState). s.heap) (seen ∙ new);
-  lines = ap (λ (s : StoreState). s.lines) (seen ∙ new);
-  opened_is = ap (λ (s : StoreState). s.opened) (seen ∙ new) ∙ opened;
+  site = subst (λ n. IsWithinPlaces v.program n s.places) (sym new.here) (subst (λ n. IsWithinPlaces v.program id n) (sym new.places_is) site);
+  store = subst (λ n. IsNewStore n s.places s) (sym new.here) (subst (λ n. IsNewStore id n s) (sym new.places_is) new);
 }
 
-pub opened_first : (p : PlaceState) (slab : Slab StayState) → IsFresh p (opened_at p.id) → p.stays ≡ slab → (key : ℕ) × (a : StayState) × IsMain p.program a × HoldsOnly slab key a → p.id ≡ 0 → Opens p
+pub opened_first : (p : PlaceState) (slab : Slab StayState) → IsFresh p → p.stays ≡ plain slab → (key : ℕ) × (a : StayState) × IsMain p.program a × HoldsOnly slab key a → p.id ≡ 0 → Opens p
 opened_first p slab fresh is main e = (
   main.0,
   (λ far. subst (λ id. StandsFor far p (opening_place (setting_of p) main.0 id)) (sym e)
-      (first_stands far p main.0 main.1 (fresh_at p (opened_at p.id) 1 (ap opened_at e) fresh) main.2 (subst (λ s. HoldsOnly s main.0 main.1) (sym is) main.3))),
+      (first_stands far p main.0 main.1 e fresh main.2 (subst (λ s. HoldsOnly s main.0 main.1) (sym is) (record { here = main.3.here; others = main.3.others })))),
 )
 
-pub opened_empty : (p : PlaceState) (slab : Slab StayState) → IsFresh p (opened_at p.id) → p.stays ≡ slab → slab.slots ≡ [] → (p.id ≡ 0 → ⊥) → Opens p
+pub opened_empty : (p : PlaceState) (slab : Slab StayState) → IsFresh p → p.stays ≡ plain slab → slab.slots ≡ [] → (p.id ≡ 0 → ⊥) → Opens p
 opened_empty p slab fresh is slots ne = (
   0,
   (λ far. subst (λ b. StandsFor far p (cond b (first_place (setting_of p) 0) (empty_place 0))) (sym (not_zero p.id ne))
-      (empty_stands far p (fresh_at p (opened_at p.id) 0 (ap (λ b. cond b 1 0) (not_zero p.id ne)) fresh) (subst (λ s. (k : ℕ) → get s k ≡ None) (sym is) (λ k. ap (λ xs. slice_index_or xs k None) slots)))),
+      (empty_stands far p (not_zero p.id ne) fresh (subst (λ s. (k : ℕ) → get s k ≡ None) (sym is) (λ k. ap (λ xs. slice_index_or xs k None) slots)))),
 )
 
 pub opens_standing : (p : PlaceState) → Opens p → IsStanding p

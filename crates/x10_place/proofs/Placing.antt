@@ -1,6 +1,5 @@
 -- Each stay stands where it can go on, with as many finishes open as its frames stand in: what keeps that.
 use Rattle.std.proofs.Common.{◌≡◌, ◌≢◌, ℕ, ◌+◌, ◌<◌, ◌≤◌, true, List, [], ◌∷◌, ◌++◌, length, Option, Some, None, refl, sym, ap, ap₂, subst, ◌∙◌, arith}
-use Rattle.std.specs.Prelude.{slice_get}
 use Rattle.std.proofs.Math.ListN.{length-set}
 use Rattle.x10_code.specs.declared.op.Op.{Op}
 use Rattle.x10_code.specs.declared.op.Op.TheVariants as op
@@ -164,7 +163,7 @@ open_more program [] f = omega arith
 open_more program (g ∷ fs) f = let e = open_more program fs f in omega (arith, e)
 
 -- a frame at the first instruction of its function stands in no finish
-open_first : (program : Module) (f : CallFrame) → f.pc ≡ 0 → open_at program f ≡ 0
+pub open_first : (program : Module) (f : CallFrame) → f.pc ≡ 0 → open_at program f ≡ 0
 open_first program f e = ap (finishes_around (code_at program f.function)) e
 
 -- the callee stands at its first instruction, and its caller at the call

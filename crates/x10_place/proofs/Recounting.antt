@@ -1,10 +1,10 @@
 -- What moves change of what a place counts and keeps of finishes.
-use Rattle.std.proofs.Common.{◌≡◌, ◌⊎◌, ℕ, ◌+◌, ◌-◌, ◌≤◌, ◌==◌, ◌&&◌, Bool, true, false, not, Option, Some, None, refl, sym, ap, ap₂, subst, ◌∙◌, inl, inr, arith}
+use Rattle.std.proofs.Common.{◌≡◌, ℕ, ◌+◌, ◌-◌, ◌≤◌, ◌==◌, ◌&&◌, Bool, true, false, not, Some, None, refl, sym, ap, ap₂, subst, ◌∙◌, inl, inr, arith}
 use Rattle.std.specs.Prelude.{if◌then◌else◌}
 use Rattle.std.proofs.lemmas.Bool.{eqb-true, eq-eqb}
 use Rattle.x10_model.specs.Maps.{with_entry}
 use Rattle.x10_model.specs.Places.{Finish, Effect, Waits, Works, Begins, Opens, Closes, Ends}
-use Rattle.x10_model.specs.Totals.{Totals, Cut, nothing, zeros, begins_one, ends_one, if_same, is_last, is_reported, Did}
+use Rattle.x10_model.specs.Totals.{Totals, nothing, zeros, begins_one, ends_one, is_last}
 use Rattle.x10_model.specs.Worlds.{same_finish}
 use Rattle.x10_finish.specs.Watching.{closes}
 use Rattle.x10_place.specs.Stays.{StoreState, totals_in, books_in, finish_at, kept_in, changed_at, IsDoneHere, Recounts}

@@ -1,5 +1,5 @@
 -- Steps of the stay with a key at a stretch, as its place makes them.
-use Rattle.std.proofs.Common.{◌≡◌, ℕ, ◌+◌, ◌<◌, ◌≤◌, Bool, false, Option, Some, None, refl, sym, ap, ap₂, subst, ◌∙◌, inl, inr, arith}
+use Rattle.std.proofs.Common.{◌≡◌, ℕ, ◌+◌, ◌<◌, ◌≤◌, Bool, false, Some, None, refl, sym, ap, ap₂, subst, ◌∙◌, inl, inr, arith}
 use Rattle.slab.specs.Slab.{Slab, get, Updates, with_value}
 use Rattle.x10_kinds.specs.declared.stop.Stop.{Stop}
 use Rattle.x10_code.specs.declared.op.Op.TheVariants as op
@@ -9,12 +9,11 @@ use Rattle.x10_verify.specs.Certified.{Certified}
 use Rattle.x10_place.specs.declared.stay.Outcome.{Outcome}
 use Rattle.x10_place.specs.declared.stay.Outcome.TheVariants as outcome
 use Rattle.x10_place.specs.declared.stay.Pause.{Pause}
-use Rattle.x10_place.specs.declared.stay.Pause.TheVariants as pause
 use Rattle.x10_place.specs.declared.stay.Spot.{Spot}
 use Rattle.x10_place.specs.Frames.{IsFetchedFor}
 use Rattle.x10_place.specs.Routes.{route_of}
 use Rattle.x10_place.specs.Stays.{StayState, StoreState, Location, location, Steps}
-use Rattle.x10_place.specs.StandsFor.{PlaceState, place_of, plain, location_of, IsStanding, IsWorking, IsHindered, IsIdleAt, nobody}
+use Rattle.x10_place.specs.StandsFor.{PlaceState, place_of, location_of, IsStanding, IsWorking, IsHindered, nobody}
 use Rattle.x10_place.specs.Stretches.{IsStep, Stretch, EndsStretch, IsStopped, Paused, Strides, at_once, onward, BeginsAt, IsUntouched, RefusesBegin, IsRun}
 use Rattle.x10_place.proofs.Keeping.{written}
 use Rattle.x10_place.proofs.Placing.{IsChecked, is_begin}
@@ -98,7 +97,7 @@ module _ (v : Certified) (old : Slab StayState) (s : StoreState) (key : ℕ) (st
         run_begun new u less begins =
             let led = begins_led v (mid c) t key stands checks c (mid_there c) step.instr step.fetched is_async new u begins in
             let all_ran = λ (stopped : Bool). onward n (place_of v (mid c) t stopped) (place_of v new u stopped) (ran stopped)
-                (record { there = (c, mid_there c); leads = led.leads stopped; kept = record { program = refl; bounds = refl; id = led.here; places = led.places }; stopped = refl }) in
+            (record { there = (c, mid_there c); leads = led.leads stopped; kept = record { program = refl; bounds = refl; id = led.here; places = led.places }; stopped = refl }) in
             record {
               ran = all_ran;
               few = omega (arith, less);
@@ -133,8 +132,8 @@ module _ (v : Certified) (old : Slab StayState) (s : StoreState) (key : ℕ) (st
         let led = ends_led v (mid last) ends.kept key stood checks last (mid_there last) ends.ends.instr ends.ends.fetched new c t
         (now ends.before most last ends.kept ends.stretch (omega (arith, few, ends.count)) ends.ends.instr outcome.Ends c t ends.ends.steps) away in
         let all_ran = λ (stopped : Bool). subst (λ k. Strides key (place stopped) k (place_of v new t stopped)) (sym ends.count)
-            (onward ends.before (place_of v (mid last) ends.kept stopped) (place_of v new t stopped) (ran ends.before most last ends.kept ends.stretch (omega (arith, few, ends.count)) stopped)
-            (record { there = (last, mid_there last); leads = led.leads stopped; kept = record { program = refl; bounds = refl; id = led.here; places = led.places }; stopped = refl })) in
+        (onward ends.before (place_of v (mid last) ends.kept stopped) (place_of v new t stopped) (ran ends.before most last ends.kept ends.stretch (omega (arith, few, ends.count)) stopped)
+        (record { there = (last, mid_there last); leads = led.leads stopped; kept = record { program = refl; bounds = refl; id = led.here; places = led.places }; stopped = refl })) in
         record {
           ran = all_ran;
           few = few;

@@ -1,8 +1,7 @@
 -- A step of a place is a move of each place of the machine that it stands for.
-use Rattle.std.proofs.Common.{◌≡◌, ◌⊎◌, ℕ, ◌+◌, Option, Some, None, refl, sym, ap, ap₂, subst, ◌∙◌, inl, inr}
+use Rattle.std.proofs.Common.{◌≡◌, ℕ, Option, Some, None, refl, sym, ap, ap₂, subst, ◌∙◌, inl, inr}
 use Rattle.std.specs.Prelude.{map, slice_get}
 use Rattle.slab.specs.Slab.{Slab, get, Updates}
-use Rattle.x10_code.specs.declared.op.Op.TheVariants as op
 use Rattle.x10_code.specs.declared.instr.Instr.{Instr}
 use Rattle.x10_model.specs.Maps.{with_entry}
 use Rattle.x10_model.specs.Modules.{Module}
@@ -11,9 +10,6 @@ use Rattle.x10_model.specs.Places as machine
 use Rattle.x10_model.specs.Places.{Setting, Finish, Stay, innermost, innermost_of, Effect, Waits, Begins, Ends, with_stay, next}
 use Rattle.x10_model.specs.Moves.{Does, Moves}
 use Rattle.x10_model.specs.Assignments.{Permits}
-use Rattle.x10_model.specs.Totals.{begins_one, ends_one}
-use Rattle.x10_finish.specs.Stays.{MovesStay}
-use Rattle.x10_finish.specs.Watching.{IsTallied}
 use Rattle.x10_finish.proofs.Stays.{stays_change}
 use Rattle.x10_finish.proofs.Tallied.{moved_tallied}
 use Rattle.x10_heap.specs.Words.{Context, HoldsHeap}
@@ -24,17 +20,17 @@ use Rattle.x10_place.specs.declared.route.Route.TheVariants as route
 use Rattle.x10_place.specs.declared.stay.Outcome.TheVariants as outcome
 use Rattle.x10_place.specs.Frames.{IsFetchedFor}
 use Rattle.x10_place.specs.Routes.{route_of}
-use Rattle.x10_place.specs.Stays.{StayState, StoreState, totals_in, books_in, changed_at, innermost_at, Recounts, EndsStay, WaitsAtFinish, Steps}
+use Rattle.x10_place.specs.Stays.{StayState, StoreState, totals_in, innermost_at, EndsStay, WaitsAtFinish, Steps}
 use Rattle.x10_place.specs.StandsFor.{Far, context, context_of, PlaceState, store_of, with_stays, line_as, Assigned, StandsForStay, StandForCallers, IsAtHome, HoldsExports, StandsFor, setting_of, location_of, IsCountedBy, Leads, LeadsAll}
 use Rattle.x10_place.specs.Stretches.{BeginsAt}
-use Rattle.x10_place.proofs.Maps.{some_is, at_key, off_key, same_or_not}
+use Rattle.x10_place.proofs.Maps.{at_key, off_key, same_or_not}
 use Rattle.x10_place.proofs.Framed.{point_of, is_instr, in_range, rule}
-use Rattle.x10_place.proofs.Growing.{stay_kept, callers_kept}
+use Rattle.x10_place.proofs.Growing.{stay_kept}
 use Rattle.x10_place.proofs.Local.{situated}
 use Rattle.x10_place.proofs.Calls.{begin_moves}
 use Rattle.x10_place.proofs.Ends.{ret_ends, next_stands}
-use Rattle.x10_place.proofs.Going.{Goes, stay_goes}
-use Rattle.x10_place.proofs.Placing.{IsChecked, is_return, is_close_finish, is_begin, none_open, next_placed, begun_placed}
+use Rattle.x10_place.proofs.Going.{stay_goes}
+use Rattle.x10_place.proofs.Placing.{IsChecked, is_return, is_close_finish, none_open, next_placed, begun_placed}
 use Rattle.x10_place.proofs.Booking.{moved_booked}
 use Rattle.x10_place.proofs.Recounting.{KeepsBooks, closed_none, counted_in, waits_count, begins_count, ends_count}
 
@@ -150,8 +146,8 @@ module _ (far : Far) (p : PlaceState) (m : machine.Place) (stands : StandsFor fa
       let r = ends.store in
       let counted = subst (λ f. IsCountedBy (store_of p) (Ends f None) t) (sym h.inherited) (ends_count (store_of p) t a.inherited h.home.inherited r) in
       let moved = moves (setting_of p) p.id far m key stands.assigned (store_of p) a s h i fetched new (Ends s.inherited None) is
-          (subst (λ q. Does q (situated (setting_of p) p.id m key s h.top.function i) new (Ends s.inherited None)) (sym ret)
-          (ret_ends (setting_of p) p.id far m key s stands.assigned p.heap stands.heap stands.site.few a h i fetched at.0 ret permits ends.callers (none_open p.program checks a i h.placed fetched ret ends.callers))) in
+      (subst (λ q. Does q (situated (setting_of p) p.id m key s h.top.function i) new (Ends s.inherited None)) (sym ret)
+      (ret_ends (setting_of p) p.id far m key s stands.assigned p.heap stands.heap stands.site.few a h i fetched at.0 ret permits ends.callers (none_open p.program checks a i h.placed fetched ret ends.callers))) in
       let grows = subst (λ n. Grows (context_of far p) (context (setting_of p) p.id n far)) (sym r.heap) (grows_not (context_of far p)) in
       record {
         effect = Ends s.inherited None;
@@ -187,7 +183,7 @@ module _ (far : Far) (p : PlaceState) (m : machine.Place) (stands : StandsFor fa
       let effect : Effect = Begins begins.other i.x (innermost p.id s) in
       let under : innermost p.id s ≡ innermost_at p.id a = ap₂ (λ f ns. innermost_of p.id f ns) h.inherited h.finishes in
       let moved = moves (setting_of p) p.id far m key stands.assigned (store_of p) a s h i begins.fetched new effect found.1
-          (subst (λ q. Does q (situated (setting_of p) p.id m key s h.top.function i) new effect) (sym begins.is_async) (child.does free)) in
+      (subst (λ q. Does q (situated (setting_of p) p.id m key s h.top.function i) new effect) (sym begins.is_async) (child.does free)) in
       let counted = subst (λ f. IsCountedBy (store_of p) (Begins begins.other i.x f) t) (sym under) (begins_count (store_of p) t begins.other i.x (innermost_at p.id a) r) in
       let stay : StandsForStay p.program stands.assigned (context_of far p) b to = record {
         placed = next_placed p.program checks a b i h.placed begins.fetched begins.is_async begins.goes begins.rest;

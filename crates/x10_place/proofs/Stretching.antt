@@ -1,5 +1,5 @@
 -- Steps of one stay at a stretch.
-use Rattle.std.proofs.Common.{◌≡◌, ◌≢◌, ℕ, ◌+◌, refl, sym, ap, subst, ◌∙◌, arith}
+use Rattle.std.proofs.Common.{◌≡◌, ℕ, ◌+◌, refl, sym, ap, subst, arith}
 use Rattle.x10_kinds.specs.declared.stop.Stop.{Stop}
 use Rattle.x10_code.specs.declared.instr.Instr.{Instr}
 use Rattle.x10_heap.specs.Heaps.{HeapState}

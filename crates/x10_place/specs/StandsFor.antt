@@ -14,7 +14,7 @@ use Rattle.x10_model.specs.Ranges.{function_at, instr_at}
 use Rattle.x10_model.specs.Assignments.{State}
 use Rattle.x10_model.specs.Places as machine
 use Rattle.x10_model.specs.Places.{Setting, Finish, Effect, Waits, Closes, Stay, Number, Words}
-use Rattle.x10_model.specs.Totals.{Totals, Cut, nothing, Did, totals_after, is_reported}
+use Rattle.x10_model.specs.Totals.{Cut, nothing, Did, totals_after, is_reported}
 use Rattle.x10_model.specs.Worlds.{sent}
 use Rattle.x10_model.specs.Values.{Value, Cells}
 use Rattle.x10_verify.specs.Certified.{Certified}

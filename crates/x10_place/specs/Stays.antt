@@ -1,5 +1,5 @@
 -- Stays of activities at a place: what they are, and what a step does to one and to what the place keeps.
-use Rattle.std.specs.Prelude.{◌≡◌, ℕ, ◌+◌, ◌<◌, ◌≤◌, ◌^◌, ◌⊎◌, Bool, false, List, [], ◌∷◌, ◌++◌, length, Option, Some, None, slice_get, slice_set, string_bytes}
+use Rattle.std.specs.Prelude.{◌≡◌, ℕ, ◌+◌, ◌<◌, ◌⊎◌, Bool, false, List, [], ◌∷◌, ◌++◌, length, Option, Some, None, slice_get, slice_set, string_bytes}
 use Rattle.std.specs.BTreeMap.{is_at}
 use Rattle.std.specs.Map.{lookup}
 use Rattle.std.specs.Ordering.{nat_cmp}
@@ -13,16 +13,14 @@ use Rattle.x10_model.specs.declared.slot.Slot.{Slot}
 use Rattle.x10_model.specs.Assignments.{State, IsKind}
 use Rattle.x10_model.specs.Maps.{with_entry}
 use Rattle.x10_model.specs.Places.{Finish, Origin, innermost_of}
-use Rattle.x10_model.specs.Totals.{Totals, Cut, nothing, zeros, begins_one, ends_one, if_same, IsDoneAt}
+use Rattle.x10_model.specs.Totals.{Totals, Cut, nothing, zeros, ends_one, if_same, IsDoneAt}
 use Rattle.x10_model.specs.Ranges.{function_at, instr_at, result_of}
 use Rattle.x10_image.specs.Parts.{code_at}
 use Rattle.x10_bounds.specs.OpenFinishes.{finishes_around}
 use Rattle.x10_finish.specs.declared.finish.Finish as finish
 use Rattle.x10_finish.specs.Books.{Kept, kept_of}
 use Rattle.x10_finish.specs.Ledgers.{Ledger, totals_of}
-use Rattle.x10_finish.specs.Counts.{IsLargest}
-use Rattle.x10_finish.specs.Nesting.{nth}
-use Rattle.x10_heap.specs.Heaps.{HeapState, empty, IsFull}
+use Rattle.x10_heap.specs.Heaps.{HeapState, IsFull}
 use Rattle.x10_verify.specs.Least.{HasLeast}
 use Rattle.x10_verify.specs.Printing.{PrintsText}
 use Rattle.x10_place.specs.declared.frame.CallFrame.{CallFrame}

@@ -94,7 +94,14 @@ impl<'a> Place<'a> {
         }
         let verified = self.verified;
         verified.certificate();
-        let (done, why) = run_in(self.alloc, verified, &mut self.stays, &mut self.store, key, most);
+        let (done, why) = run_in(
+            self.alloc,
+            verified,
+            &mut self.stays,
+            &mut self.store,
+            key,
+            most,
+        );
         self.stopped = why.is_some();
         (done, why)
     }
@@ -171,6 +178,7 @@ impl<'a> Place<'a> {
     pub fn closed(&self) -> bool
         ensures { IsTrue result ↔ ((self.now.id ≡ 0) × IsDoneHere (store_of self.now) 0) }
     {
-        self.store.spot().here == 0 && self.store.is_done(0)
+        let here = self.store.spot().here;
+        here == 0 && self.store.is_done(0)
     }
 }

@@ -1,9 +1,11 @@
-use Rattle.std.proofs.Common.{◌≡◌, ◌↔◌, ℕ, None, subst}
+use Rattle.std.proofs.Common.{◌↔◌, sym, ap, subst, ◌∙◌}
 use Rattle.std.specs.Prelude.{IsTrue}
-use Rattle.slab.specs.Slab.{get}
-use Rattle.x10_place.proofs.Openings.{closed_is}
+use Rattle.x10_place.specs.StandsFor.{PlaceState, store_of}
+use Rattle.x10_place.specs.Stays.{IsDoneHere}
 use Rattle.x10_place.proofs.place.Place.closed.Goals as goal
 
-pub returns-then-self-eq0 : goal.returns-then-self-eq0
-returns-then-self-eq0 c = subst (λ v. IsTrue c.is_empty.result ↔ ((v.id ≡ 0) × ((k : ℕ) → get v.stays k ≡ None))) c.self.view_is
-    (closed_is c.self.inside.stays c.self.inside.id c.is_empty.result c.if-self-eq0.true c.is_empty.ensures)
+pub returns-then-here-eq0 : goal.returns-then-here-eq0
+returns-then-here-eq0 c =
+    let here = ap (λ (p : PlaceState). p.id) (sym c.self.view_is) ∙ sym c.spot-here.ensures.here ∙ c.if-here-eq0.true in
+    let done : IsTrue c.is_done.result ↔ IsDoneHere (store_of c.args.self.now) 0 = subst (λ s. IsTrue c.is_done.result ↔ IsDoneHere s 0) (ap store_of c.self.view_is) c.is_done.ensures in
+    ((λ t. (here, done.0 t)), (λ h. done.1 h.1))

@@ -1,0 +1,56 @@
+-- Steps of a place, as its own functions answer them.
+use Rattle.std.proofs.Common.{◌≡◌, ◌≢◌, ◌⊎◌, ℕ, ◌<◌, Bool, true, false, Option, Some, None, Result, Ok, Err, sym, ap, ap₂, subst, ◌∙◌}
+use Rattle.std.specs.Prelude.{IfOk, MatchOption, is_err, is_some}
+use Rattle.slab.specs.Slab.{Slab, get}
+use Rattle.x10_kinds.specs.declared.stop.Stop.{Stop}
+use Rattle.x10_kinds.specs.declared.stop.Stop.TheVariants as stop
+use Rattle.x10_verify.specs.Certified.{Certified}
+use Rattle.x10_place.specs.declared.place.Stepped.{Stepped}
+use Rattle.x10_place.specs.declared.place.Stepped.TheVariants as stepped
+use Rattle.x10_place.specs.Stays.{StayState, StoreState}
+use Rattle.x10_place.specs.StandsFor.{PlaceState, place_of, IsStanding, LeadsAll, IsIdleAt, IsOverfull, IsHindered}
+use Rattle.x10_place.specs.Stretches.{IsUntouched, IsAdvanced, IsRun, Strides, BeginsLast, at_once}
+use Rattle.x10_place.proofs.Striding.{stopped_standing, same_stopped}
+
+-- a place where nothing has changed, whether it has stopped or not
+same_place : (v : Certified) (old new : Slab StayState) (s t : StoreState) (b c : Bool) → IsUntouched old s new t → c ≡ b → place_of v new t c ≡ place_of v old s b
+same_place v old new s t b c same e =
+    ap (λ (slab : Slab StayState). record (place_of v new t c) { stays = slab }) same.stays ∙ ap₂ (λ u d. place_of v old u d) same.store e
+
+-- ---- one step
+
+module _ (v : Certified) (old new : Slab StayState) (s t : StoreState) (key : ℕ) (b c : Bool) (w : PlaceState) (seen : place_of v old s b ≡ w) where
+  pub step_idle : (result : Result Stepped Stop) → IsAdvanced v old s key result new t → b ≡ false → c ≡ is_err result → IsIdleAt w key → (result ≡ Ok stepped.Idle) × (place_of v new t c ≡ w)
+  step_idle result h off flag idle =
+      let at = h.idle b (subst (λ p. IsIdleAt p key) (sym seen) idle) in
+      (at.0, same_place v old new s t b c at.1 (flag ∙ ap is_err at.0 ∙ sym off) ∙ seen)
+
+  pub step_only : (result : Result Stepped Stop) → IsAdvanced v old s key result new t → result ≡ Ok stepped.Idle → IsIdleAt w key
+  step_only result h e = subst (λ p. IsIdleAt p key) seen (h.only b e)
+
+  pub step_some : (result : Result Stepped Stop) → IsAdvanced v old s key result new t → b ≡ false → c ≡ is_err result → (a : StayState) → get w.stays key ≡ Some a → a.away ≡ false → IfOk result (λ answer. LeadsAll w key answer (place_of v new t c))
+  step_some (Ok answer) h off flag a e ready =
+      subst (λ p. LeadsAll p key answer (place_of v new t c)) seen (subst (λ d. LeadsAll (place_of v old s b) key answer (place_of v new t d)) (off ∙ sym flag) (h.some b a (subst (λ (p : PlaceState). get p.stays key ≡ Some a) (sym seen) e) ready))
+  step_some (Err why) h off flag a e ready = tt
+
+  pub step_full : (result : Result Stepped Stop) → IsAdvanced v old s key result new t → (limit : ℕ) → IsOverfull w key limit → result ≡ Err (stop.Limit limit)
+  step_full result h limit over = h.full b limit (subst (λ p. IsOverfull p key limit) (sym seen) over)
+
+  -- ---- steps at a stretch
+
+  pub run_ran : (most n : ℕ) (why : Option Stop) → IsRun v old s key most n why new t → b ≡ false → c ≡ is_some why
+      → MatchOption why (Strides key w n (place_of v new t c)) (λ x. (p : PlaceState) × Strides key w n p × (place_of v new t c ≡ record p { stopped = true }) × (w.stopped ≢ true → IsHindered p key x))
+  run_ran most n None h off flag = subst (λ p. Strides key p n (place_of v new t c)) seen (subst (λ d. Strides key (place_of v old s b) n (place_of v new t d)) (off ∙ sym flag) (h.ran b))
+  run_ran most n (Some x) h off flag = (place_of v new t b, subst (λ p. Strides key p n (place_of v new t b)) seen (h.ran b), ap (λ d. place_of v new t d) flag, (λ on. h.refused b))
+
+  pub run_all : (most n : ℕ) (why : Option Stop) → IsRun v old s key most n why new t → b ≡ false → c ≡ is_some why → why ≡ None → n < most → IsIdleAt (place_of v new t c) key ⊎ BeginsLast key w n (place_of v new t c)
+  run_all most n why h off flag none less =
+      subst (λ p. IsIdleAt (place_of v new t c) key ⊎ BeginsLast key p n (place_of v new t c)) seen
+      (subst (λ d. IsIdleAt (place_of v new t d) key ⊎ BeginsLast key (place_of v old s b) n (place_of v new t d)) (off ∙ sym (flag ∙ ap is_some none)) (h.all none less b))
+
+-- a place that had stopped makes no step
+pub run_stopped : (w : PlaceState) (key : ℕ) → w.stopped ≡ true → (p : PlaceState) × Strides key w 0 p × (w ≡ record p { stopped = true }) × (w.stopped ≢ true → IsHindered p key stop.Stopped)
+run_stopped w key e = (w, at_once, same_stopped w e, (λ on. absurd (on e)))
+
+pub flagged : (v : Certified) (slab : Slab StayState) (t : StoreState) (c : Bool) → IsStanding (place_of v slab t false) → IsStanding (place_of v slab t c)
+flagged v slab t c h = stopped_standing (place_of v slab t false) c h
