@@ -209,3 +209,23 @@ limits_by route.Later p a i limit h = absurd h
 -- which limits a step may pass
 pub limits : (p : PlaceState) (key limit : ℕ) → IsOverfull p key limit → IsStepLimit limit
 limits p key limit h = limits_by (route_of h.instr.op) p h.stay h.instr limit h.overfills
+
+-- whether a place has stopped is nothing to what a step would make
+stopped_overfills : (r : Route) (p : PlaceState) (a : StayState) (i : Instr) (limit : ℕ) → Overfills r p a i limit → Overfills r (record p { stopped = true }) a i limit
+stopped_overfills route.Begin p a i limit h = h
+stopped_overfills (route.Make m) p a i limit h = h
+stopped_overfills route.Export p a i limit h = h
+stopped_overfills route.OpenFinish p a i limit h = h
+stopped_overfills (route.Site k) p a i limit h = absurd h
+stopped_overfills (route.Local l) p a i limit h = absurd h
+stopped_overfills route.Call p a i limit h = absurd h
+stopped_overfills route.Return p a i limit h = absurd h
+stopped_overfills route.Print p a i limit h = absurd h
+stopped_overfills route.CloseFinish p a i limit h = absurd h
+stopped_overfills route.Later p a i limit h = absurd h
+
+pub stopped_hindered : (p : PlaceState) (key : ℕ) (why : Stop) → IsHindered p key why → IsHindered (record p { stopped = true }) key why
+stopped_hindered p key why (inl memory) = inl memory
+stopped_hindered p key why (inr limit) =
+    let h = limit.2 in
+    inr (limit.0, limit.1, record { stay = h.stay; is_there = h.is_there; is_ready = h.is_ready; instr = h.instr; instr_is = h.instr_is; overfills = stopped_overfills (route_of h.instr.op) p h.stay h.instr limit.0 h.overfills })

@@ -1,164 +1,97 @@
 -- The world at the beginning stands for the machine's opening.
-use Rattle.std.proofs.Common.{◌≡◌, ◌≢◌, ◌⊎◌, ℕ, zero, suc, ◌+◌, ◌<◌, ◌≤◌, ◌==◌, Bool, true, false, List, [], ◌∷◌, ◌++◌, length, take, Some, None, refl, sym, ap, subst, ◌∙◌, inl, inr, arith, length-append}
+use Rattle.std.proofs.Common.{◌≡◌, ◌≢◌, ℕ, ◌+◌, ◌<◌, ◌==◌, ◌&&◌, Bool, true, false, List, [], ◌∷◌, ◌++◌, length, Option, Some, None, Ok, refl, sym, ap, subst, ◌∙◌, inl, inr, arith, length-append}
 use Rattle.std.specs.Prelude.{slice_get, nat_lt, if◌then◌else◌}
 use Rattle.std.proofs.lemmas.Bool.{eqb-true, eqb-false, ne_eqb, lt-ltb, ltb-true}
-use Rattle.x10_model.specs.Structure.{bound_of}
+use Rattle.x10_model.specs.Structure.{bounds_of}
 use Rattle.x10_model.specs.Places as machine
-use Rattle.x10_model.specs.Places.{Setting, Stay, root}
-use Rattle.x10_model.specs.Moves.{new_stay}
-use Rattle.x10_model.specs.Worlds.{first_place, empty_place, opening}
-use Rattle.x10_image.specs.Parts.{code_in}
+use Rattle.x10_model.specs.Places.{Setting, Finish, root}
+use Rattle.x10_model.specs.Totals.{nothing, zeros, first_totals}
+use Rattle.x10_model.specs.Worlds.{same_finish, first_place, empty_place, opening}
+use Rattle.x10_finish.specs.Watching.{AreFirst}
+use Rattle.x10_finish.proofs.Watching.{opening_is_watched}
 use Rattle.x10_verify.specs.Certified.{Certified, IsCertified}
 use Rattle.x10_place.specs.StandsFor as place
-use Rattle.x10_place.specs.StandsFor.{PlaceState, StandsFor}
+use Rattle.x10_place.specs.StandsFor.{PlaceState, Far, StandsFor}
 use Rattle.x10_place.specs.Opening.{opening_place}
-use Rattle.x10_world.specs.Tied.{left_of, IsAt, Tied}
-use Rattle.x10_world.specs.StandsForWorld.{WorldState, setting_of, StandsForWorld}
+use Rattle.x10_world.specs.Budget.{IsWithinBudget}
+use Rattle.x10_world.specs.StandsForWorld.{WorldState, setting_of, totals_at, kept_at, counts_in, StandsForWorld}
 use Rattle.x10_world.specs.Opening.{IsOpened, AreOpened}
-use Rattle.x10_world.proofs.Ties.{at_key as main_key, entry_cases, first_is}
-use Rattle.x10_world.proofs.Bounded.{bound_each, falls}
+use Rattle.x10_world.proofs.BudgetRuns.{budget_at_opening}
+use Rattle.x10_world.proofs.Lists.{some_is, below, none_past, at_first, last_or_before}
 
-some_is : {X : Type 0} (x y : X) → Some x ≡ Some y → x ≡ y
-some_is x y e = cc
+-- ---- counts
 
--- ---- lists
+-- elsewhere than at place 0 nothing lives at the beginning
+first_none : (id : ℕ) (f : Finish) (b : Bool) → id ≢ 0 → (if b && (id == 0) then record nothing { live = 1 } else nothing) ≡ nothing
+first_none id f false ne = refl
+first_none id f true ne = ap (λ c. if c then record nothing { live = 1 } else nothing) (ne_eqb id 0 ne)
 
--- what is in a list with one item more
-pub last_or_before : {X : Type 0} (xs : List X) (x y : X) (i : ℕ) → slice_get (xs ++ x ∷ []) i ≡ Some y → (slice_get xs i ≡ Some y) ⊎ ((i ≡ length xs) × (x ≡ y))
-last_or_before [] x y zero e = inr (refl, some_is x y e)
-last_or_before [] x y (suc i) e = absurd cc
-last_or_before (z ∷ zs) x y zero e = inl e
-last_or_before (z ∷ zs) x y (suc i) e = elim (last_or_before zs x y i e) [
-  | inl before ↦ inl before
-  | inr last ↦ inr (ap suc last.0, last.1)
-]
+totals_first : (verified : Certified) (places : List PlaceState) (id : ℕ) (f : Finish) (o : Option PlaceState) → 0 < length places → AreOpened verified (length places) places → slice_get places id ≡ o → totals_at o f ≡ first_totals id f
+totals_first verified places id f None some opened e = sym (first_none id f (same_finish f root) (λ zero. (let far = none_past places id e in absurd (omega (arith, far, zero, some)))))
+totals_first verified places id f (Some p) some opened e = (opened.each id p e).is_new.store.totals f
 
-below : {X : Type 0} (xs : List X) (i : ℕ) (x : X) → slice_get xs i ≡ Some x → i < length xs
-below [] i x e = absurd cc
-below (y ∷ ys) zero x e = omega arith
-below (y ∷ ys) (suc i) x e = let h : i < length ys = below ys i x e in omega arith
+kept_first : (verified : Certified) (places : List PlaceState) (id number : ℕ) (o : Option PlaceState) → AreOpened verified (length places) places → slice_get places id ≡ o → kept_at o number ≡ (λ p. zeros)
+kept_first verified places id number None opened e = refl
+kept_first verified places id number (Some p) opened e = (opened.each id p e).is_new.store.kept number
 
-none_past : {X : Type 0} (xs : List X) (i : ℕ) → slice_get xs i ≡ None → length xs ≤ i
-none_past [] i e = omega arith
-none_past (y ∷ ys) zero e = absurd cc
-none_past (y ∷ ys) (suc i) e = let h : length ys ≤ i = none_past ys i e in omega arith
-
-at_first : {X : Type 0} (xs : List X) → 0 < length xs → (x : X) × (slice_get xs 0 ≡ Some x)
-at_first [] lt = absurd (omega arith)
-at_first (x ∷ xs) lt = (x, refl)
-
--- ---- the stays of the opening
-
--- main's stay, at place 0 under its key
-pub record IsMainStay (setting : Setting) (key p k : ℕ) (s : Stay) : Type 0 where
-  pub place : p ≡ 0
-  pub key_is : k ≡ key
-  pub stay : s ≡ new_stay setting.program.entry [] root None
-
-in_first : (setting : Setting) (key k : ℕ) (s : Stay) → (first_place setting key).stays k ≡ Some s → (k ≡ key) × (s ≡ new_stay setting.program.entry [] root None)
-in_first setting key k s e = elim (entry_cases (λ (n : ℕ). None) key (Some (new_stay setting.program.entry [] root None)) k) [
-  | inl here ↦ (here.0, sym (some_is (new_stay setting.program.entry [] root None) s (sym here.1 ∙ e)))
-  | inr off ↦ absurd (none_is s (sym off.1 ∙ e))
-]
-  where
-    none_is : (s : Stay) → None ≡ Some s → ⊥
-    none_is s e = cc
-
-at_opening : (setting : Setting) (key p k : ℕ) (s : Stay) → IsAt (opening setting key) p k s → IsMainStay setting key p k s
-at_opening setting key p k s at = go (nat_lt p setting.places) (p == 0) refl at.0 at.1 at.2
-  where
-    go : (b c : Bool) → (p == 0) ≡ c → (m : machine.Place) → (if b then Some (if c then first_place setting key else empty_place 0) else None) ≡ Some m → m.stays k ≡ Some s → IsMainStay setting key p k s
-    go false c e m is there = absurd cc
-    go true true e m is there =
-        let h = in_first setting key k s (ap (λ (x : machine.Place). x.stays k) (some_is (first_place setting key) m is) ∙ there) in
-        record { place = eqb-true p 0 e; key_is = h.0; stay = h.1 }
-    go true false e m is there = absurd (nothing (some_is (empty_place 0) m is) there)
-      where
-        nothing : empty_place 0 ≡ m → m.stays k ≡ Some s → ⊥
-        nothing e f = let g : None ≡ Some s = ap (λ (x : machine.Place). x.stays k) e ∙ f in cc
-
--- ---- bounds
-
--- at the beginning main can take as many steps as its bound says
-entry_bound : (c : Certified) (bound : ℕ) → IsCertified c → slice_get c.bounds c.program.entry ≡ Some bound → left_of c.program c.bounds (new_stay c.program.entry [] root None) ≡ bound
-entry_bound c bound certified is =
-    let f = certified.fits.entry in
-    let falling = falls c.program c.bounds c.program.entry f.0 certified.verified.bounds_are f.1 in
-    let own : bound_of (take c.program.entry c.bounds) f.0.code ≡ bound = some_is _ bound (sym (bound_each c.program c.bounds c.program.entry f.0 certified.verified.bounds_are f.1).bound ∙ is) in
-    main_only _ bound (falling.begins (λ n. 0) ∙ ap (λ o. bound_of (take c.program.entry c.bounds) (code_in o)) f.1 ∙ own)
-  where
-    main_only : (left bound : ℕ) → left ≡ bound → left + 0 ≡ bound
-    main_only left bound e = omega (arith, e)
+-- main's stay is counted and nothing else
+counts_first : (verified : Certified) (places : List PlaceState) → 0 < length places → AreOpened verified (length places) places → AreFirst (counts_in places)
+counts_first verified places some opened = record {
+  totals = λ id f. totals_first verified places id f (slice_get places id) some opened refl;
+  kept = λ f. kept_first verified places f.home f.number (slice_get places f.home) opened refl;
+  told = λ f number. refl;
+}
 
 -- ---- the opening
-
--- main is there
-main_there : (setting : Setting) (key : ℕ) → 0 < setting.places → IsAt (opening setting key) 0 key (new_stay setting.program.entry [] root None)
-main_there setting key some = (first_place setting key, ap (λ b. if b then Some (first_place setting key) else None) (lt-ltb 0 setting.places some), main_key (λ (n : ℕ). None) key (Some (new_stay setting.program.entry [] root None)))
-
-tied_opening : (c : Certified) (setting : Setting) (key : ℕ) → IsCertified c → 0 < setting.places → setting.program ≡ c.program → Tied c.program c.bounds (opening setting key)
-tied_opening c setting key certified some same = record {
-  begun = λ p k s at. omega arith;
-  left = left;
-  apart = λ p k q other s t at to e. let a = at_opening setting key p k s at in let b = at_opening setting key q other t to in (a.place ∙ sym b.place, a.key_is ∙ sym b.key_is);
-  plain = λ p k s at. let a = at_opening setting key p k s at in ap (λ (x : Stay). x.back) a.stay;
-  first = λ p k s at. (at_opening setting key p k s at).place;
-  listed = λ p k s at. let a = at_opening setting key p k s at in ap (λ q. (q, key) ∷ []) (sym a.place) ∙ ap (λ q. (p, q) ∷ []) (sym a.key_is);
-  there = there;
-  within = λ a bound lt is. omega arith;
-  silent = λ n. refl;
-}
-  where
-    there : (a : ℕ) (stay : ℕ × ℕ) (rest : List (ℕ × ℕ)) → a < 1 → (0, key) ∷ [] ≡ stay ∷ rest → (s : Stay) × IsAt (opening setting key) stay.0 stay.1 s × (0 ≡ a)
-    there a stay rest lt e = subst (λ (x : ℕ × ℕ). (s : Stay) × IsAt (opening setting key) x.0 x.1 s × (0 ≡ a)) (first_is (0, key) stay [] rest e) (new_stay setting.program.entry [] root None, main_there setting key some, omega (arith, lt))
-
-    left : (p k : ℕ) (s : Stay) (bound : ℕ) → IsAt (opening setting key) p k s → slice_get c.bounds setting.program.entry ≡ Some bound → 0 + left_of c.program c.bounds s ≤ bound
-    left p k s bound at is =
-        let a = at_opening setting key p k s at in
-        let h = entry_bound c bound certified (subst (λ m. slice_get c.bounds m.entry ≡ Some bound) same is) in
-        subst (λ x. 0 + left_of c.program c.bounds x ≤ bound) (sym (a.stay ∙ ap (λ m. new_stay m.entry [] root None) same)) (within _ bound h)
-      where
-        within : (left bound : ℕ) → left ≡ bound → 0 + left ≤ bound
-        within left bound e = omega (arith, e)
 
 -- the place of the opening with a number, main's key being that of the first place
 chosen : (setting : Setting) (key other id : ℕ) → id ≢ 0 → opening_place setting other id ≡ opening_place setting key id
 chosen setting key other id ne = ap (λ b. if b then first_place setting other else empty_place 0) (ne_eqb id 0 ne) ∙ ap (λ b. if b then first_place setting key else empty_place 0) (sym (ne_eqb id 0 ne))
 
 pub opening_stands : (c : Certified) (count : ℕ) (x : WorldState) → IsCertified c → 0 < count → x.program ≡ c.program → x.bounds ≡ c.bounds → AreOpened c count x.places → (key : ℕ) × StandsForWorld x (opening (setting_of x) key)
-opening_stands c count x certified some program bounds opened = (key, record { far = nothing; some = each; none = none; tied = tied })
+opening_stands c count x certified some program bounds opened = (
+  key,
+  record {
+    far = no_exports;
+    some = each;
+    none = none;
+    watched = opening_is_watched (setting_of x) key (counts_in x.places) (omega (arith, some, opened.count_is)) watched_first;
+    budget = budget;
+    silent = λ n. refl;
+  },
+)
   where
     first : (p : PlaceState) × (slice_get x.places 0 ≡ Some p)
     first = at_first x.places (omega (arith, opened.count_is))
 
     -- no place exports anything
-    nothing : ℕ → ℕ → ℕ → Bool
-    nothing home id class = false
+    no_exports : Far
+    no_exports home id class = false
 
     key : ℕ
     key = (opened.each 0 first.0 first.1).stands.0
 
     same_setting : (id : ℕ) (p : PlaceState) → IsOpened c count id p → place.setting_of p ≡ setting_of x
-    same_setting id p o = ap (λ m. record { program = m; places = p.places }) (o.is_new.program ∙ sym program) ∙ ap (λ n. record { program = x.program; places = n }) (o.is_new.places_is ∙ sym opened.count_is)
+    same_setting id p o = ap (λ m. record { program = m; places = p.places }) (o.is_new.program ∙ sym program) ∙ ap (λ n. record { program = x.program; places = n }) (o.is_new.store.places_is ∙ sym opened.count_is)
 
-    stands : (id : ℕ) (p : PlaceState) → slice_get x.places id ≡ Some p → StandsFor nothing p (opening_place (setting_of x) key id)
+    stands : (id : ℕ) (p : PlaceState) → slice_get x.places id ≡ Some p → StandsFor no_exports p (opening_place (setting_of x) key id)
     stands id p is =
         let o = opened.each id p is in
-        subst (λ s. StandsFor nothing p (opening_place s key id)) (same_setting id p o) (at_key (id == 0) refl)
+        subst (λ s. StandsFor no_exports p (opening_place s key id)) (same_setting id p o) (at_key (id == 0) refl)
       where
-        at_key : (b : Bool) → (id == 0) ≡ b → StandsFor nothing p (opening_place (place.setting_of p) key id)
+        at_key : (b : Bool) → (id == 0) ≡ b → StandsFor no_exports p (opening_place (place.setting_of p) key id)
         at_key true e =
             let zero_is = eqb-true id 0 e in
             let same = some_is first.0 p (sym first.1 ∙ ap (λ i. slice_get x.places i) (sym zero_is) ∙ is) in
             let zero = opened.each 0 first.0 first.1 in
-            let there = subst (λ i. StandsFor nothing first.0 (opening_place (place.setting_of first.0) key i)) zero.is_new.id_is (zero.stands.1 nothing) in
-            subst (λ i. StandsFor nothing p (opening_place (place.setting_of p) key i)) (sym zero_is) (subst (λ q. StandsFor nothing q (opening_place (place.setting_of q) key 0)) same there)
+            let there = subst (λ i. StandsFor no_exports first.0 (opening_place (place.setting_of first.0) key i)) zero.is_new.store.here (zero.stands.1 no_exports) in
+            subst (λ i. StandsFor no_exports p (opening_place (place.setting_of p) key i)) (sym zero_is) (subst (λ q. StandsFor no_exports q (opening_place (place.setting_of q) key 0)) same there)
         at_key false e =
             let o = opened.each id p is in
-            let there = subst (λ i. StandsFor nothing p (opening_place (place.setting_of p) o.stands.0 i)) o.is_new.id_is (o.stands.1 nothing) in
-            subst (λ m. StandsFor nothing p m) (chosen (place.setting_of p) key o.stands.0 id (eqb-false id 0 e)) there
+            let there = subst (λ i. StandsFor no_exports p (opening_place (place.setting_of p) o.stands.0 i)) o.is_new.store.here (o.stands.1 no_exports) in
+            subst (λ m. StandsFor no_exports p m) (chosen (place.setting_of p) key o.stands.0 id (eqb-false id 0 e)) there
 
-    each : (id : ℕ) (p : PlaceState) → slice_get x.places id ≡ Some p → (m : machine.Place) × ((opening (setting_of x) key).net.places id ≡ Some m) × StandsFor nothing p m
+    each : (id : ℕ) (p : PlaceState) → slice_get x.places id ≡ Some p → (m : machine.Place) × ((opening (setting_of x) key).net.places id ≡ Some m) × StandsFor no_exports p m
     each id p is = (opening_place (setting_of x) key id, ap (λ b. if b then Some (opening_place (setting_of x) key id) else None) (lt-ltb id (length x.places) (below x.places id p is)), stands id p is)
 
     none : (id : ℕ) → slice_get x.places id ≡ None → (opening (setting_of x) key).net.places id ≡ None
@@ -168,8 +101,11 @@ opening_stands c count x certified some program bounds opened = (key, record { f
         not_below false e = e
         not_below true e = absurd (let h = none_past x.places id is in let l = ltb-true id (length x.places) e in omega (arith, h, l))
 
-    tied : Tied x.program x.bounds (opening (setting_of x) key)
-    tied = subst (λ m. Tied m x.bounds (opening (setting_of x) key)) (sym program) (subst (λ bs. Tied c.program bs (opening (setting_of x) key)) (sym bounds) (tied_opening c (setting_of x) key certified (omega (arith, some, opened.count_is)) program))
+    watched_first : AreFirst (counts_in x.places)
+    watched_first = counts_first c x.places (omega (arith, some, opened.count_is)) (subst (λ n. AreOpened c n x.places) (sym opened.count_is) opened)
+
+    budget : IsWithinBudget x.program x.bounds (opening (setting_of x) key)
+    budget = budget_at_opening (setting_of x) key x.bounds (subst (λ m. bounds_of m ≡ Ok x.bounds) (sym program) (certified.verified.bounds_are ∙ ap Ok (sym bounds)))
 
 -- ---- one place more
 

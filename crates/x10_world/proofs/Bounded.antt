@@ -2,13 +2,12 @@
 use Rattle.std.proofs.Common.{◌≡◌, ℕ, zero, suc, ◌+◌, ◌<◌, true, List, [], ◌∷◌, ◌++◌, length, take, Option, Some, None, Result, Ok, Err, refl, sym, ap, subst, ◌∙◌, arith, append_assoc, append-nil, length-append, take_at}
 use Rattle.std.specs.Prelude.{slice_get, slice_index, nat_lt, if◌then◌else◌}
 use Rattle.std.proofs.lemmas.Bool.{ltb-true}
-use Rattle.x10_code.specs.declared.op.Op.TheVariants as op
 use Rattle.x10_code.specs.declared.instr.Instr.{Instr}
 use Rattle.x10_model.specs.Modules.{Module, Function}
 use Rattle.x10_model.specs.Ranges.{function_at}
 use Rattle.x10_model.specs.Structure.{BoundFault, BoundCause, Nesting, Jump, LoopSlot, CallOrder, cost, is_call, calls_earlier, bound_of, nesting_fault, jump_fault, slot_fault, order_fault, unless, checked_bound, with_bound, bounds_from, bounds_of}
 use Rattle.x10_image.specs.Parts.{code_in, code_at}
-use Rattle.x10_bounds.specs.Potential.{IsStructured, PotentialFalls}
+use Rattle.x10_bounds.specs.Potential.{IsStructured, potential, PotentialFalls}
 use Rattle.x10_bounds.proofs.Failing.{none_fails}
 use Rattle.x10_bounds.proofs.Falls.{structured_falls}
 use Rattle.x10_verify.proofs.Structured.{checked}
@@ -86,12 +85,21 @@ index_before (y ∷ ys) zero i x lt e = absurd (omega (arith, lt))
 index_before (y ∷ ys) (suc n) zero x lt e = cc
 index_before (y ∷ ys) (suc n) (suc i) x lt e = index_before ys n i x (omega (arith, lt)) e
 
+pub index_is : (xs : List ℕ) (i x : ℕ) → slice_get xs i ≡ Some x → slice_index xs i ≡ x
+index_is [] i x e = absurd cc
+index_is (y ∷ ys) zero x e = cc
+index_is (y ∷ ys) (suc i) x e = index_is ys i x e
+
+-- the bound of a function is what it can take from its first instruction on
+pub entry_left : (m : Module) (bounds : List ℕ) (f : ℕ) (function : Function) (slots : ℕ → ℕ) → bounds_of m ≡ Ok bounds → function_at m f ≡ Some function → potential (take f bounds) (code_at m f) 0 slots ≡ slice_index bounds f
+entry_left m bounds f function slots e at =
+    (falls m bounds f function e at).begins slots ∙ ap (λ o. bound_of (take f bounds) (code_in o)) at ∙ sym (index_is bounds f _ (bound_each m bounds f function e at).bound)
+
 -- a call costs one step and the bound of the function that it calls
-pub call_costs : (m : Module) (bounds : List ℕ) (f pc : ℕ) (function callee : Function) (i : Instr) → bounds_of m ≡ Ok bounds → function_at m f ≡ Some function → slice_get function.code pc ≡ Some i → i.op ≡ op.Call → function_at m i.x ≡ Some callee
-    → cost (take f bounds) i ≡ 1 + bound_of (take i.x bounds) (code_at m i.x)
+pub call_costs : (m : Module) (bounds : List ℕ) (f pc : ℕ) (function callee : Function) (i : Instr) → bounds_of m ≡ Ok bounds → function_at m f ≡ Some function → slice_get function.code pc ≡ Some i → is_call i.op ≡ true → function_at m i.x ≡ Some callee
+    → cost (take f bounds) i ≡ 1 + slice_index bounds i.x
 call_costs m bounds f pc function callee i e at is-instr is callee-is =
     let earlier : calls_earlier f i ≡ true = none_fails (λ n j. calls_earlier f j) function.code pc i (bound_each m bounds f function e at).ordered is-instr in
-    let lt : i.x < f = ltb-true i.x f (ap (λ o. if is_call o then nat_lt i.x f else true) (sym is) ∙ earlier) in
-    ap (λ o. if is_call o then 1 + slice_index (take f bounds) i.x else 1) is
-    ∙ ap (λ n. 1 + n) (index_before bounds f i.x (bound_of (take i.x bounds) callee.code) lt (bound_each m bounds i.x callee e callee-is).bound)
-    ∙ ap (λ o. 1 + bound_of (take i.x bounds) (code_in o)) (sym callee-is)
+    let lt : i.x < f = ltb-true i.x f (ap (λ b. if b then nat_lt i.x f else true) (sym is) ∙ earlier) in
+    let bound = (bound_each m bounds i.x callee e callee-is).bound in
+    ap (λ b. if b then 1 + slice_index (take f bounds) i.x else 1) is ∙ ap (λ n. 1 + n) (index_before bounds f i.x _ lt bound ∙ sym (index_is bounds i.x _ bound))

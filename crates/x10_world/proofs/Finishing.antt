@@ -4,20 +4,16 @@ use Rattle.std.specs.Prelude.{IsTrue, IfSome, slice_get, take}
 use Rattle.x10_model.specs.declared.event.Event.{Event}
 use Rattle.x10_model.specs.Places as machine
 use Rattle.x10_model.specs.Places.{Setting}
-use Rattle.x10_model.specs.Worlds.{World, Ideal, Run, WithinBounds, IsOver, opening}
+use Rattle.x10_model.specs.Worlds.{World, Ideal, WithinBounds, IsOver, opening}
 use Rattle.x10_verify.specs.Certified.{Certified}
 use Rattle.x10_place.specs.StandsFor.{PlaceState, line_as}
 use Rattle.x10_world.specs.declared.ending.Ending.{Ending}
 use Rattle.x10_world.specs.Opening.{IsOpenedWorld, IsForbidden}
 use Rattle.x10_world.specs.Queries.{NothingFlies}
 use Rattle.x10_world.specs.Endings.{IsEndingOf, AreLinesOf, lines_at}
+use Rattle.x10_world.specs.Prompt.{PromptRun}
 use Rattle.x10_world.specs.StandsForWorld.{WorldState, KeepsSetting, setting_of, StandsForWorld, Runs}
-
-some_is : {X : Type 0} (x y : X) → Some x ≡ Some y → x ≡ y
-some_is x y e = cc
-
-none_some : {X : Type 0} (o : Option X) (x : X) → o ≡ None → o ≡ Some x → ⊥
-none_some o x e f = cc
+use Rattle.x10_world.proofs.Lists.{some_is, none_some}
 
 get_map : {X Y : Type 0} (f : X → Y) (xs : List X) (i : ℕ) (x : X) → slice_get xs i ≡ Some x → slice_get (map f xs) i ≡ Some (f x)
 get_map f [] i x e = absurd cc
@@ -45,8 +41,8 @@ pub ending_is : (c : Certified) (count : ℕ) (events : List Event) (x y : World
 ending_is c count events x y outputs e opened runs all less permitted kept lines ended over = record {
   key = key;
   last = made.0;
-  run = subst (λ s. Run Ideal s (WithinBounds c.bounds) (opening s key) (take e.done events) made.0) setting
-      (subst (λ bs. Run Ideal (setting_of x) (WithinBounds bs) (opening (setting_of x) key) (take e.done events) made.0) opened.bounds made.1);
+  run = run.0;
+  prompt = run.1;
   permitted = permitted;
   all = all;
   less = less;
@@ -64,3 +60,7 @@ ending_is c count events x y outputs e opened runs all less permitted kept lines
 
     setting : setting_of x ≡ record { program = c.program; places = count }
     setting = ap (λ m. record { program = m; places = length x.places }) opened.program ∙ ap (λ n. record { program = c.program; places = n }) opened.places.count_is
+
+    run : PromptRun Ideal (record { program = c.program; places = count }) (WithinBounds c.bounds) (opening (record { program = c.program; places = count }) key) (take e.done events) made.0
+    run = subst (λ s. PromptRun Ideal s (WithinBounds c.bounds) (opening s key) (take e.done events) made.0) setting
+        (subst (λ bs. PromptRun Ideal (setting_of x) (WithinBounds bs) (opening (setting_of x) key) (take e.done events) made.0) opened.bounds made.1)

@@ -1,29 +1,23 @@
 -- Why events are refused.
-use Rattle.std.proofs.Common.{◌≡◌, ◌≢◌, ℕ, ◌≤◌, Bool, true, List, Option, Some, None, Result, Ok, Err, refl, sym, ap, subst, ◌∙◌, inl, inr, arith}
+use Rattle.std.proofs.Common.{◌≡◌, ◌≢◌, ℕ, Bool, true, List, Option, Some, None, Result, Ok, Err, refl, sym, ap, subst, ◌∙◌, inl, inr}
 use Rattle.std.specs.Prelude.{IfErr, MatchOption, slice_get, slice_set}
 use Rattle.x10_kinds.specs.declared.stop.Stop.{Stop}
 use Rattle.x10_model.specs.Modules.{Module}
 use Rattle.x10_model.specs.declared.event.Event.{Event}
 use Rattle.x10_model.specs.declared.event.Event.TheVariants.{Step, Deliver}
+use Rattle.x10_place.specs.declared.place.Stepped.{Stepped}
 use Rattle.x10_place.specs.StandsFor.{PlaceState, IsHindered}
 use Rattle.x10_place.specs.Stretches.{Strides}
-use Rattle.x10_place.proofs.Striding.{limits}
-use Rattle.x10_world.specs.StandsForWorld.{WorldState, IsWorld, StepsOne, RunsOne, IsHinderedAt, IsHeapStop}
-use Rattle.x10_world.proofs.Happening.{set_here}
+use Rattle.x10_place.proofs.Striding.{stopped_hindered, limits}
+use Rattle.x10_world.specs.StandsForWorld.{WorldState, IsWorld, StepsOne, RunsOne, IsHinderedAt, IsStepStop}
+use Rattle.x10_world.proofs.Lists.{set_here}
 
--- whether a place has stopped doesn't matter
-stopped_hindered : (p : PlaceState) (key : ℕ) (why : Stop) → IsHindered p key why → IsHindered (record p { stopped = true }) key why
-stopped_hindered p key why (inl memory) = inl memory
-stopped_hindered p key why (inr limit) =
-    let h = limit.2 in
-    inr (limit.0, limit.1, record { stay = h.stay; is_there = h.is_there; instr = h.instr; instr_is = h.instr_is; overfills = h.overfills })
+step_stop : (p : PlaceState) (key : ℕ) (why : Stop) → IsHindered p key why → IsStepStop why
+step_stop p key why (inl memory) = inl memory
+step_stop p key why (inr limit) = inr (limit.0, limit.1, limits p key limit.0 limit.2)
 
-heap_stop : (p : PlaceState) (key : ℕ) (why : Stop) → IsHindered p key why → IsHeapStop why
-heap_stop p key why (inl memory) = inl memory
-heap_stop p key why (inr limit) = let h = limit.2 in let few = limits p key limit.0 h in inr (limit.0, limit.1, few.0, few.1)
-
-pub event_stop : (x : WorldState) (event : Event) (why : Stop) → IsHinderedAt x event why → IsHeapStop why
-event_stop x (Step id key) why h = heap_stop h.0 key why h.2
+pub event_stop : (x : WorldState) (event : Event) (why : Stop) → IsHinderedAt x event why → IsStepStop why
+event_stop x (Step id key) why h = step_stop h.0 key why h.2
 event_stop x (Deliver number) why h = absurd h
 
 -- the place as it is after the refusal
@@ -32,7 +26,7 @@ place_hindered old here key p q r why is same h new set =
     (q, ap (λ ps. slice_get ps here) set ∙ set_here old here q p is, subst (λ s. IsHindered s key why) (sym same) (stopped_hindered r key why h))
 
 -- a step of a world that has not stopped
-pub step_hindered : (program : Module) (bounds : List ℕ) (old : List PlaceState) (y : WorldState) (event : Event) (id here key : ℕ) (result : Result (Unit {0}) Stop) (before : Bool) → event ≡ Step id key → here ≡ id → IsWorld program bounds old before → before ≢ true → StepsOne old y.places here key result
+pub step_hindered : (program : Module) (bounds : List ℕ) (old : List PlaceState) (y : WorldState) (event : Event) (id here key : ℕ) (result : Result Stepped Stop) (before : Bool) → event ≡ Step id key → here ≡ id → IsWorld program bounds old before → before ≢ true → StepsOne old y.places here key result
     → IfErr result (IsHinderedAt y event)
 step_hindered program bounds old y event id here key (Ok u) before is at world goes one = tt
 step_hindered program bounds old y event id here key (Err why) before is at world goes one = subst (λ e. IsHinderedAt y e why) (sym is) (subst (λ n. IsHinderedAt y (Step n key) why) at (at_place (slice_get old here) refl))

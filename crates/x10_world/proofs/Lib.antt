@@ -1,6 +1,12 @@
 pub mod Bounded
-pub mod Advance
-pub mod Ties
+pub mod Spending
+pub mod Budgets
+pub mod BudgetMoves
+pub mod BudgetDeliveries
+pub mod BudgetRuns
+pub mod Lists
+pub mod Moving
+pub mod Waiting
 pub mod Placesteps
 pub mod Happening
 pub mod Running

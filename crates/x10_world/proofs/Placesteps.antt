@@ -1,45 +1,43 @@
 -- A step of one place of a list.
-use Rattle.std.proofs.Common.{◌≡◌, ◌≢◌, ℕ, zero, suc, ◌<◌, ◌≤◌, true, List, [], ◌∷◌, length, Option, Some, None, Ok, Err, refl, sym, subst, ◌∙◌, arith}
-use Rattle.std.specs.Prelude.{slice_get, slice_set, slice_index_or}
+use Rattle.std.proofs.Common.{◌≡◌, ◌≢◌, ℕ, ◌≤◌, true, false, List, length, Some, Result, Ok, Err, refl, sym, ap, subst, ◌∙◌}
+use Rattle.std.specs.Prelude.{IfOk, IfErr, slice_get, slice_set}
 use Rattle.slab.specs.Slab.{get}
+use Rattle.x10_kinds.specs.declared.stop.Stop.{Stop}
 use Rattle.x10_kinds.specs.declared.stop.Stop.TheVariants as stop
-use Rattle.x10_model.specs.Places as machine
-use Rattle.x10_model.specs.Places.{Effect}
+use Rattle.x10_place.specs.declared.place.Stepped.{Stepped}
+use Rattle.x10_place.specs.declared.place.Stepped.TheVariants as stepped
 use Rattle.x10_place.specs.Stays.{StayState}
-use Rattle.x10_place.specs.StandsFor.{PlaceState, LeadsAll, Keeps, IsIdleAt}
+use Rattle.x10_place.specs.StandsFor.{PlaceState, LeadsAll, Keeps, IsIdleAt, IsHindered}
 use Rattle.x10_world.specs.StandsForWorld.{IsStepped, StepsOne}
-
-none_some : {X : Type 0} (o : Option X) (x : X) → o ≡ None → o ≡ Some x → ⊥
-none_some o x e f = cc
-
-some_is : {X : Type 0} (x y : X) → Some x ≡ Some y → x ≡ y
-some_is x y e = cc
-
-past_none : {X : Type 0} (xs : List X) (i : ℕ) → length xs ≤ i → slice_get xs i ≡ None
-past_none [] i le = refl
-past_none (x ∷ xs) zero le = absurd (omega arith)
-past_none (x ∷ xs) (suc i) le = past_none xs i (omega arith)
-
-pub at_index : {X : Type 0} (xs : List X) (i : ℕ) (d : X) → i < length xs → slice_get xs i ≡ Some (slice_index_or xs i d)
-at_index [] i d lt = absurd (omega arith)
-at_index (x ∷ xs) zero d lt = refl
-at_index (x ∷ xs) (suc i) d lt = at_index xs i d (omega arith)
+use Rattle.x10_world.proofs.Lists.{none_some, some_is, past_none}
 
 -- no such place
-pub none_there : (old : List PlaceState) (id key : ℕ) → length old ≤ id → StepsOne old old id key (Ok tt)
+pub none_there : (old : List PlaceState) (id key : ℕ) → length old ≤ id → StepsOne old old id key (Ok stepped.Idle)
 none_there old id key le = record { gone = λ e. (refl, refl); there = λ p e. absurd (none_some (slice_get old id) p (past_none old id le) e) }
 
--- the place has made its step
-pub one_there : {T : Type 0} (old : List PlaceState) (id key : ℕ) (p q : PlaceState) (s : T) (X : Type 0) → slice_get old id ≡ Some p → Keeps p q
-    → (p.stopped ≢ true → IsIdleAt p key → X × (q ≡ p))
-    → ((a : StayState) → get p.stays key ≡ Some a → LeadsAll p key q)
-    → (p.stopped ≡ true → Ok s ≡ Err stop.Stopped)
-    → q.stopped ≢ true
-    → StepsOne old (slice_set old id q) id key (Ok tt)
-one_there old id key p q s X is kept idle some stopped goes = record {
+refused_not : (answer : Stepped) (why : Stop) → Ok answer ≡ Err why → ⊥
+refused_not answer why e = absurd cc
+
+-- what a place's step answers
+pub record Answered (p q : PlaceState) (key : ℕ) (result : Result Stepped Stop) : Type 0 where
+  pub idle : p.stopped ≢ true → IsIdleAt p key → (result ≡ Ok stepped.Idle) × (q ≡ p)
+  pub only : p.stopped ≢ true → result ≡ Ok stepped.Idle → IsIdleAt p key
+  pub some : (a : StayState) → get p.stays key ≡ Some a → a.away ≡ false → IfOk result (λ answer. LeadsAll p key answer q)
+  pub stopped : p.stopped ≡ true → result ≡ Err stop.Stopped
+  pub refused : p.stopped ≢ true → IfErr result (IsHindered p key)
+  pub stop : IfErr result (λ why. q ≡ record p { stopped = true })
+  pub goes : IfOk result (λ answer. q.stopped ≢ true)
+  pub kept : Keeps p q
+
+stepped_is : (p q : PlaceState) (key : ℕ) (result : Result Stepped Stop) → Answered p q key result → IsStepped p q key result
+stepped_is p q key (Ok answer) a =
+    let on : p.stopped ≢ true = λ e. refused_not answer stop.Stopped (a.stopped e) in
+    record { kept = a.kept; made = record { idle = λ i. (a.idle on i).1; only = λ e. a.only on (ap Ok e); some = a.some; goes = a.goes }; hindered = λ e. tt; stop = tt }
+stepped_is p q key (Err why) a = record { kept = a.kept; made = tt; hindered = a.refused; stop = a.stop }
+
+-- the place has made its step, or not
+pub one_there : (old : List PlaceState) (id key : ℕ) (p q : PlaceState) (result : Result Stepped Stop) → slice_get old id ≡ Some p → Answered p q key result → StepsOne old (slice_set old id q) id key result
+one_there old id key p q result is answered = record {
   gone = λ e. absurd (none_some (slice_get old id) p e is);
-  there = λ r e. (q, refl, subst (λ x. IsStepped x q key (Ok tt)) (some_is p r (sym is ∙ e)) stepped);
+  there = λ r e. (q, refl, subst (λ x. IsStepped x q key result) (some_is p r (sym is ∙ e)) (stepped_is p q key result answered));
 }
-  where
-    stepped : IsStepped p q key (Ok tt)
-    stepped = record { kept = kept; idle = λ e. (idle (λ f. absurd (let g = stopped f in cc)) e).1; some = some; goes = goes; hindered = λ on. tt; stop = tt }

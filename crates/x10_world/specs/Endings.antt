@@ -1,5 +1,5 @@
 -- What a run from an image's bytes ends with, and why there is none.
-use Rattle.std.specs.Prelude.{◌≡◌, ◌↔◌, ℕ, List, length, map, take, Some, None, IsTrue, slice_get, Vec, IfSome, ◌<◌}
+use Rattle.std.specs.Prelude.{◌≡◌, ℕ, List, length, map, take, Some, None, IsTrue, slice_get, Vec, IfSome, ◌<◌}
 use Rattle.std.specs.Global.{Global}
 use Rattle.x10_model.specs.declared.event.Event.{Event}
 use Rattle.x10_model.specs.Modules.{Module, FitsImage}
@@ -18,6 +18,7 @@ use Rattle.x10_world.specs.declared.ending.Ending.{Ending}
 use Rattle.x10_world.specs.declared.ending.RunFault.{RunFault}
 use Rattle.x10_world.specs.declared.ending.RunFault.TheVariants as fault
 use Rattle.x10_world.specs.Opening.{IsForbidden}
+use Rattle.x10_world.specs.Prompt.{ArePrompt}
 use Rattle.x10_world.specs.Queries.{NothingFlies}
 
 -- lists of lines as the machine has them
@@ -38,12 +39,13 @@ abbrev pub AreLinesOf : List (List machine.Line) → World → Type 0
 AreLinesOf outputs w = (id : ℕ) (m : machine.Place) → w.net.places id ≡ Some m → slice_get outputs id ≡ Some m.lines
 
 -- A run of the machine, from its opening, under the events that were made: none goes wrong, and no activity takes more
--- steps than its bound. The number of places is permitted. All events were made, or a Stop is told of the one after them;
+-- steps than its bound, and none waits at the end of a finish that may end. The number of places is permitted. All events were made, or a Stop is told of the one after them;
 -- the lines are those of the last world.
 pub record IsEndingOf (c : Certified) (count : ℕ) (events : List Event) (outputs : List (List machine.Line)) (e : Ending) : Type 0 where
   pub key : ℕ
   pub last : World
   pub run : Run Ideal (record { program = c.program; places = count }) (WithinBounds c.bounds) (opening (record { program = c.program; places = count }) key) (take e.done events) last
+  pub prompt : ArePrompt Ideal (record { program = c.program; places = count }) (WithinBounds c.bounds) (opening (record { program = c.program; places = count }) key) (take e.done events) last run
   pub permitted : IsForbidden c count → ⊥
   pub all : e.stop ≡ None → e.done ≡ length events
   pub less : IfSome e.stop (λ stop. e.done < length events)

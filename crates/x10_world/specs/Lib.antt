@@ -1,4 +1,5 @@
-pub mod Tied
+pub mod Budget
+pub mod Prompt
 pub mod StandsForWorld
 pub mod Opening
 pub mod Queries

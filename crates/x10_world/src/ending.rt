@@ -2,7 +2,7 @@ ghost use Rattle.std.specs.Prelude.{◌≡◌, List, IfOk, IfErr, IfSome, map};
 ghost use Rattle.x10_place.specs.StandsFor.{line_as};
 ghost use Rattle.x10_verify.specs.Certified.{Certified};
 ghost use Rattle.x10_world.specs.declared.ending.RunFault.TheVariants as fault;
-ghost use Rattle.x10_world.specs.StandsForWorld.{IsHeapStop};
+ghost use Rattle.x10_world.specs.StandsForWorld.{IsStepStop};
 ghost use Rattle.x10_world.specs.Endings.{IsImageOf, IsEndingOf, Explains, lines_in, lines_at};
 
 use crate::fault::OpenFault;
@@ -87,7 +87,7 @@ pub fn run_image(
     events: &[Event],
 ) -> Result<Ending, RunFault>
     ensures ending { IfOk result (λ e. (c : Certified) × IsImageOf bytes.now c × IsEndingOf c places events.now (lines_in e.outputs.items) e) }
-    ensures stop { IfOk result (λ e. IfSome e.stop IsHeapStop) }
+    ensures stop { IfOk result (λ e. IfSome e.stop IsStepStop) }
     ensures fault { IfErr result (Explains bytes.now places) }
 {
     let image = match ImageView::read(alloc, bytes) {

@@ -3,6 +3,7 @@
 
 mod ending;
 mod fault;
+pub mod laws;
 mod opening;
 mod rounds;
 mod world;

@@ -49,36 +49,50 @@ enum Then {
 }
 
 /// Runs a world in rounds until the run has ended, with so many events at most, idle ones among them. In a round each
-/// place, by rising number, makes a step of each of its activities that are there when its turn comes, by rising key.
-/// Where one activity is alone, its steps are made at a stretch, each a round of its own. Takes memory for the keys of
-/// one place.
+/// place, by rising number, makes a step of each of its activities that are there when its turn comes, by rising key; what
+/// these begin waits for the next round. Where one activity is alone, its steps are made at a stretch, each a round of its
+/// own. A round takes time in the places, the keys that were ever in use at once, and its events. Takes memory for the keys
+/// of one place.
 pub fn run_rounds(alloc: Global, world: &mut World, limit: u64) -> Result<(), Halt>
     ensures runs { RunsTo world.old world.new }
     ensures ended { IfOk result (λ _. HasEnded world.new) }
 {
     let mut left = limit;
     let mut keys = Vec::new(alloc);
+    let mut alone = true;
     for _ in 0..limit {
-        if let Then::Ends = round(world, &mut keys, &mut left)? {
+        if let Then::Ends = round(world, &mut keys, &mut left, &mut alone)? {
             return Ok(());
         }
     }
     Err(Halt::Limit)
 }
 
-fn round(world: &mut World, keys: &mut Vec<usize>, left: &mut u64) -> Result<Then, Halt>
+/// A round, or a stretch where one activity is alone. That is looked for only where the round before met no second one.
+fn round(
+    world: &mut World,
+    keys: &mut Vec<usize>,
+    left: &mut u64,
+    alone: &mut bool,
+) -> Result<Then, Halt>
     ensures runs { RunsTo world.old world.new }
     ensures ended { result ≡ Ok Then.Ends → HasEnded world.new }
 {
-    if let Some((place, key)) = lone(world) {
-        return stretch(world, place, key, left);
+    if *alone {
+        *alone = false;
+        if let Some((place, key)) = lone(world) {
+            return stretch(world, place, key, left);
+        }
     }
+    let mut met: usize = 0;
     for place in 0..world.count() {
         keys_at(world, place, keys)?;
+        met = met.saturating_add(keys.len());
         if let Then::Ends = turn(world, place, keys, left)? {
             return Ok(Then::Ends);
         }
     }
+    *alone = met < 2;
     Ok(Then::Goes)
 }
 
@@ -96,14 +110,30 @@ fn lone(world: &World) -> Option<(u16, usize)> {
     found
 }
 
-/// Steps of the one activity that there is: each is a round.
+/// Steps of the one activity that there is: each is a round. They end with one that begins an activity.
 fn stretch(world: &mut World, place: u16, key: usize, left: &mut u64) -> Result<Then, Halt>
     ensures runs { RunsTo world.old world.new }
     ensures ended { result ≡ Ok Then.Ends → HasEnded world.new }
 {
     let made = world.run_activity(place, key, *left)?;
+    if made == 0 {
+        return wait(world, place, key, left);
+    }
     *left = left.saturating_sub(made);
     after(world, *left)
+}
+
+/// Events of the one activity that there is, which finds nothing to do: each is a round.
+fn wait(world: &mut World, place: u16, key: usize, left: &mut u64) -> Result<Then, Halt>
+    ensures runs { RunsTo world.old world.new }
+    ensures ended { result ≡ Ok Then.Ends → HasEnded world.new }
+{
+    for _ in 0..*left {
+        if let Then::Ends = event(world, Event::Step(place, key), left)? {
+            return Ok(Then::Ends);
+        }
+    }
+    Ok(Then::Goes)
 }
 
 /// The keys in use at a place, in place of those that the list has.

@@ -1,4 +1,4 @@
-ghost use Rattle.std.specs.Prelude.{◌≡◌, ◌≢◌, ◌<◌, ◌≤◌, ◌↔◌, ℕ, true, IsTrue, IfOk, IfErr, IsErrOf, IfSome, MatchOption, Ok, Err, Some, None, length, slice_get};
+ghost use Rattle.std.specs.Prelude.{◌≡◌, ◌≢◌, ◌<◌, ◌≤◌, ◌↔◌, ◌⊎◌, ℕ, true, IsTrue, IfOk, IfErr, IsErrOf, IfSome, MatchOption, Ok, Err, Some, None, length, slice_get};
 ghost use Rattle.x10_kinds.specs.declared.stop.Stop.TheVariants as stop;
 ghost use Rattle.x10_model.specs.declared.event.Event as event;
 ghost use Rattle.x10_model.specs.declared.event.Event.TheVariants.{Step};
@@ -8,7 +8,8 @@ ghost use Rattle.x10_place.specs.Opening.{IsNextKey};
 ghost use Rattle.x10_world.specs.Endings.{lines_in, lines_at};
 ghost use Rattle.x10_world.specs.Queries.{IsNoPlace, HasPlace, HasNoKey, IsNotFlying, NothingFlies, IsFlyingTo, IsPosted};
 ghost use Rattle.x10_world.specs.Opening.{IsOpenedWorld, IsForbidden};
-ghost use Rattle.x10_world.specs.StandsForWorld.{StandsForWorld, KeepsSetting, StepsOne, RunsOne, IsHinderedAt, Makes, Runs, IsHaltedRun, Repeats, IsIdleNow};
+ghost use Rattle.x10_world.specs.StandsForWorld.{StandsForWorld, KeepsSetting, StepsOne, RunsOne, IsHinderedAt, Makes, Runs, IsHaltedRun, Repeats, IsIdleNow, BeganLast};
+ghost use Rattle.x10_world.specs.Prompt.{MayEnd, WorksIn};
 
 use crate::ending::copied_outputs;
 use crate::fault::OpenFault;
@@ -17,7 +18,7 @@ use std::alloc::{AllocError, Global};
 use std::marker::Model;
 use x10_kinds::Stop;
 use x10_model::Event;
-use x10_place::{Line, Place};
+use x10_place::{Line, Place, Stepped};
 use x10_verify::Verified;
 
 /// A world: the places of a run.
@@ -40,13 +41,13 @@ impl<'a> Model for World<'a> {
 }
 
 /// One step of the activity with a key at a place, if they are there.
-fn step_one(places: &mut Vec<Place>, id: usize, key: usize) -> Result<(), Stop>
+fn step_one(places: &mut Vec<Place>, id: usize, key: usize) -> Result<Stepped, Stop>
     ensures { StepsOne places.old.items places.new.items id key result }
 {
     if id < places.len() {
-        places[id].step(key)?;
+        return places[id].step(key);
     }
-    Ok(())
+    Ok(Stepped::Idle)
 }
 
 /// Up to so many steps of the activity with a key at a place, if they are there.
@@ -72,7 +73,7 @@ impl<'a> World<'a> {
     }
 
     /// One event.
-    fn happen(&mut self, event: Event) -> Result<(), Stop>
+    fn happen(&mut self, event: Event) -> Result<Stepped, Stop>
         requires { self.old.stopped ≢ true }
         ensures ok { IfOk result (λ _. (w : machine.World) → StandsForWorld self.old w → Makes self.old w event self.new) }
         ensures err { IfErr result (λ _. (w : machine.World) → StandsForWorld self.old w → StandsForWorld self.new w) }
@@ -89,7 +90,7 @@ impl<'a> World<'a> {
                 self.stopped = done.is_err();
                 done
             }
-            Event::Deliver(_) => Ok(()),
+            Event::Deliver(_) => Ok(Stepped::Idle),
         }
     }
 }
@@ -137,8 +138,10 @@ impl<'a> World<'a> {
     }
 
     /// The events in their turn. A Stop comes only where a growth was refused, or where there can be no more of what a step
-    /// would make (Limit 1: objects, 2: texts, 3: rails, 4: global references). After it every later call answers Stopped, and the output is that
-    /// of the events before the one that was refused.
+    /// would make (Limit 1: objects, 2: texts, 3: rails, 4: global references, 5: finishes, 6: activities that live under one
+    /// finish, 10: keys). After it every later call answers Stopped, and the output is that of the events before the one that
+    /// was refused. A step waits at the end of a finish only where something lives that the finish governs (X10 2.2, chapter
+    /// Activities, `finish`), or a message flies.
     pub fn run(&mut self, events: &[Event]) -> Result<(), Stop>
         ensures all { IfOk result (λ _. (w : machine.World) → StandsForWorld self.old w → Runs self.old w (length events.now) events.now self.new) }
         ensures some { (w : machine.World) → StandsForWorld self.old w → (n : ℕ) × Runs self.old w n events.now self.new }
@@ -157,13 +160,16 @@ impl<'a> World<'a> {
 
 impl<'a> World<'a> {
     /// Up to so many times the event `Step(place, key)`: how many were made. Each is as `run` would make it, several times as
-    /// fast, and moves. Where they are fewer than that many, a Step of the key now finds nothing to do. After a Stop, which comes as `run` says, the output is that of the steps
-    /// before the one that was refused.
+    /// fast, and moves. They are fewer than that many only where a Step of the key now finds nothing to do, or where the last
+    /// one began an activity, so that others may come. It waits at the end of a finish only where something lives that the
+    /// finish governs, or a message flies. After a Stop, which comes as `run` says, the output is that of the steps before the
+    /// one that was refused.
     pub fn run_activity(&mut self, place: u16, key: usize, most: u64) -> Result<u64, Stop>
         ensures ok { IfOk result (λ n. (w : machine.World) → StandsForWorld self.old w → Repeats self.old w n place key self.new) }
         ensures some { (w : machine.World) → StandsForWorld self.old w → (n : ℕ) × (n ≤ most) × Repeats self.old w n place key self.new }
         ensures few { IfOk result (λ n. n ≤ most) }
-        ensures all { IfOk result (λ n. n < most → IsIdleNow self.new place key) }
+        ensures all { IfOk result (λ n. n < most → IsIdleNow self.new place key ⊎ BeganLast self.old place key n self.new) }
+        ensures waits { IfOk result (λ n. n < most → (w : machine.World) (number : ℕ) → StandsForWorld self.new w → WorksIn w place key number → MayEnd w (record { home = place; number = number }) → BeganLast self.old place key n self.new) }
         ensures stopped { self.old.stopped ≡ true → (result ≡ Err stop.Stopped) × (self.new ≡ self.old) }
         ensures hindered { self.old.stopped ≢ true → IfErr result (IsHinderedAt self.new (Step place key)) }
         ensures stop { IfErr result (λ _. self.new.stopped ≡ true) }

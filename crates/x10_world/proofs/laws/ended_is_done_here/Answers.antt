@@ -1,0 +1,5 @@
+use Rattle.x10_world.proofs.Waiting.{ended_is_done_here}
+use Rattle.x10_world.proofs.laws.ended_is_done_here.Goals as goal
+
+pub returns : goal.returns
+returns c = ended_is_done_here
