@@ -52,10 +52,12 @@ impl<'a> Place<'a> {
     /// where it is away, or where it stands at the end of a finish that may not end yet. A Stop comes only where a growth
     /// was refused, where there can be no more of what the step would make (Limit 1: objects, 2: texts, 3: rails, 4: global
     /// references, 5: finishes; at most 2^32 - 1 of each; 6: activities that live under one finish; 10: the number of a
-    /// key), or after another Stop; the output is then that of the steps before it. Constant time, but that CALL, ASYNC,
-    /// NEW, RAIL, TEXTK, TCAT and PRINT of a text also copy or fill what they make, that FINB makes a number for each two
-    /// places and FINE looks at them where the finish may end, that a finish is looked up in logarithmic time, and that a
-    /// list that grows is copied now and then. These and PRINT of a number alone take memory.
+    /// key), or after another Stop; the output is then that of the steps before it.
+    ///
+    /// Constant time, but that CALL, ASYNC, NEW, RAIL, TEXTK, TCAT and PRINT of a text also copy or fill what they make,
+    /// that FINB makes two numbers for each pair of places, that FINE looks at the places where nothing lives under its
+    /// finish here, that a finish is looked up in logarithmic time, and that a list that grows is copied now and then. What
+    /// makes or prints something takes memory, and so do CALL, ASYNC and FINB.
     pub fn step(&mut self, key: usize) -> Result<Stepped, Stop>
         ensures idle { self.old.stopped ≢ true → IsIdleAt self.old key → (result ≡ Ok Stepped.Idle) × (self.new ≡ self.old) }
         ensures only { self.old.stopped ≢ true → result ≡ Ok Stepped.Idle → IsIdleAt self.old key }
