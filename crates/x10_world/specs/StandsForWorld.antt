@@ -76,9 +76,6 @@ kept_at (Some p) number = kept_in (books_of p.books number)
 abbrev pub counts_in : List PlaceState → WorldCounts
 counts_in places = record { totals = λ p f. totals_at (slice_get places p) f; kept = λ f. kept_at (slice_get places f.home) f.number; told = λ f number. None }
 
-abbrev pub counts_of : WorldState → WorldCounts
-counts_of x = counts_in x.places
-
 -- ---- what is stood for
 
 -- Places of a module with these bounds stand for a world: each for the machine's place with its number, and there are no
