@@ -207,7 +207,11 @@ fn ten_thousand_events(rt: HostRuntime) -> Result<(), Fail> {
         let key = number(&mut seed) % (most + 1);
         plain.step(&rt, &mut place, key)?;
     }
-    assert!(rt; plain.lines > 500 && !place.closed(), "{} lines", plain.lines);
+    assert!(rt;
+        plain.lines > 500 && !place.closed(),
+        "{} lines",
+        plain.lines
+    );
     for _ in 0..1_000u32 {
         for key in 0..2_000usize {
             if place.at(key).is_some() {
