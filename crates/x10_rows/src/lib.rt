@@ -2,8 +2,6 @@
 #![tactic(auto)]
 
 #[cfg(test)]
-mod activities;
-#[cfg(test)]
 mod assembling;
 #[cfg(test)]
 mod codes;
