@@ -46,7 +46,7 @@ entry 3
 ";
 
 /// A place of a run on so many places, where its module runs on so many.
-fn place_of<'a>(
+pub(crate) fn place_of<'a>(
     alloc: Global,
     verified: &'a Verified<'a>,
     id: u16,

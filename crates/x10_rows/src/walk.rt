@@ -92,7 +92,7 @@ struct Walk {
     plain: Plain,
 }
 
-fn number(seed: &mut u64) -> usize {
+pub(crate) fn number(seed: &mut u64) -> usize {
     *seed = seed
         .wrapping_mul(6_364_136_223_846_793_005)
         .wrapping_add(1_442_695_040_888_963_407);
