@@ -16,3 +16,8 @@ pub mod Finishing
 pub mod Repeating
 pub mod Hindering
 pub mod Rounding
+pub mod Linking
+pub mod LinkingMoves
+pub mod LinkingDeliveries
+pub mod LinkingMisfits
+pub mod LinkingEvents

@@ -1,6 +1,7 @@
 //! Laws of worlds. Each function does nothing: its contract is a law, and the check proves it.
 
 ghost use Rattle.x10_world.specs.Budget.{BudgetAtOpening, BudgetAfterMove, BudgetAfterDelivery, BudgetAfterEvent, BudgetBounds, RunsAreWithinBounds};
+ghost use Rattle.x10_world.specs.Links.{AnsweredAtOpening, AnsweredAfterMove, AnsweredAfterDelivery, AnsweredAfterEvent, FittingIsNoMisfit, FittingResultIsAwaited};
 ghost use Rattle.x10_world.specs.StandsForWorld.{StepIsMove, EndedIsDoneHere};
 
 /// At the opening the activities are within their budgets.
@@ -44,4 +45,32 @@ pub fn step_is_move()
 /// one that closes it.
 pub fn ended_is_done_here()
     ensures { EndedIsDoneHere }
+{}
+
+/// At the opening each message in flight, there being none, fits the place that it goes to.
+pub fn answered_at_opening()
+    ensures { AnsweredAtOpening }
+{}
+
+/// And after each move: what it sends fits the place where it goes, and the stay that a result comes back to waits for it
+/// there.
+pub fn answered_after_move()
+    ensures { AnsweredAfterMove }
+{}
+
+/// And after each delivery, also of a result, for which a stay waited.
+pub fn answered_after_delivery()
+    ensures { AnsweredAfterDelivery }
+{}
+
+/// And so after any event.
+pub fn answered_after_event()
+    ensures { AnsweredAfterEvent }
+{}
+
+/// A message that fits the place where it goes is no misfit there, where its graph has the fields of its classes and names
+/// what the place exported. Where it brings a result, a stay waits for it.
+pub fn fitting_is_no_misfit()
+    ensures misfit { FittingIsNoMisfit }
+    ensures awaited { FittingResultIsAwaited }
 {}

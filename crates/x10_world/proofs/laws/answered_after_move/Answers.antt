@@ -1,0 +1,5 @@
+use Rattle.x10_world.proofs.LinkingMoves.{answered_after_move}
+use Rattle.x10_world.proofs.laws.answered_after_move.Goals as goal
+
+pub returns : goal.returns
+returns c = answered_after_move

@@ -1,0 +1,5 @@
+use Rattle.x10_world.proofs.LinkingDeliveries.{answered_at_opening}
+use Rattle.x10_world.proofs.laws.answered_at_opening.Goals as goal
+
+pub returns : goal.returns
+returns c = answered_at_opening
