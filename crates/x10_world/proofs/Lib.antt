@@ -16,3 +16,8 @@ pub mod Finishing
 pub mod Repeating
 pub mod Hindering
 pub mod Rounding
+mod FlightsRising
+mod FlightsSlots
+mod FlightsQueues
+pub mod FlightsLookups
+mod FlightsFiling

@@ -5,3 +5,4 @@ pub mod Opening
 pub mod Queries
 pub mod Endings
 pub mod Rounds
+pub mod Flights
