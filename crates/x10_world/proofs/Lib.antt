@@ -21,3 +21,8 @@ pub mod LinkingMoves
 pub mod LinkingDeliveries
 pub mod LinkingMisfits
 pub mod LinkingEvents
+mod FlightsRising
+mod FlightsSlots
+mod FlightsQueues
+pub mod FlightsLookups
+mod FlightsFiling

@@ -6,3 +6,4 @@ pub mod Queries
 pub mod Endings
 pub mod Rounds
 pub mod Links
+pub mod Flights

@@ -3,6 +3,7 @@
 
 mod ending;
 mod fault;
+mod flights;
 pub mod laws;
 mod opening;
 mod rounds;
