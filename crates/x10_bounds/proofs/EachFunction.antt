@@ -1,9 +1,9 @@
 -- What the bounds of a module say of each of its functions.
-use Rattle.std.proofs.Common.{◌≡◌, ℕ, zero, suc, ◌+◌, List, [], ◌∷◌, ◌++◌, length, Option, Some, None, Result, Ok, Err, refl, subst}
+use Rattle.std.proofs.Common.{◌≡◌, ℕ, zero, suc, List, [], ◌∷◌, ◌++◌, length, Option, Some, None, Result, Ok, Err, refl, subst}
 use Rattle.std.specs.Prelude.{slice_get}
 use Rattle.x10_model.specs.Modules.{Module, Function}
 use Rattle.x10_model.specs.Ranges.{function_at}
-use Rattle.x10_model.specs.Structure.{BoundFault, BoundCause, Nesting, Jump, LoopSlot, nesting_fault, jump_fault, slot_fault, order_fault, unless, checked_bound, with_bound, bounds_from, bounds_of}
+use Rattle.x10_model.specs.Structure.{BoundFault, BoundCause, Nesting, Jump, LoopSlot, nesting_fault, jump_fault, slot_fault, unless, checked_bound, with_bound, bounds_from, bounds_of}
 use Rattle.x10_bounds.specs.Potential.{IsStructured}
 use Rattle.x10_bounds.specs.OpenFinishes.{FinishesMatch}
 use Rattle.x10_bounds.proofs.OpenFinishes.{structured_matches}

@@ -1,6 +1,6 @@
 -- A number at the front of bytes, or too few bytes for it.
 use Rattle.std.proofs.Common.{◌≡◌, ℕ, ℤ, ◌^◌, ◌<◌, ◌≤◌, List, length, take, drop, Ok, Err, refl, lt-ltb, le-ltb}
-use Rattle.std.specs.Int.{Width, byte_len, from_be_bytes, w64, cast_signed, cast_unsigned}
+use Rattle.std.specs.Int.{from_be_bytes, w64, cast_signed, cast_unsigned}
 use Rattle.std.proofs.lemmas.Int.{of_z-to_z}
 use Rattle.x10_model.specs.Readers.{number, int, bind, part, done}
 use Rattle.x10_model.specs.ReadingFrames.{Short}

@@ -1,6 +1,5 @@
 -- Reading items one after the other, with the place of each.
-use Rattle.std.proofs.Common.{◌≡◌, ℕ, ◌-◌, ◌+◌, ◌≤◌, ◌<◌, List, [], ◌∷◌, ◌++◌, length, drop, Option, Result, Ok, refl, sym, ap, subst, ◌∙◌, append_assoc, arith, length-append, drop_at, get_or, get_or-append-add}
-use Rattle.x10_model.specs.Maps.{Pairwise}
+use Rattle.std.proofs.Common.{◌≡◌, ℕ, ◌-◌, ◌+◌, ◌≤◌, ◌<◌, List, [], ◌∷◌, ◌++◌, length, Option, Result, Ok, ap}
 use Rattle.x10_model.specs.Frames.{Node, Tables, Turn, turn, next_turn}
 use Rattle.x10_model.specs.Readers.{Reader, IsBytes, many}
 use Rattle.x10_model.specs.ReadingFrames.{FrameFault}

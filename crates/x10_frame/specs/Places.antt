@@ -1,6 +1,5 @@
 -- Where the parts of a frame stand in its bytes, and what reading items one after another gives.
-use Rattle.std.specs.Prelude.{◌≡◌, ℕ, List, ◌++◌, drop, Result, Ok, Err}
-use Rattle.x10_model.specs.Maps.{Pairwise}
+use Rattle.std.specs.Prelude.{◌≡◌, ℕ, List, Result, Ok, Err}
 use Rattle.x10_model.specs.Frames.{Node, Tables, used_after, turn, next_turn}
 use Rattle.x10_model.specs.Readers.{after_all}
 use Rattle.x10_model.specs.ReadingFrames as reading

@@ -148,7 +148,7 @@ pub fn write_report(alloc: Global, to: u16, report: &Report) -> Result<Vec<u8>, 
     requires { length report.now.sent.items < 2 ^ 16 }
     ensures value { IfOk result (λ bytes. bytes.items ≡ spelling (frames.Report report.now.place to report.now.number report.now.sent.items report.now.received.items)) }
 {
-    let mut bytes = Vec::new(alloc);
+    let mut bytes = Vec::with_capacity(alloc, 16 + 8 * report.sent.len())?;
     let head = Head::Report {
         from: report.place,
         to,

@@ -107,7 +107,7 @@ home_or_not : (at : ℕ) (v : Value) → HasHome at v ⊎ (HasHome at v → ⊥)
 home_or_not at (Ref home id class) = same_or_not home at
 home_or_not at _ = inr (λ h. h)
 
-flag_or_not : (at : ℕ) (v : Value) (flag : Bool) → (IsTrue flag → HasHome at v) ⊎ ((IsTrue flag → HasHome at v) → ⊥)
+pub flag_or_not : (at : ℕ) (v : Value) (flag : Bool) → (IsTrue flag → HasHome at v) ⊎ ((IsTrue flag → HasHome at v) → ⊥)
 flag_or_not at v false = inl (λ t. absurd cc)
 flag_or_not at v true = elim (home_or_not at v) [ inl h ↦ inl (λ t. h) | inr n ↦ inr (λ f. n (f refl)) ]
 

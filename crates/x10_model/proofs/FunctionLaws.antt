@@ -4,9 +4,9 @@ use Rattle.std.specs.List.{AllByRecursion}
 use Rattle.std.specs.Int.{w16, to_be_bytes}
 use Rattle.std.proofs.lemmas.Bool.{and_from, and_parts}
 use Rattle.x10_code.specs.declared.instr.Instr.{Instr}
-use Rattle.x10_code.specs.Spelling.{spelling as instruction}
+use Rattle.x10_code.specs.Spelling.{IsInstr, spelling as instruction}
 use Rattle.x10_code.proofs.Instructions.{length-spelling}
-use Rattle.x10_model.specs.Modules.{Function, FitsSlot, FitsFunction, IsSupported}
+use Rattle.x10_model.specs.Modules.{Function, FitsSlot, FitsFunction}
 use Rattle.x10_model.specs.declared.slot.Slot.{Slot}
 use Rattle.x10_model.specs.Images.{slot_bytes, result_bytes, function_bytes}
 use Rattle.x10_model.specs.ReadingImages.{Short, Count, Reserved, is_within, function_at}
@@ -53,7 +53,7 @@ enough_code f n e = omega (arith, e, length-items instruction 8 length-spelling 
 fits_code : (classes : ℕ) → (n registers loops : ℕ) (parameters : List Slot) (result : Option Slot) (count : ℕ) (code : List Instr)
     → is_within 0 16 n ≡ true → (is_within 1 64 registers && leb n registers) ≡ true → is_within 0 8 loops ≡ true
     → (length parameters ≡ n) × AllByRecursion (FitsSlot classes) parameters → IfSome result (FitsSlot classes)
-    → is_within 1 4096 count ≡ true → (length code ≡ count) × AllByRecursion IsSupported code
+    → is_within 1 4096 count ≡ true → (length code ≡ count) × AllByRecursion IsInstr code
     → FitsFunction classes (fn parameters registers loops result code)
 unfolding fn
 fits_code classes n registers loops parameters result count code hn hr hl hp ho hc hi =

@@ -5,7 +5,6 @@ use Rattle.std.specs.Str.{is_utf8}
 use Rattle.std.proofs.lemmas.Str.{IsUtf8-from_is_utf8, is_utf8-from_IsUtf8}
 use Rattle.std.proofs.lemmas.List.Concat.{flat_map-cons}
 use Rattle.std.proofs.lemmas.Bool.{and_from, and_parts}
-use Rattle.std.proofs.lemmas.Option.{cond_some}
 use Rattle.x10_code.specs.declared.instr.Instr.{Instr}
 use Rattle.x10_code.specs.declared.instr.CodeFault.{CodeFault}
 use Rattle.x10_code.specs.declared.op.Op.{Op}
@@ -13,10 +12,10 @@ use Rattle.x10_code.specs.declared.op.Op.TheVariants as op
 use Rattle.x10_code.specs.Table.{code_of}
 use Rattle.x10_code.specs.Spelling.{decoded, IsInstr, spelling as instruction}
 use Rattle.x10_code.proofs.Instructions.{decoded_again, decoded_takes, length-spelling}
-use Rattle.x10_model.specs.Modules.{FitsClass, FitsText, IsSupported, is_supported}
+use Rattle.x10_model.specs.Modules.{FitsClass, FitsText}
 use Rattle.x10_model.specs.Images.{kind_bytes, class_bytes, text_bytes}
 use Rattle.x10_model.specs.Readers.{IsBytes}
-use Rattle.x10_model.specs.ReadingImages.{Short, Count, Text, Code, is_within, class_at, text_at, supported, instruction_at}
+use Rattle.x10_model.specs.ReadingImages.{Short, Count, Text, Code, is_within, class_at, text_at, if_decoded, instruction_at}
 use Rattle.x10_model.proofs.ReaderLaws.{Reads, then_reads, given_reads, check_reads, need_reads, such_that_reads, fits_as}
 use Rattle.x10_model.proofs.PartLaws.{bytes_below, IsBytes-cons, part_reads, part_reads_any, byte_reads, number_reads, each_reads, wide16}
 use Rattle.x10_model.proofs.KindLaws.{kind_reads, length-kind_bytes}
@@ -67,19 +66,19 @@ instruction_small : (i : Instr) → IsInstr i → IsBytes (instruction i)
 unfolding instruction
 instruction_small i fits = four_small (code_of i.op) i.a i.b i.c (to_be_bytes w32 i.x) (code_of-lt i.op) fits.a fits.b fits.c (bytes_below 4 i.x)
 
-supported_again : (i : Instr) → IsSupported i → supported (decoded (instruction i)) ≡ Some i
-supported_again i fits = rw (decoded_again i fits.instr, fits.supported) refl
+instruction_again : (i : Instr) → IsInstr i → if_decoded (decoded (instruction i)) ≡ Some i
+instruction_again i fits = rw (decoded_again i fits) refl
 
-supported_means : (bytes : List ℕ) (o : Result Instr CodeFault) (i : Instr) → length bytes ≡ 8 → IsBytes bytes → decoded bytes ≡ o → supported o ≡ Some i → (instruction i ≡ bytes) × IsSupported i
-supported_means bytes (Ok j) i len small is e =
-    let h = cond_some (is_supported j.op) j i e in
+instruction_means : (bytes : List ℕ) (o : Result Instr CodeFault) (i : Instr) → length bytes ≡ 8 → IsBytes bytes → decoded bytes ≡ o → if_decoded o ≡ Some i → (instruction i ≡ bytes) × IsInstr i
+instruction_means bytes (Ok j) i len small is e =
     let t = decoded_takes bytes j len small is in
-    subst (λ (k : Instr). (instruction k ≡ bytes) × IsSupported k) h.1 (sym t.1, record { instr = t.0; supported = h.0 })
-supported_means bytes (Err f) i len small is e = absurd cc
+    let same : j ≡ i = cc in
+    subst (λ (k : Instr). (instruction k ≡ bytes) × IsInstr k) same (sym t.1, t.0)
+instruction_means bytes (Err f) i len small is e = absurd cc
 
-pub instruction_reads : (function pc : ℕ) → Reads (instruction_at function pc) instruction IsSupported
+pub instruction_reads : (function pc : ℕ) → Reads (instruction_at function pc) instruction IsInstr
 unfolding instruction_at
 instruction_reads function pc =
-    given_reads (λ bytes. supported (decoded bytes)) (λ _. Code function pc) instruction (part_reads 8 Short)
-    (λ i fits. ((length-spelling i, instruction_small i fits.instr), supported_again i fits))
-    (λ bytes i h e. supported_means bytes (decoded bytes) i h.0 h.1 refl e)
+    given_reads (λ bytes. if_decoded (decoded bytes)) (λ _. Code function pc) instruction (part_reads 8 Short)
+    (λ i fits. ((length-spelling i, instruction_small i fits), instruction_again i fits))
+    (λ bytes i h e. instruction_means bytes (decoded bytes) i h.0 h.1 refl e)

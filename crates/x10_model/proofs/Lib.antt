@@ -2,6 +2,9 @@ pub mod Lists
 pub mod Finishes
 pub mod NotWrong
 pub mod Decided
+pub mod Choices
+pub mod Reaching
+pub mod Arriving
 pub mod Able
 pub mod Ready
 pub mod Balance

@@ -1,5 +1,5 @@
 -- What a reader is to a spelling: it reads again what is spelled, and what it took from the front is the spelling of what it gave.
-use Rattle.std.proofs.Common.{◌≡◌, ℕ, ◌≤◌, Bool, true, false, cond, ◌&&◌, List, [], ◌++◌, length, Option, Some, None, Result, Ok, Err, refl, sym, ap, subst, ◌∙◌, append_assoc, arith, eqb, eqb-true, eq-eqb, ltb, le-ltb, length-append}
+use Rattle.std.proofs.Common.{◌≡◌, ℕ, ◌≤◌, Bool, true, false, List, [], ◌++◌, length, Option, Some, None, Result, Ok, Err, refl, sym, ap, subst, ◌∙◌, append_assoc, arith, eqb, eqb-true, eq-eqb, ltb, le-ltb, length-append}
 use Rattle.x10_model.specs.Readers.{Reader, IsBytes, bind, done, check, such_that, expect, given, need}
 
 abbrev outcome : {E A : Type 0} → A → List ℕ → Result (A × List ℕ) E

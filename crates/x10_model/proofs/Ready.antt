@@ -1,7 +1,7 @@
 -- A ready activity moves or goes wrong, wherever it stands; and a message that is taken in fits.
 use Rattle.std.proofs.Common.{◌≡◌, ◌⊎◌, ℕ, ◌+◌, ◌≤◌, false, length, Option, Some, None, refl, ap, subst, ◌∙◌, inl, inr, arith}
 use Rattle.std.specs.Prelude.{slice_get}
-use Rattle.std.proofs.lemmas.Bool.{cases_lt, cases_eq}
+use Rattle.std.proofs.lemmas.Bool.{cases_lt}
 use Rattle.x10_code.specs.declared.instr.Instr.{Instr}
 use Rattle.x10_code.specs.declared.operands.Operand.{Operand}
 use Rattle.x10_code.specs.declared.operands.Operand.TheVariants as operand
@@ -10,12 +10,11 @@ use Rattle.x10_model.specs.Modules.{Module, Function}
 use Rattle.x10_model.specs.declared.slot.Slot.{Slot}
 use Rattle.x10_model.specs.Ranges.{function_at, instr_in, IsThere, IsResultRegister, IsInRange, result_for, argument_count}
 use Rattle.x10_model.specs.Places as places
-use Rattle.x10_model.specs.Places.{Setting, Finish, Stay, Effect, Message, Spawn, Shift, Back, Origin, receiver, with_stay}
-use Rattle.x10_model.specs.Copies.{IsWhole}
-use Rattle.x10_model.specs.Moves.{Situation, Moves, new_stay, resumed}
-use Rattle.x10_model.specs.Deliveries.{FitsPlace, first_of, WaitsFor, Receives}
-use Rattle.x10_model.specs.Wrong.{out_of_range, IsWrong, no_instruction, wrong_at, IsMisfit, graph_of, not_here, graph, torn, spawn, shift, back}
-use Rattle.x10_model.specs.Laws.{HasRoomAt, ArrivedIsTakenOrMisfit}
+use Rattle.x10_model.specs.Places.{Setting, Stay, Effect, Message, Spawn, Shift, Back}
+use Rattle.x10_model.specs.Moves.{Situation, Moves}
+use Rattle.x10_model.specs.Deliveries.{WaitsFor, Receives}
+use Rattle.x10_model.specs.Wrong.{out_of_range, IsWrong, no_instruction, wrong_at, IsMisfit, not_here, graph, torn, spawn, shift, back}
+use Rattle.x10_model.specs.Laws.{HasRoomAt}
 use Rattle.x10_model.proofs.Decided.{same_or_not, below_or_not, both_or_not}
 use Rattle.x10_model.proofs.Able.{step}
 
@@ -99,71 +98,3 @@ received_fits setting here key old new (Back from to waiting g) r (not_here mess
 received_fits setting here key old new (Back from to waiting g) r (graph message never) = never r.2.fits_place
 received_fits setting here key old new (Back from to waiting g) r (torn message never) = never r.2.arrives.copy.whole
 received_fits setting here key old new (Back from to waiting g) r (back from' to' waiting' g' never) = never r.2.stay r.2.call r.2.callee (subst (λ k. WaitsFor setting old k from r.2.stay r.2.call r.2.callee) r.1 r.2.waits) r.2.fits_result
-
--- ---- messages that arrive
-
-receiver_or_not : (setting : Setting) (here : ℕ) (old : places.Place) (message : Message) → (IsMisfit setting here old message → ⊥) → receiver message ≡ here
-receiver_or_not setting here old message never = elim (cases_eq (receiver message) here) [
-  | inl same ↦ same
-  | inr other ↦ absurd (never (not_here message other))
-]
-
--- where a message is no misfit, its graph is whole and fits, as far as a contradiction goes
-fits_then : (setting : Setting) (here : ℕ) (old : places.Place) (message : Message) → (IsMisfit setting here old message → ⊥) → (FitsPlace setting here old (graph_of message) → IsWhole (graph_of message) → ⊥) → ⊥
-fits_then setting here old message never next = never (graph message (λ fits. never (torn message (λ whole. next fits whole))))
-
-pub taken_or_misfit : ArrivedIsTakenOrMisfit
-taken_or_misfit setting here old (Spawn from to under function g) room not_taken never =
-    never (spawn from to under function g (λ callee fits none. fits_then setting here old (Spawn from to under function g) never (λ place whole.
-    let a = room.arrives whole in
-    not_taken room.key.0 (with_stay (record old { cells = a.1 }) room.key.0 (Some (new_stay function a.0 under None))) (
-      receiver_or_not setting here old (Spawn from to under function g) never,
-      record {
-        callee = callee;
-        fits_function = fits;
-        no_result = λ e. none;
-        fits_place = place;
-        arguments = a.0;
-        cells = a.1;
-        arrives = a.2;
-        free = room.key.1;
-        new_is = refl;
-      },
-    ))))
-taken_or_misfit setting here old (Shift from to waiting under function g) room not_taken never =
-    never (shift from to waiting under function g (λ callee fits. fits_then setting here old (Shift from to waiting under function g) never (λ place whole.
-    let a = room.arrives whole in
-    let back : Option Origin = Some (record { place = from; key = waiting }) in
-    not_taken room.key.0 (with_stay (record old { cells = a.1 }) room.key.0 (Some (new_stay function a.0 under back))) (
-      receiver_or_not setting here old (Shift from to waiting under function g) never,
-      record {
-        callee = callee;
-        fits_function = fits;
-        no_result = λ e. absurd cc;
-        fits_place = place;
-        arguments = a.0;
-        cells = a.1;
-        arrives = a.2;
-        free = room.key.1;
-        new_is = refl;
-      },
-    ))))
-taken_or_misfit setting here old (Back from to waiting g) room not_taken never =
-    never (back from to waiting g (λ stay call callee waits fits. fits_then setting here old (Back from to waiting g) never (λ place whole.
-    let a = room.arrives whole in
-    not_taken waiting (with_stay (record old { cells = a.1 }) waiting (Some (record stay { top = resumed stay.top call.a (first_of a.0); away = false }))) (
-      receiver_or_not setting here old (Back from to waiting g) never,
-      refl,
-      record {
-        stay = stay;
-        call = call;
-        callee = callee;
-        waits = waits;
-        fits_result = fits;
-        fits_place = place;
-        result = a.0;
-        cells = a.1;
-        arrives = a.2;
-        new_is = refl;
-      },
-    ))))

@@ -66,10 +66,10 @@ pub record HasRoomFor (place : places.Place) (graph : Snapshot) : Type 0 where
   pub key : (key : ℕ) × (place.stays key ≡ None)
   pub arrives : IsWhole graph → (values : List Value) × (cells : Cells) × Arrives place.cells graph values cells
 
--- a message that reaches its place is taken in or is a misfit: it isn't neither
+-- a message that reaches its place is taken in or is a misfit
 abbrev pub ArrivedIsTakenOrMisfit : Type 0
 ArrivedIsTakenOrMisfit = (setting : Setting) (here : ℕ) (old : places.Place) (message : Message) → HasRoomFor old (graph_of message)
-    → ((key : ℕ) (new : places.Place) → Receives setting here old message key new → ⊥) → (IsMisfit setting here old message → ⊥) → ⊥
+    → ((key : ℕ) × (new : places.Place) × Receives setting here old message key new) ⊎ IsMisfit setting here old message
 
 -- what happens last changes the totals last
 abbrev pub TotalsGoOn : Type 0

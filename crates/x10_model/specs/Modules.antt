@@ -7,8 +7,6 @@ use Rattle.x10_model.specs.declared.limits.TheConstants.{MOST_FIELDS, MOST_FUNCT
 use Rattle.x10_kinds.specs.declared.kind.Kind.{Kind}
 use Rattle.x10_kinds.specs.declared.kind.Kind.TheVariants as kind
 use Rattle.x10_code.specs.declared.instr.Instr.{Instr}
-use Rattle.x10_code.specs.declared.op.Op.{Op}
-use Rattle.x10_code.specs.declared.op.Op.TheVariants as op
 use Rattle.x10_code.specs.Spelling.{IsInstr}
 use Rattle.x10_model.specs.declared.slot.Slot.{Slot}
 
@@ -29,57 +27,6 @@ pub record Module : Type 0 where
   pub texts : List (List ℕ)
   pub functions : List Function
   pub entry : ℕ
-
--- the operations that the reader takes so far
-abbrev pub is_supported : Op → Bool
-is_supported op.Intk = true
-is_supported op.Add = true
-is_supported op.Sub = true
-is_supported op.Mul = true
-is_supported op.Div = true
-is_supported op.Rem = true
-is_supported op.Lt = true
-is_supported op.Eq = true
-is_supported op.Move = true
-is_supported op.Jmp = true
-is_supported op.Jz = true
-is_supported op.Loop = true
-is_supported op.Endl = true
-is_supported op.Call = true
-is_supported op.Ret = true
-is_supported op.Textk = true
-is_supported op.Tlen = true
-is_supported op.Tcat = true
-is_supported op.New = true
-is_supported op.Get = true
-is_supported op.Put = true
-is_supported op.Null = true
-is_supported op.Ifobj = true
-is_supported op.Rail = true
-is_supported op.Rget = true
-is_supported op.Rset = true
-is_supported op.Rlen = true
-is_supported op.Here = true
-is_supported op.Placek = true
-is_supported op.Placen = true
-is_supported op.Placei = true
-is_supported op.Nextp = true
-is_supported op.Count = true
-is_supported op.Home = true
-is_supported op.Gnew = true
-is_supported op.Gopen = true
-is_supported op.Ifhere = true
-is_supported op.Ifsame = true
-is_supported op.Async = true
-is_supported op.Finb = true
-is_supported op.Fine = true
-is_supported op.Print = true
-is_supported _ = false
-
--- an instruction that a module may have
-pub record IsSupported (i : Instr) : Type 0 where
-  pub instr : IsInstr i
-  pub supported : IsTrue (is_supported i.op)
 
 -- the kind names no class that isn't there
 abbrev pub NamesClassBelow : ℕ → Kind → Type 0
@@ -113,7 +60,7 @@ pub record FitsFunction (classes : ℕ) (f : Function) : Type 0 where
   pub slots : AllByRecursion (FitsSlot classes) f.parameters
   pub result : IfSome f.result (FitsSlot classes)
   pub length : (1 ≤ length f.code) × (length f.code ≤ MOST_INSTRUCTIONS)
-  pub code : AllByRecursion IsSupported f.code
+  pub code : AllByRecursion IsInstr f.code
 
 -- the entry function takes nothing and gives nothing
 pub record IsEntry (f : Function) : Type 0 where

@@ -8,7 +8,7 @@ use Rattle.x10_kinds.specs.declared.kind.Kind.TheVariants as kind
 use Rattle.x10_code.specs.declared.instr.Instr.{Instr}
 use Rattle.x10_code.specs.declared.instr.CodeFault.{CodeFault}
 use Rattle.x10_code.specs.Spelling.{decoded}
-use Rattle.x10_model.specs.Modules.{Function, Module, is_supported, takes_flag}
+use Rattle.x10_model.specs.Modules.{Function, Module, takes_flag}
 use Rattle.x10_model.specs.declared.slot.Slot.{Slot}
 use Rattle.x10_model.specs.Images.{magic, Header}
 use Rattle.x10_model.specs.Readers.{Reader, ◌>>=◌, ◌>>◌, done, check, such_that, expect, given, need, part, byte, number, int, times, numbered, all_of}
@@ -120,14 +120,14 @@ text_at = do
   length ← number w16 Short
   such_that (part length Short) is_utf8 Text
 
-abbrev pub supported : Result Instr CodeFault → Option Instr
-supported (Ok i) = if is_supported i.op then Some i else None
-supported (Err fault) = None
+abbrev pub if_decoded : Result Instr CodeFault → Option Instr
+if_decoded (Ok i) = Some i
+if_decoded (Err fault) = None
 
 unfoldable pub instruction_at : ℕ → ℕ → Reader ImageFault Instr
 instruction_at function pc = do
   bytes ← part 8 Short
-  given (supported (decoded bytes)) (Code function pc)
+  given (if_decoded (decoded bytes)) (Code function pc)
 
 unfoldable pub function_at : ℕ → ℕ → Reader ImageFault Function
 function_at classes function = do
