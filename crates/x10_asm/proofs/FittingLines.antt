@@ -5,7 +5,8 @@ use Rattle.std.specs.List.{AllByRecursion}
 use Rattle.std.specs.Int.{w64}
 use Rattle.std.proofs.lemmas.Bool.{and_parts}
 use Rattle.x10_kinds.specs.declared.kind.Kind.{Kind}
-use Rattle.x10_model.specs.Modules.{Function, NamesClassBelow, FitsSlot, FitsClass, FitsText, IsSupported}
+use Rattle.x10_code.specs.Spelling.{IsInstr}
+use Rattle.x10_model.specs.Modules.{Function, NamesClassBelow, FitsSlot, FitsClass, FitsText}
 use Rattle.x10_model.specs.ReadingImages.{is_within, is_entry}
 use Rattle.x10_model.proofs.ImageParts.{of_within}
 use Rattle.x10_asm.specs.declared.fault.AsmCause.{AsmCause}
@@ -28,7 +29,7 @@ pub record IsOpen (classes : ℕ) (f : Function) : Type 0 where
   pub slots : AllByRecursion (FitsSlot classes) f.parameters
   pub result : IfSome f.result (FitsSlot classes)
   pub few : length f.code ≤ 4096
-  pub code : AllByRecursion IsSupported f.code
+  pub code : AllByRecursion IsInstr f.code
 
 -- ---- stages
 

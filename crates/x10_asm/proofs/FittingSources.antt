@@ -7,7 +7,8 @@ use Rattle.std.proofs.lemmas.Bool.{and_parts}
 use Rattle.x10_kinds.specs.declared.kind.Kind.{Kind}
 use Rattle.x10_code.specs.declared.instr.Instr.{Instr}
 use Rattle.x10_model.specs.declared.slot.Slot.{Slot}
-use Rattle.x10_model.specs.Modules.{Function, Module, FitsClass, FitsText, FitsFunction, FitsImage, IsEntry, IsSupported}
+use Rattle.x10_code.specs.Spelling.{IsInstr}
+use Rattle.x10_model.specs.Modules.{Function, Module, FitsClass, FitsText, FitsFunction, FitsImage, IsEntry}
 use Rattle.x10_model.specs.ReadingImages.{is_entry}
 use Rattle.x10_asm.specs.declared.fault.AsmCause.{AsmCause}
 use Rattle.x10_asm.specs.declared.fault.AsmCause.TheVariants as cause
@@ -21,7 +22,7 @@ use Rattle.x10_asm.specs.LabelLines.{labels_from}
 use Rattle.x10_asm.specs.Statements.{said, first_word, other_words}
 use Rattle.x10_asm.specs.Reading.{is_start, is_inside, is_finished, places_of, class_of, int_line_of, text_of, func_of, end_of, entry_of, label_at, Source, no_function, after_statement, after_line, ended, go_on, read_from, is_class, classes_in, nothing_read, module_of}
 use Rattle.x10_asm.specs.LawsOfTexts.{SpelledFits}
-use Rattle.x10_asm.proofs.InRanges.{same_ok, all_end, IsLow, labels_low, FitsNext, instruction_fits, said_supported}
+use Rattle.x10_asm.proofs.InRanges.{same_ok, all_end, IsLow, labels_low, FitsNext, instruction_fits}
 use Rattle.x10_asm.proofs.Passing.{no_classes, class_counted, other_passed, step, stop}
 use Rattle.x10_asm.proofs.FittingLines.{IsOpen, not_true, int_begun, text_begun, func_begun, inside_begun, begun, one_more, small_places, TakesClass, class_fits, TakesInt, int_taken, TakesText, text_taken, TakesFunction, func_taken, TakesEnd, end_taken, TakesEntry, entry_taken}
 
@@ -171,7 +172,7 @@ after_instruction classes s i h t =
             slots = f.slots;
             result = f.result;
             few = omega (arith, one_more s.function.code i, t.room);
-            code = all_end IsSupported s.function.code i f.code t.supported;
+            code = all_end IsInstr s.function.code i f.code t.fits;
           },
           (h.inside e).1,
         );
@@ -281,7 +282,7 @@ follows classes s line text ws others statement.Label t is h e =
     let f = with_ok (λ u. s) r _ t (λ c x. rw x refl) (λ n x. rw x refl) e in
     at_state classes _ s t f.2 (record { fitting = h; counted = refl })
 follows classes s line text ws others (statement.Instruction o) t is h e =
-    let g = instruction_fits s.labels (is_inside s.stage) (length s.function.code) o (other_words ws) h.labels (said_supported ws o is) in
+    let g = instruction_fits s.labels (is_inside s.stage) (length s.function.code) o (other_words ws) h.labels in
     let f = with_ok (λ i. record s { function = record s.function { code = s.function.code ++ i ∷ [] } }) _ _ t (λ c x. rw x refl) (λ n x. rw x refl) e in
     at_state classes _ _ t f.2 (after_instruction classes s f.0 h (g f.0 f.1))
 follows classes s line text ws others statement.Unknown t is h e = absurd cc

@@ -1,12 +1,12 @@
 -- The lines of a function, and the entry's, are read again.
-use Rattle.std.proofs.Common.{◌≡◌, ℕ, suc, ◌<◌, ◌^◌, true, List, [], ◌∷◌, ◌++◌, length, map, Option, Some, None, IfSome, Ok, refl, ap, ◌∙◌, arith}
+use Rattle.std.proofs.Common.{◌≡◌, ℕ, suc, ◌<◌, ◌^◌, true, List, [], ◌∷◌, ◌++◌, length, map, Some, Ok, refl, ap, ◌∙◌, arith}
 use Rattle.std.specs.Prelude.{◌==◌, is_none, codes, decimal, slice_get}
 use Rattle.std.specs.List.{AllByRecursion}
 use Rattle.std.proofs.lemmas.Bool.{lt-ltb, le-leb, eq-eqb, and_from}
 use Rattle.x10_code.specs.declared.instr.Instr.{Instr}
 use Rattle.x10_code.specs.Table.{name_of}
-use Rattle.x10_model.specs.declared.slot.Slot.{Slot}
-use Rattle.x10_model.specs.Modules.{Function, Module, FitsSlot, FitsFunction, IsSupported, IsEntry}
+use Rattle.x10_code.specs.Spelling.{IsInstr}
+use Rattle.x10_model.specs.Modules.{Function, Module, FitsSlot, FitsFunction, IsEntry}
 use Rattle.x10_model.specs.ReadingImages.{is_entry}
 use Rattle.x10_asm.specs.declared.stage.Stage.{Stage}
 use Rattle.x10_asm.specs.declared.stage.Stage.TheVariants as stage
@@ -17,7 +17,7 @@ use Rattle.x10_asm.specs.Listing.{slot_word, result_word, operand_words}
 use Rattle.x10_asm.specs.Reading.{takes_func, function_with, signature_fits, signature_of, kinds_are_known, func_of, end_of, entry_of, with_func, with_instruction, with_end, with_entry}
 use Rattle.x10_asm.proofs.SpelledLines.{IsWord, plain_words}
 use Rattle.x10_asm.proofs.SpelledWords.{number_again, decimal_word, slot_again, result_again, each_again, known_again, all_words, slot_is_word, result_is_word}
-use Rattle.x10_asm.proofs.SpelledInstructions.{supported_name, name_is_word, instruction_again, operands_are_words}
+use Rattle.x10_asm.proofs.SpelledInstructions.{said_name, name_is_word, instruction_again, operands_are_words}
 use Rattle.x10_asm.proofs.ReadingAgain.{Turns, labelled}
 use Rattle.x10_asm.proofs.LinesAgain.{outside, inside, body_of, gives, func_word, end_word, entry_word, says_func, says_end, says_entry}
 use Rattle.x10_model.proofs.ImageLaws.{no_result}
@@ -66,13 +66,13 @@ func_turns classes s m f t few h lt =
 
 -- ---- instructions
 
-pub instruction_turns : (classes : ℕ) (m : Module) (f : Function) (i : Instr) → IsSupported i → length f.code < 4096
+pub instruction_turns : (classes : ℕ) (m : Module) (f : Function) (i : Instr) → IsInstr i → length f.code < 4096
     → Turns classes (body_of (name_of i.op) (operand_words i)) (inside m f) (inside m (record f { code = f.code ++ i ∷ [] }))
 instruction_turns classes m f i b lt =
-    let hs = operands_are_words i b.instr in
+    let hs = operands_are_words i b in
     record {
       plain = plain_words (name_of i.op) (operand_words i) (name_is_word i.op) hs;
-      turns = λ line labels others. (labels, gives classes (labelled (inside m f) labels) line others (operand_words i) (name_of i.op) (statement.Instruction i.op) (name_is_word i.op) hs (supported_name i.op b.supported) ∙ ap (with_instruction (labelled (inside m f) labels)) (instruction_again labels (length f.code) i b.instr lt));
+      turns = λ line labels others. (labels, gives classes (labelled (inside m f) labels) line others (operand_words i) (name_of i.op) (statement.Instruction i.op) (name_is_word i.op) hs (said_name i.op) ∙ ap (with_instruction (labelled (inside m f) labels)) (instruction_again labels (length f.code) i b lt));
     }
 
 -- ---- the end of a function

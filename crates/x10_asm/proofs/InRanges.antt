@@ -14,9 +14,9 @@ use Rattle.x10_code.specs.declared.instr.Instr.{Instr}
 use Rattle.x10_code.specs.declared.operands.Operand.{Operand}
 use Rattle.x10_code.specs.declared.operands.Operand.TheVariants as operand
 use Rattle.x10_code.specs.Table.{form_of}
-use Rattle.x10_code.specs.Spelling.{fits_operand}
+use Rattle.x10_code.specs.Spelling.{IsInstr, fits_operand}
 use Rattle.x10_model.specs.declared.slot.Slot.{Slot}
-use Rattle.x10_model.specs.Modules.{NamesClassBelow, FitsSlot, FitsText, IsSupported, is_supported}
+use Rattle.x10_model.specs.Modules.{NamesClassBelow, FitsSlot, FitsText}
 use Rattle.x10_asm.specs.declared.fault.AsmCause.{AsmCause}
 use Rattle.x10_asm.specs.declared.fault.AsmCause.TheVariants as cause
 use Rattle.x10_asm.specs.declared.statement.Statement.{Statement}
@@ -25,10 +25,10 @@ use Rattle.x10_asm.specs.Lines.{words, begins, stripped, number_of, negative, pl
 use Rattle.x10_asm.specs.Checks.{◌>>=◌, ◌>>◌, check, given, no_more, number_at}
 use Rattle.x10_asm.specs.Kinds.{class_of, slot_with, prefixed, classed, plain, reference_of, slot_of, is_here, field_of, some_slot, result_of, each}
 use Rattle.x10_asm.specs.Literals.{scan, fitting, closed, unquoted, literal}
-use Rattle.x10_asm.specs.Labels.{Label, is_name, label_name, label_of, supported_op}
+use Rattle.x10_asm.specs.Labels.{Label, is_name, label_name, label_of}
 use Rattle.x10_asm.specs.LabelLines.{index_after, ends_labels, defined, labels_from}
 use Rattle.x10_asm.specs.Operands.{operand_at, Last, numbered, named_or_number, target_at, last_at, index_of, resolved, instruction_of}
-use Rattle.x10_asm.specs.Statements.{instruction_or_unknown, statement_of, said, first_word}
+use Rattle.x10_asm.specs.Statements.{said, first_word}
 
 -- ---- steps in a row
 
@@ -292,24 +292,21 @@ last_fits labels o ws low = numbered_fits labels o (operand_at o 4294967295 ws) 
 pub record FitsNext (is_inside : Bool) (count : ℕ) (i : Instr) : Type 0 where
   pub inside : is_inside ≡ true
   pub room : count < 4096
-  pub supported : IsSupported i
+  pub fits : IsInstr i
 
-instr_of : (o : Op) (a b c x : ℕ) → is_supported o ≡ true → FitsOperand (form_of o).a 255 a → FitsOperand (form_of o).b 255 b → FitsOperand (form_of o).c 255 c → FitsOperand (form_of o).x 4294967295 x
-    → IsSupported (record { op = o; a = a; b = b; c = c; x = x })
-instr_of o a b c x supported fa fb fc fx = record {
-  instr = record {
-    a = omega (arith, fa.small);
-    b = omega (arith, fb.small);
-    c = omega (arith, fc.small);
-    x = omega (arith, fx.small);
-    form = and_from _ (fits_operand (form_of o).x x) (and_from _ (fits_operand (form_of o).c c) (and_from (fits_operand (form_of o).a a) (fits_operand (form_of o).b b) fa.form fb.form) fc.form) fx.form;
-  };
-  supported = supported;
+instr_of : (o : Op) (a b c x : ℕ) → FitsOperand (form_of o).a 255 a → FitsOperand (form_of o).b 255 b → FitsOperand (form_of o).c 255 c → FitsOperand (form_of o).x 4294967295 x
+    → IsInstr (record { op = o; a = a; b = b; c = c; x = x })
+instr_of o a b c x fa fb fc fx = record {
+  a = omega (arith, fa.small);
+  b = omega (arith, fb.small);
+  c = omega (arith, fc.small);
+  x = omega (arith, fx.small);
+  form = and_from _ (fits_operand (form_of o).x x) (and_from _ (fits_operand (form_of o).c c) (and_from (fits_operand (form_of o).a a) (fits_operand (form_of o).b b) fa.form fb.form) fc.form) fx.form;
 }
 
-pub instruction_fits : (labels : List Label) (is_inside : Bool) (count : ℕ) (o : Op) (ws : List (List ℕ)) → AllByRecursion IsLow labels → is_supported o ≡ true → Gives (FitsNext is_inside count) (instruction_of labels is_inside count o ws)
+pub instruction_fits : (labels : List Label) (is_inside : Bool) (count : ℕ) (o : Op) (ws : List (List ℕ)) → AllByRecursion IsLow labels → Gives (FitsNext is_inside count) (instruction_of labels is_inside count o ws)
 unfolding instruction_of
-instruction_fits labels is_inside count o ws low supported =
+instruction_fits labels is_inside count o ws low =
     let P = FitsNext is_inside count in
     bind_gives P _ _ (λ a ea.
     bind_gives P _ _ (λ b eb.
@@ -322,44 +319,5 @@ instruction_fits labels is_inside count o ws low supported =
     ok_gives P _ (record {
       inside = inside;
       room = ltb-true count 4096 room;
-      supported = instr_of o a.0 b.0 c.0 target supported (operand_fits _ 255 ws a ea) (operand_fits _ 255 a.1 b eb) (operand_fits _ 255 b.1 c ec) (last_fits labels _ c.1 low x ex target et);
+      fits = instr_of o a.0 b.0 c.0 target (operand_fits _ 255 ws a ea) (operand_fits _ 255 a.1 b eb) (operand_fits _ 255 b.1 c ec) (last_fits labels _ c.1 low x ex target et);
     })))))))))
-
--- ---- first words
-
--- what no instruction is
-abbrev IsOther : Statement → Type 0
-IsOther (statement.Instruction o) = ⊥
-IsOther _ = Unit {0}
-
-not_instruction : {A : Type 0} (st : Statement) (o : Op) → IsOther st → st ≡ statement.Instruction o → A
-not_instruction st o h e = absurd (subst IsOther e h)
-
-if_other : (b : Bool) (st other : Statement) (o : Op) → IsOther st → (if b then st else other) ≡ statement.Instruction o → other ≡ statement.Instruction o
-if_other true st other o h e = not_instruction st o h e
-if_other false st other o h e = e
-
-if_supported : (p o : Op) (b : Bool) → is_supported p ≡ b → instruction_or_unknown (if b then Some p else None) ≡ statement.Instruction o → is_supported o ≡ true
-if_supported p o true h e = let is : p ≡ o = cc in subst (λ q. is_supported q ≡ true) is h
-if_supported p o false h e = absurd cc
-
-op_supported : (found : Option Op) (o : Op) → instruction_or_unknown (supported_op found) ≡ statement.Instruction o → is_supported o ≡ true
-op_supported None o e = absurd cc
-op_supported (Some p) o e = if_supported p o (is_supported p) refl e
-
-pub statement_supported : (word : List ℕ) (o : Op) → statement_of word ≡ statement.Instruction o → is_supported o ≡ true
-unfolding statement_of
-statement_supported word o e =
-    let e1 = if_other _ statement.Silent _ o tt e in
-    let e2 = if_other _ statement.Places _ o tt e1 in
-    let e3 = if_other _ statement.Class _ o tt e2 in
-    let e4 = if_other _ statement.Int _ o tt e3 in
-    let e5 = if_other _ statement.Text _ o tt e4 in
-    let e6 = if_other _ statement.Func _ o tt e5 in
-    let e7 = if_other _ statement.End _ o tt e6 in
-    let e8 = if_other _ statement.Entry _ o tt e7 in
-    op_supported _ o (if_other _ statement.Label _ o tt e8)
-
-pub said_supported : (ws : List (List ℕ)) (o : Op) → said ws ≡ statement.Instruction o → is_supported o ≡ true
-said_supported [] o e = absurd cc
-said_supported (word ∷ others) o e = statement_supported word o e

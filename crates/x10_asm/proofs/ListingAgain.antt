@@ -7,7 +7,8 @@ use Rattle.std.specs.List.{flat_map, AllByRecursion}
 use Rattle.x10_kinds.specs.declared.kind.Kind.{Kind}
 use Rattle.x10_code.specs.declared.instr.Instr.{Instr}
 use Rattle.x10_code.specs.Table.{name_of}
-use Rattle.x10_model.specs.Modules.{Function, Module, FitsClass, FitsText, FitsFunction, FitsImage, IsSupported, IsEntry}
+use Rattle.x10_code.specs.Spelling.{IsInstr}
+use Rattle.x10_model.specs.Modules.{Function, Module, FitsClass, FitsText, FitsFunction, FitsImage, IsEntry}
 use Rattle.x10_asm.specs.declared.stage.Stage.{Stage}
 use Rattle.x10_asm.specs.declared.stage.Stage.TheVariants as stage
 use Rattle.x10_asm.specs.declared.statement.Statement.TheVariants as statement
@@ -16,7 +17,7 @@ use Rattle.x10_asm.specs.Listing.{spaced, line, kind_word, quoted, operand_words
 use Rattle.x10_asm.specs.Statements.{said}
 use Rattle.x10_asm.specs.Reading.{Source, is_class, takes_int, takes_text, takes_func, nothing_read, read_from, classes_in, module_of}
 use Rattle.x10_asm.proofs.SpelledWords.{decimal_word, int_word, all_words, kind_is_word}
-use Rattle.x10_asm.proofs.SpelledInstructions.{supported_name, name_is_word, operands_are_words}
+use Rattle.x10_asm.proofs.SpelledInstructions.{said_name, name_is_word, operands_are_words}
 use Rattle.std.proofs.lemmas.Option.{slice_get_within}
 use Rattle.x10_asm.proofs.Splitting.{no_lines}
 use Rattle.x10_asm.proofs.Passing.{no_classes, stop}
@@ -113,11 +114,11 @@ texts_lead classes s m (x ∷ xs) t h lt =
 
 -- ---- functions
 
-instruction_line_leads : (classes : ℕ) (m : Module) (f : Function) (i : Instr) → IsSupported i → length f.code < 4096 → Leads classes (instruction_line i) (inside m f) (inside m (record f { code = f.code ++ i ∷ [] })) 0
+instruction_line_leads : (classes : ℕ) (m : Module) (f : Function) (i : Instr) → IsInstr i → length f.code < 4096 → Leads classes (instruction_line i) (inside m f) (inside m (record f { code = f.code ++ i ∷ [] })) 0
 unfolding instruction_line
-instruction_line_leads classes m f i b lt = one_line classes (name_of i.op) (operand_words i) (inside m f) _ (instruction_turns classes m f i b lt) (ap is_class (said_first (name_of i.op) (operand_words i) (statement.Instruction i.op) (name_is_word i.op) (operands_are_words i b.instr) (supported_name i.op b.supported)))
+instruction_line_leads classes m f i b lt = one_line classes (name_of i.op) (operand_words i) (inside m f) _ (instruction_turns classes m f i b lt) (ap is_class (said_first (name_of i.op) (operand_words i) (statement.Instruction i.op) (name_is_word i.op) (operands_are_words i b) (said_name i.op)))
 
-code_leads : (classes : ℕ) (m : Module) (f : Function) (is : List Instr) → AllByRecursion IsSupported is → length f.code + length is ≤ 4096 → Leads classes (flat_map instruction_line is) (inside m f) (inside m (record f { code = f.code ++ is })) 0
+code_leads : (classes : ℕ) (m : Module) (f : Function) (is : List Instr) → AllByRecursion IsInstr is → length f.code + length is ≤ 4096 → Leads classes (flat_map instruction_line is) (inside m f) (inside m (record f { code = f.code ++ is })) 0
 code_leads classes m f [] h le = leads_to classes [] _ _ _ 0 0 (nothing_leads classes (inside m f)) (ap (λ (xs : List Instr). inside m (record f { code = xs })) (sym (append-nil f.code))) refl
 code_leads classes m f (i ∷ is) h le =
     let more : Function = record f { code = f.code ++ i ∷ [] } in

@@ -9,7 +9,7 @@ use Rattle.x10_code.proofs.Operations.{op_of_name-name_of, name_of-op_of_name}
 use Rattle.x10_asm.specs.declared.statement.Statement.{Statement}
 use Rattle.x10_asm.specs.declared.statement.Statement.TheVariants.{Silent, Places, Class, Int, Text, Func, End, Entry, Label}
 use Rattle.x10_asm.specs.Lines.{begins, words}
-use Rattle.x10_asm.specs.Labels.{ends_in_colon, op_of_word}
+use Rattle.x10_asm.specs.Labels.{ends_in_colon}
 use Rattle.x10_asm.specs.Statements.{statement_of, label_or_instruction, instruction_or_unknown, said, first_word}
 
 none_named : (word : List ℕ) (r : Option Op) → op_of_name word ≡ r → ((o : Op) → word ≡ name_of o → ◌≡◌ {A = Option Op} None (Some o)) → ◌≡◌ {A = Option Op} None r
@@ -45,7 +45,7 @@ colon false (Some o) e = absurd (false≢true e)
 label_ends_when : (word : List ℕ) → is_label (statement_of word) ≡ true → ends_in_colon word ≡ true
 unfolding statement_of is_label
 label_ends_when word e =
-    colon (ends_in_colon word) (op_of_word word)
+    colon (ends_in_colon word) (op_of_name word)
     (passed_over (bytes_eq word (codes "entry")) Entry (label_or_instruction word) refl
     (passed_over (bytes_eq word (codes "end")) End _ refl
     (passed_over (bytes_eq word (codes "func")) Func _ refl

@@ -1,6 +1,6 @@
 -- An instruction's line is read again.
-use Rattle.std.proofs.Common.{◌≡◌, ℕ, ◌≤◌, ◌<◌, ◌^◌, Bool, true, false, ◌&&◌, List, [], ◌∷◌, ◌++◌, length, Option, Some, None, Ok, refl, sym, ap, ◌∙◌, arith, inr}
-use Rattle.std.specs.Prelude.{nat_lt, if◌then◌else◌, decimal}
+use Rattle.std.proofs.Common.{◌≡◌, ℕ, ◌≤◌, ◌<◌, ◌^◌, true, false, ◌&&◌, List, [], ◌∷◌, ◌++◌, length, Option, None, Ok, refl, sym, ap, ◌∙◌, arith, inr}
+use Rattle.std.specs.Prelude.{nat_lt, decimal}
 use Rattle.std.specs.List.{list_all, AllByRecursion}
 use Rattle.std.proofs.lemmas.Bool.{lt-ltb, ltb-true, eqb-true, and_parts}
 use Rattle.x10_code.specs.declared.op.Op.{Op}
@@ -10,12 +10,11 @@ use Rattle.x10_code.specs.declared.operands.Operand.{Operand}
 use Rattle.x10_code.specs.declared.operands.Operand.TheVariants as operand
 use Rattle.x10_code.specs.Table.{name_of, form_of}
 use Rattle.x10_code.specs.Spelling.{fits_operand, IsInstr}
-use Rattle.x10_model.specs.Modules.{is_supported}
 use Rattle.x10_asm.specs.declared.statement.Statement.TheVariants.{Instruction}
 use Rattle.x10_asm.specs.Lines.{stripped, begins}
 use Rattle.x10_asm.specs.Checks.{number_at}
-use Rattle.x10_asm.specs.Labels.{Label, supported_op}
-use Rattle.x10_asm.specs.Statements.{statement_of, instruction_or_unknown}
+use Rattle.x10_asm.specs.Labels.{Label}
+use Rattle.x10_asm.specs.Statements.{statement_of}
 use Rattle.x10_asm.specs.Operands.{operand_at, last_at, target_at, numbered, named_or_number, instruction_of}
 use Rattle.x10_asm.specs.Listing.{operand_word, operand_words}
 use Rattle.x10_asm.proofs.SpelledLines.{IsWord}
@@ -23,13 +22,10 @@ use Rattle.x10_asm.proofs.SpelledWords.{number_again, decimal_word, decimal_begi
 
 -- ---- names
 
-said_name : (o : Op) → statement_of (name_of o) ≡ instruction_or_unknown (supported_op (Some o))
+pub said_name : (o : Op) → statement_of (name_of o) ≡ Instruction o
 unfolding statement_of
 said_name op.Intk = refl
 said_name _ = refl
-
-pub supported_name : (o : Op) → is_supported o ≡ true → statement_of (name_of o) ≡ Instruction o
-supported_name o h = said_name o ∙ ap (λ (t : Bool). instruction_or_unknown (if t then Some o else None)) h
 
 name_printed : (o : Op) → (nat_lt 0 (length (name_of o)) && list_all (nat_lt 32) (name_of o)) ≡ true
 name_printed op.Intk = refl

@@ -1,10 +1,7 @@
 -- Labels: names of instructions inside a function.
-use Rattle.std.specs.Prelude.{ℕ, ◌-◌, Bool, ◌==◌, ◌&&◌, ◌||◌, nat_le, List, length, take, slice_index, Option, Some, None, if◌then◌else◌, find}
+use Rattle.std.specs.Prelude.{ℕ, ◌-◌, Bool, ◌==◌, ◌&&◌, ◌||◌, nat_le, List, length, take, slice_index, Option, find}
 use Rattle.std.specs.Str.{bytes_eq}
 use Rattle.std.specs.List.{list_all}
-use Rattle.x10_code.specs.Table.{op_of_name}
-use Rattle.x10_code.specs.declared.op.Op.{Op}
-use Rattle.x10_model.specs.Modules.{is_supported}
 
 abbrev pub is_letter : ℕ → Bool
 is_letter c = (nat_le 65 c && nat_le c 90) || (nat_le 97 c && nat_le c 122) || c == 95
@@ -23,14 +20,6 @@ ends_in_colon word = slice_index word (length word - 1) == 58
 -- a label's name, without the colon
 abbrev pub label_name : List ℕ → List ℕ
 label_name word = take (length word - 1) word
-
--- an operation that a module may have
-abbrev pub supported_op : Option Op → Option Op
-supported_op None = None
-supported_op (Some o) = if is_supported o then Some o else None
-
-abbrev pub op_of_word : List ℕ → Option Op
-op_of_word word = supported_op (op_of_name word)
 
 -- a name, the line that defines it, and the index of the next instruction
 pub record Label : Type 0 where

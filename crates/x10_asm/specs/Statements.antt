@@ -2,10 +2,11 @@
 use Rattle.std.specs.Prelude.{ℕ, List, [], ◌∷◌, Option, Some, None, if◌then◌else◌, codes}
 use Rattle.std.specs.Str.{bytes_eq}
 use Rattle.x10_code.specs.declared.op.Op.{Op}
+use Rattle.x10_code.specs.Table.{op_of_name}
 use Rattle.x10_asm.specs.declared.statement.Statement.{Statement}
 use Rattle.x10_asm.specs.declared.statement.Statement.TheVariants.{Silent, Places, Class, Int, Text, Func, End, Entry, Label, Instruction, Unknown}
 use Rattle.x10_asm.specs.Lines.{begins}
-use Rattle.x10_asm.specs.Labels.{ends_in_colon, op_of_word}
+use Rattle.x10_asm.specs.Labels.{ends_in_colon}
 
 abbrev pub instruction_or_unknown : Option Op → Statement
 instruction_or_unknown (Some o) = Instruction o
@@ -13,7 +14,7 @@ instruction_or_unknown None = Unknown
 
 -- a label ends in a colon; else it is an instruction's name, or nothing that is known
 abbrev pub label_or_instruction : List ℕ → Statement
-label_or_instruction word = if ends_in_colon word then Label else instruction_or_unknown (op_of_word word)
+label_or_instruction word = if ends_in_colon word then Label else instruction_or_unknown (op_of_name word)
 
 -- the statement that a first word begins; a comment says nothing
 unfoldable pub statement_of : List ℕ → Statement

@@ -4,14 +4,12 @@ ghost use Rattle.std.specs.Prelude.{◌≡◌, IsUtf8};
 ghost use Rattle.x10_code.specs.Table.{op_of_name};
 ghost use Rattle.x10_asm.specs.Lines as spec;
 ghost use Rattle.x10_asm.specs.Lines.{words};
-ghost use Rattle.x10_asm.specs.Labels as labels;
 ghost use Rattle.x10_asm.specs.Statements as statements;
 ghost use Rattle.x10_asm.specs.Statements.{first_word, other_words};
 
 use crate::label::ends_in_colon;
 use crate::split::{begins, next_word};
 use x10_code::{Op, op_named};
-use x10_image::is_supported;
 
 /// What a line says, by its first word.
 #[derive(Clone, Copy, Debug, PartialEq, Eq)]
@@ -46,23 +44,13 @@ fn named(word: &str) -> Option<Op>
     op_named(word)
 }
 
-/// The operation of a name that a module may have.
-fn op_of_word(word: &str) -> Option<Op>
-    ensures { result ≡ labels.op_of_word word.now }
-{
-    match named(word) {
-        Some(op) if is_supported(op) => Some(op),
-        _ => None,
-    }
-}
-
 fn label_or_instruction(word: &str) -> Statement
     ensures { result ≡ statements.label_or_instruction word.now }
 {
     if ends_in_colon(word) {
         return Statement::Label;
     }
-    match op_of_word(word) {
+    match named(word) {
         Some(op) => Statement::Instruction(op),
         None => Statement::Unknown,
     }

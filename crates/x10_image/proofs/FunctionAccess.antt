@@ -4,9 +4,9 @@ use Rattle.std.specs.Prelude.{slice_range, slice_index}
 use Rattle.std.specs.Int.{w16, to_be_bytes, from_be_bytes}
 use Rattle.x10_code.specs.declared.instr.Instr.{Instr}
 use Rattle.x10_code.specs.declared.instr.CodeFault.{CodeFault}
-use Rattle.x10_code.specs.Spelling.{spelling as instruction, decoded}
+use Rattle.x10_code.specs.Spelling.{IsInstr, spelling as instruction, decoded}
 use Rattle.x10_code.proofs.Instructions.{length-spelling, decoded_again}
-use Rattle.x10_model.specs.Modules.{Module, Function, FitsSlot, FitsFunction, FitsImage, IsSupported}
+use Rattle.x10_model.specs.Modules.{Module, Function, FitsSlot, FitsFunction, FitsImage}
 use Rattle.x10_model.specs.Ranges.{function_at, instr_in, instr_at}
 use Rattle.x10_model.specs.declared.slot.Slot.{Slot}
 use Rattle.x10_model.specs.Images.{kind_bytes, slot_bytes, result_bytes, function_bytes}
@@ -68,19 +68,19 @@ code_long bytes at m f h = ap (λ (c : List Instr). length (flat_map instruction
 pub record IsInstrAt (bytes : List ℕ) (start : ℕ) (m : Module) (f pc : ℕ) : Type 0 where
   pub instr : Instr
   pub is : instr_at m f pc ≡ Some instr
-  pub supported : IsSupported instr
+  pub fits : IsInstr instr
   pub decodes : decoded (slice_range bytes start (start + 8)) ≡ Ok instr
 
 pub instr_here : (bytes : List ℕ) (at : ℕ) (m : Module) (f pc start : ℕ) → (h : IsHere bytes at m f) → pc < length (code_at m f) → start ≡ at + 12 + 4 * slice_index bytes at + 8 * pc → IsInstrAt bytes start m f pc
 instr_here bytes at m f pc start h lt e =
     let short : pc < length h.function.code = omega (arith, lt, ap length (code_is bytes at m f h)) in
     let found = item_at instruction 8 length-spelling bytes (at + 12 + 4 * slice_index bytes at) h.function.code pc start e (code_here bytes at m f h) short in
-    let fits = all_at IsSupported h.function.code pc found.0 h.fits.code found.1 in
+    let fits = all_at IsInstr h.function.code pc found.0 h.fits.code found.1 in
     record {
       instr = found.0;
       is = ap (λ (o : Option Function). instr_in o pc) h.is ∙ found.1;
-      supported = fits;
-      decodes = ap decoded (range_is bytes start (start + 8) (instruction found.0) (omega (arith, length-spelling found.0)) found.2) ∙ decoded_again found.0 fits.instr;
+      fits = fits;
+      decodes = ap decoded (range_is bytes start (start + 8) (instruction found.0) (omega (arith, length-spelling found.0)) found.2) ∙ decoded_again found.0 fits;
     }
 
 -- bytes that are a part stand for it from their beginning on
@@ -91,12 +91,12 @@ whole bytes part e = record { rest = []; is = e ∙ sym (append-nil part) }
 alone_in : (m : Module) (f pc start : ℕ) (bytes : List ℕ) (function : Function) → function_at m f ≡ Some function → FitsFunction (length m.classes) function → bytes ≡ flat_map instruction function.code → start ≡ 8 * pc → pc < length function.code → IsInstrAt bytes start m f pc
 alone_in m f pc start bytes function there fits is at lt =
     let found = item_at instruction 8 length-spelling bytes 0 function.code pc start (omega (arith, at)) (whole bytes (flat_map instruction function.code) is) lt in
-    let supported = all_at IsSupported function.code pc found.0 fits.code found.1 in
+    let is_instr = all_at IsInstr function.code pc found.0 fits.code found.1 in
     record {
       instr = found.0;
       is = ap (λ (o : Option Function). instr_in o pc) there ∙ found.1;
-      supported = supported;
-      decodes = ap decoded (range_is bytes start (start + 8) (instruction found.0) (omega (arith, length-spelling found.0)) found.2) ∙ decoded_again found.0 supported.instr;
+      fits = is_instr;
+      decodes = ap decoded (range_is bytes start (start + 8) (instruction found.0) (omega (arith, length-spelling found.0)) found.2) ∙ decoded_again found.0 is_instr;
     }
 
 pub instr_alone : (m : Module) (f pc start : ℕ) (bytes : List ℕ) → FitsImage m → f < length m.functions → bytes ≡ flat_map instruction (code_at m f) → start ≡ 8 * pc → pc < length (code_at m f) → IsInstrAt bytes start m f pc

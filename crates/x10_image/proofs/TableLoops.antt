@@ -1,7 +1,6 @@
 -- Reading items one after the other, with the place of each.
-use Rattle.std.proofs.Common.{◌≡◌, ℕ, ◌-◌, ◌+◌, ◌≤◌, ◌<◌, List, [], ◌∷◌, ◌++◌, length, drop, Option, Result, Ok, refl, sym, ap, subst, ◌∙◌, append_assoc, arith, flat_map, length-append, drop_at, get_or, get_or-append-add}
+use Rattle.std.proofs.Common.{◌≡◌, ℕ, ◌-◌, ◌+◌, ◌≤◌, ◌<◌, List, [], ◌∷◌, ◌++◌, length, Option, Result, Ok, ap, ◌∙◌, arith, flat_map, length-append}
 use Rattle.std.proofs.lemmas.List.Concat.{flat_map-cons}
-use Rattle.x10_model.specs.Maps.{Pairwise}
 use Rattle.x10_model.specs.Readers.{Reader, IsBytes, many}
 use Rattle.x10_model.specs.ReadingImages.{ImageFault}
 use Rattle.x10_model.proofs.ReaderLaws.{Reads}

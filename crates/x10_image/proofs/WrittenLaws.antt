@@ -14,9 +14,9 @@ use Rattle.std.proofs.lemmas.Bool.{and_from, and_parts}
 use Rattle.x10_kinds.specs.declared.kind.Kind.{Kind}
 use Rattle.x10_kinds.specs.declared.kind.Kind.TheVariants as kind
 use Rattle.x10_code.specs.declared.instr.Instr.{Instr}
-use Rattle.x10_code.specs.Spelling.{fits_form}
+use Rattle.x10_code.specs.Spelling.{IsInstr, fits_form}
 use Rattle.x10_model.specs.Modules as model
-use Rattle.x10_model.specs.Modules.{NamesClassBelow, takes_flag, FitsSlot, FitsClass, FitsText, FitsFunction, FitsImage, IsSupported, IsEntry, is_supported}
+use Rattle.x10_model.specs.Modules.{NamesClassBelow, takes_flag, FitsSlot, FitsClass, FitsText, FitsFunction, FitsImage, IsEntry}
 use Rattle.x10_model.specs.Ranges.{instr_at, instr_in}
 use Rattle.x10_model.specs.ReadingImages.{is_within, is_entry}
 use Rattle.x10_model.specs.declared.slot.Slot.{Slot}
@@ -103,17 +103,16 @@ result_to classes (Some s) h = slot_to classes s h
 
 -- ---- instructions
 
-instr_from : (i : Instr) → instr_fits i ≡ true → IsSupported i
+instr_from : (i : Instr) → instr_fits i ≡ true → IsInstr i
 instr_from i h =
-    let b5 = and_parts _ (is_supported i.op) h in
-    let b4 = and_parts _ (fits_form i) b5.0 in
+    let b4 = and_parts _ (fits_form i) h in
     let b3 = and_parts _ (ltb i.x (2 ^ 32)) b4.0 in
     let b2 = and_parts _ (ltb i.c 256) b3.0 in
     let b1 = and_parts (ltb i.a 256) (ltb i.b 256) b2.0 in
-    record { instr = record { a = ltb-true i.a 256 b1.0; b = ltb-true i.b 256 b1.1; c = ltb-true i.c 256 b2.1; x = ltb-true i.x (2 ^ 32) b3.1; form = b4.1 }; supported = b5.1 }
+    record { a = ltb-true i.a 256 b1.0; b = ltb-true i.b 256 b1.1; c = ltb-true i.c 256 b2.1; x = ltb-true i.x (2 ^ 32) b3.1; form = b4.1 }
 
-instr_to : (i : Instr) → IsSupported i → instr_fits i ≡ true
-instr_to i h = and_from _ (is_supported i.op) (and_from _ (fits_form i) (and_from _ (ltb i.x (2 ^ 32)) (and_from _ (ltb i.c 256) (and_from (ltb i.a 256) (ltb i.b 256) (lt-ltb i.a 256 h.instr.a) (lt-ltb i.b 256 h.instr.b)) (lt-ltb i.c 256 h.instr.c)) (lt-ltb i.x (2 ^ 32) h.instr.x)) h.instr.form) h.supported
+instr_to : (i : Instr) → IsInstr i → instr_fits i ≡ true
+instr_to i h = and_from _ (fits_form i) (and_from _ (ltb i.x (2 ^ 32)) (and_from _ (ltb i.c 256) (and_from (ltb i.a 256) (ltb i.b 256) (lt-ltb i.a 256 h.a) (lt-ltb i.b 256 h.b)) (lt-ltb i.c 256 h.c)) (lt-ltb i.x (2 ^ 32) h.x)) h.form
 
 -- ---- texts
 
@@ -171,7 +170,7 @@ function_from classes f h k i =
       slots = all_from (slot_fits classes) (FitsSlot classes) (slot_from classes) f.parameters b.0;
       result = result_from classes f.result b.1;
       length = c.code;
-      code = all_from instr_fits IsSupported instr_from f.code i;
+      code = all_from instr_fits IsInstr instr_from f.code i;
     }
 
 functions_from : (classes : ℕ) (fs : List Function) → list_all (λ f. counts_of_function (function_shown f)) fs ≡ true → list_all (λ f. kinds_of_function classes (function_shown f)) fs ≡ true → list_all (λ f. list_all instr_fits f.code.items) fs ≡ true → AllByRecursion (FitsFunction classes) (map function_shown fs)
@@ -259,9 +258,9 @@ kinds_fit_to m h =
     (all_to (λ c. list_all (names_below n) c.items) (λ c. FitsClass n c.items) (λ c g. all_to (names_below n) (NamesClassBelow n) (names_to n) c.items g.kinds) m.classes.items (all_unmap (λ c. c.items) (FitsClass n) m.classes.items fields))
     (all_to (λ f. kinds_of_function n (function_shown f)) (λ f. FitsFunction n (function_shown f)) (λ f. kinds_to n (function_shown f)) m.functions.items (all_unmap function_shown (FitsFunction n) m.functions.items functions))
 
-instr_there : (m : Module) (f pc : ℕ) (o : Option model.Function) (i : Instr) → FitsImage (shown m) → slice_get (shown m).functions f ≡ o → instr_in o pc ≡ Some i → IsSupported i
+instr_there : (m : Module) (f pc : ℕ) (o : Option model.Function) (i : Instr) → FitsImage (shown m) → slice_get (shown m).functions f ≡ o → instr_in o pc ≡ Some i → IsInstr i
 instr_there m f pc None i h e is = absurd cc
-instr_there m f pc (Some g) i h e is = all_at IsSupported g.code pc i (all_at (FitsFunction (length (shown m).classes)) (shown m).functions f g h.functions.2 e).code is
+instr_there m f pc (Some g) i h e is = all_at IsInstr g.code pc i (all_at (FitsFunction (length (shown m).classes)) (shown m).functions f g h.functions.2 e).code is
 
 -- where something hinders it, no bytes spell it
 pub hindered : (m : Module) (e : ImageFault) → Hinders e m → FitsImage (shown m) → ⊥

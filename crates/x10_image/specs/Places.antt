@@ -1,7 +1,6 @@
 -- Where the parts of an image stand in its bytes.
-use Rattle.std.specs.Prelude.{◌≡◌, ℕ, ◌+◌, ◌-◌, List, [], ◌∷◌, ◌++◌, length, drop, Result, Ok, Err}
+use Rattle.std.specs.Prelude.{◌≡◌, ℕ, ◌+◌, ◌-◌, List, [], ◌∷◌, length, Result, Ok, Err}
 use Rattle.std.specs.List.{flat_map}
-use Rattle.x10_model.specs.Maps.{Pairwise}
 use Rattle.x10_model.specs.ReadingImages as reading
 use Rattle.x10_model.specs.Offsets.{EndsWith, AreAt}
 use Rattle.x10_image.specs.declared.fault.ImageFault.{ImageFault}

@@ -9,7 +9,7 @@ use Rattle.x10_kinds.specs.declared.kind.Kind.TheVariants as kind
 use Rattle.x10_code.specs.declared.instr.Instr.{Instr}
 use Rattle.x10_code.specs.Spelling.{fits_form}
 use Rattle.x10_model.specs.Modules as model
-use Rattle.x10_model.specs.Modules.{is_supported, takes_flag}
+use Rattle.x10_model.specs.Modules.{takes_flag}
 use Rattle.x10_model.specs.ReadingImages.{is_within, is_entry}
 use Rattle.x10_model.specs.declared.slot.Slot.{Slot}
 use Rattle.x10_model.specs.Ranges.{instr_at}
@@ -41,7 +41,7 @@ result_fits classes None = true
 result_fits classes (Some s) = slot_fits classes s
 
 abbrev pub instr_fits : Instr → Bool
-instr_fits i = nat_lt i.a 256 && nat_lt i.b 256 && nat_lt i.c 256 && nat_lt i.x (2 ^ 32) && fits_form i && is_supported i.op
+instr_fits i = nat_lt i.a 256 && nat_lt i.b 256 && nat_lt i.c 256 && nat_lt i.x (2 ^ 32) && fits_form i
 
 abbrev pub text_fits : List ℕ → Bool
 text_fits text = nat_lt (length text) (2 ^ 16) && is_utf8 text

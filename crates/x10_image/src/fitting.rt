@@ -11,7 +11,6 @@ ghost use Rattle.x10_image.specs.Written.{function_shown, Passes, Hinders};
 
 use crate::fault::ImageFault;
 use crate::module::{Function, Module};
-use crate::supported::is_supported;
 use x10_code::{Instr, has_spelling};
 use x10_kinds::Kind;
 use x10_model::Slot;
@@ -152,7 +151,7 @@ fn items_fit(source: &Module) -> bool
 fn instr_fits(instr: Instr) -> bool
     ensures { result ≡ written.instr_fits instr }
 {
-    has_spelling(instr) && is_supported(instr.op)
+    has_spelling(instr)
 }
 
 fn entry_fits(functions: &[Function], entry: u16) -> bool

@@ -9,7 +9,6 @@ use crate::fields::{
     after_zero_byte, after_zero_u16, byte_at, byte_at_most, has, registers_at, u16_at, u16_within,
 };
 use crate::kinds::{kind_at, result_at, slot_at};
-use crate::supported::is_supported;
 use x10_code::decode_slice;
 use x10_model::limits::{MOST_FIELDS, MOST_INSTRUCTIONS, MOST_LOOPS, MOST_PARAMETERS};
 
@@ -76,8 +75,8 @@ fn past_instruction(bytes: &[u8], function: u16, pc: u16) -> Result<&[u8], Image
     }
     let (front, rest) = bytes.split_at(8);
     match decode_slice(front) {
-        Ok(instr) if is_supported(instr.op) => Ok(rest),
-        _ => Err(ImageFault::Code(function, pc)),
+        Ok(_) => Ok(rest),
+        Err(_) => Err(ImageFault::Code(function, pc)),
     }
 }
 

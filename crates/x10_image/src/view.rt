@@ -1,8 +1,8 @@
 ghost use Rattle.std.specs.Prelude.{◌≡◌, ◌^◌, ◌<◌, ◌≤◌, List, Ok, Some, IfOk, length, slice_get};
 ghost use Rattle.std.specs.List.{flat_map};
 ghost use Rattle.std.specs.Int.{w16, to_be_bytes};
-ghost use Rattle.x10_code.specs.Spelling.{spelling as instruction};
-ghost use Rattle.x10_model.specs.Modules.{Module, Function, FitsImage, FitsText, FitsClass, IsEntry, IsSupported};
+ghost use Rattle.x10_code.specs.Spelling.{IsInstr, spelling as instruction};
+ghost use Rattle.x10_model.specs.Modules.{Module, Function, FitsImage, FitsText, FitsClass, IsEntry};
 ghost use Rattle.x10_model.specs.Ranges.{function_at, instr_at};
 ghost use Rattle.x10_model.specs.Images.{class_bytes, int_bytes, function_bytes, spelling};
 ghost use Rattle.x10_model.specs.ReadingImages.{module_at, is_entry};
@@ -227,7 +227,7 @@ impl<'a> ImageView<'a> {
         requires function { f < length self.now.functions }
         requires pc { pc < length (code_at self.now f) }
         ensures value { instr_at self.now f pc ≡ Some result }
-        ensures supported { IsSupported result }
+        ensures fits { IsInstr result }
         ensures part { IsPart (spelling self.now) (place_of_instr self.now f pc) (instruction result) }
     {
         let start = code_place(self.bytes, self.functions[f]);
@@ -242,7 +242,7 @@ impl<'a> ImageView<'a> {
         requires code { code.now ≡ flat_map instruction (code_at self.now f) }
         requires pc { pc < length (code_at self.now f) }
         ensures value { instr_at self.now f pc ≡ Some result }
-        ensures supported { IsSupported result }
+        ensures fits { IsInstr result }
     {
         let _ = &self.bytes;
         let _ = f;
