@@ -101,6 +101,12 @@ IsMisfit m here home h slots g refusal.Ref = FitKinds m slots (snapshot_of g) ×
     (NamesExports here (map export_as h.exports) (snapshot_of g) → ⊥)
 IsMisfit m here home h slots g _ = ⊥
 
+-- memory was refused, or a count would pass its limit
+abbrev pub IsForRoom : HeapState → Graph → Refusal → Type 0
+IsForRoom heap g refusal.Memory = Unit {0}
+IsForRoom heap g (refusal.Limit limit) = Passes heap g limit
+IsForRoom heap g _ = ⊥
+
 -- why nothing arrives: the first fault; or all fits, and memory was refused or a count would pass its limit
 abbrev pub IsRefusal : Module → (here home : ℕ) → HeapState → List Slot → Graph → Refusal → Type 0
 IsRefusal m here home h slots g refusal.Memory = FitsArrival m here home h slots (snapshot_of g)
@@ -108,6 +114,11 @@ IsRefusal m here home h slots g (refusal.Limit limit) = FitsArrival m here home 
 IsRefusal m here home h slots g why = IsMisfit m here home h slots g why
 
 -- the heap has a copy of the graph beside all that it had, and the roots are these words
+pub record IsBrought (h : HeapState) (g : Graph) (roots : List ℕ) (new : HeapState) : Type 0 where
+  pub roots_are : roots ≡ map (word_in h) g.roots
+  pub heap_is : new ≡ arrived h g
+
+-- the same of a graph that may arrive
 pub record IsArrived (m : Module) (here home : ℕ) (h : HeapState) (slots : List Slot) (g : Graph) (roots : List ℕ) (new : HeapState) : Type 0 where
   pub fits : FitsArrival m here home h slots (snapshot_of g)
   pub roots_are : roots ≡ map (word_in h) g.roots

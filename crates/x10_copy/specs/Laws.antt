@@ -16,11 +16,10 @@ use Rattle.x10_model.specs.Marshalling.{snapshot_of}
 use Rattle.x10_model.specs.Frames.{Graph}
 use Rattle.x10_frame.specs.declared.head.Head.{Head}
 use Rattle.x10_copy.specs.declared.refusal.Refusal.{Refusal}
-use Rattle.x10_copy.specs.declared.refusal.Refusal.TheVariants as refusal
 use Rattle.x10_copy.specs.Names.{AreSound}
 use Rattle.x10_copy.specs.Graphs.{IsSoundHeap}
 use Rattle.x10_copy.specs.Captured.{kinds_of, IsSnapshot}
-use Rattle.x10_copy.specs.Arrived.{HaveHomes, FitsArrival, Passes, IsMisfit, IsRefusal}
+use Rattle.x10_copy.specs.Arrived.{HaveHomes, FitsArrival, IsForRoom, IsMisfit, IsRefusal}
 
 -- where cells stand for the heap and values for the words, the words are sound, and so is the heap
 abbrev pub StandingIsSound : Type 0
@@ -40,12 +39,6 @@ CapturesFit =
     (captured : IsSnapshot x cells (kinds_of slots) values head bytes) (here home : ℕ) (heap : HeapState)
     → x.classes ≡ m.classes → HaveHomes home values slots → KnowsExports x here heap
     → FitsArrival m here home heap slots (snapshot_of captured.graph)
-
--- memory was refused, or a count would pass its limit
-abbrev pub IsForRoom : HeapState → Graph → Refusal → Type 0
-IsForRoom heap g refusal.Memory = Unit {0}
-IsForRoom heap g (refusal.Limit limit) = Passes heap g limit
-IsForRoom heap g _ = ⊥
 
 -- a graph that has all that is asked for is refused for want of room alone
 abbrev pub FittingIsTaken : Type 0

@@ -1,11 +1,13 @@
 //! What a frame brings, put into a heap.
 
-ghost use Rattle.std.specs.Prelude.{◌≡◌, ◌↔◌, IfOk, IfErr, IsTrue, length, map};
+ghost use Rattle.std.specs.Prelude.{◌≡◌, ◌↔◌, ℕ, IfOk, IfErr, IsTrue, List, length, map};
 ghost use Rattle.x10_frame.specs.Heads.{graph_of};
 ghost use Rattle.x10_model.specs.Marshalling.{snapshot_of};
 ghost use Rattle.x10_model.specs.Deliveries.{NamesExports};
 ghost use Rattle.x10_heap.specs.Words.{export_as};
-ghost use Rattle.x10_copy.specs.Arrived.{arrived, FitKinds, FitsArrival, IsRefusal, IsMisfit, IsArrived, IsLonger, StopsAll, same_stop};
+ghost use Rattle.x10_model.specs.Modules.{Module};
+ghost use Rattle.x10_model.specs.declared.slot.Slot.{Slot};
+ghost use Rattle.x10_copy.specs.Arrived.{arrived, FitKinds, FitsArrival, IsRefusal, IsMisfit, IsBrought, IsArrived, IsForRoom, IsLonger, StopsAll, same_stop};
 ghost use Rattle.x10_copy.specs.Taken.{IsTakenIn};
 
 use crate::adding::{Bases, Roots, add_objects, add_rails, add_texts, root_words};
@@ -37,8 +39,11 @@ fn exports_fit(view: &FrameView, heap: &Heap, here: u16) -> bool
     nodes_exported(view, heap, here)
 }
 
-/// What is asked of a frame's values: their kinds, then the homes, then what is named here.
-fn check(
+/// What is asked of a frame's values before they arrive at the place `here`: `Kind` where they aren't of the kinds of
+/// `slots`, one for each, or an object doesn't have the fields of its class; else `Home` where a value of which its slot
+/// asks for a home is a global reference with another one than `home`; else `Ref` where a global reference with its home
+/// here names no export of its class. Linear in the frame.
+pub fn check(
     view: &FrameView,
     heap: &Heap,
     image: &ImageView,
@@ -73,7 +78,8 @@ fn add_all(heap: &mut Heap, view: &FrameView, bases: &Bases) -> Result<(), Stop>
     add_objects(heap, view, bases)
 }
 
-fn refusal_of(why: Stop) -> Refusal
+/// Why a place takes no message in, where a part of what it does was stopped.
+pub fn refusal_of(why: Stop) -> Refusal
     ensures { result ≡ same_stop why }
 {
     match why {
@@ -83,29 +89,17 @@ fn refusal_of(why: Stop) -> Refusal
     }
 }
 
-/// Puts a copy of what a frame brings into the heap of the place `here`, beside all that it has, and answers the words of
-/// the values that were passed: text i is the heap's next text and i more, and so are rails and objects. Each text and
-/// rail is copied once, from the frame. A report brings nothing.
+/// Puts a copy of what a frame brings into a heap, beside all that it has, and answers the words of the values that were
+/// passed: text i is the heap's next text and i more, and so are rails and objects. Each text and rail is copied once,
+/// from the frame. A report brings nothing. It asks nothing of the values: see `check`.
 ///
-/// Refused, with the heap as before: `Kind` where the values aren't of the kinds of `slots`, one for each, or an object
-/// doesn't have the fields of its class; else `Home` where a value of which its slot asks for a home is a global
-/// reference with another one than `home`; else `Ref` where a global reference with its home here names no export of its
-/// class; else `Limit` 1, 2 or 3 where the heap would have too many objects, texts or rails, or `Memory`. Linear in the
-/// frame.
-pub fn arrive(
-    alloc: Global,
-    view: &FrameView,
-    heap: &mut Heap,
-    image: &ImageView,
-    here: u16,
-    home: u16,
-    slots: &[Slot],
-) -> Result<Roots, Refusal>
-    ensures ok { IfOk result (λ roots. IsArrived image.now here home heap.old slots.now (graph_of view.now) roots.items heap.new) }
-    ensures taken { IfOk result (λ roots. IsTakenIn image.now here heap.old slots.now view.now roots.items heap.new) }
-    ensures err { IfErr result (λ why. (heap.new ≡ heap.old) × IsRefusal image.now here home heap.old slots.now (graph_of view.now) why) }
+/// Refused, with the heap as before: `Limit` 1, 2 or 3 where the heap would have too many objects, texts or rails, or
+/// `Memory`. Linear in the frame.
+pub fn bring(alloc: Global, view: &FrameView, heap: &mut Heap) -> Result<Roots, Refusal>
+    ensures ok { IfOk result (λ roots. IsBrought heap.old (graph_of view.now) roots.items heap.new) }
+    ensures taken { IfOk result (λ roots. (m : Module) (here home : ℕ) (slots : List Slot) → FitsArrival m here home heap.old slots (snapshot_of (graph_of view.now)) → IsTakenIn m here heap.old slots view.now roots.items heap.new) }
+    ensures err { IfErr result (λ why. (heap.new ≡ heap.old) × IsForRoom heap.old (graph_of view.now) why) }
 {
-    check(view, heap, image, here, home, slots)?;
     let (objects, rails, texts) = (heap.objects(), heap.rails(), heap.texts());
     let bases = Bases {
         texts: texts as u32,
@@ -123,4 +117,24 @@ pub fn arrive(
             Err(refusal_of(why))
         }
     }
+}
+
+/// Puts a copy of what a frame brings into the heap of the place `here`, as `bring` does, where `check` finds no fault.
+///
+/// Refused, with the heap as before: for the first fault that `check` finds, else for want of room, as `bring` is.
+pub fn arrive(
+    alloc: Global,
+    view: &FrameView,
+    heap: &mut Heap,
+    image: &ImageView,
+    here: u16,
+    home: u16,
+    slots: &[Slot],
+) -> Result<Roots, Refusal>
+    ensures ok { IfOk result (λ roots. IsArrived image.now here home heap.old slots.now (graph_of view.now) roots.items heap.new) }
+    ensures taken { IfOk result (λ roots. IsTakenIn image.now here heap.old slots.now view.now roots.items heap.new) }
+    ensures err { IfErr result (λ why. (heap.new ≡ heap.old) × IsRefusal image.now here home heap.old slots.now (graph_of view.now) why) }
+{
+    check(view, heap, image, here, home, slots)?;
+    bring(alloc, view, heap)
 }

@@ -15,7 +15,7 @@ mod refusal;
 mod sound;
 
 pub use adding::Roots;
-pub use arriving::arrive;
+pub use arriving::{arrive, bring, check, refusal_of};
 pub use capturing::capture;
 pub use marks::Marks;
 pub use refusal::Refusal;

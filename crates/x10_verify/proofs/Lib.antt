@@ -16,3 +16,4 @@ pub mod Stepped
 pub mod InFunction
 pub mod Solved
 pub mod Prints
+pub mod Found

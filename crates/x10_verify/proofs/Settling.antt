@@ -109,7 +109,7 @@ maybe_once k c d f g = search rules
 object_class : (c d : ℕ) → kind.Obj c ≡ kind.Obj d → c ≡ d
 object_class c d e = cc
 
-object_once : (s : State) (r : ℕ) (c d : ℕ) → IsKind s r (kind.Obj c) → IsKind s r (kind.Obj d) → c ≡ d
+pub object_once : (s : State) (r : ℕ) (c d : ℕ) → IsKind s r (kind.Obj c) → IsKind s r (kind.Obj d) → c ≡ d
 object_once s r c d h g = object_class c d (sym (object_is h.0 c h.2) ∙ kind_once s r h.0 g.0 h.1 g.1 ∙ object_is g.0 d g.2)
 
 unwrapped_once : (s : State) (r : ℕ) (c d : ℕ) → IsKind s r (kind.Opt c) → IsKind s r (kind.Opt d) → c ≡ d

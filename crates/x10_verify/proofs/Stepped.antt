@@ -21,8 +21,8 @@ use Rattle.x10_verify.specs.Effects.{IsKept, IsNarrow, IsSoundIn}
 use Rattle.x10_verify.specs.Rules.{Allows, rule_for, after, edge_if, edges_of, goes_on_of}
 use Rattle.x10_verify.specs.States.{Takes, state_if, state_in, stated, waits, waits_in, is_waiting, total}
 use Rattle.x10_verify.specs.declared.fault.FlowCause.TheVariants as flow
-use Rattle.x10_verify.specs.Causes.{IsCauseAt, IsFound}
-use Rattle.x10_verify.specs.Solving.{Holds, Solves, JumpsIf, GoesOnIf}
+use Rattle.x10_verify.specs.Causes.{IsCauseAt}
+use Rattle.x10_verify.specs.Solving.{Holds, Solves, JumpsIf, GoesOnIf, Stops}
 use Rattle.x10_verify.proofs.Below.{IsBelow-trans, SameState-below, SameState-sym}
 use Rattle.x10_verify.proofs.Effects.{after_state}
 use Rattle.x10_verify.proofs.Parts.{parts_permit}
@@ -145,7 +145,7 @@ go_on_on program function at len instr known effect old new next j true size on 
 
 -- ---- the rule holds again
 
-edges_in : (a b : Bool) (pc x : ℕ) (s t : State) (edge : ℕ × State) → IsIn edge (edge_if a pc s ++ edge_if b x t) → ((a ≡ true) × (edge ≡ (pc, s))) ⊎ ((b ≡ true) × (edge ≡ (x, t)))
+pub edges_in : (a b : Bool) (pc x : ℕ) (s t : State) (edge : ℕ × State) → IsIn edge (edge_if a pc s ++ edge_if b x t) → ((a ≡ true) × (edge ≡ (pc, s))) ⊎ ((b ≡ true) × (edge ≡ (x, t)))
 edges_in true b pc x s t edge (zero, e) = inl (refl, some_edge edge (pc, s) e)
   where
     some_edge : (f g : ℕ × State) → Some g ≡ Some f → f ≡ g
@@ -210,34 +210,34 @@ step_on program function at len instr known effect next t0 t1 t2 t3 size is fit 
 -- a rule that does not hold
 pub step_refused : (program : Module) (function : Function) (at : ℕ) (instr : Instr) (known : Known) (why : FlowCause) (t0 t1 : List Entry) → slice_get function.code at ≡ Some instr → Takes t0 at known t1
     → ((e : Effect) → Allows (rule_for instr.op instr) (point program function at instr) (state_of known) e → ⊥) → IsCauseAt (rule_for instr.op instr) (point program function at instr) (state_of known) why
-    → Solves program function at t0 → (HasAssignment program function → ⊥) × IsFound program function at why
+    → Solves program function at t0 → (HasAssignment program function → ⊥) × Stops program function at why
 step_refused program function at instr known why t0 t1 is t never cause h =
     let own = taken_state t0 at known t1 t in
     let least = h.least at (state_of known) own in
-    (least_never program function at (state_of known) instr (h.kept at (state_of known) own).narrow is least never, record { instr = instr; state = state_of known; is_instr = is; follows = least.follows; cause = inl cause })
+    (least_never program function at (state_of known) instr (h.kept at (state_of known) own).narrow is least never, inl (record { instr = instr; state = state_of known; is_instr = is; follows = least.follows; cause = cause }))
 
 -- a jump out of the function
 pub step_jumps_out : (program : Module) (function : Function) (at len : ℕ) (instr : Instr) (known : Known) (effect : Effect) (why : FlowCause) (t0 t1 : List Entry) → length function.code ≡ len → slice_get function.code at ≡ Some instr → Takes t0 at known t1
     → Allows (rule_for instr.op instr) (point program function at instr) (state_of known) effect → is_target (form_of instr.op).x ≡ true → len ≤ instr.x → why ≡ flow.Unset
-    → Solves program function at t0 → (HasAssignment program function → ⊥) × IsFound program function at why
+    → Solves program function at t0 → (HasAssignment program function → ⊥) × Stops program function at why
 step_jumps_out program function at len instr known effect why t0 t1 size is t allows jumps out unset h =
     let own = taken_state t0 at known t1 t in
     let least = h.least at (state_of known) own in (
       least_past program function instr.x (state_of known) (omega arith) (least_jump program function at (state_of known) instr effect (h.kept at (state_of known) own).narrow is least allows jumps),
-      record { instr = instr; state = state_of known; is_instr = is; follows = least.follows; cause = inr (unset, inl (jumps, (let e : length function.code ≤ instr.x = omega arith in e))) },
+      inr (instr, is, (unset, inl (jumps, (let e : length function.code ≤ instr.x = omega arith in e)))),
     )
 
 -- the last instruction goes on
 pub step_runs_out : (program : Module) (function : Function) (at len : ℕ) (instr : Instr) (known : Known) (effect : Effect) (why : FlowCause) (t0 t1 : List Entry) → length function.code ≡ len → slice_get function.code at ≡ Some instr → ResultsFit program
     → ((form_of instr.op).x ≡ operand.Place → instr.x < 64) → Takes t0 at known t1 → Allows (rule_for instr.op instr) (point program function at instr) (state_of known) effect → goes_on_of instr.op ≡ true → len ≤ at + 1 → why ≡ flow.Unset
-    → Solves program function at t0 → (HasAssignment program function → ⊥) × IsFound program function at why
+    → Solves program function at t0 → (HasAssignment program function → ⊥) × Stops program function at why
 step_runs_out program function at len instr known effect why t0 t1 size is fit place t allows on out unset h =
     let own = taken_state t0 at known t1 t in
     let kept : IsKept (state_of known) = h.kept at (state_of known) own in
     let least = h.least at (state_of known) own in
     let sound = allows_sound (rule_for instr.op instr) (point program function at instr) (state_of known) effect kept.narrow fit (table_sound instr.op instr place) allows in (
       least_past program function (at + 1) (after instr.a (state_of known) effect) (omega arith) (least_on program function at (state_of known) instr effect kept.narrow is least allows sound on),
-      record { instr = instr; state = state_of known; is_instr = is; follows = least.follows; cause = inr (unset, inr (on, (let e : length function.code ≤ at + 1 = omega arith in e))) },
+      inr (instr, is, (unset, inr (on, (let e : length function.code ≤ at + 1 = omega arith in e)))),
     )
 
 -- ---- how often the table can change

@@ -50,6 +50,9 @@ first_out_is m f pc lt before out = let g = get_below m.functions f lt in record
 pub first_without_is : (m : Module) (f : ℕ) → f < length m.functions → ((g : ℕ) (function : Function) → g < f → function_at m g ≡ Some function → HasAssignment m function) → ((function : Function) → function_at m f ≡ Some function → HasAssignment m function → ⊥) → IsFirstWithout m f
 first_without_is m f lt before without = let g = get_below m.functions f lt in record { before = before; function = g.0; is_function = g.1; without = without g.0 g.1 }
 
+pub function_there : (m : Module) (f : ℕ) (P : Function → Type 0) → f < length m.functions → ((function : Function) → function_at m f ≡ Some function → P function) → (function : Function) × (function_at m f ≡ Some function) × P function
+function_there m f P lt h = let g = get_below m.functions f lt in (g.0, g.1, h g.0 g.1)
+
 pub all_in_range : (m : Module) (n : ℕ) → length m.functions ≤ n → ((g : ℕ) (function : Function) → g < n → function_at m g ≡ Some function → AreInRangeTo m function (length function.code)) → AreInRange m
 all_in_range m n le h f pc function instr e i =
     let lt = slice_get_within m.functions f function e in
@@ -74,7 +77,7 @@ instr_of m f pc (Some function) i e g = (function, e, g)
 -- ---- what an instruction names
 
 -- an operand that is there, by what its form says that it is
-there_as : (m : Module) (f : Function) (i : Instr) (o p : Operand) (n : ℕ) → o ≡ p → IsThere m f i o n → IsThere m f i p n
+pub there_as : (m : Module) (f : Function) (i : Instr) (o p : Operand) (n : ℕ) → o ≡ p → IsThere m f i o n → IsThere m f i p n
 there_as m f i o p n e h = subst (λ q. IsThere m f i q n) e h
 
 result_register : (f : Function) (o : Option Slot) (n : ℕ) → f.registers ≤ 64 → IsResultRegister f o n → IsResultNamed o n

@@ -109,15 +109,10 @@ AsksIn row p r want = ((row.a ≡ Some want) × (r ≡ p.instr.a)) ⊎ (((row.b 
 abbrev pub IsCauseAt : Rule → Point → State → FlowCause → Type 0
 IsCauseAt row p s why = ((r : ℕ) × (want : Kind) × AsksIn row p r want × IsRefused s r (Fitting want) why) ⊎ IsCauseOf row.outcome p s why
 
--- the instruction leads to none; where the structure holds and all that is named is there, none does
-abbrev pub LeadsOut : Function → ℕ → Instr → FlowCause → Type 0
-LeadsOut function pc instr why = (why ≡ flow.Unset)
-    × (((is_target (form_of instr.op).x ≡ true) × (length function.code ≤ instr.x)) ⊎ ((goes_on_of instr.op ≡ true) × (length function.code ≤ pc + 1)))
-
 -- the cause holds at an instruction, in a state there that follows from the entry
 pub record IsFound (program : Module) (function : Function) (pc : ℕ) (why : FlowCause) : Type 0 where
   pub instr : Instr
   pub state : State
   pub is_instr : slice_get function.code pc ≡ Some instr
   pub follows : Follows program function pc state
-  pub cause : IsCauseAt (rule_for instr.op instr) (point program function pc instr) state why ⊎ LeadsOut function pc instr why
+  pub cause : IsCauseAt (rule_for instr.op instr) (point program function pc instr) state why

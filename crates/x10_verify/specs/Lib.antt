@@ -13,3 +13,4 @@ pub mod Effects
 pub mod Merging
 pub mod States
 pub mod Solving
+pub mod LawsOfFaults

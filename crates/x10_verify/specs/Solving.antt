@@ -4,6 +4,7 @@ use Rattle.x10_code.specs.declared.instr.Instr.{Instr}
 use Rattle.x10_code.specs.Table.{form_of}
 use Rattle.x10_model.specs.Maps.{IsIn}
 use Rattle.x10_model.specs.Modules.{Module, Function}
+use Rattle.x10_model.specs.Ranges.{function_at}
 use Rattle.x10_model.specs.Structure.{is_target}
 use Rattle.x10_model.specs.Assignments.{State, IsState, Edges, Permits, Reaches, HasAssignment, entry_state}
 use Rattle.x10_verify.specs.declared.fault.FlowCause.{FlowCause}
@@ -33,10 +34,23 @@ pub record Solves (program : Module) (function : Function) (at : ℕ) (table : L
   pub least : (q : ℕ) (s : State) → stated table q ≡ Some s → LeastAt program function q s
   pub behind : (q : ℕ) → q < at → waits table q ≡ false
 
+-- the instruction leads to none; where the structure holds and all that is named is there, none does
+abbrev pub LeadsOut : Function → ℕ → Instr → FlowCause → Type 0
+LeadsOut function pc instr why = (why ≡ Unset)
+    × (((is_target (form_of instr.op).x ≡ true) × (length function.code ≤ instr.x)) ⊎ ((goes_on_of instr.op ≡ true) × (length function.code ≤ pc + 1)))
+
+-- the flow stops at an instruction: a cause is found there, or the instruction leads to none
+abbrev pub Stops : Module → Function → ℕ → FlowCause → Type 0
+Stops program function pc why = IsFound program function pc why ⊎ ((instr : Instr) × (slice_get function.code pc ≡ Some instr) × LeadsOut function pc instr why)
+
+-- the same of function f
+abbrev pub StopsIn : Module → ℕ → ℕ → FlowCause → Type 0
+StopsIn m f pc why = (function : Function) × (function_at m f ≡ Some function) × Stops m function pc why
+
 -- one waiting instruction more: the states so far and where to go on, or no consistent assignment, and why
 abbrev pub Steps : Module → Function → ℕ → List Entry → Result ℕ FlowCause → List Entry → Type 0
 Steps program function at old (Ok next) new = Solves program function at old → Solves program function next new
-Steps program function at old (Err cause) new = Solves program function at old → (HasAssignment program function → ⊥) × IsFound program function at cause
+Steps program function at old (Err cause) new = Solves program function at old → (HasAssignment program function → ⊥) × Stops program function at cause
 
 -- what became of the jump to x: its state has changed, and is to be looked at next where it is no later instruction
 abbrev pub JumpsIf : Bool → Instr → ℕ → ℕ → Known → List Entry → ℕ → List Entry → Type 0

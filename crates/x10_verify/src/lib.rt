@@ -6,6 +6,7 @@ mod decide;
 mod entry;
 mod fault;
 mod known;
+pub mod laws;
 mod merge;
 mod objects;
 mod places;

@@ -8,9 +8,8 @@ ghost use Rattle.x10_model.specs.Ranges.{function_at};
 ghost use Rattle.x10_verify.specs.Least.{HasLeast};
 ghost use Rattle.x10_verify.specs.Named.{HasNames};
 ghost use Rattle.x10_verify.specs.Printing.{AreNoted, bit_in};
-ghost use Rattle.x10_verify.specs.Solving.{Steps};
+ghost use Rattle.x10_verify.specs.Solving.{Steps, Stops};
 ghost use Rattle.x10_verify.specs.States.{IsFresh, total};
-ghost use Rattle.x10_verify.specs.Causes.{IsFound};
 
 use crate::entry::entry;
 use crate::fault::FlowCause;
@@ -43,7 +42,7 @@ pub(crate) fn check_function(
     requires row { length row.old.items ≡ length (code_at image.now f) }
     ensures decides { (function : Function) → function_at image.now f ≡ Some function → MatchResult result (λ _. HasLeast image.now function) (λ _. HasAssignment image.now function → ⊥) }
     ensures noted { IfOk result (λ _. AreNoted image.now (bit_in row.new.items) f) }
-    ensures cause { (function : Function) → function_at image.now f ≡ Some function → IfErr result (λ fault. IsFound image.now function fault.pc fault.cause) }
+    ensures cause { (function : Function) → function_at image.now f ≡ Some function → IfErr result (λ fault. Stops image.now function fault.pc fault.cause) }
     ensures small { IfErr result (λ fault. fault.pc ≤ 4096) }
     ensures fresh { IfOk result (λ _. IsFresh table.new.items) }
     ensures size { IfOk result (λ _. length table.new.items ≡ length table.old.items) }

@@ -2,11 +2,11 @@ ghost use Rattle.std.specs.Prelude.{◌≡◌, ◌≢◌, ◌↔◌, ◌+◌, �
 ghost use Rattle.std.specs.List.{flat_map};
 ghost use Rattle.x10_code.specs.declared.instr.Instr as instrs;
 ghost use Rattle.x10_code.specs.declared.op.Op.TheVariants as op;
-ghost use Rattle.x10_code.specs.Spelling.{spelling as instruction};
+ghost use Rattle.x10_code.specs.Spelling.{IsInstr, spelling as instruction};
 ghost use Rattle.x10_image.specs.Parts.{code_at};
 ghost use Rattle.x10_kinds.specs.declared.kind.Kind.TheVariants as kind;
 ghost use Rattle.x10_model.specs.Assignments.{HasAssignment, IsKind, State};
-ghost use Rattle.x10_model.specs.Modules.{Function, IsSupported};
+ghost use Rattle.x10_model.specs.Modules.{Function};
 ghost use Rattle.x10_model.specs.Ranges.{function_at, instr_at, IsInRange};
 ghost use Rattle.x10_verify.specs.Certified.{IsCertified};
 ghost use Rattle.x10_verify.specs.Faults.{Refutes};
@@ -129,7 +129,7 @@ impl<'a> Verified<'a> {
         requires function { f < length self.now.program.functions }
         requires pc { pc < length (code_at self.now.program f) }
         ensures value { instr_at self.now.program f pc ≡ Some result }
-        ensures supported { IsSupported result }
+        ensures fits { IsInstr result }
         ensures in_range { (function : Function) → function_at self.now.program f ≡ Some function → IsInRange self.now.program function result }
         ensures follows { result.op ≢ op.Ret → pc + 1 < length (code_at self.now.program f) }
     {
@@ -152,7 +152,7 @@ impl<'a> Verified<'a> {
         requires code { code.now ≡ flat_map instruction (code_at self.now.program f) }
         requires pc { pc < length (code_at self.now.program f) }
         ensures value { instr_at self.now.program f pc ≡ Some result }
-        ensures supported { IsSupported result }
+        ensures fits { IsInstr result }
         ensures in_range { (function : Function) → function_at self.now.program f ≡ Some function → IsInRange self.now.program function result }
         ensures follows { result.op ≢ op.Ret → pc + 1 < length (code_at self.now.program f) }
     {

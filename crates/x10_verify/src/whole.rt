@@ -4,7 +4,7 @@ ghost use Rattle.x10_model.specs.Modules.{Function};
 ghost use Rattle.x10_model.specs.Ranges.{function_at};
 ghost use Rattle.x10_model.specs.Assignments.{AreInRange};
 ghost use Rattle.x10_image.specs.Parts.{code_at};
-ghost use Rattle.x10_verify.specs.Faults.{IsFoundIn};
+ghost use Rattle.x10_verify.specs.Solving.{StopsIn};
 ghost use Rattle.x10_verify.specs.Least.{HasLeast};
 ghost use Rattle.x10_verify.specs.Printing.{AreNoted, HasRows, bit_at};
 ghost use Rattle.x10_verify.specs.States.{IsFresh};
@@ -78,7 +78,7 @@ pub(crate) fn check_flow(
     ensures ok { IfOk result (λ _. (f : ℕ) (function : Function) → function_at image.now f ≡ Some function → HasLeast image.now function) }
     ensures noted { IfOk result (λ _. (f : ℕ) → AreNoted image.now (bit_at rows.new.items f) f) }
     ensures err { IfErr result (λ at. IsFirstWithout image.now at.0) }
-    ensures cause { IfErr result (λ at. IsFoundIn image.now at.0 at.1.pc at.1.cause) }
+    ensures cause { IfErr result (λ at. StopsIn image.now at.0 at.1.pc at.1.cause) }
     ensures small { IfErr result (λ at. (at.0 < 256) × (at.1.pc ≤ 4096)) }
 {
     image.fits();

@@ -1,9 +1,10 @@
 use Rattle.std.proofs.Common.{◌≡◌, ◌∙◌, Some, arith}
 use Rattle.std.specs.Prelude.{slice_get}
 use Rattle.x10_verify.specs.Least.{HasLeast}
+use Rattle.x10_verify.specs.Solving.{Stops}
 use Rattle.x10_verify.proofs.Prints.{rows_all, rows_more, rows_set}
 use Rattle.x10_verify.proofs.Tabled.{get_is}
-use Rattle.x10_verify.proofs.Wholes.{first_without_is, all_functions, functions_more, has_names, least_assigns}
+use Rattle.x10_verify.proofs.Wholes.{first_without_is, function_there, all_functions, functions_more, has_names, least_assigns}
 use Rattle.x10_verify.proofs.whole.check_flow.Goals as goal
 
 pub check_function-requires-clause-names : goal.check_function-requires-clause-names
@@ -11,6 +12,9 @@ check_function-requires-clause-names c = has_names c.args.image.now c.loop-funct
 
 pub returns-in-Err-clause-err : goal.returns-in-Err-clause-err
 returns-in-Err-clause-err c = first_without_is c.args.image.now c.loop-function.function (omega arith) (λ g function lt e. least_assigns c.args.image.now function (c.loop-function.invariant.assigned g function lt e)) c.in-Err.ensures.decides
+
+pub returns-in-Err-clause-cause : goal.returns-in-Err-clause-cause
+returns-in-Err-clause-cause c = function_there c.args.image.now c.loop-function.function (λ function. Stops c.args.image.now function c.in-Err.fault.pc c.in-Err.fault.cause) (omega arith) c.in-Err.ensures.cause
 
 pub returns-clause-ok : goal.returns-clause-ok
 returns-clause-ok c = all_functions c.args.image.now (HasLeast c.args.image.now) c.loop-function.function (omega arith) c.loop-function.invariant.assigned
