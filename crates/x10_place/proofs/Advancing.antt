@@ -1,5 +1,5 @@
 -- What a step of the stay with a key does to a place, by what becomes of the stay.
-use Rattle.std.proofs.Common.{◌≡◌, ◌≢◌, ℕ, Bool, true, false, List, ◌∷◌, Option, Some, None, Ok, Err, refl, sym, ap, ap₂, subst, ◌∙◌, inl, inr}
+use Rattle.std.proofs.Common.{◌≡◌, ◌≢◌, ℕ, Bool, true, false, List, ◌∷◌, Option, Some, None, Ok, Err, refl, sym, ap, ap₂, subst, ◌∙◌}
 use Rattle.slab.specs.Slab.{Slab, get, Updates, with_value}
 use Rattle.x10_kinds.specs.declared.stop.Stop.{Stop}
 use Rattle.x10_kinds.specs.declared.stop.Stop.TheVariants as stop
@@ -17,15 +17,18 @@ use Rattle.x10_place.specs.declared.stay.Spot.{Spot}
 use Rattle.x10_place.specs.Frames.{IsFetchedFor}
 use Rattle.x10_place.specs.Routes.{route_of}
 use Rattle.x10_place.specs.Stays.{StayState, StoreState, IsDoneHere, ClosesFinish, location, ReadsStore, OverfillsBy, Refuses, Steps}
-use Rattle.x10_place.specs.StandsFor.{PlaceState, place_of, plain, location_of, IsStanding, LeadsAll, IsIdleAt, nobody, away, waits, IsOverfull, IsHindered, Overfills, OverfillsBegin}
-use Rattle.x10_place.specs.Stretches.{BeginsAt, IsUntouched, RefusesBegin, IsAdvanced}
+use Rattle.x10_place.specs.StandsFor.{PlaceState, place_of, plain, location_of, IsStanding, LeadsAll, IsIdleAt, nobody, away, waits, IsOverfull, IsHindered, Overfills}
+use Rattle.x10_place.specs.declared.sent.Sent.{Sent}
+use Rattle.x10_place.specs.Messages.{no_sent}
+use Rattle.x10_place.specs.Stretches.{still, IsUntouched, IsForPlace, IsMade, IsAdvanced}
 use Rattle.x10_place.proofs.Maps.{some_is, none_some}
 use Rattle.x10_place.proofs.Fetching.{IsRefetched, fetched_within}
-use Rattle.x10_place.proofs.Placing.{IsChecked, is_begin, is_close_finish}
+use Rattle.x10_place.proofs.Placing.{IsChecked, is_close_finish}
 use Rattle.x10_place.proofs.Reading.{working_reads}
 use Rattle.x10_place.proofs.Registering.{registered_after}
-use Rattle.x10_place.proofs.Steps.{step_leads, end_leads, wait_leads, begin_leads, waits_by, begins_by}
-use Rattle.x10_place.proofs.Striding.{with_same, seen_after, standing_after, working_at, ready_at, hindered, overfull}
+use Rattle.x10_place.proofs.Steps.{step_leads, wait_leads, waits_by}
+use Rattle.x10_place.proofs.Stretching.{left_unchanged}
+use Rattle.x10_place.proofs.Striding.{with_same, seen_after, standing_after, working_at, hindered, stopped_over, flagged_hindered}
 
 pub untouched : (old : Slab StayState) (s : StoreState) → IsUntouched old s old s
 untouched old s = record { stays = refl; store = refl }
@@ -38,26 +41,6 @@ still_standing v old new s t same standing =
 -- how much room there is for stays changes nothing
 pub plain_updates : {old new : Slab StayState} {key : ℕ} {o : Option StayState} → Updates old new key o → Updates (plain old) new key o
 plain_updates up = record { changed = up.changed; others = up.others }
-
-plain_begins : {program : Module} {old new : Slab StayState} {s t : StoreState} {key : ℕ} → BeginsAt program old s key new t → BeginsAt program (plain old) s key new t
-plain_begins h = record {
-  stay = h.stay;
-  is_there = h.is_there;
-  instr = h.instr;
-  fetched = h.fetched;
-  is_async = h.is_async;
-  next = h.next;
-  goes = h.goes;
-  rest = h.rest;
-  other = h.other;
-  free = h.free;
-  child = h.child;
-  begun = h.begun;
-  now_next = h.now_next;
-  now_child = h.now_child;
-  others = h.others;
-  store = h.store;
-}
 
 module _ (v : Certified) (old : Slab StayState) (s : StoreState) (key : ℕ) (standing : IsStanding (place_of v old s false)) (checks : IsChecked v.program) where
   abbrev place : Bool → PlaceState
@@ -77,21 +60,22 @@ module _ (v : Certified) (old : Slab StayState) (s : StoreState) (key : ℕ) (st
   }
 
   pub advanced_away : (a : StayState) → get old key ≡ Some a → a.away ≡ true → IsAdvanced v old s key (Ok stepped.Idle) old s
-  advanced_away a e is = absurd (let ready = ready_at (place false) key a standing e in let f : true ≡ false = sym is ∙ ready in cc)
+  advanced_away a e is = record {
+    idle = λ stopped h. (refl, untouched old s);
+    only = λ stopped f. away a e is;
+    some = λ stopped b there ready. absurd (let same = some_is a b (sym e ∙ there) in let f : true ≡ false = sym is ∙ ap (λ (c : StayState). c.away) same ∙ ready in cc);
+    refused = λ stopped. tt;
+    same = tt;
+    full = λ stopped limit over. absurd (let same = some_is a over.stay (sym e ∙ over.is_there) in let f : true ≡ false = sym is ∙ ap (λ (c : StayState). c.away) same ∙ over.is_ready in cc);
+    standing = standing;
+    here = refl;
+    places = refl;
+  }
 
-  module _ (a : StayState) (e : get old key ≡ Some a) (i : Instr) (fetched : IsFetchedFor v.program a.top i) where
+  module _ (a : StayState) (e : get old key ≡ Some a) (ready : a.away ≡ false) (i : Instr) (fetched : IsFetchedFor v.program a.top i) where
     -- the instruction at which the stay stands
     instr_is : (j : Instr) → instr_at v.program a.top.function a.top.pc ≡ Some j → j ≡ i
     instr_is j at = some_is j i (sym at ∙ subst (λ o. instr_in o a.top.pc ≡ Some i) (sym fetched.is_function) fetched.is_instr)
-
-    ready : a.away ≡ false
-    ready = ready_at (place false) key a standing e
-
-    -- the place makes a move, to new stays and what it then keeps
-    pub record Led (new : Slab StayState) (t : StoreState) : Type 0 where
-      pub leads : (stopped : Bool) → LeadsAll (place stopped) key stepped.Moved (place_of v new t stopped)
-      pub here : t.here ≡ s.here
-      pub places : t.places ≡ s.places
 
     -- where a step would find nothing to do, the stay waits at the end of a finish
     pub record IsWaiting : Type 0 where
@@ -127,37 +111,33 @@ module _ (v : Certified) (old : Slab StayState) (s : StoreState) (key : ℕ) (st
         subst (λ (j : Instr). Overfills (route_of j.op) (place stopped) a j limit) (instr_is over.instr at) (subst (λ c. Overfills (route_of over.instr.op) (place stopped) c over.instr limit) same over.overfills)
 
     -- of an operation that the stay makes by itself
-    overfills_by : (stopped : Bool) (r : Route) → (r ≢ route.Begin) → (limit : ℕ) → Overfills r (place stopped) a i limit → OverfillsBy r a s i limit
-    overfills_by stopped route.Begin ne limit h = absurd (ne refl)
-    overfills_by stopped (route.Local l) ne limit h = h
-    overfills_by stopped (route.Make k) ne limit h = h
-    overfills_by stopped (route.Site k) ne limit h = h
-    overfills_by stopped route.Export ne limit h = h
-    overfills_by stopped route.Call ne limit h = h
-    overfills_by stopped route.Return ne limit h = h
-    overfills_by stopped route.Print ne limit h = h
-    overfills_by stopped route.OpenFinish ne limit h = h
-    overfills_by stopped route.CloseFinish ne limit h = h
-    overfills_by stopped route.Later ne limit h = h
+    overfills_by : (stopped : Bool) (r : Route) → (r ≢ route.Begin) → (r ≢ route.Send) → (limit : ℕ) → Overfills r (place stopped) a i limit → OverfillsBy r a s i limit
+    overfills_by stopped route.Begin ne off limit h = absurd (ne refl)
+    overfills_by stopped route.Send ne off limit h = absurd (off refl)
+    overfills_by stopped (route.Local l) ne off limit h = h
+    overfills_by stopped (route.Make k) ne off limit h = h
+    overfills_by stopped (route.Site k) ne off limit h = h
+    overfills_by stopped route.Export ne off limit h = h
+    overfills_by stopped route.Call ne off limit h = h
+    overfills_by stopped route.Return ne off limit h = h
+    overfills_by stopped route.Print ne off limit h = h
+    overfills_by stopped route.OpenFinish ne off limit h = h
+    overfills_by stopped route.CloseFinish ne off limit h = h
 
-    -- a step that was made was not one too many
-    not_full : (o : _) (b : StayState) (t : StoreState) (r : Route) → o ≢ outcome.Begins → Steps r (location_of (place false)) a s i o b t → r ≢ route.Begin
-    not_full o b t route.Begin ne steps f = ne steps.0
-    not_full o b t r ne steps f = not_begin r o b t ne f steps
-      where
-        not_begin : (r : Route) (o : _) (b : StayState) (t : StoreState) → o ≢ outcome.Begins → r ≡ route.Begin → Steps r (location_of (place false)) a s i o b t → ⊥
-        not_begin r o b t ne f steps = ne (subst (λ q. Steps q (location_of (place false)) a s i o b t) f steps).0
+    -- a step that the stay made by itself was not one too many
+    not_placed : (o : Outcome) (b : StayState) (t : StoreState) (r : Route) → o ≢ outcome.ForPlace → Steps r (location_of (place false)) a s i o b t → (r ≢ route.Begin) × (r ≢ route.Send)
+    not_placed o b t r ne steps = ((λ f. ne (subst (λ q. Steps q (location_of (place false)) a s i o b t) f steps).0), (λ f. ne (subst (λ q. Steps q (location_of (place false)) a s i o b t) f steps).0))
 
-    none_over : (o : _) (b : StayState) (t : StoreState) → o ≢ outcome.Begins → Steps (route_of i.op) (location_of (place false)) a s i o b t → ((limit : ℕ) → OverfillsBy (route_of i.op) a s i limit → ⊥) → (stopped : Bool) (limit : ℕ) → IsOverfull (place stopped) key limit → ⊥
-    none_over o b t ne steps full stopped limit over = full limit (overfills_by stopped (route_of i.op) (not_full o b t (route_of i.op) ne steps) limit (overfills stopped limit over))
+    none_over : (o : Outcome) (b : StayState) (t : StoreState) → o ≢ outcome.ForPlace → Steps (route_of i.op) (location_of (place false)) a s i o b t → ((limit : ℕ) → OverfillsBy (route_of i.op) a s i limit → ⊥) → (stopped : Bool) (limit : ℕ) → IsOverfull (place stopped) key limit → ⊥
+    none_over o b t ne steps full stopped limit over = let off = not_placed o b t (route_of i.op) ne steps in full limit (overfills_by stopped (route_of i.op) off.0 off.1 limit (overfills stopped limit over))
 
     -- ---- the stay goes on
 
-    pub advanced_goes : (new : Slab StayState) (b : StayState) (t : StoreState) → Steps (route_of i.op) (location_of (place false)) a s i outcome.Goes b t → Updates old new key (Some b) → ((limit : ℕ) → OverfillsBy (route_of i.op) a s i limit → ⊥) → IsAdvanced v old s key (Ok stepped.Moved) new t
+    pub advanced_goes : (new : Slab StayState) (b : StayState) (t : StoreState) → Steps (route_of i.op) (location_of (place false)) a s i outcome.Goes b t → Updates old new key (Some b) → ((limit : ℕ) → OverfillsBy (route_of i.op) a s i limit → ⊥) → IsAdvanced v old s key (Ok (stepped.Moved no_sent)) new t
     advanced_goes new b t steps up full =
-        let here = (registered_after (location_of (place false)) a b s t i (working_at (place false) key a standing e).registered steps).here in
-        let places = (registered_after (location_of (place false)) a b s t i (working_at (place false) key a standing e).registered steps).places in
-        let leads = λ (stopped : Bool). subst (λ q. LeadsAll (place stopped) key stepped.Moved q) (seen_after v old new s t stopped here places) (step_leads (place stopped) key a i e checks fetched new t b steps (plain_updates up)) in
+        let here = (registered_after (location_of (place false)) a b s t i (working_at (place false) key a standing e ready).registered steps).here in
+        let places = (registered_after (location_of (place false)) a b s t i (working_at (place false) key a standing e ready).registered steps).places in
+        let leads = λ (stopped : Bool). subst (λ q. LeadsAll (place stopped) key (stepped.Moved no_sent) q) (seen_after v old new s t stopped here places) (step_leads (place stopped) key a i e checks ready fetched new t b steps (plain_updates up)) in
         record {
           idle = λ stopped h. absurd (goes_on b t (idle_waits stopped h) steps);
           only = λ stopped f. absurd cc;
@@ -165,44 +145,9 @@ module _ (v : Certified) (old : Slab StayState) (s : StoreState) (key : ℕ) (st
           refused = λ stopped. tt;
           same = tt;
           full = λ stopped limit over. absurd (none_over outcome.Goes b t (λ f. absurd cc) steps full stopped limit over);
-          standing = standing_after (place false) (place_of v new t false) key stepped.Moved standing (leads false);
+          standing = standing_after (place false) (place_of v new t false) key (stepped.Moved no_sent) standing (leads false);
           here = here;
           places = places;
-        }
-
-    -- ---- it ends
-
-    ends_here : (r : Route) (b : StayState) (t : StoreState) → Steps r (location_of (place false)) a s i outcome.Ends b t → (t.here ≡ s.here) × (t.places ≡ s.places)
-    ends_here route.Return b t h = (h.store.here, h.store.places_are)
-    ends_here (route.Local l) b t h = absurd (let f = h.0 in cc)
-    ends_here (route.Make k) b t h = absurd (let f = h.0 in cc)
-    ends_here (route.Site k) b t h = absurd (let f = h.0 in cc)
-    ends_here route.Export b t h = absurd (let f = h.0 in cc)
-    ends_here route.Call b t h = absurd (let f = h.0 in cc)
-    ends_here route.Print b t h = absurd (let f = h.0 in cc)
-    ends_here route.OpenFinish b t h = absurd (let f = h.0 in cc)
-    ends_here route.CloseFinish b t h = absurd h
-    ends_here route.Begin b t h = absurd (let f = h.0 in cc)
-    ends_here route.Later b t h = absurd h
-
-    pub ends_led : (new : Slab StayState) (b : StayState) (t : StoreState) → Steps (route_of i.op) (location_of (place false)) a s i outcome.Ends b t → Updates old new key None → Led new t
-    ends_led new b t steps up =
-        let by = ends_here (route_of i.op) b t steps in
-        record { leads = λ stopped. subst (λ q. LeadsAll (place stopped) key stepped.Moved q) (seen_after v old new s t stopped by.0 by.1) (end_leads (place stopped) key a i e checks fetched new t b steps (plain_updates up)); here = by.0; places = by.1 }
-
-    pub advanced_ends : (new : Slab StayState) (b : StayState) (t : StoreState) → Steps (route_of i.op) (location_of (place false)) a s i outcome.Ends b t → Updates old new key None → ((limit : ℕ) → OverfillsBy (route_of i.op) a s i limit → ⊥) → IsAdvanced v old s key (Ok stepped.Moved) new t
-    advanced_ends new b t steps up full =
-        let led = ends_led new b t steps up in
-        record {
-          idle = λ stopped h. absurd (subst (λ o. Steps (route_of o) (location_of (place false)) a s i outcome.Ends b t) (idle_waits stopped h).is_fine steps);
-          only = λ stopped f. absurd cc;
-          some = λ stopped c is on. led.leads stopped;
-          refused = λ stopped. tt;
-          same = tt;
-          full = λ stopped limit over. absurd (none_over outcome.Ends b t (λ f. absurd cc) steps full stopped limit over);
-          standing = standing_after (place false) (place_of v new t false) key stepped.Moved standing (led.leads false);
-          here = led.here;
-          places = led.places;
         }
 
     -- ---- it waits at the end of a finish
@@ -210,7 +155,7 @@ module _ (v : Certified) (old : Slab StayState) (s : StoreState) (key : ℕ) (st
     -- and has changed nothing
     pub waits_here : (new : Slab StayState) (b : StayState) (t : StoreState) → Steps (route_of i.op) (location_of (place false)) a s i outcome.Waits b t → (stopped : Bool) → IsIdleAt (place stopped) key
     waits_here new b t steps stopped =
-        let by = waits_by (place false) key a i e checks fetched (route_of i.op) t b steps in
+        let by = waits_by (place false) key a i e checks ready fetched (route_of i.op) t b steps in
         waits a by.1.number by.1.outer e (i, subst (λ o. instr_in o a.top.pc ≡ Some i) (sym fetched.is_function) fetched.is_instr, is_close_finish i.op by.0) by.1.innermost by.1.waits
 
     pub advanced_waits : (new : Slab StayState) (b : StayState) (t : StoreState) → Steps (route_of i.op) (location_of (place false)) a s i outcome.Waits b t → plain new ≡ plain old → t ≡ s → ((limit : ℕ) → OverfillsBy (route_of i.op) a s i limit → ⊥) → IsAdvanced v old s key (Ok stepped.Idle) new t
@@ -220,7 +165,7 @@ module _ (v : Certified) (old : Slab StayState) (s : StoreState) (key : ℕ) (st
           idle = λ stopped h. (refl, same);
           only = λ stopped f. waits_here new b t steps stopped;
           some = λ stopped c is on. subst (λ (slab : Slab StayState). LeadsAll (place stopped) key stepped.Idle (record (place_of v new t stopped) { stays = slab })) (sym stays)
-              (subst (λ u. LeadsAll (place stopped) key stepped.Idle (place_of v old u stopped)) (sym store) (wait_leads (place stopped) key a i e checks fetched t b steps));
+              (subst (λ u. LeadsAll (place stopped) key stepped.Idle (place_of v old u stopped)) (sym store) (wait_leads (place stopped) key a i e checks ready fetched t b steps));
           refused = λ stopped. tt;
           same = tt;
           full = λ stopped limit over. absurd (none_over outcome.Waits b t (λ f. absurd cc) steps full stopped limit over);
@@ -232,7 +177,7 @@ module _ (v : Certified) (old : Slab StayState) (s : StoreState) (key : ℕ) (st
     -- as the stay leaves it
     pub advanced_left : (b : StayState) (t : StoreState) → Steps (route_of i.op) (location_of (place false)) a s i outcome.Waits b t → ((limit : ℕ) → OverfillsBy (route_of i.op) a s i limit → ⊥) → IsAdvanced v old s key (Ok stepped.Idle) (with_value old key b) t
     advanced_left b t steps full =
-        let by = waits_by (place false) key a i e checks fetched (route_of i.op) t b steps in
+        let by = waits_by (place false) key a i e checks ready fetched (route_of i.op) t b steps in
         advanced_waits (with_value old key b) b t steps (ap plain (ap (with_value old key) by.1.stay ∙ with_same old key a e)) by.1.store full
 
     -- ---- it is refused
@@ -250,7 +195,7 @@ module _ (v : Certified) (old : Slab StayState) (s : StoreState) (key : ℕ) (st
           some = λ stopped c is on. tt;
           refused = λ stopped. hindered (place stopped) key a e ready i fetched why refuses;
           same = same;
-          full = λ stopped limit over. ap Err (full limit (overfills_by stopped (route_of i.op) (not_begin (route_of i.op) refuses) limit (overfills stopped limit over)));
+          full = λ stopped limit over. ap Err (full limit (overfills_by stopped (route_of i.op) (not_begin (route_of i.op) refuses) (not_send (route_of i.op) refuses) limit (overfills stopped limit over)));
           standing = still_standing v old new s t same standing;
           here = ap (λ (u : StoreState). u.here) store;
           places = ap (λ (u : StoreState). u.places) store;
@@ -259,87 +204,63 @@ module _ (v : Certified) (old : Slab StayState) (s : StoreState) (key : ℕ) (st
         not_begin : (r : Route) → Refuses r a s i why → r ≢ route.Begin
         not_begin r h f = subst (λ q. Refuses q a s i why) f h
 
-    -- ---- an activity begins
+        not_send : (r : Route) → Refuses r a s i why → r ≢ route.Send
+        not_send r h f = subst (λ q. Refuses q a s i why) f h
 
-    module _ (is_async : i.op ≡ op.Async) where
+    -- ---- the step is for the place to make
+
+    -- as the stay leaves it
+    module _ (b : StayState) (t : StoreState) (steps : Steps (route_of i.op) (location_of (place false)) a s i outcome.ForPlace b t) where
+      same_stay : (b ≡ a) × (t ≡ s)
+      same_stay = left_unchanged (location_of (place false)) a a b s s t 0 i still (working_at (place false) key a standing e ready).typed.stands.placed fetched (route_of i.op) steps
+
+      handed : (with_value old key b ≡ old) × (t ≡ s)
+      handed = (ap (with_value old key) same_stay.0 ∙ with_same old key a e, same_stay.1)
+
+      here_for : IsForPlace v old s key i
+      here_for = record { standing = standing; stay = a; is_there = e; ready = ready; fetched = fetched; steps = subst (λ c. Steps (route_of i.op) (location_of (place false)) a s i outcome.ForPlace c s) same_stay.0 (subst (λ u. Steps (route_of i.op) (location_of (place false)) a s i outcome.ForPlace b u) same_stay.1 steps) }
+
+      pub for_place : (j : Instr) × IsForPlace v (with_value old key b) t key j
+      for_place = (i, subst (λ (slab : Slab StayState). IsForPlace v slab t key i) (sym handed.0) (subst (λ u. IsForPlace v old u key i) (sym handed.1) here_for))
+
       not_waiting : IsWaiting → ⊥
-      not_waiting w = absurd (let f = sym w.is_fine ∙ is_async in cc)
+      not_waiting w = subst (λ o. Steps (route_of o) (location_of (place false)) a s i outcome.ForPlace b t) w.is_fine steps
 
-      begin_over : (stopped : Bool) (limit : ℕ) → IsOverfull (place stopped) key limit → OverfillsBegin (place false) a limit
-      begin_over stopped limit over = subst (λ o. Overfills (route_of o) (place stopped) a i limit) is_async (overfills stopped limit over)
+      over_again : (stopped : Bool) (limit : ℕ) → IsOverfull (place stopped) key limit → IsOverfull (place_of v (with_value old key b) t false) key limit
+      over_again stopped limit over =
+          subst (λ (slab : Slab StayState). IsOverfull (place_of v slab t false) key limit) (sym handed.0) (subst (λ u. IsOverfull (place_of v old u false) key limit) (sym handed.1) (stopped_over (place stopped) false key limit over))
 
-      pub begins_led : (new : Slab StayState) (t : StoreState) → BeginsAt v.program old s key new t → Led new t
-      begins_led new t begins = record {
-        leads = λ stopped. subst (λ q. LeadsAll (place stopped) key stepped.Moved q) (seen_after v old new s t stopped begins.store.here begins.store.places_are) (begin_leads (place stopped) key new t checks (plain_begins begins));
-        here = begins.store.here;
-        places = begins.store.places_are;
-      }
-
-      pub advanced_begins : (new : Slab StayState) (t : StoreState) → BeginsAt v.program old s key new t → ((limit : ℕ) → OverfillsBegin (place false) a limit → ⊥) → IsAdvanced v old s key (Ok stepped.Moved) new t
-      advanced_begins new t begins full =
-          let led = begins_led new t begins in
+      pub advanced_placed : (new : Slab StayState) (u : StoreState) (sent : Sent) → IsMade v (with_value old key b) t key sent new u → ((limit : ℕ) → IsOverfull (place_of v (with_value old key b) t false) key limit → ⊥) → IsAdvanced v old s key (Ok (stepped.Moved sent)) new u
+      advanced_placed new u sent made full =
+          let here : IsMade v old s key sent new u = subst (λ (slab : Slab StayState). IsMade v slab s key sent new u) handed.0 (subst (λ q. IsMade v (with_value old key b) q key sent new u) handed.1 made) in
           record {
             idle = λ stopped h. absurd (not_waiting (idle_waits stopped h));
             only = λ stopped f. absurd cc;
-            some = λ stopped c is on. led.leads stopped;
+            some = λ stopped c is on. here.leads stopped;
             refused = λ stopped. tt;
             same = tt;
-            full = λ stopped limit over. absurd (full limit (begin_over stopped limit over));
-            standing = standing_after (place false) (place_of v new t false) key stepped.Moved standing (led.leads false);
-            here = led.here;
-            places = led.places;
+            full = λ stopped limit over. absurd (full limit (over_again stopped limit over));
+            standing = standing_after (place false) (place_of v new u false) key (stepped.Moved sent) standing (here.leads false);
+            here = here.here;
+            places = here.places;
           }
 
-      pub begin_hindered : (stopped : Bool) (why : Stop) → RefusesBegin v old s key why → IsHindered (place stopped) key why
-      begin_hindered stopped why (inl memory) = inl memory
-      begin_hindered stopped why (inr h) = inr (
-        h.0,
-        h.1,
-        overfull (place stopped) key a e ready i fetched h.0 (subst (λ o. Overfills (route_of o) (place stopped) a i h.0) (sym is_async) (subst (λ c. OverfillsBegin (place false) c h.0) (some_is h.2 a (sym h.3 ∙ e)) h.4)),
-      )
-
-      pub advanced_hindered : (new : Slab StayState) (t : StoreState) (why : Stop) → IsUntouched old s new t → RefusesBegin v old s key why → ((limit : ℕ) → OverfillsBegin (place false) a limit → why ≡ stop.Limit limit) → IsAdvanced v old s key (Err why) new t
-      advanced_hindered new t why same refuses full = record {
-        idle = λ stopped h. absurd (not_waiting (idle_waits stopped h));
-        only = λ stopped f. absurd cc;
-        some = λ stopped c is on. tt;
-        refused = λ stopped. begin_hindered stopped why refuses;
-        same = same;
-        full = λ stopped limit over. ap Err (full limit (begin_over stopped limit over));
-        standing = still_standing v old new s t same standing;
-        here = ap (λ (u : StoreState). u.here) same.store;
-        places = ap (λ (u : StoreState). u.places) same.store;
-      }
-
-    -- ---- as the stay hands it to its place
-
-    module _ (b : StayState) (t : StoreState) (steps : Steps (route_of i.op) (location_of (place false)) a s i outcome.Begins b t) where
-      handed : (with_value old key b ≡ old) × (t ≡ s) × (i.op ≡ op.Async)
-      handed =
-          let by = begins_by (place false) key a i e checks fetched (route_of i.op) t b steps in
-          (ap (with_value old key) by.1 ∙ with_same old key a e, by.2, is_begin i.op by.0)
-
-      over_there : (limit : ℕ) → OverfillsBegin (place false) a limit → OverfillsBegin (place_of v (with_value old key b) t false) a limit
-      over_there limit over = subst (λ (slab : Slab StayState). OverfillsBegin (place_of v slab t false) a limit) (sym handed.0) (subst (λ q. OverfillsBegin (place_of v old q false) a limit) (sym handed.1) over)
-
-      still_there : get (with_value old key b) key ≡ Some a
-      still_there = ap (λ (slab : Slab StayState). get slab key) handed.0 ∙ e
-
-      -- what the place asks of the stay whose instruction it makes
-      pub can_begin : (c : StayState) × (j : Instr) × (get (with_value old key b) key ≡ Some c) × IsFetchedFor v.program c.top j × (j.op ≡ op.Async)
-      can_begin = (a, i, still_there, fetched, handed.2)
-
-      pub begun_by : (new : Slab StayState) (u : StoreState) → BeginsAt v.program (with_value old key b) t key new u
-          → ((limit : ℕ) (c : StayState) → get (with_value old key b) key ≡ Some c → OverfillsBegin (place_of v (with_value old key b) t false) c limit → ⊥) → IsAdvanced v old s key (Ok stepped.Moved) new u
-      begun_by new u begins full =
-          advanced_begins handed.2 new u (subst (λ (slab : Slab StayState). BeginsAt v.program slab s key new u) handed.0 (subst (λ q. BeginsAt v.program (with_value old key b) q key new u) handed.1 begins))
-          (λ limit over. full limit a still_there (over_there limit over))
-
-      pub hindered_begin : (new : Slab StayState) (u : StoreState) (why : Stop) → IsUntouched (with_value old key b) t new u → RefusesBegin v (with_value old key b) t key why
-          → ((limit : ℕ) (c : StayState) → get (with_value old key b) key ≡ Some c → OverfillsBegin (place_of v (with_value old key b) t false) c limit → why ≡ stop.Limit limit) → IsAdvanced v old s key (Err why) new u
-      hindered_begin new u why same refuses full =
-          advanced_hindered handed.2 new u why (subst (λ (slab : Slab StayState). IsUntouched slab s new u) handed.0 (subst (λ q. IsUntouched (with_value old key b) q new u) handed.1 same))
-          (subst (λ (slab : Slab StayState). RefusesBegin v slab s key why) handed.0 (subst (λ q. RefusesBegin v (with_value old key b) q key why) handed.1 refuses)) (λ limit over. full limit a still_there (over_there limit over))
+      pub hindered_placed : (new : Slab StayState) (u : StoreState) (why : Stop) → IsUntouched (with_value old key b) t new u → IsHindered (place_of v (with_value old key b) t false) key why
+          → ((limit : ℕ) → IsOverfull (place_of v (with_value old key b) t false) key limit → why ≡ stop.Limit limit) → IsAdvanced v old s key (Err why) new u
+      hindered_placed new u why same hinders full =
+          let here : IsUntouched old s new u = subst (λ (slab : Slab StayState). IsUntouched slab s new u) handed.0 (subst (λ q. IsUntouched (with_value old key b) q new u) handed.1 same) in
+          let by : IsHindered (place false) key why = subst (λ (slab : Slab StayState). IsHindered (place_of v slab s false) key why) handed.0 (subst (λ q. IsHindered (place_of v (with_value old key b) q false) key why) handed.1 hinders) in
+          record {
+            idle = λ stopped h. absurd (not_waiting (idle_waits stopped h));
+            only = λ stopped f. absurd cc;
+            some = λ stopped c is on. tt;
+            refused = λ stopped. flagged_hindered (place false) stopped key why by;
+            same = here;
+            full = λ stopped limit over. ap Err (full limit (over_again stopped limit over));
+            standing = still_standing v old new s u here standing;
+            here = ap (λ (q : StoreState). q.here) here.store;
+            places = ap (λ (q : StoreState). q.places) here.store;
+          }
 
 -- the steps of a stay at the place that its place says it is
 pub steps_as : (program : Module) (spot : Spot) (s : StoreState) (a : StayState) (i : Instr) (o p : Outcome) (b : StayState) (t : StoreState) → spot.here ≡ s.here → spot.places ≡ s.places → o ≡ p → Steps (route_of i.op) (location program spot) a s i o b t
@@ -348,11 +269,11 @@ steps_as program spot s a i o p b t here places same steps =
     subst (λ at. Steps (route_of i.op) at a s i p b t) (ap₂ (λ h k. location program (record { here = h; places = k })) here places) (subst (λ q. Steps (route_of i.op) (location program spot) a s i q b t) same steps)
 
 -- the instruction of a stay, as it was fetched
-pub fetched_at : (v : Certified) (old : Slab StayState) (s : StoreState) (key : ℕ) (a : StayState) (f pc : ℕ) (i : Instr) → IsStanding (place_of v old s false) → FitsImage v.program → get old key ≡ Some a → IsRefetched v.program a.top.function a.top.pc f pc i → IsFetchedFor v.program a.top i
-fetched_at v old s key a f pc i standing fits e r = fetched_within v.program a.top.function a.top.pc _ f pc i fits (working_at (place_of v old s false) key a standing e).typed.stands.placed.top r
+pub fetched_at : (v : Certified) (old : Slab StayState) (s : StoreState) (key : ℕ) (a : StayState) (f pc : ℕ) (i : Instr) → IsStanding (place_of v old s false) → FitsImage v.program → get old key ≡ Some a → a.away ≡ false → IsRefetched v.program a.top.function a.top.pc f pc i → IsFetchedFor v.program a.top i
+fetched_at v old s key a f pc i standing fits e ready r = fetched_within v.program a.top.function a.top.pc _ f pc i fits (working_at (place_of v old s false) key a standing e ready).typed.stands.placed.top r
 
 -- what it reads is there
-pub reads_at : (v : Certified) (old : Slab StayState) (s : StoreState) (key : ℕ) (a : StayState) (spot : Spot) (i : Instr) → IsStanding (place_of v old s false) → IsChecked v.program → get old key ≡ Some a → IsFetchedFor v.program a.top i → spot.here ≡ s.here → spot.places ≡ s.places
+pub reads_at : (v : Certified) (old : Slab StayState) (s : StoreState) (key : ℕ) (a : StayState) (spot : Spot) (i : Instr) → IsStanding (place_of v old s false) → IsChecked v.program → get old key ≡ Some a → a.away ≡ false → IsFetchedFor v.program a.top i → spot.here ≡ s.here → spot.places ≡ s.places
     → ReadsStore (route_of i.op) (location v.program spot) a s i
-reads_at v old s key a spot i standing checks e fetched here places =
-    subst (λ at. ReadsStore (route_of i.op) at a s i) (sym (ap₂ (λ h k. location v.program (record { here = h; places = k })) here places)) (working_reads (location_of (place_of v old s false)) s a (working_at (place_of v old s false) key a standing e) checks i fetched)
+reads_at v old s key a spot i standing checks e ready fetched here places =
+    subst (λ at. ReadsStore (route_of i.op) at a s i) (sym (ap₂ (λ h k. location v.program (record { here = h; places = k })) here places)) (working_reads (location_of (place_of v old s false)) s a (working_at (place_of v old s false) key a standing e ready) checks i fetched)

@@ -1,15 +1,17 @@
 -- Steps of a place, as its own functions answer them.
-use Rattle.std.proofs.Common.{◌≡◌, ◌≢◌, ◌⊎◌, ℕ, ◌<◌, Bool, true, false, Option, Some, None, Result, Ok, Err, sym, ap, ap₂, subst, ◌∙◌}
-use Rattle.std.specs.Prelude.{IfOk, MatchOption, is_err, is_some}
+use Rattle.std.proofs.Common.{◌≡◌, ◌≢◌, ◌⊎◌, ℕ, ◌<◌, Bool, true, false, Some, Result, Ok, Err, sym, ap, ap₂, subst, ◌∙◌}
+use Rattle.std.specs.Prelude.{IfOk, MatchResult, is_err}
 use Rattle.slab.specs.Slab.{Slab, get}
 use Rattle.x10_kinds.specs.declared.stop.Stop.{Stop}
 use Rattle.x10_kinds.specs.declared.stop.Stop.TheVariants as stop
 use Rattle.x10_verify.specs.Certified.{Certified}
 use Rattle.x10_place.specs.declared.place.Stepped.{Stepped}
 use Rattle.x10_place.specs.declared.place.Stepped.TheVariants as stepped
+use Rattle.x10_place.specs.declared.sent.Sent.{Sent}
+use Rattle.x10_place.specs.Messages.{no_sent}
 use Rattle.x10_place.specs.Stays.{StayState, StoreState}
 use Rattle.x10_place.specs.StandsFor.{PlaceState, place_of, IsStanding, LeadsAll, IsIdleAt, IsOverfull, IsHindered}
-use Rattle.x10_place.specs.Stretches.{IsUntouched, IsAdvanced, IsRun, Strides, BeginsLast, at_once}
+use Rattle.x10_place.specs.Stretches.{IsUntouched, IsAdvanced, IsRun, Strides, StridesTo, BeginsLast, at_once}
 use Rattle.x10_place.proofs.Striding.{stopped_standing, same_stopped}
 
 -- a place where nothing has changed, whether it has stopped or not
@@ -38,15 +40,17 @@ module _ (v : Certified) (old new : Slab StayState) (s t : StoreState) (key : �
 
   -- ---- steps at a stretch
 
-  pub run_ran : (most n : ℕ) (why : Option Stop) → IsRun v old s key most n why new t → b ≡ false → c ≡ is_some why
-      → MatchOption why (Strides key w n (place_of v new t c)) (λ x. (p : PlaceState) × Strides key w n p × (place_of v new t c ≡ record p { stopped = true }) × (w.stopped ≢ true → IsHindered p key x))
-  run_ran most n None h off flag = subst (λ p. Strides key p n (place_of v new t c)) seen (subst (λ d. Strides key (place_of v old s b) n (place_of v new t d)) (off ∙ sym flag) (h.ran b))
-  run_ran most n (Some x) h off flag = (place_of v new t b, subst (λ p. Strides key p n (place_of v new t b)) seen (h.ran b), ap (λ d. place_of v new t d) flag, (λ on. h.refused b))
+  pub run_ran : (most n : ℕ) (result : Result Sent Stop) → IsRun v old s key most n result new t → b ≡ false → c ≡ is_err result
+      → MatchResult result (λ sent. StridesTo key w n sent (place_of v new t c)) (λ x. (p : PlaceState) × Strides key w n p × (place_of v new t c ≡ record p { stopped = true }) × (w.stopped ≢ true → IsHindered p key x))
+  run_ran most n (Ok sent) h off flag = subst (λ p. StridesTo key p n sent (place_of v new t c)) seen (subst (λ d. StridesTo key (place_of v old s b) n sent (place_of v new t d)) (off ∙ sym flag) (h.ran b))
+  run_ran most n (Err x) h off flag = (place_of v new t b, subst (λ p. Strides key p n (place_of v new t b)) seen (h.ran b), ap (λ d. place_of v new t d) flag, (λ on. h.refused b))
 
-  pub run_all : (most n : ℕ) (why : Option Stop) → IsRun v old s key most n why new t → b ≡ false → c ≡ is_some why → why ≡ None → n < most → IsIdleAt (place_of v new t c) key ⊎ BeginsLast key w n (place_of v new t c)
-  run_all most n why h off flag none less =
-      subst (λ p. IsIdleAt (place_of v new t c) key ⊎ BeginsLast key p n (place_of v new t c)) seen
-      (subst (λ d. IsIdleAt (place_of v new t d) key ⊎ BeginsLast key (place_of v old s b) n (place_of v new t d)) (off ∙ sym (flag ∙ ap is_some none)) (h.all none less b))
+  pub run_all : (most n : ℕ) (result : Result Sent Stop) → IsRun v old s key most n result new t → b ≡ false → c ≡ is_err result
+      → IfOk result (λ sent. n < most → IsIdleAt (place_of v new t c) key ⊎ BeginsLast key w n (place_of v new t c) ⊎ (sent ≢ no_sent))
+  run_all most n (Ok sent) h off flag = λ less.
+      subst (λ p. IsIdleAt (place_of v new t c) key ⊎ BeginsLast key p n (place_of v new t c) ⊎ (sent ≢ no_sent)) seen
+      (subst (λ d. IsIdleAt (place_of v new t d) key ⊎ BeginsLast key (place_of v old s b) n (place_of v new t d) ⊎ (sent ≢ no_sent)) (off ∙ sym flag) (h.all less b))
+  run_all most n (Err x) h off flag = tt
 
 -- a place that had stopped makes no step
 pub run_stopped : (w : PlaceState) (key : ℕ) → w.stopped ≡ true → (p : PlaceState) × Strides key w 0 p × (w ≡ record p { stopped = true }) × (w.stopped ≢ true → IsHindered p key stop.Stopped)

@@ -1,15 +1,18 @@
 -- An activity that begins at a place: the stay that begins it goes on, and what may refuse it.
-use Rattle.std.proofs.Common.{◌≡◌, ℕ, ◌<◌, false, inl, inr, Some, refl, sym, ap, subst, ◌∙◌, arith}
+use Rattle.std.proofs.Common.{◌≡◌, ℕ, ◌<◌, true, false, inl, inr, Some, refl, sym, ap, subst, ◌∙◌, arith}
 use Rattle.std.specs.Prelude.{IsSome}
 use Rattle.slab.specs.Slab.{Slab, get, Updates, with_value}
 use Rattle.slab.proofs.SlabLemmas.{Updates-with_value}
+use Rattle.x10_code.specs.declared.op.Op.{Op}
+use Rattle.x10_code.specs.declared.op.Op.TheVariants as op
 use Rattle.x10_verify.specs.Certified.{Certified}
+use Rattle.x10_place.specs.Parting.{DepartsBy}
 use Rattle.x10_place.specs.declared.frame.CallFrame.{CallFrame}
 use Rattle.x10_place.specs.StandsFor.{place_of, OverfillsBegin}
 use Rattle.x10_place.specs.Stays.{StayState, StoreState, GoesNext, totals_in, innermost_at}
 use Rattle.x10_place.proofs.Maps.{some_is}
 
-abbrev stepped_on : StayState → CallFrame → StayState
+abbrev pub stepped_on : StayState → CallFrame → StayState
 stepped_on a f = record a { top = f }
 
 -- the stay with a key went on, and nothing else changed
@@ -27,3 +30,21 @@ has_room verified slab s key limit vacant live a b is few there counted less e (
     let same : a ≡ b = some_is a b (sym there ∙ e) in
     let at : live ≡ (totals_in s (innermost_at s.here b)).live = counted ∙ ap (λ x. (totals_in s (innermost_at s.here x)).live) same in
     less (omega (arith, at, full))
+
+-- ---- an activity is sent, or goes on elsewhere
+
+-- the stay with a key waits
+pub parts_away : (slab : Slab StayState) (key : ℕ) (a b : StayState) (o : Op) → o ≡ op.At → get slab key ≡ Some a → get slab key ≡ Some b → (c : StayState) × DepartsBy o b c × Updates slab (with_value slab key (record a { away = true })) key (Some c)
+parts_away slab key a b o is there e = (
+  record a { away = true },
+  subst (λ q. DepartsBy q b (record a { away = true })) (sym is) (ap (λ (x : StayState). let y : StayState = record x { away = true } in y) (some_is a b (sym there ∙ e))),
+  Updates-with_value slab key (record a { away = true }) (subst (λ q. IsSome q) (sym there) refl),
+)
+
+departs_on : (o : Op) (a b : StayState) → (o ≡ op.At → ⊥) → GoesNext a.top b.top × (b ≡ record a { top = b.top }) → DepartsBy o a b
+departs_on op.At a b ne h = absurd (ne refl)
+departs_on _ a b ne h = h
+
+-- the stay with a key goes on
+pub parts_on : (slab : Slab StayState) (key : ℕ) (a b : StayState) (o : Op) (f : CallFrame) → (o ≡ op.At → ⊥) → get slab key ≡ Some a → GoesNext a.top f → get slab key ≡ Some b → (c : StayState) × DepartsBy o b c × Updates slab (with_value slab key (stepped_on a f)) key (Some c)
+parts_on slab key a b o f ne there goes e = let on = went_on slab key a b f there goes e in (on.0, departs_on o b on.0 ne (on.1, on.2), on.3)

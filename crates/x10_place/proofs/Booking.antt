@@ -12,7 +12,7 @@ use Rattle.x10_place.proofs.Maps.{some_is, none_some, at_key, off_key, same_or_n
 use Rattle.x10_place.proofs.Recounting.{KeepsBooks}
 
 -- books and numbers as functions; other functions with the same values do as well
-booked_as : (id opened opened' : ℕ) (stays stays' : ℕ → Option Stay) (books books' : ℕ → Option Cut) → AreBooked id stays opened books → stays' ≡ stays → opened' ≡ opened → ((k : ℕ) → books' k ≡ books k) → AreBooked id stays' opened' books'
+pub booked_as : (id opened opened' : ℕ) (stays stays' : ℕ → Option Stay) (books books' : ℕ → Option Cut) → AreBooked id stays opened books → stays' ≡ stays → opened' ≡ opened → ((k : ℕ) → books' k ≡ books k) → AreBooked id stays' opened' books'
 booked_as id opened opened' stays stays' books books' h same e b = record {
   booked = λ k i n s is f. let c = h.booked k i n s (was k s is) f in (c.0, b n ∙ c.1);
   numbered = λ k i n s is f. let c = h.numbered k i n s (was k s is) f in (c.0, subst (λ o. n < o) (sym e) c.1);
@@ -54,7 +54,7 @@ module _ (id opened : ℕ) (stays : ℕ → Option Stay) (books : ℕ → Option
 
   module _ (s t : Stay) (there : stays key ≡ Some s) where
     -- with the same finishes open
-    same : t.finishes ≡ s.finishes → AreBooked id (with_entry stays key (Some t)) opened books
+    pub same : t.finishes ≡ s.finishes → AreBooked id (with_entry stays key (Some t)) opened books
     same e = record {
       booked = λ k i n u is f. let w = was k i n u is f in h.booked k i n w.0 w.1 w.2;
       numbered = λ k i n u is f. let w = was k i n u is f in h.numbered k i n w.0 w.1 w.2;

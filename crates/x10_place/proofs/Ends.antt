@@ -13,7 +13,7 @@ use Rattle.x10_model.specs.Ranges.{function_at, instr_at, instr_in, result_of, r
 use Rattle.x10_model.specs.Values.{Value, Int, Text, Cells, IsOfKind}
 use Rattle.x10_model.specs.Signatures.{FitsSlotAt}
 use Rattle.x10_model.specs.Places as machine
-use Rattle.x10_model.specs.Places.{Setting, Stay, Effect, Works, Ends, with_stay, next, writes}
+use Rattle.x10_model.specs.Places.{Setting, Stay, Message, Effect, Works, Ends, with_stay, next, writes}
 use Rattle.x10_model.specs.Moves.{Situation, Does, GivesBack, SendsBack, Returns, resumed, line_of, with_line}
 use Rattle.x10_model.specs.Assignments.{State, Edges, ReturnsWell, GivesResult, onward, gives, like_if, Permits, Reaches}
 use Rattle.x10_place.specs.declared.frame.CallFrame.{CallFrame}
@@ -24,7 +24,7 @@ use Rattle.x10_place.specs.Frames.{word_at, IsFetchedFor}
 use Rattle.x10_place.specs.declared.line.Line.{Line}
 use Rattle.x10_place.specs.declared.line.Line.TheVariants as line
 use Rattle.x10_place.specs.Stays.{StayState, IsPlaced, GoesNext, Resumes, GoesOn, IsPrinted}
-use Rattle.x10_place.specs.StandsFor.{Far, context, line_as, Assigned, HoldRegisters, StandsForFrame, StandForCallers, IsAtHome, StandsForStay}
+use Rattle.x10_place.specs.StandsFor.{Far, context, line_as, Assigned, HoldRegisters, StandsForFrame, StandForCallers, IsOfRun, StandsForStay}
 use Rattle.x10_place.proofs.Maps.{some_is}
 use Rattle.x10_place.proofs.Words.{reads, reads_int, words_written}
 use Rattle.x10_place.proofs.Homes.{homes_written, result_like}
@@ -93,7 +93,7 @@ slot_of : (classes : ℕ) (o : Option Slot) (slot : Slot) → o ≡ Some slot �
 slot_of classes None slot e h = absurd cc
 slot_of classes (Some t) slot e h = subst (λ u. FitsSlot classes u) (some_is t slot e) h
 
-result_register : (program : Module) (function : Function) (i : Instr) (slot : Slot) → i.op ≡ op.Ret → IsThere program function i (form_of i.op).a i.a → function.result ≡ Some slot → i.a < function.registers
+pub result_register : (program : Module) (function : Function) (i : Instr) (slot : Slot) → i.op ≡ op.Ret → IsThere program function i (form_of i.op).a i.a → function.result ≡ Some slot → i.a < function.registers
 result_register program function i slot e there is =
     let at = subst (λ q. IsThere program function i (form_of q).a i.a) e there in
     let register = subst (λ q. IsResultRegister function (result_for program function i q) i.a) e at in
@@ -115,21 +115,30 @@ module _ (setting : Setting) (here : ℕ) (far : Far) (m : machine.Place) (key :
   gives_back (Some slot) o is well =
       let fit = small setting.program assigned x a.top s.top h.top i fetched in
       let lt = result_register setting.program function i slot o (in_range setting.program assigned x a.top s.top h.top i fetched).a is in
-      let v = fits_word (length setting.program.classes) x m.cells h.top.state s.top.registers a.top.registers.items i.a slot holds (omega (arith, lt, fit.registers.1)) (slot_of (length setting.program.classes) function.result slot is fit.result) h.top.words h.top.homes well in
+      let v = fits_word (length setting.program.classes) x m.cells h.top.state s.top.registers a.top.registers.items i.a slot term.Here here (record { is_term = tt; place_is = refl }) holds (omega (arith, lt, fit.registers.1)) (slot_of (length setting.program.classes) function.result slot is fit.result) h.top.words h.top.homes well in
       (Some v.0, (v.1, v.2), (v.2, v.3))
 
   -- the last function of an activity ends
-  ends_stay : (result : Option Value) (cs : List machine.CallFrame) → s.callers ≡ cs → StandForCallers setting.program assigned x a.callers cs → a.callers ≡ [] → a.finishes ≡ [] → GivesBack sit function.result result → Does op.Ret sit (with_stay m key None) (Ends s.inherited None)
-  ends_stay result [] is callers none closed given = (
+  ends_stay : (result : Option Value) (back : Option Message) (cs : List machine.CallFrame) → s.callers ≡ cs → StandForCallers setting.program assigned x a.callers cs → a.callers ≡ [] → a.finishes ≡ [] → GivesBack sit function.result result → SendsBack sit result a.back back
+      → Does op.Ret sit (with_stay m key None) (Ends s.inherited back)
+  ends_stay result back [] is callers none closed given sends = (
     result,
     given,
-    subst (λ cs. Returns sit cs result (with_stay m key None) (Ends s.inherited None)) (sym is)
-        (None, h.finishes ∙ closed, subst (λ o. SendsBack sit result o None) (sym (h.back ∙ h.home.back)) refl, refl, refl),
+    subst (λ cs. Returns sit cs result (with_stay m key None) (Ends s.inherited back)) (sym is)
+        (back, h.finishes ∙ closed, subst (λ o. SendsBack sit result o back) (sym h.back) sends, refl, refl),
   )
-  ends_stay result (c ∷ cs) is callers none closed given = absurd (not_empty callers.0 callers.1 (sym callers.2 ∙ none))
+  ends_stay result back (c ∷ cs) is callers none closed given sends = absurd (not_empty callers.0 callers.1 (sym callers.2 ∙ none))
 
-  pub ret_ends : (out : Edges) → i.op ≡ op.Ret → Permits op.Ret (point_of setting.program function a.top i) h.top.state out → a.callers ≡ [] → a.finishes ≡ [] → Does op.Ret sit (with_stay m key None) (Ends s.inherited None)
-  ret_ends out o permits none closed = let back = gives_back function.result o refl permits.0 in ends_stay back.0 s.callers refl h.callers none closed back.1
+  -- the result of the last function of a stay, which ends the stay
+  pub record Ending : Type 0 where
+    pub result : Option Value
+    pub given : IsGiven x m.cells function.result result (word_at a.top.registers.items i.a)
+    pub does : (back : Option Message) → SendsBack sit result a.back back → Does op.Ret sit (with_stay m key None) (Ends s.inherited back)
+
+  pub ret_ends : (out : Edges) → i.op ≡ op.Ret → Permits op.Ret (point_of setting.program function a.top i) h.top.state out → a.callers ≡ [] → a.finishes ≡ [] → Ending
+  ret_ends out o permits none closed =
+      let given = gives_back function.result o refl permits.0 in
+      record { result = given.0; given = given.2; does = λ back sends. ends_stay given.0 back s.callers refl h.callers none closed given.1 sends }
 
   -- a called function ends
   resumes_stay : (b : StayState) (placed : IsPlaced setting.program b) (r : Resumes setting.program a i b) (result : Option Value) (cs : List machine.CallFrame) → s.callers ≡ cs → StandForCallers setting.program assigned x a.callers cs → GivesBack sit function.result result → IsGiven x m.cells function.result result (word_at a.top.registers.items i.a)
@@ -158,7 +167,7 @@ module _ (setting : Setting) (here : ℕ) (far : Far) (m : machine.Place) (key :
           inherited = h.inherited ∙ ap (λ (y : StayState). y.inherited) (sym r.rest);
           away = h.away ∙ ap (λ (y : StayState). y.away) (sym r.rest);
           back = h.back ∙ ap (λ (y : StayState). y.back) (sym r.rest);
-          home = subst (λ (y : StayState). IsAtHome here y) (sym r.rest) (record { inherited = h.home.inherited; away = h.home.away; back = h.home.back });
+          run = subst (λ (y : StayState). IsOfRun setting.places y) (sym r.rest) (record { inherited = h.run.inherited; back = h.run.back });
         },
       )
 

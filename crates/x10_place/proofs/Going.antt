@@ -24,7 +24,7 @@ use Rattle.x10_place.specs.Frames.{space_of, IsFetchedFor, Acts}
 use Rattle.x10_place.specs.Routes.{route_of}
 use Rattle.x10_place.specs.declared.stay.Outcome.TheVariants as outcome
 use Rattle.x10_place.specs.Stays.{StayState, StoreState, Location, books_in, GoesNext, IsPlaced, Prints, OpensFinish, ClosesFinish, Steps}
-use Rattle.x10_place.specs.StandsFor.{Far, context, line_as, Assigned, StandsForFrame, StandForCallers, IsAtHome, StandsForStay, HoldsExports, IsWithinPlaces, IsCountedBy, IsTyped, IsTypedFrame}
+use Rattle.x10_place.specs.StandsFor.{Far, context, line_as, Assigned, StandsForFrame, StandForCallers, IsOfRun, StandsForStay, HoldsExports, IsWithinPlaces, IsCountedBy, IsTyped, IsTypedFrame}
 use Rattle.x10_place.proofs.Framed.{point_of, rule}
 use Rattle.x10_place.proofs.Growing.{callers_kept}
 use Rattle.x10_place.proofs.Local.{situated, Done, local_moves}
@@ -32,7 +32,7 @@ use Rattle.x10_place.proofs.Made.{make_moves, put_moves, rset_moves}
 use Rattle.x10_place.proofs.Sited.{site_moves, export_moves}
 use Rattle.x10_place.proofs.Calls.{call_moves}
 use Rattle.x10_place.proofs.Ends.{ret_resumes, print_moves, next_stands}
-use Rattle.x10_place.proofs.Recounting.{Unopened, same_count, heap_alone, works_count, opens_count, closes_count, KeepsBooks, works_books}
+use Rattle.x10_place.proofs.Recounting.{Unopened, same_count, heap_alone, works_count, opens_count, closes_count, KeepsBooks, works_books, IsSilent, silent_works, silent_opens, silent_closes}
 use Rattle.x10_place.proofs.Placing.{IsChecked, is_export, is_call, is_return, is_print, is_open_finish, is_close_finish, steps_placed}
 
 one_more : (lines : List Line) (l : Line) → map line_as (lines ++ l ∷ []) ≡ map line_as lines ++ line_as l ∷ []
@@ -79,6 +79,7 @@ module _ (setting : Setting) (here : ℕ) (far : Far) (m : machine.Place) (key :
     pub counted : Unopened st → IsCountedBy st effect t
     pub booked : KeepsBooks effect st t
     pub works : (number : ℕ) → effect ≡ Waits number → ⊥
+    pub silent : IsSilent effect
 
   -- the stay with another frame at the top
   with_top : (b : StayState) (new : HeapState) (top : machine.CallFrame) → Grows x (y new) → IsPlaced setting.program b → StandsForFrame setting.program assigned (y new) b.top top → b ≡ record a { top = b.top } → StandsForStay setting.program assigned (y new) b (record s { top = top })
@@ -90,7 +91,7 @@ module _ (setting : Setting) (here : ℕ) (far : Far) (m : machine.Place) (key :
     inherited = h.inherited ∙ ap (λ (q : StayState). q.inherited) (sym rest);
     away = h.away ∙ ap (λ (q : StayState). q.away) (sym rest);
     back = h.back ∙ ap (λ (q : StayState). q.back) (sym rest);
-    home = subst (λ (q : StayState). IsAtHome here q) (sym rest) (record { inherited = h.home.inherited; away = h.home.away; back = h.home.back });
+    run = subst (λ (q : StayState). IsOfRun setting.places q) (sym rest) (record { inherited = h.run.inherited; back = h.run.back });
   }
 
   abbrev states : ℕ → Option State
@@ -117,6 +118,7 @@ module _ (setting : Setting) (here : ℕ) (far : Far) (m : machine.Place) (key :
       counted = λ none. works_count st t (heap_alone st t store);
       booked = works_books st t (heap_alone st t store);
       works = λ n e. absurd cc;
+      silent = silent_works;
     }
 
     -- nothing but the stay
@@ -136,6 +138,7 @@ module _ (setting : Setting) (here : ℕ) (far : Far) (m : machine.Place) (key :
       counted = λ none. works_count st st (same_count st);
       booked = works_books st st (same_count st);
       works = λ n e. absurd cc;
+      silent = silent_works;
     })
 
     printed : i.op ≡ op.Print → Prints setting.program a st i b t → Goes op.Print b t
@@ -156,6 +159,7 @@ module _ (setting : Setting) (here : ℕ) (far : Far) (m : machine.Place) (key :
           counted = λ none. works_count st (record st { lines = st.lines ++ prints.printed ∷ [] }) (record { here = refl; places = refl; ledger = refl; books = refl; opened = refl });
           booked = works_books st (record st { lines = st.lines ++ prints.printed ∷ [] }) (record { here = refl; places = refl; ledger = refl; books = refl; opened = refl });
           works = λ n e. absurd cc;
+          silent = silent_works;
         })
 
     -- the stay goes on to the next instruction with other finishes open, and the heap is as it was
@@ -168,7 +172,7 @@ module _ (setting : Setting) (here : ℕ) (far : Far) (m : machine.Place) (key :
       inherited = h.inherited ∙ ap (λ (q : StayState). q.inherited) (sym rest);
       away = h.away ∙ ap (λ (q : StayState). q.away) (sym rest);
       back = h.back ∙ ap (λ (q : StayState). q.back) (sym rest);
-      home = subst (λ (q : StayState). IsAtHome here q) (sym rest) (record { inherited = h.home.inherited; away = h.home.away; back = h.home.back });
+      run = subst (λ (q : StayState). IsOfRun setting.places q) (sym rest) (record { inherited = h.run.inherited; back = h.run.back });
     })
 
     heap_holds : t.heap ≡ st.heap → HoldsHeap (y t.heap) m.cells
@@ -199,6 +203,7 @@ module _ (setting : Setting) (here : ℕ) (far : Far) (m : machine.Place) (key :
           counted = λ none. subst (λ n. IsCountedBy st (Opens n (innermost here s)) t) (sym opened_is) (opens_count st t (innermost here s) none r);
           booked = (opened_is, r.opened_is, (λ k. r.books_are k ∙ ap (λ n. with_entry (books_in st) n (Some (λ p. zeros)) k) (sym opened_is)));
           works = λ n f. absurd cc;
+          silent = silent_opens m.opened (innermost here s);
         }
 
     closes_one : i.op ≡ op.Fine → ClosesFinish a st b t → Goes op.Fine b t
@@ -218,6 +223,7 @@ module _ (setting : Setting) (here : ℕ) (far : Far) (m : machine.Place) (key :
           counted = λ none. closes_count st t made.number made.done r;
           booked = (r.opened_is, r.books_are);
           works = λ n f. absurd cc;
+          silent = silent_closes made.number;
         }
 
     goes_at : (o : Op) → i.op ≡ o → Goes o b t → Goes i.op b t
@@ -241,7 +247,7 @@ module _ (setting : Setting) (here : ℕ) (far : Far) (m : machine.Place) (key :
     by_route route.OpenFinish image e (on, made) = goes_at op.Finb (is_open_finish i.op e) (opens (is_open_finish i.op e) made)
     by_route route.CloseFinish image e made = goes_at op.Fine (is_close_finish i.op e) (closes_one (is_close_finish i.op e) made)
     by_route route.Begin image e steps = absurd (let f = steps.0 in cc)
-    by_route route.Later image e steps = absurd steps
+    by_route route.Send image e steps = absurd (let f = steps.0 in cc)
 
   pub stay_goes : IsChecked setting.program → (b : StayState) (t : StoreState) → Steps (route_of i.op) (record { program = setting.program; here = here; places = setting.places }) a st i outcome.Goes b t → Goes i.op b t
   stay_goes checks b t steps =

@@ -11,7 +11,7 @@ use Rattle.x10_heap.proofs.Growing.{Grows, word_kept}
 use Rattle.x10_place.specs.declared.frame.CallFrame.{CallFrame}
 use Rattle.x10_place.specs.Homes.{AreHomes}
 use Rattle.x10_place.specs.Stays.{StayState}
-use Rattle.x10_place.specs.StandsFor.{Assigned, HoldRegisters, StandsForFrame, StandForCallers, IsAtHome, StandsForStay, HoldsExports}
+use Rattle.x10_place.specs.StandsFor.{Assigned, HoldRegisters, StandsForFrame, StandForCallers, IsOfRun, StandsForStay, HoldsExports}
 
 module _ (x y : Context) (grows : Grows x y) where
   pub registers_kept : (s : State) (registers : ℕ → Option Value) (words : List ℕ) → HoldRegisters x s registers words → HoldRegisters y s registers words
@@ -45,7 +45,7 @@ module _ (x y : Context) (grows : Grows x y) where
       inherited = h.inherited;
       away = h.away;
       back = h.back;
-      home = subst (λ n. IsAtHome n a) (sym grows.here) h.home;
+      run = subst (λ n. IsOfRun n a) (sym grows.places) h.run;
     }
 
 -- the exports are as they were, and so are the classes of the objects that they name

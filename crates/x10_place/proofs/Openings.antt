@@ -1,5 +1,5 @@
 -- Places at the beginning, and which keys are in use.
-use Rattle.std.proofs.Common.{◌≡◌, ℕ, ◌+◌, ◌≤◌, ◌==◌, Bool, true, false, cond, List, [], ◌∷◌, length, map, Option, Some, None, refl, sym, ap, ap₂, subst, ◌∙◌, inl, inr, arith}
+use Rattle.std.proofs.Common.{◌≡◌, ℕ, ◌+◌, ◌<◌, ◌≤◌, ◌^◌, ◌==◌, Bool, true, false, cond, List, [], ◌∷◌, length, map, Option, Some, None, refl, sym, ap, ap₂, subst, ◌∙◌, inl, inr, arith}
 use Rattle.std.specs.Prelude.{◌&&◌, if◌then◌else◌, IsSome, slice_get, slice_index, slice_index_or}
 use Rattle.std.proofs.lemmas.Bool.{ne_eqb}
 use Rattle.slab.specs.Slab.{Slab, get}
@@ -53,8 +53,8 @@ main_placed program a fits main =
     }
 
 -- main's words stand for main's stay
-main_stands : (program : Module) (assigned : Assigned program) (x : Context) (cells : Cells) (a : StayState) → FitsImage program → IsMain program a → x.here ≡ 0 → StandsForStay program assigned x a (new_stay program.entry [] root None)
-main_stands program assigned x cells a fits main first =
+main_stands : (program : Module) (assigned : Assigned program) (x : Context) (cells : Cells) (a : StayState) → FitsImage program → IsMain program a → x.here ≡ 0 → 0 < x.places → StandsForStay program assigned x a (new_stay program.entry [] root None)
+main_stands program assigned x cells a fits main first within =
     let start = (assigned a.top.function main.function main.is_function).1.consistent.entry in
     record {
       placed = main_placed program a fits main;
@@ -76,7 +76,7 @@ main_stands program assigned x cells a fits main first =
       inherited = sym main.inherited;
       away = sym main.away;
       back = sym main.back;
-      home = record { inherited = ap (λ (f : Finish). f.home) main.inherited ∙ sym first; away = main.away; back = main.back };
+      run = record { inherited = subst (λ (f : Finish). (f.home < x.places) × (f.number < 2 ^ 32)) (sym main.inherited) (within, omega arith); back = λ origin e. absurd (let none = main.back in cc) };
     }
 
 -- ---- places
@@ -115,9 +115,10 @@ nothing_lives id f totals ne e = ap (λ (t : Totals). t.live) e ∙ by (same_fin
 
 module _ (far : Far) (p : PlaceState) where
   -- a place with main alone stands for the first place of the machine
-  pub first_stands : (key : ℕ) (a : StayState) → p.id ≡ 0 → IsFresh p → IsMain p.program a → HoldsOnly p.stays key a → StandsFor far p (first_place (setting_of p) key)
-  first_stands key a zero_is fresh main only = record {
+  pub first_stands : (key : ℕ) (a : StayState) → key < 2 ^ 32 → p.id ≡ 0 → IsFresh p → IsMain p.program a → HoldsOnly p.stays key a → StandsFor far p (first_place (setting_of p) key)
+  first_stands key a few zero_is fresh main only = record {
     assigned = fresh.assigned;
+    keys = λ k le. only.others k (λ same. absurd (omega (arith, few, le, same)));
     none = λ k e. elim (same_or_not k key) [
       | inl same ↦ absurd (none_some (get p.stays k) a e (subst (λ q. get p.stays q ≡ Some a) (sym same) only.here))
       | inr ne ↦ off_key (λ (q : ℕ). None) key (Some first) k ne
@@ -127,7 +128,7 @@ module _ (far : Far) (p : PlaceState) where
         first,
         subst (λ q. with_entry (λ (n : ℕ). None) key (Some first) q ≡ Some first) (sym same) (at_key (λ (n : ℕ). None) key (Some first)),
         subst (λ x. StandsForStay p.program fresh.assigned (context_of far p) x first) (some_is a b (sym (subst (λ q. get p.stays q ≡ Some a) (sym same) only.here) ∙ e))
-            (main_stands p.program fresh.assigned (context_of far p) (λ r. None) a fresh.fits main zero_is),
+            (main_stands p.program fresh.assigned (context_of far p) (λ r. None) a fresh.fits main zero_is (let lt = fresh.site.within in omega (arith, lt))),
       )
       | inr ne ↦ absurd (none_some (get p.stays k) b (only.others k ne) e)
     ];
@@ -147,6 +148,7 @@ module _ (far : Far) (p : PlaceState) where
   pub empty_stands : (p.id == 0) ≡ false → IsFresh p → ((k : ℕ) → get p.stays k ≡ None) → StandsFor far p (empty_place 0)
   empty_stands ne fresh none = record {
     assigned = fresh.assigned;
+    keys = λ k le. none k;
     none = λ k e. refl;
     some = λ k b e. absurd (none_some (get p.stays k) b (none k) e);
     site = fresh.site;
@@ -172,11 +174,11 @@ fresh v slab s id places fits assigned site new = record {
   store = subst (λ n. IsNewStore n s.places s) (sym new.here) (subst (λ n. IsNewStore id n s) (sym new.places_is) new);
 }
 
-pub opened_first : (p : PlaceState) (slab : Slab StayState) → IsFresh p → p.stays ≡ plain slab → (key : ℕ) × (a : StayState) × IsMain p.program a × HoldsOnly slab key a → p.id ≡ 0 → Opens p
+pub opened_first : (p : PlaceState) (slab : Slab StayState) → IsFresh p → p.stays ≡ plain slab → (key : ℕ) × (a : StayState) × IsMain p.program a × HoldsOnly slab key a × (key < 2 ^ 32) → p.id ≡ 0 → Opens p
 opened_first p slab fresh is main e = (
   main.0,
   (λ far. subst (λ id. StandsFor far p (opening_place (setting_of p) main.0 id)) (sym e)
-      (first_stands far p main.0 main.1 e fresh main.2 (subst (λ s. HoldsOnly s main.0 main.1) (sym is) (record { here = main.3.here; others = main.3.others })))),
+      (first_stands far p main.0 main.1 main.4 e fresh main.2 (subst (λ s. HoldsOnly s main.0 main.1) (sym is) (record { here = main.3.here; others = main.3.others })))),
 )
 
 pub opened_empty : (p : PlaceState) (slab : Slab StayState) → IsFresh p → p.stays ≡ plain slab → slab.slots ≡ [] → (p.id ≡ 0 → ⊥) → Opens p

@@ -1,5 +1,5 @@
 -- Each stay stands where it can go on, with as many finishes open as its frames stand in: what keeps that.
-use Rattle.std.proofs.Common.{◌≡◌, ◌≢◌, ℕ, ◌+◌, ◌<◌, ◌≤◌, true, List, [], ◌∷◌, ◌++◌, length, Option, Some, None, refl, sym, ap, ap₂, subst, ◌∙◌, arith}
+use Rattle.std.proofs.Common.{◌≡◌, ◌≢◌, ℕ, ◌+◌, ◌<◌, ◌≤◌, true, List, [], ◌∷◌, ◌++◌, length, Option, Some, None, refl, sym, ap, ap₂, subst, ◌∙◌, ◌⊎◌, inl, inr, arith}
 use Rattle.std.proofs.Math.ListN.{length-set}
 use Rattle.x10_code.specs.declared.op.Op.{Op}
 use Rattle.x10_code.specs.declared.op.Op.TheVariants as op
@@ -55,6 +55,11 @@ is_close_finish _ e = absurd cc
 pub is_begin : (o : Op) → route_of o ≡ route.Begin → o ≡ op.Async
 is_begin op.Async e = refl
 is_begin _ e = absurd cc
+
+pub is_send : (o : Op) → route_of o ≡ route.Send → (o ≡ op.At) ⊎ (o ≡ op.Ata)
+is_send op.At e = inl refl
+is_send op.Ata e = inr refl
+is_send _ e = absurd cc
 
 -- the routes of operations that leave as many finishes open
 abbrev pub stays_in : Route → Type 0
@@ -253,13 +258,14 @@ some_open program checks a i placed fetched is = first a.finishes (let n = open_
     first [] e = absurd (omega (arith, e))
     first (n ∷ ns) e = (n, ns, refl)
 
--- the parent goes on, and the activity that it begins stands at its first instruction
-pub next_placed : (program : Module) (checks : IsChecked program) (a b : StayState) (i : Instr) → IsPlaced program a → IsFetchedFor program a.top i → i.op ≡ op.Async → GoesNext a.top b.top → b ≡ record a { top = b.top } → IsPlaced program b
-next_placed program checks a b i placed fetched is goes rest =
-    let next = fetched.next (λ e. absurd (let f = sym is ∙ e in cc)) in
+-- a stay that goes on to the next instruction, with as many finishes open
+pub next_placed : (program : Module) (checks : IsChecked program) (a b : StayState) (i : Instr) (r : Route) → IsPlaced program a → IsFetchedFor program a.top i → route_of i.op ≡ r → stays_in r → i.op ≢ op.Ret → GoesNext a.top b.top → b ≡ record a { top = b.top } → IsPlaced program b
+next_placed program checks a b i r placed fetched is in_as_many ne goes rest =
+    let next = fetched.next ne in
     same_function program a b placed (inside_next program a.top b.top (fetched_inside program a.top i fetched (omega (arith, next))) next goes) goes.function_is
-    (open_onward program checks a.top i fetched b.top goes.function_is goes.pc_is (λ e. absurd (let f = sym is ∙ e in cc)) (λ e. absurd (let f = sym is ∙ e in cc))) (ap (λ (x : StayState). x.callers) rest) (ap (λ (x : StayState). x.finishes) rest)
+    (open_onward program checks a.top i fetched b.top goes.function_is goes.pc_is (not_finb i.op r is in_as_many) (not_fine i.op r is in_as_many)) (ap (λ (x : StayState). x.callers) rest) (ap (λ (x : StayState). x.finishes) rest)
 
+-- the activity that it begins stands at its first instruction
 pub begun_placed : (program : Module) (words : List ℕ) (i : Instr) (under : Finish) (c : StayState) → FitsImage program → IsBegun program words i under c → IsPlaced program c
 begun_placed program words i under c fits h =
     let e = h.entered in
@@ -302,7 +308,7 @@ module _ (at : Location) (checks : IsChecked at.program) (a b : StayState) (s t 
   placed_by route.OpenFinish e h = opened_placed at.program checks a b s t i placed fetched (is_open_finish i.op e) h.1
   placed_by route.CloseFinish e h = closed_placed at.program checks a b s t i placed fetched (is_close_finish i.op e) h
   placed_by route.Begin e h = absurd (let f = h.0 in cc)
-  placed_by route.Later e h = absurd h
+  placed_by route.Send e h = absurd (let f = h.0 in cc)
 
   -- a stay that goes on stands where it can go on
   pub steps_placed : Steps (route_of i.op) at a s i outcome.Goes b t → IsPlaced at.program b

@@ -187,11 +187,11 @@ module _ (at : Location) (s : StoreState) (a : StayState) (w : IsWorking at s a)
   by_route route.Export e = export_reads at.program t.assigned x refl t.cells t.holds t.site.few a.top t.stay.top t.stands.top i fetched e
   by_route route.Print e = prints_there at.program t.assigned x refl t.cells t.holds t.site.few a.top t.stay.top t.stands.top i fetched
   by_route route.Call e = tt
-  by_route route.Return e = w.registered.live
+  by_route route.Return e = tt
   by_route route.OpenFinish e = tt
   by_route route.CloseFinish e = has_finish (is_close_finish i.op e)
   by_route route.Begin e = tt
-  by_route route.Later e = tt
+  by_route route.Send e = tt
 
   pub working_reads : ReadsStore (route_of i.op) at a s i
   working_reads = by_route (route_of i.op) refl

@@ -1,13 +1,16 @@
 -- What moves change of what a place counts and keeps of finishes.
-use Rattle.std.proofs.Common.{◌≡◌, ℕ, ◌+◌, ◌-◌, ◌≤◌, ◌==◌, ◌&&◌, Bool, true, false, not, Some, None, refl, sym, ap, ap₂, subst, ◌∙◌, inl, inr, arith}
+use Rattle.std.proofs.Common.{◌≡◌, ℕ, ◌+◌, ◌≤◌, ◌==◌, Bool, true, false, Option, Some, None, refl, sym, ap, ap₂, subst, ◌∙◌, inl, inr, arith}
 use Rattle.std.specs.Prelude.{if◌then◌else◌}
 use Rattle.std.proofs.lemmas.Bool.{eqb-true, eq-eqb}
 use Rattle.x10_model.specs.Maps.{with_entry}
-use Rattle.x10_model.specs.Places.{Finish, Effect, Waits, Works, Begins, Opens, Closes, Ends}
-use Rattle.x10_model.specs.Totals.{Totals, nothing, zeros, begins_one, ends_one, is_last}
-use Rattle.x10_model.specs.Worlds.{same_finish}
+use Rattle.x10_model.specs.Modules.{Module}
+use Rattle.x10_model.specs.Places.{Finish, Message, Effect, Waits, Works, Begins, Spawns, Shifts, Opens, Closes, Ends, receiver}
+use Rattle.x10_model.specs.Totals.{Totals, nothing, zeros, begins_one, ends_one, sends_to, Did, is_reported}
+use Rattle.x10_model.specs.Worlds.{same_finish, sent}
+use Rattle.x10_heap.specs.Words.{Context}
 use Rattle.x10_finish.specs.Watching.{closes}
 use Rattle.x10_place.specs.Stays.{StoreState, totals_in, books_in, finish_at, kept_in, changed_at, IsDoneHere, Recounts}
+use Rattle.x10_place.specs.Messages.{PutsOut, no_sent}
 use Rattle.x10_place.specs.StandsFor.{IsCountedBy}
 use Rattle.x10_place.proofs.Maps.{at_key, off_key, same_or_not}
 
@@ -39,12 +42,10 @@ works_count s t h = record {
   totals = λ f c. totals_same s t h f;
   kept = λ n c. ap kept_in (books_same s t h n);
   done = λ n e. absurd cc;
-  silent = refl;
-  unreported = λ f. refl;
 }
 
 pub waits_count : (s : StoreState) (number : ℕ) → IsCountedBy s (Waits number) s
-waits_count s number = record { here = refl; places = refl; totals = λ f c. refl; kept = λ n c. refl; done = λ n e. absurd cc; silent = refl; unreported = λ f. refl }
+waits_count s number = record { here = refl; places = refl; totals = λ f c. refl; kept = λ n c. refl; done = λ n e. absurd cc }
 
 same_self : (n : ℕ) → (n == n) ≡ true
 same_self n = eq-eqb n n refl
@@ -60,8 +61,6 @@ opens_count s t inside unopened h = record {
     | inr ne ↦ ap kept_in (off_key (books_in s) s.opened (Some (λ p. zeros)) n ne)
   ];
   done = λ n e. absurd cc;
-  silent = refl;
-  unreported = λ f. refl;
 }
 
 pub if_false : {A : Type 0} (b : Bool) (x y : A) → b ≡ false → (if b then x else y) ≡ y
@@ -87,8 +86,6 @@ closes_count s t number done h = record {
   kept = λ n c. ap kept_in (h.books_are n ∙ off_key (books_in s) number None n (other_number s.here n number c));
   done = λ n e. let same : number ≡ n = cc in subst (λ k. IsDoneHere s k × (totals_in t (finish_at s.here k) ≡ nothing)) same
       (done, h.totals_are (finish_at s.here number) ∙ if_true (same_finish (finish_at s.here number) (finish_at s.here number)) nothing (totals_in s (finish_at s.here number)) (itself_closed s.here number));
-  silent = refl;
-  unreported = λ f. refl;
 }
 
 pub begins_count : (s t : StoreState) (key function : ℕ) (under : Finish) → Recounts s t s.opened (changed_at (totals_in s) under begins_one) (books_in s) → IsCountedBy s (Begins key function under) t
@@ -98,33 +95,56 @@ begins_count s t key function under h = record {
   totals = λ f c. h.totals_are f;
   kept = λ n c. ap kept_in (h.books_are n);
   done = λ n e. absurd cc;
-  silent = refl;
-  unreported = λ f. refl;
 }
 
--- no report goes to this place itself
-none_home : (here : ℕ) (f under : Finish) (t : Totals) → under.home ≡ here → (b : Bool) → same_finish f under ≡ b → (b && is_last f.home here t) ≡ false
-none_home here f under t home false e = refl
-none_home here f under t home true e = at_home (f.home == here) (t.live - 1 == 0) (eq-eqb f.home here (first (f.home == under.home) (f.number == under.number) refl e ∙ home))
-  where
-    first : (b c : Bool) → (f.home == under.home) ≡ b → (if b then c else false) ≡ true → f.home ≡ under.home
-    first true c is e = eqb-true f.home under.home is
-    first false c is e = absurd cc
-
-    at_home : (b c : Bool) → b ≡ true → (not b && c) ≡ false
-    at_home true c e = refl
-    at_home false c e = absurd cc
-
-pub ends_count : (s t : StoreState) (under : Finish) → under.home ≡ s.here → Recounts s t s.opened (changed_at (totals_in s) under ends_one) (books_in s) → IsCountedBy s (Ends under None) t
-ends_count s t under home h = record {
+pub ends_count : (s t : StoreState) (under : Finish) (back : Option Message) → Recounts s t s.opened (changed_at (totals_in s) under ends_one) (books_in s) → IsCountedBy s (Ends under back) t
+ends_count s t under back h = record {
   here = h.here;
   places = h.places_are;
   totals = λ f c. h.totals_are f;
   kept = λ n c. ap kept_in (h.books_are n);
   done = λ n e. absurd cc;
-  silent = refl;
-  unreported = λ f. none_home s.here f under (totals_in s f) home (same_finish f under) refl;
 }
+
+pub spawns_count : (s t : StoreState) (message : Message) (function : ℕ) (under : Finish) → Recounts s t s.opened (changed_at (totals_in s) under (λ u. sends_to u (receiver message))) (books_in s) → IsCountedBy s (Spawns message function under) t
+spawns_count s t message function under h = record {
+  here = h.here;
+  places = h.places_are;
+  totals = λ f c. h.totals_are f;
+  kept = λ n c. ap kept_in (h.books_are n);
+  done = λ n e. absurd cc;
+}
+
+pub shifts_count : (s t : StoreState) (message : Message) (under : Finish) → Recounts s t s.opened (changed_at (totals_in s) under (λ u. sends_to u (receiver message))) (books_in s) → IsCountedBy s (Shifts message under) t
+shifts_count s t message under h = record {
+  here = h.here;
+  places = h.places_are;
+  totals = λ f c. h.totals_are f;
+  kept = λ n c. ap kept_in (h.books_are n);
+  done = λ n e. absurd cc;
+}
+
+-- ---- what is put out
+
+-- a move with the effect puts out nothing
+pub record IsSilent (effect : Effect) : Type 0 where
+  pub sends : sent effect ≡ None
+  pub reports : (here : ℕ) (f : Finish) (t : Totals) → is_reported here f t (Did effect) ≡ false
+
+pub silent_works : IsSilent Works
+silent_works = record { sends = refl; reports = λ here f t. refl }
+
+pub silent_begins : (key function : ℕ) (under : Finish) → IsSilent (Begins key function under)
+silent_begins key function under = record { sends = refl; reports = λ here f t. refl }
+
+pub silent_opens : (number : ℕ) (inside : Finish) → IsSilent (Opens number inside)
+silent_opens number inside = record { sends = refl; reports = λ here f t. refl }
+
+pub silent_closes : (number : ℕ) → IsSilent (Closes number)
+silent_closes number = record { sends = refl; reports = λ here f t. refl }
+
+pub puts_nothing : (program : Module) (x : Context) (s : StoreState) (effect : Effect) → IsSilent effect → PutsOut program x s effect no_sent
+puts_nothing program x s effect h = record { message = h.sends; report = λ f. h.reports s.here f (totals_in s f) }
 
 -- ---- books
 
@@ -161,4 +181,4 @@ closed_none s t _ h f e = absurd cc
 
 -- the same, where place and number of places are written as they were
 pub counted_in : (s t : StoreState) (effect : Effect) → IsCountedBy s effect t → IsCountedBy s effect (record t { here = s.here; places = s.places })
-counted_in s t effect h = record { here = refl; places = refl; totals = h.totals; kept = h.kept; done = h.done; silent = h.silent; unreported = h.unreported }
+counted_in s t effect h = record { here = refl; places = refl; totals = h.totals; kept = h.kept; done = h.done }

@@ -111,7 +111,7 @@ registered_by route.Print at a b s t i h steps =
 registered_by route.OpenFinish at a b s t i h steps = opened_registered at s t a b h steps.1
 registered_by route.CloseFinish at a b s t i h steps = closed_registered at s t a b h steps
 registered_by route.Begin at a b s t i h steps = absurd (let f = steps.0 in cc)
-registered_by route.Later at a b s t i h steps = absurd steps
+registered_by route.Send at a b s t i h steps = absurd (let f = steps.0 in cc)
 
 pub registered_after : (at : Location) (a b : StayState) (s t : StoreState) (i : Instr) → IsRegistered at s a → Steps (route_of i.op) at a s i outcome.Goes b t → IsRegistered at t b
 registered_after at a b s t i h steps = registered_by (route_of i.op) at a b s t i h steps

@@ -1,5 +1,5 @@
 -- Steps of one stay at a stretch.
-use Rattle.std.proofs.Common.{◌≡◌, ℕ, ◌+◌, refl, sym, ap, subst, arith}
+use Rattle.std.proofs.Common.{◌≡◌, ℕ, ◌+◌, false, refl, sym, ap, subst, ◌∙◌, arith}
 use Rattle.x10_kinds.specs.declared.stop.Stop.{Stop}
 use Rattle.x10_code.specs.declared.instr.Instr.{Instr}
 use Rattle.x10_heap.specs.Heaps.{HeapState}
@@ -13,7 +13,7 @@ use Rattle.x10_place.specs.declared.stay.Pause.TheVariants as pause
 use Rattle.x10_place.specs.Frames.{Workspace, space_of, with_space, IsFetchedFor}
 use Rattle.x10_place.specs.Routes.{route_of}
 use Rattle.x10_place.specs.Stays.{StayState, StoreState, Location, IsPlaced, Refuses, Steps}
-use Rattle.x10_place.specs.Stretches.{IsLocalStep, Locally, none, more, Stretch, still, further, EndsStretch, IsStopped, IsStep, Paused}
+use Rattle.x10_place.specs.Stretches.{IsLocalStep, Locally, none, more, Stretch, still, further, IsStopped, IsStep, Paused}
 use Rattle.x10_place.specs.StandsFor.{IsWorking}
 use Rattle.x10_place.proofs.Going.{typed_after}
 use Rattle.x10_place.proofs.Placing.{IsChecked}
@@ -28,9 +28,23 @@ stay_at a w = record a { top = with_space a.top w }
 abbrev pub store_at : StoreState → Workspace → StoreState
 store_at s w = record s { heap = w.heap }
 
+-- a stay that goes on isn't away
+ready_after : (r : Route) (at : Location) (a b : StayState) (s t : StoreState) (i : Instr) → a.away ≡ false → Steps r at a s i outcome.Goes b t → b.away ≡ false
+ready_after (route.Local l) at a b s t i ready steps = ap (λ (x : StayState). x.away) steps.1.rest ∙ ready
+ready_after (route.Make k) at a b s t i ready steps = ap (λ (x : StayState). x.away) steps.1.rest ∙ ready
+ready_after (route.Site k) at a b s t i ready steps = ap (λ (x : StayState). x.away) steps.1.rest ∙ ready
+ready_after route.Export at a b s t i ready steps = ap (λ (x : StayState). x.away) steps.1.rest ∙ ready
+ready_after route.Call at a b s t i ready steps = ap (λ (x : StayState). x.away) steps.1.rest ∙ ready
+ready_after route.Return at a b s t i ready steps = ap (λ (x : StayState). x.away) steps.0.rest ∙ ready
+ready_after route.Print at a b s t i ready steps = ap (λ (x : StayState). x.away) steps.1.rest ∙ ready
+ready_after route.OpenFinish at a b s t i ready steps = ap (λ (x : StayState). x.away) steps.1.rest ∙ ready
+ready_after route.CloseFinish at a b s t i ready steps = ap (λ (x : StayState). x.away) steps.rest ∙ ready
+ready_after route.Begin at a b s t i ready steps = absurd (let f = steps.0 in cc)
+ready_after route.Send at a b s t i ready steps = absurd (let f = steps.0 in cc)
+
 -- a stay that has made a step and goes on can make further ones
 pub working_after : (at : Location) (a b : StayState) (s t : StoreState) (i : Instr) → IsChecked at.program → IsWorking at s a → IsFetchedFor at.program a.top i → Steps (route_of i.op) at a s i outcome.Goes b t → IsWorking at t b
-working_after at a b s t i checks w fetched steps = record { typed = typed_after at a b s t i checks w.registered.here w.typed fetched steps; registered = registered_after at a b s t i w.registered steps }
+working_after at a b s t i checks w fetched steps = record { ready = ready_after (route_of i.op) at a b s t i w.ready steps; typed = typed_after at a b s t i checks w.registered.here w.typed fetched steps; registered = registered_after at a b s t i w.registered steps }
 
 steps_by : (at : Location) (a b : StayState) (s t : StoreState) (i : Instr) (l : _) → route_of i.op ≡ route.Local l → Steps (route.Local l) at a s i outcome.Goes b t → Steps (route_of i.op) at a s i outcome.Goes b t
 steps_by at a b s t i l e h = subst (λ r. Steps r at a s i outcome.Goes b t) (sym e) h
@@ -77,22 +91,11 @@ stretch_on at a b s t m far n c u (still) = subst (λ k. Stretch at a s k b t) (
 stretch_on at a b s t m far n c u (further k d e v w near step) =
     subst (λ j. Stretch at a s j c u) (omega arith) (further (m + k) d c v u (stretch_on at a b s t m far k d v near) step)
 
-pub ends_on : (at : Location) (a b c : StayState) (s t u : StoreState) (m n : ℕ) → Stretch at a s m b t → EndsStretch at b t n c u → EndsStretch at a s (m + n) c u
-ends_on at a b c s t u m n far near = record {
-  before = m + near.before;
-  count = omega (arith, near.count);
-  last = near.last;
-  kept = near.kept;
-  stretch = stretch_on at a b s t m far near.before near.last near.kept near.stretch;
-  ends = near.ends;
-}
-
 pub paused_on : (p : Pause) (at : Location) (a b c : StayState) (s t u : StoreState) (m n k : ℕ) → m + n ≡ k → Stretch at a s m b t → Paused p at b t n c u → Paused p at a s k c u
 paused_on pause.Goes at a b c s t u m n k e far near = subst (λ j. Stretch at a s j c u) e (stretch_on at a b s t m far n c u near)
 paused_on (pause.Refused why) at a b c s t u m n k e far near = (subst (λ j. Stretch at a s j c u) e (stretch_on at a b s t m far n c u near.0), near.1)
-paused_on pause.Ended at a b c s t u m n k e far near = subst (λ j. EndsStretch at a s j c u) e (ends_on at a b c s t u m n far near)
 paused_on pause.Waits at a b c s t u m n k e far near = (subst (λ j. Stretch at a s j c u) e (stretch_on at a b s t m far n c u near.0), near.1)
-paused_on pause.Begins at a b c s t u m n k e far near = (subst (λ j. Stretch at a s j c u) e (stretch_on at a b s t m far n c u near.0), near.1)
+paused_on pause.ForPlace at a b c s t u m n k e far near = (subst (λ j. Stretch at a s j c u) e (stretch_on at a b s t m far n c u near.0), near.1)
 
 -- a refused step has changed nothing
 pub unchanged : (at : Location) (a b c : StayState) (s t u : StoreState) (n : ℕ) → Stretch at a s n b t → c ≡ b → u ≡ t → Stretch at a s n c u
@@ -115,9 +118,6 @@ module _ (at : Location) (a b c : StayState) (s t u : StoreState) (n : ℕ) (i :
   pub further_by : (o : Outcome) → Steps (route_of i.op) at b t i o c u → o ≡ outcome.Goes → Stretch at a s (n + 1) c u
   further_by o steps e = further n b c t u far (step_is o outcome.Goes e steps)
 
-  pub ended_by : (o : Outcome) → Steps (route_of i.op) at b t i o c u → o ≡ outcome.Ends → EndsStretch at a s (n + 1) c u
-  ended_by o steps e = record { before = n; count = refl; last = b; kept = t; stretch = far; ends = step_is o outcome.Ends e steps }
-
   -- a step that waits, or that the place has to make, has changed nothing
   waits_unchanged : (r : Route) → Steps r at b t i outcome.Waits c u → (c ≡ b) × (u ≡ t)
   waits_unchanged route.CloseFinish steps = (steps.stay, steps.store)
@@ -130,20 +130,20 @@ module _ (at : Location) (a b c : StayState) (s t u : StoreState) (n : ℕ) (i :
   waits_unchanged route.OpenFinish steps = absurd (let f = steps.0 in cc)
   waits_unchanged route.Return steps = absurd steps
   waits_unchanged route.Begin steps = absurd (let f = steps.0 in cc)
-  waits_unchanged route.Later steps = absurd steps
+  waits_unchanged route.Send steps = absurd (let f = steps.0 in cc)
 
-  begins_unchanged : (r : Route) → Steps r at b t i outcome.Begins c u → (c ≡ b) × (u ≡ t)
-  begins_unchanged route.Begin steps = (steps.1, steps.2)
-  begins_unchanged (route.Local l) steps = absurd (let f = steps.0 in cc)
-  begins_unchanged (route.Make k) steps = absurd (let f = steps.0 in cc)
-  begins_unchanged (route.Site k) steps = absurd (let f = steps.0 in cc)
-  begins_unchanged route.Export steps = absurd (let f = steps.0 in cc)
-  begins_unchanged route.Call steps = absurd (let f = steps.0 in cc)
-  begins_unchanged route.Print steps = absurd (let f = steps.0 in cc)
-  begins_unchanged route.OpenFinish steps = absurd (let f = steps.0 in cc)
-  begins_unchanged route.CloseFinish steps = absurd steps
-  begins_unchanged route.Return steps = absurd steps
-  begins_unchanged route.Later steps = absurd steps
+  pub left_unchanged : (r : Route) → Steps r at b t i outcome.ForPlace c u → (c ≡ b) × (u ≡ t)
+  left_unchanged route.Begin steps = (steps.1, steps.2)
+  left_unchanged route.Send steps = (steps.1, steps.2)
+  left_unchanged route.Return steps = (steps.1, steps.2)
+  left_unchanged (route.Local l) steps = absurd (let f = steps.0 in cc)
+  left_unchanged (route.Make k) steps = absurd (let f = steps.0 in cc)
+  left_unchanged (route.Site k) steps = absurd (let f = steps.0 in cc)
+  left_unchanged route.Export steps = absurd (let f = steps.0 in cc)
+  left_unchanged route.Call steps = absurd (let f = steps.0 in cc)
+  left_unchanged route.Print steps = absurd (let f = steps.0 in cc)
+  left_unchanged route.OpenFinish steps = absurd (let f = steps.0 in cc)
+  left_unchanged route.CloseFinish steps = absurd steps
 
   stays_there : (p : Outcome) → (c ≡ b) × (u ≡ t) → IsStep at b t p c u → Stretch at a s n c u × IsStep at c u p c u
   stays_there p same step = (subst (λ d. Stretch at a s n d u) (sym same.0) (subst (λ v. Stretch at a s n b v) (sym same.1) far), subst (λ d. IsStep at d u p c u) (sym same.0) (subst (λ v. IsStep at b v p c u) (sym same.1) step))
@@ -151,5 +151,5 @@ module _ (at : Location) (a b c : StayState) (s t u : StoreState) (n : ℕ) (i :
   pub waits_there : (o : Outcome) → Steps (route_of i.op) at b t i o c u → o ≡ outcome.Waits → Paused pause.Waits at a s n c u
   waits_there o steps e = stays_there outcome.Waits (waits_unchanged (route_of i.op) (subst (λ q. Steps (route_of i.op) at b t i q c u) e steps)) (step_is o outcome.Waits e steps)
 
-  pub begins_there : (o : Outcome) → Steps (route_of i.op) at b t i o c u → o ≡ outcome.Begins → Paused pause.Begins at a s n c u
-  begins_there o steps e = stays_there outcome.Begins (begins_unchanged (route_of i.op) (subst (λ q. Steps (route_of i.op) at b t i q c u) e steps)) (step_is o outcome.Begins e steps)
+  pub left_there : (o : Outcome) → Steps (route_of i.op) at b t i o c u → o ≡ outcome.ForPlace → Paused pause.ForPlace at a s n c u
+  left_there o steps e = stays_there outcome.ForPlace (left_unchanged (route_of i.op) (subst (λ q. Steps (route_of i.op) at b t i q c u) e steps)) (step_is o outcome.ForPlace e steps)

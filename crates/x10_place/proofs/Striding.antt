@@ -1,5 +1,5 @@
 -- Steps of a stay are steps of its place, and a place stands for some place of the machine after each of them.
-use Rattle.std.proofs.Common.{◌≡◌, ℕ, zero, suc, Bool, true, false, List, [], ◌∷◌, Option, Some, None, refl, sym, ap, ap₂, subst, ◌∙◌, inl, inr, arith}
+use Rattle.std.proofs.Common.{◌≡◌, ◌⊎◌, ℕ, zero, suc, Bool, true, false, List, [], ◌∷◌, Option, Some, None, refl, sym, ap, ap₂, subst, ◌∙◌, inl, inr, arith}
 use Rattle.std.specs.Prelude.{slice_index_or, slice_set}
 use Rattle.slab.specs.Slab.{Slab, get, Updates, with_value}
 use Rattle.x10_code.specs.declared.instr.Instr.{Instr}
@@ -13,14 +13,17 @@ use Rattle.x10_place.specs.Frames.{IsFetchedFor}
 use Rattle.x10_place.specs.Routes.{route_of}
 use Rattle.x10_place.specs.declared.place.Stepped.{Stepped}
 use Rattle.x10_place.specs.declared.place.Stepped.TheVariants as stepped
+use Rattle.x10_place.specs.declared.sent.Sent.{Sent}
+use Rattle.x10_place.specs.Messages.{no_sent}
+use Rattle.x10_place.specs.Sending.{slots_sent, words_sent, Overloads}
 use Rattle.x10_place.specs.declared.route.Route.{Route}
 use Rattle.x10_place.specs.declared.route.Route.TheVariants as route
 use Rattle.x10_place.specs.declared.route.Make.{Make}
 use Rattle.x10_place.specs.declared.route.Make.TheVariants as make
 use Rattle.x10_place.specs.declared.stay.Outcome.TheVariants as outcome
 use Rattle.x10_place.specs.Stays.{StayState, StoreState, Location, OverfillsBy, Refuses}
-use Rattle.x10_place.specs.StandsFor.{location_of, Far, IsWorking, Overfills, IsOverfull, IsStepLimit, IsHindered, PlaceState, place_of, plain, store_of, with_stays, StandsFor, IsStanding, LeadsAll}
-use Rattle.x10_place.specs.Stretches.{IsStep, Stretch, still, further, IsStride, Strides, at_once, onward}
+use Rattle.x10_place.specs.StandsFor.{location_of, Far, IsWorking, Overfills, IsOverfull, IsOverloaded, IsStepLimit, IsHindered, PlaceState, place_of, plain, store_of, with_stays, StandsFor, IsStanding, LeadsAll}
+use Rattle.x10_place.specs.Stretches.{IsStep, Stretch, still, further, IsStride, Strides, at_once, onward, StridesTo, nowhere, finally}
 use Rattle.x10_place.proofs.Maps.{none_some}
 use Rattle.x10_place.proofs.Placing.{IsChecked}
 use Rattle.x10_place.proofs.Registering.{registered_at}
@@ -59,10 +62,10 @@ seen_after v old new s t stopped here places = ap₂ (λ h k. place_of v new (re
 same_store : (v : Certified) (old new : Slab StayState) (s t : StoreState) (stopped : Bool) → t.here ≡ s.here → t.places ≡ s.places → store_of (with_stays (place_of v old s stopped) new t) ≡ t
 same_store v old new s t stopped here places = ap₂ (λ h k. record t { here = h; places = k }) (sym here) (sym places)
 
-a_stride : (p : PlaceState) (key : ℕ) (a b : StayState) (slab : Slab StayState) (t : StoreState) → IsChecked p.program → get p.stays key ≡ Some a → IsStep (location_of p) a (store_of p) outcome.Goes b t → Updates p.stays slab key (Some b) → IsStride key p (with_stays p slab t)
-a_stride p key a b slab t checks e step up = record {
+a_stride : (p : PlaceState) (key : ℕ) (a b : StayState) (slab : Slab StayState) (t : StoreState) → IsChecked p.program → get p.stays key ≡ Some a → a.away ≡ false → IsStep (location_of p) a (store_of p) outcome.Goes b t → Updates p.stays slab key (Some b) → IsStride key p no_sent (with_stays p slab t)
+a_stride p key a b slab t checks e ready step up = record {
   there = (a, e);
-  leads = step_leads p key a step.instr e checks step.fetched slab t b step.steps up;
+  leads = step_leads p key a step.instr e checks ready step.fetched slab t b step.steps up;
   kept = record { program = refl; bounds = refl; id = refl; places = refl };
   stopped = refl;
 }
@@ -86,7 +89,7 @@ module _ (v : Certified) (old : Slab StayState) (s : StoreState) (stopped : Bool
       let so_far = with_one c before in
       let seen = same_store v old (with_value old key c) s before stopped r.1.registered.here r.1.registered.places in (
         onward k so_far (with_one d after) r.0
-            (a_stride so_far key c d (with_value old key d) after checks ((written old key a c e).changed) (subst (λ u. IsStep at c u outcome.Goes d after) (sym seen) step) (plain_rewritten old key a c d e)),
+            (a_stride so_far key c d (with_value old key d) after checks ((written old key a c e).changed) r.1.ready (subst (λ u. IsStep at c u outcome.Goes d after) (sym seen) step) (plain_rewritten old key a c d e)),
         working_after at c d before after step.instr checks r.1 step.fetched step.steps,
       )
 
@@ -117,11 +120,20 @@ standing_after p q key answer s leads = let led = leads any s.0 s.1 in (led.new,
 
 pub strides_standing : (p : PlaceState) (key n : ℕ) (q : PlaceState) → IsStanding p → Strides key p n q → IsStanding q
 strides_standing p key n q s (at_once) = s
-strides_standing p key n q s (onward k r t far stride) = standing_after r q key stepped.Moved (strides_standing p key k r s far) stride.leads
+strides_standing p key n q s (onward k r t far stride) = standing_after r q key (stepped.Moved no_sent) (strides_standing p key k r s far) stride.leads
+
+pub to_standing : (p : PlaceState) (key n : ℕ) (sent : Sent) (q : PlaceState) → IsStanding p → StridesTo key p n sent q → IsStanding q
+to_standing p key n sent q s (nowhere) = s
+to_standing p key n sent q s (finally k r out t far stride) = standing_after r q key (stepped.Moved out) (strides_standing p key k r s far) stride.leads
+
+-- steps of which each puts out nothing
+pub silent_to : (p : PlaceState) (key n : ℕ) (q : PlaceState) → Strides key p n q → StridesTo key p n no_sent q
+silent_to p key n q (at_once) = nowhere
+silent_to p key n q (onward k r t far stride) = finally k r no_sent t far stride
 
 -- whether the place has stopped is nothing to the machine
 pub stopped_stands : (far : Far) (p : PlaceState) (m : machine.Place) (b : Bool) → StandsFor far p m → StandsFor far (record p { stopped = b }) m
-stopped_stands far p m b s = record { assigned = s.assigned; none = s.none; some = s.some; site = s.site; heap = s.heap; exports = s.exports; opened = s.opened; lines = s.lines; tallied = s.tallied; booked = s.booked }
+stopped_stands far p m b s = record { assigned = s.assigned; none = s.none; keys = s.keys; some = s.some; site = s.site; heap = s.heap; exports = s.exports; opened = s.opened; lines = s.lines; tallied = s.tallied; booked = s.booked }
 
 pub stopped_standing : (p : PlaceState) (b : Bool) → IsStanding p → IsStanding (record p { stopped = b })
 stopped_standing p b s = (s.0, stopped_stands any p s.0 b s.1)
@@ -130,19 +142,16 @@ stopped_standing p b s = (s.0, stopped_stands any p s.0 b s.1)
 pub same_stopped : (p : PlaceState) → p.stopped ≡ true → p ≡ record p { stopped = true }
 same_stopped p e = ap (λ b. record p { stopped = b }) e
 
--- ---- each stay can make steps
+-- ---- each stay that isn't away can make steps
 
-pub working_at : (p : PlaceState) (key : ℕ) (a : StayState) → IsStanding p → get p.stays key ≡ Some a → IsWorking (location_of p) (store_of p) a
-working_at p key a s e =
+pub working_at : (p : PlaceState) (key : ℕ) (a : StayState) → IsStanding p → get p.stays key ≡ Some a → a.away ≡ false → IsWorking (location_of p) (store_of p) a
+working_at p key a s e ready =
     let found = s.1.some key a e in
     record {
+      ready = ready;
       typed = record { assigned = s.1.assigned; site = s.1.site; named = s.1.exports.named; far = any; stay = found.0; stands = found.2; cells = s.0.cells; holds = s.1.heap };
       registered = registered_at any p s.0 key a s.1 e;
     }
-
--- and nobody is away
-pub ready_at : (p : PlaceState) (key : ℕ) (a : StayState) → IsStanding p → get p.stays key ≡ Some a → a.away ≡ false
-ready_at p key a s e = (s.1.some key a e).2.home.away
 
 -- ---- refusals
 
@@ -157,7 +166,7 @@ overfull_by route.Return p a i limit h = h
 overfull_by route.Print p a i limit h = h
 overfull_by route.OpenFinish p a i limit h = h
 overfull_by route.CloseFinish p a i limit h = h
-overfull_by route.Later p a i limit h = h
+overfull_by route.Send p a i limit h = absurd h
 
 module _ (p : PlaceState) (key : ℕ) (b : StayState) (there : get p.stays key ≡ Some b) (ready : b.away ≡ false) (i : Instr) (fetched : IsFetchedFor p.program b.top i) where
   pub overfull : (limit : ℕ) → Overfills (route_of i.op) p b i limit → IsOverfull p key limit
@@ -168,11 +177,11 @@ module _ (p : PlaceState) (key : ℕ) (b : StayState) (there : get p.stays key �
 
   hindered_by : (r : Route) (why : Stop) → route_of i.op ≡ r → Refuses r b (store_of p) i why → IsHindered p key why
   hindered_by (route.Make m) why e (inl memory) = inl memory
-  hindered_by (route.Make m) why e (inr limit) = inr (limit.0, limit.1, overfull_at (route.Make m) e limit.0 limit.2)
+  hindered_by (route.Make m) why e (inr limit) = inr (limit.0, limit.1, inl (overfull_at (route.Make m) e limit.0 limit.2))
   hindered_by route.Export why e (inl memory) = inl memory
-  hindered_by route.Export why e (inr limit) = inr (limit.0, limit.1, overfull_at route.Export e limit.0 (limit.2, limit.3))
+  hindered_by route.Export why e (inr limit) = inr (limit.0, limit.1, inl (overfull_at route.Export e limit.0 (limit.2, limit.3)))
   hindered_by route.OpenFinish why e (inl memory) = inl memory
-  hindered_by route.OpenFinish why e (inr limit) = inr (5, limit.0, overfull_at route.OpenFinish e 5 (refl, limit.1))
+  hindered_by route.OpenFinish why e (inr limit) = inr (5, limit.0, inl (overfull_at route.OpenFinish e 5 (refl, limit.1)))
   hindered_by route.Call why e memory = inl memory
   hindered_by route.Print why e memory = inl memory
   hindered_by (route.Site k) why e h = absurd h
@@ -180,52 +189,64 @@ module _ (p : PlaceState) (key : ℕ) (b : StayState) (there : get p.stays key �
   hindered_by route.Return why e h = absurd h
   hindered_by route.CloseFinish why e h = absurd h
   hindered_by route.Begin why e h = absurd h
-  hindered_by route.Later why e h = absurd h
+  hindered_by route.Send why e h = absurd h
 
   -- why a step at a place is refused
   pub hindered : (why : Stop) → Refuses (route_of i.op) b (store_of p) i why → IsHindered p key why
   hindered why refuses = hindered_by (route_of i.op) why refl refuses
 
 limits_made : (m : Make) (heap : HeapState) (words : List ℕ) (i : Instr) (limit : ℕ) → frames.Overfills m heap words i limit → IsStepLimit limit
-limits_made make.Text heap words i limit h = inl (omega (arith, h.0), omega (arith, h.0))
-limits_made make.JoinedText heap words i limit h = inl (omega (arith, h.0), omega (arith, h.0))
-limits_made make.Object heap words i limit h = inl (omega (arith, h.0), omega (arith, h.0))
-limits_made make.Rail heap words i limit h = inl (omega (arith, h.0), omega (arith, h.0))
+limits_made make.Text heap words i limit h = (omega (arith, h.0), omega (arith, h.0))
+limits_made make.JoinedText heap words i limit h = (omega (arith, h.0), omega (arith, h.0))
+limits_made make.Object heap words i limit h = (omega (arith, h.0), omega (arith, h.0))
+limits_made make.Rail heap words i limit h = (omega (arith, h.0), omega (arith, h.0))
 
 limits_by : (r : Route) (p : PlaceState) (a : StayState) (i : Instr) (limit : ℕ) → Overfills r p a i limit → IsStepLimit limit
 limits_by (route.Make m) p a i limit h = limits_made m p.heap a.top.registers.items i limit h
-limits_by route.Export p a i limit h = inl (omega (arith, h.0), omega (arith, h.0))
-limits_by route.OpenFinish p a i limit h = inl (omega (arith, h.0), omega (arith, h.0))
-limits_by route.Begin p a i limit (inl key) = inr key.0
-limits_by route.Begin p a i limit (inr live) = inl (let e = live.0 in omega (arith, e), let e = live.0 in omega (arith, e))
+limits_by route.Export p a i limit h = (omega (arith, h.0), omega (arith, h.0))
+limits_by route.OpenFinish p a i limit h = (omega (arith, h.0), omega (arith, h.0))
+limits_by route.Begin p a i limit (inl key) = (let e = key.0 in omega (arith, e), let e = key.0 in omega (arith, e))
+limits_by route.Begin p a i limit (inr live) = (let e = live.0 in omega (arith, e), let e = live.0 in omega (arith, e))
 limits_by (route.Site k) p a i limit h = absurd h
 limits_by (route.Local l) p a i limit h = absurd h
 limits_by route.Call p a i limit h = absurd h
 limits_by route.Return p a i limit h = absurd h
 limits_by route.Print p a i limit h = absurd h
 limits_by route.CloseFinish p a i limit h = absurd h
-limits_by route.Later p a i limit h = absurd h
+limits_by route.Send p a i limit h = (omega (arith, h.0), omega (arith, h.0))
 
 -- which limits a step may pass
-pub limits : (p : PlaceState) (key limit : ℕ) → IsOverfull p key limit → IsStepLimit limit
-limits p key limit h = limits_by (route_of h.instr.op) p h.stay h.instr limit h.overfills
+pub limits : (p : PlaceState) (key limit : ℕ) → IsOverfull p key limit ⊎ IsOverloaded p key limit → IsStepLimit limit
+limits p key limit (inl h) = limits_by (route_of h.instr.op) p h.stay h.instr limit h.overfills
+limits p key limit (inr h) = overloaded (h.overloads)
+  where
+    overloaded : Overloads p.program.classes p.heap (slots_sent (route_of h.instr.op) p.program h.stay h.instr) (words_sent (route_of h.instr.op) (slots_sent (route_of h.instr.op) p.program h.stay h.instr) h.stay h.instr) limit → IsStepLimit limit
+    overloaded (inl seven) = (let e = seven.0 in omega (arith, e), let e = seven.0 in omega (arith, e))
+    overloaded (inr (inl eight)) = (let e = eight.0 in omega (arith, e), let e = eight.0 in omega (arith, e))
+    overloaded (inr (inr nine)) = (let e = nine.0 in omega (arith, e), let e = nine.0 in omega (arith, e))
 
 -- whether a place has stopped is nothing to what a step would make
-stopped_overfills : (r : Route) (p : PlaceState) (a : StayState) (i : Instr) (limit : ℕ) → Overfills r p a i limit → Overfills r (record p { stopped = true }) a i limit
-stopped_overfills route.Begin p a i limit h = h
-stopped_overfills (route.Make m) p a i limit h = h
-stopped_overfills route.Export p a i limit h = h
-stopped_overfills route.OpenFinish p a i limit h = h
-stopped_overfills (route.Site k) p a i limit h = absurd h
-stopped_overfills (route.Local l) p a i limit h = absurd h
-stopped_overfills route.Call p a i limit h = absurd h
-stopped_overfills route.Return p a i limit h = absurd h
-stopped_overfills route.Print p a i limit h = absurd h
-stopped_overfills route.CloseFinish p a i limit h = absurd h
-stopped_overfills route.Later p a i limit h = absurd h
+flagged_overfills : (r : Route) (p : PlaceState) (b : Bool) (a : StayState) (i : Instr) (limit : ℕ) → Overfills r p a i limit → Overfills r (record p { stopped = b }) a i limit
+flagged_overfills route.Begin p b a i limit h = h
+flagged_overfills route.Send p b a i limit h = h
+flagged_overfills (route.Make m) p b a i limit h = h
+flagged_overfills route.Export p b a i limit h = h
+flagged_overfills route.OpenFinish p b a i limit h = h
+flagged_overfills (route.Site k) p b a i limit h = absurd h
+flagged_overfills (route.Local l) p b a i limit h = absurd h
+flagged_overfills route.Call p b a i limit h = absurd h
+flagged_overfills route.Return p b a i limit h = absurd h
+flagged_overfills route.Print p b a i limit h = absurd h
+flagged_overfills route.CloseFinish p b a i limit h = absurd h
+
+pub stopped_over : (p : PlaceState) (b : Bool) (key limit : ℕ) → IsOverfull p key limit → IsOverfull (record p { stopped = b }) key limit
+stopped_over p b key limit h = record { stay = h.stay; is_there = h.is_there; is_ready = h.is_ready; instr = h.instr; instr_is = h.instr_is; overfills = flagged_overfills (route_of h.instr.op) p b h.stay h.instr limit h.overfills }
+
+pub flagged_hindered : (p : PlaceState) (b : Bool) (key : ℕ) (why : Stop) → IsHindered p key why → IsHindered (record p { stopped = b }) key why
+flagged_hindered p b key why (inl memory) = inl memory
+flagged_hindered p b key why (inr (limit, is, inl h)) = inr (limit, is, inl (stopped_over p b key limit h))
+flagged_hindered p b key why (inr (limit, is, inr h)) =
+    inr (limit, is, inr (record { stay = h.stay; is_there = h.is_there; is_ready = h.is_ready; instr = h.instr; instr_is = h.instr_is; sends = h.sends; overloads = h.overloads }))
 
 pub stopped_hindered : (p : PlaceState) (key : ℕ) (why : Stop) → IsHindered p key why → IsHindered (record p { stopped = true }) key why
-stopped_hindered p key why (inl memory) = inl memory
-stopped_hindered p key why (inr limit) =
-    let h = limit.2 in
-    inr (limit.0, limit.1, record { stay = h.stay; is_there = h.is_there; is_ready = h.is_ready; instr = h.instr; instr_is = h.instr_is; overfills = stopped_overfills (route_of h.instr.op) p h.stay h.instr limit.0 h.overfills })
+stopped_hindered p key why h = flagged_hindered p true key why h

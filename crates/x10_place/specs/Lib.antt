@@ -2,6 +2,11 @@ pub mod Routes
 pub mod Homes
 pub mod Frames
 pub mod Stays
+pub mod Messages
+pub mod Sending
 pub mod StandsFor
+pub mod Receiving
+pub mod Parting
 pub mod Stretches
 pub mod Opening
+pub mod Arrivals

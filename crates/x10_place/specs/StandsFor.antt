@@ -13,9 +13,8 @@ use Rattle.x10_model.specs.Moves.{Moves}
 use Rattle.x10_model.specs.Ranges.{function_at, instr_at}
 use Rattle.x10_model.specs.Assignments.{State}
 use Rattle.x10_model.specs.Places as machine
-use Rattle.x10_model.specs.Places.{Setting, Finish, Effect, Waits, Closes, Stay, Number, Words}
-use Rattle.x10_model.specs.Totals.{Cut, nothing, Did, totals_after, is_reported}
-use Rattle.x10_model.specs.Worlds.{sent}
+use Rattle.x10_model.specs.Places.{Setting, Finish, Origin, Effect, Waits, Closes, Stay, Number, Words}
+use Rattle.x10_model.specs.Totals.{Cut, nothing, Did, totals_after}
 use Rattle.x10_model.specs.Values.{Value, Cells}
 use Rattle.x10_verify.specs.Certified.{Certified}
 use Rattle.x10_verify.specs.Least.{HasLeast}
@@ -34,8 +33,11 @@ use Rattle.x10_place.specs.declared.place.Stepped.{Stepped}
 use Rattle.x10_place.specs.declared.place.Stepped.TheVariants as stepped
 use Rattle.x10_place.specs.declared.route.Route.{Route}
 use Rattle.x10_place.specs.declared.route.Route.TheVariants as route
+use Rattle.x10_place.specs.Frames.{word_at}
 use Rattle.x10_place.specs.Homes.{AreHomes}
+use Rattle.x10_place.specs.Messages.{PutsOut}
 use Rattle.x10_place.specs.Routes.{route_of}
+use Rattle.x10_place.specs.Sending.{IsSending, slots_sent, words_sent, Overloads}
 use Rattle.x10_place.specs.Stays.{StayState, StoreState, Location, IsPlaced, IsDoneHere, HasBook, OverfillsBy, finish_at, totals_in, books_of, books_in, kept_in, innermost_at}
 
 -- What callers see of a place: the module with the bounds of its functions, its number and how many there are, the stays
@@ -120,11 +122,11 @@ abbrev pub StandForCallers : (program : Module) → Assigned program → Context
 StandForCallers program assigned x fs [] = fs ≡ []
 StandForCallers program assigned x fs (c ∷ cs) = (before : List CallFrame) × (f : CallFrame) × (fs ≡ before ++ f ∷ []) × StandsForFrame program assigned x f c × StandForCallers program assigned x before cs
 
--- what no operation so far changes: nobody is away or was sent here, and all finishes are of this place
-pub record IsAtHome (here : ℕ) (a : StayState) : Type 0 where
-  pub inherited : a.inherited.home ≡ here
-  pub away : a.away ≡ false
-  pub back : a.back ≡ None
+-- the finish that it inherited is of a place of the run, and so is the stay that its result goes back to, with a key that a
+-- frame can tell
+pub record IsOfRun (places : ℕ) (a : StayState) : Type 0 where
+  pub inherited : (a.inherited.home < places) × (a.inherited.number < 2 ^ 32)
+  pub back : (o : Origin) → a.back ≡ Some o → (o.place < places) × (o.key < 2 ^ 32)
 
 -- a stay of the program stands where it can go on, and stands for a stay of the machine
 pub record StandsForStay (program : Module) (assigned : Assigned program) (x : Context) (a : StayState) (s : Stay) : Type 0 where
@@ -135,7 +137,7 @@ pub record StandsForStay (program : Module) (assigned : Assigned program) (x : C
   pub inherited : s.inherited ≡ a.inherited
   pub away : s.away ≡ a.away
   pub back : s.back ≡ a.back
-  pub home : IsAtHome x.here a
+  pub run : IsOfRun x.places a
 
 -- ---- words with their kinds
 
@@ -183,6 +185,7 @@ pub record IsRegistered (at : Location) (s : StoreState) (a : StayState) : Type 
 
 -- a stay that can make steps at its place
 pub record IsWorking (at : Location) (s : StoreState) (a : StayState) : Type 0 where
+  pub ready : a.away ≡ false
   pub typed : IsTyped at s.heap a
   pub registered : IsRegistered at s a
 
@@ -213,6 +216,7 @@ pub record AreBooked (id : ℕ) (stays : ℕ → Option Stay) (opened : ℕ) (bo
 pub record StandsFor (far : Far) (p : PlaceState) (m : machine.Place) : Type 0 where
   pub assigned : Assigned p.program
   pub none : (key : ℕ) → get p.stays key ≡ None → m.stays key ≡ None
+  pub keys : (key : ℕ) → 2 ^ 32 ≤ key → get p.stays key ≡ None
   pub some : (key : ℕ) (a : StayState) → get p.stays key ≡ Some a → (s : Stay) × (m.stays key ≡ Some s) × StandsForStay p.program assigned (context_of far p) a s
   pub site : IsWithinPlaces p.program p.id p.places
   pub heap : HoldsHeap (context_of far p) m.cells
@@ -233,21 +237,18 @@ pub record Keeps (p q : PlaceState) : Type 0 where
   pub id : q.id ≡ p.id
   pub places : q.places ≡ p.places
 
--- What a move changes of what is counted and kept, of each finish but the one that it closes. It closes one that may end;
--- it puts out no message, and no report is due.
+-- What a move changes of what is counted and kept, of each finish but the one that it closes. It closes one that may end.
 pub record IsCountedBy (s : StoreState) (effect : Effect) (t : StoreState) : Type 0 where
   pub here : t.here ≡ s.here
   pub places : t.places ≡ s.places
   pub totals : (f : Finish) → closes s.here effect f ≡ false → totals_in t f ≡ totals_after f (totals_in s f) (Did effect)
   pub kept : (n : ℕ) → closes s.here effect (finish_at s.here n) ≡ false → kept_in (books_in t n) ≡ kept_in (books_in s n)
   pub done : (n : ℕ) → effect ≡ Closes n → IsDoneHere s n × (totals_in t (finish_at s.here n) ≡ nothing)
-  pub silent : sent effect ≡ None
-  pub unreported : (f : Finish) → is_reported s.here f (totals_in s f) (Did effect) ≡ false
 
--- a step finds nothing to do exactly where the move waits at the end of a finish
-abbrev pub Answers : Stepped → Effect → Type 0
-Answers stepped.Idle effect = (number : ℕ) × (effect ≡ Waits number)
-Answers stepped.Moved effect = (number : ℕ) → effect ≡ Waits number → ⊥
+-- a step finds nothing to do exactly where the move waits at the end of a finish, else it tells what the move puts out
+abbrev pub Answers : Far → PlaceState → Stepped → Effect → Type 0
+Answers far p stepped.Idle effect = (number : ℕ) × (effect ≡ Waits number)
+Answers far p (stepped.Moved out) effect = ((number : ℕ) → effect ≡ Waits number → ⊥) × PutsOut p.program (context_of far p) (store_of p) effect out
 
 -- From a place of the machine that the old state stands for, the move of the activity with the key leads to one that
 -- the new state stands for.
@@ -257,7 +258,7 @@ pub record Leads (far : Far) (p : PlaceState) (m : machine.Place) (key : ℕ) (a
   pub moves : Moves (setting_of p) p.id m key new effect
   pub stands : StandsFor far q new
   pub counted : IsCountedBy (store_of p) effect (store_of q)
-  pub answers : Answers answer effect
+  pub answers : Answers far p answer effect
 
 -- each place of the machine that the state stands for makes such a move
 abbrev pub LeadsAll : PlaceState → ℕ → Stepped → PlaceState → Type 0
@@ -267,8 +268,13 @@ LeadsAll p key answer q = (far : Far) (m : machine.Place) → StandsFor far p m 
 abbrev pub OverfillsBegin : PlaceState → StayState → ℕ → Type 0
 OverfillsBegin p a limit = ((limit ≡ 10) × (2 ^ 32 ≤ p.stays.vacant_key)) ⊎ ((limit ≡ 6) × (p.stays.vacant_key < 2 ^ 32) × IsLargest (totals_of p.ledger (innermost_at p.id a)).live)
 
+-- as many as can be counted were sent under its finish to the place that an instruction names (6)
+abbrev pub OverfillsSend : PlaceState → StayState → Instr → ℕ → Type 0
+OverfillsSend p a i limit = (limit ≡ 6) × IsLargest ((totals_of p.ledger (innermost_at p.id a)).sent (word_at a.top.registers.items i.c))
+
 abbrev pub Overfills : Route → PlaceState → StayState → Instr → ℕ → Type 0
 Overfills route.Begin p a i limit = OverfillsBegin p a limit
+Overfills route.Send p a i limit = OverfillsSend p a i limit
 Overfills r p a i limit = OverfillsBy r a (store_of p) i limit
 
 -- the activity with the key is ready, and its instruction would make one more of what there can be no more of
@@ -280,14 +286,25 @@ pub record IsOverfull (p : PlaceState) (key limit : ℕ) : Type 0 where
   pub instr_is : instr_at p.program stay.top.function stay.top.pc ≡ Some instr
   pub overfills : Overfills (route_of instr.op) p stay instr limit
 
+-- The activity with the key is ready, and what its instruction sends would have more objects (7), texts (8) or rails (9)
+-- than a frame can have.
+pub record IsOverloaded (p : PlaceState) (key limit : ℕ) : Type 0 where
+  pub stay : StayState
+  pub is_there : get p.stays key ≡ Some stay
+  pub is_ready : stay.away ≡ false
+  pub instr : Instr
+  pub instr_is : instr_at p.program stay.top.function stay.top.pc ≡ Some instr
+  pub sends : IsSending (route_of instr.op) stay
+  pub overloads : Overloads p.program.classes p.heap (slots_sent (route_of instr.op) p.program stay instr) (words_sent (route_of instr.op) (slots_sent (route_of instr.op) p.program stay instr) stay instr) limit
+
 -- the limits that a step may pass: objects (1), texts (2), rails (3), global references (4), finishes (5), activities under
--- one finish (6), and keys (10)
+-- one finish (6), objects, texts and rails of one frame (7, 8, 9), and keys (10)
 abbrev pub IsStepLimit : ℕ → Type 0
-IsStepLimit limit = ((1 ≤ limit) × (limit ≤ 6)) ⊎ (limit ≡ 10)
+IsStepLimit limit = (1 ≤ limit) × (limit ≤ 10)
 
 -- why a step of the activity with the key is not made: memory was refused, or it would pass a limit
 abbrev pub IsHindered : PlaceState → ℕ → Stop → Type 0
-IsHindered p key why = (why ≡ stop.Memory) ⊎ ((limit : ℕ) × (why ≡ stop.Limit limit) × IsOverfull p key limit)
+IsHindered p key why = (why ≡ stop.Memory) ⊎ ((limit : ℕ) × (why ≡ stop.Limit limit) × (IsOverfull p key limit ⊎ IsOverloaded p key limit))
 
 -- the operation of an instruction of a function
 abbrev pub IsOperation : Module → ℕ → ℕ → Op → Type 0

@@ -13,7 +13,7 @@ use Rattle.x10_model.specs.declared.slot.Slot.{Slot}
 use Rattle.x10_model.specs.Assignments.{State, IsKind}
 use Rattle.x10_model.specs.Maps.{with_entry}
 use Rattle.x10_model.specs.Places.{Finish, Origin, innermost_of}
-use Rattle.x10_model.specs.Totals.{Totals, Cut, nothing, zeros, ends_one, if_same, IsDoneAt}
+use Rattle.x10_model.specs.Totals.{Totals, Cut, nothing, zeros, if_same, IsDoneAt}
 use Rattle.x10_model.specs.Ranges.{function_at, instr_at, result_of}
 use Rattle.x10_image.specs.Parts.{code_at}
 use Rattle.x10_bounds.specs.OpenFinishes.{finishes_around}
@@ -209,15 +209,10 @@ pub record Resumes (program : Module) (a : StayState) (i : Instr) (b : StayState
   pub goes : GoesOn (result_of (function_at program a.top.function)) caller call a.top i b.top
   pub rest : b ≡ record a { top = b.top; callers = b.callers }
 
--- the last function of a stay ends, and with it the stay: one fewer lives under the finish that it inherited
-pub record EndsStay (a : StayState) (s t : StoreState) : Type 0 where
-  pub callers : a.callers ≡ []
-  pub store : Recounts s t s.opened (changed_at (totals_in s) a.inherited ends_one) (books_in s)
-
--- a function ends: its caller goes on, or there is none
+-- a function ends: its caller goes on, or there is none, and the place ends the stay
 abbrev pub Returns : Module → StayState → StoreState → Instr → Outcome → StayState → StoreState → Type 0
 Returns program a s i outcome.Goes b t = Resumes program a i b × (t ≡ s)
-Returns program a s i outcome.Ends b t = EndsStay a s t
+Returns program a s i outcome.ForPlace b t = (a.callers ≡ []) × (b ≡ a) × (t ≡ s)
 Returns program a s i _ b t = ⊥
 
 -- the least consistent assignment knows a number where the PRINT stands, if it has a state there
@@ -270,8 +265,8 @@ LeavesFinish a s _ b t = ⊥
 
 -- ---- all operations
 
--- What an operation does to a stay and to what the place keeps, and what becomes of the stay. An activity is begun by the
--- place: to the stay nothing has happened yet.
+-- What an operation does to a stay and to what the place keeps, and what becomes of the stay. Where the step is for the
+-- place to make, nothing has happened yet.
 abbrev pub Steps : Route → Location → StayState → StoreState → Instr → Outcome → StayState → StoreState → Type 0
 Steps (route.Local l) at a s i o b t = (o ≡ outcome.Goes) × ChangesTop (λ v w. Acts l at.program v i w) a s b t
 Steps (route.Make m) at a s i o b t = (o ≡ outcome.Goes) × ChangesTop (λ v w. Makes m at.program v i w) a s b t
@@ -282,8 +277,8 @@ Steps route.Return at a s i o b t = Returns at.program a s i o b t
 Steps route.Print at a s i o b t = (o ≡ outcome.Goes) × Prints at.program a s i b t
 Steps route.OpenFinish at a s i o b t = (o ≡ outcome.Goes) × OpensFinish a s b t
 Steps route.CloseFinish at a s i o b t = LeavesFinish a s o b t
-Steps route.Begin at a s i o b t = (o ≡ outcome.Begins) × (b ≡ a) × (t ≡ s)
-Steps route.Later at a s i o b t = ⊥
+Steps route.Begin at a s i o b t = (o ≡ outcome.ForPlace) × (b ≡ a) × (t ≡ s)
+Steps route.Send at a s i o b t = (o ≡ outcome.ForPlace) × (b ≡ a) × (t ≡ s)
 
 -- the innermost finish is open at this place
 abbrev pub HasFinish : StayState → StoreState → Type 0
@@ -296,7 +291,6 @@ ReadsStore (route.Make m) at a s i = ReadsMake m s.heap a.top.registers.items i
 ReadsStore (route.Site k) at a s i = ReadsAt k at.places a.top.registers.items i
 ReadsStore route.Export at a s i = NamesObject s.heap a.top.registers.items i.b
 ReadsStore route.Print at a s i = PrintsText at.program a.top.function a.top.pc → word_at a.top.registers.items i.a < length s.heap.texts
-ReadsStore route.Return at a s i = 0 < (totals_in s a.inherited).live
 ReadsStore route.CloseFinish at a s i = HasFinish a s
 ReadsStore _ at a s i = Unit {0}
 

@@ -1,5 +1,5 @@
 -- Steps of one activity at a stretch.
-use Rattle.std.specs.Prelude.{◌≡◌, ◌⊎◌, ℕ, ◌+◌, ◌<◌, ◌≤◌, Bool, false, Option, None, Some, IfSome, Result, Ok, Err, IfOk, IfErr, length}
+use Rattle.std.specs.Prelude.{◌≡◌, ◌⊎◌, ℕ, ◌+◌, ◌<◌, ◌≤◌, Bool, false, ◌≢◌, ◌^◌, None, Some, Result, Ok, Err, IfOk, IfErr, MatchResult, length}
 use Rattle.slab.specs.Slab.{Slab, get}
 use Rattle.x10_kinds.specs.declared.stop.Stop.{Stop}
 use Rattle.x10_kinds.specs.declared.stop.Stop.TheVariants as stop
@@ -11,14 +11,16 @@ use Rattle.x10_verify.specs.Certified.{Certified}
 use Rattle.x10_place.specs.declared.route.Route.TheVariants as route
 use Rattle.x10_place.specs.declared.route.Local.{Local}
 use Rattle.x10_place.specs.declared.place.Stepped.{Stepped}
+use Rattle.x10_place.specs.declared.sent.Sent.{Sent}
 use Rattle.x10_place.specs.declared.place.Stepped.TheVariants as stepped
 use Rattle.x10_place.specs.declared.stay.Outcome.{Outcome}
 use Rattle.x10_place.specs.declared.stay.Outcome.TheVariants as outcome
 use Rattle.x10_place.specs.declared.stay.Pause.{Pause}
 use Rattle.x10_place.specs.declared.stay.Pause.TheVariants as pause
+use Rattle.x10_place.specs.Messages.{no_sent}
 use Rattle.x10_place.specs.Frames.{Workspace, IsFetched, IsFetchedFor, Acts}
 use Rattle.x10_place.specs.Stays.{StayState, StoreState, Location, IsPlaced, GoesNext, IsBegun, innermost_at, totals_in, books_in, changed_at, Recounts, Steps, Refuses}
-use Rattle.x10_place.specs.StandsFor.{PlaceState, place_of, plain, Keeps, IsStanding, LeadsAll, IsIdleAt, IsOverfull, IsHindered, OverfillsBegin}
+use Rattle.x10_place.specs.StandsFor.{PlaceState, place_of, location_of, plain, Keeps, IsStanding, LeadsAll, IsIdleAt, IsOverfull, IsHindered, OverfillsBegin}
 use Rattle.x10_place.specs.Routes.{route_of}
 
 -- ---- of one frame
@@ -50,15 +52,6 @@ pub data Stretch (at : Location) (a : StayState) (s : StoreState) : ℕ → Stay
   still : Stretch at a s 0 a s
   further : (n : ℕ) (b c : StayState) (t u : StoreState) → Stretch at a s n b t → IsStep at b t outcome.Goes c u → Stretch at a s (n + 1) c u
 
--- so many steps, and the last one ends the stay
-pub record EndsStretch (at : Location) (a : StayState) (s : StoreState) (n : ℕ) (c : StayState) (u : StoreState) : Type 0 where
-  pub before : ℕ
-  pub count : n ≡ before + 1
-  pub last : StayState
-  pub kept : StoreState
-  pub stretch : Stretch at a s before last kept
-  pub ends : IsStep at last kept outcome.Ends c u
-
 -- the stay stands at an instruction whose step is refused
 pub record IsStopped (at : Location) (a : StayState) (s : StoreState) (why : Stop) : Type 0 where
   pub instr : Instr
@@ -69,23 +62,28 @@ pub record IsStopped (at : Location) (a : StayState) (s : StoreState) (why : Sto
 abbrev pub Paused : Pause → Location → StayState → StoreState → ℕ → StayState → StoreState → Type 0
 Paused pause.Goes at a s n b t = Stretch at a s n b t
 Paused (pause.Refused why) at a s n b t = Stretch at a s n b t × IsStopped at b t why
-Paused pause.Ended at a s n b t = EndsStretch at a s n b t
 Paused pause.Waits at a s n b t = Stretch at a s n b t × IsStep at b t outcome.Waits b t
-Paused pause.Begins at a s n b t = Stretch at a s n b t × IsStep at b t outcome.Begins b t
+Paused pause.ForPlace at a s n b t = Stretch at a s n b t × IsStep at b t outcome.ForPlace b t
 
 -- ---- at a place
 
--- a step of the activity with a key is a move of each place of the machine that the state stands for
-pub record IsStride (key : ℕ) (p q : PlaceState) : Type 0 where
+-- a step of the activity with a key, which puts something out, is a move of each place of the machine that the state
+-- stands for
+pub record IsStride (key : ℕ) (p : PlaceState) (sent : Sent) (q : PlaceState) : Type 0 where
   pub there : (a : StayState) × (get p.stays key ≡ Some a)
-  pub leads : LeadsAll p key stepped.Moved q
+  pub leads : LeadsAll p key (stepped.Moved sent) q
   pub kept : Keeps p q
   pub stopped : q.stopped ≡ p.stopped
 
--- so many steps of the activity with a key, of which each moves
+-- so many steps of the activity with a key, of which each moves and puts out nothing
 pub data Strides (key : ℕ) (p : PlaceState) : ℕ → PlaceState → Type 0 where
   at_once : Strides key p 0 p
-  onward : (n : ℕ) (q r : PlaceState) → Strides key p n q → IsStride key q r → Strides key p (n + 1) r
+  onward : (n : ℕ) (q r : PlaceState) → Strides key p n q → IsStride key q no_sent r → Strides key p (n + 1) r
+
+-- the same, but that the last one, if there is one, may put something out
+pub data StridesTo (key : ℕ) (p : PlaceState) : ℕ → Sent → PlaceState → Type 0 where
+  nowhere : StridesTo key p 0 no_sent p
+  finally : (n : ℕ) (q : PlaceState) (sent : Sent) (r : PlaceState) → Strides key p n q → IsStride key q sent r → StridesTo key p (n + 1) sent r
 
 -- an activity has begun under a key that was free
 pub record HasBegun (p q : PlaceState) : Type 0 where
@@ -114,11 +112,13 @@ pub record BeginsAt (program : Module) (old : Slab StayState) (s : StoreState) (
   pub goes : GoesNext stay.top next.top
   pub rest : next ≡ record stay { top = next.top }
   pub other : ℕ
+  pub few : other < 2 ^ 32
   pub free : get old other ≡ None
   pub child : StayState
   pub begun : IsBegun program stay.top.registers.items instr (innermost_at s.here stay) child
   pub now_next : get new key ≡ Some next
   pub now_child : get new other ≡ Some child
+  pub number : (innermost_at s.here stay).number < 2 ^ 32
   pub others : (k : ℕ) → (k ≡ key → ⊥) → (k ≡ other → ⊥) → get new k ≡ get old k
   pub store : Recounts s t s.opened (changed_at (totals_in s) (innermost_at s.here stay) begins_one) (books_in s)
 
@@ -144,12 +144,28 @@ pub record IsAdvanced (verified : Certified) (old : Slab StayState) (s : StoreSt
   pub here : t.here ≡ s.here
   pub places : t.places ≡ s.places
 
--- what up to so many steps do
-pub record IsRun (verified : Certified) (old : Slab StayState) (s : StoreState) (key most n : ℕ) (why : Option Stop) (new : Slab StayState) (t : StoreState) : Type 0 where
-  pub ran : (stopped : Bool) → Strides key (place_of verified old s stopped) n (place_of verified new t stopped)
+-- a step was made that is for the place to make: each place of the machine that the state stands for makes it
+pub record IsMade (verified : Certified) (old : Slab StayState) (s : StoreState) (key : ℕ) (sent : Sent) (new : Slab StayState) (t : StoreState) : Type 0 where
+  pub leads : (stopped : Bool) → LeadsAll (place_of verified old s stopped) key (stepped.Moved sent) (place_of verified new t stopped)
+  pub here : t.here ≡ s.here
+  pub places : t.places ≡ s.places
+  pub parts : (stopped : Bool) → (get new key ≡ None) ⊎ HasBegun (place_of verified old s stopped) (place_of verified new t stopped) ⊎ (sent ≢ no_sent)
+
+-- the stay with the key is ready, and stands at an instruction that is for the place to make
+pub record IsForPlace (verified : Certified) (old : Slab StayState) (s : StoreState) (key : ℕ) (instr : Instr) : Type 0 where
+  pub standing : IsStanding (place_of verified old s false)
+  pub stay : StayState
+  pub is_there : get old key ≡ Some stay
+  pub ready : stay.away ≡ false
+  pub fetched : IsFetchedFor verified.program stay.top instr
+  pub steps : Steps (route_of instr.op) (location_of (place_of verified old s false)) stay s instr outcome.ForPlace stay s
+
+-- what up to so many steps do, of which the last may have put something out, or why there is no more
+pub record IsRun (verified : Certified) (old : Slab StayState) (s : StoreState) (key most n : ℕ) (result : Result Sent Stop) (new : Slab StayState) (t : StoreState) : Type 0 where
+  pub ran : (stopped : Bool) → MatchResult result (λ sent. StridesTo key (place_of verified old s stopped) n sent (place_of verified new t stopped)) (λ why. Strides key (place_of verified old s stopped) n (place_of verified new t stopped))
   pub few : n ≤ most
-  pub all : why ≡ None → n < most → (stopped : Bool) → IsIdleAt (place_of verified new t stopped) key ⊎ BeginsLast key (place_of verified old s stopped) n (place_of verified new t stopped)
-  pub refused : IfSome why (λ stop. (stopped : Bool) → IsHindered (place_of verified new t stopped) key stop)
+  pub all : IfOk result (λ sent. n < most → (stopped : Bool) → IsIdleAt (place_of verified new t stopped) key ⊎ BeginsLast key (place_of verified old s stopped) n (place_of verified new t stopped) ⊎ (sent ≢ no_sent))
+  pub refused : IfErr result (λ why. (stopped : Bool) → IsHindered (place_of verified new t stopped) key why)
   pub standing : IsStanding (place_of verified new t false)
   pub here : t.here ≡ s.here
   pub places : t.places ≡ s.places

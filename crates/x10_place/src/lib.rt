@@ -1,14 +1,23 @@
 //! One place of the machine: its activities, and their steps.
 #![tactic(auto)]
 
+mod departing;
 mod frame;
 mod heap;
+mod launching;
+mod leaving;
 mod line;
 mod making;
 mod opening;
 mod place;
+mod receiving;
+mod reports;
+mod resuming;
 mod route;
+mod sending;
+mod sent;
 mod site;
+mod starting;
 mod stay;
 mod step;
 mod store;
@@ -16,4 +25,5 @@ mod store;
 pub use frame::CallFrame;
 pub use line::Line;
 pub use place::{Place, Stepped};
+pub use sent::{Outgoing, Sent};
 pub use stay::{Origin, Stay};

@@ -1,5 +1,5 @@
 //! The stays with which a place begins.
-ghost use Rattle.std.specs.Prelude.{◌≡◌, ℕ, IfOk, None};
+ghost use Rattle.std.specs.Prelude.{◌≡◌, ◌<◌, ◌^◌, ℕ, IfOk, None};
 ghost use Rattle.slab.specs.Slab.{get};
 ghost use Rattle.x10_place.specs.Opening.{IsMain, HoldsOnly};
 ghost use Rattle.x10_place.specs.Stays.{StayState};
@@ -40,7 +40,7 @@ fn main(alloc: Global, verified: &Verified) -> Result<Stay, AllocError>
 
 /// Main alone, under some key.
 pub(crate) fn with_main(alloc: Global, verified: &Verified) -> Result<Slab<Stay>, AllocError>
-    ensures { IfOk result (λ slab. (key : ℕ) × (a : StayState) × IsMain verified.now.program a × HoldsOnly slab key a) }
+    ensures { IfOk result (λ slab. (key : ℕ) × (a : StayState) × IsMain verified.now.program a × HoldsOnly slab key a × (key < 2 ^ 32)) }
 {
     let mut stays = Slab::new(alloc);
     let main = main(alloc, verified)?;

@@ -1,13 +1,18 @@
-ghost use Rattle.std.specs.Prelude.{◌≡◌, ◌≢◌, ◌<◌, ◌≤◌, ◌↔◌, ◌⊎◌, ℕ, true, false, IsTrue, IfOk, IfErr, IfSome, MatchOption, Ok, Err, Some, None};
-ghost use Rattle.slab.specs.Slab.{get};
+ghost use Rattle.std.specs.Prelude.{◌≡◌, ◌≢◌, ◌==◌, ◌<◌, ◌≤◌, ◌↔◌, ◌⊎◌, ℕ, true, false, IsTrue, IfOk, IfErr, IfSome, MatchOption, MatchResult, Ok, Err, Some, None};
+ghost use Rattle.slab.specs.Slab.{get, slab_len, ContainsKey};
 ghost use Rattle.x10_kinds.specs.declared.stop.Stop.TheVariants as stop;
 ghost use Rattle.x10_place.specs.StandsFor.{PlaceState, store_of, LeadsAll, Keeps, IsIdleAt, IsOverfull, IsHindered, IsAt, IsOperation};
 ghost use Rattle.x10_place.specs.Opening.{IsNew, IsNextKey, Opens};
 ghost use Rattle.x10_place.specs.Stays.{StayState, IsDoneHere};
-ghost use Rattle.x10_place.specs.Stretches.{Strides, BeginsLast};
+ghost use Rattle.x10_place.specs.Messages.{no_sent};
+ghost use Rattle.x10_place.specs.Receiving.{IsTaken, IsRefusedBytes, IsOfFrame, stops};
+ghost use Rattle.x10_place.specs.Stretches.{Strides, StridesTo, BeginsLast};
+ghost use Rattle.x10_copy.specs.declared.refusal.Refusal.TheVariants as refusal;
 
 use crate::line::Line;
 use crate::opening::with_main;
+use crate::receiving::{is_stop, receive_in};
+use crate::sent::Sent;
 use crate::stay::{Spot, Stay};
 use crate::step::{run_in, step_in};
 use crate::store::Store;
@@ -15,16 +20,17 @@ use slab::Slab;
 use std::alloc::{AllocError, Global};
 use std::marker::Model;
 use x10_code::Op;
+use x10_copy::Refusal;
 use x10_kinds::Stop;
 use x10_verify::Verified;
 
 /// What a step did.
-#[derive(Clone, Copy, Debug, PartialEq, Eq)]
+#[derive(Drop)]
 pub enum Stepped {
     /// Nothing: there is no activity with the key, it is away, or it waits at the end of a finish.
     Idle,
-    /// One move of the activity.
-    Moved,
+    /// One move of the activity, and what it put out.
+    Moved(Sent),
 }
 
 /// A place: the stays of activities by key, and what they share.
@@ -48,16 +54,18 @@ impl<'a> Model for Place<'a> {
 }
 
 impl<'a> Place<'a> {
-    /// One step of the activity with a key. It is Idle, and nothing has changed, exactly where there is no such activity,
-    /// where it is away, or where it stands at the end of a finish that may not end yet. A Stop comes only where a growth
-    /// was refused, where there can be no more of what the step would make (Limit 1: objects, 2: texts, 3: rails, 4: global
-    /// references, 5: finishes; at most 2^32 - 1 of each; 6: activities that live under one finish; 10: the number of a
-    /// key), or after another Stop; the output is then that of the steps before it.
+    /// One step of the activity with a key, and what it puts out. It is Idle, and nothing has changed, exactly where there is
+    /// no such activity, where it is away, or where it stands at the end of a finish that may not end yet. A Stop comes only
+    /// where a growth was refused, where there can be no more of what the step would make (Limit 1: objects, 2: texts, 3:
+    /// rails, 4: global references, 5: finishes; at most 2^32 - 1 of each; 6: activities that live under one finish, or were
+    /// sent to one place under it; 10: the number of a key), where what the step sends leads to more than 65,535 objects,
+    /// texts or rails (Limit 7, 8, 9), or after another Stop; the output is then that of the steps before it.
     ///
     /// Constant time, but that CALL, ASYNC, NEW, RAIL, TEXTK, TCAT and PRINT of a text also copy or fill what they make,
-    /// that FINB makes two numbers for each pair of places, that FINE looks at the places where nothing lives under its
-    /// finish here, that a finish is looked up in logarithmic time, and that a list that grows is copied now and then. What
-    /// makes or prints something takes memory, and so do CALL, ASYNC and FINB.
+    /// that AT, ATA and a RET that sends a result back copy all that they send, that FINB makes two numbers for each pair of
+    /// places, that FINE looks at the places where nothing lives under its finish here, that a finish is looked up in
+    /// logarithmic time, that a report has two numbers for each place, and that a list that grows is copied now and then.
+    /// What makes, prints or sends something takes memory, and so do CALL, ASYNC and FINB.
     pub fn step(&mut self, key: usize) -> Result<Stepped, Stop>
         ensures idle { self.old.stopped ≢ true → IsIdleAt self.old key → (result ≡ Ok Stepped.Idle) × (self.new ≡ self.old) }
         ensures only { self.old.stopped ≢ true → result ≡ Ok Stepped.Idle → IsIdleAt self.old key }
@@ -79,24 +87,24 @@ impl<'a> Place<'a> {
         made
     }
 
-    /// Up to so many steps of the activity with a key, one after another: as many as come before it has ended, before one
-    /// that finds nothing to do or is refused, or up to one that begins an activity, after which others may come. How many
-    /// were made, and why no more, where one was refused. Each is as `step` makes it, and moves; but the activity is looked
-    /// up once, and operations of one call frame touch nothing else.
-    pub fn run(&mut self, key: usize, most: u64) -> (u64, Option<Stop>)
-        ensures ran { MatchOption result.1 (Strides key self.old result.0 self.new) (λ why. (p : PlaceState) × Strides key self.old result.0 p × (self.new ≡ record p { stopped = true }) × (self.old.stopped ≢ true → IsHindered p key why)) }
+    /// Up to so many steps of the activity with a key, one after another: as many as come before one that finds nothing to
+    /// do or is refused, or up to one that ends the stay, begins an activity or puts something out. How many
+    /// were made, and what the last one put out, or why no more, where one was refused. Each is as `step` makes it, and moves;
+    /// but the activity is looked up once, and operations of one call frame touch nothing else.
+    pub fn run(&mut self, key: usize, most: u64) -> (u64, Result<Sent, Stop>)
+        ensures ran { MatchResult result.1 (λ sent. StridesTo key self.old result.0 sent self.new) (λ why. (p : PlaceState) × Strides key self.old result.0 p × (self.new ≡ record p { stopped = true }) × (self.old.stopped ≢ true → IsHindered p key why)) }
         ensures few { result.0 ≤ most }
-        ensures all { result.1 ≡ None → result.0 < most → IsIdleAt self.new key ⊎ BeginsLast key self.old result.0 self.new }
-        ensures stopped { self.old.stopped ≡ true → (result.0 ≡ 0) × (result.1 ≡ Some stop.Stopped) }
-        ensures goes { result.1 ≡ None → self.new.stopped ≢ true }
+        ensures all { IfOk result.1 (λ sent. result.0 < most → IsIdleAt self.new key ⊎ BeginsLast key self.old result.0 self.new ⊎ (sent ≢ no_sent)) }
+        ensures stopped { self.old.stopped ≡ true → (result.0 ≡ 0) × (result.1 ≡ Err stop.Stopped) }
+        ensures goes { IfOk result.1 (λ _. self.new.stopped ≢ true) }
         ensures kept { Keeps self.old self.new }
     {
         if self.stopped {
-            return (0, Some(Stop::Stopped));
+            return (0, Err(Stop::Stopped));
         }
         let verified = self.verified;
         verified.certificate();
-        let (done, why) = run_in(
+        let (done, last) = run_in(
             self.alloc,
             verified,
             &mut self.stays,
@@ -104,8 +112,40 @@ impl<'a> Place<'a> {
             key,
             most,
         );
-        self.stopped = why.is_some();
-        (done, why)
+        self.stopped = last.is_err();
+        (done, last)
+    }
+}
+
+impl<'a> Place<'a> {
+    /// Takes in bytes that come from a place: those of the frame of a message, by which an activity begins or goes on, or
+    /// of a report of what was counted of a finish. Bytes of any kind may come: what isn't such a frame for this place, or
+    /// doesn't fit it, is refused, and the first fault is answered. A report of a finish that was closed changes nothing.
+    /// After a refusal for want of memory or at a limit the place has stopped; after each other one it is as before. Linear
+    /// in the bytes, and it takes memory.
+    pub fn receive(&mut self, bytes: &[u8]) -> Result<(), Refusal>
+        ensures ok { IfOk result (λ _. IsTaken self.old bytes.now self.new) }
+        ensures refused { self.old.stopped ≢ true → IfErr result (IsRefusedBytes self.old bytes.now) }
+        ensures read { self.old.stopped ≢ true → IfErr result (IsOfFrame self.old.places bytes.now) }
+        ensures stopped { self.old.stopped ≡ true → result ≡ Err refusal.Stopped }
+        ensures left { IfErr result (λ why. self.new ≡ record self.old { stopped = stops why }) }
+        ensures goes { IfOk result (λ _. self.new.stopped ≢ true) }
+        ensures kept { Keeps self.old self.new }
+    {
+        if self.stopped {
+            return Err(Refusal::Stopped);
+        }
+        let taken = receive_in(
+            self.alloc,
+            self.verified,
+            &mut self.stays,
+            &mut self.store,
+            bytes,
+        );
+        if let Err(why) = taken {
+            self.stopped = is_stop(why);
+        }
+        taken
     }
 }
 
@@ -153,6 +193,28 @@ impl<'a> Place<'a> {
             }
         }
         None
+    }
+
+    /// Whether no activity is here. Constant time.
+    pub fn is_empty(&self) -> bool
+        ensures { result ≡ (slab_len self.now.stays == 0) }
+    {
+        self.stays.is_empty()
+    }
+
+    /// Whether there is an activity with a key. Constant time.
+    pub fn contains(&self, key: usize) -> bool
+        ensures { IsTrue result ↔ ContainsKey self.now.stays key }
+    {
+        self.stays.contains(key)
+    }
+
+    /// The key that the next activity gets that begins here. Constant time.
+    pub fn vacant_key(&self) -> usize
+        ensures value { result ≡ self.now.stays.vacant_key }
+        ensures vacant { get self.now.stays result ≡ None }
+    {
+        self.stays.vacant_key()
     }
 
     /// The function and the number of the instruction at which the activity with a key stands, and its operation.

@@ -109,8 +109,8 @@ pub(crate) enum Route {
     CloseFinish,
     /// Begins an activity at this place.
     Begin,
-    /// An operation that no image may have yet.
-    Later,
+    /// Sends an activity to a place, or goes on there itself.
+    Send,
 }
 
 /// What an operation does.
@@ -161,6 +161,6 @@ pub(crate) fn classify(op: Op) -> Route
         Op::Async => Route::Begin,
         Op::Finb => Route::OpenFinish,
         Op::Fine => Route::CloseFinish,
-        Op::At | Op::Ata => Route::Later,
+        Op::At | Op::Ata => Route::Send,
     }
 }

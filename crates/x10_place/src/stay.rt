@@ -1,15 +1,14 @@
 //! The stay of an activity at this place, and one step of it.
-ghost use Rattle.std.specs.Prelude.{◌≡◌, ◌+◌, ◌<◌, ◌≤◌, ◌^◌, ◌⊎◌, ℕ, Err, IsTrue, OnErr, OnOk, IfErr, IfOk, length};
+ghost use Rattle.std.specs.Prelude.{◌≡◌, ◌+◌, ◌<◌, ◌≤◌, ◌^◌, ◌⊎◌, ℕ, Err, OnErr, OnOk, IfErr, IfOk, length};
 ghost use Rattle.x10_code.specs.declared.op.Op.TheVariants as op;
 ghost use Rattle.x10_kinds.specs.declared.stop.Stop.TheVariants as stop;
 ghost use Rattle.x10_code.specs.declared.instr.Instr.{Instr};
-ghost use Rattle.x10_model.specs.Modules.{is_supported};
 ghost use Rattle.x10_verify.specs.Printing.{PrintsText};
 ghost use Rattle.x10_place.specs.Frames.{IsFetchedFor, word_at};
 ghost use Rattle.x10_place.specs.Routes.{route_of};
 ghost use Rattle.x10_heap.specs.Heaps.{IsFull};
 ghost use Rattle.x10_place.specs.StandsFor.{IsWorking};
-ghost use Rattle.x10_place.specs.Stays.{location, totals_in, finish_as, innermost_at, IsBegun, IsPlaced, Calls, Returns, IsPrinted, Prints, OpensFinish, LeavesFinish, HasFinish, ReadsStore, OverfillsBy, Refuses, Steps};
+ghost use Rattle.x10_place.specs.Stays.{location, finish_as, innermost_at, IsBegun, IsPlaced, Calls, Returns, IsPrinted, Prints, OpensFinish, LeavesFinish, HasFinish, ReadsStore, OverfillsBy, Refuses, Steps};
 ghost use Rattle.x10_place.specs.Stretches.{Paused};
 
 use crate::frame::CallFrame;
@@ -65,12 +64,10 @@ impl Model for Stay {
 pub(crate) enum Outcome {
     /// It goes on.
     Goes,
-    /// It has ended.
-    Ends,
     /// It waits at the end of a finish that may not end yet; nothing has changed.
     Waits,
-    /// Its instruction begins an activity, which its place has to do; nothing has changed.
-    Begins,
+    /// The step is for its place to make; nothing has changed.
+    ForPlace,
 }
 
 impl Stay {
@@ -95,17 +92,16 @@ impl Stay {
         Ok(())
     }
 
-    /// The function ends, and its caller goes on with the result, if there is one; or the stay ends with it.
+    /// The function ends, and its caller goes on with the result, if there is one. Where there is no caller the stay ends
+    /// with it, which is for the place to make.
     fn ret(&mut self, verified: &Verified, store: &mut Store, instr: Instr) -> Outcome
         requires placed { IsPlaced verified.now.program self.old }
         requires fetched { IsFetchedFor verified.now.program self.old.top instr }
         requires op { instr.op ≡ op.Ret }
-        requires live { 0 < (totals_in store.old self.old.inherited).live }
         ensures returns { Returns verified.now.program self.old store.old instr result self.new store.new }
     {
         let Some(mut caller) = self.callers.pop() else {
-            store.end(self.inherited);
-            return Outcome::Ends;
+            return Outcome::ForPlace;
         };
         verified.certificate();
         let call = verified.fetch(usize::from(caller.function), usize::from(caller.pc));
@@ -246,7 +242,6 @@ impl Stay {
     ) -> Result<Outcome, Stop>
         requires placed { IsPlaced verified.now.program self.old }
         requires fetched { IsFetchedFor verified.now.program self.old.top instr }
-        requires supported { IsTrue (is_supported instr.op) }
         requires within { store.old.here < store.old.places }
         requires reads { ReadsStore (route_of instr.op) (location verified.now.program spot) self.old store.old instr }
         ensures ok { IfOk result (λ outcome. Steps (route_of instr.op) (location verified.now.program spot) self.old store.old instr outcome self.new store.new) }
@@ -276,10 +271,9 @@ impl Stay {
             }
             Route::CloseFinish => return Ok(self.close_finish(store)),
             Route::Return => return Ok(self.ret(verified, store, instr)),
-            Route::Begin => return Ok(Outcome::Begins),
+            Route::Begin | Route::Send => return Ok(Outcome::ForPlace),
             Route::Call => self.call(alloc, verified, store, instr),
             Route::Print => self.print(alloc, verified, store, instr),
-            Route::Later => unreachable!(),
         };
         match made {
             Ok(()) => Ok(Outcome::Goes),
@@ -293,12 +287,10 @@ impl Stay {
 pub(crate) enum Pause {
     /// It has made as many as it was to.
     Goes,
-    /// It has ended.
-    Ended,
     /// It waits at the end of a finish that may not end yet.
     Waits,
-    /// The next one begins an activity, which its place has to do.
-    Begins,
+    /// The next one is for its place to make.
+    ForPlace,
     /// The next one was refused.
     Refused(Stop),
 }
@@ -320,7 +312,7 @@ impl Stay {
         ensures typed { result.1 ≡ Pause.Goes → IsWorking (location verified.now.program spot) store.new self.new }
         ensures few { result.0 ≤ most }
         ensures moves { result.1 ≡ Pause.Goes → 0 < result.0 }
-        ensures begins { result.1 ≡ Pause.Begins → result.0 < most }
+        ensures less { result.1 ≡ Pause.ForPlace → result.0 < most }
     {
         verified.certificate();
         let done = self.top.stretch(&mut store.heap, verified, most);
@@ -330,15 +322,14 @@ impl Stay {
         let instr = verified.fetch(usize::from(self.top.function), usize::from(self.top.pc));
         match self.step(alloc, verified, spot, store, instr) {
             Ok(Outcome::Goes) => (done + 1, Pause::Goes),
-            Ok(Outcome::Ends) => (done + 1, Pause::Ended),
             Ok(Outcome::Waits) => (done, Pause::Waits),
-            Ok(Outcome::Begins) => (done, Pause::Begins),
+            Ok(Outcome::ForPlace) => (done, Pause::ForPlace),
             Err(why) => (done, Pause::Refused(why)),
         }
     }
 
-    /// So many steps, or as many as come before the stay has ended, or before one that waits, begins an activity or is
-    /// refused: how many were made.
+    /// So many steps, or as many as come before one that waits, is for the place to make, or is refused: how many were
+    /// made.
     pub(crate) fn run(
         &mut self,
         alloc: Global,
@@ -351,7 +342,7 @@ impl Stay {
         ensures ran { Paused result.1 (location verified.now.program spot) self.old store.old result.0 self.new store.new }
         ensures few { result.0 ≤ most }
         ensures all { result.1 ≡ Pause.Goes → result.0 ≡ most }
-        ensures begins { result.1 ≡ Pause.Begins → result.0 < most }
+        ensures less { result.1 ≡ Pause.ForPlace → result.0 < most }
     {
         let mut done = 0;
         while done < most {

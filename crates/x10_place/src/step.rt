@@ -1,83 +1,47 @@
 //! One step of a stay at its place, and steps of one at a stretch.
-ghost use Rattle.std.specs.Prelude.{◌≡◌, ◌+◌, ◌<◌, ◌^◌, ℕ, false, Err, IfErr, OnErr, OnOk, None, Some};
-ghost use Rattle.slab.specs.Slab.{get, Updates};
-ghost use Rattle.x10_code.specs.declared.instr.Instr as instr;
-ghost use Rattle.x10_code.specs.declared.op.Op.TheVariants as op;
+ghost use Rattle.std.specs.Prelude.{◌≡◌, false, Err, IfErr, IfOk, OnErr, OnOk, ℕ};
+ghost use Rattle.x10_code.specs.declared.instr.Instr.{Instr};
 ghost use Rattle.x10_kinds.specs.declared.stop.Stop.TheVariants as stop;
-ghost use Rattle.x10_place.specs.Frames.{IsFetchedFor};
-ghost use Rattle.x10_place.specs.StandsFor.{place_of, IsStanding, OverfillsBegin};
-ghost use Rattle.x10_place.specs.Stays.{StayState, GoesNext};
-ghost use Rattle.x10_place.specs.Stretches.{BeginsAt, IsUntouched, RefusesBegin, IsAdvanced, IsRun};
+ghost use Rattle.x10_place.specs.StandsFor.{place_of, IsStanding, IsHindered, IsOverfull};
+ghost use Rattle.x10_place.specs.Stretches.{IsUntouched, IsForPlace, IsMade, IsAdvanced, IsRun};
 
+use crate::departing::depart;
+use crate::leaving::leave;
 use crate::place::Stepped;
+use crate::route::{Route, classify};
+use crate::sent::{Sent, no_sent};
+use crate::starting::begin;
 use crate::stay::{Outcome, Pause, Spot, Stay};
 use crate::store::Store;
 use slab::Slab;
 use std::alloc::Global;
-use x10_code::Instr;
 use x10_kinds::Stop;
 use x10_verify::Verified;
 
-/// The greatest key that a stay may have.
-const MOST_KEYS: usize = 4_294_967_295;
-
-/// The limit of keys.
-const KEYS: u8 = 10;
-
-/// The limit of activities that live under one finish at one place.
-const LIVE: u8 = 6;
-
-/// Takes a stay away.
-fn remove(stays: &mut Slab<Stay>, key: usize)
-    ensures { Updates stays.old stays.new key None }
-{
-    stays.try_remove(key);
-}
-
-/// The stay with a key goes on to its next instruction.
-fn go_on(stays: &mut Slab<Stay>, key: usize)
-    requires { (a : StayState) × (get stays.old key ≡ Some a) × (a.top.pc + 1 < 2 ^ 16) }
-    ensures { (a : StayState) → get stays.old key ≡ Some a → (b : StayState) × GoesNext a.top b.top × (b ≡ record a { top = b.top }) × Updates stays.old stays.new key (Some b) }
-{
-    if let Some(stay) = stays.get_mut(key) {
-        stay.top.next();
-    }
-}
-
-/// An activity begins by the instruction of the stay with a key. Where it is refused, nothing has changed.
-fn begin(
+/// The step of the stay with a key that is for its place to make: what it puts out. Where it is refused, nothing has
+/// changed.
+fn by_place(
     alloc: Global,
     verified: &Verified,
     stays: &mut Slab<Stay>,
     store: &mut Store,
     key: usize,
-) -> Result<(), Stop>
-    requires { (a : StayState) × (i : instr.Instr) × (get stays.old key ≡ Some a) × IsFetchedFor verified.now.program a.top i × (i.op ≡ op.Async) }
-    ensures ok { OnOk result (BeginsAt verified.now.program stays.old store.old key stays.new store.new) }
+) -> Result<Sent, Stop>
+    requires { (i : Instr) × IsForPlace verified.now stays.old store.old key i }
+    ensures ok { IfOk result (λ sent. IsMade verified.now stays.old store.old key sent stays.new store.new) }
     ensures err { OnErr result (IsUntouched stays.old store.old stays.new store.new) }
-    ensures refused { IfErr result (RefusesBegin verified.now stays.old store.old key) }
-    ensures full { (limit : ℕ) (a : StayState) → get stays.old key ≡ Some a → OverfillsBegin (place_of verified.now stays.old store.old false) a limit → result ≡ Err (stop.Limit limit) }
+    ensures refused { IfErr result (IsHindered (place_of verified.now stays.old store.old false) key) }
+    ensures full { (limit : ℕ) → IsOverfull (place_of verified.now stays.old store.old false) key limit → result ≡ Err (stop.Limit limit) }
 {
-    if stays.vacant_key() > MOST_KEYS {
-        return Err(Stop::Limit(KEYS));
-    }
-    let stay = &stays[key];
-    let under = stay.innermost(store.spot().here);
-    if store.live(under) == u32::MAX {
-        return Err(Stop::Limit(LIVE));
-    }
     verified.certificate();
-    let instr = verified.fetch(usize::from(stay.top.function), usize::from(stay.top.pc));
-    let Ok(child) = stay.child(alloc, verified, store, instr, under) else {
-        return Err(Stop::Memory);
-    };
-    if stays.reserve(1).is_err() {
-        return Err(Stop::Memory);
+    let top = &stays[key].top;
+    let instr = verified.fetch(usize::from(top.function), usize::from(top.pc));
+    match classify(instr.op) {
+        Route::Begin => begin(alloc, verified, stays, store, key),
+        Route::Send => depart(alloc, verified, stays, store, key, instr),
+        Route::Return => leave(alloc, verified, stays, store, key, instr),
+        _ => unreachable!(),
     }
-    store.begin(under)?;
-    stays.insert_reserved(child);
-    go_on(stays, key);
-    Ok(())
 }
 
 /// One step of the stay with a key.
@@ -101,21 +65,18 @@ pub(crate) fn step_in(
     }
     let instr = verified.fetch(usize::from(stay.top.function), usize::from(stay.top.pc));
     match stay.step(alloc, verified, spot, store, instr) {
-        Ok(Outcome::Goes) => Ok(Stepped::Moved),
+        Ok(Outcome::Goes) => Ok(Stepped::Moved(no_sent())),
         Ok(Outcome::Waits) => Ok(Stepped::Idle),
-        Ok(Outcome::Ends) => {
-            remove(stays, key);
-            Ok(Stepped::Moved)
-        }
-        Ok(Outcome::Begins) => match begin(alloc, verified, stays, store, key) {
-            Ok(()) => Ok(Stepped::Moved),
+        Ok(Outcome::ForPlace) => match by_place(alloc, verified, stays, store, key) {
+            Ok(sent) => Ok(Stepped::Moved(sent)),
             Err(why) => Err(why),
         },
         Err(why) => Err(why),
     }
 }
 
-/// Up to so many steps of the stay with a key: how many were made, and why no more, where one was refused.
+/// Up to so many steps of the stay with a key: how many were made, and what the last one put out, or why no more, where
+/// one was refused.
 pub(crate) fn run_in(
     alloc: Global,
     verified: &Verified,
@@ -123,29 +84,25 @@ pub(crate) fn run_in(
     store: &mut Store,
     key: usize,
     most: u64,
-) -> (u64, Option<Stop>)
+) -> (u64, Result<Sent, Stop>)
     requires { IsStanding (place_of verified.now stays.old store.old false) }
     ensures { IsRun verified.now stays.old store.old key most result.0 result.1 stays.new store.new }
 {
     verified.certificate();
     let spot = store.spot();
     let Some(stay) = stays.get_mut(key) else {
-        return (0, None);
+        return (0, Ok(no_sent()));
     };
     if stay.away {
-        return (0, None);
+        return (0, Ok(no_sent()));
     }
     let (done, pause) = stay.run(alloc, verified, spot, store, most);
     match pause {
-        Pause::Goes | Pause::Waits => (done, None),
-        Pause::Ended => {
-            remove(stays, key);
-            (done, None)
-        }
-        Pause::Refused(why) => (done, Some(why)),
-        Pause::Begins => match begin(alloc, verified, stays, store, key) {
-            Ok(()) => (done + 1, None),
-            Err(why) => (done, Some(why)),
+        Pause::Goes | Pause::Waits => (done, Ok(no_sent())),
+        Pause::Refused(why) => (done, Err(why)),
+        Pause::ForPlace => match by_place(alloc, verified, stays, store, key) {
+            Ok(sent) => (done + 1, Ok(sent)),
+            Err(why) => (done, Err(why)),
         },
     }
 }

@@ -2,11 +2,14 @@
 ghost use Rattle.std.specs.Prelude.{◌≡◌, ◌≤◌, ◌<◌, ◌^◌, ◌++◌, ◌∷◌, [], ◌⊎◌, ◌↔◌, ◌+◌, None, Err, IfErr, IfOk, IsTrue, OnErr, OnOk, Some, length};
 ghost use Rattle.x10_heap.specs.Heaps.{IsFull};
 ghost use Rattle.x10_finish.specs.Counts.{IsLargest};
+ghost use Rattle.x10_finish.specs.Ledgers.{IsAnswer};
 ghost use Rattle.x10_kinds.specs.declared.stop.Stop.TheVariants as stop;
 ghost use Rattle.x10_model.specs.Maps.{with_entry};
-ghost use Rattle.x10_model.specs.Totals.{zeros, nothing, begins_one, ends_one};
+ghost use Rattle.x10_model.specs.Totals.{zeros, nothing, begins_one, ends_one, sends_to};
 ghost use Rattle.x10_place.specs.Opening.{IsNewStore};
 ghost use Rattle.x10_place.specs.Stays.{finish_as, finish_at, totals_in, books_in, changed_at, Recounts, HasBook, IsDoneHere};
+ghost use Rattle.x10_finish.specs.Ledgers.{report_of};
+ghost use Rattle.x10_place.specs.Arrivals.{Merges, IsOpenHere, Comes, IsKeptOut};
 
 use crate::line::Line;
 use crate::stay::Spot;
@@ -14,7 +17,9 @@ use smallvec::SmallVec;
 use std::alloc::{AllocError, Global};
 use std::collections::BTreeMap;
 use std::marker::Model;
+use x10_copy::Marks;
 use x10_finish::{Book, Finish, Tally};
+use x10_frame::Report;
 use x10_heap::Heap;
 use x10_kinds::Stop;
 
@@ -22,8 +27,8 @@ use x10_kinds::Stop;
 const FINISHES: u8 = 5;
 
 /// What a place keeps for all its stays: the heap, the lines of output, and how many finishes it opened; what it has
-/// counted of each finish, and a book of each that it opened and that is open; and the registers of frames that ended,
-/// for those to come.
+/// counted of each finish, and a book of each that it opened and that is open; which parts of the heap the last message took
+/// along; and the registers of frames that ended, for those to come.
 #[derive(Drop)]
 pub(crate) struct Store {
     alloc: Global,
@@ -32,6 +37,7 @@ pub(crate) struct Store {
     opened: u32,
     tally: Tally,
     books: BTreeMap<u32, Book>,
+    pub(crate) marks: Marks,
     spare: Vec<SmallVec<u64, 8>>,
 }
 
@@ -59,6 +65,7 @@ impl Store {
             opened: 0,
             tally: Tally::new(alloc, spot.here, spot.places),
             books: BTreeMap::new(alloc),
+            marks: Marks::new(alloc),
             spare: Vec::new(alloc),
         };
         if spot.here == 0 {
@@ -113,6 +120,50 @@ impl Store {
     {
         if self.spare.len() < self.spare.capacity() {
             self.spare.push_reserved(registers);
+        }
+    }
+}
+
+impl Store {
+    /// Whether a finish with the number was opened here. Constant time.
+    pub(crate) fn was_opened(&self, number: u32) -> bool
+        ensures { IsTrue result ↔ (number < self.now.opened) }
+    {
+        number < self.opened
+    }
+
+    /// Whether there is a book of the finish with a number: whether it is open here.
+    pub(crate) fn has_book(&self, number: u32) -> bool
+        ensures { IsTrue result ↔ HasBook (books_in self.now) number }
+    {
+        self.books.contains_key(&number)
+    }
+
+    /// Whether a finish is open, if it is one of this place.
+    pub(crate) fn is_open(&self, finish: Finish) -> bool
+        ensures { IsTrue result ↔ IsOpenHere self.now (finish_as finish) }
+    {
+        finish.home != self.tally.place() || self.has_book(finish.number)
+    }
+
+    /// An activity that a place put out under a finish begins here. Where it is refused, nothing has changed.
+    pub(crate) fn come(&mut self, finish: Finish, from: u16) -> Result<(), Stop>
+        requires { from < self.old.places }
+        ensures ok { OnOk result (Comes self.old from (finish_as finish) self.new) }
+        ensures err { IfErr result (λ why. (self.new ≡ self.old) × IsKeptOut self.old from (finish_as finish) why) }
+    {
+        self.tally.came(finish, from)
+    }
+
+    /// The book of a finish that is open here takes in a report. Takes no memory.
+    pub(crate) fn merge(&mut self, report: &Report)
+        requires place { report.now.place < self.old.places }
+        requires sent { length report.now.sent.items ≡ self.old.places }
+        requires received { length report.now.received.items ≡ self.old.places }
+        ensures { Merges self.old (report_of report.now) self.new }
+    {
+        if let Some(book) = self.books.get_mut(&report.number) {
+            book.merge(report);
         }
     }
 }
@@ -186,6 +237,36 @@ impl Store {
         ensures err { IfErr result (λ why. (self.new ≡ self.old) × ((why ≡ stop.Memory) ⊎ ((why ≡ stop.Limit 6) × IsLargest (totals_in self.old (finish_as finish)).live))) }
     {
         self.tally.began(finish)
+    }
+
+    /// How many activities were sent to a place under a finish.
+    pub(crate) fn sent(&self, finish: Finish, to: u16) -> u32
+        ensures { result ≡ (totals_in self.now (finish_as finish)).sent to }
+    {
+        match self.tally.sent(finish).get(usize::from(to)) {
+            Some(count) => *count,
+            None => 0,
+        }
+    }
+
+    /// An activity is sent to a place under a finish, or goes on there. Where it is refused, nothing has changed.
+    pub(crate) fn spawned(&mut self, finish: Finish, to: u16) -> Result<(), Stop>
+        requires { to < self.old.places }
+        ensures ok { OnOk result (Recounts self.old self.new self.old.opened (changed_at (totals_in self.old) (finish_as finish) (λ t. sends_to t to)) (books_in self.old)) }
+        ensures err { IfErr result (λ why. (self.new ≡ self.old) × ((why ≡ stop.Memory) ⊎ ((why ≡ stop.Limit 6) × IsLargest ((totals_in self.old (finish_as finish)).sent to)))) }
+    {
+        self.tally.spawned(finish, to)
+    }
+
+    /// What goes to the home of a finish when one more activity under it ends here.
+    pub(crate) fn leaving(&self, finish: Finish) -> Result<Option<Report>, Stop>
+        requires { 0 < (totals_in self.now (finish_as finish)).live }
+        ensures ok { IfOk result (IsAnswer self.now.ledger (finish_as finish)) }
+        ensures here { self.now.ledger.place ≡ self.now.here }
+        ensures places { self.now.ledger.places ≡ self.now.places }
+        ensures err { IfErr result (λ why. why ≡ stop.Memory) }
+    {
+        self.tally.leaving(finish)
     }
 
     /// An activity under a finish ends here. Takes no memory.

@@ -21,5 +21,5 @@ returns-in_default c = record {
   ran = paused_on c.stride-count.result.1 (location c.args.verified.now.program c.args.spot) c.args.self.now c.loop-done.self c.stride-count.new.self c.args.store.now c.loop-done.store c.stride-count.new.store c.loop-done.done c.stride-count.result.0 (c.loop-done.done + c.stride-count.result.0) refl c.loop-done.invariant.1 c.stride-count.ensures.ran;
   few = omega (arith, c.stride-count.ensures.few, c.loop-done.invariant.2);
   all = λ e. absurd (c.in_default.not-Goes e);
-  begins = λ e. let lt = c.stride-count.ensures.begins e in omega (arith, lt);
+  less = λ e. let lt = c.stride-count.ensures.less e in omega (arith, lt);
 }

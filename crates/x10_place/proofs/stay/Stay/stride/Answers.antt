@@ -7,7 +7,7 @@ use Rattle.x10_place.proofs.Fetching.{function_within, fetched_within}
 use Rattle.x10_place.proofs.Going.{typed_top}
 use Rattle.x10_place.proofs.Placing.{checked}
 use Rattle.x10_place.proofs.Reading.{working_reads}
-use Rattle.x10_place.proofs.Stretching.{stretched, working_on, unchanged, stopped_at, further_by, ended_by, waits_there, begins_there}
+use Rattle.x10_place.proofs.Stretching.{stretched, working_on, unchanged, stopped_at, further_by, waits_there, left_there}
 use Rattle.x10_place.proofs.stay.Stay.stride.Goals as goal
 
 pub stretch-done-requires-clause-inside : goal.stretch-done-requires-clause-inside
@@ -65,13 +65,6 @@ returns-in-Ok-Goes-clause-typed c =
     (record { function_is = c.from.ensures; pc_is = c.from-2.ensures; value = c.fetch-instr.ensures.value; in_range = c.fetch-instr.ensures.in_range; follows = c.fetch-instr.ensures.follows }) in
     λ goes. working_on (location c.args.verified.now.program c.args.spot) _ c.step.new.self _ c.step.new.store c.fetch-instr.result c.in-Ok-Goes.field-0 (checked c.args.verified.now c.certificate.ensures) before.working fetched c.in-Ok-Goes.field-0-is c.in-Ok-Goes.ensures.ok
 
-pub returns-in-Ok-Ends-clause-ran : goal.returns-in-Ok-Ends-clause-ran
-returns-in-Ok-Ends-clause-ran c =
-    let before = stretched (location c.args.verified.now.program c.args.spot) (the_view c.self.inside) c.args.self.now (store.the_view c.store.inside) c.args.store.now c.stretch-done.new.self c.stretch-done.new.heap c.stretch-done.result (checked c.args.verified.now c.certificate.ensures) c.self.view_is c.store.view_is c.requires.typed c.stretch-done.ensures.ran c.stretch-done.ensures.kept in
-    let fetched : IsFetched c.args.verified.now.program c.stretch-done.new.self.function c.stretch-done.new.self.pc (length c.stretch-done.new.self.registers.items) c.fetch-instr.result = fetched_within c.args.verified.now.program c.stretch-done.new.self.function c.stretch-done.new.self.pc (length c.stretch-done.new.self.registers.items) c.from.result c.from-2.result c.fetch-instr.result c.certificate.ensures.fits c.stretch-done.ensures.inside
-    (record { function_is = c.from.ensures; pc_is = c.from-2.ensures; value = c.fetch-instr.ensures.value; in_range = c.fetch-instr.ensures.in_range; follows = c.fetch-instr.ensures.follows }) in
-    ended_by (location c.args.verified.now.program c.args.spot) c.args.self.now _ c.step.new.self c.args.store.now _ c.step.new.store c.stretch-done.result c.fetch-instr.result before.stretch before.working.typed.stands.placed fetched c.in-Ok-Ends.field-0 c.in-Ok-Ends.ensures.ok c.in-Ok-Ends.field-0-is
-
 pub returns-in-Ok-Waits-clause-ran : goal.returns-in-Ok-Waits-clause-ran
 returns-in-Ok-Waits-clause-ran c =
     let before = stretched (location c.args.verified.now.program c.args.spot) (the_view c.self.inside) c.args.self.now (store.the_view c.store.inside) c.args.store.now c.stretch-done.new.self c.stretch-done.new.heap c.stretch-done.result (checked c.args.verified.now c.certificate.ensures) c.self.view_is c.store.view_is c.requires.typed c.stretch-done.ensures.ran c.stretch-done.ensures.kept in
@@ -79,12 +72,12 @@ returns-in-Ok-Waits-clause-ran c =
     (record { function_is = c.from.ensures; pc_is = c.from-2.ensures; value = c.fetch-instr.ensures.value; in_range = c.fetch-instr.ensures.in_range; follows = c.fetch-instr.ensures.follows }) in
     waits_there (location c.args.verified.now.program c.args.spot) c.args.self.now _ c.step.new.self c.args.store.now _ c.step.new.store c.stretch-done.result c.fetch-instr.result before.stretch before.working.typed.stands.placed fetched c.in-Ok-Waits.field-0 c.in-Ok-Waits.ensures.ok c.in-Ok-Waits.field-0-is
 
-pub returns-in-Ok-Begins-clause-ran : goal.returns-in-Ok-Begins-clause-ran
-returns-in-Ok-Begins-clause-ran c =
+pub returns-in-Ok-ForPlace-clause-ran : goal.returns-in-Ok-ForPlace-clause-ran
+returns-in-Ok-ForPlace-clause-ran c =
     let before = stretched (location c.args.verified.now.program c.args.spot) (the_view c.self.inside) c.args.self.now (store.the_view c.store.inside) c.args.store.now c.stretch-done.new.self c.stretch-done.new.heap c.stretch-done.result (checked c.args.verified.now c.certificate.ensures) c.self.view_is c.store.view_is c.requires.typed c.stretch-done.ensures.ran c.stretch-done.ensures.kept in
     let fetched : IsFetched c.args.verified.now.program c.stretch-done.new.self.function c.stretch-done.new.self.pc (length c.stretch-done.new.self.registers.items) c.fetch-instr.result = fetched_within c.args.verified.now.program c.stretch-done.new.self.function c.stretch-done.new.self.pc (length c.stretch-done.new.self.registers.items) c.from.result c.from-2.result c.fetch-instr.result c.certificate.ensures.fits c.stretch-done.ensures.inside
     (record { function_is = c.from.ensures; pc_is = c.from-2.ensures; value = c.fetch-instr.ensures.value; in_range = c.fetch-instr.ensures.in_range; follows = c.fetch-instr.ensures.follows }) in
-    begins_there (location c.args.verified.now.program c.args.spot) c.args.self.now _ c.step.new.self c.args.store.now _ c.step.new.store c.stretch-done.result c.fetch-instr.result before.stretch before.working.typed.stands.placed fetched c.in-Ok-Begins.field-0 c.in-Ok-Begins.ensures.ok c.in-Ok-Begins.field-0-is
+    left_there (location c.args.verified.now.program c.args.spot) c.args.self.now _ c.step.new.self c.args.store.now _ c.step.new.store c.stretch-done.result c.fetch-instr.result before.stretch before.working.typed.stands.placed fetched c.in-Ok-ForPlace.field-0 c.in-Ok-ForPlace.ensures.ok c.in-Ok-ForPlace.field-0-is
 
 pub returns-in-Err-clause-ran : goal.returns-in-Err-clause-ran
 returns-in-Err-clause-ran c =

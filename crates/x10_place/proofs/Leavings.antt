@@ -1,0 +1,206 @@
+-- The end of a stay: the place's step is the machine's.
+use Rattle.std.proofs.Common.{◌≡◌, ℕ, ◌<◌, ◌≤◌, ◌^◌, ◌==◌, Bool, true, false, suc, List, [], ◌∷◌, get_or, Vec, length, Option, Some, None, refl, sym, ap, ap₂, subst, ◌∙◌, arith}
+use Rattle.std.specs.Global.{Global}
+use Rattle.std.specs.Prelude.{map, ◌&&◌, if◌then◌else◌}
+use Rattle.std.proofs.lemmas.Bool.{eqb-true, eq-eqb}
+use Rattle.slab.specs.Slab.{Slab}
+use Rattle.x10_code.specs.declared.op.Op.TheVariants as op
+use Rattle.x10_code.specs.declared.instr.Instr.{Instr}
+use Rattle.x10_model.specs.declared.slot.Slot.{Slot}
+use Rattle.x10_model.specs.Ranges.{result_of}
+use Rattle.x10_model.specs.Places as machine
+use Rattle.x10_model.specs.Places.{Finish, Origin, Stay, Message, Effect, Ends, with_stay}
+use Rattle.x10_model.specs.Moves.{Does, Situation, SendsBack, as_list}
+use Rattle.x10_model.specs.Marshalling.{snapshot_of}
+use Rattle.x10_model.specs.Assignments.{Permits}
+use Rattle.x10_model.specs.Totals.{is_last}
+use Rattle.x10_model.specs.Worlds.{same_finish}
+use Rattle.x10_model.specs.Frames as frames
+use Rattle.x10_heap.specs.Words.{Context, AreWordsOf, HoldsHeap}
+use Rattle.x10_heap.proofs.Growing.{Grows, grows_not}
+use Rattle.std.specs.List.{AllByRecursion}
+use Rattle.x10_frame.specs.declared.report.Report.{Report}
+use Rattle.x10_finish.specs.Ledgers.{report_of, IsAnswer}
+use Rattle.x10_model.specs.Frames.{spelling}
+use Rattle.x10_frame.specs.declared.head.Head.TheVariants as head
+use Rattle.x10_copy.specs.Captured.{kinds_of, IsSnapshot}
+use Rattle.x10_place.specs.declared.place.Stepped.TheVariants as stepped
+use Rattle.x10_place.specs.declared.sent.Outgoing.{Outgoing}
+use Rattle.x10_place.specs.declared.sent.Sent.{Sent}
+use Rattle.x10_place.specs.Sending.{slots_of, slots_of_end, words_from}
+use Rattle.x10_place.specs.Parting.{SendsResult, Reports, LeavesAt}
+use Rattle.x10_place.specs.Messages.{SendsMessage, SendsReport}
+use Rattle.x10_place.specs.Stays.{StayState, StoreState, totals_in}
+use Rattle.x10_place.specs.StandsFor.{Far, context, context_of, PlaceState, store_of, with_stays, line_as, StandsForStay, HoldsExports, StandsFor, setting_of, Leads, LeadsAll}
+use Rattle.x10_place.proofs.Framed.{point_of, in_range, count, rule}
+use Rattle.x10_place.proofs.Local.{situated}
+use Rattle.x10_place.proofs.Ends.{Ending, ret_ends, result_register}
+use Rattle.x10_place.proofs.Payloads.{given_words}
+use Rattle.x10_place.proofs.Placing.{IsChecked, none_open}
+use Rattle.x10_place.proofs.Recounting.{counted_in, ends_count}
+use Rattle.x10_place.proofs.Steps.{moves, rebuilt, keys_one, keyed_one}
+
+-- a finish is the same as itself, and no other one is
+same_as_itself : (f : Finish) → same_finish f f ≡ true
+same_as_itself f = both (f.home == f.home) (f.number == f.number) (eq-eqb f.home f.home refl) (eq-eqb f.number f.number refl)
+  where
+    both : (b c : Bool) → b ≡ true → c ≡ true → (if b then c else false) ≡ true
+    both true c e g = g
+    both false c e g = absurd cc
+
+-- ---- the report of a place
+
+-- each of the counts has 32 bits
+pub all_small : (xs : List ℕ) → ((k : ℕ) → get_or xs k 0 < 2 ^ 32) → AllByRecursion (λ n. n < 2 ^ 32) xs
+all_small [] h = tt
+all_small (x ∷ xs) h = (h 0, all_small xs (λ k. h (suc k)))
+
+-- none is due
+pub reports_none : (s : StoreState) (f : Finish) (o : Option Report) → s.ledger.place ≡ s.here → IsAnswer s.ledger f o → o ≡ None → Reports s f None
+reports_none s f o here answer e = subst (λ n. is_last f.home n (totals_in s f) ≡ false) here (subst (λ q. IsAnswer s.ledger f q) e answer)
+
+-- one is due, and goes to the home of the finish
+pub reports_one : (s : StoreState) (f : Finish) (o : Option Report) (r : Report) (bytes : Vec ℕ Global) → s.ledger.place ≡ s.here → s.ledger.places ≡ s.places → s.here < s.places → f.home < s.places → f.number < 2 ^ 32 → IsAnswer s.ledger f o → o ≡ Some r → AllByRecursion (λ n. n < 2 ^ 32) r.sent.items → AllByRecursion (λ n. n < 2 ^ 32) r.received.items
+    → bytes.items ≡ spelling (frames.Report r.place f.home r.number r.sent.items r.received.items) → Reports s f (Some (record { to = f.home; bytes = bytes }))
+reports_one s f o r bytes here places within home few answer e sent received spelled =
+    let due = subst (λ q. IsAnswer s.ledger f q) e answer in (
+      subst (λ n. is_last f.home n (totals_in s f) ≡ true) here due.0,
+      record {
+        report = report_of r;
+        to_is = refl;
+        place_is = due.1.place ∙ here;
+        number_is = due.1.number;
+        entry_is = due.1.entry;
+        carries = record {
+          fits = record {
+            from = subst (λ n. n < s.places) (sym (due.1.place ∙ here)) within;
+            to = home;
+            body = (subst (λ n. n < 2 ^ 32) (sym due.1.number) few, (due.1.sent ∙ places, sent), (due.1.received ∙ places, received));
+          };
+          spelled = spelled;
+        };
+      },
+    )
+
+-- how many counts it has
+pub report_short : (s : StoreState) (f : Finish) (o : Option Report) (r : Report) → s.ledger.places ≡ s.places → s.places ≤ 64 → IsAnswer s.ledger f o → o ≡ Some r → length r.sent.items < 2 ^ 16
+report_short s f o r places few answer e = let due = subst (λ q. IsAnswer s.ledger f q) e answer in let long = due.1.sent in omega (arith, long, places, few)
+
+module _ (far : Far) (p : PlaceState) (m : machine.Place) (stands : StandsFor far p m) (key : ℕ) (out : Sent) (slab : Slab StayState) (t : StoreState) (checks : IsChecked p.program) (d : LeavesAt p.program p.stays (store_of p) key out slab t) (ready : d.stay.away ≡ false) where
+  abbrev a : StayState
+  a = d.stay
+
+  abbrev i : Instr
+  i = d.instr
+
+  abbrev s : Stay
+  s = (stands.some key a d.is_there).0
+
+  abbrev x : Context
+  x = context_of far p
+
+  abbrev h : StandsForStay p.program stands.assigned x a s
+  h = (stands.some key a d.is_there).2
+
+  abbrev sit : Situation
+  sit = situated (setting_of p) p.id m key s h.top.function i
+
+  -- ---- the result
+
+  abbrev ending : Ending (setting_of p) p.id far m key s stands.assigned p.heap stands.heap stands.site.few a h i d.fetched
+  ending =
+      let at = rule p.program stands.assigned x a.top s.top h.top i d.fetched in
+      ret_ends (setting_of p) p.id far m key s stands.assigned p.heap stands.heap stands.site.few a h i d.fetched at.0 d.is_ret (subst (λ q. Permits q (point_of p.program h.top.function a.top i) h.top.state at.0) d.is_ret at.1) d.callers (none_open p.program checks a i h.placed d.fetched d.is_ret d.callers)
+
+  words : AreWordsOf x (kinds_of (slots_of_end p.program a.top)) (words_from a.top i.a (slots_of_end p.program a.top)) (as_list ending.result)
+  words =
+      let slots : slots_of_end p.program a.top ≡ slots_of h.top.function.result = ap (λ o. slots_of (result_of o)) h.top.is_function in
+      subst (λ ss. AreWordsOf x (kinds_of ss) (words_from a.top i.a ss) (as_list ending.result)) (sym slots) (given_words x m.cells h.top.function.result ending.result a.top.registers.items i.a there ending.given)
+    where
+      there : (slot : Slot) → h.top.function.result ≡ Some slot → i.a < length a.top.registers.items
+      there slot e =
+          let lt = result_register p.program h.top.function i slot d.is_ret (in_range p.program stands.assigned x a.top s.top h.top i d.fetched).a e in
+          let many = count p.program stands.assigned x a.top s.top h.top i d.fetched in
+          omega (arith, lt, many)
+
+  -- the message with the result, if there is one
+  pub record Result : Type 0 where
+    pub back : Option Message
+    pub sends : SendsBack sit ending.result a.back back
+    pub goes_back : SendsMessage p.program x out.message back
+
+  result_of_stay : Result
+  result_of_stay = let r = by a.back out.message refl d.result in record { back = r.0; sends = r.1; goes_back = r.2 }
+    where
+      by : (o : Option Origin) (q : Option Outgoing) → a.back ≡ o → SendsResult p.program (store_of p) a i o q → (r : Option Message) × SendsBack sit ending.result o r × SendsMessage p.program x q r
+      by None None e sent = (None, refl, refl)
+      by (Some origin) (Some o) e sent =
+          let snapshot : IsSnapshot x m.cells (kinds_of (slots_of_end p.program a.top)) (as_list ending.result) (head.Back p.id origin.place origin.key) o.bytes.items = sent.1 x m.cells (as_list ending.result) refl refl refl stands.heap words in
+          let graph = snapshot_of snapshot.graph in
+          let run = h.run.back origin e in (
+            Some (machine.Back p.id origin.place origin.key graph),
+            (graph, snapshot.captures, refl),
+            (
+              machine.Back p.id origin.place origin.key graph,
+              refl,
+              record {
+                to_is = sent.0;
+                carries = record {
+                  frame = frames.Back p.id origin.place origin.key snapshot.graph;
+                  fits = record { from = stands.site.within; to = run.0; body = (run.1, snapshot.fits) };
+                  spelled = snapshot.spelled;
+                  message_is = refl;
+                  classes = snapshot.of_kinds.nodes;
+                };
+                named = snapshot.named;
+              },
+            ),
+          )
+      by None (Some o) e sent = absurd sent
+      by (Some origin) None e sent = absurd sent
+
+  -- ---- the report
+
+  report_of_finish : (back : Option Message) → SendsReport (store_of p) (Ends a.inherited back) out.report
+  report_of_finish back = by out.report d.report
+    where
+      other : (f : Finish) (b : Bool) → same_finish f a.inherited ≡ b → is_last a.inherited.home p.id (totals_in (store_of p) a.inherited) ≡ false → (b && is_last f.home p.id (totals_in (store_of p) f)) ≡ false
+      other f false e last = refl
+      other f true e last = subst (λ g. is_last g.home p.id (totals_in (store_of p) g) ≡ false) (sym (same f e)) last
+        where
+          same : (f : Finish) → same_finish f a.inherited ≡ true → f ≡ a.inherited
+          same f e = parts (f.home == a.inherited.home) refl e
+            where
+              parts : (c : Bool) → (f.home == a.inherited.home) ≡ c → (if c then f.number == a.inherited.number else false) ≡ true → f ≡ a.inherited
+              parts true is g = ap₂ (λ m n. let q : Finish = record { home = m; number = n } in q) (eqb-true f.home a.inherited.home is) (eqb-true f.number a.inherited.number g)
+              parts false is g = absurd cc
+
+      by : (q : Option Outgoing) → Reports (store_of p) a.inherited q → SendsReport (store_of p) (Ends a.inherited back) q
+      by None last = λ f. other f (same_finish f a.inherited) refl last
+      by (Some o) (last, sent) = (a.inherited, subst (λ b. (b && is_last a.inherited.home p.id (totals_in (store_of p) a.inherited)) ≡ true) (sym (same_as_itself a.inherited)) last, sent)
+
+  pub leads_leaving : Leads far p m key (stepped.Moved out) (with_stays p slab t)
+  leads_leaving =
+      let result = result_of_stay in
+      let new = with_stay m key None in
+      let r = d.store in
+      let effect : Effect = Ends a.inherited result.back in
+      let inherited : Ends s.inherited result.back ≡ effect = ap (λ f. Ends f result.back) h.inherited in
+      let counted = ends_count (store_of p) t a.inherited result.back r in
+      let moved = moves (setting_of p) p.id far m key stands.assigned (store_of p) a s h i d.fetched new effect ready (stands.some key a d.is_there).1
+      (subst (λ q. Does q sit new effect) (sym d.is_ret) (subst (λ e. Does op.Ret sit new e) inherited (ending.does result.back result.sends))) in
+      let grows = subst (λ n. Grows x (context (setting_of p) p.id n far)) (sym r.heap) (grows_not x) in
+      record {
+        effect = effect;
+        new = new;
+        moves = moved;
+        stands = rebuilt far p m stands slab t key new effect moved (keys_one far p m stands slab t key a None d.is_there d.updates) (keyed_one far p m stands slab t key None None m.stays refl grows d.updates refl)
+            (subst (λ n. HoldsHeap (context (setting_of p) p.id n far) m.cells) (sym r.heap) stands.heap) (subst (λ n. HoldsExports n m.exports) (sym r.heap) stands.exports)
+            (stands.opened ∙ sym r.opened_is) (stands.lines ∙ sym (ap (λ ls. map line_as ls) r.lines)) counted (r.opened_is, r.books_are);
+        counted = counted_in (store_of p) t effect counted;
+        answers = ((λ n f. absurd cc), record { message = result.goes_back; report = report_of_finish result.back });
+      }
+
+-- each place of the machine makes the step
+pub leave_leads : (p : PlaceState) (key : ℕ) (out : Sent) (slab : Slab StayState) (t : StoreState) → IsChecked p.program → (d : LeavesAt p.program p.stays (store_of p) key out slab t) → d.stay.away ≡ false → LeadsAll p key (stepped.Moved out) (with_stays p slab t)
+leave_leads p key out slab t checks d ready far m stands = leads_leaving far p m stands key out slab t checks d ready

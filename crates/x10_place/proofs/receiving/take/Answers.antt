@@ -1,0 +1,39 @@
+use Rattle.std.proofs.Common.{◌≡◌, sym, ◌∙◌, rules}
+use Rattle.x10_place.proofs.Delivered.{ok_then, err_then, spawn_is, shift_is, back_is, spawn_taken, spawn_refused, shift_taken, shift_refused, back_taken, back_refused_so}
+use Rattle.x10_place.proofs.Placing.{checked}
+use Rattle.x10_place.proofs.receiving.take.Goals as goal
+
+pub returns-in-Spawn-clause-ok : goal.returns-in-Spawn-clause-ok
+returns-in-Spawn-clause-ok c =
+    let here : c.in-Spawn.to ≡ c.args.store.now.here = search rules in
+    ok_then c.launch_with.result (spawn_taken c.args.verified.now c.args.stays.now c.args.store.now c.in-Spawn.from c.in-Spawn.to c.in-Spawn.home c.in-Spawn.number c.in-Spawn.function here c.args.view.now (spawn_is c.args.view.now c.in-Spawn.from c.in-Spawn.to c.in-Spawn.home c.in-Spawn.number c.in-Spawn.function (sym c.head-head.ensures.value ∙ c.in-Spawn.is))
+    c.launch_with.new.stays c.launch_with.new.store c.certificate.ensures.fits c.requires.fits) c.launch_with.ensures.ok
+
+pub returns-in-Spawn-clause-refused : goal.returns-in-Spawn-clause-refused
+returns-in-Spawn-clause-refused c =
+    let here : c.in-Spawn.to ≡ c.args.store.now.here = search rules in
+    err_then c.launch_with.result (spawn_refused c.args.verified.now c.args.stays.now c.args.store.now c.in-Spawn.from c.in-Spawn.to c.in-Spawn.home c.in-Spawn.number c.in-Spawn.function here c.args.view.now (spawn_is c.args.view.now c.in-Spawn.from c.in-Spawn.to c.in-Spawn.home c.in-Spawn.number c.in-Spawn.function (sym c.head-head.ensures.value ∙ c.in-Spawn.is)))
+    c.launch_with.ensures.refused
+
+pub returns-in-Shift-clause-ok : goal.returns-in-Shift-clause-ok
+returns-in-Shift-clause-ok c =
+    let here : c.in-Shift.to ≡ c.args.store.now.here = search rules in
+    ok_then c.launch_with-in-Shift.result (shift_taken c.args.verified.now c.args.stays.now c.args.store.now c.in-Shift.from c.in-Shift.to c.in-Shift.home c.in-Shift.number c.in-Shift.function here c.in-Shift.waiting c.args.view.now (shift_is c.args.view.now c.in-Shift.from c.in-Shift.to c.in-Shift.waiting c.in-Shift.home c.in-Shift.number c.in-Shift.function (sym c.head-head.ensures.value ∙ c.in-Shift.is))
+    c.launch_with-in-Shift.new.stays c.launch_with-in-Shift.new.store c.certificate.ensures.fits c.requires.fits) c.launch_with-in-Shift.ensures.ok
+
+pub returns-in-Shift-clause-refused : goal.returns-in-Shift-clause-refused
+returns-in-Shift-clause-refused c =
+    let here : c.in-Shift.to ≡ c.args.store.now.here = search rules in
+    err_then c.launch_with-in-Shift.result (shift_refused c.args.verified.now c.args.stays.now c.args.store.now c.in-Shift.from c.in-Shift.to c.in-Shift.home c.in-Shift.number c.in-Shift.function here c.in-Shift.waiting c.args.view.now (shift_is c.args.view.now c.in-Shift.from c.in-Shift.to c.in-Shift.waiting c.in-Shift.home c.in-Shift.number c.in-Shift.function (sym c.head-head.ensures.value ∙ c.in-Shift.is)))
+    c.launch_with-in-Shift.ensures.refused
+
+pub returns-in-Back-clause-ok : goal.returns-in-Back-clause-ok
+returns-in-Back-clause-ok c =
+    let here : c.in-Back.to ≡ c.args.store.now.here = search rules in
+    ok_then c.resume.result (back_taken c.args.verified.now c.args.stays.now c.args.store.now c.in-Back.from c.in-Back.to c.in-Back.waiting here c.args.view.now (back_is c.args.view.now c.in-Back.from c.in-Back.to c.in-Back.waiting (sym c.head-head.ensures.value ∙ c.in-Back.is))
+    c.resume.new.stays c.resume.new.store (checked c.args.verified.now c.certificate.ensures) c.requires.fits) c.resume.ensures.ok
+
+pub returns-in-Back-clause-refused : goal.returns-in-Back-clause-refused
+returns-in-Back-clause-refused c =
+    let here : c.in-Back.to ≡ c.args.store.now.here = search rules in
+    err_then c.resume.result (back_refused_so c.args.verified.now c.args.stays.now c.args.store.now c.in-Back.from c.in-Back.to c.in-Back.waiting here c.args.view.now (back_is c.args.view.now c.in-Back.from c.in-Back.to c.in-Back.waiting (sym c.head-head.ensures.value ∙ c.in-Back.is))) c.resume.ensures.refused

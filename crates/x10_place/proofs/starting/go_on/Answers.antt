@@ -1,0 +1,7 @@
+use Rattle.std.proofs.Common.{Some, sym, ap, ◌∙◌}
+use Rattle.x10_place.specs.contracts.stay.Stay.{the_view}
+use Rattle.x10_place.proofs.Beginning.{went_on}
+use Rattle.x10_place.proofs.starting.go_on.Goals as goal
+
+pub returns-in-Some : goal.returns-in-Some
+returns-in-Some c = λ a e. went_on c.args.stays.now c.args.key (the_view c.stay.inside) a c.next.new.self (sym c.in-Some.ensures.value ∙ ap Some (sym c.stay.view_is)) c.next.ensures e

@@ -1,0 +1,136 @@
+//! An activity that comes from a place begins: a new one, or one that goes on here.
+ghost use Rattle.std.specs.Prelude.{◌≡◌, ◌<◌, ◌≤◌, ℕ, IfErr, IfOk, OnErr, OnOk, List, None, length, slice_index};
+ghost use Rattle.x10_model.specs.Frames.{FitsFrame};
+ghost use Rattle.x10_model.specs.Marshalling.{snapshot_of};
+ghost use Rattle.x10_model.specs.Modules.{Module, Function};
+ghost use Rattle.x10_model.specs.declared.slot.Slot.{Slot};
+ghost use Rattle.x10_frame.specs.Heads.{graph_of};
+ghost use Rattle.x10_copy.specs.Arrived.{FitsArrival};
+ghost use Rattle.x10_copy.specs.Taken.{IsTakenIn};
+ghost use Rattle.x10_copy.specs.declared.refusal.Refusal.TheVariants as refusal;
+ghost use Rattle.x10_place.specs.Arrivals.{Settles, IsUnsettled, MayBegin, IsEntrance, IsEnteredWith, Launches, IsLaunchRefused};
+ghost use Rattle.x10_place.specs.Stretches.{IsUntouched};
+
+use crate::frame::CallFrame;
+use crate::sending::parameters;
+use crate::starting::{KEYS, MOST_KEYS};
+use crate::stay::{Origin, Stay};
+use crate::store::Store;
+use slab::Slab;
+use smallvec::SmallVec;
+use std::alloc::Global;
+use x10_copy::{Refusal, Roots, bring, check, refusal_of};
+use x10_finish::Finish;
+use x10_frame::FrameView;
+use x10_image::SigView;
+use x10_verify::Verified;
+
+/// What begins: from which place it comes, the function, the finish under which it counts, and the stay that waits for its
+/// result.
+#[derive(Clone, Copy, Debug, PartialEq, Eq)]
+pub(crate) struct Launch {
+    pub(crate) from: u16,
+    pub(crate) function: u16,
+    pub(crate) under: Finish,
+    pub(crate) back: Option<Origin>,
+}
+
+/// The signature of the function, if it may begin.
+fn entrance<'a>(verified: &Verified<'a>, launch: &Launch) -> Result<SigView<'a>, Refusal>
+    ensures ok { IfOk result (IsEntrance verified.now.program launch.now) }
+    ensures err { IfErr result (λ why. (why ≡ refusal.Function) × ((callee : Function) → MayBegin verified.now.program launch.now callee → ⊥)) }
+{
+    verified.certificate();
+    let image = verified.image();
+    let function = usize::from(launch.function);
+    if function >= image.functions() {
+        return Err(Refusal::Function);
+    }
+    let signature = image.signature(function);
+    if launch.back.is_none() && signature.result().is_some() {
+        return Err(Refusal::Function);
+    }
+    Ok(signature)
+}
+
+/// Writes words to the first registers.
+fn put_words(registers: &mut [u64], words: &[u64])
+    requires { length words.now ≤ length registers.old }
+    ensures arguments { (r : ℕ) → r < length words.now → slice_index registers.new r ≡ slice_index words.now r }
+{
+    registers[..words.len()].copy_from_slice(words);
+}
+
+/// The frame of a function at its first instruction, with these words in its first registers.
+fn entered(function: u16, mut registers: SmallVec<u64, 8>, words: &Roots) -> CallFrame
+    requires { length words.now.items ≤ length registers.items }
+    ensures { IsEnteredWith function (length registers.items) words.now.items result }
+{
+    put_words(registers.as_mut_slice(), words.as_slice());
+    CallFrame {
+        function,
+        pc: 0,
+        registers,
+        loops: [0; 8],
+    }
+}
+
+/// What the frame brings comes into the heap, and the activity is counted. Where either is refused, nothing has changed.
+fn settle(
+    alloc: Global,
+    view: &FrameView,
+    store: &mut Store,
+    launch: &Launch,
+) -> Result<Roots, Refusal>
+    requires { launch.now.from < store.old.places }
+    ensures ok { IfOk result (λ roots. Settles store.old (graph_of view.now) launch.now roots.items store.new) }
+    ensures taken { IfOk result (λ roots. (m : Module) (here home : ℕ) (slots : List Slot) → FitsArrival m here home store.old.heap slots (snapshot_of (graph_of view.now)) → IsTakenIn m here store.old.heap slots view.now roots.items store.new.heap) }
+    ensures err { IfErr result (λ why. (store.new ≡ store.old) × IsUnsettled store.old (graph_of view.now) launch.now why) }
+{
+    let (objects, rails, texts) = (store.heap.objects(), store.heap.rails(), store.heap.texts());
+    let roots = bring(alloc, view, &mut store.heap)?;
+    if let Err(why) = store.come(launch.under, launch.from) {
+        store.heap.truncate(objects, rails, texts);
+        return Err(refusal_of(why));
+    }
+    Ok(roots)
+}
+
+/// An activity begins with what a frame brings. Where it is refused, nothing has changed.
+pub(crate) fn launch_with(
+    alloc: Global,
+    verified: &Verified,
+    stays: &mut Slab<Stay>,
+    store: &mut Store,
+    view: &FrameView,
+    launch: Launch,
+) -> Result<(), Refusal>
+    requires { launch.from < store.old.places }
+    ensures ok { OnOk result (Launches verified.now.program stays.old store.old view.now launch stays.new store.new) }
+    ensures err { OnErr result (IsUntouched stays.old store.old stays.new store.new) }
+    ensures refused { IfErr result (IsLaunchRefused verified.now.program stays.old store.old view.now launch) }
+{
+    let signature = entrance(verified, &launch)?;
+    let slots = parameters(&signature);
+    let slots = &slots[..signature.parameters()];
+    let here = store.spot().here;
+    check(view, &store.heap, verified.image(), here, here, slots)?;
+    if !store.is_open(launch.under) {
+        return Err(Refusal::Finish);
+    }
+    if stays.vacant_key() > MOST_KEYS {
+        return Err(Refusal::Limit(KEYS));
+    }
+    stays.reserve(1)?;
+    let registers = store.registers(alloc, usize::from(signature.registers()))?;
+    let roots = settle(alloc, view, store, &launch)?;
+    stays.insert_reserved(Stay {
+        top: entered(launch.function, registers, &roots),
+        callers: Vec::new(alloc),
+        finishes: Vec::new(alloc),
+        inherited: launch.under,
+        away: false,
+        back: launch.back,
+    });
+    Ok(())
+}

@@ -1,0 +1,134 @@
+//! The end of a stay.
+ghost use Rattle.std.specs.Prelude.{◌≡◌, ◌<◌, ◌≤◌, ◌^◌, ℕ, [], None, false, Err, IfErr, IfOk, OnErr, Some};
+ghost use Rattle.std.specs.List.{AllByRecursion};
+ghost use Rattle.slab.specs.Slab.{get, Updates};
+ghost use Rattle.x10_code.specs.declared.op.Op.TheVariants as op;
+ghost use Rattle.x10_copy.specs.Captured.{kinds_of, Refuses};
+ghost use Rattle.x10_frame.specs.declared.head.Head.TheVariants as head;
+ghost use Rattle.x10_kinds.specs.declared.stop.Stop.TheVariants as stop;
+ghost use Rattle.x10_place.specs.Frames.{IsFetchedFor};
+ghost use Rattle.x10_place.specs.Parting.{TakesAlong, Reports, LeavesAt};
+ghost use Rattle.x10_place.specs.Sending.{StandForSome, slots_of_end, words_from};
+ghost use Rattle.x10_place.specs.StandsFor.{place_of, IsHindered};
+ghost use Rattle.x10_place.specs.Stays.{StayState, totals_in, finish_as};
+ghost use Rattle.x10_place.specs.Stretches.{IsForPlace, IsUntouched};
+
+use crate::frame::CallFrame;
+use crate::sending::frame;
+use crate::sent::{Outgoing, Sent};
+use crate::stay::{Origin, Stay};
+use crate::store::Store;
+use slab::Slab;
+use std::alloc::Global;
+use x10_code::Instr;
+use x10_finish::Finish;
+use x10_frame::{Head, write_report};
+use x10_kinds::Stop;
+use x10_verify::Verified;
+
+/// Takes a stay away.
+fn remove(stays: &mut Slab<Stay>, key: usize)
+    ensures { Updates stays.old stays.new key None }
+{
+    stays.try_remove(key);
+}
+
+/// The frame that takes the result of a function back to the stay that waits for it.
+fn result(
+    alloc: Global,
+    verified: &Verified,
+    store: &mut Store,
+    top: &CallFrame,
+    instr: Instr,
+    origin: Origin,
+) -> Result<Outgoing, Stop>
+    requires fetched { IsFetchedFor verified.now.program top.now instr }
+    requires op { instr.op ≡ op.Ret }
+    requires standing { StandForSome verified.now.program store.old (slots_of_end verified.now.program top.now) (words_from top.now instr.a (slots_of_end verified.now.program top.now)) }
+    ensures to { IfOk result (λ out. out.to ≡ origin.place) }
+    ensures copy { IfOk result (λ out. TakesAlong verified.now.program store.old (slots_of_end verified.now.program top.now) (words_from top.now instr.a (slots_of_end verified.now.program top.now)) (head.Back store.old.here origin.place origin.key) out.bytes.items) }
+    ensures err { IfErr result (λ why. Refuses verified.now.program.classes store.old.heap (kinds_of (slots_of_end verified.now.program top.now)) (words_from top.now instr.a (slots_of_end verified.now.program top.now)) why) }
+    ensures kept { store.new ≡ store.old }
+{
+    verified.certificate();
+    let head = Head::Back {
+        from: store.spot().here,
+        to: origin.place,
+        waiting: origin.key,
+    };
+    let signature = verified.image().signature(usize::from(top.function));
+    let first = usize::from(instr.a);
+    let bytes = match signature.result() {
+        Some(slot) => frame(
+            alloc,
+            verified,
+            store,
+            &head,
+            &[slot],
+            &top.registers[first..first + 1],
+        )?,
+        None => frame(alloc, verified, store, &head, &[], &[])?,
+    };
+    Ok(Outgoing {
+        to: origin.place,
+        bytes,
+    })
+}
+
+/// Each count has 32 bits. It does nothing.
+fn counts_are_small(counts: &[u32])
+    ensures { AllByRecursion (λ n. n < 2 ^ 32) counts.now }
+{
+    let _ = counts;
+}
+
+/// The report that is due at the home of a finish when one more activity under it ends here, if one is.
+fn report(alloc: Global, store: &Store, finish: Finish) -> Result<Option<Outgoing>, Stop>
+    requires live { 0 < (totals_in store.now (finish_as finish)).live }
+    requires within { store.now.here < store.now.places }
+    requires home { finish.home < store.now.places }
+    requires few { store.now.places ≤ 64 }
+    ensures ok { IfOk result (Reports store.now (finish_as finish)) }
+    ensures err { IfErr result (λ why. why ≡ stop.Memory) }
+{
+    let Some(report) = store.leaving(finish)? else {
+        return Ok(None);
+    };
+    counts_are_small(&report.sent);
+    counts_are_small(&report.received);
+    match write_report(alloc, finish.home, &report) {
+        Ok(bytes) => Ok(Some(Outgoing {
+            to: finish.home,
+            bytes,
+        })),
+        Err(_) => Err(Stop::Memory),
+    }
+}
+
+/// The stay with a key ends by the RET of its last function. Where it is refused, nothing has changed.
+pub(crate) fn leave(
+    alloc: Global,
+    verified: &Verified,
+    stays: &mut Slab<Stay>,
+    store: &mut Store,
+    key: usize,
+    instr: Instr,
+) -> Result<Sent, Stop>
+    requires place { IsForPlace verified.now stays.old store.old key instr }
+    requires op { instr.op ≡ op.Ret }
+    ensures ok { IfOk result (λ sent. LeavesAt verified.now.program stays.old store.old key sent stays.new store.new) }
+    ensures err { OnErr result (IsUntouched stays.old store.old stays.new store.new) }
+    ensures refused { IfErr result (IsHindered (place_of verified.now stays.old store.old false) key) }
+{
+    verified.certificate();
+    let stay = &stays[key];
+    let message = match stay.back {
+        Some(origin) => Some(result(alloc, verified, store, &stay.top, instr, origin)?),
+        None => None,
+    };
+    let inherited = stay.inherited;
+    let report = report(alloc, store, inherited)?;
+    store.end(inherited);
+    remove(stays, key);
+    Ok(Sent { message, report })
+}
