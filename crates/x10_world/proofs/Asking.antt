@@ -1,30 +1,33 @@
--- What a world answers of its places, told of the machine's world.
-use Rattle.std.proofs.Common.{◌≡◌, ◌↔◌, ℕ, Bool, true, List, Some, None, refl, sym, subst, arith}
-use Rattle.std.specs.Prelude.{IsTrue, length, slice_get}
+-- What a world answers of its places and frames, told of the machine's world.
+use Rattle.std.proofs.Common.{◌≡◌, ◌⊎◌, ◌↔◌, ℕ, Bool, List, [], Option, Some, None, refl, sym, ap, subst, ◌∙◌, inl, inr, arith}
+use Rattle.std.specs.Borrow.{Bor}
+use Rattle.std.specs.Prelude.{IsTrue, MatchOption, IfSome, length, slice_get}
 use Rattle.x10_model.specs.Modules.{Module}
-use Rattle.x10_model.specs.Places.{Message}
-use Rattle.x10_model.specs.Worlds.{World, Post, Unused, Flying, IsOver}
-use Rattle.x10_finish.proofs.Rooted.{root_over}
+use Rattle.x10_model.specs.Places.{root}
+use Rattle.x10_model.specs.Worlds.{World, IsOver}
+use Rattle.x10_finish.specs.Watching.{NothingFlies}
 use Rattle.x10_finish.proofs.Watching.{done_is_over, over_is_done}
 use Rattle.x10_place.specs.Stays.{IsDoneHere}
 use Rattle.x10_place.specs.StandsFor.{PlaceState, store_of}
+use Rattle.x10_world.specs.Flights.{Flight, flight_of, flight_among}
 use Rattle.x10_world.specs.StandsForWorld.{WorldState, BelongsTo, BelongTo, counts_in, StandsForWorld}
-use Rattle.x10_world.specs.Queries.{IsNotFlying, IsPosted}
-use Rattle.x10_world.proofs.Lists.{none_some, below, none_past, past_none}
+use Rattle.x10_world.specs.Queries.{IsFlyingTo, IsReportTo}
+use Rattle.x10_world.proofs.Lists.{below, at_index, at_first}
 use Rattle.x10_world.proofs.Moving.{done_in, done_by}
 
-not_flying : (post : Post) (message : Message) → post ≡ Unused → post ≡ Flying message → ⊥
-not_flying post message e f = cc
+-- where no frame flies, no message does
+still_flies : (x : WorldState) (w : World) → StandsForWorld x w → x.flights.flying ≡ [] → (number : ℕ) → flight_of x.flights number ≡ None
+still_flies x w stand still number = ap (λ fs. flight_among fs number) still
 
 -- the home of the root is place 0
 pub over_is : (x z : WorldState) (program : Module) (bounds : List ℕ) (p : PlaceState) (b : Bool) → x ≡ z → BelongTo program bounds (length x.places) x.places → slice_get x.places 0 ≡ Some p → IsTrue b ↔ ((p.id ≡ 0) × IsDoneHere (store_of p) 0)
-    → (w : World) → StandsForWorld z w → IsTrue b ↔ IsOver w
+    → (w : World) → StandsForWorld z w → (IsTrue b → IsOver w) × (IsOver w → z.flights.flying ≡ [] → IsTrue b)
 over_is x z program bounds p b seen belong is closed w stands = (
-  (λ t. done_is_over (length x.places) w (counts_in x.places) stand.watched (below x.places 0 p is) (done_in x.places 0 0 p is belongs.id_is belongs.places_are (closed.0 t).1)),
-  (λ over. closed.1 (
+  (λ t. done_is_over (length x.places) w (counts_in x.places stand.told) stand.watched (below x.places 0 p is) (done_in x.places stand.told 0 0 p is belongs.id_is belongs.places_are (closed.0 t).1)),
+  (λ over still. closed.1 (
     belongs.id_is,
-    done_by x.places 0 0 p is belongs.id_is belongs.places_are
-        (over_is_done (length x.places) w (counts_in x.places) stand.watched over (λ n m e. not_flying (w.net.posts n) m (stand.silent n) e) (λ n. refl) (below x.places 0 p is)),
+    done_by x.places stand.told 0 0 p is belongs.id_is belongs.places_are
+        (over_is_done (length x.places) w (counts_in x.places stand.told) stand.watched over (nothing still) (λ n. (stand.flies.none n (still_flies x w stand (quiet still) n)).1 root) (below x.places 0 p is)),
   )),
 )
   where
@@ -34,19 +37,20 @@ over_is x z program bounds p b seen belong is closed w stands = (
     belongs : BelongsTo program bounds (length x.places) 0 p
     belongs = belong 0 p is
 
--- without places no activity lives
-none_at_all : (x : WorldState) → slice_get x.places 0 ≡ None → (w : World) → StandsForWorld x w → IsOver w
-none_at_all x none w stand = root_over w stand.watched.sound stand.watched.rooted (record { stays = λ p key place stay there e same. none_some (w.net.places p) place (nowhere p) there; posts = λ n m e under. not_flying (w.net.posts n) m (stand.silent n) e })
-  where
-    nowhere : (p : ℕ) → w.net.places p ≡ None
-    nowhere p = stand.none p (past_none x.places p (let few = none_past x.places 0 none in omega (arith, few)))
+    quiet : z.flights.flying ≡ [] → x.flights.flying ≡ []
+    quiet still = subst (λ (t : WorldState). t.flights.flying ≡ []) (sym seen) still
 
-pub over_none : (x z : WorldState) → x ≡ z → slice_get x.places 0 ≡ None → (w : World) → StandsForWorld z w → IsTrue true ↔ IsOver w
-over_none x z seen none w stands = ((λ t. none_at_all x none w (subst (λ s. StandsForWorld s w) (sym seen) stands)), (λ over. refl))
+    nothing : z.flights.flying ≡ [] → NothingFlies w.net
+    nothing still n m e = (stand.flies.none n (still_flies x w stand (quiet still) n)).0 m e
 
--- no message has been sent
-pub none_posted : (x : WorldState) (w : World) → StandsForWorld x w → IsPosted w 0
-none_posted x w stand number = ((λ lt. absurd (omega (arith, lt))), (λ used. absurd (used (stand.silent number))))
+-- a frame in flight carries a message for the place where it goes, or a report
+pub frame_is : (x : WorldState) (w : World) (number to : ℕ) (flight : Flight) → StandsForWorld x w → flight_of x.flights number ≡ Some flight → flight.to ≡ to → IsFlyingTo w number to ⊎ IsReportTo w number to
+frame_is x w number to flight stand is goes = elim (stand.flies.each number flight is) [
+  | inl m ↦ inl (m.message, m.flying, sym m.to_is ∙ goes)
+  | inr r ↦ inr (let at = at_index x.places flight.to (at_first x.places (let less = r.carries.fits.to in omega (arith, less))).0 r.carries.fits.to in let old = stand.some flight.to _ at in subst (λ n. IsReportTo w number n) goes (r.unused, (old.0, old.1)))
+]
 
-pub none_flies : (x : WorldState) (number : ℕ) (w : World) → StandsForWorld x w → IsNotFlying w number
-none_flies x number w stand message e = not_flying (w.net.posts number) message (stand.silent number) e
+pub frames_are : (x z : WorldState) (number : ℕ) (o : Option (ℕ × Bor (List ℕ))) → x ≡ z → MatchOption o (flight_of x.flights number ≡ None) (λ f. flight_of x.flights number ≡ Some (record { number = number; to = f.0; bytes = f.1.now }))
+    → (w : World) → StandsForWorld z w → IfSome o (λ f. IsFlyingTo w number f.0 ⊎ IsReportTo w number f.0)
+frames_are x z number None seen h w stand = tt
+frames_are x z number (Some f) seen h w stand = frame_is x w number f.0 (record { number = number; to = f.0; bytes = f.1.now }) (subst (λ t. StandsForWorld t w) (sym seen) stand) h refl

@@ -1,12 +1,12 @@
 -- The world at the beginning stands for the machine's opening.
-use Rattle.std.proofs.Common.{◌≡◌, ◌≢◌, ℕ, ◌+◌, ◌<◌, ◌==◌, ◌&&◌, Bool, true, false, List, [], ◌∷◌, ◌++◌, length, Option, Some, None, Ok, refl, sym, ap, subst, ◌∙◌, inl, inr, arith, length-append}
+use Rattle.std.proofs.Common.{◌≡◌, ◌≢◌, ℕ, ◌+◌, ◌<◌, ◌≤◌, ◌==◌, ◌&&◌, Bool, true, false, List, [], ◌∷◌, ◌++◌, length, Option, Some, None, Ok, refl, sym, ap, subst, ◌∙◌, inl, inr, arith, length-append}
 use Rattle.std.specs.Prelude.{slice_get, nat_lt, if◌then◌else◌}
 use Rattle.std.proofs.lemmas.Bool.{eqb-true, eqb-false, ne_eqb, lt-ltb, ltb-true}
 use Rattle.x10_model.specs.Structure.{bounds_of}
 use Rattle.x10_model.specs.Places as machine
-use Rattle.x10_model.specs.Places.{Setting, Finish, root}
+use Rattle.x10_model.specs.Places.{Setting, Finish, Message, root}
 use Rattle.x10_model.specs.Totals.{nothing, zeros, first_totals}
-use Rattle.x10_model.specs.Worlds.{same_finish, first_place, empty_place, opening}
+use Rattle.x10_model.specs.Worlds.{Unused, Flying, same_finish, first_place, empty_place, opening}
 use Rattle.x10_finish.specs.Watching.{AreFirst}
 use Rattle.x10_finish.proofs.Watching.{opening_is_watched}
 use Rattle.x10_verify.specs.Certified.{Certified, IsCertified}
@@ -14,10 +14,12 @@ use Rattle.x10_place.specs.StandsFor as place
 use Rattle.x10_place.specs.StandsFor.{PlaceState, Far, StandsFor}
 use Rattle.x10_place.specs.Opening.{opening_place}
 use Rattle.x10_world.specs.Budget.{IsWithinBudget}
-use Rattle.x10_world.specs.StandsForWorld.{WorldState, setting_of, totals_at, kept_at, counts_in, StandsForWorld}
+use Rattle.x10_world.specs.Flights.{Flight, FlightsState, RisingBy, flight_of, flight_among}
+use Rattle.x10_world.specs.StandsForWorld.{WorldState, world_of, IsWorld, setting_of, totals_at, kept_at, counts_in, far_in, StandsForWorld}
+use Rattle.x10_world.proofs.LinkingDeliveries.{answered_at_opening}
 use Rattle.x10_world.specs.Opening.{IsOpened, AreOpened}
 use Rattle.x10_world.proofs.BudgetRuns.{budget_at_opening}
-use Rattle.x10_world.proofs.Lists.{some_is, below, none_past, at_first, last_or_before}
+use Rattle.x10_world.proofs.Lists.{some_is, none_some, below, none_past, at_first, last_or_before}
 
 -- ---- counts
 
@@ -35,7 +37,7 @@ kept_first verified places id number None opened e = refl
 kept_first verified places id number (Some p) opened e = (opened.each id p e).is_new.store.kept number
 
 -- main's stay is counted and nothing else
-counts_first : (verified : Certified) (places : List PlaceState) → 0 < length places → AreOpened verified (length places) places → AreFirst (counts_in places)
+counts_first : (verified : Certified) (places : List PlaceState) → 0 < length places → AreOpened verified (length places) places → AreFirst (counts_in places (λ f number. None))
 counts_first verified places some opened = record {
   totals = λ id f. totals_first verified places id f (slice_get places id) some opened refl;
   kept = λ f. kept_first verified places f.home f.number (slice_get places f.home) opened refl;
@@ -48,28 +50,37 @@ counts_first verified places some opened = record {
 chosen : (setting : Setting) (key other id : ℕ) → id ≢ 0 → opening_place setting other id ≡ opening_place setting key id
 chosen setting key other id ne = ap (λ b. if b then first_place setting other else empty_place 0) (ne_eqb id 0 ne) ∙ ap (λ b. if b then first_place setting key else empty_place 0) (sym (ne_eqb id 0 ne))
 
-pub opening_stands : (c : Certified) (count : ℕ) (x : WorldState) → IsCertified c → 0 < count → x.program ≡ c.program → x.bounds ≡ c.bounds → AreOpened c count x.places → (key : ℕ) × StandsForWorld x (opening (setting_of x) key)
-opening_stands c count x certified some program bounds opened = (
+pub opening_stands : (c : Certified) (count : ℕ) (x : WorldState) → IsCertified c → 0 < count → x.program ≡ c.program → x.bounds ≡ c.bounds → AreOpened c count x.places → x.flights.flying ≡ [] → (key : ℕ) × StandsForWorld x (opening (setting_of x) key)
+opening_stands c count x certified some program bounds opened quiet = (
   key,
   record {
-    far = no_exports;
     some = each;
     none = none;
-    watched = opening_is_watched (setting_of x) key (counts_in x.places) (omega (arith, some, opened.count_is)) watched_first;
+    told = λ f number. None;
+    watched = opening_is_watched (setting_of x) key (counts_in x.places (λ f number. None)) (omega (arith, some, opened.count_is)) watched_first;
+    answered = answered_at_opening (setting_of x) key;
     budget = budget;
-    silent = λ n. refl;
+    flies = record {
+      rising = subst (λ fs. RisingBy (λ (f : Flight). f.number) 0 fs x.flights.posted) (sym quiet) tt;
+      each = λ number flight is. absurd (none_some (flight_of x.flights number) flight (ap (λ fs. flight_among fs number) quiet) is);
+      none = λ number e. ((λ message. unused_not message), (λ f. refl));
+      unused = λ number le. refl;
+    };
   },
 )
   where
     first : (p : PlaceState) × (slice_get x.places 0 ≡ Some p)
     first = at_first x.places (omega (arith, opened.count_is))
 
-    -- no place exports anything
-    no_exports : Far
-    no_exports home id class = false
+    unused_not : (message : Message) → Unused ≡ Flying message → ⊥
+    unused_not message e = cc
 
     key : ℕ
     key = (opened.each 0 first.0 first.1).stands.0
+
+    -- what places export at the beginning
+    no_exports : Far
+    no_exports = far_in (opening (setting_of x) key)
 
     same_setting : (id : ℕ) (p : PlaceState) → IsOpened c count id p → place.setting_of p ≡ setting_of x
     same_setting id p o = ap (λ m. record { program = m; places = p.places }) (o.is_new.program ∙ sym program) ∙ ap (λ n. record { program = x.program; places = n }) (o.is_new.store.places_is ∙ sym opened.count_is)
@@ -101,7 +112,7 @@ opening_stands c count x certified some program bounds opened = (
         not_below false e = e
         not_below true e = absurd (let h = none_past x.places id is in let l = ltb-true id (length x.places) e in omega (arith, h, l))
 
-    watched_first : AreFirst (counts_in x.places)
+    watched_first : AreFirst (counts_in x.places (λ f number. None))
     watched_first = counts_first c x.places (omega (arith, some, opened.count_is)) (subst (λ n. AreOpened c n x.places) (sym opened.count_is) opened)
 
     budget : IsWithinBudget x.program x.bounds (opening (setting_of x) key)
@@ -118,3 +129,21 @@ each_more verified count n old new p long each e opened id q is = elim (last_or_
 
 pub length_more : {X : Type 0} (old new : List X) (x : X) (n : ℕ) → length old ≡ n → new ≡ old ++ x ∷ [] → length new ≡ n + 1
 length_more old new x n long e = ap (λ xs. length xs) e ∙ length-append old (x ∷ []) ∙ ap (λ k. k + 1) long
+
+-- ---- the world at the beginning
+
+stopped_not : (b : Bool) → b ≡ false → b ≢ true
+stopped_not b e f = cc
+
+pub opened_world : (c : Certified) (count : ℕ) (places : List PlaceState) (flights : FlightsState) → IsCertified c → 0 < count → count ≤ 64 → AreOpened c count places → flights.places ≡ count → flights.flying ≡ [] → IsWorld c.program c.bounds places flights false
+opened_world c count places flights certified some few opened there quiet = record {
+  belong = λ id p is. let o = opened.each id p is in record { program_is = o.is_new.program; bounds_are = o.is_new.bounds; id_is = o.is_new.store.here; places_are = o.is_new.store.places_is ∙ sym opened.count_is };
+  places_are = there ∙ sym opened.count_is;
+  none_stopped = λ on id p is. stopped_not p.stopped (opened.each id p is).is_new.stopped;
+  few = (let long = opened.count_is in omega (arith, long, few));
+  world = opening (setting_of (world_of c places flights false)) first.0;
+  stands = first.1;
+}
+  where
+    first : (key : ℕ) × StandsForWorld (world_of c places flights false) (opening (setting_of (world_of c places flights false)) key)
+    first = opening_stands c count (world_of c places flights false) certified some refl refl opened quiet

@@ -4,15 +4,13 @@ use Rattle.std.specs.Prelude.{IsTrue, IfSome, slice_get, take}
 use Rattle.x10_model.specs.declared.event.Event.{Event}
 use Rattle.x10_model.specs.Places as machine
 use Rattle.x10_model.specs.Places.{Setting}
-use Rattle.x10_model.specs.Worlds.{World, Ideal, WithinBounds, IsOver, opening}
+use Rattle.x10_model.specs.Worlds.{World, Ideal, Run, WithinBounds, IsOver, opening}
 use Rattle.x10_verify.specs.Certified.{Certified}
 use Rattle.x10_place.specs.StandsFor.{PlaceState, line_as}
 use Rattle.x10_world.specs.declared.ending.Ending.{Ending}
 use Rattle.x10_world.specs.Opening.{IsOpenedWorld, IsForbidden}
-use Rattle.x10_world.specs.Queries.{NothingFlies}
 use Rattle.x10_world.specs.Endings.{IsEndingOf, AreLinesOf, lines_at}
-use Rattle.x10_world.specs.Prompt.{PromptRun}
-use Rattle.x10_world.specs.StandsForWorld.{WorldState, KeepsSetting, setting_of, StandsForWorld, Runs}
+use Rattle.x10_world.specs.StandsForWorld.{WorldState, KeepsSetting, setting_of, StandsForWorld, Course, Runs}
 use Rattle.x10_world.proofs.Lists.{some_is, none_some}
 
 get_map : {X Y : Type 0} (f : X → Y) (xs : List X) (i : ℕ) (x : X) → slice_get xs i ≡ Some x → slice_get (map f xs) i ≡ Some (f x)
@@ -37,19 +35,23 @@ lines_are y w stand id m there = go (slice_get y.places id) refl
 
 pub ending_is : (c : Certified) (count : ℕ) (events : List Event) (x y : WorldState) (outputs : List (List machine.Line)) (e : Ending) → IsOpenedWorld c count x
     → ((w : World) → StandsForWorld x w → Runs x w e.done events y) → (e.stop ≡ None → e.done ≡ length events) → IfSome e.stop (λ stop. e.done < length events) → (IsForbidden c count → ⊥) → KeepsSetting x y → outputs ≡ lines_at y.places
-    → ((w : World) → StandsForWorld y w → IsTrue e.closed → IsOver w) → ((w : World) → StandsForWorld y w → IsOver w → NothingFlies w → IsTrue e.closed) → IsEndingOf c count events outputs e
+    → ((w : World) → StandsForWorld y w → IsTrue e.closed → IsOver w) → ((w : World) → StandsForWorld y w → IsOver w → y.flights.flying ≡ [] → IsTrue e.closed) → IsEndingOf c count events outputs e
 ending_is c count events x y outputs e opened runs all less permitted kept lines ended over = record {
   key = key;
-  last = made.0;
-  run = run.0;
-  prompt = run.1;
+  last = made.last;
+  run = run;
+  first = x;
+  state = made.state;
+  course = course;
+  final = y;
+  stands = made.stands;
   permitted = permitted;
   all = all;
   less = less;
   count_is = ap (λ ls. length ls) lines ∙ map_length (λ q. map line_as q.lines) y.places ∙ kept.count ∙ opened.places.count_is;
-  lines = subst (λ ls. AreLinesOf ls made.0) (sym lines) (lines_are y made.0 made.2);
-  ended = ended made.0 made.2;
-  over = over made.0 made.2;
+  lines = subst (λ ls. AreLinesOf ls made.last) (sym lines) (lines_are y made.last made.stands);
+  ended = ended made.last made.stands;
+  over = over made.last made.stands;
 }
   where
     key : ℕ
@@ -61,6 +63,10 @@ ending_is c count events x y outputs e opened runs all less permitted kept lines
     setting : setting_of x ≡ record { program = c.program; places = count }
     setting = ap (λ m. record { program = m; places = length x.places }) opened.program ∙ ap (λ n. record { program = c.program; places = n }) opened.places.count_is
 
-    run : PromptRun Ideal (record { program = c.program; places = count }) (WithinBounds c.bounds) (opening (record { program = c.program; places = count }) key) (take e.done events) made.0
-    run = subst (λ s. PromptRun Ideal s (WithinBounds c.bounds) (opening s key) (take e.done events) made.0) setting
-        (subst (λ bs. PromptRun Ideal (setting_of x) (WithinBounds bs) (opening (setting_of x) key) (take e.done events) made.0) opened.bounds made.1)
+    run : Run Ideal (record { program = c.program; places = count }) (WithinBounds c.bounds) (opening (record { program = c.program; places = count }) key) (take e.done events) made.last
+    run = subst (λ s. Run Ideal s (WithinBounds c.bounds) (opening s key) (take e.done events) made.last) setting
+        (subst (λ bs. Run Ideal (setting_of x) (WithinBounds bs) (opening (setting_of x) key) (take e.done events) made.last) opened.bounds made.run)
+
+    course : Course (record { program = c.program; places = count }) c.bounds x (opening (record { program = c.program; places = count }) key) (take e.done events) made.state made.last
+    course = subst (λ s. Course s c.bounds x (opening s key) (take e.done events) made.state made.last) setting
+        (subst (λ bs. Course (setting_of x) bs x (opening (setting_of x) key) (take e.done events) made.state made.last) opened.bounds made.course)

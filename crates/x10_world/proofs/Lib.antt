@@ -5,22 +5,31 @@ pub mod BudgetMoves
 pub mod BudgetDeliveries
 pub mod BudgetRuns
 pub mod Lists
-pub mod Moving
-pub mod Waiting
-pub mod Placesteps
-pub mod Happening
-pub mod Running
-pub mod Beginning
-pub mod Asking
-pub mod Finishing
-pub mod Repeating
-pub mod Hindering
-pub mod Rounding
 pub mod Linking
 pub mod LinkingMoves
 pub mod LinkingDeliveries
 pub mod LinkingMisfits
 pub mod LinkingEvents
+pub mod Exporting
+pub mod Flying
+pub mod Posting
+pub mod Moving
+pub mod Delivering
+pub mod Waiting
+pub mod Fitting
+pub mod Refusing
+pub mod Placesteps
+pub mod Changing
+pub mod Stopping
+pub mod Hindering
+pub mod Beginning
+pub mod Handling
+pub mod Running
+pub mod Repeating
+pub mod Answering
+pub mod Asking
+pub mod Rounding
+pub mod Finishing
 mod FlightsRising
 mod FlightsSlots
 mod FlightsQueues

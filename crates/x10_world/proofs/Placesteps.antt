@@ -29,10 +29,13 @@ pub record Answered (p q : PlaceState) (key : ℕ) (result : Result Stepped Stop
   pub goes : IfOk result (λ answer. q.stopped ≢ true)
   pub kept : Keeps p q
 
+answer_is : (answer : Stepped) → ◌≡◌ {A = Result Stepped Stop} (Ok answer) (Ok stepped.Idle) → answer ≡ stepped.Idle
+answer_is answer e = cc
+
 stepped_is : (p q : PlaceState) (key : ℕ) (result : Result Stepped Stop) → Answered p q key result → IsStepped p q key result
 stepped_is p q key (Ok answer) a =
     let on : p.stopped ≢ true = λ e. refused_not answer stop.Stopped (a.stopped e) in
-    record { kept = a.kept; made = record { idle = λ i. (a.idle on i).1; only = λ e. a.only on (ap Ok e); some = a.some; goes = a.goes }; hindered = λ e. tt; stop = tt }
+    record { kept = a.kept; made = record { idle = λ i. let found = a.idle on i in (answer_is answer found.0, found.1); only = λ e. a.only on (ap Ok e); some = a.some; goes = a.goes }; hindered = λ e. tt; stop = tt }
 stepped_is p q key (Err why) a = record { kept = a.kept; made = tt; hindered = a.refused; stop = a.stop }
 
 -- the place has made its step, or not

@@ -1,24 +1,34 @@
 -- Steps of one activity at a stretch are runs of each world of the machine that the world stands for.
-use Rattle.std.proofs.Common.{◌≡◌, ◌≢◌, ◌⊎◌, ℕ, ◌<◌, ◌≤◌, Bool, true, List, length, replicate, Option, Some, None, Ok, refl, sym, ap, subst, ◌∙◌, inl, inr, arith}
-use Rattle.std.specs.Prelude.{MatchOption, slice_get, slice_set}
+use Rattle.std.proofs.Common.{◌≡◌, ◌≢◌, ◌⊎◌, ◌↔◌, ℕ, ◌+◌, ◌^◌, ◌<◌, ◌≤◌, true, false, List, [], length, replicate, Option, Some, None, Result, Ok, Err, refl, sym, ap, subst, ◌∙◌, inl, inr, arith}
+use Rattle.std.specs.Prelude.{⊤, slice_get, slice_set}
 use Rattle.x10_kinds.specs.declared.stop.Stop.{Stop}
+use Rattle.x10_kinds.specs.declared.stop.Stop.TheVariants as stop
 use Rattle.x10_model.specs.Modules.{Module}
 use Rattle.x10_model.specs.Structure.{bounds_of}
 use Rattle.x10_model.specs.declared.event.Event.TheVariants.{Step}
 use Rattle.x10_model.specs.Worlds.{World, Ideal, steps, Run, done, WithinBounds}
 use Rattle.x10_place.specs.declared.place.Stepped.TheVariants as stepped
+use Rattle.x10_place.specs.declared.sent.Outgoing.{Outgoing}
+use Rattle.x10_place.specs.declared.sent.Sent.{Sent}
 use Rattle.x10_finish.specs.Nesting.{stays_in, stays_of}
+use Rattle.x10_verify.specs.Certified.{Certified}
+use Rattle.x10_place.specs.Messages.{no_sent}
 use Rattle.x10_place.specs.Stays.{finish_at}
 use Rattle.x10_place.specs.StandsFor.{PlaceState, Keeps, IsIdleAt, IsHindered}
-use Rattle.x10_place.specs.Stretches.{IsStride, Strides, at_once, onward, BeginsLast}
+use Rattle.x10_place.specs.Stretches.{IsStride, Strides, at_once, onward, StridesTo, nowhere, finally}
+use Rattle.x10_world.specs.Flights.{FlightsState, with_room}
 use Rattle.x10_world.specs.Prompt.{MayEnd, WorksIn}
-use Rattle.x10_world.specs.StandsForWorld.{WorldState, BelongTo, IsWorld, setting_in, PlacesStandFor, StandsForWorld, IsRunOn, RunsOne, Repeats, MovesOn, MovesOnce, at_rest, moves_on, IsIdleNow, BeganLast}
+use Rattle.x10_world.specs.StandsForWorld.{WorldState, world_of, BelongTo, IsWorld, setting_in, far_in, AllStandFor, StandsForWorld, with_posted, with_sent, GoesBelow, IsRunOn, RunsOne, MovesOn, MovesOnce, at_rest, moves_on, IsIdleNow, BeganLast, IsRoomless}
+use Rattle.x10_world.specs.Handling.{Stretches}
 use Rattle.x10_world.proofs.Lists.{none_some, some_is, past_none, set_here, set_same, set_again, set_length, replicate_more}
 use Rattle.x10_world.proofs.BudgetRuns.{budget_bounds}
-use Rattle.x10_world.proofs.Moving.{step_is_move}
+use Rattle.x10_world.proofs.Moving.{step_leads}
+use Rattle.x10_place.proofs.Striding.{stopped_hindered}
 use Rattle.x10_world.proofs.Waiting.{idle_works}
 use Rattle.x10_world.proofs.Running.{run_more}
-use Rattle.x10_world.proofs.Happening.{ChangesOne, belong_set, belong_after, none_stopped_after, few_after, stand_stopped}
+use Rattle.x10_world.proofs.Changing.{ChangesOne, belong_set, belong_after, none_stopped_after, length_after, few_after}
+use Rattle.x10_world.proofs.Stopping.{stand_stopped, stand_roomy}
+use Rattle.x10_world.proofs.Handling.{goes_below, places_posted}
 
 -- ---- one place
 
@@ -29,26 +39,24 @@ strides_keep key p n q (onward k r s far stride) =
     let k = stride.kept in
     record { program = k.program ∙ before.program; bounds = k.bounds ∙ before.bounds; id = k.id ∙ before.id; places = k.places ∙ before.places }
 
--- so many moves of the activity, one after another, to a world for which the new places stand
-abbrev pub RepeatsIn : Module → List ℕ → List PlaceState → World → ℕ → ℕ → ℕ → List PlaceState → Type 0
-RepeatsIn program bounds places w n here key new = (v : World) × Run Ideal (setting_in program places) (WithinBounds bounds) w (replicate n (Step here key)) v × MovesOn (setting_in program places) here key w n v × PlacesStandFor program bounds new v
+-- so many moves of the activity, one after another, to a world for which the new places and frames stand
+abbrev pub RepeatsIn : Module → List ℕ → List PlaceState → World → ℕ → ℕ → ℕ → List PlaceState → FlightsState → Type 0
+RepeatsIn program bounds places w n here key new after = (v : World) × Run Ideal (setting_in program places) (WithinBounds bounds) w (replicate n (Step here key)) v × MovesOn (setting_in program places) here key w n v × AllStandFor program bounds new after v
 
-module _ (program : Module) (bounds : List ℕ) (places : List PlaceState) (here key : ℕ) (p : PlaceState) (bounds-are : bounds_of program ≡ Ok bounds) (belong : BelongTo program bounds (length places) places) (is : slice_get places here ≡ Some p) where
+module _ (program : Module) (bounds : List ℕ) (places : List PlaceState) (flights : FlightsState) (here key : ℕ) (p : PlaceState) (bounds-are : bounds_of program ≡ Ok bounds) (belong : BelongTo program bounds (length places) places) (is : slice_get places here ≡ Some p) where
   -- one step more
-  stride_makes : (q r : PlaceState) (v : World) → Keeps p q → IsStride key q r → PlacesStandFor program bounds (slice_set places here q) v → (w : World) × MovesOnce (setting_in program places) v here key w × PlacesStandFor program bounds (slice_set places here r) w
-  stride_makes q r v kept stride stand =
-      let made = step_is_move program bounds (slice_set places here q) v here key q r stepped.Moved bounds-are (belong_set program bounds places here p q is kept belong) stand (set_here places here q p is) stride.leads in (
+  stride_makes : (q r : PlaceState) (out : Sent) (v : World) → Keeps p q → IsStride key q out r → AllStandFor program bounds (slice_set places here q) flights v
+      → (w : World) × MovesOnce (setting_in program places) v here key w × AllStandFor program bounds (slice_set places here r) (with_sent flights out) w
+  stride_makes q r out v kept stride stand =
+      let made = step_leads program bounds (slice_set places here q) flights v here key q r (stepped.Moved out) bounds-are (belong_set program bounds places here p q is kept belong) stand (set_here places here q p is) stride.leads in (
         made.0,
-        subst (λ n. MovesOnce (record { program = program; places = n }) v here key made.0) (set_length places here q) (record { steps = made.1; goes = made.2 }),
-        subst (λ ps. PlacesStandFor program bounds ps made.0) (set_again places here q r) made.3,
+        subst (λ n. MovesOnce (record { program = program; places = n }) v here key made.0) (set_length places here q) (record { steps = made.1; goes = made.2.0 }),
+        subst (λ ps. AllStandFor program bounds ps (with_sent flights out) made.0) (set_again places here q r) made.3,
       )
 
-  -- the steps are so many events of each world of the machine
-  strides_run : (n : ℕ) (q : PlaceState) → Strides key p n q → (w : World) → PlacesStandFor program bounds places w → RepeatsIn program bounds places w n here key (slice_set places here q)
-  strides_run n q (at_once) w stand = (w, done w (budget_bounds program bounds w stand.budget), at_rest, subst (λ ps. PlacesStandFor program bounds ps w) (sym (set_same places here p is)) stand)
-  strides_run n q (onward k r s far stride) w stand =
-      let before = strides_run k r far w stand in
-      let made = stride_makes r s before.0 (strides_keep key p k r far) stride before.3 in (
+  one_more : (k : ℕ) (q r : PlaceState) (out : Sent) (w : World) → Keeps p q → IsStride key q out r → RepeatsIn program bounds places w k here key (slice_set places here q) flights → RepeatsIn program bounds places w (k + 1) here key (slice_set places here r) (with_sent flights out)
+  one_more k q r out w kept stride before =
+      let made = stride_makes q r out before.0 kept stride before.3 in (
         made.0,
         subst (λ es. Run Ideal (setting_in program places) (WithinBounds bounds) w es made.0) (sym (replicate_more k (Step here key)))
             (run_more Ideal (setting_in program places) (WithinBounds bounds) w before.0 made.0 (replicate k (Step here key)) (Step here key) before.1 (steps here key made.0 made.1.steps) (budget_bounds program bounds made.0 made.2.budget)),
@@ -56,119 +64,218 @@ module _ (program : Module) (bounds : List ℕ) (places : List PlaceState) (here
         made.2,
       )
 
-  -- the place as it is after the steps, or as it has stopped
-  place_runs : (n : ℕ) (why : Option Stop) (q : PlaceState) → MatchOption why (Strides key p n q) (λ s. (r : PlaceState) × Strides key p n r × (q ≡ record r { stopped = true }) × (p.stopped ≢ true → IsHindered r key s)) → (w : World) → PlacesStandFor program bounds places w
-      → RepeatsIn program bounds places w n here key (slice_set places here q)
-  place_runs n None q ran w stand = strides_run n q ran w stand
-  place_runs n (Some s) q ran w stand =
-      let r = strides_run n ran.0 ran.1 w stand in
-      let stopped : PlaceState = record ran.0 { stopped = true } in
-      let at = slice_set places here ran.0 in (
-        r.0,
-        r.1,
-        r.2,
-        subst (λ ps. PlacesStandFor program bounds ps r.0) (set_again places here ran.0 stopped ∙ ap (λ t. slice_set places here t) (sym ran.2)) (stand_stopped program bounds at here ran.0 r.0 (set_here places here ran.0 p is) r.3),
-      )
+  -- the steps are so many events of each world of the machine
+  strides_run : (n : ℕ) (q : PlaceState) → Strides key p n q → (w : World) → AllStandFor program bounds places flights w → RepeatsIn program bounds places w n here key (slice_set places here q) flights
+  strides_run n q (at_once) w stand = (w, done w (budget_bounds program bounds w stand.budget), at_rest, subst (λ ps. AllStandFor program bounds ps flights w) (sym (set_same places here p is)) stand)
+  strides_run n q (onward k r s far stride) w stand = one_more k r s no_sent w (strides_keep key p k r far) stride (strides_run k r far w stand)
+
+  -- and so are those of which the last one puts something out
+  strides_to_run : (n : ℕ) (out : Sent) (q : PlaceState) → StridesTo key p n out q → (w : World) → AllStandFor program bounds places flights w → RepeatsIn program bounds places w n here key (slice_set places here q) (with_sent flights out)
+  strides_to_run n out q (nowhere) w stand = strides_run 0 p at_once w stand
+  strides_to_run n out q (finally k r o s far stride) w stand = one_more k r s o w (strides_keep key p k r far) stride (strides_run k r far w stand)
+
+  -- what the last one puts out goes to places that there are
+  pub out_below : (n : ℕ) (out : Sent) (q : PlaceState) → StridesTo key p n out q → (w : World) → AllStandFor program bounds places flights w → GoesBelow p.places out
+  out_below n out q (nowhere) w stand = record { message = λ o e. none_out o e; report = λ o e. none_out o e }
+    where
+      none_out : (o : Outgoing) → None ≡ Some o → o.to < p.places
+      none_out o e = absurd cc
+  out_below n out q (finally k r o s far stride) w stand =
+      let before = strides_run k r far w stand in
+      let old = before.3.some here r (set_here places here r p is) in
+      subst (λ c. GoesBelow c o) (strides_keep key p k r far).places (goes_below r old.0 (far_in before.0) key o s old.2 stride.leads)
 
 -- ---- a stretch, as a function answers it
 
-one_runs : (program : Module) (bounds : List ℕ) (old new : List PlaceState) (here key most n : ℕ) (why : Option Stop) (o : Option PlaceState) → bounds_of program ≡ Ok bounds → BelongTo program bounds (length old) old → RunsOne old new here key most n why → slice_get old here ≡ o → (w : World) → PlacesStandFor program bounds old w
-    → RepeatsIn program bounds old w n here key new
-one_runs program bounds old new here key most n why None bounds-are belong one missing w stand =
-    let g = one.gone missing in
-    subst (λ c. RepeatsIn program bounds old w c here key new) (sym g.0) (w, done w (budget_bounds program bounds w stand.budget), at_rest, subst (λ ps. PlacesStandFor program bounds ps w) (sym g.2) stand)
-one_runs program bounds old new here key most n why (Some p) bounds-are belong one is w stand =
-    let t = one.there p is in
-    subst (λ ps. RepeatsIn program bounds old w n here key ps) (sym t.1) (place_runs program bounds old here key p bounds-are belong is n why t.0 t.2.ran w stand)
-
-changes_by : (Q : PlaceState → PlaceState → Type 0) (old new : List PlaceState) (here key most n : ℕ) (why : Option Stop) → ((p q : PlaceState) → IsRunOn p q key most n why → Q p q) → RunsOne old new here key most n why → ChangesOne Q old new here
-changes_by Q old new here key most n why means one = record {
+changes_by : (Q : PlaceState → PlaceState → Type 0) (old new : List PlaceState) (here key most n : ℕ) (result : Result Sent Stop) → ((p q : PlaceState) → IsRunOn p q key most n result → Q p q) → RunsOne old new here key most n result → ChangesOne Q old new here
+changes_by Q old new here key most n result means one = record {
   gone = λ e. (one.gone e).2;
   there = λ p e. let t = one.there p e in (t.0, t.1, means p t.0 t.2);
 }
 
-pub world_after_run : (program : Module) (bounds : List ℕ) (old new : List PlaceState) (here key most n : ℕ) (why : Option Stop) (before : Bool) → IsWorld program bounds old before → before ≢ true → RunsOne old new here key most n why → why ≡ None → IsWorld program bounds new before
-world_after_run program bounds old new here key most n why before world goes one is = record {
-  belong = belong_after program bounds old new here world.belong (changes_by Keeps old new here key most n why (λ p q s. s.kept) one);
-  none_stopped = λ on. none_stopped_after old new here (world.none_stopped goes) (changes_by (λ p q. q.stopped ≢ true) old new here key most n why (λ p q s. s.goes is) one);
-  few = few_after Keeps old new here (changes_by Keeps old new here key most n why (λ p q s. s.kept) one) world.few;
-}
+sent_is : (out : Sent) → ◌≡◌ {A = Result Sent Stop} (Ok out) (Ok no_sent) → out ≡ no_sent
+sent_is out e = cc
 
-pub world_after_stop : (program : Module) (bounds : List ℕ) (old new : List PlaceState) (here key most n : ℕ) (why : Option Stop) (before : Bool) → IsWorld program bounds old before → RunsOne old new here key most n why → IsWorld program bounds new true
-world_after_stop program bounds old new here key most n why before world one = record {
-  belong = belong_after program bounds old new here world.belong (changes_by Keeps old new here key most n why (λ p q s. s.kept) one);
-  none_stopped = λ on. absurd (on refl);
-  few = few_after Keeps old new here (changes_by Keeps old new here key most n why (λ p q s. s.kept) one) world.few;
-}
+err_is : (why : Stop) → ◌≡◌ {A = Result Sent Stop} (Err why) (Ok no_sent) → ⊥
+err_is why e = cc
 
--- the last of so many steps at a place of a list began an activity
-pub record BeganAt (old new : List PlaceState) (here key n : ℕ) : Type 0 where
-  pub before : PlaceState
-  pub after : PlaceState
-  pub before_is : slice_get old here ≡ Some before
-  pub after_is : slice_get new here ≡ Some after
-  pub begins : BeginsLast key before n after
+run_goes : (p q : PlaceState) (key most n : ℕ) (out : Sent) → IsRunOn p q key most n (Ok out) → q.stopped ≢ true
+run_goes p q key most n out r = r.goes
 
--- where fewer steps were made: why
-place_ends : (old new : List PlaceState) (here key most n : ℕ) (why : Option Stop) (o : Option PlaceState) → RunsOne old new here key most n why → why ≡ None → n < most → slice_get old here ≡ o
-    → ((q : PlaceState) → slice_get new here ≡ Some q → IsIdleAt q key) ⊎ BeganAt old new here key n
-place_ends old new here key most n why None one is less missing = inl (λ q e. absurd (let f = ap (λ ps. slice_get ps here) (one.gone missing).2 in none_some (slice_get new here) q (f ∙ missing) e))
-place_ends old new here key most n why (Some p) one is less there =
-    let t = one.there p there in
-    let at : slice_get new here ≡ Some t.0 = ap (λ ps. slice_get ps here) t.1 ∙ set_here old here t.0 p there in
-    elim (t.2.all is less) [
-      | inl idle ↦ inl (λ q e. subst (λ (r : PlaceState). IsIdleAt r key) (some_is t.0 q (sym at ∙ e)) idle)
-      | inr begins ↦ inr (record { before = p; after = t.0; before_is = there; after_is = at; begins = begins })
-    ]
+-- a frame more was put out
+posted_with : (s : FlightsState) (m r : Option Outgoing) → (record { message = m; report = r } ≡ no_sent → ⊥) → s.posted < (with_posted (with_posted s m) r).posted
+posted_with s None None some = absurd (some refl)
+posted_with s (Some m) None some = omega arith
+posted_with s None (Some r) some = omega arith
+posted_with s (Some m) (Some r) some = omega arith
 
--- no more were made than asked for
-pub run_few : (old new : List PlaceState) (here key most n : ℕ) (why : Option Stop) → RunsOne old new here key most n why → n ≤ most
-run_few old new here key most n why one = at_place (slice_get old here) refl
-  where
-    at_place : (o : Option PlaceState) → slice_get old here ≡ o → n ≤ most
-    at_place None missing = omega (arith, (one.gone missing).0)
-    at_place (Some p) is = let t = one.there p is in t.2.few
+posted_more : (s : FlightsState) (out : Sent) → (out ≡ no_sent → ⊥) → s.posted < (with_sent s out).posted
+posted_more s out some = posted_with s out.message out.report some
 
--- as the function answers it
-module _ (program : Module) (bounds : List ℕ) (old new : List PlaceState) (before after : Bool) (z : WorldState) (seen : record { program = program; bounds = bounds; places = old; stopped = before } ≡ z) (here place key most n : ℕ) (why : Option Stop) (at : here ≡ place) (one : RunsOne old new here key most n why) where
-  abbrev pub state_after : WorldState
-  state_after = record { program = program; bounds = bounds; places = new; stopped = after }
+module _ (c : Certified) (places new : List PlaceState) (flights : FlightsState) (id key most n : ℕ) (bounds-are : bounds_of c.program ≡ Ok c.bounds) (world : IsWorld c.program c.bounds places flights false) where
+  on : false ≢ true
+  on e = cc
 
-  pub run_ran : bounds_of program ≡ Ok bounds → BelongTo program bounds (length old) old → (w : World) → StandsForWorld z w → Repeats z w n place key state_after
-  run_ran bounds-are belong w stand =
-      subst (λ t. Repeats t w n place key state_after) seen (subst (λ i. RepeatsIn program bounds old w n i key new) at
-      (one_runs program bounds old new here key most n why (slice_get old here) bounds-are belong one refl w (subst (λ t. StandsForWorld t w) (sym seen) stand)))
+  abbrev roomy : FlightsState
+  roomy = with_room flights
 
-  began : BeganAt old new here key n → BeganLast z place key n state_after
-  began b =
-      let x : WorldState = record { program = program; bounds = bounds; places = old; stopped = before } in
-      subst (λ t. BeganLast t place key n state_after) seen (subst (λ i. BeganLast x i key n state_after) at (record { old = b.before; new = b.after; old_is = b.before_is; new_is = b.after_is; begins = b.begins }))
+  none_runs : (w : World) → AllStandFor c.program c.bounds places flights w → RepeatsIn c.program c.bounds places w 0 id key places flights
+  none_runs w stand = (w, done w (budget_bounds c.program c.bounds w stand.budget), at_rest, stand)
 
-  -- a step more would find nothing to do, or the last one began an activity
-  pub run_all : why ≡ None → n < most → IsIdleNow state_after place key ⊎ BeganLast z place key n state_after
-  run_all is less = elim (place_ends old new here key most n why (slice_get old here) one is less refl) [
-    | inl idle ↦ inl (subst (λ i. IsIdleNow state_after i key) at idle)
-    | inr begins ↦ inr (began begins)
-  ]
+  -- there was no room
+  pub stretches_roomless : (after : FlightsState) (why : Stop) → after ≡ flights → IsRoomless flights why → Stretches c places flights id key most (Err why) places after
+  stretches_roomless after why same roomless = record {
+    count = refl;
+    world = subst (λ g. IsWorld c.program c.bounds places g true) (sym same) (record { belong = world.belong; places_are = world.places_are; none_stopped = λ off. absurd (off refl); few = world.few; world = world.world; stands = world.stands });
+    made = tt;
+    all = tt;
+    kept = λ w stand. (0, omega arith, subst (λ g. RepeatsIn c.program c.bounds places w 0 id key places g) (sym same) (none_runs w stand));
+    hindered = inl (subst (λ g. IsRoomless g why) (sym same) roomless);
+  }
+
+  -- what the last step put out goes to places that there are
+  pub stretch_below : (out : Sent) → RunsOne places new id key most n (Ok out) → GoesBelow flights.places out
+  stretch_below out one = at_place (slice_get places id) refl
+    where
+      nothing : GoesBelow flights.places no_sent
+      nothing = record { message = λ o e. absurd cc; report = λ o e. absurd cc }
+
+      at_place : (o : Option PlaceState) → slice_get places id ≡ o → GoesBelow flights.places out
+      at_place None none = subst (λ x. GoesBelow flights.places x) (sym (sent_is out (one.gone none).1)) nothing
+      at_place (Some p) there =
+          let t = one.there p there in
+          subst (λ m. GoesBelow m out) ((world.belong id p there).places_are ∙ sym world.places_are) (out_below c.program c.bounds places flights id key p bounds-are world.belong there n out t.0 t.2.ran world.world world.stands)
+
+  pub stretches_made : (out : Sent) (after : FlightsState) → RunsOne places new id key most n (Ok out) → after ≡ with_sent (with_room flights) out → Stretches c places flights id key most (Ok n) new after
+  stretches_made out after one same = record {
+    count = length_after Keeps places new id keeps;
+    world = record {
+      belong = belong_after c.program c.bounds places new id world.belong keeps;
+      places_are = ap (λ (g : FlightsState). g.places) same ∙ places_posted (with_posted roomy out.message) out.report ∙ places_posted roomy out.message ∙ world.places_are ∙ sym (length_after Keeps places new id keeps);
+      none_stopped = λ off. none_stopped_after places new id (world.none_stopped on) (changes_by (λ p q. q.stopped ≢ true) places new id key most n (Ok out) (λ p q s. run_goes p q key most n out s) one);
+      few = few_after Keeps places new id keeps world.few;
+      world = (makes world.world world.stands).0;
+      stands = (makes world.world world.stands).3;
+    };
+    made = (few, makes);
+    all = all;
+    kept = tt;
+    hindered = tt;
+  }
+    where
+      keeps : ChangesOne Keeps places new id
+      keeps = changes_by Keeps places new id key most n (Ok out) (λ p q s. s.kept) one
+
+      makes_at : (w : World) → AllStandFor c.program c.bounds places roomy w → (o : Option PlaceState) → slice_get places id ≡ o → RepeatsIn c.program c.bounds places w n id key new (with_sent roomy out)
+      makes_at w stand None none =
+          let g = one.gone none in
+          subst (λ m. RepeatsIn c.program c.bounds places w m id key new (with_sent roomy out)) (sym g.0)
+          (subst (λ x. RepeatsIn c.program c.bounds places w 0 id key new (with_sent roomy x)) (sym (sent_is out g.1)) (w, done w (budget_bounds c.program c.bounds w stand.budget), at_rest, subst (λ ps. AllStandFor c.program c.bounds ps roomy w) (sym g.2) stand))
+      makes_at w stand (Some p) there =
+          let t = one.there p there in
+          subst (λ ps. RepeatsIn c.program c.bounds places w n id key ps (with_sent roomy out)) (sym t.1) (strides_to_run c.program c.bounds places roomy id key p bounds-are world.belong there n out t.0 t.2.ran w stand)
+
+      makes : (w : World) → AllStandFor c.program c.bounds places flights w → RepeatsIn c.program c.bounds places w n id key new after
+      makes w stand = subst (λ g. RepeatsIn c.program c.bounds places w n id key new g) (sym same) (makes_at w (stand_roomy c.program c.bounds places flights w stand) (slice_get places id) refl)
+
+      few_at : (o : Option PlaceState) → slice_get places id ≡ o → n ≤ most
+      few_at None none = omega (arith, (one.gone none).0)
+      few_at (Some p) there = let t = one.there p there in t.2.few
+
+      few : n ≤ most
+      few = few_at (slice_get places id) refl
+
+      all_at : (o : Option PlaceState) → slice_get places id ≡ o → n < most → IsIdleNow (world_of c new after false) id key ⊎ (BeganLast (world_of c places flights false) id key n (world_of c new after false) ⊎ flights.posted < after.posted)
+      all_at None none less = inl (λ q e. absurd (let f = ap (λ ps. slice_get ps id) (one.gone none).2 in none_some (slice_get new id) q (f ∙ none) e))
+      all_at (Some p) there less =
+          let t = one.there p there in
+          let at : slice_get new id ≡ Some t.0 = ap (λ ps. slice_get ps id) t.1 ∙ set_here places id t.0 p there in
+          elim (t.2.all less) [
+            | inl idle ↦ inl (λ q e. subst (λ (r : PlaceState). IsIdleAt r key) (some_is t.0 q (sym at ∙ e)) idle)
+            | inr last ↦ elim last [
+              | inl begins ↦ inr (inl (record { old = p; new = t.0; old_is = there; new_is = at; begins = begins }))
+              | inr sends ↦ inr (inr (subst (λ (g : FlightsState). flights.posted < g.posted) (sym same) (posted_more roomy out sends)))
+            ]
+          ]
+
+      all : n < most → IsIdleNow (world_of c new after false) id key ⊎ (BeganLast (world_of c places flights false) id key n (world_of c new after false) ⊎ flights.posted < after.posted)
+      all less = all_at (slice_get places id) refl less
+
+  pub stretches_refused : (after : FlightsState) (why : Stop) → RunsOne places new id key most n (Err why) → after ≡ with_room flights → Stretches c places flights id key most (Err why) new after
+  stretches_refused after why one same = record {
+    count = length_after Keeps places new id keeps;
+    world = record {
+      belong = belong_after c.program c.bounds places new id world.belong keeps;
+      places_are = ap (λ (g : FlightsState). g.places) same ∙ world.places_are ∙ sym (length_after Keeps places new id keeps);
+      none_stopped = λ off. absurd (off refl);
+      few = few_after Keeps places new id keeps world.few;
+      world = (makes world.world world.stands).0;
+      stands = (makes world.world world.stands).3;
+    };
+    made = tt;
+    all = tt;
+    kept = λ w stand. (n, few, makes w stand);
+    hindered = inr (hindered (slice_get places id) refl);
+  }
+    where
+      keeps : ChangesOne Keeps places new id
+      keeps = changes_by Keeps places new id key most n (Err why) (λ p q s. s.kept) one
+
+      few_at : (o : Option PlaceState) → slice_get places id ≡ o → n ≤ most
+      few_at None none = omega (arith, (one.gone none).0)
+      few_at (Some p) there = let t = one.there p there in t.2.few
+
+      few : n ≤ most
+      few = few_at (slice_get places id) refl
+
+      makes_at : (w : World) → AllStandFor c.program c.bounds places roomy w → (o : Option PlaceState) → slice_get places id ≡ o → RepeatsIn c.program c.bounds places w n id key new roomy
+      makes_at w stand None none = absurd (err_is why (one.gone none).1)
+      makes_at w stand (Some p) there =
+          let t = one.there p there in
+          let ran = t.2.ran in
+          let r = strides_run c.program c.bounds places roomy id key p bounds-are world.belong there n ran.0 ran.1 w stand in
+          let stopped : PlaceState = record ran.0 { stopped = true } in
+          let at = slice_set places id ran.0 in
+          subst (λ ps. RepeatsIn c.program c.bounds places w n id key ps roomy) (sym t.1) (
+            r.0,
+            r.1,
+            r.2,
+            subst (λ ps. AllStandFor c.program c.bounds ps roomy r.0) (set_again places id ran.0 stopped ∙ ap (λ x. slice_set places id x) (sym ran.2)) (stand_stopped c.program c.bounds at roomy id ran.0 r.0 (set_here places id ran.0 p there) r.3),
+          )
+
+      makes : (w : World) → AllStandFor c.program c.bounds places flights w → RepeatsIn c.program c.bounds places w n id key new after
+      makes w stand = subst (λ g. RepeatsIn c.program c.bounds places w n id key new g) (sym same) (makes_at w (stand_roomy c.program c.bounds places flights w stand) (slice_get places id) refl)
+
+      hindered : (o : Option PlaceState) → slice_get places id ≡ o → (p : PlaceState) × (slice_get new id ≡ Some p) × IsHindered p key why
+      hindered None none = absurd (err_is why (one.gone none).1)
+      hindered (Some p) there =
+          let t = one.there p there in
+          let ran = t.2.ran in
+          (t.0, ap (λ ps. slice_get ps id) t.1 ∙ set_here places id t.0 p there, subst (λ s. IsHindered s key why) (sym ran.2) (stopped_hindered ran.0 key why (ran.3 (world.none_stopped on id p there))))
 
 -- an activity that works and has nothing to do stands in a finish that may not end
-pub run_waits : (y : WorldState) (place key number : ℕ) (X : Type 0) → BelongTo y.program y.bounds (length y.places) y.places → IsIdleNow y place key ⊎ X → (w : World) → StandsForWorld y w → WorksIn w place key number → MayEnd w (finish_at place number) → X
-run_waits y place key number X belong (inr x) w stand works may = x
-run_waits y place key number X belong (inl idle) w stand works may = at_place (slice_get y.places place) refl
+pub run_waits : (y : WorldState) (place key number : ℕ) (X : Type 0) → BelongTo y.program y.bounds (length y.places) y.places → y.flights.flying ≡ [] → IsIdleNow y place key ⊎ X → (w : World) → StandsForWorld y w → WorksIn w place key number → MayEnd w (finish_at place number) → X
+run_waits y place key number X belong still (inr x) w stand works may = x
+run_waits y place key number X belong still (inl idle) w stand works may = at_place (slice_get y.places place) refl
   where
     at_place : (o : Option PlaceState) → slice_get y.places place ≡ o → X
     at_place None none = absurd (let e : stays_of w.net place key ≡ None = ap (λ o. stays_in o key) (stand.none place none) in none_some (stays_of w.net place key) works.stay e works.is_there)
-    at_place (Some p) is = absurd (idle_works y.program y.bounds y.places w place key number p belong stand is (idle p is) works may)
+    at_place (Some p) is = absurd (idle_works y.program y.bounds y.places y.flights w place key number p belong stand still is (idle p is) works may)
 
 -- ---- a stretch of one place of a list
 
 -- no such place
-pub no_run : (old : List PlaceState) (id key most : ℕ) → length old ≤ id → RunsOne old old id key most 0 None
+pub no_run : (old : List PlaceState) (id key most : ℕ) → length old ≤ id → RunsOne old old id key most 0 (Ok no_sent)
 no_run old id key most le = record { gone = λ e. (refl, refl, refl); there = λ p e. absurd (none_some (slice_get old id) p (past_none old id le) e) }
 
 -- the place has made its steps
-pub one_run : (old : List PlaceState) (id key most n : ℕ) (why : Option Stop) (p q : PlaceState) → slice_get old id ≡ Some p → IsRunOn p q key most n why → RunsOne old (slice_set old id q) id key most n why
-one_run old id key most n why p q is run = record {
+pub one_run : (old : List PlaceState) (id key most n : ℕ) (result : Result Sent Stop) (p q : PlaceState) → slice_get old id ≡ Some p → IsRunOn p q key most n result → RunsOne old (slice_set old id q) id key most n result
+one_run old id key most n result p q is run = record {
   gone = λ e. absurd (none_some (slice_get old id) p e is);
-  there = λ r e. (q, refl, subst (λ x. IsRunOn x q key most n why) (some_is p r (sym is ∙ e)) run);
+  there = λ r e. (q, refl, subst (λ x. IsRunOn x q key most n result) (some_is p r (sym is ∙ e)) run);
 }
+
+-- why there was no room
+pub roomless_is : (s : FlightsState) (why : Stop) → ((why ≡ stop.Memory) ⊎ (why ≡ stop.Limit 11)) → (◌≡◌ {A = Result ⊤ Stop} (Err why) (Err (stop.Limit 11)) ↔ (2 ^ 64 ≤ s.posted + 2)) → IsRoomless s why
+roomless_is s why (inl memory) exact = inl memory
+roomless_is s why (inr limit) exact = inr (limit, exact.0 (ap Err limit))

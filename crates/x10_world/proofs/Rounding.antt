@@ -1,13 +1,13 @@
 -- Runs one after another.
-use Rattle.std.proofs.Common.{ℕ, ◌≤◌, List, [], ◌++◌, replicate, subst}
+use Rattle.std.proofs.Common.{ℕ, ◌≤◌, List, [], ◌∷◌, ◌++◌, replicate, subst}
 use Rattle.std.specs.Prelude.{take}
 use Rattle.x10_model.specs.declared.event.Event.{Event}
 use Rattle.x10_model.specs.declared.event.Event.TheVariants.{Step}
 use Rattle.x10_model.specs.Places.{Setting}
 use Rattle.x10_model.specs.Worlds.{World, Rule, Ideal, Run, done, then, WithinBounds}
-use Rattle.x10_world.specs.StandsForWorld.{WorldState, KeepsSetting, setting_of, StandsForWorld, Runs, Repeats}
+use Rattle.x10_world.specs.StandsForWorld.{WorldState, KeepsSetting, setting_of, StandsForWorld, Makes, Runs, Repeats}
 use Rattle.x10_world.specs.Rounds.{RunsTo}
-use Rattle.x10_world.proofs.Running.{within, keeps_more, keeps_self, setting_kept}
+use Rattle.x10_world.proofs.Running.{within, keeps_more, keeps_self, setting_kept, runs_one}
 
 run_on : (rule : Rule) (setting : Setting) (P : World → Type 0) (u v : World) (events : List Event) → Run rule setting P u events v → (w : World) (more : List Event) → Run rule setting P v more w → Run rule setting P u (events ++ more) w
 run_on rule setting P u v events (done x holds) w more rest = rest
@@ -29,7 +29,15 @@ runs_on x y z first second = record {
 }
 
 pub runs_by : (x y : WorldState) (events : List Event) → KeepsSetting x y → ((w : World) → StandsForWorld x w → (n : ℕ) × Runs x w n events y) → RunsTo x y
-runs_by x y events kept runs = record { kept = kept; runs = λ w stand. let r = runs w stand in (take r.0 events, r.1.0, r.1.1.0, r.1.2) }
+runs_by x y events kept runs = record { kept = kept; runs = λ w stand. let r = runs w stand in (take r.0 events, r.1.last, r.1.run, r.1.stands) }
 
 pub repeats_by : (x y : WorldState) (here key most : ℕ) → KeepsSetting x y → ((w : World) → StandsForWorld x w → (n : ℕ) × (n ≤ most) × Repeats x w n here key y) → RunsTo x y
 repeats_by x y here key most kept runs = record { kept = kept; runs = λ w stand. let r = runs w stand in (replicate r.0 (Step here key), r.2.0, r.2.1, r.2.3) }
+
+-- one event, which was made
+pub runs_event : (x y : WorldState) (event : Event) → KeepsSetting x y → ((w : World) → StandsForWorld x w → Makes x w event y) → RunsTo x y
+runs_event x y event kept makes = record { kept = kept; runs = λ w stand. let r = runs_one x y event kept makes w stand in (event ∷ [], r.last, r.run, r.stands) }
+
+-- no event was made
+pub runs_still : (x y : WorldState) → KeepsSetting x y → ((w : World) → StandsForWorld x w → StandsForWorld y w) → RunsTo x y
+runs_still x y kept still = record { kept = kept; runs = λ w stand. ([], w, done w (within x w stand), still w stand) }

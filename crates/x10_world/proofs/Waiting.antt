@@ -1,5 +1,5 @@
 -- A step waits at the end of a finish only where something lives that the finish governs, or a message flies.
-use Rattle.std.proofs.Common.{◌≡◌, ℕ, true, false, List, ◌∷◌, length, Option, Some, None, refl, sym, ap, subst, ◌∙◌, inl, inr}
+use Rattle.std.proofs.Common.{◌≡◌, ℕ, true, false, List, [], ◌∷◌, length, Option, Some, None, refl, sym, ap, subst, ◌∙◌, inl, inr}
 use Rattle.std.specs.Prelude.{slice_get}
 use Rattle.x10_code.specs.declared.op.Op.{Op}
 use Rattle.x10_code.specs.declared.op.Op.TheVariants as op
@@ -7,7 +7,7 @@ use Rattle.x10_code.specs.declared.instr.Instr.{Instr}
 use Rattle.x10_model.specs.Modules.{Module, Function}
 use Rattle.x10_model.specs.Ranges.{instr_in, instr_at}
 use Rattle.x10_model.specs.Places as machine
-use Rattle.x10_model.specs.Places.{Setting, Stay, Effect, Waits, Closes}
+use Rattle.x10_model.specs.Places.{Setting, Finish, Stay, Effect, Waits, Closes}
 use Rattle.x10_model.specs.Moves.{Situation, Does, Moves}
 use Rattle.x10_model.specs.Worlds.{World}
 use Rattle.x10_finish.specs.Closing.{IsAtItsEnd}
@@ -15,8 +15,9 @@ use Rattle.x10_finish.specs.Nesting.{stays_in, stays_of}
 use Rattle.x10_finish.proofs.Watching.{ended_is_done}
 use Rattle.x10_place.specs.Stays.{StayState, IsDoneHere, finish_at}
 use Rattle.x10_place.specs.StandsFor.{PlaceState, store_of, IsIdleAt, nobody, away, waits, IsOperation}
+use Rattle.x10_world.specs.Flights.{FlightsState, flight_among}
 use Rattle.x10_world.specs.Prompt.{MayEnd, WorksIn}
-use Rattle.x10_world.specs.StandsForWorld.{BelongTo, setting_in, counts_in, PlacesStandFor, EndedIsDoneHere}
+use Rattle.x10_world.specs.StandsForWorld.{BelongTo, setting_in, counts_in, AllStandFor, EndedIsDoneHere}
 use Rattle.x10_world.proofs.Lists.{none_some, some_is, below}
 use Rattle.x10_model.proofs.NotWrong.{situation}
 use Rattle.x10_world.proofs.Moving.{done_by}
@@ -27,12 +28,16 @@ at_its_end : (w : World) (here key number : ℕ) (o : Option machine.Place) → 
 at_its_end w here key number None e works there = absurd cc
 at_its_end w here key number (Some place) e works there = record { key = key; place = place; stay = works.stay; rest = works.outer; place_is = e; stay_is = there; is_ready = works.is_ready; innermost_is = works.innermost_is }
 
+-- where nothing flies, no report does
+none_told : (program : Module) (bounds : List ℕ) (places : List PlaceState) (flights : FlightsState) (w : World) (f : Finish) (number : ℕ) → (stand : AllStandFor program bounds places flights w) → flights.flying ≡ [] → stand.told f number ≡ None
+none_told program bounds places flights w f number stand empty = (stand.flies.none number (ap (λ fs. flight_among fs number) empty)).1 f
+
 pub ended_is_done_here : EndedIsDoneHere
-ended_is_done_here program bounds places w here key number p belong stand is works may =
+ended_is_done_here program bounds places flights w here key number p belong stand empty is works may =
     let at = at_its_end w here key number (w.net.places here) refl works works.is_there in
     let belongs = belong here p is in
-    done_by places here number p is belongs.id_is belongs.places_are
-    (ended_is_done (length places) w (counts_in places) (finish_at here number) stand.watched at (below places here p is) may.none_flies (λ n. refl) may.ended)
+    done_by places stand.told here number p is belongs.id_is belongs.places_are
+    (ended_is_done (length places) w (counts_in places stand.told) (finish_at here number) stand.watched at (below places here p is) may.none_flies (λ n. none_told program bounds places flights w (finish_at here number) n stand empty) may.ended)
 
 -- ---- what is idle
 
@@ -40,28 +45,28 @@ first_is : {X : Type 0} (x y : X) (xs ys : List X) → x ∷ xs ≡ y ∷ ys →
 first_is x y xs ys e = cc
 
 -- the machine's stay is the one that the place's stands for
-same_stay : (places : List PlaceState) (program : Module) (bounds : List ℕ) (w : World) (here key : ℕ) (p : PlaceState) (stay : Stay) → (stand : PlacesStandFor program bounds places w) → (is : slice_get places here ≡ Some p) → stays_of w.net here key ≡ Some stay → (stand.some here p is).0.stays key ≡ Some stay
-same_stay places program bounds w here key p stay stand is there = (let old = stand.some here p is in ap (λ o. stays_in o key) (sym old.1) ∙ there)
+same_stay : (places : List PlaceState) (program : Module) (bounds : List ℕ) (flights : FlightsState) (w : World) (here key : ℕ) (p : PlaceState) (stay : Stay) → (stand : AllStandFor program bounds places flights w) → (is : slice_get places here ≡ Some p) → stays_of w.net here key ≡ Some stay → (stand.some here p is).0.stays key ≡ Some stay
+same_stay places program bounds flights w here key p stay stand is there = (let old = stand.some here p is in ap (λ o. stays_in o key) (sym old.1) ∙ there)
 
 ready_away : (s t : Stay) (a : StayState) → s ≡ t → s.away ≡ a.away → a.away ≡ true → t.away ≡ false → ⊥
 ready_away s t a e same on off = (let f : true ≡ false = sym on ∙ sym same ∙ ap (λ (x : Stay). x.away) e ∙ off in absurd cc)
 
 -- an activity that works and has nothing to do stands at the end of a finish that may not end
-pub idle_works : (program : Module) (bounds : List ℕ) (places : List PlaceState) (w : World) (here key number : ℕ) (p : PlaceState) → BelongTo program bounds (length places) places → PlacesStandFor program bounds places w → slice_get places here ≡ Some p → IsIdleAt p key
+pub idle_works : (program : Module) (bounds : List ℕ) (places : List PlaceState) (flights : FlightsState) (w : World) (here key number : ℕ) (p : PlaceState) → BelongTo program bounds (length places) places → AllStandFor program bounds places flights w → flights.flying ≡ [] → slice_get places here ≡ Some p → IsIdleAt p key
     → WorksIn w here key number → MayEnd w (finish_at here number) → ⊥
-idle_works program bounds places w here key number p belong stand is (nobody none) works may =
+idle_works program bounds places flights w here key number p belong stand empty is (nobody none) works may =
     let old = stand.some here p is in
-    none_some (old.0.stays key) works.stay (old.2.none key none) (same_stay places program bounds w here key p works.stay stand is works.is_there)
-idle_works program bounds places w here key number p belong stand is (away a there on) works may =
-    let old = stand.some here p is in
-    let s = old.2.some key a there in
-    ready_away s.0 works.stay a (some_is s.0 works.stay (sym s.1 ∙ same_stay places program bounds w here key p works.stay stand is works.is_there)) s.2.away on works.is_ready
-idle_works program bounds places w here key number p belong stand is (waits a n outer there fine innermost not) works may =
+    none_some (old.0.stays key) works.stay (old.2.none key none) (same_stay places program bounds flights w here key p works.stay stand is works.is_there)
+idle_works program bounds places flights w here key number p belong stand empty is (away a there on) works may =
     let old = stand.some here p is in
     let s = old.2.some key a there in
-    let same = some_is s.0 works.stay (sym s.1 ∙ same_stay places program bounds w here key p works.stay stand is works.is_there) in
+    ready_away s.0 works.stay a (some_is s.0 works.stay (sym s.1 ∙ same_stay places program bounds flights w here key p works.stay stand is works.is_there)) s.2.away on works.is_ready
+idle_works program bounds places flights w here key number p belong stand empty is (waits a n outer there fine innermost not) works may =
+    let old = stand.some here p is in
+    let s = old.2.some key a there in
+    let same = some_is s.0 works.stay (sym s.1 ∙ same_stay places program bounds flights w here key p works.stay stand is works.is_there) in
     let number-is : number ≡ n = first_is number n works.outer outer (sym works.innermost_is ∙ ap (λ (x : Stay). x.finishes) (sym same) ∙ s.2.finishes ∙ innermost) in
-    not (subst (λ k. IsDoneHere (store_of p) k) number-is (ended_is_done_here program bounds places w here key number p belong stand is works may))
+    not (subst (λ k. IsDoneHere (store_of p) k) number-is (ended_is_done_here program bounds places flights w here key number p belong stand empty is works may))
 
 -- ---- a move that waits
 
@@ -84,15 +89,15 @@ move_waits : (setting : Setting) (here key number : ℕ) (old new : machine.Plac
 move_waits setting here key number old new effect m fine e = waits_innermost (situation m) new number (subst (λ o. Does o (situation m) new (Waits number)) fine (subst (λ f. Does m.instr.op (situation m) new f) e m.does))
 
 -- a place's step that finds nothing to do is such a wait
-pub idle_prompt : (program : Module) (bounds : List ℕ) (places : List PlaceState) (w : World) (here key number : ℕ) (p : PlaceState) (m new : machine.Place) (effect : Effect) → BelongTo program bounds (length places) places → PlacesStandFor program bounds places w → slice_get places here ≡ Some p
+pub idle_prompt : (program : Module) (bounds : List ℕ) (places : List PlaceState) (flights : FlightsState) (w : World) (here key number : ℕ) (p : PlaceState) (m new : machine.Place) (effect : Effect) → BelongTo program bounds (length places) places → AllStandFor program bounds places flights w → flights.flying ≡ [] → slice_get places here ≡ Some p
     → IsIdleAt p key → w.net.places here ≡ Some m → Moves (setting_in program places) here m key new effect → effect ≡ Waits number → MayEnd w (finish_at here number) → ⊥
-idle_prompt program bounds places w here key number p m new effect belong stand is idle there moves e may = idle_works program bounds places w here key number p belong stand is idle (works idle) may
+idle_prompt program bounds places flights w here key number p m new effect belong stand empty is idle there moves e may = idle_works program bounds places flights w here key number p belong stand empty is idle (works idle) may
   where
     at_key : stays_of w.net here key ≡ Some moves.stay
     at_key = ap (λ o. stays_in o key) there ∙ moves.is_there
 
     old_key : (stand.some here p is).0.stays key ≡ Some moves.stay
-    old_key = same_stay places program bounds w here key p moves.stay stand is at_key
+    old_key = same_stay places program bounds flights w here key p moves.stay stand is at_key
 
     works : IsIdleAt p key → WorksIn w here key number
     works (nobody none) = absurd (let old = stand.some here p is in none_some (old.0.stays key) moves.stay (old.2.none key none) old_key)

@@ -1,5 +1,5 @@
 -- What a run from an image's bytes ends with, and why there is none.
-use Rattle.std.specs.Prelude.{◌≡◌, ℕ, List, length, map, take, Some, None, IsTrue, slice_get, Vec, IfSome, ◌<◌}
+use Rattle.std.specs.Prelude.{◌≡◌, ℕ, List, [], length, map, take, Some, None, IsTrue, slice_get, Vec, IfSome, ◌<◌}
 use Rattle.std.specs.Global.{Global}
 use Rattle.x10_model.specs.declared.event.Event.{Event}
 use Rattle.x10_model.specs.Modules.{Module, FitsImage}
@@ -18,8 +18,7 @@ use Rattle.x10_world.specs.declared.ending.Ending.{Ending}
 use Rattle.x10_world.specs.declared.ending.RunFault.{RunFault}
 use Rattle.x10_world.specs.declared.ending.RunFault.TheVariants as fault
 use Rattle.x10_world.specs.Opening.{IsForbidden}
-use Rattle.x10_world.specs.Prompt.{ArePrompt}
-use Rattle.x10_world.specs.Queries.{NothingFlies}
+use Rattle.x10_world.specs.StandsForWorld.{WorldState, StandsForWorld, Course}
 
 -- lists of lines as the machine has them
 abbrev pub lines_in : List (Vec Line Global) → List (List machine.Line)
@@ -39,20 +38,25 @@ abbrev pub AreLinesOf : List (List machine.Line) → World → Type 0
 AreLinesOf outputs w = (id : ℕ) (m : machine.Place) → w.net.places id ≡ Some m → slice_get outputs id ≡ Some m.lines
 
 -- A run of the machine, from its opening, under the events that were made: none goes wrong, and no activity takes more
--- steps than its bound, and none waits at the end of a finish that may end. The number of places is permitted. All events were made, or a Stop is told of the one after them;
--- the lines are those of the last world.
+-- steps than its bound; and where no frame is in flight, none waits at the end of a finish that may end (`course`). The
+-- number of places is permitted. All events were made, or a Stop is told of the one after them; the lines are those of the
+-- last world.
 pub record IsEndingOf (c : Certified) (count : ℕ) (events : List Event) (outputs : List (List machine.Line)) (e : Ending) : Type 0 where
   pub key : ℕ
   pub last : World
   pub run : Run Ideal (record { program = c.program; places = count }) (WithinBounds c.bounds) (opening (record { program = c.program; places = count }) key) (take e.done events) last
-  pub prompt : ArePrompt Ideal (record { program = c.program; places = count }) (WithinBounds c.bounds) (opening (record { program = c.program; places = count }) key) (take e.done events) last run
+  pub first : WorldState
+  pub state : WorldState
+  pub course : Course (record { program = c.program; places = count }) c.bounds first (opening (record { program = c.program; places = count }) key) (take e.done events) state last
+  pub final : WorldState
+  pub stands : StandsForWorld final last
   pub permitted : IsForbidden c count → ⊥
   pub all : e.stop ≡ None → e.done ≡ length events
   pub less : IfSome e.stop (λ stop. e.done < length events)
   pub count_is : length outputs ≡ count
   pub lines : AreLinesOf outputs last
   pub ended : IsTrue e.closed → IsOver last
-  pub over : IsOver last → NothingFlies last → IsTrue e.closed
+  pub over : IsOver last → final.flights.flying ≡ [] → IsTrue e.closed
 
 -- why there is no run: the bytes are no image, the verifier refuses their module, or it does not run at so many places;
 -- where memory ran out, nothing is said

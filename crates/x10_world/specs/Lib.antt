@@ -1,9 +1,11 @@
 pub mod Budget
 pub mod Prompt
+pub mod Links
+pub mod Flights
 pub mod StandsForWorld
 pub mod Opening
 pub mod Queries
 pub mod Endings
 pub mod Rounds
-pub mod Links
-pub mod Flights
+pub mod Happenings
+pub mod Handling

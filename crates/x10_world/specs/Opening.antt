@@ -1,5 +1,5 @@
 -- A world at the beginning.
-use Rattle.std.specs.Prelude.{◌≡◌, ◌⊎◌, ℕ, ◌<◌, false, List, length, Some, slice_get}
+use Rattle.std.specs.Prelude.{◌≡◌, ◌⊎◌, ℕ, ◌<◌, false, List, [], length, Some, slice_get}
 use Rattle.x10_model.specs.Worlds.{opening}
 use Rattle.x10_verify.specs.Certified.{Certified}
 use Rattle.x10_place.specs.StandsFor.{PlaceState}
@@ -27,4 +27,6 @@ pub record IsOpenedWorld (verified : Certified) (count : ℕ) (x : WorldState) :
   pub bounds : x.bounds ≡ verified.bounds
   pub places : AreOpened verified count x.places
   pub stopped : x.stopped ≡ false
+  pub flying : x.flights.flying ≡ []
+  pub posted : x.flights.posted ≡ 0
   pub stands : (key : ℕ) × StandsForWorld x (opening (world.setting_of x) key)

@@ -1,8 +1,8 @@
 -- Waits at the end of a finish that aren't longer than they have to be.
-use Rattle.std.specs.Prelude.{◌≡◌, ℕ, false, List, ◌∷◌, Some}
+use Rattle.std.specs.Prelude.{◌≡◌, ℕ, List, false, ◌∷◌, Some}
 use Rattle.x10_model.specs.declared.event.Event.{Event}
 use Rattle.x10_model.specs.Places.{Setting, Finish, Stay, Waits}
-use Rattle.x10_model.specs.Worlds.{World, Rule, Happens, steps, delivers, idle, Run, done, then, HasEnded}
+use Rattle.x10_model.specs.Worlds.{World, Rule, Happens, steps, delivers, idle, HasEnded}
 use Rattle.x10_finish.specs.Nesting.{stays_of}
 use Rattle.x10_finish.specs.Watching.{NothingFlies}
 
@@ -24,11 +24,3 @@ abbrev pub IsPrompt : (rule : Rule) (setting : Setting) (w : World) (event : Eve
 IsPrompt rule setting w event v (steps here key u s) = (number : ℕ) → s.effect ≡ Waits number → MayEnd w (record { home = here; number = number }) → ⊥
 IsPrompt rule setting w event v (delivers number u d) = Unit {0}
 IsPrompt rule setting w event v (idle e i) = Unit {0}
-
-abbrev pub ArePrompt : (rule : Rule) (setting : Setting) (P : World → Type 0) (u : World) (events : List Event) (w : World) → Run rule setting P u events w → Type 0
-ArePrompt rule setting P u events w (done x p) = Unit {0}
-ArePrompt rule setting P u events w (then x v y event rest p right h far) = IsPrompt rule setting x event v h × ArePrompt rule setting P v rest y far
-
--- a run of which each step is so
-abbrev pub PromptRun : Rule → Setting → (World → Type 0) → World → List Event → World → Type 0
-PromptRun rule setting P u events w = (run : Run rule setting P u events w) × ArePrompt rule setting P u events w run

@@ -1,6 +1,7 @@
 -- What a world answers of its places.
-use Rattle.std.specs.Prelude.{◌≡◌, ◌≢◌, ◌↔◌, ℕ, ◌<◌, ◌≤◌, List, Some, None, slice_get}
+use Rattle.std.specs.Prelude.{◌≡◌, ◌≢◌, ℕ, ◌<◌, ◌≤◌, List, Some, None, slice_get}
 use Rattle.slab.specs.Slab.{get}
+use Rattle.x10_model.specs.Places as places
 use Rattle.x10_model.specs.Places.{Message, receiver}
 use Rattle.x10_model.specs.Worlds.{World, Unused, Flying}
 use Rattle.x10_place.specs.StandsFor.{PlaceState}
@@ -21,14 +22,14 @@ HasNoKey places id from = (p : PlaceState) → slice_get places id ≡ Some p �
 abbrev pub IsNotFlying : World → ℕ → Type 0
 IsNotFlying w number = (message : Message) → w.net.posts number ≢ Flying message
 
--- no message is in flight
-abbrev pub NothingFlies : World → Type 0
-NothingFlies w = (number : ℕ) → IsNotFlying w number
-
 -- the message with a number is in flight, for a place
 abbrev pub IsFlyingTo : World → ℕ → ℕ → Type 0
 IsFlyingTo w number place = (message : Message) × (w.net.posts number ≡ Flying message) × (receiver message ≡ place)
 
--- numbers below it are those that messages have had
+-- a report is in flight, for a place: no message has its number
+abbrev pub IsReportTo : World → ℕ → ℕ → Type 0
+IsReportTo w number place = (w.net.posts number ≡ Unused) × ((p : places.Place) × (w.net.places place ≡ Some p))
+
+-- the numbers that messages have had are below it
 abbrev pub IsPosted : World → ℕ → Type 0
-IsPosted w count = (number : ℕ) → (number < count) ↔ (w.net.posts number ≢ Unused)
+IsPosted w count = (number : ℕ) → w.net.posts number ≢ Unused → number < count

@@ -2,7 +2,7 @@
 
 ghost use Rattle.x10_world.specs.Budget.{BudgetAtOpening, BudgetAfterMove, BudgetAfterDelivery, BudgetAfterEvent, BudgetBounds, RunsAreWithinBounds};
 ghost use Rattle.x10_world.specs.Links.{AnsweredAtOpening, AnsweredAfterMove, AnsweredAfterDelivery, AnsweredAfterEvent, FittingIsNoMisfit, FittingResultIsAwaited};
-ghost use Rattle.x10_world.specs.StandsForWorld.{StepIsMove, EndedIsDoneHere};
+ghost use Rattle.x10_world.specs.StandsForWorld.{StepLeads, DeliveryLeads, NoneIsRefused, EndedIsDoneHere};
 
 /// At the opening the activities are within their budgets.
 pub fn budget_at_opening()
@@ -35,14 +35,24 @@ pub fn runs_are_within_bounds()
     ensures { RunsAreWithinBounds }
 {}
 
-/// Where places stand for a world of the machine, a step of one of them that leads each place of the machine on leads that
-/// world on, and the places then stand for what it leads to.
-pub fn step_is_move()
-    ensures { StepIsMove }
+/// Where places and frames in flight stand for a world of the machine, a step of one of the places that leads each place of
+/// the machine on leads that world on, and with the frames that it puts out they then stand for what it leads to.
+pub fn step_leads()
+    ensures { StepLeads }
 {}
 
-/// Where places stand for a world of the machine in which a finish may end, its home lets it end: its owner's step there is
-/// one that closes it.
+/// And so does a frame in flight that its receiver takes in.
+pub fn delivery_leads()
+    ensures { DeliveryLeads }
+{}
+
+/// A frame in flight is refused for want of memory or at a limit alone.
+pub fn none_is_refused()
+    ensures { NoneIsRefused }
+{}
+
+/// Where they stand for a world of the machine in which a finish may end, and no frame flies, its home lets it end: its
+/// owner's step there is one that closes it.
 pub fn ended_is_done_here()
     ensures { EndedIsDoneHere }
 {}

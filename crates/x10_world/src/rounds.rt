@@ -1,13 +1,15 @@
 //! The order in which a program makes events: round after round, place after place, key after key.
-ghost use Rattle.std.specs.Prelude.{◌≡◌, IfOk, Ok};
+ghost use Rattle.std.specs.Prelude.{◌≡◌, IfOk};
 ghost use Rattle.x10_world.specs.declared.rounds.Halt.TheVariants as halt;
 ghost use Rattle.x10_world.specs.Rounds.{HasEnded, RunsTo};
 
+use crate::keys::Keys;
 use crate::world::World;
-use std::alloc::{AllocError, AllocFailed, Global};
+use std::alloc::{AllocError, Global};
 use thiserror::Error;
 use x10_kinds::Stop;
 use x10_model::Event;
+use x10_model::limits::MOST_PLACES;
 
 /// Why rounds were made no more before the run had ended.
 #[derive(Clone, Copy, Debug, PartialEq, Eq, Error)]
@@ -31,157 +33,276 @@ impl From<Stop> for Halt {
     }
 }
 
-impl From<AllocFailed<usize>> for Halt {
+impl From<AllocError> for Halt {
     ghost from_gives = { λ _ made. made ≡ halt.Memory };
 
-    fn from(_error: AllocFailed<usize>) -> Halt {
+    fn from(_error: AllocError) -> Halt {
         Halt::Memory
     }
 }
 
-/// How a run goes on after an event.
-#[derive(Clone, Copy, Debug)]
-enum Then {
-    /// With the next event.
-    Goes,
-    /// It has ended.
-    Ends,
+/// Where a place is in its turn.
+#[derive(Clone, Copy)]
+enum Turn {
+    /// It takes in the frames that are in flight to it, from a number on.
+    TakesIn(u64),
+    /// Its activities make their steps, from a position in the list of keys on.
+    Steps(usize),
 }
 
-/// Runs a world in rounds until the run has ended, with so many events at most, idle ones among them. In a round each
-/// place, by rising number, makes a step of each of its activities that are there when its turn comes, by rising key; what
-/// these begin waits for the next round. Where one activity is alone, its steps are made at a stretch, each a round of its
-/// own. A round takes time in the places, the keys that were ever in use at once, and its events. Takes memory for the keys
-/// of one place.
+/// The order of a program's events. In a round each place, by rising number, takes in the frames that are in flight to it
+/// when its turn comes, by rising number, and then makes a step of each of its activities that are there, by rising key;
+/// what these begin waits for the next round. It is told nothing of the events: it looks at the world before each one, so
+/// nothing else may happen to the world meanwhile. A round takes time in its events and the places that have some.
+#[derive(Drop)]
+pub struct Rounds {
+    /// The keys of each place.
+    lists: Vec<Keys>,
+    /// The places that may have an activity, or a frame in flight to them: bit p stands for place p.
+    busy: u64,
+    /// The frames with lower numbers were looked at.
+    posted: u64,
+    /// A place, and the key that an activity has that the last event began there.
+    next_key: Option<(u16, usize)>,
+    /// The place whose turn it is.
+    place: u16,
+    turn: Turn,
+    /// How many activities made a step in this round.
+    met: usize,
+    /// Whether at most one made a step in the round before.
+    quiet: bool,
+}
+
+impl Rounds {
+    /// The rounds of a world from now on. Takes time in the keys that were ever in use at once, and memory for them.
+    pub fn new(alloc: Global, world: &World) -> Result<Rounds, AllocError> {
+        let mut lists = Vec::with_capacity(alloc, usize::from(world.count()))?;
+        let mut busy = 0;
+        for place in 0..world.count() {
+            let keys = Keys::of_place(alloc, world, place)?;
+            lists.push(keys)?;
+            busy |= bit(place);
+        }
+        Ok(Rounds {
+            lists,
+            busy,
+            posted: world.posted(),
+            next_key: None,
+            place: 0,
+            turn: Turn::TakesIn(0),
+            met: 0,
+            quiet: true,
+        })
+    }
+
+    /// The next event; none where nothing is in flight and no activity is there. Takes memory for keys.
+    pub fn next(&mut self, world: &World) -> Result<Option<Event>, AllocError> {
+        self.look(world)?;
+        for _ in 0..=MOST_PLACES {
+            let event = self.next_here(world)?;
+            if event.is_some() {
+                self.watch(world, self.place);
+                return Ok(event);
+            }
+            self.pass(self.place.saturating_add(1));
+        }
+        Ok(None)
+    }
+
+    /// Looks at what the last events put out and began.
+    fn look(&mut self, world: &World) -> Result<(), AllocError> {
+        for number in self.posted..world.posted() {
+            if let Some((to, _)) = world.frame(number) {
+                self.await_frame(to);
+            }
+        }
+        self.posted = world.posted();
+        let Some((place, key)) = self.next_key else {
+            return Ok(());
+        };
+        if world.has_key(place, key) {
+            if let Some(keys) = self.lists.get_mut(usize::from(place)) {
+                keys.fresh.push(key)?;
+            }
+            self.busy |= bit(place);
+        }
+        self.next_key = None;
+        Ok(())
+    }
+
+    /// Remembers that a frame is in flight to a place.
+    fn await_frame(&mut self, to: u16) {
+        self.busy |= bit(to);
+        if let Some(keys) = self.lists.get_mut(usize::from(to)) {
+            keys.waiting = keys.waiting.saturating_add(1);
+        }
+    }
+
+    /// Remembers which key an activity gets that begins at a place.
+    fn watch(&mut self, world: &World, place: u16) {
+        self.next_key = match world.vacant_key(place) {
+            Some(key) => Some((place, key)),
+            None => None,
+        };
+    }
+
+    /// The next event of the place whose turn it is, if its turn isn't over.
+    fn next_here(&mut self, world: &World) -> Result<Option<Event>, AllocError> {
+        match self.turn {
+            Turn::Steps(position) => Ok(self.step(position)),
+            Turn::TakesIn(from) => match self.next_frame(world, from) {
+                Some(number) => {
+                    self.turn = Turn::TakesIn(number.saturating_add(1));
+                    Ok(Some(Event::Deliver(number)))
+                }
+                None => {
+                    self.begin_steps(world)?;
+                    Ok(self.step(0))
+                }
+            },
+        }
+    }
+
+    /// The next frame that is in flight to the place whose turn it is, from a number on.
+    fn next_frame(&mut self, world: &World, from: u64) -> Option<u64> {
+        let keys = self.lists.get_mut(usize::from(self.place))?;
+        if keys.waiting == 0 {
+            return None;
+        }
+        keys.waiting -= 1;
+        world.next_frame(self.place, from)
+    }
+
+    /// Makes the list of the keys that are in use at the place whose turn it is, which has taken in all frames.
+    fn begin_steps(&mut self, world: &World) -> Result<(), AllocError> {
+        let Some(keys) = self.lists.get_mut(usize::from(self.place)) else {
+            return Ok(());
+        };
+        keys.taken = world.posted();
+        keys.waiting = 0;
+        keys.refresh(world, self.place)?;
+        if keys.known.is_empty() {
+            self.busy &= !bit(self.place);
+        }
+        self.met = self.met.saturating_add(keys.known.len());
+        Ok(())
+    }
+
+    /// The step of the activity at a position in the list of keys, if the list goes so far.
+    fn step(&mut self, position: usize) -> Option<Event> {
+        self.turn = Turn::Steps(position.saturating_add(1));
+        let keys = self.lists.get(usize::from(self.place))?;
+        let key = keys.known.get(position)?;
+        Some(Event::Step(self.place, *key))
+    }
+
+    /// Ends a turn. The next one is that of the first busy place from a number on, or else of the first one in a new round.
+    fn pass(&mut self, from: u16) {
+        match first_from(self.busy, from) {
+            Some(place) => self.place = place,
+            None => {
+                self.place = first_from(self.busy, 0).unwrap_or(0);
+                self.quiet = self.met < 2;
+                self.met = 0;
+            }
+        }
+        self.turn = Turn::TakesIn(self.taken());
+    }
+
+    /// The frames for the place whose turn it is that have lower numbers were taken in before.
+    fn taken(&self) -> u64 {
+        match self.lists.get(usize::from(self.place)) {
+            Some(keys) => keys.taken,
+            None => 0,
+        }
+    }
+
+    /// The one activity that there is, by its place and key, where a round begins; none where there are others, or where a
+    /// frame is in flight. It is looked for only where the round before met no second one.
+    fn lone(&self, world: &World) -> Option<(u16, usize)> {
+        let Turn::TakesIn(from) = self.turn else {
+            return None;
+        };
+        if !self.quiet || self.met > 0 || self.busy.count_ones() > 1 || from != self.taken() {
+            return None;
+        }
+        let keys = self.lists.get(usize::from(self.place))?;
+        if keys.waiting > 0 {
+            return None;
+        }
+        let key = keys.single(world, self.place)?;
+        Some((self.place, key))
+    }
+
+    /// The next events: how many. Where one activity is alone, its steps are made at a stretch, each a round of its own.
+    fn advance(&mut self, world: &mut World, left: u64) -> Result<u64, Halt>
+        ensures runs { RunsTo world.old world.new }
+    {
+        self.look(world)?;
+        if let Some((place, key)) = self.lone(world) {
+            return self.stretch(world, place, key, left);
+        }
+        self.event(world)
+    }
+
+    /// Steps of the one activity that there is, up to one that begins an activity or puts out a frame.
+    fn stretch(&mut self, world: &mut World, place: u16, key: usize, left: u64) -> Result<u64, Halt>
+        ensures runs { RunsTo world.old world.new }
+    {
+        self.watch(world, place);
+        let made = world.run_activity(place, key, left)?;
+        self.look(world)?;
+        if made == 0 {
+            return self.event(world);
+        }
+        self.pass(place.saturating_add(1));
+        Ok(made)
+    }
+
+    /// The next event.
+    fn event(&mut self, world: &mut World) -> Result<u64, Halt>
+        ensures runs { RunsTo world.old world.new }
+    {
+        let Some(event) = self.next(world)? else {
+            return Err(Halt::Limit);
+        };
+        world.run(&[event])?;
+        Ok(1)
+    }
+}
+
+/// Runs a world in rounds until the run has ended, with so many events at most, idle ones among them: those of `Rounds`, one
+/// after another. Whether the run has ended is looked at after each event, before whether there may be another one; of steps
+/// that are made at a stretch, after the last.
 pub fn run_rounds(alloc: Global, world: &mut World, limit: u64) -> Result<(), Halt>
     ensures runs { RunsTo world.old world.new }
     ensures ended { IfOk result (λ _. HasEnded world.new) }
 {
+    let mut rounds = Rounds::new(alloc, world)?;
     let mut left = limit;
-    let mut keys = Vec::new(alloc);
-    let mut alone = true;
     for _ in 0..limit {
-        if let Then::Ends = round(world, &mut keys, &mut left, &mut alone)? {
+        let made = rounds.advance(world, left)?;
+        if world.home_is_empty() && world.closed() {
             return Ok(());
+        }
+        left = left.saturating_sub(made);
+        if left == 0 {
+            return Err(Halt::Limit);
         }
     }
     Err(Halt::Limit)
 }
 
-/// A round, or a stretch where one activity is alone. That is looked for only where the round before met no second one.
-fn round(
-    world: &mut World,
-    keys: &mut Vec<usize>,
-    left: &mut u64,
-    alone: &mut bool,
-) -> Result<Then, Halt>
-    ensures runs { RunsTo world.old world.new }
-    ensures ended { result ≡ Ok Then.Ends → HasEnded world.new }
-{
-    if *alone {
-        *alone = false;
-        if let Some((place, key)) = lone(world) {
-            return stretch(world, place, key, left);
-        }
-    }
-    let mut met: usize = 0;
-    for place in 0..world.count() {
-        keys_at(world, place, keys)?;
-        met = met.saturating_add(keys.len());
-        if let Then::Ends = turn(world, place, keys, left)? {
-            return Ok(Then::Ends);
-        }
-    }
-    *alone = met < 2;
-    Ok(Then::Goes)
+/// The bit that stands for a place.
+fn bit(place: u16) -> u64 {
+    1_u64.checked_shl(u32::from(place)).unwrap_or(0)
 }
 
-/// The one activity that there is, by its place and key; none where there are others.
-fn lone(world: &World) -> Option<(u16, usize)> {
-    let mut found = None;
-    for place in 0..world.count() {
-        if let Some(key) = world.next_key(place, 0) {
-            if found.is_some() || world.next_key(place, key.checked_add(1)?).is_some() {
-                return None;
-            }
-            found = Some((place, key));
-        }
+/// The first place from a number on whose bit is set.
+fn first_from(places: u64, from: u16) -> Option<u16> {
+    let later = places.checked_shr(u32::from(from)).unwrap_or(0);
+    if later == 0 {
+        return None;
     }
-    found
-}
-
-/// Steps of the one activity that there is: each is a round. They end with one that begins an activity.
-fn stretch(world: &mut World, place: u16, key: usize, left: &mut u64) -> Result<Then, Halt>
-    ensures runs { RunsTo world.old world.new }
-    ensures ended { result ≡ Ok Then.Ends → HasEnded world.new }
-{
-    let made = world.run_activity(place, key, *left)?;
-    if made == 0 {
-        return wait(world, place, key, left);
-    }
-    *left = left.saturating_sub(made);
-    after(world, *left)
-}
-
-/// Events of the one activity that there is, which finds nothing to do: each is a round.
-fn wait(world: &mut World, place: u16, key: usize, left: &mut u64) -> Result<Then, Halt>
-    ensures runs { RunsTo world.old world.new }
-    ensures ended { result ≡ Ok Then.Ends → HasEnded world.new }
-{
-    for _ in 0..*left {
-        if let Then::Ends = event(world, Event::Step(place, key), left)? {
-            return Ok(Then::Ends);
-        }
-    }
-    Ok(Then::Goes)
-}
-
-/// The keys in use at a place, in place of those that the list has.
-fn keys_at(world: &World, place: u16, keys: &mut Vec<usize>) -> Result<(), Halt> {
-    keys.clear();
-    let mut from = 0;
-    while let Some(key) = world.next_key(place, from) {
-        keys.push(key)?;
-        let Some(next) = key.checked_add(1) else {
-            return Ok(());
-        };
-        from = next;
-    }
-    Ok(())
-}
-
-/// A step of each activity with one of the keys.
-fn turn(world: &mut World, place: u16, keys: &[usize], left: &mut u64) -> Result<Then, Halt>
-    ensures runs { RunsTo world.old world.new }
-    ensures ended { result ≡ Ok Then.Ends → HasEnded world.new }
-{
-    for key in keys {
-        if let Then::Ends = event(world, Event::Step(place, *key), left)? {
-            return Ok(Then::Ends);
-        }
-    }
-    Ok(Then::Goes)
-}
-
-/// One event.
-fn event(world: &mut World, event: Event, left: &mut u64) -> Result<Then, Halt>
-    ensures runs { RunsTo world.old world.new }
-    ensures ended { result ≡ Ok Then.Ends → HasEnded world.new }
-{
-    world.run(&[event])?;
-    *left = left.saturating_sub(1);
-    after(world, *left)
-}
-
-/// How a run goes on. Whether it has ended is looked at before whether there may be another event.
-fn after(world: &World, left: u64) -> Result<Then, Halt>
-    ensures ended { result ≡ Ok Then.Ends → HasEnded world.now }
-{
-    if world.closed() {
-        return Ok(Then::Ends);
-    }
-    if left == 0 {
-        return Err(Halt::Limit);
-    }
-    Ok(Then::Goes)
+    Some(from.saturating_add(later.trailing_zeros() as u16))
 }

@@ -1,4 +1,5 @@
-ghost use Rattle.std.specs.Prelude.{◌≡◌, ◌≢◌, ◌<◌, ◌≤◌, ◌↔◌, ◌⊎◌, ℕ, true, IsTrue, IfOk, IfErr, IsErrOf, IfSome, MatchOption, Ok, Err, Some, None, length, slice_get};
+ghost use Rattle.std.specs.Prelude.{◌≡◌, ◌≢◌, ◌<◌, ◌≤◌, ◌↔◌, ◌⊎◌, ℕ, true, IsTrue, IfOk, IfErr, IsErrOf, IfSome, IfNone, MatchOption, Ok, Err, Some, None, [], length, slice_get};
+ghost use Rattle.slab.specs.Slab.{ContainsKey};
 ghost use Rattle.x10_kinds.specs.declared.stop.Stop.TheVariants as stop;
 ghost use Rattle.x10_model.specs.declared.event.Event as event;
 ghost use Rattle.x10_model.specs.declared.event.Event.TheVariants.{Step};
@@ -6,58 +7,44 @@ ghost use Rattle.x10_model.specs.Worlds as machine;
 ghost use Rattle.x10_world.specs.declared.fault.OpenFault.TheVariants as fault;
 ghost use Rattle.x10_place.specs.Opening.{IsNextKey};
 ghost use Rattle.x10_world.specs.Endings.{lines_in, lines_at};
-ghost use Rattle.x10_world.specs.Queries.{IsNoPlace, HasPlace, HasNoKey, IsNotFlying, NothingFlies, IsFlyingTo, IsPosted};
+ghost use Rattle.x10_world.specs.Queries.{IsNoPlace, HasPlace, HasNoKey, IsNotFlying, IsFlyingTo, IsReportTo, IsPosted};
 ghost use Rattle.x10_world.specs.Opening.{IsOpenedWorld, IsForbidden};
-ghost use Rattle.x10_world.specs.StandsForWorld.{StandsForWorld, KeepsSetting, StepsOne, RunsOne, IsHinderedAt, Makes, Runs, IsHaltedRun, Repeats, IsIdleNow, BeganLast};
+ghost use Rattle.x10_world.specs.StandsForWorld.{StandsForWorld, KeepsSetting, IsHinderedAt, Makes, Runs, IsHaltedRun, Repeats, IsIdleNow, BeganLast, SentLast};
+ghost use Rattle.x10_world.specs.Happenings.{Happened, IsStood, IsDone};
+ghost use Rattle.x10_world.specs.Flights.{flight_of, flies_to, IsNext};
 ghost use Rattle.x10_world.specs.Prompt.{MayEnd, WorksIn};
 
+use crate::done::{Done, Happening};
 use crate::ending::copied_outputs;
+use crate::events::{handle, stretch};
 use crate::fault::OpenFault;
+use crate::flights::Flights;
 use crate::opening::places_of;
 use std::alloc::{AllocError, Global};
 use std::marker::Model;
+use x10_code::Op;
 use x10_kinds::Stop;
 use x10_model::Event;
-use x10_place::{Line, Place, Stepped};
+use x10_place::{Line, Place};
 use x10_verify::Verified;
 
-/// A world: the places of a run.
+/// A world: the places of a run, and the frames between them that are in flight.
 #[derive(Drop)]
 pub struct World<'a> {
     verified: &'a Verified<'a>,
     places: Vec<Place<'a>>,
+    flights: Flights,
     stopped: bool,
 }
 
 impl<'a> Model for World<'a> {
-    ghost use Rattle.std.specs.Prelude.{length};
-    ghost use Rattle.x10_world.specs.StandsForWorld.{WorldState, IsWorld};
+    ghost use Rattle.x10_world.specs.StandsForWorld.{WorldState, world_of, IsWorld};
 
     ghost Value = { WorldState };
 
-    ghost view = { λ a. record { program = a.verified.now.program; bounds = a.verified.now.bounds; places = a.places.items; stopped = a.stopped } };
+    ghost view = { λ a. world_of a.verified.now a.places.items a.flights a.stopped };
 
-    ghost invariant = { λ a. IsWorld a.verified.now.program a.verified.now.bounds a.places.items a.stopped };
-}
-
-/// One step of the activity with a key at a place, if they are there.
-fn step_one(places: &mut Vec<Place>, id: usize, key: usize) -> Result<Stepped, Stop>
-    ensures { StepsOne places.old.items places.new.items id key result }
-{
-    if id < places.len() {
-        return places[id].step(key);
-    }
-    Ok(Stepped::Idle)
-}
-
-/// Up to so many steps of the activity with a key at a place, if they are there.
-fn run_one(places: &mut Vec<Place>, id: usize, key: usize, most: u64) -> (u64, Option<Stop>)
-    ensures { RunsOne places.old.items places.new.items id key most result.0 result.1 }
-{
-    if id < places.len() {
-        return places[id].run(key, most);
-    }
-    (0, None)
+    ghost invariant = { λ a. IsWorld a.verified.now.program a.verified.now.bounds a.places.items a.flights a.stopped };
 }
 
 impl<'a> World<'a> {
@@ -73,8 +60,9 @@ impl<'a> World<'a> {
     }
 
     /// One event.
-    fn happen(&mut self, event: Event) -> Result<Stepped, Stop>
+    fn happen(&mut self, event: Event) -> Result<Happening, Stop>
         requires { self.old.stopped ≢ true }
+        ensures told { IfOk result (λ did. Happened self.old.places self.old.flights event did self.new.places self.new.flights) }
         ensures ok { IfOk result (λ _. (w : machine.World) → StandsForWorld self.old w → Makes self.old w event self.new) }
         ensures err { IfErr result (λ _. (w : machine.World) → StandsForWorld self.old w → StandsForWorld self.new w) }
         ensures goes { IfOk result (λ _. self.new.stopped ≢ true) }
@@ -82,16 +70,9 @@ impl<'a> World<'a> {
         ensures hindered { IfErr result (IsHinderedAt self.new event) }
         ensures kept { KeepsSetting self.old self.new }
     {
-        let verified = self.verified;
-        verified.certificate();
-        match event {
-            Event::Step(id, key) => {
-                let done = step_one(&mut self.places, usize::from(id), key);
-                self.stopped = done.is_err();
-                done
-            }
-            Event::Deliver(_) => Ok(Stepped::Idle),
-        }
+        let made = handle(self.verified, &mut self.places, &mut self.flights, event);
+        self.stopped = made.is_err();
+        made
     }
 }
 
@@ -130,18 +111,21 @@ impl<'a> World<'a> {
             return Err(OpenFault::Places);
         }
         let list = places_of(alloc, verified, places)?;
+        let flights = Flights::new(alloc, places)?;
         Ok(World {
             verified,
             places: list,
+            flights,
             stopped: false,
         })
     }
 
-    /// The events in their turn. A Stop comes only where a growth was refused, or where there can be no more of what a step
-    /// would make (Limit 1: objects, 2: texts, 3: rails, 4: global references, 5: finishes, 6: activities that live under one
-    /// finish, 10: keys). After it every later call answers Stopped, and the output is that of the events before the one that
-    /// was refused. A step waits at the end of a finish only where something lives that the finish governs (X10 2.2, chapter
-    /// Activities, `finish`), or a message flies.
+    /// The events in their turn. An event that names nothing able to move, or no frame in flight, changes nothing. A Stop
+    /// comes only where a growth was refused, or where there can be no more of what an event would make (Limit 1: objects,
+    /// 2: texts, 3: rails, 4: global references, 5: finishes, 6: activities that live under one finish, 7 to 9: objects,
+    /// texts and rails of one frame, 10: keys, 11: frames). After it every later call answers Stopped, and the output is
+    /// that of the events before the one that was refused. A step waits at the end of a finish only where something lives
+    /// that the finish governs (X10 2.2, chapter Activities, `finish`), or a frame is in flight.
     pub fn run(&mut self, events: &[Event]) -> Result<(), Stop>
         ensures all { IfOk result (λ _. (w : machine.World) → StandsForWorld self.old w → Runs self.old w (length events.now) events.now self.new) }
         ensures some { (w : machine.World) → StandsForWorld self.old w → (n : ℕ) × Runs self.old w n events.now self.new }
@@ -159,31 +143,78 @@ impl<'a> World<'a> {
 }
 
 impl<'a> World<'a> {
+    /// The function, the number of the instruction and the operation at which the activity of a step stands.
+    fn stood(&self, event: Event) -> Option<(u16, u16, Op)>
+        ensures { IsStood self.now.places event result }
+    {
+        let Event::Step(place, key) = event else {
+            return None;
+        };
+        self.places.get(usize::from(place))?.at(key)
+    }
+
+    /// One event, and what it did: as `run` makes it. After a Stop, which comes as `run` says, the world stands for what it
+    /// stood for.
+    pub fn event(&mut self, event: Event) -> Result<Done, Stop>
+        ensures ok { IfOk result (λ _. (w : machine.World) → StandsForWorld self.old w → Makes self.old w event self.new) }
+        ensures done { IfOk result (λ done. IsDone self.old event done self.new) }
+        ensures left { IfErr result (λ _. (w : machine.World) → StandsForWorld self.old w → StandsForWorld self.new w) }
+        ensures stopped { self.old.stopped ≡ true → (result ≡ Err stop.Stopped) × (self.new ≡ self.old) }
+        ensures hindered { self.old.stopped ≢ true → IfErr result (IsHinderedAt self.new event) }
+        ensures stop { IfErr result (λ _. self.new.stopped ≡ true) }
+        ensures kept { KeepsSetting self.old self.new }
+    {
+        self.going()?;
+        let stood = self.stood(event);
+        let first = self.flights.posted();
+        match self.happen(event)? {
+            Happening::Idle => Ok(Done::Idle),
+            Happening::Taken(to) => Ok(Done::Taken { to }),
+            Happening::Moved => {
+                let Some((function, pc, op)) = stood else {
+                    return Ok(Done::Idle);
+                };
+                let count = self.flights.posted() - first;
+                Ok(Done::Moved {
+                    function,
+                    pc,
+                    op,
+                    first,
+                    count,
+                })
+            }
+        }
+    }
+}
+
+impl<'a> World<'a> {
     /// Up to so many times the event `Step(place, key)`: how many were made. Each is as `run` would make it, several times as
     /// fast, and moves. They are fewer than that many only where a Step of the key now finds nothing to do, or where the last
-    /// one began an activity, so that others may come. It waits at the end of a finish only where something lives that the
-    /// finish governs, or a message flies. After a Stop, which comes as `run` says, the output is that of the steps before the
-    /// one that was refused.
+    /// one began an activity or put out a frame, so that other events may come. It waits at the end of a finish only where
+    /// something lives that the finish governs, or a frame is in flight. After a Stop, which comes as `run` says, the output
+    /// is that of the steps before the one that was refused.
     pub fn run_activity(&mut self, place: u16, key: usize, most: u64) -> Result<u64, Stop>
         ensures ok { IfOk result (λ n. (w : machine.World) → StandsForWorld self.old w → Repeats self.old w n place key self.new) }
         ensures some { (w : machine.World) → StandsForWorld self.old w → (n : ℕ) × (n ≤ most) × Repeats self.old w n place key self.new }
         ensures few { IfOk result (λ n. n ≤ most) }
-        ensures all { IfOk result (λ n. n < most → IsIdleNow self.new place key ⊎ BeganLast self.old place key n self.new) }
-        ensures waits { IfOk result (λ n. n < most → (w : machine.World) (number : ℕ) → StandsForWorld self.new w → WorksIn w place key number → MayEnd w (record { home = place; number = number }) → BeganLast self.old place key n self.new) }
+        ensures all { IfOk result (λ n. n < most → IsIdleNow self.new place key ⊎ (BeganLast self.old place key n self.new ⊎ SentLast self.old self.new)) }
+        ensures waits { IfOk result (λ n. n < most → self.new.flights.flying ≡ [] → (w : machine.World) (number : ℕ) → StandsForWorld self.new w → WorksIn w place key number → MayEnd w (record { home = place; number = number }) → BeganLast self.old place key n self.new ⊎ SentLast self.old self.new) }
         ensures stopped { self.old.stopped ≡ true → (result ≡ Err stop.Stopped) × (self.new ≡ self.old) }
         ensures hindered { self.old.stopped ≢ true → IfErr result (IsHinderedAt self.new (Step place key)) }
         ensures stop { IfErr result (λ _. self.new.stopped ≡ true) }
         ensures kept { KeepsSetting self.old self.new }
     {
         self.going()?;
-        let verified = self.verified;
-        verified.certificate();
-        let (done, why) = run_one(&mut self.places, usize::from(place), key, most);
-        if let Some(stop) = why {
-            self.stopped = true;
-            return Err(stop);
-        }
-        Ok(done)
+        let done = stretch(
+            self.verified,
+            &mut self.places,
+            &mut self.flights,
+            usize::from(place),
+            key,
+            most,
+        );
+        self.stopped = done.is_err();
+        done
     }
 }
 
@@ -218,24 +249,61 @@ impl<'a> World<'a> {
         place.next_key(from)
     }
 
-    /// How many messages have been sent so far: they are numbered from 0.
+    /// Whether no activity is at place 0, as where the run has ended. Constant time.
+    pub(crate) fn home_is_empty(&self) -> bool {
+        match self.places.first() {
+            Some(place) => place.is_empty(),
+            None => true,
+        }
+    }
+
+    /// Whether there is an activity with a key at a place. Constant time.
+    pub fn has_key(&self, place: u16, key: usize) -> bool
+        ensures { IsTrue result ↔ HasPlace self.now.places place (λ p. ContainsKey p.stays key) }
+    {
+        match self.places.get(usize::from(place)) {
+            Some(place) => place.contains(key),
+            None => false,
+        }
+    }
+
+    /// The key that the next activity gets that begins at a place; none where there is no such place. Constant time.
+    pub(crate) fn vacant_key(&self, place: u16) -> Option<usize>
+        ensures { MatchOption result (IsNoPlace self.now.places place) (λ key. HasPlace self.now.places place (λ p. key ≡ p.stays.vacant_key)) }
+    {
+        let place = self.places.get(usize::from(place))?;
+        Some(place.vacant_key())
+    }
+
+    /// How many frames were put out so far: they are numbered from 0, in that order. Constant time.
     pub fn posted(&self) -> u64
-        ensures { (w : machine.World) → StandsForWorld self.now w → IsPosted w result }
+        ensures value { result ≡ self.now.flights.posted }
+        ensures used { (w : machine.World) → StandsForWorld self.now w → IsPosted w result }
     {
-        0
+        self.flights.posted()
     }
 
-    /// The place that a message in flight is for, and its bytes; none where no message with the number is in flight.
-    pub fn frame(&self, _number: u64) -> Option<(u16, &[u8])>
-        ensures { (w : machine.World) → StandsForWorld self.now w → MatchOption result (IsNotFlying w _number) (λ frame. IsFlyingTo w _number frame.0) }
+    /// The place that a frame in flight is for, and its bytes; none where no frame with the number is in flight.
+    /// Logarithmic in the number of frames in flight.
+    pub fn frame(&self, number: u64) -> Option<(u16, &[u8])>
+        ensures value { MatchOption result (flight_of self.now.flights number ≡ None) (λ x. flight_of self.now.flights number ≡ Some (record { number = number; to = x.0; bytes = x.1.now })) }
+        ensures none { (w : machine.World) → StandsForWorld self.now w → IfNone result (IsNotFlying w number) }
+        ensures some { (w : machine.World) → StandsForWorld self.now w → IfSome result (λ x. IsFlyingTo w number x.0 ⊎ IsReportTo w number x.0) }
     {
-        None
+        self.flights.get(number)
     }
 
-    /// Whether the run has ended: then no activity lives. Where none lives and nothing is in flight, it has.
+    /// The least number, from one on, of a frame in flight to a place; none where there is none, or no such place.
+    pub fn next_frame(&self, place: u16, from: u64) -> Option<u64>
+        ensures { IsNext (flies_to self.now.flights.flying place) from result }
+    {
+        self.flights.next_to(place, from)
+    }
+
+    /// Whether the run has ended: then no activity lives. Where none lives and no frame is in flight, it has.
     pub fn closed(&self) -> bool
         ensures ended { (w : machine.World) → StandsForWorld self.now w → IsTrue result → machine.IsOver w }
-        ensures over { (w : machine.World) → StandsForWorld self.now w → machine.IsOver w → NothingFlies w → IsTrue result }
+        ensures over { (w : machine.World) → StandsForWorld self.now w → machine.IsOver w → self.now.flights.flying ≡ [] → IsTrue result }
     {
         match self.places.first() {
             Some(place) => place.closed(),

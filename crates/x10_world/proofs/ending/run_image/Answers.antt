@@ -1,6 +1,7 @@
 use Rattle.std.proofs.Common.{ap, sym, ◌∙◌}
 use Rattle.x10_model.specs.Images.{spelling}
 use Rattle.x10_world.proofs.Finishing.{ending_is}
+use Rattle.x10_world.proofs.Hindering.{run_stop}
 use Rattle.x10_world.proofs.ending.run_image.Goals as goal
 
 pub returns-clause-ending : goal.returns-clause-ending
@@ -10,3 +11,6 @@ returns-clause-ending c = (
   ending_is c.in-Ok-verify.verified c.args.places c.args.events.now c.in-Ok-open.world c.make-done.new.self _ _ c.in-Ok-open.ensures.opened c.make-done.ensures.runs c.make-done.ensures.all c.make-done.ensures.less
       (λ forbidden. absurd (let refused = c.in-Ok-open.ensures.places.1 forbidden in cc)) c.make-done.ensures.kept c.in-Ok-outputs.ensures c.closed-closed.ensures.ended c.closed-closed.ensures.over,
 )
+
+pub returns-clause-stop : goal.returns-clause-stop
+returns-clause-stop c = run_stop c.make-done.new.self c.args.events.now c.make-done.result.0 c.make-done.result.1 c.make-done.ensures.hindered

@@ -1,15 +1,15 @@
-use Rattle.std.proofs.Common.{subst, arith}
+use Rattle.std.proofs.Common.{take, subst, arith}
 use Rattle.std.proofs.lemmas.List.{take_more}
 use Rattle.x10_model.specs.Worlds as machine
 use Rattle.x10_world.specs.StandsForWorld.{StandsForWorld, Runs}
-use Rattle.x10_world.proofs.Running.{runs_none, runs_more, runs_still, keeps_more, keeps_self, if_ok}
+use Rattle.x10_world.proofs.Running.{now_none, now_through, runs_more, runs_still, keeps_more, keeps_self, if_ok}
 use Rattle.x10_world.proofs.world.World.make.Goals as goal
 
 pub happen-requires : goal.happen-requires
 happen-requires c = c.loop-done.invariant.goes
 
 pub loop-done-init : goal.loop-done-init
-loop-done-init c = record { goes = c.requires; kept = keeps_self c.args.self.now; runs = runs_none c.args.self.now c.args.events.now }
+loop-done-init c = record { goes = c.requires; kept = keeps_self c.args.self.now; runs = now_none c.args.self.now c.args.events.now }
 
 pub returns-in-Err-clause-runs : goal.returns-in-Err-clause-runs
 returns-in-Err-clause-runs c = runs_still c.args.self.now c.loop-done.self c.happen.new.self c.args.events.now c.loop-done.done c.loop-done.invariant.runs c.in-Err.ensures.err
@@ -23,4 +23,5 @@ loop-done-preserved c = record {
 }
 
 pub returns-clause-runs : goal.returns-clause-runs
-returns-clause-runs c = subst (λ n. (w : machine.World) → StandsForWorld c.args.self.now w → Runs c.args.self.now w n c.args.events.now c.loop-done.self) (omega (arith, c.loop-done-test.false, c.loop-done.auto.done-end)) c.loop-done.invariant.runs
+returns-clause-runs c = subst (λ n. (w : machine.World) → StandsForWorld c.args.self.now w → Runs c.args.self.now w n c.args.events.now c.loop-done.self) (omega (arith, c.loop-done-test.false, c.loop-done.auto.done-end))
+    (λ w stand. now_through c.args.self.now c.loop-done.self w (take c.loop-done.done c.args.events.now) (c.loop-done.invariant.runs w stand))

@@ -1,0 +1,5 @@
+use Rattle.x10_world.proofs.Delivering.{delivery_leads}
+use Rattle.x10_world.proofs.laws.delivery_leads.Goals as goal
+
+pub returns : goal.returns
+returns c = delivery_leads

@@ -1,0 +1,156 @@
+//! What an event does to the places of a world and to the frames in flight.
+ghost use Rattle.std.specs.Prelude.{◌≡◌, ◌<◌, Some, None, IfOk, IfErr, false};
+ghost use Rattle.x10_place.specs.declared.sent.Outgoing as outgoing;
+ghost use Rattle.x10_model.specs.declared.event.Event.TheVariants.{Step, Deliver};
+ghost use Rattle.x10_world.specs.StandsForWorld.{IsWorld, StepsOne, RunsOne, with_posted, with_sent, GoesBelow, stop_for_refusal};
+ghost use Rattle.x10_world.specs.Handling.{Handles, Stretches};
+
+use crate::done::Happening;
+use crate::flights::Flights;
+use x10_copy::Refusal;
+use x10_kinds::Stop;
+use x10_model::Event;
+use x10_place::{Outgoing, Place, Sent, Stepped};
+use x10_verify::Verified;
+
+/// One step of the activity with a key at a place, if they are there.
+fn step_one(places: &mut Vec<Place>, id: usize, key: usize) -> Result<Stepped, Stop>
+    ensures { StepsOne places.old.items places.new.items id key result }
+{
+    if id < places.len() {
+        return places[id].step(key);
+    }
+    Ok(Stepped::Idle)
+}
+
+/// Up to so many steps of the activity with a key at a place, if they are there, and what the last one put out.
+fn run_one(places: &mut Vec<Place>, id: usize, key: usize, most: u64) -> (u64, Result<Sent, Stop>)
+    ensures { RunsOne places.old.items places.new.items id key most result.0 result.1 }
+{
+    if id < places.len() {
+        return places[id].run(key, most);
+    }
+    let nothing = Sent {
+        message: None,
+        report: None,
+    };
+    (0, Ok(nothing))
+}
+
+/// Puts a frame out, if there is one.
+fn post(flights: &mut Flights, frame: Option<Outgoing>)
+    requires { (o : outgoing.Outgoing) → frame ≡ Some o → (0 < flights.old.room) × (o.to < flights.old.places) }
+    ensures { flights.new ≡ with_posted flights.old frame }
+{
+    if let Some(frame) = frame {
+        flights.post(frame.to, frame.bytes);
+    }
+}
+
+/// Puts out what a step did.
+fn post_all(flights: &mut Flights, sent: Sent)
+    requires room { flights.old.room ≡ 2 }
+    requires there { GoesBelow flights.old.places sent }
+    ensures { flights.new ≡ with_sent flights.old sent }
+{
+    post(flights, sent.message);
+    post(flights, sent.report);
+}
+
+/// One step of the activity with a key at a place, if they are there. Room for what it may put out is made before.
+fn step(
+    verified: &Verified,
+    places: &mut Vec<Place>,
+    flights: &mut Flights,
+    id: usize,
+    key: usize,
+) -> Result<Happening, Stop>
+    requires { IsWorld verified.now.program verified.now.bounds places.old.items flights.old false }
+    ensures { Handles verified.now places.old.items flights.old (Step id key) result places.new.items flights.new }
+{
+    verified.certificate();
+    flights.make_room()?;
+    match step_one(places, id, key) {
+        Ok(Stepped::Idle) => Ok(Happening::Idle),
+        Ok(Stepped::Moved(sent)) => {
+            post_all(flights, sent);
+            Ok(Happening::Moved)
+        }
+        Err(why) => Err(why),
+    }
+}
+
+/// Up to so many steps of the activity with a key at a place, to one that puts something out: how many.
+pub(crate) fn stretch(
+    verified: &Verified,
+    places: &mut Vec<Place>,
+    flights: &mut Flights,
+    id: usize,
+    key: usize,
+    most: u64,
+) -> Result<u64, Stop>
+    requires { IsWorld verified.now.program verified.now.bounds places.old.items flights.old false }
+    ensures { Stretches verified.now places.old.items flights.old id key most result places.new.items flights.new }
+{
+    verified.certificate();
+    if let Err(why) = flights.make_room() {
+        return Err(why);
+    }
+    let (done, last) = run_one(places, id, key, most);
+    match last {
+        Ok(out) => {
+            post_all(flights, out);
+            Ok(done)
+        }
+        Err(stop) => Err(stop),
+    }
+}
+
+/// Why a world stops where a frame in flight was refused: at a limit, or else for want of memory.
+fn stop_for(why: Refusal) -> Stop
+    ensures { result ≡ stop_for_refusal why }
+{
+    match why {
+        Refusal::Limit(limit) => Stop::Limit(limit),
+        _ => Stop::Memory,
+    }
+}
+
+/// The frame in flight with a number is taken in where it goes, if there is one. Where it is refused, it is still in flight.
+fn deliver(
+    verified: &Verified,
+    places: &mut Vec<Place>,
+    flights: &mut Flights,
+    number: u64,
+) -> Result<Happening, Stop>
+    requires { IsWorld verified.now.program verified.now.bounds places.old.items flights.old false }
+    ensures { Handles verified.now places.old.items flights.old (Deliver number) result places.new.items flights.new }
+{
+    verified.certificate();
+    let Some((to, bytes)) = flights.get(number) else {
+        return Ok(Happening::Idle);
+    };
+    match places[usize::from(to)].receive(bytes) {
+        Ok(()) => {
+            flights.take(number);
+            Ok(Happening::Taken(to))
+        }
+        Err(why) => Err(stop_for(why)),
+    }
+}
+
+/// One event of a world that has not stopped.
+pub(crate) fn handle(
+    verified: &Verified,
+    places: &mut Vec<Place>,
+    flights: &mut Flights,
+    event: Event,
+) -> Result<Happening, Stop>
+    requires { IsWorld verified.now.program verified.now.bounds places.old.items flights.old false }
+    ensures { Handles verified.now places.old.items flights.old event result places.new.items flights.new }
+{
+    match event {
+        Event::Step(id, key) => step(verified, places, flights, usize::from(id), key),
+        Event::Deliver(number) => deliver(verified, places, flights, number),
+    }
+}
