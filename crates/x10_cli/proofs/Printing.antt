@@ -1,7 +1,6 @@
 -- What is printed line after line.
-use Rattle.std.proofs.Common.{◌≡◌, ◌≢◌, ℕ, zero, suc, ◌+◌, ◌<◌, ◌≤◌, List, [], ◌∷◌, ◌++◌, length, get_or, map, Option, Some, None, refl, sym, ap, subst, ◌∙◌, arith, append_assoc}
+use Rattle.std.proofs.Common.{◌≡◌, ℕ, zero, suc, ◌+◌, ◌<◌, List, [], ◌∷◌, ◌++◌, length, get_or, map, Option, Some, None, sym, ap, subst, ◌∙◌, arith, append_assoc}
 use Rattle.std.specs.Prelude.{slice_get, take}
-use Rattle.std.specs.List.{flat_map}
 use Rattle.std.proofs.lemmas.List.{append-nil}
 use Rattle.std.specs.Io.KnownBytes.{Appends, Keeps}
 use Rattle.std.proofs.KnownBytes.{Appends-nil, Appends-trans, Appends-kept}
@@ -14,11 +13,14 @@ use Rattle.x10_place.specs.StandsFor.{PlaceState, line_as}
 use Rattle.x10_world.specs.Endings.{lines_at}
 use Rattle.x10_world.specs.Opening.{IsOpenedWorld}
 use Rattle.x10_world.specs.Rounds.{HasEnded, RunsTo}
-use Rattle.x10_world.specs.StandsForWorld.{WorldState, setting_of, StandsForWorld}
+use Rattle.x10_world.specs.declared.done.Done.{Done}
+use Rattle.x10_world.specs.Happenings.{IsDone}
+use Rattle.x10_world.specs.StandsForWorld.{WorldState, setting_of, StandsForWorld, Makes}
+use Rattle.x10_trace.specs.Trace.{trace_lines, begins, goes_on}
 use Rattle.x10_world.proofs.Finishing.{map_length, lines_are}
 use Rattle.x10_cli.specs.declared.task.Verb.{Verb}
 use Rattle.x10_cli.specs.declared.task.Verb.TheVariants as verb
-use Rattle.x10_cli.specs.Answers.{HasRun, Prints}
+use Rattle.x10_cli.specs.Answers.{HasRun, Prints, Traces}
 use Rattle.x10_cli.specs.Lines.{numbered, place_lines, all_lines, bound_line, bound_lines}
 
 some_is : {X : Type 0} (x y : X) → Some x ≡ Some y → x ≡ y
@@ -94,6 +96,16 @@ has_run c count x y opened to ended = record {
     setting : setting_of x ≡ record { program = c.program; places = count }
     setting = ap (λ m. record { program = m; places = length x.places }) opened.program ∙ ap (λ n. record { program = c.program; places = n }) opened.places.count_is
 
+-- ---- a trace
+
+-- before the first event
+pub traces_none : (x : WorldState) (a : Option (List ℕ)) → Traces x x a a
+traces_none x a = ([], begins x, Appends-nil a)
+
+-- the lines of an event more
+pub traces_more : (x y z : WorldState) (a b c : Option (List ℕ)) (event : Event) → Traces x y a b → ((did : Done) × IsDone y event did z × Appends b c (trace_lines z event did)) → ((w : World) → StandsForWorld y w → Makes y w event z) → Traces x z a c
+traces_more x y z a b c event before one makes = (before.0 ++ trace_lines z event one.0, goes_on x y z before.0 event one.0 before.1 one.1 makes, Appends-trans a b c before.0 (trace_lines z event one.0) before.2 one.2)
+
 -- what was printed stays where nothing more is written
 pub prints_kept : (v : Verb) (asked : Option ℕ) (bytes : List ℕ) (a b c : Option (List ℕ)) → Prints v asked bytes a b → Keeps b c → Prints v asked bytes a c
 prints_kept verb.Asm asked bytes a b c p k = (p.0, p.1, Appends-kept a b c _ p.2 k)
@@ -101,6 +113,9 @@ prints_kept verb.List asked bytes a b c p k = (p.0, p.1, Appends-kept a b c _ p.
 prints_kept verb.Verify asked bytes a b c p k = (p.0, p.1, p.2, p.3, Appends-kept a b c _ p.4 k)
 prints_kept verb.Bounds asked bytes a b c p k = (p.0, p.1, p.2, p.3, Appends-kept a b c _ p.4 k)
 prints_kept verb.Run asked bytes a b c p k = (p.0, p.1, p.2, p.3, Appends-kept a b c _ p.4 k)
+prints_kept verb.Trace asked bytes a b c p k =
+    let h = p.2 in
+    (p.0, p.1, record { first = h.first; last = h.last; opened = h.opened; traces = (h.traces.0, h.traces.1, Appends-kept a b c h.traces.0 h.traces.2 k); runs = h.runs; ended = h.ended })
 
 -- ---- a place that is there
 

@@ -1,6 +1,9 @@
 -- What the program's answers say of a file, of a module and of a run.
 use Rattle.std.specs.Prelude.{◌≡◌, ◌⊎◌, ℕ, List, [], ◌∷◌, ◌++◌, length, Option, Some, None, Ok, IsSome, slice_get, codes, decimal}
 use Rattle.std.specs.Io.KnownBytes.{Appends}
+use Rattle.std.specs.Prelude.{String}
+use Rattle.std.specs.Global.{Global}
+use Rattle.std.specs.String.{string_bytes}
 use Rattle.x10_model.specs.Modules.{Module, FitsImage}
 use Rattle.x10_model.specs.Images.{spelling}
 use Rattle.x10_model.specs.declared.event.Event.{Event}
@@ -12,7 +15,10 @@ use Rattle.x10_asm.specs.Reading.{module_of}
 use Rattle.x10_verify.specs.Certified.{Certified}
 use Rattle.x10_verify.specs.Faults.{HasBounds}
 use Rattle.x10_world.specs.Endings.{IsImageOf, AreLinesOf}
-use Rattle.x10_world.specs.Opening.{IsForbidden}
+use Rattle.x10_world.specs.Opening.{IsForbidden, IsOpenedWorld}
+use Rattle.x10_world.specs.Rounds.{HasEnded, RunsTo}
+use Rattle.x10_world.specs.StandsForWorld.{WorldState}
+use Rattle.x10_trace.specs.Trace.{Traced}
 use Rattle.x10_world.specs.declared.rounds.Halt.{Halt}
 use Rattle.x10_world.specs.declared.rounds.Halt.TheVariants as halt
 use Rattle.x10_cli.specs.Lines.{bound_lines, all_lines}
@@ -58,6 +64,7 @@ CanBeDone verb.List places bytes = (m : Module) × IsImage bytes m
 CanBeDone verb.Verify places bytes = IsVerifiedImage bytes
 CanBeDone verb.Bounds places bytes = (m : Module) × IsImage bytes m × HasBounds m
 CanBeDone verb.Run places bytes = (c : Certified) × IsImageOf bytes c × (IsForbidden c (places_for places c) → ⊥)
+CanBeDone verb.Trace places bytes = (c : Certified) × IsImageOf bytes c × (IsForbidden c (places_for places c) → ⊥)
 
 -- how many functions a verified module has, and the bound of its entry function
 abbrev pub verdict_line : ℕ → ℕ → List ℕ
@@ -74,19 +81,35 @@ pub record HasRun (c : Certified) (places : ℕ) (outputs : List (List machine.L
   pub count : length outputs ≡ places
   pub lines : AreLinesOf outputs last
 
+-- lines of events that led from one state of a world to another were appended
+abbrev pub Traces : WorldState → WorldState → Option (List ℕ) → Option (List ℕ) → Type 0
+Traces x y old new = (text : List ℕ) × Traced x text y × Appends old new text
+
+-- the lines of all events of a run of the module, from its beginning to a world in which no activity lives
+pub record HasTraced (c : Certified) (places : ℕ) (old new : Option (List ℕ)) : Type 0 where
+  pub first : WorldState
+  pub last : WorldState
+  pub opened : IsOpenedWorld c places first
+  pub traces : Traces first last old new
+  pub runs : RunsTo first last
+  pub ended : HasEnded last
+
 -- what is appended to what is known to be written: the image of the text's module, the listing of the image's, the
--- verdict, the bounds of its functions, the lines of a run that has ended, at as many places as were asked for
+-- verdict, the bounds of its functions, the lines of a run that has ended, or those of its events, at as many places as were
+-- asked for
 abbrev pub Prints : Verb → Option ℕ → List ℕ → Option (List ℕ) → Option (List ℕ) → Type 0
 Prints verb.Asm asked bytes old new = (m : Module) × (module_of bytes ≡ Ok m) × Appends old new (spelling m)
 Prints verb.List asked bytes old new = (m : Module) × IsImage bytes m × Appends old new (listing m)
 Prints verb.Verify asked bytes old new = (c : Certified) × (bound : ℕ) × IsImageOf bytes c × (slice_get c.bounds c.program.entry ≡ Some bound) × Appends old new (verdict_line (length c.program.functions) bound)
 Prints verb.Bounds asked bytes old new = (m : Module) × (bounds : List ℕ) × IsImage bytes m × (bounds_of m ≡ Ok bounds) × Appends old new (bound_lines 0 bounds)
+Prints verb.Trace asked bytes old new = (c : Certified) × IsImageOf bytes c × HasTraced c (places_for asked c) old new
 Prints verb.Run asked bytes old new = (c : Certified) × (outputs : List (List machine.Line)) × IsImageOf bytes c × HasRun c (places_for asked c) outputs × Appends old new (all_lines 0 outputs)
 
 -- the commands that ask the verifier
 abbrev pub IsVerifying : Verb → Type 0
 IsVerifying verb.Verify = Unit {0}
 IsVerifying verb.Run = Unit {0}
+IsVerifying verb.Trace = Unit {0}
 IsVerifying _ = ⊥
 
 -- the exit status of a fault
@@ -105,6 +128,11 @@ status_of fault.File = 4
 -- the exit status of something done, or of a fault
 abbrev pub IsStatus : ℕ → Type 0
 IsStatus n = (n ≡ 0) ⊎ ((f : Fault) × (n ≡ status_of f))
+
+-- the text of an answer: what it has, or where there was no memory for that, the line that says so
+abbrev pub text_of : Option (String Global) → List ℕ
+text_of None = codes "x10p: memory" ++ 10 ∷ []
+text_of (Some text) = string_bytes text
 
 -- what is answered in place of a task: a text with status 0 or 3, or status 2 and no text, for want of memory
 abbrev pub IsAnswer : Usage → Type 0

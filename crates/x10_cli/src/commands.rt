@@ -4,10 +4,16 @@ ghost use Rattle.std.specs.Io.KnownBytes.{Appends};
 ghost use Rattle.x10_model.specs.Modules.{Module};
 ghost use Rattle.x10_place.specs.StandsFor.{line_as};
 ghost use Rattle.x10_world.specs.Endings.{IsImageOf, lines_at};
+ghost use Rattle.x10_model.specs.Worlds as machine;
+ghost use Rattle.x10_world.specs.declared.done.Done.{Done};
+ghost use Rattle.x10_world.specs.Happenings.{IsDone};
+ghost use Rattle.x10_world.specs.Rounds.{HasEnded, RunsTo};
+ghost use Rattle.x10_world.specs.StandsForWorld.{StandsForWorld, KeepsSetting, Makes};
+ghost use Rattle.x10_trace.specs.Trace.{trace_lines};
 ghost use Rattle.x10_cli.specs.Lines.{numbered, place_lines, all_lines};
 ghost use Rattle.x10_cli.specs.declared.task.Verb.TheVariants as verb;
 ghost use Rattle.x10_cli.specs.declared.fault.Fault.TheVariants as fault;
-ghost use Rattle.x10_cli.specs.Answers.{IsImage, IsVerifiedImage, IsVerifying, CanBeDone, IsStatus, Prints, places_for, status_of};
+ghost use Rattle.x10_cli.specs.Answers.{IsImage, IsVerifiedImage, IsVerifying, CanBeDone, IsStatus, Prints, Traces, places_for, status_of};
 
 use crate::fault::Fault;
 use crate::task::{Task, Verb};
@@ -16,9 +22,11 @@ use std::io::Write;
 use x10_asm::{assemble, list};
 use x10_bounds::bounds;
 use x10_image::ImageView;
+use x10_model::Event;
 use x10_place::Line;
+use x10_trace::trace_line;
 use x10_verify::{Verified, verify};
-use x10_world::{World, run_rounds};
+use x10_world::{Rounds, World, run_rounds};
 
 /// Does what a task asks for with the bytes of its file, and tells the exit status: 0 done, 1 refused, 2 stopped, 4
 /// where a write failed or a text isn't UTF-8. What is printed goes to `out`, of `asm` the image, which is nothing where
@@ -69,6 +77,7 @@ fn perform<O: Write>(alloc: Global, task: &Task, bytes: &[u8], out: &mut O) -> R
         Verb::Verify => print_verdict(alloc, bytes, out),
         Verb::Bounds => print_bounds(alloc, bytes, out),
         Verb::Run => print_run(alloc, task, bytes, out),
+        Verb::Trace => print_trace(alloc, task, bytes, out),
     }
 }
 
@@ -152,6 +161,58 @@ fn print_run<O: Write>(alloc: Global, task: &Task, bytes: &[u8], out: &mut O) ->
     let ended = run_rounds(alloc, &mut world, task.limit);
     print_outputs(&world, out)?;
     Ok(ended?)
+}
+
+/// Runs a module, and prints the lines of each event when it has happened.
+fn print_trace<O: Write>(alloc: Global, task: &Task, bytes: &[u8], out: &mut O) -> Result<(), Fault>
+    ensures done { IfOk result (λ _. CanBeDone verb.Trace task.now.places bytes.now) }
+    ensures printed { OnOk result (Prints verb.Trace task.now.places bytes.now (O.contents out.old) (O.contents out.new)) }
+    ensures refused { IfErr result (λ e. status_of e ≡ 1 → CanBeDone verb.Trace task.now.places bytes.now → ⊥) }
+{
+    let verified = verified_in(alloc, bytes)?;
+    let places = places_of(task.places, &verified);
+    let mut world = World::open(alloc, &verified, places)?;
+    trace(alloc, &mut world, task.limit, out)?;
+    Ok(())
+}
+
+/// Makes the events of a program until the run has ended, so many at most, and prints the lines of each.
+fn trace<O: Write>(alloc: Global, world: &mut World, limit: u64, out: &mut O) -> Result<(), Fault>
+    ensures traced { OnOk result (Traces world.old world.new (O.contents out.old) (O.contents out.new)) }
+    ensures runs { RunsTo world.old world.new }
+    ensures ended { OnOk result (HasEnded world.new) }
+    ensures status { IfErr result (λ e. status_of e ≢ 1) }
+{
+    let mut rounds = Rounds::new(alloc, world)?;
+    for _ in 0..limit {
+        let Some(event) = rounds.next(world)? else {
+            return Err(Fault::Limit);
+        };
+        print_event(alloc, world, event, out)?;
+        if world.closed() {
+            return Ok(());
+        }
+    }
+    Err(Fault::Limit)
+}
+
+/// Makes an event, and prints its lines.
+fn print_event<O: Write>(
+    alloc: Global,
+    world: &mut World,
+    event: Event,
+    out: &mut O,
+) -> Result<(), Fault>
+    ensures traced { OnOk result ((did : Done) × IsDone world.old event did world.new × Appends (O.contents out.old) (O.contents out.new) (trace_lines world.new event did)) }
+    ensures made { OnOk result ((w : machine.World) → StandsForWorld world.old w → Makes world.old w event world.new) }
+    ensures kept { KeepsSetting world.old world.new }
+    ensures runs { RunsTo world.old world.new }
+    ensures status { IfErr result (λ e. status_of e ≢ 1) }
+{
+    let done = world.event(event)?;
+    let lines = trace_line(alloc, world, event, &done)?;
+    out.write_all(lines.as_bytes())?;
+    Ok(())
 }
 
 /// The lines of each place.

@@ -11,6 +11,8 @@ pub enum Verb {
     Bounds,
     /// Verify it, run it, and print what it prints.
     Run,
+    /// Verify it, run it, and print what happens, event by event.
+    Trace,
 }
 
 /// What the words of a command line ask for.

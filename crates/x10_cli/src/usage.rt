@@ -1,6 +1,6 @@
 //! The words of a command line.
-ghost use Rattle.std.specs.Prelude.{IfErr};
-ghost use Rattle.x10_cli.specs.Answers.{IsAnswer};
+ghost use Rattle.std.specs.Prelude.{◌≡◌, IfErr};
+ghost use Rattle.x10_cli.specs.Answers.{IsAnswer, text_of};
 
 use crate::task::{Task, Verb};
 use clap::error::ErrorKind;
@@ -20,7 +20,9 @@ pub struct Usage {
 
 impl Usage {
     /// What to print, with its line ends.
-    pub fn text(&self) -> &str {
+    pub fn text(&self) -> &str
+        ensures { result.now ≡ text_of self.now.text }
+    {
         match &self.text {
             Some(text) => text.as_str(),
             None => "x10p: memory\n",
@@ -81,6 +83,7 @@ fn task_of<'a>(matches: &ArgMatches<'a>) -> Option<Task<'a>> {
         "list" => Verb::List,
         "verify" => Verb::Verify,
         "bounds" => Verb::Bounds,
+        "trace" => Verb::Trace,
         _ => Verb::Run,
     };
     Some(Task {
@@ -122,7 +125,16 @@ fn program<'a>(alloc: Global) -> Result<Command<'a>, AllocError> {
         .subcommand(list)?
         .subcommand(verify)?
         .subcommand(bounds)?
-        .subcommand(run_words(alloc)?)
+        .subcommand(run_words(
+            alloc,
+            "run",
+            "Verify a module, run it, and print each place's lines, `PLACE: LINE` each",
+        )?)?
+        .subcommand(run_words(
+            alloc,
+            "trace",
+            "Verify a module, run it, and print what happens, event by event",
+        )?)
 }
 
 fn image_name<'a>(alloc: Global) -> Arg<'a> {
@@ -136,7 +148,7 @@ fn input<'a>(alloc: Global, name: &'a str, help: &'a str) -> Arg<'a> {
         .required(true)
 }
 
-fn run_words<'a>(alloc: Global) -> Result<Command<'a>, AllocError> {
+fn run_words<'a>(alloc: Global, name: &'a str, about: &'a str) -> Result<Command<'a>, AllocError> {
     let places = Arg::new(alloc, "places")
         .long("places")
         .value_name("N")
@@ -148,8 +160,8 @@ fn run_words<'a>(alloc: Global) -> Result<Command<'a>, AllocError> {
         .help("How many events at most, 1 to 1000000000")
         .default_value("1000000")
         .value_parser(value_parser!(u64).range(1..=1_000_000_000));
-    Command::new(alloc, "run")
-        .about("Verify a module, run it, and print each place's lines, `PLACE: LINE` each")
+    Command::new(alloc, name)
+        .about(about)
         .after_help(STATUS)
         .arg(image_name(alloc))?
         .arg(places)?

@@ -1,4 +1,4 @@
-use Rattle.std.proofs.Common.{◌≡◌, ◌+◌, ◌<◌, length, take, add-one, subst, sym}
+use Rattle.std.proofs.Common.{◌+◌, ◌<◌, take, add-one, subst, sym}
 use Rattle.std.specs.Io.KnownBytes.{Appends}
 use Rattle.x10_world.specs.Endings.{lines_at}
 use Rattle.x10_cli.specs.Lines.{all_lines}

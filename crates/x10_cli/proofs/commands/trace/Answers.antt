@@ -1,0 +1,27 @@
+use Rattle.x10_world.proofs.Rounding.{runs_self, runs_on}
+use Rattle.x10_cli.proofs.Printing.{traces_none, traces_more}
+use Rattle.x10_cli.proofs.commands.trace.Goals as goal
+
+pub returns-in_err-rounds-clause-runs : goal.returns-in_err-rounds-clause-runs
+returns-in_err-rounds-clause-runs g = λ c. runs_self c.args.world.now
+
+pub loop-init : goal.loop-init
+loop-init g = λ c. record { runs = runs_self c.args.world.now; traced = traces_none c.args.world.now (g.O.Write.contents c.args.out.now) }
+
+pub returns-in_err-print_event-clause-runs : goal.returns-in_err-print_event-clause-runs
+returns-in_err-print_event-clause-runs g = λ c. runs_on c.args.world.now c.loop.world c.print_event.new.world c.loop.invariant.runs c.print_event.ensures.runs
+
+pub returns-then-closed-clause-traced : goal.returns-then-closed-clause-traced
+returns-then-closed-clause-traced g = λ c. traces_more c.args.world.now c.loop.world c.print_event.new.world (g.O.Write.contents c.args.out.now) (g.O.Write.contents c.loop.out) (g.O.Write.contents c.print_event.new.out) c.in-Some.event c.loop.invariant.traced c.in_ok-print_event.ensures.traced c.in_ok-print_event.ensures.made
+
+pub returns-then-closed-clause-runs : goal.returns-then-closed-clause-runs
+returns-then-closed-clause-runs g = λ c. runs_on c.args.world.now c.loop.world c.print_event.new.world c.loop.invariant.runs c.print_event.ensures.runs
+
+pub returns-then-closed-clause-ended : goal.returns-then-closed-clause-ended
+returns-then-closed-clause-ended g = λ c. record { over = λ w stand. c.closed.ensures.ended w stand c.if-closed.true }
+
+pub loop-preserved : goal.loop-preserved
+loop-preserved g = λ c. record {
+  runs = runs_on c.args.world.now c.loop.world c.print_event.new.world c.loop.invariant.runs c.print_event.ensures.runs;
+  traced = traces_more c.args.world.now c.loop.world c.print_event.new.world (g.O.Write.contents c.args.out.now) (g.O.Write.contents c.loop.out) (g.O.Write.contents c.print_event.new.out) c.in-Some.event c.loop.invariant.traced c.in_ok-print_event.ensures.traced c.in_ok-print_event.ensures.made;
+}

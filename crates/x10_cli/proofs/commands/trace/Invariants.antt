@@ -1,0 +1,9 @@
+use Rattle.x10_world.specs.Rounds.{RunsTo}
+use Rattle.x10_cli.specs.Answers.{Traces}
+use Rattle.x10_cli.proofs.commands.trace.Given as goal
+
+abbrev pub invariant-loop : goal.invariant-loop
+invariant-loop g l = record {
+  runs : RunsTo l.initial.world l.world;
+  traced : Traces l.initial.world l.world (g.O.Write.contents l.initial.out) (g.O.Write.contents l.out);
+}
