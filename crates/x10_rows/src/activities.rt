@@ -173,7 +173,7 @@ impl Plain {
         let idles = self.idles(key);
         match place.step(key) {
             Ok(Stepped::Idle) => assert!(rt; idles),
-            Ok(Stepped::Moved) => {
+            Ok(Stepped::Moved(_)) => {
                 assert!(rt; !idles);
                 self.does(rt, place, key)?;
             }

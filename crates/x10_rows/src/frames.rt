@@ -8,40 +8,40 @@ use x10_frame::{
 };
 
 /// An activity that goes on at place 1.
-const SHIFT: [u8; 26] = [
+pub(crate) const SHIFT: [u8; 26] = [
     1, 2, 0, 0, 0, 1, 0, 0, 0, 0, 0, 0, 0, 0, 0, 1, 0, 1, 0, 0, 0, 0, 0, 0, 0, 0,
 ];
 
 /// A new activity with nothing passed.
-const SPAWN: [u8; 22] = [
+pub(crate) const SPAWN: [u8; 22] = [
     1, 1, 0, 1, 0, 2, 0, 0, 0, 0, 0, 1, 0, 0, 0, 0, 0, 0, 0, 0, 0, 0,
 ];
 
 /// The way back, with no result.
-const BACK: [u8; 18] = [1, 3, 0, 1, 0, 0, 0, 0, 0, 0, 0, 0, 0, 0, 0, 0, 0, 0];
+pub(crate) const BACK: [u8; 18] = [1, 3, 0, 1, 0, 0, 0, 0, 0, 0, 0, 0, 0, 0, 0, 0, 0, 0];
 
 /// One sent to place 2, one received from place 0.
-const REPORT: [u8; 36] = [
+pub(crate) const REPORT: [u8; 36] = [
     1, 4, 0, 1, 0, 0, 0, 0, 0, 1, 0, 3, 0, 0, 0, 0, 0, 0, 0, 0, 0, 0, 0, 1, 0, 0, 0, 1, 0, 0, 0, 0,
     0, 0, 0, 0,
 ];
 
 /// None sent, one received from place 1.
-const OTHER_REPORT: [u8; 36] = [
+pub(crate) const OTHER_REPORT: [u8; 36] = [
     1, 4, 0, 2, 0, 0, 0, 0, 0, 1, 0, 3, 0, 0, 0, 0, 0, 0, 0, 0, 0, 0, 0, 0, 0, 0, 0, 0, 0, 0, 0, 1,
     0, 0, 0, 0,
 ];
 
 /// A new activity with two objects, each of which holds the other, a rail that they share, and a global
 /// reference.
-const CYCLE: [u8; 67] = [
+pub(crate) const CYCLE: [u8; 67] = [
     1, 1, 0, 0, 0, 1, 0, 0, 0, 0, 0, 1, 0, 0, 0, 1, 0, 0, 0, 1, 0, 2, 5, 0, 0, 0, 0, 0, 2, 0, 0, 0,
     0, 3, 5, 0, 1, 4, 0, 0, 7, 0, 0, 0, 0, 0, 0, 0, 1, 0, 0, 3, 5, 0, 0, 4, 0, 0, 7, 0, 0, 0, 0, 0,
     0, 0, 1,
 ];
 
 /// A new activity at the only place.
-const ALONE: [u8; 22] = [
+pub(crate) const ALONE: [u8; 22] = [
     1, 1, 0, 0, 0, 0, 0, 0, 0, 0, 0, 0, 0, 0, 0, 0, 0, 0, 0, 0, 0, 0,
 ];
 

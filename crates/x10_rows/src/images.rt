@@ -195,7 +195,7 @@ fn each_fault_is_met(rt: HostRuntime) {
     assert_eq!(rt; changed(&rt, 17, 1), Some(ImageFault::Entry));
     assert_eq!(rt; changed(&rt, 32, 1), Some(ImageFault::Entry));
     assert_eq!(rt; changed(&rt, 42, 1), Some(ImageFault::Code(0, 0)));
-    assert_eq!(rt; changed(&rt, 56, 0x2b), Some(ImageFault::Code(0, 2)));
+    assert_eq!(rt; changed(&rt, 56, 0xff), Some(ImageFault::Code(0, 2)));
     assert_eq!(rt; changed(&rt, 4, 9), Some(ImageFault::Version));
     assert_eq!(rt; changed(&rt, 3, 9), Some(ImageFault::Magic));
 }
@@ -277,7 +277,7 @@ fn modules_without_image_are_refused(rt: HostRuntime) -> Result<(), Fail> {
     assert_eq!(rt; write(rt.alloc(), &module).err(), Some(ImageFault::Count));
     let mut module = full(rt.alloc())?;
     let mut bad = plain(rt.alloc())?;
-    bad.code.push(instr(Op::At, 0, 0))?;
+    bad.code.push(instr(Op::Jmp, 1, 0))?;
     module.functions.pop();
     module.functions.push(bad)?;
     assert_eq!(rt;

@@ -12,9 +12,13 @@ mod copies;
 #[cfg(test)]
 mod finishes;
 #[cfg(test)]
+mod forged;
+#[cfg(test)]
 mod frames;
 #[cfg(test)]
 mod heaps;
+#[cfg(test)]
+mod hops;
 #[cfg(test)]
 mod images;
 #[cfg(test)]
@@ -24,9 +28,15 @@ mod large_copies;
 #[cfg(test)]
 mod listing;
 #[cfg(test)]
+mod orders;
+#[cfg(test)]
 mod places;
 #[cfg(test)]
+mod receiving;
+#[cfg(test)]
 mod seven;
+#[cfg(test)]
+mod travels;
 #[cfg(test)]
 mod usage;
 #[cfg(test)]

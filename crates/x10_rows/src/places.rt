@@ -60,18 +60,18 @@ pub(crate) fn place_of<'a>(
 
 /// Whether the activity with a key moves.
 fn moves(place: &mut Place, key: usize) -> bool {
-    matches!(place.step(key), Ok(Stepped::Moved))
+    matches!(place.step(key), Ok(Stepped::Moved(_)))
 }
 
 /// Whether there is nothing to do for a key.
-fn idles(place: &mut Place, key: usize) -> bool {
+pub(crate) fn idles(place: &mut Place, key: usize) -> bool {
     matches!(place.step(key), Ok(Stepped::Idle))
 }
 
 /// How far many steps go, where no memory is wanted.
-fn ran(place: &mut Place, key: usize, most: u64) -> Option<u64> {
+pub(crate) fn ran(place: &mut Place, key: usize, most: u64) -> Option<u64> {
     match place.run(key, most) {
-        (steps, None) => Some(steps),
+        (steps, Ok(_)) => Some(steps),
         _ => None,
     }
 }
