@@ -46,6 +46,34 @@ end
 entry 1
 ";
 
+/// An object with a rail, a text and a reference goes to place 1 with a new activity, which prints the text. Main's finish
+/// waits for it.
+const SENT_OUT: &str = "places 2
+class rail text gref:1
+class
+int 3
+text \"0123456789\"
+func 2 0 none obj:0
+GET 1 0 1
+PRINT 1
+RET 0
+end
+func 8 0 none
+NEW 7 0 1
+GNEW 2 7
+INTK 5 0
+RAIL 0 5 10
+TEXTK 1 0
+NEW 3 0 0
+FINB
+PLACEK 6 1
+ATA 3 6 0
+FINE
+RET 0
+end
+entry 1
+";
+
 /// What can be seen of a place.
 #[derive(Clone, Copy, PartialEq, Eq)]
 struct Sight {
@@ -217,15 +245,40 @@ fn memory_refused_at_a_stretch(rt: HostRuntime) -> Result<(), Fail> {
     between_places(rt.alloc(), &rt, false)
 }
 
-/// The events of the whole way, and how often each comes.
-const WAY: [(Event, u32); 6] = [
-    (Event::Step(0, 0), 9),
-    (Event::Deliver(0), 1),
-    (Event::Step(1, 0), 3),
-    (Event::Deliver(1), 1),
-    (Event::Deliver(2), 1),
-    (Event::Step(0, 0), 4),
-];
+/// A program, its events and how often each comes, and how many frames were put out and lines printed in the end.
+struct Way {
+    text: &'static str,
+    events: &'static [(Event, u32)],
+    frames: u64,
+    lines: usize,
+}
+
+const BACK: Way = Way {
+    text: THERE_AND_BACK,
+    events: &[
+        (Event::Step(0, 0), 9),
+        (Event::Deliver(0), 1),
+        (Event::Step(1, 0), 3),
+        (Event::Deliver(1), 1),
+        (Event::Deliver(2), 1),
+        (Event::Step(0, 0), 4),
+    ],
+    frames: 3,
+    lines: 2,
+};
+
+const OUT: Way = Way {
+    text: SENT_OUT,
+    events: &[
+        (Event::Step(0, 0), 9),
+        (Event::Deliver(0), 1),
+        (Event::Step(1, 0), 3),
+        (Event::Deliver(1), 1),
+        (Event::Step(0, 0), 2),
+    ],
+    frames: 2,
+    lines: 1,
+};
 
 /// What can be seen of a world: how many frames were put out, the first on its way home, and how many lines there are.
 fn seen_of(world: &World) -> (u64, Option<u64>, usize) {
@@ -260,11 +313,11 @@ fn happens(rt: &impl Abort, world: &mut World, event: Event) -> bool {
     false
 }
 
-/// Whether all events of the way happen.
-fn all_happen(rt: &impl Abort, world: &mut World) -> bool {
-    for (event, times) in WAY {
-        for _ in 0..times {
-            if !happens(rt, world, event) {
+/// Whether all events of a way happen.
+fn all_happen(rt: &impl Abort, world: &mut World, way: &Way) -> bool {
+    for (event, times) in way.events {
+        for _ in 0..*times {
+            if !happens(rt, world, *event) {
                 return false;
             }
         }
@@ -277,22 +330,32 @@ fn has_ended(world: &World) -> bool {
     world.closed()
 }
 
-#[test]
-fn memory_refused_in_a_world(rt: HostRuntime) -> Result<(), Fail> {
-    let Ok(bytes) = assemble(rt.alloc(), THERE_AND_BACK) else {
+/// The events of a way in a world, as far as memory is there.
+fn in_a_world(alloc: Global, rt: &impl Abort, way: &Way) -> Result<(), Fail> {
+    let Ok(bytes) = assemble(alloc, way.text) else {
         return Ok(());
     };
-    let Ok(view) = ImageView::read(rt.alloc(), &bytes) else {
+    let Ok(view) = ImageView::read(alloc, &bytes) else {
         return Ok(());
     };
-    let Ok(verified) = verify(rt.alloc(), view) else {
+    let Ok(verified) = verify(alloc, view) else {
         return Ok(());
     };
-    let Ok(mut world) = World::open(rt.alloc(), &verified, 2) else {
+    let Ok(mut world) = World::open(alloc, &verified, 2) else {
         return Ok(());
     };
-    if all_happen(&rt, &mut world) {
-        assert!(rt; has_ended(&world) && seen_of(&world) == (3, None, 2));
+    if all_happen(rt, &mut world, way) {
+        assert!(rt; has_ended(&world) && seen_of(&world) == (way.frames, None, way.lines));
     }
     Ok(())
+}
+
+#[test]
+fn memory_refused_in_a_world(rt: HostRuntime) -> Result<(), Fail> {
+    in_a_world(rt.alloc(), &rt, &BACK)
+}
+
+#[test]
+fn memory_refused_under_an_ata(rt: HostRuntime) -> Result<(), Fail> {
+    in_a_world(rt.alloc(), &rt, &OUT)
 }
