@@ -24,6 +24,7 @@ pub struct Bases {
 
 impl Bases {
     /// The word of a value of the frame.
+    #[inline(always)]
     fn word(&self, item: &Item) -> u64
         ensures { result ≡ word_at self.now.texts self.now.rails self.now.objects (item_of item.now) }
     {
@@ -62,6 +63,7 @@ pub fn add_rails(heap: &mut Heap, view: &FrameView) -> Result<(), Stop>
 }
 
 /// The words of an object's fields.
+#[inline(always)]
 fn put_words(words: &mut [u64], node: &NodeView, bases: &Bases)
     requires { length words.old ≡ length node.now.fields }
     ensures { words.new ≡ map (word_at bases.now.texts bases.now.rails bases.now.objects) node.now.fields }
@@ -72,6 +74,7 @@ fn put_words(words: &mut [u64], node: &NodeView, bases: &Bases)
 }
 
 /// An object of the frame.
+#[inline(always)]
 fn add_object(heap: &mut Heap, node: &NodeView, bases: &Bases) -> Result<u32, Stop>
     requires { length node.now.fields ≤ 16 }
     ensures ok { IfOk result (λ _. heap.new ≡ with_objects heap.old (object_from bases.now.texts bases.now.rails bases.now.objects node.now ∷ [])) }

@@ -13,6 +13,7 @@ use x10_kinds::Kind;
 use x10_model::Slot;
 
 /// Whether there is such an object, and of the class.
+#[inline(always)]
 fn of_class(view: &FrameView, object: u16, class: u16) -> bool
     ensures { result ≡ spec.of_class (slice_get (graph_of view.now).nodes object) class }
 {
@@ -23,6 +24,7 @@ fn of_class(view: &FrameView, object: u16, class: u16) -> bool
 }
 
 /// Whether a value is of a kind.
+#[inline(always)]
 fn item_fits(view: &FrameView, kind: Kind, item: &Item) -> bool
     ensures { result ≡ spec.item_fits (graph_of view.now) kind (item_of item.now) }
 {
@@ -55,6 +57,7 @@ pub fn roots_fit(view: &FrameView, slots: &[Slot]) -> bool
 }
 
 /// Whether an object's fields are of these kinds, one for each.
+#[inline(always)]
 fn fields_fit(view: &FrameView, class: &ClassView, node: &NodeView) -> bool
     ensures { result ≡ spec.all_fit (graph_of view.now) class.now node.now.fields }
 {
@@ -70,6 +73,7 @@ fn fields_fit(view: &FrameView, class: &ClassView, node: &NodeView) -> bool
 }
 
 /// Whether an object has the fields of its class.
+#[inline(always)]
 fn node_fits(view: &FrameView, image: &ImageView, node: &NodeView) -> bool
     ensures { result ≡ spec.class_fits (graph_of view.now) (slice_get image.now.classes node.now.class) node.now.fields }
 {
@@ -126,6 +130,7 @@ pub fn have_homes(view: &FrameView, slots: &[Slot], at: u16) -> bool
 }
 
 /// Whether a value names an object that may be named, if it is a global reference with its home here.
+#[inline(always)]
 fn is_exported(heap: &Heap, here: u16, item: &Item) -> bool
     ensures { result ≡ spec.is_exported here heap.now.exports (item_of item.now) }
 {
@@ -156,6 +161,7 @@ pub fn roots_exported(view: &FrameView, heap: &Heap, here: u16) -> bool
 }
 
 /// The same of an object's fields.
+#[inline(always)]
 fn fields_exported(node: &NodeView, heap: &Heap, here: u16) -> bool
     ensures { result ≡ spec.are_exported here heap.now.exports node.now.fields }
 {

@@ -36,6 +36,7 @@ impl Model for Marks {
 }
 
 /// How many bytes a word takes in a message.
+#[inline(always)]
 fn item_size(kind: Kind, word: u64) -> usize {
     match kind {
         Kind::Int | Kind::GRef(_) => 9,
@@ -86,6 +87,7 @@ impl Marks {
         self.rails.len()
     }
 
+    #[inline(always)]
     pub(crate) fn objects(&self) -> usize
         ensures value { result ≡ length self.now.objects }
         ensures few { result ≤ 65535 }
@@ -107,6 +109,7 @@ impl Marks {
         self.rails.part(i)
     }
 
+    #[inline(always)]
     pub(crate) fn object(&self, k: usize) -> u32
         requires { k < length self.now.objects }
         ensures { result ≡ slice_index self.now.objects k }
@@ -115,6 +118,7 @@ impl Marks {
     }
 
     /// Takes along what a word leads to.
+    #[inline(always)]
     pub(crate) fn note(&mut self, kind: Kind, word: u64) -> Result<(), Stop>
         requires { IsWord kind word }
         ensures ok { IfOk result (λ _. self.new ≡ noted self.old kind word) }
@@ -136,6 +140,7 @@ impl Marks {
     }
 
     /// What a word is in the message that takes along what it leads to.
+    #[inline(always)]
     pub(crate) fn item(&self, kind: Kind, word: u64) -> Item
         requires word { IsWord kind word }
         requires found { IsFound self.now kind word }

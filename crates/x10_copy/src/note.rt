@@ -25,6 +25,7 @@ pub fn note_roots(marks: &mut Marks, slots: &[Slot], words: &[u64]) -> Result<()
 }
 
 /// Takes along what the words in an object's fields lead to.
+#[inline(always)]
 fn note_fields(marks: &mut Marks, class: &ClassView, words: &[u64]) -> Result<(), Stop>
     requires { AreWords class.now words.now }
     ensures ok { IfOk result (λ _. marks.new ≡ noted_all marks.old class.now words.now) }
@@ -38,6 +39,7 @@ fn note_fields(marks: &mut Marks, class: &ClassView, words: &[u64]) -> Result<()
 }
 
 /// Takes along what an object leads to.
+#[inline(always)]
 pub fn note_object(
     marks: &mut Marks,
     heap: &Heap,

@@ -29,6 +29,7 @@ impl Model for Numbers {
 }
 
 /// Whether a part has a number: it stands under the number at its place.
+#[inline(always)]
 fn is_numbered(places: &[u16], parts: &[u32], part: u32) -> bool
     requires { AreNumbered places.now parts.now }
     ensures { result ≡ nat_lt (number parts.now part) (length parts.now) }
@@ -44,6 +45,7 @@ fn is_numbered(places: &[u16], parts: &[u32], part: u32) -> bool
 }
 
 /// A place for a part, where there is none yet.
+#[inline(always)]
 fn make_place(places: &mut Vec<u16>, part: u32) -> Result<(), Stop>
     ensures ok { IfOk result (λ _. part < length places.new.items) }
     ensures err { IfErr result (λ why. why ≡ stop.Memory) }
@@ -78,6 +80,7 @@ impl Numbers {
     }
 
     /// How many parts have a number.
+    #[inline(always)]
     pub fn len(&self) -> usize
         ensures value { result ≡ length self.now }
         ensures few { result ≤ 65535 }
@@ -86,6 +89,7 @@ impl Numbers {
     }
 
     /// The part with a number.
+    #[inline(always)]
     pub fn part(&self, number: usize) -> u32
         requires { number < length self.now }
         ensures { result ≡ slice_index self.now number }
@@ -94,6 +98,7 @@ impl Numbers {
     }
 
     /// The number of a part that has one.
+    #[inline(always)]
     pub fn number(&self, part: u32) -> u16
         requires { number self.now part < length self.now }
         ensures { result ≡ number self.now part }
@@ -102,6 +107,7 @@ impl Numbers {
     }
 
     /// Gives a part the next number, where it has none. Refused where 65,535 have one already, and for want of memory.
+    #[inline(always)]
     pub fn note(&mut self, part: u32, limit: u8) -> Result<(), Stop>
         ensures ok { IfOk result (λ _. self.new ≡ with_new self.old part) }
         ensures err { IfErr result (λ why. (why ≡ stop.Memory) ⊎ ((why ≡ stop.Limit limit) × (65535 < length (with_new self.old part)))) }

@@ -61,6 +61,7 @@ pub fn put_rails(writer: FrameWriter, marks: &Marks, heap: &Heap) -> Result<Fram
 }
 
 /// The words in an object's fields.
+#[inline(always)]
 fn put_fields(
     writer: FrameWriter,
     marks: &Marks,
@@ -79,6 +80,7 @@ fn put_fields(
 }
 
 /// An object.
+#[inline(always)]
 fn put_object(
     writer: FrameWriter,
     marks: &Marks,

@@ -44,6 +44,9 @@ pub fn raise(
 {
     let i = from * places + to;
     let old = pairs[i];
+    if by.sent <= old.sent && by.received <= old.received {
+        return unequal;
+    }
     let new = Pair {
         sent: old.sent.max(by.sent),
         received: old.received.max(by.received),

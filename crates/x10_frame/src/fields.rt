@@ -11,6 +11,7 @@ use x10_model::limits::MOST_BYTES;
 
 /// One byte, and the bytes after it.
 #[tactic(auto, unfolding(x10_model::specs::Readers::byte))]
+#[inline(always)]
 pub fn byte_at(bytes: &[u8]) -> Result<(u8, &[u8]), FrameFault>
     ensures exact { Answers (λ x. (x.0, x.1.now)) result (byte Short bytes.now) }
 {
@@ -21,6 +22,7 @@ pub fn byte_at(bytes: &[u8]) -> Result<(u8, &[u8]), FrameFault>
 }
 
 /// A number of two bytes, the highest first, and the bytes after it.
+#[inline(always)]
 pub fn u16_at(bytes: &[u8]) -> Result<(u16, &[u8]), FrameFault>
     ensures exact { Answers (λ x. (x.0, x.1.now)) result (number w16 Short bytes.now) }
 {
@@ -32,6 +34,7 @@ pub fn u16_at(bytes: &[u8]) -> Result<(u16, &[u8]), FrameFault>
 }
 
 /// A number of four bytes, the highest first, and the bytes after it.
+#[inline(always)]
 pub fn u32_at(bytes: &[u8]) -> Result<(u32, &[u8]), FrameFault>
     ensures exact { Answers (λ x. (x.0, x.1.now)) result (number w32 Short bytes.now) }
 {
@@ -43,6 +46,7 @@ pub fn u32_at(bytes: &[u8]) -> Result<(u32, &[u8]), FrameFault>
 }
 
 /// A number of eight bytes in two's complement, the highest byte first, and the bytes after it.
+#[inline(always)]
 pub fn i64_at(bytes: &[u8]) -> Result<(i64, &[u8]), FrameFault>
     ensures exact { Answers (λ x. (x.0, x.1.now)) result (int Short bytes.now) }
 {
@@ -55,6 +59,7 @@ pub fn i64_at(bytes: &[u8]) -> Result<(i64, &[u8]), FrameFault>
 
 /// The number of one of so many places, and the bytes after it.
 #[tactic(auto, unfolding(x10_model::specs::ReadingFrames::place_at, x10_model::specs::Readers::such_that, x10_model::specs::Readers::bind, x10_model::specs::Readers::check, x10_model::specs::Readers::done))]
+#[inline(always)]
 pub fn place_at(bytes: &[u8], places: u16) -> Result<(u16, &[u8]), FrameFault>
     ensures exact { Answers (λ x. (x.0, x.1.now)) result (place_at places bytes.now) }
 {
@@ -67,6 +72,7 @@ pub fn place_at(bytes: &[u8], places: u16) -> Result<(u16, &[u8]), FrameFault>
 
 /// An index that was used before or is the next new one, and is in its table, and the bytes after it.
 #[tactic(auto, unfolding(x10_model::specs::ReadingFrames::index_at, x10_model::specs::Readers::such_that, x10_model::specs::Readers::bind, x10_model::specs::Readers::check, x10_model::specs::Readers::done))]
+#[inline(always)]
 pub fn index_at(bytes: &[u8], used: u32, table: u32) -> Result<(u16, &[u8]), FrameFault>
     ensures exact { Answers (λ x. (x.0, x.1.now)) result (index_at used table bytes.now) }
 {
@@ -79,6 +85,7 @@ pub fn index_at(bytes: &[u8], used: u32, table: u32) -> Result<(u16, &[u8]), Fra
 
 /// The length of a text or a rail, at most 65,535, and the bytes after it.
 #[tactic(auto, unfolding(x10_model::specs::ReadingFrames::length_at, x10_model::specs::Readers::such_that, x10_model::specs::Readers::bind, x10_model::specs::Readers::check, x10_model::specs::Readers::done))]
+#[inline(always)]
 pub fn length_at(bytes: &[u8]) -> Result<(u32, &[u8]), FrameFault>
     ensures exact { Answers (λ x. (x.0, x.1.now)) result (length_at bytes.now) }
 {

@@ -25,6 +25,7 @@ pub enum Item {
 }
 
 #[tactic(auto, unfolding(x10_model::specs::Readers::such_that, x10_model::specs::Readers::bind, x10_model::specs::Readers::check, x10_model::specs::Readers::done))]
+#[inline(always)]
 fn tag_at(bytes: &[u8]) -> Result<(u8, &[u8]), FrameFault>
     ensures exact { Answers (λ x. (x.0, x.1.now)) result (such_that (byte Short) (λ n. nat_le 1 n && nat_le n 7) Tag bytes.now) }
 {
@@ -36,6 +37,7 @@ fn tag_at(bytes: &[u8]) -> Result<(u8, &[u8]), FrameFault>
 }
 
 #[tactic(auto, unfolding(x10_model::specs::ReadingFrames::untagged_at, x10_model::specs::Readers::bind, x10_model::specs::Readers::done))]
+#[inline(always)]
 fn ref_at(bytes: &[u8], places: u16) -> Result<(Item, &[u8]), FrameFault>
     ensures exact { (all : Tables) (used : Tables) → Answers (λ x. (item_of x.0, x.1.now)) result (untagged_at places all used 7 bytes.now) }
 {
@@ -46,6 +48,7 @@ fn ref_at(bytes: &[u8], places: u16) -> Result<(Item, &[u8]), FrameFault>
 }
 
 #[tactic(auto, unfolding(x10_model::specs::ReadingFrames::untagged_at, x10_model::specs::Readers::bind, x10_model::specs::Readers::done, x10_model::specs::Readers::given))]
+#[inline(always)]
 fn untagged_at<'a>(
     bytes: &'a [u8],
     tag: u8,
@@ -84,6 +87,7 @@ fn untagged_at<'a>(
 
 /// A value, by what was used before it, and the bytes after it.
 #[tactic(auto, unfolding(x10_model::specs::ReadingFrames::item_at, x10_model::specs::Readers::bind))]
+#[inline(always)]
 pub fn item_at<'a>(
     bytes: &'a [u8],
     places: u16,
@@ -97,6 +101,7 @@ pub fn item_at<'a>(
 }
 
 /// A value that was read before, and the bytes after it. No table is looked at again.
+#[inline(always)]
 fn known_item(bytes: &[u8], places: u16) -> (Item, &[u8])
     requires { IsOk (item_at places full full bytes.now) }
     ensures { item_at places full full bytes.now ≡ Ok (item_of result.0, result.1.now) }

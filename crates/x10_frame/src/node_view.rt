@@ -27,6 +27,7 @@ impl<'a> Model for NodeView<'a> {
 
 impl<'a> NodeView<'a> {
     /// The number of the object's class. Constant time.
+    #[inline(always)]
     pub fn class(&self) -> u16
         ensures value { result ≡ self.now.class }
     {
@@ -34,6 +35,7 @@ impl<'a> NodeView<'a> {
     }
 
     /// How many fields the object has. Constant time.
+    #[inline(always)]
     pub fn fields(&self) -> usize
         ensures value { result ≡ length self.now.fields }
     {
@@ -41,6 +43,7 @@ impl<'a> NodeView<'a> {
     }
 
     /// The value of a field. One pass over the fields before it.
+    #[inline(always)]
     pub fn field(&self, j: usize) -> Item
         requires { j < length self.now.fields }
         ensures value { slice_get self.now.fields j ≡ Some (item_of result) }

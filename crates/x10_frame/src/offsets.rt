@@ -9,6 +9,7 @@ use crate::node_view::NodeView;
 use byteorder::{BigEndian, ByteOrder};
 
 /// The number of two bytes at a place.
+#[inline(always)]
 fn u16_in(bytes: &[u8], at: usize) -> u16
     requires { at + 2 ≤ length bytes.now }
     ensures { result ≡ from_be_bytes w16 (slice_range bytes.now at (at + 2)) }
@@ -17,6 +18,7 @@ fn u16_in(bytes: &[u8], at: usize) -> u16
 }
 
 /// The number of four bytes at a place.
+#[inline(always)]
 fn u32_in(bytes: &[u8], at: usize) -> u32
     requires { at + 4 ≤ length bytes.now }
     ensures { result ≡ from_be_bytes w32 (slice_range bytes.now at (at + 4)) }
@@ -25,6 +27,7 @@ fn u32_in(bytes: &[u8], at: usize) -> u32
 }
 
 /// One of the counts of four bytes each that begin at a place.
+#[inline(always)]
 pub fn count_in(bytes: &[u8], start: usize, i: usize) -> u32
     requires { start + 4 * i + 4 ≤ length bytes.now }
     ensures { result ≡ from_be_bytes w32 (slice_range bytes.now (start + 4 * i) (start + 4 * i + 4)) }
@@ -33,6 +36,7 @@ pub fn count_in(bytes: &[u8], start: usize, i: usize) -> u32
 }
 
 /// The bytes from a place on.
+#[inline(always)]
 pub fn bytes_from(bytes: &[u8], at: usize) -> &[u8]
     requires { at ≤ length bytes.now }
     ensures { result.now ≡ drop at bytes.now }
@@ -41,6 +45,7 @@ pub fn bytes_from(bytes: &[u8], at: usize) -> &[u8]
 }
 
 /// The text or rail at a place: its length in four bytes, and its bytes.
+#[inline(always)]
 pub fn blob_in(bytes: &[u8], at: usize) -> &[u8]
     requires length { at + 4 ≤ length bytes.now }
     requires room { at + 4 + from_be_bytes w32 (slice_range bytes.now at (at + 4)) ≤ length bytes.now }
@@ -51,6 +56,7 @@ pub fn blob_in(bytes: &[u8], at: usize) -> &[u8]
 }
 
 /// The node at a place: its class in two bytes, its number of fields in one, and their values.
+#[inline(always)]
 pub fn node_in(bytes: &[u8], at: usize, places: u16) -> NodeView<'_>
     requires room { at + 3 ≤ length bytes.now }
     requires there { HasItems places (slice_index bytes.now (at + 2)) (drop (at + 3) bytes.now) }

@@ -17,6 +17,7 @@ use crate::used::Used;
 use x10_model::limits::MOST_FIELDS;
 
 /// What was used after so many values, and the bytes after them.
+#[inline(always)]
 pub fn past_items<'a>(
     bytes: &'a [u8],
     count: u16,
@@ -37,6 +38,7 @@ pub fn past_items<'a>(
 }
 
 #[tactic(auto, unfolding(x10_model::specs::Readers::such_that, x10_model::specs::Readers::bind, x10_model::specs::Readers::check, x10_model::specs::Readers::done))]
+#[inline(always)]
 fn field_count_at(bytes: &[u8]) -> Result<(u8, &[u8]), FrameFault>
     ensures exact { Answers (λ x. (x.0, x.1.now)) result (such_that (byte Short) (λ n. nat_le n 16) Order bytes.now) }
 {
@@ -49,6 +51,7 @@ fn field_count_at(bytes: &[u8]) -> Result<(u8, &[u8]), FrameFault>
 
 /// What was used after a node whose turn it is, and the bytes after it.
 #[tactic(auto, unfolding(x10_model::specs::ReadingFrames::node_at, x10_model::specs::Readers::bind, x10_model::specs::Readers::check, x10_model::specs::Readers::done))]
+#[inline(always)]
 pub fn past_node<'a>(
     bytes: &'a [u8],
     number: u32,

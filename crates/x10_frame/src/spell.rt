@@ -12,6 +12,7 @@ use crate::head::Head;
 use crate::item::Item;
 use std::alloc::AllocError;
 
+#[inline(always)]
 fn put(out: &mut Vec<u8>, tag: u8, bytes: &[u8]) -> Result<(), AllocError>
     ensures { OnOk result (out.new.items ≡ out.old.items ++ tag ∷ bytes.now) }
 {
@@ -19,6 +20,7 @@ fn put(out: &mut Vec<u8>, tag: u8, bytes: &[u8]) -> Result<(), AllocError>
     out.extend_from_slice(bytes)
 }
 
+#[inline(always)]
 fn put_ref(out: &mut Vec<u8>, home: u16, id: u32, class: u16) -> Result<(), AllocError>
     ensures { OnOk result (out.new.items ≡ out.old.items ++ 7 ∷ (to_be_bytes w16 home ++ (to_be_bytes w32 id ++ to_be_bytes w16 class))) }
 {
@@ -29,6 +31,7 @@ fn put_ref(out: &mut Vec<u8>, home: u16, id: u32, class: u16) -> Result<(), Allo
 
 /// A value.
 #[tactic(auto, unfolding(x10_model::specs::Frames::item_bytes))]
+#[inline(always)]
 pub fn put_item(out: &mut Vec<u8>, item: &Item) -> Result<(), AllocError>
     ensures { OnOk result (out.new.items ≡ out.old.items ++ item_bytes (item_of item.now)) }
 {
@@ -64,6 +67,7 @@ pub fn put_blob(out: &mut Vec<u8>, bytes: &[u8]) -> Result<(), AllocError>
 }
 
 /// A node's class, and how many fields it has.
+#[inline(always)]
 pub fn put_begin(out: &mut Vec<u8>, class: u16, fields: u8) -> Result<(), AllocError>
     ensures { OnOk result (out.new.items ≡ out.old.items ++ (to_be_bytes w16 class ++ fields ∷ [])) }
 {
@@ -84,6 +88,7 @@ pub fn put_node(out: &mut Vec<u8>, class: u16, fields: &[Item]) -> Result<(), Al
 }
 
 /// The counts of a report.
+#[inline(always)]
 pub fn put_counts(out: &mut Vec<u8>, counts: &[u32]) -> Result<(), AllocError>
     ensures { OnOk result (out.new.items ≡ out.old.items ++ counts_bytes counts.now) }
 {

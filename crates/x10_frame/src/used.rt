@@ -15,6 +15,7 @@ pub struct Used {
 
 impl Used {
     /// Nothing was used yet.
+    #[inline(always)]
     pub fn none() -> Used
         ensures { tables_in result ≡ none }
     {
@@ -26,6 +27,7 @@ impl Used {
     }
 
     /// Whether so much of everything was used.
+    #[inline(always)]
     pub fn is_all(&self, all: &Used) -> bool
         ensures { result ≡ same_tables (tables_in self.now) (tables_in all.now) }
     {
@@ -33,6 +35,7 @@ impl Used {
     }
 
     /// What was used once a value was met.
+    #[inline(always)]
     pub fn with(&self, item: &Item) -> Used
         ensures { tables_in result ≡ uses (tables_in self.now) (item_of item.now) }
     {

@@ -77,6 +77,7 @@ impl<'a> FrameView<'a> {
     }
 
     /// How many places a report counts; 0 in another frame.
+    #[inline(always)]
     pub fn counts(&self) -> usize
         ensures sent { result ≡ length (sent_of self.now) }
         ensures received { result ≡ length (received_of self.now) }
@@ -90,6 +91,7 @@ impl<'a> FrameView<'a> {
     }
 
     /// How many activities a report says were sent to a place: four of the frame's bytes.
+    #[inline(always)]
     pub fn sent(&self, place: usize) -> u32
         requires { place < length (sent_of self.now) }
         ensures value { slice_get (sent_of self.now) place ≡ Some result }
@@ -99,6 +101,7 @@ impl<'a> FrameView<'a> {
     }
 
     /// How many activities a report says were received from a place: four of the frame's bytes.
+    #[inline(always)]
     pub fn received(&self, place: usize) -> u32
         requires { place < length (received_of self.now) }
         ensures value { slice_get (received_of self.now) place ≡ Some result }
@@ -112,6 +115,7 @@ impl<'a> FrameView<'a> {
     }
 
     /// How many values are passed, at most 16; none by a report.
+    #[inline(always)]
     pub fn roots(&self) -> usize
         ensures value { result ≡ length (graph_of self.now).roots }
         ensures few { result ≤ 16 }
@@ -136,6 +140,7 @@ impl<'a> FrameView<'a> {
     }
 
     /// How many objects there are.
+    #[inline(always)]
     pub fn nodes(&self) -> usize
         ensures value { result ≡ length (graph_of self.now).nodes }
         ensures few { result < 2 ^ 16 }
@@ -144,6 +149,7 @@ impl<'a> FrameView<'a> {
     }
 
     /// A value that is passed, from the frame's bytes.
+    #[inline(always)]
     pub fn root(&self, i: usize) -> Item
         requires { i < length (graph_of self.now).roots }
         ensures value { slice_get (graph_of self.now).roots i ≡ Some (item_of result) }
@@ -181,6 +187,7 @@ impl<'a> FrameView<'a> {
     }
 
     /// An object, in the frame's bytes.
+    #[inline(always)]
     pub fn node(&self, i: usize) -> NodeView<'a>
         requires { i < length (graph_of self.now).nodes }
         ensures value { slice_get (graph_of self.now).nodes i ≡ Some result }

@@ -78,6 +78,7 @@ impl FrameWriter {
     }
 
     /// The next value: one that is passed, or the next field of an object that was begun.
+    #[inline(always)]
     pub fn value(self, value: &Item) -> Result<FrameWriter, AllocError>
         ensures value { IfOk result (λ w. w ≡ self ++ item_bytes (item_of value.now)) }
     {
@@ -87,6 +88,7 @@ impl FrameWriter {
     }
 
     /// The next object's class, and how many fields it has. Its fields follow as values.
+    #[inline(always)]
     pub fn begin_node(self, class: u16, fields: u8) -> Result<FrameWriter, AllocError>
         ensures value { IfOk result (λ w. w ≡ self ++ (to_be_bytes w16 class ++ fields ∷ [])) }
     {

@@ -179,6 +179,7 @@ impl<'a> ImageView<'a> {
     }
 
     /// The fields of a class, in the image's bytes: behind their number there.
+    #[inline(always)]
     pub fn class(&self, c: usize) -> ClassView<'a>
         requires { c < length self.now.classes }
         ensures value { slice_get self.now.classes c ≡ Some result }
@@ -190,6 +191,7 @@ impl<'a> ImageView<'a> {
     }
 
     /// What a function takes, gives and needs: the bytes that it begins with in the image.
+    #[inline(always)]
     pub fn signature(&self, f: usize) -> SigView<'a>
         requires { f < length self.now.functions }
         ensures value { (g : Function) × (function_at self.now f ≡ Some g) × (result ≡ signature_of g) }
@@ -211,6 +213,7 @@ impl<'a> ImageView<'a> {
     }
 
     /// A function's instructions, 8 bytes each, in the image's bytes.
+    #[inline(always)]
     pub fn code(&self, f: usize) -> &'a [u8]
         requires { f < length self.now.functions }
         ensures value { result.now ≡ flat_map instruction (code_at self.now f) }
@@ -223,6 +226,7 @@ impl<'a> ImageView<'a> {
     }
 
     /// An instruction of a function: 8 of the image's bytes.
+    #[inline(always)]
     pub fn instr(&self, f: usize, pc: usize) -> Instr
         requires function { f < length self.now.functions }
         requires pc { pc < length (code_at self.now f) }

@@ -209,6 +209,7 @@ fn act(
 
 impl CallFrame {
     /// The word in a register.
+    #[inline(always)]
     pub(crate) fn word(&self, register: u8) -> u64
         requires { register < length self.now.registers.items }
         ensures { result ≡ slice_index self.now.registers.items register }
@@ -217,6 +218,7 @@ impl CallFrame {
     }
 
     /// Goes on to the next instruction.
+    #[inline(always)]
     pub(crate) fn next(&mut self)
         requires { self.old.pc + 1 < 2 ^ 16 }
         ensures { GoesNext self.old self.new }
@@ -225,6 +227,7 @@ impl CallFrame {
     }
 
     /// Writes a word to a register, and goes on to the next instruction.
+    #[inline(always)]
     pub(crate) fn put(&mut self, register: u8, word: u64)
         requires there { register < length self.old.registers.items }
         requires next { self.old.pc + 1 < 2 ^ 16 }
@@ -284,6 +287,7 @@ impl CallFrame {
 
     /// The frame of the function that an instruction calls, or begins an activity with, at its first instruction, with the
     /// arguments in its first registers.
+    #[inline(always)]
     pub(crate) fn callee(
         &self,
         alloc: Global,
@@ -312,6 +316,7 @@ impl CallFrame {
     }
 
     /// The registers of a frame that ended.
+    #[inline(always)]
     pub(crate) fn into_registers(self) -> SmallVec<u64, 8> {
         self.registers
     }

@@ -66,6 +66,7 @@ impl<'a> Place<'a> {
     /// places, that FINE looks at the places where nothing lives under its finish here, that a finish is looked up in
     /// logarithmic time, that a report has two numbers for each place, and that a list that grows is copied now and then.
     /// What makes, prints or sends something takes memory, and so do CALL, ASYNC and FINB.
+    #[inline(always)]
     pub fn step(&mut self, key: usize) -> Result<Stepped, Stop>
         ensures idle { self.old.stopped ≢ true → IsIdleAt self.old key → (result ≡ Ok Stepped.Idle) × (self.new ≡ self.old) }
         ensures only { self.old.stopped ≢ true → result ≡ Ok Stepped.Idle → IsIdleAt self.old key }
@@ -196,6 +197,7 @@ impl<'a> Place<'a> {
     }
 
     /// Whether no activity is here. Constant time.
+    #[inline(always)]
     pub fn is_empty(&self) -> bool
         ensures { result ≡ (slab_len self.now.stays == 0) }
     {
@@ -203,6 +205,7 @@ impl<'a> Place<'a> {
     }
 
     /// Whether there is an activity with a key. Constant time.
+    #[inline(always)]
     pub fn contains(&self, key: usize) -> bool
         ensures { IsTrue result ↔ ContainsKey self.now.stays key }
     {
@@ -210,6 +213,7 @@ impl<'a> Place<'a> {
     }
 
     /// The key that the next activity gets that begins here. Constant time.
+    #[inline(always)]
     pub fn vacant_key(&self) -> usize
         ensures value { result ≡ self.now.stays.vacant_key }
         ensures vacant { get self.now.stays result ≡ None }

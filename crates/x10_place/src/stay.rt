@@ -72,6 +72,7 @@ pub(crate) enum Outcome {
 
 impl Stay {
     /// The function that an instruction calls begins. Where memory is refused, nothing has changed.
+    #[inline(always)]
     fn call(
         &mut self,
         alloc: Global,
@@ -94,6 +95,7 @@ impl Stay {
 
     /// The function ends, and its caller goes on with the result, if there is one. Where there is no caller the stay ends
     /// with it, which is for the place to make.
+    #[inline(always)]
     fn ret(&mut self, verified: &Verified, store: &mut Store, instr: Instr) -> Outcome
         requires placed { IsPlaced verified.now.program self.old }
         requires fetched { IsFetchedFor verified.now.program self.old.top instr }
@@ -117,6 +119,7 @@ impl Stay {
     }
 
     /// The innermost finish that is open here, or the one that the stay inherited.
+    #[inline(always)]
     pub(crate) fn innermost(&self, here: u16) -> Finish
         ensures { finish_as result ≡ innermost_at here self.now }
     {
@@ -172,6 +175,7 @@ impl Stay {
     }
 
     /// The innermost finish is closed, or the stay waits there.
+    #[inline(always)]
     fn close_finish(&mut self, store: &mut Store) -> Outcome
         requires next { self.old.top.pc + 1 < 2 ^ 16 }
         requires open { HasFinish self.old store.old }
@@ -232,6 +236,7 @@ impl Stay {
     }
 
     /// One step: what becomes of the stay. Where it is refused, nothing has changed.
+    #[inline(always)]
     pub(crate) fn step(
         &mut self,
         alloc: Global,

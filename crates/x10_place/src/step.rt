@@ -20,6 +20,7 @@ use x10_verify::Verified;
 
 /// The step of the stay with a key that is for its place to make: what it puts out. Where it is refused, nothing has
 /// changed.
+#[inline(never)]
 fn by_place(
     alloc: Global,
     verified: &Verified,
@@ -45,6 +46,7 @@ fn by_place(
 }
 
 /// One step of the stay with a key.
+#[inline(always)]
 pub(crate) fn step_in(
     alloc: Global,
     verified: &Verified,

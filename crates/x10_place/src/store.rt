@@ -76,6 +76,7 @@ impl Store {
     }
 
     /// Which place it is, of how many.
+    #[inline(always)]
     pub(crate) fn spot(&self) -> Spot
         ensures here { result.here ≡ self.now.here }
         ensures places { result.places ≡ self.now.places }
@@ -96,6 +97,7 @@ impl Store {
     }
 
     /// At least so many registers, of any words: those of a frame that ended, if there are some.
+    #[inline(always)]
     pub(crate) fn registers(
         &mut self,
         alloc: Global,
@@ -115,6 +117,7 @@ impl Store {
     }
 
     /// Takes the registers of a frame that ended. Takes no memory: where there is no room for them, they go.
+    #[inline(always)]
     pub(crate) fn keep(&mut self, registers: SmallVec<u64, 8>)
         ensures { self.new ≡ self.old }
     {

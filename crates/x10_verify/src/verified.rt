@@ -86,6 +86,7 @@ pub fn verify<'a>(alloc: Global, image: ImageView<'a>) -> Result<Verified<'a>, V
 
 impl<'a> Verified<'a> {
     /// The module's image.
+    #[inline(always)]
     pub fn image(&self) -> &ImageView<'a>
         ensures { result.now ≡ self.now.program }
     {
@@ -125,6 +126,7 @@ impl<'a> Verified<'a> {
     }
 
     /// An instruction, with all that is known of it. Constant time, no memory.
+    #[inline(always)]
     pub fn fetch(&self, f: usize, pc: usize) -> Instr
         requires function { f < length self.now.program.functions }
         requires pc { pc < length (code_at self.now.program f) }
@@ -137,6 +139,7 @@ impl<'a> Verified<'a> {
     }
 
     /// The code of a function: 8 bytes for each instruction, a part of the image. Constant time, no memory.
+    #[inline(always)]
     pub fn code(&self, f: usize) -> &'a [u8]
         requires { f < length self.now.program.functions }
         ensures { result.now ≡ flat_map instruction (code_at self.now.program f) }

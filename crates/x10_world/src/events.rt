@@ -14,6 +14,7 @@ use x10_place::{Outgoing, Place, Sent, Stepped};
 use x10_verify::Verified;
 
 /// One step of the activity with a key at a place, if they are there.
+#[inline(always)]
 fn step_one(places: &mut Vec<Place>, id: usize, key: usize) -> Result<Stepped, Stop>
     ensures { StepsOne places.old.items places.new.items id key result }
 {
@@ -38,6 +39,7 @@ fn run_one(places: &mut Vec<Place>, id: usize, key: usize, most: u64) -> (u64, R
 }
 
 /// Puts a frame out, if there is one.
+#[inline(always)]
 fn post(flights: &mut Flights, frame: Option<Outgoing>)
     requires { (o : outgoing.Outgoing) → frame ≡ Some o → (0 < flights.old.room) × (o.to < flights.old.places) }
     ensures { flights.new ≡ with_posted flights.old frame }
@@ -48,6 +50,7 @@ fn post(flights: &mut Flights, frame: Option<Outgoing>)
 }
 
 /// Puts out what a step did.
+#[inline(always)]
 fn post_all(flights: &mut Flights, sent: Sent)
     requires room { flights.old.room ≡ 2 }
     requires there { GoesBelow flights.old.places sent }
@@ -58,6 +61,7 @@ fn post_all(flights: &mut Flights, sent: Sent)
 }
 
 /// One step of the activity with a key at a place, if they are there. Room for what it may put out is made before.
+#[inline(always)]
 fn step(
     verified: &Verified,
     places: &mut Vec<Place>,
@@ -117,6 +121,7 @@ fn stop_for(why: Refusal) -> Stop
 }
 
 /// The frame in flight with a number is taken in where it goes, if there is one. Where it is refused, it is still in flight.
+#[inline(never)]
 fn deliver(
     verified: &Verified,
     places: &mut Vec<Place>,
@@ -140,6 +145,7 @@ fn deliver(
 }
 
 /// One event of a world that has not stopped.
+#[inline(always)]
 pub(crate) fn handle(
     verified: &Verified,
     places: &mut Vec<Place>,

@@ -71,6 +71,7 @@ impl Table {
         }
     }
 
+    #[inline(always)]
     fn posted(&self) -> u64
         ensures { result ≡ self.now.posted }
     {
@@ -78,6 +79,7 @@ impl Table {
     }
 
     /// Room for two frames more.
+    #[inline(always)]
     fn make_room(&mut self) -> Result<(), Stop>
         ensures flying { self.new.flying ≡ self.old.flying }
         ensures posted { self.new.posted ≡ self.old.posted }
@@ -92,6 +94,7 @@ impl Table {
     }
 
     /// Puts a frame in under the next number.
+    #[inline(always)]
     fn post(&mut self, to: u16, bytes: Vec<u8>)
         requires room { 0 < self.old.spare }
         requires few { self.old.posted + 1 < 2 ^ 64 }
@@ -200,6 +203,7 @@ impl Queue {
     }
 
     /// Room for two numbers more.
+    #[inline(always)]
     fn make_room(&mut self) -> Result<(), Stop>
         ensures numbers { self.new.numbers ≡ self.old.numbers }
         ensures spare { self.old.spare ≤ self.new.spare }
@@ -311,6 +315,7 @@ impl Flights {
     }
 
     /// How many frames were posted. Constant time.
+    #[inline(always)]
     pub(crate) fn posted(&self) -> u64
         ensures value { result ≡ self.now.posted }
         ensures order { AreInOrder self.now }
@@ -319,6 +324,7 @@ impl Flights {
     }
 
     /// Room for two frames more, which then cannot be refused. Constant time where there is room, and amortized.
+    #[inline(always)]
     pub(crate) fn make_room(&mut self) -> Result<(), Stop>
         ensures ok { IfOk result (λ _. self.new ≡ with_room self.old) }
         ensures err { IfErr result (λ why. (self.new ≡ self.old) × ((why ≡ stop.Memory) ⊎ (why ≡ stop.Limit 11))) }
@@ -340,6 +346,7 @@ impl Flights {
     }
 
     /// Puts a frame out to a place, under the next number. Constant time, and without memory.
+    #[inline(always)]
     pub(crate) fn post(&mut self, to: u16, bytes: Vec<u8>)
         requires room { 0 < self.old.room }
         requires place { to < self.old.places }

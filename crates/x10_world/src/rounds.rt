@@ -110,23 +110,39 @@ impl Rounds {
     }
 
     /// Looks at what the last events put out and began.
+    #[inline(always)]
     fn look(&mut self, world: &World) -> Result<(), AllocError> {
+        if world.posted() != self.posted {
+            self.look_at_frames(world);
+        }
+        let Some((place, key)) = self.next_key else {
+            return Ok(());
+        };
+        self.next_key = None;
+        if !world.has_key(place, key) {
+            return Ok(());
+        }
+        self.begun(place, key)
+    }
+
+    /// Looks at what was put out since it was looked at last.
+    #[inline(never)]
+    fn look_at_frames(&mut self, world: &World) {
         for number in self.posted..world.posted() {
             if let Some((to, _)) = world.frame(number) {
                 self.await_frame(to);
             }
         }
         self.posted = world.posted();
-        let Some((place, key)) = self.next_key else {
-            return Ok(());
-        };
-        if world.has_key(place, key) {
-            if let Some(keys) = self.lists.get_mut(usize::from(place)) {
-                keys.fresh.push(key)?;
-            }
-            self.busy |= bit(place);
+    }
+
+    /// Remembers that an activity with a key began at a place.
+    #[inline(never)]
+    fn begun(&mut self, place: u16, key: usize) -> Result<(), AllocError> {
+        self.busy |= bit(place);
+        if let Some(keys) = self.lists.get_mut(usize::from(place)) {
+            keys.fresh.push(key)?;
         }
-        self.next_key = None;
         Ok(())
     }
 
@@ -139,6 +155,7 @@ impl Rounds {
     }
 
     /// Remembers which key an activity gets that begins at a place.
+    #[inline(always)]
     fn watch(&mut self, world: &World, place: u16) {
         self.next_key = match world.vacant_key(place) {
             Some(key) => Some((place, key)),
@@ -234,15 +251,50 @@ impl Rounds {
         Some((self.place, key))
     }
 
-    /// The next events: how many. Where one activity is alone, its steps are made at a stretch, each a round of its own.
+    /// The next events: how many. Where one activity is alone, its steps are made at a stretch, each a round of its own; else
+    /// the steps of a turn are made one after another.
     fn advance(&mut self, world: &mut World, left: u64) -> Result<u64, Halt>
         ensures runs { RunsTo world.old world.new }
     {
         self.look(world)?;
+        if let Turn::Steps(position) = self.turn {
+            if position < self.known() {
+                return self.steps(world, position, left);
+            }
+            self.pass(self.place.saturating_add(1));
+        }
         if let Some((place, key)) = self.lone(world) {
             return self.stretch(world, place, key, left);
         }
         self.event(world)
+    }
+
+    /// How many activities make a step in the turn.
+    fn known(&self) -> usize {
+        match self.lists.get(usize::from(self.place)) {
+            Some(keys) => keys.known.len(),
+            None => 0,
+        }
+    }
+
+    /// The steps of a turn from a position on, up to one by which place 0 is left empty: how many.
+    fn steps(&mut self, world: &mut World, from: usize, left: u64) -> Result<u64, Halt>
+        ensures runs { RunsTo world.old world.new }
+    {
+        let mut made = 0;
+        for position in from..self.known() {
+            let Some(event) = self.step(position) else {
+                return Ok(made);
+            };
+            self.watch(world, self.place);
+            world.run(&[event])?;
+            self.look(world)?;
+            made = made.saturating_add(1);
+            if made == left || (self.place == 0 && world.home_is_empty()) {
+                return Ok(made);
+            }
+        }
+        Ok(made)
     }
 
     /// Steps of the one activity that there is, up to one that begins an activity or puts out a frame.
@@ -255,7 +307,7 @@ impl Rounds {
         if made == 0 {
             return self.event(world);
         }
-        self.pass(place.saturating_add(1));
+        self.turn = Turn::Steps(self.known());
         Ok(made)
     }
 
@@ -272,8 +324,8 @@ impl Rounds {
 }
 
 /// Runs a world in rounds until the run has ended, with so many events at most, idle ones among them: those of `Rounds`, one
-/// after another. Whether the run has ended is looked at after each event, before whether there may be another one; of steps
-/// that are made at a stretch, after the last.
+/// after another. Whether the run has ended is looked at after each event, before whether there may be another one: only
+/// those at place 0 can end it.
 pub fn run_rounds(alloc: Global, world: &mut World, limit: u64) -> Result<(), Halt>
     ensures runs { RunsTo world.old world.new }
     ensures ended { IfOk result (λ _. HasEnded world.new) }
@@ -281,8 +333,9 @@ pub fn run_rounds(alloc: Global, world: &mut World, limit: u64) -> Result<(), Ha
     let mut rounds = Rounds::new(alloc, world)?;
     let mut left = limit;
     for _ in 0..limit {
+        let is_first = left == limit;
         let made = rounds.advance(world, left)?;
-        if world.home_is_empty() && world.closed() {
+        if (is_first || rounds.place == 0) && world.home_is_empty() && world.closed() {
             return Ok(());
         }
         left = left.saturating_sub(made);

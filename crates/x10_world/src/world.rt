@@ -49,6 +49,7 @@ impl<'a> Model for World<'a> {
 
 impl<'a> World<'a> {
     /// Refuses where the world has stopped.
+    #[inline(always)]
     fn going(&self) -> Result<(), Stop>
         ensures ok { IfOk result (λ _. self.now.stopped ≢ true) }
         ensures err { IfErr result (λ why. (why ≡ stop.Stopped) × (self.now.stopped ≡ true)) }
@@ -60,6 +61,7 @@ impl<'a> World<'a> {
     }
 
     /// One event.
+    #[inline(always)]
     fn happen(&mut self, event: Event) -> Result<Happening, Stop>
         requires { self.old.stopped ≢ true }
         ensures told { IfOk result (λ did. Happened self.old.places self.old.flights event did self.new.places self.new.flights) }
@@ -78,6 +80,7 @@ impl<'a> World<'a> {
 
 impl<'a> World<'a> {
     /// The events in their turn, to the first that is refused: how many were made, and why the next was not.
+    #[inline(always)]
     pub(crate) fn make(&mut self, events: &[Event]) -> (usize, Option<Stop>)
         requires { self.old.stopped ≢ true }
         ensures runs { (w : machine.World) → StandsForWorld self.old w → Runs self.old w result.0 events.now self.new }
@@ -126,6 +129,7 @@ impl<'a> World<'a> {
     /// texts and rails of one frame, 10: keys, 11: frames). After it every later call answers Stopped, and the output is
     /// that of the events before the one that was refused. A step waits at the end of a finish only where something lives
     /// that the finish governs (X10 2.2, chapter Activities, `finish`), or a frame is in flight.
+    #[inline(always)]
     pub fn run(&mut self, events: &[Event]) -> Result<(), Stop>
         ensures all { IfOk result (λ _. (w : machine.World) → StandsForWorld self.old w → Runs self.old w (length events.now) events.now self.new) }
         ensures some { (w : machine.World) → StandsForWorld self.old w → (n : ℕ) × Runs self.old w n events.now self.new }
@@ -250,6 +254,7 @@ impl<'a> World<'a> {
     }
 
     /// Whether no activity is at place 0, as where the run has ended. Constant time.
+    #[inline(always)]
     pub(crate) fn home_is_empty(&self) -> bool {
         match self.places.first() {
             Some(place) => place.is_empty(),
@@ -258,6 +263,7 @@ impl<'a> World<'a> {
     }
 
     /// Whether there is an activity with a key at a place. Constant time.
+    #[inline(always)]
     pub fn has_key(&self, place: u16, key: usize) -> bool
         ensures { IsTrue result ↔ HasPlace self.now.places place (λ p. ContainsKey p.stays key) }
     {
@@ -268,6 +274,7 @@ impl<'a> World<'a> {
     }
 
     /// The key that the next activity gets that begins at a place; none where there is no such place. Constant time.
+    #[inline(always)]
     pub(crate) fn vacant_key(&self, place: u16) -> Option<usize>
         ensures { MatchOption result (IsNoPlace self.now.places place) (λ key. HasPlace self.now.places place (λ p. key ≡ p.stays.vacant_key)) }
     {
@@ -276,6 +283,7 @@ impl<'a> World<'a> {
     }
 
     /// How many frames were put out so far: they are numbered from 0, in that order. Constant time.
+    #[inline(always)]
     pub fn posted(&self) -> u64
         ensures value { result ≡ self.now.flights.posted }
         ensures used { (w : machine.World) → StandsForWorld self.now w → IsPosted w result }
