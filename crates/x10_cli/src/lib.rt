@@ -3,6 +3,7 @@
 #![tactic(auto)]
 
 mod commands;
+mod explain;
 mod fault;
 mod help;
 mod task;

@@ -6,7 +6,7 @@ ghost use Rattle.x10_cli.specs.Answers.{IsAnswer, text_of};
 use crate::help;
 use crate::task::{Task, Verb};
 use clap::error::ErrorKind;
-use clap::{Arg, ArgMatches, Command, Error, value_parser};
+use clap::{Arg, ArgAction, ArgMatches, Command, Error, value_parser};
 use std::alloc::{AllocError, Global};
 use x10_model::limits::MOST_PLACES;
 
@@ -111,6 +111,7 @@ fn task_of<'a>(matches: &ArgMatches<'a>) -> Option<Task<'a>> {
         output: matches.get_str("OUTPUT"),
         places: matches.get_one("places"),
         limit: matches.get_one("limit").unwrap_or(1_000_000),
+        explain: matches.get_flag("explain"),
     })
 }
 
@@ -125,21 +126,25 @@ fn program<'a>(alloc: Global) -> Result<Command<'a>, AllocError> {
         )
         .after_help(help::ASM)
         .arg(input(alloc, "TEXT", "The file of the assembler text"))?
-        .arg(output)?;
+        .arg(output)?
+        .arg(explain(alloc))?;
     let list = Command::new(alloc, "list")
         .about("Print a module as assembler text, which assembles to the same image")
         .after_help(help::LIST)
-        .arg(image_name(alloc))?;
+        .arg(image_name(alloc))?
+        .arg(explain(alloc))?;
     let verify = Command::new(alloc, "verify")
         .about(
             "Verify a module: print how many functions it has and the bound of its entry function",
         )
         .after_help(help::VERIFY)
-        .arg(image_name(alloc))?;
+        .arg(image_name(alloc))?
+        .arg(explain(alloc))?;
     let bounds = Command::new(alloc, "bounds")
         .about("Print the most steps that each function takes, a line `FUNCTION STEPS` each")
         .after_help(help::BOUNDS)
-        .arg(image_name(alloc))?;
+        .arg(image_name(alloc))?
+        .arg(explain(alloc))?;
     Command::new(alloc, "x10p")
         .about(ABOUT)
         .version(VERSION)
@@ -174,6 +179,13 @@ fn input<'a>(alloc: Global, name: &'a str, help: &'a str) -> Arg<'a> {
         .required(true)
 }
 
+fn explain<'a>(alloc: Global) -> Arg<'a> {
+    Arg::new(alloc, "explain")
+        .long("explain")
+        .help("Say more about a fault, in lines after its own")
+        .action(ArgAction::SetTrue)
+}
+
 fn run_words<'a>(
     alloc: Global,
     name: &'a str,
@@ -198,5 +210,6 @@ fn run_words<'a>(
         .after_help(after)
         .arg(image_name(alloc))?
         .arg(places)?
-        .arg(limit)
+        .arg(limit)?
+        .arg(explain(alloc))
 }

@@ -1,7 +1,8 @@
 //! Reading a file, only as far as it can be what a command takes.
+use crate::trouble::Trouble;
 use std::fs::File;
-use std::io::{self, ErrorKind, Read};
-use x10_cli::{Fault, Verb};
+use std::io::Read;
+use x10_cli::Verb;
 use x10_image::{ImageFault, ImageView};
 
 /// How many bytes are read before they are looked at for the first time.
@@ -24,16 +25,8 @@ enum Look {
     TooLong,
 }
 
-/// What reading or writing a file failed for.
-pub fn fault_of(error: &io::Error) -> Fault {
-    match error.kind() {
-        ErrorKind::OutOfMemory => Fault::Memory,
-        _ => Fault::File,
-    }
-}
-
 /// The bytes of a file, or so many of its first bytes that the command answers as it would for all of them.
-pub fn read(rt: &HostRuntime, verb: Verb, file: &mut File) -> Result<Vec<u8>, Fault> {
+pub fn read(rt: &HostRuntime, verb: Verb, file: &mut File) -> Result<Vec<u8>, Trouble> {
     let mut bytes = Vec::new(rt.alloc());
     let mut goal = FIRST;
     for _ in 0..40 {
@@ -43,22 +36,22 @@ pub fn read(rt: &HostRuntime, verb: Verb, file: &mut File) -> Result<Vec<u8>, Fa
         match look_at(rt, verb, &bytes)? {
             Look::More(most) => goal = goal.saturating_mul(2).min(most),
             Look::Enough => return Ok(bytes),
-            Look::TooLong => return Err(Fault::File),
+            Look::TooLong => return Err(Trouble::TooLong),
         }
     }
-    Err(Fault::File)
+    Err(Trouble::TooLong)
 }
 
 /// Reads on until there are so many bytes, and tells whether the file has ended before that.
-fn is_at_end(file: &mut File, goal: u64, bytes: &mut Vec<u8>) -> Result<bool, Fault> {
+fn is_at_end(file: &mut File, goal: u64, bytes: &mut Vec<u8>) -> Result<bool, Trouble> {
     let missing = goal.saturating_sub(bytes.len() as u64);
     match file.take(missing).read_to_end(bytes) {
         Ok(_) => Ok((bytes.len() as u64) < goal),
-        Err(error) => Err(fault_of(&error)),
+        Err(error) => Err(Trouble::reading(error)),
     }
 }
 
-fn look_at(rt: &HostRuntime, verb: Verb, bytes: &[u8]) -> Result<Look, Fault> {
+fn look_at(rt: &HostRuntime, verb: Verb, bytes: &[u8]) -> Result<Look, Trouble> {
     match verb {
         Verb::Asm => Ok(look_at_text(bytes)),
         _ => look_at_image(rt, bytes),
@@ -92,9 +85,9 @@ fn most_of_text(bytes: &[u8]) -> u64 {
 
 /// An image is read from front to back, so that the first fault stands whatever follows; but for an end that comes too
 /// early, and for what is told only where nothing follows.
-fn look_at_image(rt: &HostRuntime, bytes: &[u8]) -> Result<Look, Fault> {
+fn look_at_image(rt: &HostRuntime, bytes: &[u8]) -> Result<Look, Trouble> {
     match ImageView::read(rt.alloc(), bytes) {
-        Err(ImageFault::Memory) => Err(Fault::Memory),
+        Err(ImageFault::Memory) => Err(Trouble::Memory),
         Ok(_) | Err(ImageFault::Short | ImageFault::Entry) => Ok(Look::More(u64::MAX)),
         Err(_) => Ok(Look::Enough),
     }

@@ -4,9 +4,10 @@
 mod image;
 mod input;
 mod output;
+mod trouble;
 
-use crate::input::fault_of;
 use crate::output::Output;
+use crate::trouble::Trouble;
 use std::fs::{self, File};
 use std::io::{BufWriter, ErrorKind, Write};
 use std::process::ExitCode;
@@ -35,17 +36,17 @@ fn follow(rt: &HostRuntime, words: &[String]) -> u8 {
     match parse(rt.alloc(), words) {
         Ok(task) => match perform(rt, &task) {
             Ok(status) => status,
-            Err(fault) => tell(fault, &mut rt.stderr()),
+            Err(trouble) => trouble.tell(rt, &task),
         },
         Err(usage) => show(rt, &usage),
     }
 }
 
 /// Reads the file and does the work, which tells its own faults.
-fn perform(rt: &HostRuntime, task: &Task) -> Result<u8, Fault> {
+fn perform(rt: &HostRuntime, task: &Task) -> Result<u8, Trouble> {
     let mut file = match fs::open(rt, task.input) {
         Ok(file) => file,
-        Err(error) => return Err(fault_of(&error)),
+        Err(error) => return Err(Trouble::reading(error)),
     };
     match task.output {
         Some(output) => write_image(rt, task, &mut file, output),
@@ -53,35 +54,64 @@ fn perform(rt: &HostRuntime, task: &Task) -> Result<u8, Fault> {
     }
 }
 
-/// Does the work, and prints what it prints. Where the reader of a pipe has gone, nothing is said of that.
-fn print(rt: &HostRuntime, task: &Task, file: &mut File) -> Result<u8, Fault> {
+/// Does the work, and prints what it prints.
+fn print(rt: &HostRuntime, task: &Task, file: &mut File) -> Result<u8, Trouble> {
     let bytes = input::read(rt, task.verb, file)?;
     let Ok(mut out) = BufWriter::new(rt.alloc(), Output::new(rt.stdout())) else {
-        return Err(Fault::Memory);
+        return Err(Trouble::Memory);
     };
-    let mut told = Vec::with_capacity(rt.alloc(), FAULT_LINE)?;
+    let Ok(mut told) = Vec::with_capacity(rt.alloc(), FAULT_LINE) else {
+        return Err(Trouble::Memory);
+    };
     let status = execute(rt.alloc(), task, &bytes, &mut out, &mut told);
-    if out.get_ref().is_unread {
-        return Ok(status);
+    Ok(speak(rt, task, out.get_ref().failure(), &told, status))
+}
+
+/// Says what was told of a fault, and gives the exit status. Where the reader of a pipe has gone, nothing is said.
+fn speak(
+    rt: &HostRuntime,
+    task: &Task,
+    failure: Option<&io::Error>,
+    told: &[u8],
+    status: u8,
+) -> u8 {
+    let mut err = rt.stderr();
+    let said = match failure {
+        Some(error) if error.kind() == ErrorKind::BrokenPipe => Ok(()),
+        Some(error) if task.explain => err.write_all(told).and_then(|()| writeln!(
+            err,
+            "Standard output can't be written: {error}."
+        )),
+        _ => err.write_all(told),
+    };
+    match said {
+        Ok(()) => status,
+        Err(_) => 4,
     }
-    rt.stderr().write_all(&told)?;
-    Ok(status)
 }
 
 /// Assembles, and writes the image once it is whole. A text that would be its own image is left as it is.
-fn write_image(rt: &HostRuntime, task: &Task, file: &mut File, output: &str) -> Result<u8, Fault> {
-    if image::is_one_file(rt, file, output)? {
-        return Err(Fault::File);
+fn write_image(
+    rt: &HostRuntime,
+    task: &Task,
+    file: &mut File,
+    output: &str,
+) -> Result<u8, Trouble> {
+    match image::is_one_file(rt, file, output) {
+        Ok(false) => {}
+        Ok(true) => return Err(Trouble::OneFile),
+        Err(error) => return Err(Trouble::reading(error)),
     }
     let text = input::read(rt, task.verb, file)?;
     let mut image = Vec::new(rt.alloc());
     let status = execute(rt.alloc(), task, &text, &mut image, &mut rt.stderr());
-    if status == 0
-        && let Err(error) = image::write(rt, output, &image)
-    {
-        return Err(fault_of(&error));
+    if status != 0 {
+        return Ok(status);
     }
-    Ok(status)
+    match image::write(rt, output, &image) {
+        Ok(()) => Ok(status),
+        Err(error) => Err(Trouble::writing(error)),
+    }
 }
 
 /// Prints help on standard output, and what is wrong with the words on standard error.

@@ -4,28 +4,34 @@ use std::io::{self, ErrorKind, Stdout, Write};
 #[derive(Drop)]
 pub struct Output {
     stdout: Stdout,
-    /// Whether the reader of a pipe has gone, so that nothing more can be written.
-    pub is_unread: bool,
+    /// Why the last write failed that did.
+    failure: Option<io::Error>,
 }
 
 impl Output {
     pub fn new(stdout: Stdout) -> Output {
         Output {
             stdout,
-            is_unread: false,
+            failure: None,
         }
+    }
+
+    /// Why nothing more can be written.
+    pub fn failure(&self) -> Option<&io::Error> {
+        self.failure.as_ref()
     }
 }
 
 impl Write for Output {
     fn write(&mut self, buf: &[u8]) -> io::Result<usize> {
-        let written = self.stdout.write(buf);
-        if let Err(error) = &written
-            && error.kind() == ErrorKind::BrokenPipe
-        {
-            self.is_unread = true;
+        match self.stdout.write(buf) {
+            Ok(written) => Ok(written),
+            Err(error) => {
+                let kind = error.kind();
+                self.failure = Some(error);
+                Err(io::Error::from(kind))
+            }
         }
-        written
     }
 
     fn flush(&mut self) -> io::Result<()> {
