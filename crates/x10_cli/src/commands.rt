@@ -15,6 +15,7 @@ ghost use Rattle.x10_cli.specs.declared.task.Verb.TheVariants as verb;
 ghost use Rattle.x10_cli.specs.declared.fault.Fault.TheVariants as fault;
 ghost use Rattle.x10_cli.specs.Answers.{IsImage, IsVerifiedImage, IsVerifying, CanBeDone, IsStatus, Prints, Traces, places_for, status_of};
 
+use crate::explain::explanation;
 use crate::fault::Fault;
 use crate::task::{Task, Verb};
 use std::alloc::Global;
@@ -30,8 +31,8 @@ use x10_world::{Rounds, World, run_rounds};
 
 /// Does what a task asks for with the bytes of its file, and tells the exit status: 0 done, 1 refused, 2 stopped, 4
 /// where a write failed or a text isn't UTF-8. What is printed goes to `out`, of `asm` the image, which is nothing where
-/// the text is refused; a fault is one line on `err`, `x10p: ` and its text. Where a run stops, what it printed until then
-/// stands on `out` before that.
+/// the text is refused; a fault is one line on `err`, `x10p: ` and its text, and after it, where the task says so, lines that
+/// explain it. Where a run stops, what it printed until then stands on `out` before that.
 pub fn execute<O: Write, E: Write>(
     alloc: Global,
     task: &Task,
@@ -51,7 +52,24 @@ pub fn execute<O: Write, E: Write>(
     }
     match done {
         Ok(()) => 0,
-        Err(fault) => tell(fault, err),
+        Err(fault) => refuse(alloc, task, bytes, fault, err),
+    }
+}
+
+/// Tells a fault, and what is asked for beside its line. Where there is no memory for that, its line has to do.
+fn refuse<E: Write>(alloc: Global, task: &Task, bytes: &[u8], fault: Fault, err: &mut E) -> u8
+    ensures { (result ≡ status_of fault) ⊎ (result ≡ 4) }
+{
+    let status = tell(fault, err);
+    if !task.explain {
+        return status;
+    }
+    let Ok(text) = explanation(alloc, task, bytes, fault) else {
+        return status;
+    };
+    match err.write_all(text.as_bytes()) {
+        Ok(()) => status,
+        Err(_) => Fault::File.status(),
     }
 }
 

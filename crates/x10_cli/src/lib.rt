@@ -3,11 +3,13 @@
 #![tactic(auto)]
 
 mod commands;
+mod explain;
 mod fault;
+mod help;
 mod task;
 mod usage;
 
 pub use commands::{execute, tell};
 pub use fault::Fault;
 pub use task::{Task, Verb};
-pub use usage::{Usage, parse};
+pub use usage::{Usage, no_text, parse};

@@ -27,4 +27,6 @@ pub struct Task<'a> {
     pub places: Option<u16>,
     /// How many events at most, those in which nothing moves too.
     pub limit: u64,
+    /// Whether more is told of a fault than its line.
+    pub explain: bool,
 }

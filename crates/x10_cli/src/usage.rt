@@ -1,10 +1,12 @@
 //! The words of a command line.
-ghost use Rattle.std.specs.Prelude.{◌≡◌, IfErr};
+ghost use Rattle.std.specs.Prelude.{◌≡◌, ◌≢◌, IfOk, IfErr};
+ghost use Rattle.clap.specs.Words.{kind_of};
 ghost use Rattle.x10_cli.specs.Answers.{IsAnswer, text_of};
 
+use crate::help;
 use crate::task::{Task, Verb};
 use clap::error::ErrorKind;
-use clap::{Arg, ArgMatches, Command, Error, value_parser};
+use clap::{Arg, ArgAction, ArgMatches, Command, Error, value_parser};
 use std::alloc::{AllocError, Global};
 use x10_model::limits::MOST_PLACES;
 
@@ -30,15 +32,10 @@ impl Usage {
     }
 }
 
+const VERSION: &str = "0.1.0";
+
 const ABOUT: &str =
     "Runs programs that are spread over places, after it has proved that they can't go wrong";
-
-const STATUS: &str = "Exit status:
-  0  done
-  1  refused: the text, the image, its module, or the number of places
-  2  stopped: lack of memory, a limit of the machine, or --limit
-  3  these words aren't understood
-  4  a file can't be read, or the output can't be written";
 
 /// Reads the words of a command line, of which the program's name is the first.
 pub fn parse<'a>(alloc: Global, words: &'a [String]) -> Result<Task<'a>, Usage>
@@ -50,8 +47,30 @@ pub fn parse<'a>(alloc: Global, words: &'a [String]) -> Result<Task<'a>, Usage>
     }
 }
 
+/// What to say where a word of the command line isn't UTF-8: no name of a file is taken that isn't, as the system's names
+/// are text here.
+pub fn no_text(alloc: Global) -> Usage
+    ensures answer { IsAnswer result }
+    ensures refused { result.status ≢ 0 }
+{
+    match no_text_error(alloc) {
+        Ok(error) => refusal(alloc, &error),
+        Err(_) => Usage {
+            text: None,
+            status: 2,
+        },
+    }
+}
+
+fn no_text_error(alloc: Global) -> Result<Error, AllocError>
+    ensures { IfOk result (λ e. kind_of e ≡ ErrorKind.InvalidValue) }
+{
+    program(alloc)?.error(ErrorKind::InvalidValue, "a word isn't UTF-8")
+}
+
 fn refusal(alloc: Global, error: &Error) -> Usage
-    ensures { IsAnswer result }
+    ensures answer { IsAnswer result }
+    ensures refused { kind_of error.now ≡ ErrorKind.InvalidValue → result.status ≢ 0 }
 {
     let text = format!(in alloc; "{error}");
     let status = if error.use_stderr() { 3 } else { 0 };
@@ -92,6 +111,7 @@ fn task_of<'a>(matches: &ArgMatches<'a>) -> Option<Task<'a>> {
         output: matches.get_str("OUTPUT"),
         places: matches.get_one("places"),
         limit: matches.get_one("limit").unwrap_or(1_000_000),
+        explain: matches.get_flag("explain"),
     })
 }
 
@@ -104,22 +124,31 @@ fn program<'a>(alloc: Global) -> Result<Command<'a>, AllocError> {
         .about(
             "Assemble a text into a module's image; where the text is refused, nothing is written",
         )
+        .after_help(help::ASM)
         .arg(input(alloc, "TEXT", "The file of the assembler text"))?
-        .arg(output)?;
+        .arg(output)?
+        .arg(explain(alloc))?;
     let list = Command::new(alloc, "list")
         .about("Print a module as assembler text, which assembles to the same image")
-        .arg(image_name(alloc))?;
+        .after_help(help::LIST)
+        .arg(image_name(alloc))?
+        .arg(explain(alloc))?;
     let verify = Command::new(alloc, "verify")
         .about(
             "Verify a module: print how many functions it has and the bound of its entry function",
         )
-        .arg(image_name(alloc))?;
+        .after_help(help::VERIFY)
+        .arg(image_name(alloc))?
+        .arg(explain(alloc))?;
     let bounds = Command::new(alloc, "bounds")
         .about("Print the most steps that each function takes, a line `FUNCTION STEPS` each")
-        .arg(image_name(alloc))?;
+        .after_help(help::BOUNDS)
+        .arg(image_name(alloc))?
+        .arg(explain(alloc))?;
     Command::new(alloc, "x10p")
         .about(ABOUT)
-        .after_help(STATUS)
+        .version(VERSION)
+        .after_help(help::PROGRAM)
         .subcommand_required(true)
         .subcommand(asm)?
         .subcommand(list)?
@@ -129,11 +158,13 @@ fn program<'a>(alloc: Global) -> Result<Command<'a>, AllocError> {
             alloc,
             "run",
             "Verify a module, run it, and print each place's lines, `PLACE: LINE` each",
+            help::RUN,
         )?)?
         .subcommand(run_words(
             alloc,
             "trace",
             "Verify a module, run it, and print what happens, event by event",
+            help::TRACE,
         )?)
 }
 
@@ -148,22 +179,37 @@ fn input<'a>(alloc: Global, name: &'a str, help: &'a str) -> Arg<'a> {
         .required(true)
 }
 
-fn run_words<'a>(alloc: Global, name: &'a str, about: &'a str) -> Result<Command<'a>, AllocError> {
+fn explain<'a>(alloc: Global) -> Arg<'a> {
+    Arg::new(alloc, "explain")
+        .long("explain")
+        .help("Say more about a fault, in lines after its own")
+        .action(ArgAction::SetTrue)
+}
+
+fn run_words<'a>(
+    alloc: Global,
+    name: &'a str,
+    about: &'a str,
+    after: &'a str,
+) -> Result<Command<'a>, AllocError> {
     let places = Arg::new(alloc, "places")
         .long("places")
         .value_name("N")
         .help("How many places, 1 to 64 [default: the module's least number]")
+        .allow_negative_numbers(true)
         .value_parser(value_parser!(u16).range(1..=i64::from(MOST_PLACES)));
     let limit = Arg::new(alloc, "limit")
         .long("limit")
         .value_name("N")
         .help("How many events at most, 1 to 1000000000")
         .default_value("1000000")
+        .allow_negative_numbers(true)
         .value_parser(value_parser!(u64).range(1..=1_000_000_000));
     Command::new(alloc, name)
         .about(about)
-        .after_help(STATUS)
+        .after_help(after)
         .arg(image_name(alloc))?
         .arg(places)?
-        .arg(limit)
+        .arg(limit)?
+        .arg(explain(alloc))
 }

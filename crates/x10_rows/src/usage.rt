@@ -21,6 +21,7 @@ fn words(rt: HostRuntime) -> Result<(), Fail> {
         output: None,
         places: Some(64),
         limit: 1_000_000,
+        explain: false,
     };
     assert_eq!(rt; parse(rt.alloc(), &words).ok(), Some(task));
     let words = words_of(rt.alloc(), &["bounds", "b"])?;

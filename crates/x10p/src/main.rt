@@ -1,53 +1,116 @@
 //! The program `x10p`: it reads its words and the file that they name, and does what they ask for.
 #![tactic(auto)]
 
+mod image;
+mod input;
+mod output;
+mod trouble;
+
+use crate::output::Output;
+use crate::trouble::Trouble;
+use std::fs::{self, File};
 use std::io::{BufWriter, ErrorKind, Write};
 use std::process::ExitCode;
-use std::{env, fs, io};
-use x10_cli::{Fault, Task, Usage, execute, parse, tell};
+use std::{env, io};
+use x10_cli::{Fault, Task, Usage, execute, no_text, parse, tell};
+
+/// Room for a fault's line.
+const FAULT_LINE: usize = 256;
 
 fn main(rt: HostRuntime) -> ExitCode {
-    let Ok(words) = words(&rt) else {
-        return ExitCode::from(tell(Fault::Memory, &mut rt.stderr()));
-    };
-    match parse(rt.alloc(), &words) {
-        Ok(task) => ExitCode::from(perform(&rt, &task)),
-        Err(usage) => ExitCode::from(show(&rt, &usage)),
+    match words(&rt) {
+        Ok(words) => ExitCode::from(follow(&rt, &words)),
+        Err(error) if error.kind() == ErrorKind::OutOfMemory => {
+            ExitCode::from(tell(Fault::Memory, &mut rt.stderr()))
+        }
+        Err(_) => ExitCode::from(show(&rt, &no_text(rt.alloc()))),
     }
 }
 
+/// The words of the command line. One that isn't UTF-8 is an error.
 fn words(rt: &HostRuntime) -> io::Result<Vec<String>> {
     Ok(env::args(rt)?.collect(rt.alloc())?)
 }
 
-/// Reads the file and does the work.
-fn perform(rt: &HostRuntime, task: &Task) -> u8 {
-    let bytes = match fs::read(rt, task.input) {
-        Ok(bytes) => bytes,
-        Err(error) if error.kind() == ErrorKind::OutOfMemory => {
-            return tell(Fault::Memory, &mut rt.stderr());
-        }
-        Err(_) => return tell(Fault::File, &mut rt.stderr()),
-    };
-    if let Some(output) = task.output {
-        return write_image(rt, task, &bytes, output);
-    }
-    match BufWriter::new(rt.alloc(), rt.stdout()) {
-        Ok(mut out) => execute(rt.alloc(), task, &bytes, &mut out, &mut rt.stderr()),
-        Err(_) => tell(Fault::Memory, &mut rt.stderr()),
+fn follow(rt: &HostRuntime, words: &[String]) -> u8 {
+    match parse(rt.alloc(), words) {
+        Ok(task) => match perform(rt, &task) {
+            Ok(status) => status,
+            Err(trouble) => trouble.tell(rt, &task),
+        },
+        Err(usage) => show(rt, &usage),
     }
 }
 
-/// Assembles, and writes the image once it is whole.
-fn write_image(rt: &HostRuntime, task: &Task, text: &[u8], output: &str) -> u8 {
-    let mut image = Vec::new(rt.alloc());
-    let status = execute(rt.alloc(), task, text, &mut image, &mut rt.stderr());
-    if status != 0 {
-        return status;
+/// Reads the file and does the work, which tells its own faults.
+fn perform(rt: &HostRuntime, task: &Task) -> Result<u8, Trouble> {
+    let mut file = match fs::open(rt, task.input) {
+        Ok(file) => file,
+        Err(error) => return Err(Trouble::reading(error)),
+    };
+    match task.output {
+        Some(output) => write_image(rt, task, &mut file, output),
+        None => print(rt, task, &mut file),
     }
-    match fs::write(rt, output, &image) {
+}
+
+/// Does the work, and prints what it prints.
+fn print(rt: &HostRuntime, task: &Task, file: &mut File) -> Result<u8, Trouble> {
+    let bytes = input::read(rt, task.verb, file)?;
+    let Ok(mut out) = BufWriter::new(rt.alloc(), Output::new(rt.stdout())) else {
+        return Err(Trouble::Memory);
+    };
+    let Ok(mut told) = Vec::with_capacity(rt.alloc(), FAULT_LINE) else {
+        return Err(Trouble::Memory);
+    };
+    let status = execute(rt.alloc(), task, &bytes, &mut out, &mut told);
+    Ok(speak(rt, task, out.get_ref().failure(), &told, status))
+}
+
+/// Says what was told of a fault, and gives the exit status. Where the reader of a pipe has gone, nothing is said.
+fn speak(
+    rt: &HostRuntime,
+    task: &Task,
+    failure: Option<&io::Error>,
+    told: &[u8],
+    status: u8,
+) -> u8 {
+    let mut err = rt.stderr();
+    let said = match failure {
+        Some(error) if error.kind() == ErrorKind::BrokenPipe => Ok(()),
+        Some(error) if task.explain => err.write_all(told).and_then(|()| writeln!(
+            err,
+            "Standard output can't be written: {error}."
+        )),
+        _ => err.write_all(told),
+    };
+    match said {
         Ok(()) => status,
-        Err(_) => tell(Fault::File, &mut rt.stderr()),
+        Err(_) => 4,
+    }
+}
+
+/// Assembles, and writes the image once it is whole. A text that would be its own image is left as it is.
+fn write_image(
+    rt: &HostRuntime,
+    task: &Task,
+    file: &mut File,
+    output: &str,
+) -> Result<u8, Trouble> {
+    match image::is_one_file(rt, file, output) {
+        Ok(false) => {}
+        Ok(true) => return Err(Trouble::OneFile),
+        Err(error) => return Err(Trouble::reading(error)),
+    }
+    let text = input::read(rt, task.verb, file)?;
+    let mut image = Vec::new(rt.alloc());
+    let status = execute(rt.alloc(), task, &text, &mut image, &mut rt.stderr());
+    if status != 0 {
+        return Ok(status);
+    }
+    match image::write(rt, output, &image) {
+        Ok(()) => Ok(status),
+        Err(error) => Err(Trouble::writing(error)),
     }
 }
 

@@ -7,7 +7,7 @@ pub returns-then-is_err-clause-status : goal.returns-then-is_err-clause-status
 returns-then-is_err-clause-status w = λ c. status_told _ told.File c.tell.ensures
 
 pub returns-in-Err-clause-status : goal.returns-in-Err-clause-status
-returns-in-Err-clause-status w = λ c. status_told _ c.in-Err.fault c.tell-in-Err.ensures
+returns-in-Err-clause-status w = λ c. status_told _ c.in-Err.fault c.refuse.ensures
 
 pub returns-in-Ok-clause-printed : goal.returns-in-Ok-clause-printed
 returns-in-Ok-clause-printed w = λ c. λ e. prints_kept c.args.task.now.verb c.args.task.now.places c.args.bytes.now (w.O.Write.contents c.args.out.now) (w.O.Write.contents c.perform-done.new.out) (w.O.Write.contents c.flush.new.self) c.in-Ok.ensures.printed c.flush.ensures.bytes

@@ -1,0 +1,134 @@
+//! What is told of a fault beside its line, for people.
+
+use crate::fault::Fault;
+use crate::task::{Task, Verb};
+use std::alloc::{AllocError, Global};
+use x10_bounds::bounds;
+use x10_image::ImageView;
+
+/// Sentences on a fault of a task over the bytes of its file, a line each; none where there is nothing to add.
+pub(crate) fn explanation(
+    alloc: Global,
+    task: &Task,
+    bytes: &[u8],
+    fault: Fault,
+) -> Result<String, AllocError> {
+    match fault {
+        Fault::Asm(_) | Fault::Image(_) | Fault::Verify(_) | Fault::Bounds(_) => {
+            Ok(String::new(alloc))
+        }
+        Fault::Places => of_places(alloc, task, bytes),
+        Fault::Memory => line(alloc, "The system gives no more memory to the program."),
+        Fault::StopMemory => of_memory(alloc, task, bytes),
+        Fault::StopLimit(which) => of_count(alloc, which),
+        Fault::Limit => of_events(alloc, task, bytes),
+        Fault::File => of_text(alloc, task, bytes),
+    }
+}
+
+fn line(alloc: Global, text: &str) -> Result<String, AllocError> {
+    format!(in alloc; "{text}\n")
+}
+
+/// The least number of places of an image's module.
+fn least_of(alloc: Global, bytes: &[u8]) -> Option<u16> {
+    let image = ImageView::read(alloc, bytes).ok()?;
+    Some(image.least())
+}
+
+/// How many places a task runs over.
+fn places_in(alloc: Global, task: &Task, bytes: &[u8]) -> Option<u16> {
+    match task.places {
+        Some(places) => Some(places),
+        None => least_of(alloc, bytes),
+    }
+}
+
+fn of_places(alloc: Global, task: &Task, bytes: &[u8]) -> Result<String, AllocError> {
+    let (Some(asked), Some(least)) = (task.places, least_of(alloc, bytes)) else {
+        return Ok(String::new(alloc));
+    };
+    format!(in alloc; "The module asks for {least} places at least; --places gave {asked}.\n")
+}
+
+fn of_memory(alloc: Global, task: &Task, bytes: &[u8]) -> Result<String, AllocError> {
+    let Some(places) = places_in(alloc, task, bytes) else {
+        return Ok(String::new(alloc));
+    };
+    // two numbers of four bytes for each pair of places
+    let finish = u64::from(places)
+        .saturating_mul(u64::from(places))
+        .saturating_mul(8);
+    format!(in alloc;
+        "The system gave no memory for what the next event makes. What a place makes it keeps; an open finish takes {finish} bytes here, at {places} places.\n"
+    )
+}
+
+fn of_count(alloc: Global, which: u8) -> Result<String, AllocError> {
+    let (what, most) = counted(which);
+    format!(in alloc;
+        "There may be {most} {what} at most, and the next event would make one more.\n"
+    )
+}
+
+/// What a limit of the machine counts, and how many there may be.
+fn counted(which: u8) -> (&'static str, &'static str) {
+    match which {
+        1 => ("objects at one place", "4294967295"),
+        2 => ("texts at one place", "4294967295"),
+        3 => ("rails at one place", "4294967295"),
+        4 => ("global references at one place", "4294967295"),
+        5 => ("finishes at one place", "4294967295"),
+        6 => (
+            "activities under one finish, at one place or from one place to another,",
+            "4294967295",
+        ),
+        7 => ("objects in one frame", "65535"),
+        8 => ("texts in one frame", "65535"),
+        9 => ("rails in one frame", "65535"),
+        10 => ("keys of activities at one place", "4294967295"),
+        _ => ("frames in one run", "18446744073709551615"),
+    }
+}
+
+fn of_events(alloc: Global, task: &Task, bytes: &[u8]) -> Result<String, AllocError> {
+    let limit = task.limit;
+    match bound_of_main(alloc, bytes) {
+        Some(bound) => format!(in alloc;
+            "--limit permits {limit} events, and after them the root finish was open. Main takes {bound} steps at most; the steps of all other activities count too, and deliveries and idle events.\n"
+        ),
+        None => format!(in alloc;
+            "--limit permits {limit} events, and after them the root finish was open.\n"
+        ),
+    }
+}
+
+fn bound_of_main(alloc: Global, bytes: &[u8]) -> Option<u64> {
+    let image = ImageView::read(alloc, bytes).ok()?;
+    let bounds = bounds(alloc, &image).ok()?;
+    let bound = bounds.get(usize::from(image.entry()))?;
+    Some(*bound)
+}
+
+/// Where a text isn't UTF-8. Else the fault is the writer's, of which its owner knows more.
+fn of_text(alloc: Global, task: &Task, bytes: &[u8]) -> Result<String, AllocError> {
+    let (Verb::Asm, Err(error)) = (task.verb, str::from_utf8(bytes)) else {
+        return Ok(String::new(alloc));
+    };
+    let name = task.input;
+    let before = &bytes[..error.valid_up_to()];
+    let (mut line, mut column) = (1u64, 1u64);
+    for byte in before {
+        (line, column) = after(line, column, *byte);
+    }
+    format!(in alloc; "{name} isn't UTF-8: line {line}, column {column}.\n")
+}
+
+/// The line and column after a byte. The later bytes of a character, which are from 128 to 191, add no column.
+fn after(line: u64, column: u64, byte: u8) -> (u64, u64) {
+    match byte {
+        b'\n' => (line.saturating_add(1), 1),
+        128..=191 => (line, column),
+        _ => (line, column.saturating_add(1)),
+    }
+}

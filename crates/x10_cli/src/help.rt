@@ -1,0 +1,72 @@
+//! What stands at the end of each help: an example, and the exit statuses.
+
+pub const PROGRAM: &str = "Example:
+  x10p asm examples/doubles.asm doubles.x10
+  x10p run doubles.x10
+
+Exit status:
+  0  done
+  1  refused: the text, the image, its module, or the number of places
+  2  stopped: lack of memory, a limit of the machine, or --limit
+  3  these words aren't understood
+  4  a file can't be read, or the output can't be written";
+
+pub const ASM: &str = "Example:
+  x10p asm examples/doubles.asm doubles.x10
+
+Exit status:
+  0  done
+  1  refused: the text
+  2  lack of memory
+  3  these words aren't understood
+  4  a file can't be read, or the output can't be written";
+
+pub const LIST: &str = "Example:
+  x10p list examples/seven.x10
+
+Exit status:
+  0  done
+  1  refused: the image
+  2  lack of memory
+  3  these words aren't understood
+  4  a file can't be read, or the output can't be written";
+
+pub const VERIFY: &str = "Example:
+  x10p verify examples/seven.x10
+
+Exit status:
+  0  done
+  1  refused: the image, or its module
+  2  lack of memory
+  3  these words aren't understood
+  4  a file can't be read, or the output can't be written";
+
+pub const BOUNDS: &str = "Example:
+  x10p bounds examples/seven.x10
+
+Exit status:
+  0  done
+  1  refused: the image, or its module's structure
+  2  lack of memory
+  3  these words aren't understood
+  4  a file can't be read, or the output can't be written";
+
+pub const RUN: &str = "Example:
+  x10p run examples/seven.x10 --places 4
+
+Exit status:
+  0  done
+  1  refused: the image, its module, or the number of places
+  2  stopped: lack of memory, a limit of the machine, or --limit
+  3  these words aren't understood
+  4  a file can't be read, or the output can't be written";
+
+pub const TRACE: &str = "Example:
+  x10p trace examples/seven.x10 --limit 100
+
+Exit status:
+  0  done
+  1  refused: the image, its module, or the number of places
+  2  stopped: lack of memory, a limit of the machine, or --limit
+  3  these words aren't understood
+  4  a file can't be read, or the output can't be written";

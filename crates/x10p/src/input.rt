@@ -1,0 +1,94 @@
+//! Reading a file, only as far as it can be what a command takes.
+use crate::trouble::Trouble;
+use std::fs::File;
+use std::io::Read;
+use x10_cli::Verb;
+use x10_image::{ImageFault, ImageView};
+
+/// How many bytes are read before they are looked at for the first time.
+const FIRST: u64 = 65_536;
+
+/// The most bytes of a text's lines that aren't `text` lines: room for the greatest module without its texts, which takes
+/// 50 million, and for comments.
+const BESIDE_TEXTS: u64 = 67_108_864;
+
+/// The most bytes of a `text` line: 65,535 bytes, each escaped, the word before them, two quotes and a line's end.
+const TEXT_LINE: u64 = 131_079;
+
+/// What is known of a file of which so much was read.
+enum Look {
+    /// More of it may be of use, up to so many bytes in all.
+    More(u64),
+    /// The answer is found in what was read, whatever follows.
+    Enough,
+    /// It is greater than a text can be.
+    TooLong,
+}
+
+/// The bytes of a file, or so many of its first bytes that the command answers as it would for all of them.
+pub fn read(rt: &HostRuntime, verb: Verb, file: &mut File) -> Result<Vec<u8>, Trouble> {
+    let mut bytes = Vec::new(rt.alloc());
+    let mut goal = FIRST;
+    for _ in 0..40 {
+        if is_at_end(file, goal, &mut bytes)? {
+            return Ok(bytes);
+        }
+        match look_at(rt, verb, &bytes)? {
+            Look::More(most) => goal = goal.saturating_mul(2).min(most),
+            Look::Enough => return Ok(bytes),
+            Look::TooLong => return Err(Trouble::TooLong),
+        }
+    }
+    Err(Trouble::TooLong)
+}
+
+/// Reads on until there are so many bytes, and tells whether the file has ended before that.
+fn is_at_end(file: &mut File, goal: u64, bytes: &mut Vec<u8>) -> Result<bool, Trouble> {
+    let missing = goal.saturating_sub(bytes.len() as u64);
+    match file.take(missing).read_to_end(bytes) {
+        Ok(_) => Ok((bytes.len() as u64) < goal),
+        Err(error) => Err(Trouble::reading(error)),
+    }
+}
+
+fn look_at(rt: &HostRuntime, verb: Verb, bytes: &[u8]) -> Result<Look, Trouble> {
+    match verb {
+        Verb::Asm => Ok(look_at_text(bytes)),
+        _ => look_at_image(rt, bytes),
+    }
+}
+
+/// A text that isn't UTF-8 is refused whatever follows.
+fn look_at_text(bytes: &[u8]) -> Look {
+    if let Err(error) = str::from_utf8(bytes)
+        && error.error_len().is_some()
+    {
+        return Look::Enough;
+    }
+    let most = most_of_text(bytes);
+    if bytes.len() as u64 > most {
+        return Look::TooLong;
+    }
+    Look::More(most.saturating_add(1))
+}
+
+/// The most bytes of a text that begins so, and has no `text` lines but those.
+fn most_of_text(bytes: &[u8]) -> u64 {
+    let mut most = BESIDE_TEXTS;
+    for line in bytes.split(|byte| *byte == b'\n') {
+        if line.trim_ascii_start().starts_with(b"text ") {
+            most = most.saturating_add(TEXT_LINE);
+        }
+    }
+    most
+}
+
+/// An image is read from front to back, so that the first fault stands whatever follows; but for an end that comes too
+/// early, and for what is told only where nothing follows.
+fn look_at_image(rt: &HostRuntime, bytes: &[u8]) -> Result<Look, Trouble> {
+    match ImageView::read(rt.alloc(), bytes) {
+        Err(ImageFault::Memory) => Err(Trouble::Memory),
+        Ok(_) | Err(ImageFault::Short | ImageFault::Entry) => Ok(Look::More(u64::MAX)),
+        Err(_) => Ok(Look::Enough),
+    }
+}

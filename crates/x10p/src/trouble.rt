@@ -1,0 +1,73 @@
+//! What goes wrong with files and streams, before a command is at work or behind it.
+use std::io::{self, ErrorKind, Write};
+use x10_cli::{Fault, Task, tell};
+
+/// Why a file can't be used.
+#[derive(Drop)]
+pub enum Trouble {
+    /// No memory for what is in it.
+    Memory,
+    /// TEXT can't be opened or read.
+    Read(io::Error),
+    /// IMAGE can't be written.
+    Written(io::Error),
+    /// TEXT has more bytes than a text can have.
+    TooLong,
+    /// TEXT and IMAGE are one file.
+    OneFile,
+}
+
+impl Trouble {
+    /// What reading failed for.
+    pub fn reading(error: io::Error) -> Trouble {
+        match error.kind() {
+            ErrorKind::OutOfMemory => Trouble::Memory,
+            _ => Trouble::Read(error),
+        }
+    }
+
+    /// What writing failed for.
+    pub fn writing(error: io::Error) -> Trouble {
+        match error.kind() {
+            ErrorKind::OutOfMemory => Trouble::Memory,
+            _ => Trouble::Written(error),
+        }
+    }
+
+    fn fault(&self) -> Fault {
+        match self {
+            Trouble::Memory => Fault::Memory,
+            _ => Fault::File,
+        }
+    }
+
+    /// Tells it, with its reason where the task asks for explanations, and gives the exit status.
+    pub fn tell(&self, rt: &HostRuntime, task: &Task) -> u8 {
+        let status = tell(self.fault(), &mut rt.stderr());
+        if !task.explain {
+            return status;
+        }
+        match self.explain(rt, task) {
+            Ok(()) => status,
+            Err(_) => 4,
+        }
+    }
+
+    fn explain(&self, rt: &HostRuntime, task: &Task) -> io::Result<()> {
+        let mut err = rt.stderr();
+        let input = task.input;
+        match self {
+            Trouble::Memory => writeln!(err, "There is no memory for the bytes of {input}."),
+            Trouble::Read(error) => writeln!(err, "{input} can't be read: {error}."),
+            Trouble::Written(error) => {
+                let output = task.output.unwrap_or_default();
+                writeln!(err, "{output} can't be written: {error}.")
+            }
+            Trouble::TooLong => writeln!(err, "{input} is longer than a text can be."),
+            Trouble::OneFile => {
+                let output = task.output.unwrap_or_default();
+                writeln!(err, "{output} is the same file as {input}.")
+            }
+        }
+    }
+}

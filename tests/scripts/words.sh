@@ -1,0 +1,40 @@
+# Words of the command line: those that aren't UTF-8, numbers with a minus sign, help and the version.
+source "$(dirname "$0")/common"
+prints 7 >seven.asm
+x10p asm seven.asm seven.x10
+bad=$'\xff\xfe.x10'
+cp seven.x10 "$bad"
+
+# a word that isn't UTF-8 is a usage fault, wherever it stands, and is told as such
+for words in "run $bad" "verify $bad" "asm seven.asm $bad.new" "asm $bad new.x10" "run seven.x10 $bad" "$bad"; do
+    does 3 "" .. x10p $words
+    grep -q "isn't UTF-8" .err || fail "x10p $words: it told $(cat .err)"
+done
+[ ! -e "$bad.new" ] && [ ! -e new.x10 ] || fail "a usage fault has written a file"
+# what is UTF-8 is a name, whatever its letters
+cp seven.x10 'sieben ü 七.x10'
+does 0 "0: 7" "" x10p run 'sieben ü 七.x10'
+
+# a number with a minus sign is out of range, and nothing else is proposed
+for words in "run seven.x10 --places -1" "run seven.x10 --limit -5" "trace seven.x10 --places -9223372036854775809"; do
+    does 3 "" .. x10p $words
+    grep -q "invalid value '-[0-9]*' for '--" .err || fail "x10p $words: it told $(cat .err)"
+    ! grep -q -e "-- -" -e "tip:" .err || fail "x10p $words: it proposes $(cat .err)"
+done
+
+# each help has an example that runs, and the statuses
+doubles=examples/doubles.asm
+mkdir examples
+prints 5 >"$doubles"
+cp seven.x10 examples/
+for command in "" asm list verify bounds run trace; do
+    x10p $command --help >.help 2>.err || fail "x10p $command --help: status $?"
+    grep -q "Exit status:" .help && grep -q "  4  " .help || fail "the help of x10p $command has no statuses"
+    grep "^  x10p " .help >.examples || fail "the help of x10p $command has no example"
+    while read -r _ words; do
+        does 0 "$(x10p $words 2>/dev/null)" "" x10p $words
+    done <.examples
+done
+does 0 "$(x10p --version)" "" x10p -V
+x10p --version | grep -qx 'x10p [0-9]*\.[0-9]*\.[0-9]*' || fail "the version is $(x10p --version)"
+exit $wrong
