@@ -1,0 +1,45 @@
+//! The labels of events.
+use crate::words::width;
+use std::alloc::AllocError;
+
+/// What a label tells.
+#[derive(Clone, Copy, Debug, PartialEq, Eq)]
+pub(crate) enum Tone {
+    /// A step that put nothing out.
+    Quiet,
+    /// A step or a delivery that others may see.
+    Notable,
+    /// A line of output.
+    Printed,
+    /// So many steps that share a row.
+    Shortened(u64),
+}
+
+/// A label in the row of an event, beside the lanes of its place.
+#[derive(Drop)]
+pub(crate) struct Label {
+    pub(crate) place: u16,
+    pub(crate) lane: Option<usize>,
+    pub(crate) row: u64,
+    pub(crate) tone: Tone,
+    pub(crate) text: String,
+    /// All of the output's line, where it was cut.
+    pub(crate) full: Option<String>,
+}
+
+/// The most letters of a line of output that a label shows.
+const MOST: usize = 28;
+
+/// Pushes a text, cut with an ellipsis behind so many letters; whether it was cut.
+pub(crate) fn push_cut(out: &mut String, text: &str) -> Result<bool, AllocError> {
+    let mut letters = 0usize;
+    for c in text.chars() {
+        letters = letters.saturating_add(width(c));
+        if letters > MOST {
+            out.push('\u{2026}')?;
+            return Ok(true);
+        }
+        out.push(c)?;
+    }
+    Ok(false)
+}
