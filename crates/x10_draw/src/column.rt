@@ -4,9 +4,6 @@ use std::alloc::{AllocError, Global};
 /// How many steps in a row that put nothing out have rows of their own.
 const SHOWN: u64 = 8;
 
-/// How many columns of letters the label of a row that steps share may take.
-const SHORTENED: usize = 14;
-
 /// What a stay is doing.
 #[derive(Clone, Copy, Debug, PartialEq, Eq)]
 pub(crate) enum State {
@@ -81,6 +78,11 @@ impl Column {
         }
     }
 
+    /// The number of the place.
+    pub(crate) fn place(&self) -> u16 {
+        self.place
+    }
+
     /// How many lanes there are.
     pub(crate) fn lanes(&self) -> usize {
         self.stays.len()
@@ -99,7 +101,6 @@ impl Column {
     /// The label of the row that steps share is the one with a number.
     pub(crate) fn shorten(&mut self, label: usize) {
         self.shortened = label;
-        self.widen(SHORTENED);
     }
 
     /// The number of that label.
@@ -170,21 +171,13 @@ impl Column {
 
     /// A stay ends at a row: the last piece of its bar. Its key is given up.
     pub(crate) fn end(&mut self, key: usize, row: u64) -> Result<Option<Span>, AllocError> {
-        let Some(lane) = self.stays.get_mut(key) else {
+        let Some(span) = self.rest(key, row) else {
             return Ok(None);
         };
-        let Some(stay) = lane else {
-            return Ok(None);
-        };
-        let span = Span {
-            place: self.place,
-            lane: key,
-            state: stay.state,
-            from: stay.since,
-            to: row,
-        };
-        *lane = None;
         self.given_up.push(key)?;
+        if let Some(lane) = self.stays.get_mut(key) {
+            *lane = None;
+        }
         Ok(Some(span))
     }
 }
@@ -199,22 +192,15 @@ impl Column {
 
     /// From a row on, a stay is in a state: the piece of its bar that ends there, if it was in another one.
     pub(crate) fn change(&mut self, key: usize, state: State, row: u64) -> Option<Span> {
-        let Some(Some(stay)) = self.stays.get_mut(key) else {
-            return None;
-        };
-        if stay.state == state {
+        let span = self.rest(key, row)?;
+        if span.state == state {
             return None;
         }
-        let span = Span {
-            place: self.place,
-            lane: key,
-            state: stay.state,
-            from: stay.since,
-            to: row,
-        };
-        stay.state = state;
-        stay.since = row;
-        stay.last = row;
+        if let Some(Some(stay)) = self.stays.get_mut(key) {
+            stay.state = state;
+            stay.since = row;
+            stay.last = row;
+        }
         Some(span)
     }
 
@@ -230,7 +216,7 @@ impl Column {
         self.change(key, State::Waiting, last)
     }
 
-    /// A piece of the bar of each stay that lives, up to a row.
+    /// The piece of a stay's bar that isn't ended, up to a row.
     pub(crate) fn rest(&self, key: usize, row: u64) -> Option<Span> {
         let Some(Some(stay)) = self.stays.get(key) else {
             return None;

@@ -40,15 +40,13 @@ pub(crate) struct Grid {
 /// The band of a column that begins at a place on the page.
 fn band_of(column: &Column, left: u64) -> Band {
     let lanes = (column.lanes() as u64).max(1);
-    let letters = (column.widest() as u64).max(8);
+    let letters = letters_wide(column.widest().max(8));
     let lifeline = left.saturating_add(EDGE);
     let first = lifeline.saturating_add(EDGE).saturating_add(MARGIN / 2);
     let labels = first
         .saturating_add(LANE.saturating_mul(lanes.saturating_sub(1)))
         .saturating_add(MARGIN);
-    let right = labels
-        .saturating_add(LETTER.saturating_mul(letters))
-        .saturating_add(MARGIN);
+    let right = labels.saturating_add(letters).saturating_add(MARGIN);
     Band {
         lifeline,
         lanes: first,
@@ -104,6 +102,11 @@ impl Grid {
             None => self.band(spot.place).lifeline,
         }
     }
+}
+
+/// How wide so many columns of letters are.
+pub(crate) fn letters_wide(letters: usize) -> u64 {
+    LETTER.saturating_mul(letters as u64)
 }
 
 /// The middle of a row.

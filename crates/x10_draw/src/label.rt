@@ -1,5 +1,5 @@
 //! The labels of events.
-use crate::words::width;
+use crate::words::{width, width_of};
 use std::alloc::AllocError;
 
 /// What a label tells.
@@ -25,6 +25,19 @@ pub(crate) struct Label {
     pub(crate) text: String,
     /// All of the output's line, where it was cut.
     pub(crate) full: Option<String>,
+}
+
+/// How many columns of letters the label of a row that steps share may take.
+const SHORTENED: usize = 14;
+
+impl Label {
+    /// How many columns of letters it takes.
+    pub(crate) fn letters(&self) -> usize {
+        match self.tone {
+            Tone::Shortened(_) => SHORTENED,
+            _ => width_of(&self.text),
+        }
+    }
 }
 
 /// The most letters of a line of output that a label shows.

@@ -6,15 +6,16 @@ ghost use Rattle.x10_draw.specs.Pages.{IsPage};
 use crate::counts::Counts;
 use crate::geometry::{Grid, row_y};
 use crate::shapes::{
-    push_arrow, push_bracket, push_end, push_fork, push_label, push_leader, push_lifeline,
-    push_mark, push_span,
+    push_arrow, push_bracket, push_end, push_fork, push_ground, push_label, push_leader,
+    push_lifeline, push_mark, push_span,
 };
 use crate::sketch::Sketch;
 use std::alloc::{AllocError, Global};
 use std::fmt::Write;
 
 /// What each shape means.
-const LEGEND: &str = "<g stroke=\"#4a76b8\"><path d=\"M16 36V50\" stroke-width=\"6\"/><path d=\"M100 36V50\" stroke-width=\"6\" stroke-dasharray=\"1 3\"/><path d=\"M220 36V50\" stroke-dasharray=\"4 3\"/><path d=\"M380 36V50\" stroke-width=\"2\"/></g>
+const LEGEND: &str =
+    "<g stroke=\"#4a76b8\"><path d=\"M16 36V50\" stroke-width=\"6\"/><path d=\"M100 36V50\" stroke-width=\"6\" stroke-dasharray=\"1 3\"/><path d=\"M220 36V50\" stroke-dasharray=\"4 3\"/><path d=\"M380 36V50\" stroke-width=\"2\"/></g>
 <text x=\"26\" y=\"46\">at work</text><text x=\"110\" y=\"46\">waits at FINE</text><text x=\"230\" y=\"46\">away, at another place</text><text x=\"390\" y=\"46\">goes on in another lane, by AT to here</text>
 <path d=\"M12 66H36\" stroke=\"#1a7f37\" marker-end=\"url(#spawn)\"/><path d=\"M96 66H120\" stroke=\"#b35900\" marker-end=\"url(#shift)\"/><path d=\"M180 66H204\" stroke=\"#7a3db8\" stroke-dasharray=\"7 3\" marker-end=\"url(#back)\"/><path d=\"M258 66H282\" stroke=\"#888888\" stroke-dasharray=\"2 3\" marker-end=\"url(#report)\"/><path d=\"M352 58H346V72H352\" fill=\"none\" stroke=\"#c08000\" stroke-width=\"1.5\"/><path d=\"M470 60l5 5l-5 5l-5 -5z\" fill=\"#b00040\"/><path d=\"M541 65H551\" stroke=\"#111111\" stroke-width=\"2\"/>
 <text x=\"44\" y=\"69\">Spawn</text><text x=\"128\" y=\"69\">Shift</text><text x=\"212\" y=\"69\">Back</text><text x=\"290\" y=\"69\">Report</text><text x=\"358\" y=\"69\">FINB to its FINE</text><text x=\"480\" y=\"69\">PRINT</text><text x=\"558\" y=\"69\">an activity's stay ends</text>
@@ -32,7 +33,8 @@ const MARKERS: &str = "<defs>
 ";
 
 /// How the document begins.
-const HEAD: &str = "<?xml version=\"1.0\" encoding=\"UTF-8\"?>\n<svg xmlns=\"http://www.w3.org/2000/svg\" version=\"1.1\" ";
+const HEAD: &str =
+    "<?xml version=\"1.0\" encoding=\"UTF-8\"?>\n<svg xmlns=\"http://www.w3.org/2000/svg\" version=\"1.1\" ";
 
 /// How it ends.
 const TAIL: &str = "</svg>\n";
@@ -87,8 +89,8 @@ fn push_front(
 
 /// Lifelines, and the bars of all stays with their brackets.
 fn push_columns(out: &mut String, grid: &Grid, sketch: &Sketch) -> Result<(), AllocError> {
-    for place in 0..sketch.columns.len() {
-        push_lifeline(out, grid, place as u16)?;
+    for column in &sketch.columns {
+        push_lifeline(out, grid, column.place())?;
     }
     push_leaders(out, grid, sketch)?;
     for span in &sketch.spans {
@@ -126,6 +128,15 @@ fn push_leaders(out: &mut String, grid: &Grid, sketch: &Sketch) -> Result<(), Al
     writeln!(out, "\"/>")
 }
 
+/// The grounds of labels, in one path: what passes behind a label is seen faintly.
+fn push_grounds(out: &mut String, grid: &Grid, sketch: &Sketch) -> Result<(), AllocError> {
+    write!(out, "<path fill=\"#ffffff\" fill-opacity=\"0.8\" d=\"M0 0")?;
+    for label in &sketch.labels {
+        push_ground(out, grid, label)?;
+    }
+    writeln!(out, "\"/>")
+}
+
 /// What began beside something, and frames.
 fn push_messages(out: &mut String, grid: &Grid, sketch: &Sketch) -> Result<(), AllocError> {
     for fork in &sketch.forks {
@@ -142,6 +153,7 @@ fn push_labels(out: &mut String, grid: &Grid, sketch: &Sketch) -> Result<(), All
     for label in &sketch.labels {
         push_mark(out, grid, label)?;
     }
+    push_grounds(out, grid, sketch)?;
     for label in &sketch.labels {
         push_label(out, grid, label)?;
     }

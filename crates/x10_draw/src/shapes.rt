@@ -2,7 +2,7 @@
 use crate::column::{Span, State};
 use crate::escape::push_escaped;
 use crate::frame_kind::FrameKind;
-use crate::geometry::{Grid, row_y};
+use crate::geometry::{Grid, letters_wide, row_y};
 use crate::label::{Label, Tone};
 use crate::sketch::{Arrow, Bracket, End, Fork, Spot};
 use std::alloc::AllocError;
@@ -24,7 +24,8 @@ fn arrow_style(kind: FrameKind) -> &'static str {
         FrameKind::Spawn => "stroke=\"#1a7f37\" marker-end=\"url(#spawn)\"",
         FrameKind::Shift => "stroke=\"#b35900\" marker-end=\"url(#shift)\"",
         FrameKind::Back => "stroke=\"#7a3db8\" stroke-dasharray=\"7 3\" marker-end=\"url(#back)\"",
-        FrameKind::Report => "stroke=\"#888888\" stroke-dasharray=\"2 3\" marker-end=\"url(#report)\"",
+        FrameKind::Report =>
+            "stroke=\"#888888\" stroke-dasharray=\"2 3\" marker-end=\"url(#report)\"",
     }
 }
 
@@ -76,7 +77,11 @@ pub(crate) fn push_bracket(
 ) -> Result<(), AllocError> {
     let bar = grid.lane(bracket.place, bracket.lane);
     let hook = bar.saturating_sub(4);
-    let x = hook.saturating_sub((bracket.depth.min(2) as u64).saturating_add(1).saturating_mul(2));
+    let x = hook.saturating_sub(
+        (bracket.depth.min(2) as u64)
+            .saturating_add(1)
+            .saturating_mul(2),
+    );
     let (place, number) = (bracket.place, bracket.number);
     let from = row_y(bracket.from);
     write!(out, "<path d=\"M{hook} {from}H{x}")?;
@@ -98,7 +103,10 @@ pub(crate) fn push_bracket(
 
 /// A stay that begins beside the one that started it.
 pub(crate) fn push_fork(out: &mut String, grid: &Grid, fork: Fork) -> Result<(), AllocError> {
-    let (from, to) = (grid.lane(fork.place, fork.from), grid.lane(fork.place, fork.to));
+    let (from, to) = (
+        grid.lane(fork.place, fork.from),
+        grid.lane(fork.place, fork.to),
+    );
     let y = row_y(fork.row);
     let to = short_of(to, from);
     writeln!(
@@ -190,6 +198,16 @@ pub(crate) fn push_mark(out: &mut String, grid: &Grid, label: &Label) -> Result<
             )
         }
     }
+}
+
+/// The ground of a label: a rectangle of its size.
+pub(crate) fn push_ground(out: &mut String, grid: &Grid, label: &Label) -> Result<(), AllocError> {
+    let (x, y) = (
+        grid.band(label.place).labels,
+        row_y(label.row).saturating_sub(5),
+    );
+    let width = letters_wide(label.letters());
+    write!(out, "M{x} {y}h{width}v10h-{width}z")
 }
 
 /// The label of an event.

@@ -2,7 +2,6 @@
 use crate::column::{Column, Row, Span, State};
 use crate::frame_kind::{FrameKind, facts_of, head_of};
 use crate::label::{Label, Tone, push_cut};
-use crate::words::width_of;
 use std::alloc::{AllocError, Global};
 use std::fmt::Write;
 use x10_code::{Op, name};
@@ -88,8 +87,10 @@ impl Sketch {
         for place in 0..places {
             columns.push(Column::new(alloc, place))?;
         }
+        let mut labels = Vec::new(alloc);
         if let Some(home) = columns.first_mut() {
             home.begin(0, 0)?;
+            labels.push(main_label(String::from_str(alloc, "main")?))?;
         }
         Ok(Sketch {
             alloc,
@@ -99,12 +100,17 @@ impl Sketch {
             brackets: Vec::new(alloc),
             forks: Vec::new(alloc),
             ends: Vec::new(alloc),
-            labels: Vec::new(alloc),
+            labels,
         })
     }
 
     /// An event, in the world after it.
-    pub(crate) fn note(&mut self, world: &World, event: Event, done: &Done) -> Result<(), AllocError> {
+    pub(crate) fn note(
+        &mut self,
+        world: &World,
+        event: Event,
+        done: &Done,
+    ) -> Result<(), AllocError> {
         match (event, *done) {
             (
                 Event::Step(place, key),
@@ -201,7 +207,7 @@ impl Sketch {
     /// A label at a row.
     fn label(&mut self, label: Label) -> Result<(), AllocError> {
         if let Some(column) = self.columns.get_mut(usize::from(label.place)) {
-            column.widen(width_of(&label.text));
+            column.widen(label.letters());
         }
         self.labels.push(label)?;
         Ok(())
@@ -210,7 +216,13 @@ impl Sketch {
 
 impl Sketch {
     /// A step that moved, and put so many frames out, numbered from one on.
-    fn moved(&mut self, world: &World, step: Move, first: u64, count: u64) -> Result<(), AllocError> {
+    fn moved(
+        &mut self,
+        world: &World,
+        step: Move,
+        first: u64,
+        count: u64,
+    ) -> Result<(), AllocError> {
         self.know(world, step.place, step.key)?;
         let lives = world.has_key(step.place, step.key);
         if lives && count == 0 && is_quiet(step.op) {
@@ -398,21 +410,24 @@ impl Sketch {
 }
 
 impl Sketch {
-    /// Where the arrow of a frame is, by its number: frames are numbered in the order in which they are put out. Constant
-    /// time.
-    fn arrow_at(&self, number: u64) -> Option<usize> {
+    /// The arrow of a frame and where it is, by its number: frames are numbered in the order in which they are put out.
+    /// Constant time.
+    fn arrow_at(&self, number: u64) -> Option<(usize, Arrow)> {
         let first = self.arrows.first()?;
         let at = usize::try_from(number.checked_sub(first.number)?).ok()?;
-        let arrow = self.arrows.get(at)?;
-        if arrow.number == number { Some(at) } else { None }
+        let arrow = *self.arrows.get(at)?;
+        if arrow.number == number {
+            Some((at, arrow))
+        } else {
+            None
+        }
     }
 
     /// A place took a frame in.
     fn taken(&mut self, world: &World, number: u64, to: u16) -> Result<(), AllocError> {
-        let Some(at) = self.arrow_at(number) else {
+        let Some((at, arrow)) = self.arrow_at(number) else {
             return self.stranger(number, to);
         };
-        let arrow = self.arrows[at];
         let Some(column) = self.columns.get_mut(usize::from(to)) else {
             return Ok(());
         };
@@ -511,6 +526,16 @@ fn print(
         }
     }
     Ok(None)
+}
+
+/// Main stands at place 0.
+fn main_label(text: String) -> Label {
+    let spot = Spot {
+        place: 0,
+        lane: Some(0),
+        row: 0,
+    };
+    delivery_label(spot, text)
 }
 
 fn quiet_label(step: Move, row: u64, tone: Tone, text: String) -> Label {
