@@ -1,9 +1,6 @@
 //! The column of a place: its events so far, and the stays that live there.
 use std::alloc::{AllocError, Global};
 
-/// How many steps in a row that put nothing out have rows of their own.
-const SHOWN: u64 = 8;
-
 /// What a stay is doing.
 #[derive(Clone, Copy, Debug, PartialEq, Eq)]
 pub(crate) enum State {
@@ -54,6 +51,8 @@ pub(crate) struct Column {
     alloc: Global,
     place: u16,
     row: u64,
+    /// How many steps in a row that put nothing out have rows of their own.
+    shown: u64,
     quiet: u64,
     stays: Vec<Option<Stay>>,
     given_up: Vec<usize>,
@@ -63,12 +62,14 @@ pub(crate) struct Column {
 }
 
 impl Column {
-    /// The column of a place before the run. The root finish is number 0 of place 0.
-    pub(crate) fn new(alloc: Global, place: u16) -> Column {
+    /// The column of a place before the run, where so many steps in a row that put nothing out have rows of their own. The
+    /// root finish is number 0 of place 0.
+    pub(crate) fn new(alloc: Global, place: u16, shown: u64) -> Column {
         Column {
             alloc,
             place,
             row: 0,
+            shown,
             quiet: 0,
             stays: Vec::new(alloc),
             given_up: Vec::new(alloc),
@@ -124,11 +125,11 @@ impl Column {
     pub(crate) fn quiet_row(&mut self) -> Row {
         let before = self.quiet;
         self.quiet = before.saturating_add(1);
-        if before > SHOWN {
+        if before > self.shown {
             return Row::Shared(self.row);
         }
         self.row = self.row.saturating_add(1);
-        if before == SHOWN {
+        if before == self.shown {
             return Row::Opened(self.row);
         }
         Row::Own(self.row)

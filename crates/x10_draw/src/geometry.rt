@@ -16,7 +16,7 @@ const EDGE: u64 = 14;
 /// From the last lane to the labels, and behind them.
 const MARGIN: u64 = 12;
 /// The least width of the page: the head has room.
-const LEAST: u64 = 760;
+const LEAST: u64 = 700;
 
 /// Where the parts of a place's column stand.
 #[derive(Clone, Copy, Debug, PartialEq, Eq)]

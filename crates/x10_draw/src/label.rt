@@ -11,7 +11,7 @@ pub(crate) enum Tone {
     Notable,
     /// A line of output.
     Printed,
-    /// So many steps that share a row.
+    /// So many steps that share a row; one alone is told as any other.
     Shortened(u64),
 }
 
@@ -34,25 +34,29 @@ impl Label {
     /// How many columns of letters it takes.
     pub(crate) fn letters(&self) -> usize {
         match self.tone {
-            Tone::Shortened(_) => SHORTENED,
+            Tone::Shortened(_) => SHORTENED.max(width_of(&self.text)),
             _ => width_of(&self.text),
         }
     }
 }
 
-/// The most letters of a line of output that a label shows.
-const MOST: usize = 28;
-
-/// Pushes a text, cut with an ellipsis behind so many letters; whether it was cut.
-pub(crate) fn push_cut(out: &mut String, text: &str) -> Result<bool, AllocError> {
+/// Pushes a text as one line, cut with an ellipsis behind so many letters; whether it differs from the text. What breaks a
+/// line or is a tab is a space there, since SVG 1.1 (section 10.15) would take it away.
+pub(crate) fn push_cut(out: &mut String, text: &str, most: usize) -> Result<bool, AllocError> {
     let mut letters = 0usize;
+    let mut differs = false;
     for c in text.chars() {
         letters = letters.saturating_add(width(c));
-        if letters > MOST {
+        if letters > most {
             out.push('\u{2026}')?;
             return Ok(true);
         }
-        out.push(c)?;
+        if matches!(c, '\t' | '\n' | '\r') {
+            differs = true;
+            out.push(' ')?;
+        } else {
+            out.push(c)?;
+        }
     }
-    Ok(false)
+    Ok(differs)
 }

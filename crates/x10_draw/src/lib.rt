@@ -8,6 +8,7 @@ mod escape;
 mod frame_kind;
 mod geometry;
 mod label;
+mod legend;
 mod page;
 mod shapes;
 mod sketch;

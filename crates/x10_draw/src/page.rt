@@ -5,6 +5,7 @@ ghost use Rattle.x10_draw.specs.Pages.{IsPage};
 
 use crate::counts::Counts;
 use crate::geometry::{Grid, row_y};
+use crate::legend::{LEGEND, MARKERS};
 use crate::shapes::{
     push_arrow, push_bracket, push_end, push_fork, push_ground, push_label, push_leader,
     push_lifeline, push_mark, push_span,
@@ -12,25 +13,6 @@ use crate::shapes::{
 use crate::sketch::Sketch;
 use std::alloc::{AllocError, Global};
 use std::fmt::Write;
-
-/// What each shape means.
-const LEGEND: &str =
-    "<g stroke=\"#4a76b8\"><path d=\"M16 36V50\" stroke-width=\"6\"/><path d=\"M100 36V50\" stroke-width=\"6\" stroke-dasharray=\"1 3\"/><path d=\"M220 36V50\" stroke-dasharray=\"4 3\"/><path d=\"M380 36V50\" stroke-width=\"2\"/></g>
-<text x=\"26\" y=\"46\">at work</text><text x=\"110\" y=\"46\">waits at FINE</text><text x=\"230\" y=\"46\">away, at another place</text><text x=\"390\" y=\"46\">goes on in another lane, by AT to here</text>
-<path d=\"M12 66H36\" stroke=\"#1a7f37\" marker-end=\"url(#spawn)\"/><path d=\"M96 66H120\" stroke=\"#b35900\" marker-end=\"url(#shift)\"/><path d=\"M180 66H204\" stroke=\"#7a3db8\" stroke-dasharray=\"7 3\" marker-end=\"url(#back)\"/><path d=\"M258 66H282\" stroke=\"#888888\" stroke-dasharray=\"2 3\" marker-end=\"url(#report)\"/><path d=\"M352 58H346V72H352\" fill=\"none\" stroke=\"#c08000\" stroke-width=\"1.5\"/><path d=\"M470 60l5 5l-5 5l-5 -5z\" fill=\"#b00040\"/><path d=\"M541 65H551\" stroke=\"#111111\" stroke-width=\"2\"/>
-<text x=\"44\" y=\"69\">Spawn</text><text x=\"128\" y=\"69\">Shift</text><text x=\"212\" y=\"69\">Back</text><text x=\"290\" y=\"69\">Report</text><text x=\"358\" y=\"69\">FINB to its FINE</text><text x=\"480\" y=\"69\">PRINT</text><text x=\"558\" y=\"69\">an activity's stay ends</text>
-<text x=\"12\" y=\"88\">Time goes down: by the order of events at a place, and from where a frame is put out to where it is taken in.</text>
-<text x=\"12\" y=\"102\">Each event is told as function:instruction and operation. \u{22EE} n more: n steps in a row of one place that put nothing out.</text>
-";
-
-/// The heads of arrows.
-const MARKERS: &str = "<defs>
-<marker id=\"spawn\" viewBox=\"0 0 8 8\" refX=\"7\" refY=\"4\" markerWidth=\"7\" markerHeight=\"7\" orient=\"auto\"><path d=\"M0 1L8 4L0 7z\" fill=\"#1a7f37\"/></marker>
-<marker id=\"shift\" viewBox=\"0 0 8 8\" refX=\"7\" refY=\"4\" markerWidth=\"7\" markerHeight=\"7\" orient=\"auto\"><path d=\"M0 1L8 4L0 7z\" fill=\"#b35900\"/></marker>
-<marker id=\"back\" viewBox=\"0 0 8 8\" refX=\"7\" refY=\"4\" markerWidth=\"7\" markerHeight=\"7\" orient=\"auto\"><path d=\"M0 1L8 4L0 7z\" fill=\"#7a3db8\"/></marker>
-<marker id=\"report\" viewBox=\"0 0 8 8\" refX=\"7\" refY=\"4\" markerWidth=\"7\" markerHeight=\"7\" orient=\"auto\"><path d=\"M0 1L8 4L0 7z\" fill=\"#888888\"/></marker>
-</defs>
-";
 
 /// How the document begins.
 const HEAD: &str =
@@ -74,7 +56,7 @@ fn push_front(
         out,
         "width=\"{width}\" height=\"{height}\" viewBox=\"0 0 {width} {height}\" font-family=\"monospace\" font-size=\"10\">"
     )?;
-    writeln!(out, "<title>A run over {places} places</title>")?;
+    writeln!(out, "<title>The events of a run. Places: {places}</title>")?;
     out.push_str(MARKERS)?;
     writeln!(
         out,
@@ -82,7 +64,7 @@ fn push_front(
     )?;
     writeln!(
         out,
-        "<text x=\"12\" y=\"22\" font-size=\"13\" font-weight=\"bold\">{places} places: {steps} steps, {taken} frames taken in, {idle} idle events</text>"
+        "<text x=\"12\" y=\"22\" font-size=\"13\" font-weight=\"bold\">Places: {places}. Steps: {steps}, frames taken in: {taken}, idle events: {idle}.</text>"
     )?;
     out.push_str(LEGEND)
 }

@@ -32,7 +32,7 @@ fn arrow_style(kind: FrameKind) -> &'static str {
 /// The colour of a label.
 fn label_style(tone: Tone) -> &'static str {
     match tone {
-        Tone::Quiet => "fill=\"#777777\"",
+        Tone::Quiet | Tone::Shortened(1) => "fill=\"#777777\"",
         Tone::Notable => "fill=\"#111111\"",
         Tone::Printed => "fill=\"#b00040\"",
         Tone::Shortened(_) => "fill=\"#777777\" font-style=\"italic\"",
@@ -177,7 +177,10 @@ pub(crate) fn push_mark(out: &mut String, grid: &Grid, label: &Label) -> Result<
     };
     let (x, y) = (grid.lane(label.place, lane), row_y(label.row));
     match label.tone {
-        Tone::Quiet => Ok(()),
+        Tone::Quiet | Tone::Shortened(1) => {
+            let left = x.saturating_sub(3);
+            writeln!(out, "<path d=\"M{left} {y}h6\" stroke=\"#ffffff\"/>")
+        }
         Tone::Notable => writeln!(
             out,
             "<circle cx=\"{x}\" cy=\"{y}\" r=\"2\" fill=\"#ffffff\" stroke=\"#111111\"/>"
@@ -221,9 +224,11 @@ pub(crate) fn push_label(out: &mut String, grid: &Grid, label: &Label) -> Result
         push_escaped(out, full)?;
         out.push_str("</title>")?;
     }
-    push_escaped(out, &label.text)?;
-    if let Tone::Shortened(steps) = label.tone {
-        write!(out, "\u{22EE} {steps} more")?;
+    match label.tone {
+        Tone::Quiet | Tone::Notable | Tone::Printed | Tone::Shortened(1) => {
+            push_escaped(out, &label.text)?;
+        }
+        Tone::Shortened(steps) => write!(out, "\u{22EE} {steps} more")?,
     }
     writeln!(out, "</text>")
 }

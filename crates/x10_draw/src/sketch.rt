@@ -67,10 +67,37 @@ struct Move {
     op: Op,
 }
 
+/// How much is told of each event.
+#[derive(Clone, Copy, Debug, PartialEq, Eq)]
+struct Detail {
+    /// How many steps in a row that put nothing out have rows of their own.
+    shown: u64,
+    /// The most letters of a line of output that a label has.
+    letters: usize,
+}
+
+impl Detail {
+    /// Less where there are many places, so that the picture stays narrow and short.
+    fn of(places: u16) -> Detail {
+        if places <= 4 {
+            Detail {
+                shown: 8,
+                letters: 28,
+            }
+        } else {
+            Detail {
+                shown: 3,
+                letters: 16,
+            }
+        }
+    }
+}
+
 /// All that is to be drawn.
 #[derive(Drop)]
 pub(crate) struct Sketch {
     alloc: Global,
+    detail: Detail,
     pub(crate) columns: Vec<Column>,
     pub(crate) spans: Vec<Span>,
     pub(crate) arrows: Vec<Arrow>,
@@ -83,9 +110,10 @@ pub(crate) struct Sketch {
 impl Sketch {
     /// So many places before a run: main is at place 0.
     pub(crate) fn new(alloc: Global, places: u16) -> Result<Sketch, AllocError> {
+        let detail = Detail::of(places);
         let mut columns = Vec::new(alloc);
         for place in 0..places {
-            columns.push(Column::new(alloc, place))?;
+            columns.push(Column::new(alloc, place, detail.shown))?;
         }
         let mut labels = Vec::new(alloc);
         if let Some(home) = columns.first_mut() {
@@ -94,6 +122,7 @@ impl Sketch {
         }
         Ok(Sketch {
             alloc,
+            detail,
             columns,
             spans: Vec::new(alloc),
             arrows: Vec::new(alloc),
@@ -272,7 +301,7 @@ impl Sketch {
             }
             Row::Opened(at) => {
                 column.shorten(self.labels.len());
-                let text = String::new(self.alloc);
+                let text = text_of(self.alloc, step)?;
                 self.label(quiet_label(step, at, Tone::Shortened(1), text))
             }
             Row::Shared(_) => {
@@ -306,7 +335,10 @@ impl Sketch {
         text: &mut String,
     ) -> Result<Option<String>, AllocError> {
         match step.op {
-            Op::Print => return print(self.alloc, world.output(step.place), text),
+            Op::Print => {
+                let lines = world.output(step.place);
+                return print(self.alloc, lines, self.detail.letters, text);
+            }
             Op::Async => self.fork(world, step, row)?,
             Op::Finb => self.open(step, row, text)?,
             Op::Fine => self.close(step, row, text)?,
@@ -504,10 +536,11 @@ fn taken_text(alloc: Global, arrow: Arrow) -> Result<String, AllocError> {
     }
 }
 
-/// Pushes the last of a place's lines, cut; all of it, where it was cut.
+/// Pushes the last of a place's lines, cut behind so many letters; all of it, where it was cut.
 fn print(
     alloc: Global,
     lines: Option<&[Line]>,
+    letters: usize,
     text: &mut String,
 ) -> Result<Option<String>, AllocError> {
     let Some(lines) = lines else {
@@ -520,7 +553,7 @@ fn print(
     match line {
         Line::Int(number) => write!(text, "{number}")?,
         Line::Text(line) => {
-            if push_cut(text, line)? {
+            if push_cut(text, line, letters)? {
                 return Ok(Some(String::from_str(alloc, line)?));
             }
         }
