@@ -69,7 +69,7 @@ pub(crate) fn push_span(out: &mut String, grid: &Grid, span: Span) -> Result<(),
     )
 }
 
-/// A finish: a bracket beside the bar, open below where the finish is.
+/// A finish: a bracket beside the bar, the outer ones farther away, and open below where the finish is.
 pub(crate) fn push_bracket(
     out: &mut String,
     grid: &Grid,
@@ -77,11 +77,7 @@ pub(crate) fn push_bracket(
 ) -> Result<(), AllocError> {
     let bar = grid.lane(bracket.place, bracket.lane);
     let hook = bar.saturating_sub(4);
-    let x = hook.saturating_sub(
-        (bracket.depth.min(2) as u64)
-            .saturating_add(1)
-            .saturating_mul(2),
-    );
+    let x = hook.saturating_sub(3 * (3 - bracket.depth.min(2) as u64));
     let (place, number) = (bracket.place, bracket.number);
     let from = row_y(bracket.from);
     write!(out, "<path d=\"M{hook} {from}H{x}")?;
