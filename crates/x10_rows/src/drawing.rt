@@ -149,7 +149,7 @@ fn three_places_drawn(rt: HostRuntime) -> Result<(), Fail> {
     let image = assemble(rt.alloc(), AWAY)?;
     let verified = verify(rt.alloc(), ImageView::read(rt.alloc(), &image)?)?;
     let mut world = World::open(rt.alloc(), &verified, 3)?;
-    let begun = noted(rt.alloc(), &mut world, 9)?;
+    let begun = noted(rt.alloc(), &mut world, 3)?;
     assert!(rt;
         has(
             &begun.svg()?,
