@@ -9,4 +9,13 @@ replacement = 239 ∷ 191 ∷ 189 ∷ []
 -- the entity or the number that stands for a character; the replacement character for one that XML doesn't permit; else
 -- the character in UTF-8
 abbrev pub escape : ℕ → List ℕ
-escape c = if c == 38 then codes "&amp;" else (if c == 60 then codes "&lt;" else (if c == 62 then codes "&gt;" else (if c == 34 then codes "&quot;" else (if c == 39 then codes "&apos;" else (if c == 9 then codes "&#9;" else (if c == 10 then codes "&#10;" else (if c == 13 then codes "&#13;" else (if nat_lt c 32 || (c == 65534 || c == 65535) then replacement else encode_utf8 c))))))))
+escape c =
+    if c == 38 then codes "&amp;" else (
+    if c == 60 then codes "&lt;" else (
+    if c == 62 then codes "&gt;" else (
+    if c == 34 then codes "&quot;" else (
+    if c == 39 then codes "&apos;" else (
+    if c == 9 then codes "&#9;" else (
+    if c == 10 then codes "&#10;" else (
+    if c == 13 then codes "&#13;" else (
+    if nat_lt c 32 || (c == 65534 || c == 65535) then replacement else encode_utf8 c))))))))
