@@ -1,5 +1,5 @@
 //! Texts in XML.
-ghost use Rattle.std.specs.Prelude.{◌≡◌, ◌++◌, OnOk, MatchOption};
+ghost use Rattle.std.specs.Prelude.{◌≡◌, ◌++◌, IsTrue, OnOk, MatchOption};
 ghost use Rattle.std.specs.Char.{encode_utf8};
 ghost use Rattle.std.specs.List.{flat_map};
 ghost use Rattle.std.specs.Str.{chars};
@@ -40,8 +40,10 @@ fn push_char(out: &mut String, c: char) -> Result<(), AllocError>
 /// `<`, `>` and the quotes by the five predefined entities (sections 2.4 and 4.6), a tab, a line feed and a carriage return
 /// by their numbers, so that no reader makes spaces of them (2.11, 3.3.3), and each character that section 2.2 doesn't
 /// permit, which no reference may name either, as U+FFFD, the replacement character. Linear in the text.
+#[tactic(auto, using(crate::proofs::Contents::all_chars))]
 pub fn push_escaped(out: &mut String, text: &str) -> Result<(), AllocError>
-    ensures { OnOk result (string_bytes out.new ≡ string_bytes out.old ++ flat_map spec.escape (chars text.now)) }
+    ensures value { OnOk result (string_bytes out.new ≡ string_bytes out.old ++ flat_map spec.escape (chars text.now)) }
+    ensures content { IsTrue (spec.are_content (flat_map spec.escape (chars text.now))) }
 {
     for c in text.chars() {
         push_char(out, c)?;
