@@ -1,0 +1,19 @@
+//! The picture of a run: a space-time diagram of its events, as SVG.
+#![tactic(auto)]
+
+mod column;
+mod counts;
+mod drawing;
+mod escape;
+mod frame_kind;
+mod geometry;
+mod label;
+mod legend;
+mod page;
+mod shapes;
+mod sketch;
+mod words;
+
+pub use counts::Counts;
+pub use drawing::Drawing;
+pub use escape::push_escaped;
