@@ -34,6 +34,10 @@ pub record Solves (program : Module) (function : Function) (at : ℕ) (table : L
   pub least : (q : ℕ) (s : State) → stated table q ≡ Some s → LeastAt program function q s
   pub behind : (q : ℕ) → q < at → waits table q ≡ false
 
+-- none waits any more
+abbrev pub IsSolved : Module → Function → List Entry → Type 0
+IsSolved program function table = (at : ℕ) × (length function.code ≤ at) × Solves program function at table
+
 -- the instruction leads to none; where the structure holds and all that is named is there, none does
 abbrev pub LeadsOut : Function → ℕ → Instr → FlowCause → Type 0
 LeadsOut function pc instr why = (why ≡ Unset)
