@@ -11,7 +11,7 @@ use Rattle.x10_verify.specs.declared.fault.FlowCause.{FlowCause}
 use Rattle.x10_verify.specs.declared.fault.VerifyFault.{VerifyFault}
 use Rattle.x10_verify.specs.declared.states.Entry.{Entry}
 use Rattle.x10_verify.specs.Least.{IsLeast}
-use Rattle.x10_verify.specs.Solving.{Stops}
+use Rattle.x10_verify.specs.Solving.{Shows, Stops}
 use Rattle.x10_verify.specs.States.{stated}
 use Rattle.x10_verify.specs.Verdict.{AreInRangeTo, IsOutAt}
 
@@ -34,22 +34,24 @@ abbrev pub same_of : Option State → Term → Term → Bool
 same_of None t u = false
 same_of (Some s) t u = s.homes t u
 
--- all that the function names is there, it has no consistent assignment, and the flow stops at the instruction
-pub record IsStopped (m : Module) (function : Function) (pc : ℕ) (why : FlowCause) : Type 0 where
+-- all that the function names is there, it has no consistent assignment, and the flow stops at the instruction; each state
+-- is one that every assignment would have at least, and the cause holds in that of the instruction
+pub record IsStopped (m : Module) (function : Function) (pc : ℕ) (table : List Entry) (why : FlowCause) : Type 0 where
   pub range : AreInRangeTo m function (length function.code)
   pub without : HasAssignment m function → ⊥
   pub stops : Stops m function pc why
+  pub shows : Shows m function pc why table
 
 -- what a function's own fault says; of the module's structure it says nothing
-abbrev pub FlawsBy : VerifyCause → Module → Function → ℕ → Type 0
-FlawsBy cause.Index m function pc = IsOutAt m function pc
-FlawsBy cause.Unset m function pc = IsStopped m function pc flow.Unset
-FlawsBy cause.Kind m function pc = IsStopped m function pc flow.Kind
-FlawsBy cause.Home m function pc = IsStopped m function pc flow.Home
-FlawsBy cause.Result m function pc = IsStopped m function pc flow.Result
-FlawsBy _ m function pc = ⊥
+abbrev pub FlawsBy : VerifyCause → Module → Function → ℕ → List Entry → Type 0
+FlawsBy cause.Index m function pc table = IsOutAt m function pc
+FlawsBy cause.Unset m function pc table = IsStopped m function pc table flow.Unset
+FlawsBy cause.Kind m function pc table = IsStopped m function pc table flow.Kind
+FlawsBy cause.Home m function pc table = IsStopped m function pc table flow.Home
+FlawsBy cause.Result m function pc table = IsStopped m function pc table flow.Result
+FlawsBy _ m function pc table = ⊥
 
 -- without a fault all that the function names is there, and the states are its least assignment; a fault says what is broken
-abbrev pub Judges : Option VerifyFault → Module → ℕ → Function → (ℕ → Option State) → Type 0
-Judges None m f function states = AreInRangeTo m function (length function.code) × IsLeast m function states
-Judges (Some fault) m f function states = (fault.function ≡ f) × FlawsBy fault.cause m function fault.pc
+abbrev pub Judges : Option VerifyFault → Module → ℕ → Function → List Entry → Type 0
+Judges None m f function table = AreInRangeTo m function (length function.code) × IsLeast m function (stated table)
+Judges (Some fault) m f function table = (fault.function ≡ f) × FlawsBy fault.cause m function fault.pc table

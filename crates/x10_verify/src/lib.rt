@@ -22,6 +22,7 @@ mod whole;
 
 pub use fault::{VerifyCause, VerifyFault};
 pub use flow::{Flow, known_flow};
+pub use table::{Effect, Outcome, Rule, rule_of};
 pub use verified::{Verified, verify};
 
 #[cfg(test)]

@@ -8,7 +8,7 @@ ghost use Rattle.x10_model.specs.Ranges.{function_at};
 ghost use Rattle.x10_verify.specs.Least.{HasLeast};
 ghost use Rattle.x10_verify.specs.Named.{HasNames};
 ghost use Rattle.x10_verify.specs.Printing.{AreNoted, bit_in};
-ghost use Rattle.x10_verify.specs.Solving.{IsSolved, Steps, Stops};
+ghost use Rattle.x10_verify.specs.Solving.{IsSolved, Shows, Steps, Stops};
 ghost use Rattle.x10_verify.specs.States.{IsFresh, total};
 
 use crate::entry::entry;
@@ -36,6 +36,7 @@ pub(crate) fn solve(image: &ImageView, f: usize, table: &mut Vec<Entry>) -> Resu
     ensures solved { IfOk result (λ _. (function : Function) → function_at image.now f ≡ Some function → IsSolved image.now function table.new.items) }
     ensures without { IfErr result (λ _. (function : Function) → function_at image.now f ≡ Some function → HasAssignment image.now function → ⊥) }
     ensures cause { IfErr result (λ fault. (function : Function) → function_at image.now f ≡ Some function → Stops image.now function fault.pc fault.cause) }
+    ensures shows { IfErr result (λ fault. (function : Function) → function_at image.now f ≡ Some function → Shows image.now function fault.pc fault.cause table.new.items) }
     ensures small { IfErr result (λ fault. fault.pc ≤ 4096) }
     ensures size { IfOk result (λ _. length table.new.items ≡ length table.old.items) }
 {

@@ -26,3 +26,7 @@ returns-in-Err-clause-without c = λ function there.
 pub returns-in-Err-clause-cause : goal.returns-in-Err-clause-cause
 returns-in-Err-clause-cause c = λ function there.
     (c.in-Err.ensures.steps function there (same_result c.args.image.now c.args.f function c.signature-signature.result c.result-slot.result c.signature-signature.ensures.value c.result-slot.ensures.value there) (c.loop-at.invariant.solves function there)).1
+
+pub returns-in-Err-clause-shows : goal.returns-in-Err-clause-shows
+returns-in-Err-clause-shows c = λ function there.
+    (c.in-Err.ensures.steps function there (same_result c.args.image.now c.args.f function c.signature-signature.result c.result-slot.result c.signature-signature.ensures.value c.result-slot.ensures.value there) (c.loop-at.invariant.solves function there)).2
