@@ -2,8 +2,13 @@
 -- writes it.
 use Rattle.std.specs.Prelude.{ℕ, List, ◌++◌, Option, Some, None, codes, decimal}
 use Rattle.x10_asm.specs.Listing.{instruction_line}
+use Rattle.x10_asm.specs.declared.fault.AsmCause.{AsmCause}
+use Rattle.x10_asm.specs.declared.fault.AsmCause.TheVariants as asm
+use Rattle.x10_asm.specs.declared.fault.AsmFault.{AsmFault}
 use Rattle.x10_bounds.specs.declared.fault.BoundCause.TheVariants as bound
 use Rattle.x10_code.specs.declared.instr.Instr.{Instr}
+use Rattle.x10_image.specs.declared.fault.ImageFault.{ImageFault}
+use Rattle.x10_image.specs.declared.fault.ImageFault.TheVariants as image
 use Rattle.x10_model.specs.Modules.{Module}
 use Rattle.x10_model.specs.Ranges.{instr_at}
 use Rattle.x10_verify.specs.declared.fault.VerifyCause.{VerifyCause}
@@ -36,3 +41,39 @@ position_of fault = word_of fault.cause ++ (codes ", function " ++ (decimal faul
 
 abbrev pub head_line : Module → VerifyFault → List ℕ
 head_line m fault = position_of fault ++ line_if (instr_at m fault.function fault.pc)
+
+-- ---- of a text
+
+abbrev pub asm_word : AsmCause → List ℕ
+asm_word asm.Word = codes "Word"
+asm_word asm.Number = codes "Number"
+asm_word asm.Count = codes "Count"
+asm_word asm.Order = codes "Order"
+asm_word asm.Label = codes "Label"
+asm_word asm.Text = codes "Text"
+asm_word asm.Limit = codes "Limit"
+asm_word asm.Entry = codes "Entry"
+asm_word asm.Memory = codes "Memory"
+
+-- the cause, and the number of the line
+abbrev pub asm_head : AsmFault → List ℕ
+asm_head fault = asm_word fault.cause ++ (codes ", line " ++ (decimal fault.line ++ codes ": "))
+
+-- ---- of an image
+
+abbrev pub image_word : ImageFault → List ℕ
+image_word image.Short = codes "Short"
+image_word image.Magic = codes "Magic"
+image_word image.Version = codes "Version"
+image_word image.Count = codes "Count"
+image_word image.Kind = codes "Kind"
+image_word image.Text = codes "Text"
+image_word image.Trailing = codes "Trailing"
+image_word image.Reserved = codes "Reserved"
+image_word image.Entry = codes "Entry"
+image_word (image.Code f pc) = codes "Code"
+image_word image.Memory = codes "Memory"
+
+-- the fault, and how many bytes there are
+abbrev pub image_head : ImageFault → ℕ → List ℕ
+image_head fault len = image_word fault ++ (codes ", in " ++ (decimal len ++ codes " bytes\n"))

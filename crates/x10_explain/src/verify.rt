@@ -36,6 +36,21 @@ pub fn explain_verify(
 
 // What stands below the first line.
 fn reasons(alloc: Global, image: &ImageView, fault: VerifyFault) -> Result<String, AllocError> {
+    let f = usize::from(fault.function);
+    if f >= image.functions() {
+        return Ok(String::new(alloc));
+    }
+    let flow = known_flow(alloc, image, f)?;
+    explained(alloc, image, &flow, fault)
+}
+
+/// What stands below the first line, by what is known of the function.
+pub(crate) fn explained(
+    alloc: Global,
+    image: &ImageView,
+    flow: &Flow,
+    fault: VerifyFault,
+) -> Result<String, AllocError> {
     let mut out = String::new(alloc);
     let (f, pc) = (usize::from(fault.function), usize::from(fault.pc));
     let Some(instr) = instr_in(image, f, pc) else {
@@ -46,26 +61,10 @@ fn reasons(alloc: Global, image: &ImageView, fault: VerifyFault) -> Result<Strin
         VerifyCause::Index => push_index(&mut out, image, f, instr)?,
         VerifyCause::Memory => out.push_str("There was no memory to look at the module.\n")?,
         VerifyCause::Unset | VerifyCause::Kind | VerifyCause::Home | VerifyCause::Result => {
-            push_flow(alloc, &mut out, image, fault, instr)?;
+            push_flow_fault(alloc, &mut out, image, flow, fault, instr)?;
         }
     }
     Ok(out)
-}
-
-// Lines on a fault of the flow.
-fn push_flow(
-    alloc: Global,
-    out: &mut String,
-    image: &ImageView,
-    fault: VerifyFault,
-    instr: Instr,
-) -> Result<(), AllocError> {
-    let f = usize::from(fault.function);
-    if f >= image.functions() {
-        return Ok(());
-    }
-    let flow = known_flow(alloc, image, f)?;
-    push_flow_fault(alloc, out, image, &flow, fault, instr)
 }
 
 /// Lines on a fault of the flow, by what is known of its function.
