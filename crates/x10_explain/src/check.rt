@@ -1,5 +1,6 @@
 //! All faults of a module that can be told by themselves.
 ghost use Rattle.std.specs.Prelude.{◌≡◌, ◌↔◌, IfOk, IsTrue, List, ℕ};
+ghost use Rattle.x10_verify.specs.declared.fault.VerifyCause.TheVariants.{Memory};
 ghost use Rattle.x10_explain.specs.Verdicts.{IsVerifiedImage, IsVerifiedText};
 
 use crate::asm::explain_asm;
@@ -39,7 +40,10 @@ pub fn check_text(alloc: Global, text: &str) -> Result<Report, AllocError>
     ensures { IfOk result (λ report. IsTrue report.verified ↔ IsVerifiedText text.now) }
 {
     match assemble(alloc, text) {
-        Ok(bytes) => check_bytes(alloc, &bytes, Some(text)),
+        Ok(bytes) => {
+            let report = check_bytes(alloc, &bytes, Some(text))?;
+            Ok(report)
+        }
         Err(fault) => {
             if fault.cause == AsmCause::Memory {
                 return Err(AllocError);
@@ -67,13 +71,20 @@ fn check_bytes(alloc: Global, bytes: &[u8], source: Option<&str>) -> Result<Repo
             Ok(Report { verified: true, text })
         }
         Err(fault) => {
-            if fault.cause == VerifyCause::Memory {
+            if is_memory(fault.cause) {
                 return Err(AllocError);
             }
             let text = faults_of(alloc, bytes, source)?;
             Ok(Report { verified: false, text })
         }
     }
+}
+
+// Whether memory ran out.
+fn is_memory(cause: VerifyCause) -> bool
+    ensures { IsTrue result ↔ cause ≡ Memory }
+{
+    matches!(cause, VerifyCause::Memory)
 }
 
 // A line for each function: its number and its bound.

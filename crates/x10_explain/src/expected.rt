@@ -20,7 +20,7 @@ pub(crate) fn push_expected(out: &mut String, statement: Statement) -> Result<()
         }
         Statement::Text => "Expected: text \"..\".\n",
         Statement::Func => {
-            "Expected: func REGISTERS LOOPS RESULT PARAMETER ..: at most 64 registers, 8 loop slots and 16 parameters, each in a register; the result is none or a kind; a reference whose home is where the function runs is here:c.\n"
+            "Expected: func REGISTERS LOOPS RESULT PARAMETER ..: 1 to 64 registers, at most 8 loop slots and 16 parameters, each in a register; the result is none or a kind; a reference whose home is where the function runs is here:c.\n"
         }
         Statement::End => "Expected: end, alone on its line, behind at least one instruction.\n",
         Statement::Entry => "Expected: entry N, the number of a function, from 0.\n",
@@ -41,10 +41,16 @@ fn push_form(out: &mut String, op: Op) -> Result<(), AllocError> {
     for operand in [form.a, form.b, form.c, form.x] {
         out.push_str(operand_word(operand))?;
     }
-    if form.x == Operand::Target {
-        out.push_str(", where @NAME may stand for the instruction behind a label")?;
+    out.push_str("; decimal numbers up to 255")?;
+    match form.x {
+        Operand::Unused => out.push_str(".\n"),
+        Operand::Target => out.push_str(", INSTRUCTION up to 4294967295, or @NAME of a label.\n"),
+        operand => {
+            out.push_str(",")?;
+            out.push_str(operand_word(operand))?;
+            out.push_str(" up to 4294967295.\n")
+        }
     }
-    out.push_str("; all in decimal, the last number of a constant, class, function, count or instruction up to 4294967295, others up to 255.\n")
 }
 
 // A word for an operand, with the space before it.

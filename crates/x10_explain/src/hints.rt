@@ -70,8 +70,8 @@ fn shows(line: &str, fault: AsmFault, mistake: Mistake) -> bool {
     }
 }
 
-// Whether a line begins with the bytes of a byte order mark.
-fn has_mark(bytes: &[u8]) -> bool {
+/// Whether bytes begin with those of a byte order mark.
+pub(crate) fn has_mark(bytes: &[u8]) -> bool {
     bytes.len() > 2 && bytes[0] == 239 && bytes[1] == 187 && bytes[2] == 191
 }
 

@@ -1,6 +1,7 @@
 //! Lines of a text, by their numbers.
 ghost use Rattle.std.specs.Prelude.{IfSome, IsUtf8};
 
+use crate::hints::has_mark;
 use std::alloc::AllocError;
 use std::fmt::Write;
 use x10_asm::{Statement, line_of, next_line};
@@ -43,7 +44,7 @@ pub(crate) fn missing(text: &str) -> &'static str {
 /// Where a text stands for an image's bytes: whether it is UTF-8, and its first line that says something begins as one may.
 pub(crate) fn is_text(bytes: &[u8]) -> bool {
     match str::from_utf8(bytes) {
-        Ok(text) => begins_well(text),
+        Ok(text) => has_mark(bytes) || begins_well(text),
         Err(_) => false,
     }
 }

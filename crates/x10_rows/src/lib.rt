@@ -10,6 +10,8 @@ mod codes;
 #[cfg(test)]
 mod copies;
 #[cfg(test)]
+mod explaining;
+#[cfg(test)]
 mod finishes;
 #[cfg(test)]
 mod forged;
