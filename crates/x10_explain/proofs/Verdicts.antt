@@ -65,9 +65,9 @@ read_as m = Ok m
 
 pub text_verdict : (text items slice : List ℕ) (b : Bool) → slice ≡ items → IsImageOf items (module_of text) → (b ≡ true ↔ IsVerifiedImage slice) → (b ≡ true ↔ IsVerifiedText text)
 text_verdict text items slice b same (m, fits, read, spelled) h = (
-    λ is. (let v = h.0 is in (m, read, subst IsGood (same_module v.0 m items v.2.fits (sym same ∙ v.1) fits spelled) v.2)),
-    λ v. (
-        let e : read_as m ≡ read_as v.0 = sym read ∙ v.1 in
-        let one : v.0 ≡ m = cc in
-        h.1 (m, same ∙ spelled, subst IsGood one v.2)),
+  λ is. (let v = h.0 is in (m, read, subst IsGood (same_module v.0 m items v.2.fits (sym same ∙ v.1) fits spelled) v.2)),
+  λ v. (
+      let e : read_as m ≡ read_as v.0 = sym read ∙ v.1 in
+      let one : v.0 ≡ m = cc in
+      h.1 (m, same ∙ spelled, subst IsGood one v.2)),
 )

@@ -70,9 +70,7 @@ fn reasons(alloc: Global, text: &str, fault: AsmFault) -> Result<String, AllocEr
 // What a cause says of a line.
 fn push_cause(out: &mut String, cause: AsmCause, statement: Statement) -> Result<(), AllocError> {
     out.push_str(match cause {
-        AsmCause::Word if statement == Statement::Unknown => {
-            "Its first word begins no line.\n"
-        }
+        AsmCause::Word if statement == Statement::Unknown => { "Its first word begins no line.\n" }
         AsmCause::Word => "A word of it is no kind that may stand there.\n",
         AsmCause::Number => {
             "A word of it is to be a number and isn't, or is outside its range, or names a class that isn't there.\n"
@@ -87,7 +85,8 @@ fn push_cause(out: &mut String, cause: AsmCause, statement: Statement) -> Result
         AsmCause::Text => {
             "A text is in quotes; a backslash stands before a quote, a backslash or an n alone; it has at most 65,535 bytes.\n"
         }
-        AsmCause::Limit => "A number in it, or how many there are of such lines, is outside the range.\n",
+        AsmCause::Limit =>
+            "A number in it, or how many there are of such lines, is outside the range.\n",
         AsmCause::Entry => {
             "The entry has to be a function that is there, and that takes and gives nothing.\n"
         }

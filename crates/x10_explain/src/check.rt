@@ -49,7 +49,10 @@ pub fn check_text(alloc: Global, text: &str) -> Result<Report, AllocError>
                 return Err(AllocError);
             }
             let text = explain_asm(alloc, text, fault)?;
-            Ok(Report { verified: false, text })
+            Ok(Report {
+                verified: false,
+                text,
+            })
         }
     }
 }
@@ -62,20 +65,29 @@ fn check_bytes(alloc: Global, bytes: &[u8], source: Option<&str>) -> Result<Repo
         Err(ImageFault::Memory) => return Err(AllocError),
         Err(fault) => {
             let text = explain_image(alloc, bytes, fault)?;
-            return Ok(Report { verified: false, text });
+            return Ok(Report {
+                verified: false,
+                text,
+            });
         }
     };
     match verify(alloc, image) {
         Ok(verified) => {
             let text = bounds_of(alloc, &verified)?;
-            Ok(Report { verified: true, text })
+            Ok(Report {
+                verified: true,
+                text,
+            })
         }
         Err(fault) => {
             if is_memory(fault.cause) {
                 return Err(AllocError);
             }
             let text = faults_of(alloc, bytes, source)?;
-            Ok(Report { verified: false, text })
+            Ok(Report {
+                verified: false,
+                text,
+            })
         }
     }
 }

@@ -15,9 +15,7 @@ pub(crate) fn push_expected(out: &mut String, statement: Statement) -> Result<()
         Statement::Class => {
             "Expected: class KIND .., at most 16 of int, place, text, rail, obj:c, opt:c and gref:c, where c is the number of a class.\n"
         }
-        Statement::Int => {
-            "Expected: int N, from -9223372036854775808 to 9223372036854775807.\n"
-        }
+        Statement::Int => { "Expected: int N, from -9223372036854775808 to 9223372036854775807.\n" }
         Statement::Text => "Expected: text \"..\".\n",
         Statement::Func => {
             "Expected: func REGISTERS LOOPS RESULT PARAMETER ..: 1 to 64 registers, at most 8 loop slots and 16 parameters, each in a register; the result is none or a kind; a reference whose home is where the function runs is here:c.\n"

@@ -40,7 +40,11 @@ pub(crate) fn find(
                 function: fault.function,
                 pc: fault.pc,
             });
-            Ok(Finding { bound: 0, flow, fault })
+            Ok(Finding {
+                bound: 0,
+                flow,
+                fault,
+            })
         }
     }
 }

@@ -51,8 +51,10 @@ fn hint(mistake: Mistake) -> &'static str {
         Mistake::Comment => "Hint: a comment needs a line of its own.\n",
         Mistake::Comma => "Hint: words are parted by spaces, without commas.\n",
         Mistake::RegisterName => "Hint: a register is its number alone, 0 and not r0.\n",
-        Mistake::LabelAsNumber => "Hint: a label stands only for the instruction that a jump goes to.\n",
-        Mistake::Negative => "Hint: a number below 0 is a line int, which INTK puts into a register.\n",
+        Mistake::LabelAsNumber =>
+            "Hint: a label stands only for the instruction that a jump goes to.\n",
+        Mistake::Negative =>
+            "Hint: a number below 0 is a line int, which INTK puts into a register.\n",
     }
 }
 

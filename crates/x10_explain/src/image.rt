@@ -30,11 +30,7 @@ fn word(fault: ImageFault) -> &'static str
 /// Why bytes are no image, in at most 5 lines: the fault and how many bytes there are; what the fault says, and of code the
 /// function and the instruction; what the header counts, where it is there; and whether the bytes are a text that is to be
 /// assembled. One pass over the bytes.
-pub fn explain_image(
-    alloc: Global,
-    bytes: &[u8],
-    fault: ImageFault,
-) -> Result<String, AllocError>
+pub fn explain_image(alloc: Global, bytes: &[u8], fault: ImageFault) -> Result<String, AllocError>
     ensures { IfOk result (λ s. (rest : List ℕ) × (string_bytes s ≡ image_head fault (length bytes.now) ++ rest)) }
 {
     let mut out = String::new(alloc);
@@ -97,7 +93,10 @@ fn push_fault(out: &mut String, bytes: &[u8], fault: ImageFault) -> Result<(), A
         }
         ImageFault::Version => {
             let version = number_at(bytes, 4);
-            return writeln!(out, "Bytes 4 and 5 are the version, 1; here they are {version}.");
+            return writeln!(
+                out,
+                "Bytes 4 and 5 are the version, 1; here they are {version}."
+            );
         }
         _ => {}
     }

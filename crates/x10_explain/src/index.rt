@@ -73,7 +73,10 @@ fn push_count(out: &mut String, operand: Operand, count: usize) -> Result<(), Al
             writeln!(out, "the function has {count} registers, numbered from 0.")
         }
         Operand::Slot => writeln!(out, "the function has {count} loop slots, numbered from 0."),
-        Operand::Target => writeln!(out, "the function has {count} instructions, numbered from 0."),
+        Operand::Target => writeln!(
+            out,
+            "the function has {count} instructions, numbered from 0."
+        ),
         Operand::Place => writeln!(out, "the module asks for {count} places, numbered from 0."),
         _ => writeln!(out, "the module has {count}, numbered from 0."),
     }
@@ -126,7 +129,10 @@ fn push_arguments(
         if first == 0 {
             return Ok(false);
         }
-        writeln!(out, "Operand b has to be 0, since there is no argument; it is {first}.")?;
+        writeln!(
+            out,
+            "Operand b has to be 0, since there is no argument; it is {first}."
+        )?;
         return Ok(true);
     }
     if first.saturating_add(count) <= registers {

@@ -26,7 +26,11 @@ pub(crate) fn push_state(
             push_place(out, image, flow, pc, register, kind)?;
         }
     }
-    if some { Ok(()) } else { out.push_str(" no register is set") }
+    if some {
+        Ok(())
+    } else {
+        out.push_str(" no register is set")
+    }
 }
 
 // The first term that a register is known to be the same place as: here, a place by its number, a register before it.

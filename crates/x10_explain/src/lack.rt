@@ -57,9 +57,8 @@ impl Lack {
     /// The register that it is about.
     pub(crate) fn register(self) -> Option<u8> {
         match self {
-            Lack::Register(register, ..) | Lack::NoField(register, _) | Lack::Home(register, ..) => {
-                Some(register)
-            }
+            Lack::Register(register, ..) | Lack::NoField(register, _) | Lack::Home(register, ..) =>
+                { Some(register) }
             Lack::NoResult | Lack::Dropped | Lack::LeadsOut => None,
         }
     }
@@ -172,7 +171,13 @@ fn called_with(spot: &Spot, at: Term, signature: &SigView) -> Option<Lack> {
     }
     for n in 0..signature.parameters() {
         let register = argument(spot.instr.b, n);
-        let lack = fits_as(spot, signature.parameter(n), register, at, Role::Argument(n));
+        let lack = fits_as(
+            spot,
+            signature.parameter(n),
+            register,
+            at,
+            Role::Argument(n),
+        );
         if lack.is_some() {
             return lack;
         }

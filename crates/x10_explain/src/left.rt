@@ -91,7 +91,9 @@ fn add_turns(
         put_at(left, pc, here.saturating_add(turns));
         match image.instr(f, pc).op {
             Op::Loop => {
-                let more = here.saturating_sub(number_at(left, pc + 1)).saturating_sub(1);
+                let more = here
+                    .saturating_sub(number_at(left, pc + 1))
+                    .saturating_sub(1);
                 turns = turns.saturating_add(more);
                 open.push(more)?;
             }

@@ -192,7 +192,11 @@ fn push_answer(
         return push_known(out, register, flow.kind(pc, register));
     };
     let known = learnt || are_same(flow, pc, Term::Reg(register), at);
-    let is = if known { "is known to be" } else { "isn't known to be" };
+    let is = if known {
+        "is known to be"
+    } else {
+        "isn't known to be"
+    };
     write!(out, "  the home of r{register} {is} ")?;
     push_term(out, at)
 }

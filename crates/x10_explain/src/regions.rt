@@ -82,7 +82,8 @@ fn push_nesting(
     let rule = match instr.op {
         Op::Endl => "ENDL closes a LOOP, which has to be the innermost region that is open.\n",
         Op::Fine => "FINE closes a FINB, which has to be the innermost region that is open.\n",
-        Op::Ret => "RET may not stand in a finish, and at the end of the function nothing may be open.\n",
+        Op::Ret =>
+            "RET may not stand in a finish, and at the end of the function nothing may be open.\n",
         _ => "The last instruction of a function has to be RET.\n",
     };
     out.push_str(rule)?;
@@ -111,7 +112,10 @@ fn push_jump(
         );
     }
     if instr_in(image, f, target).is_none() {
-        return writeln!(out, "A jump stays in its function, which has no instruction {target}.");
+        return writeln!(
+            out,
+            "A jump stays in its function, which has no instruction {target}."
+        );
     }
     let there = open_at(alloc, image, f, target)?;
     out.push_str("A jump goes neither into a loop or finish nor out of a finish.\n")?;
@@ -152,7 +156,11 @@ fn push_slot_rule(
     let open = open_at(alloc, image, f, pc)?;
     let around = loops_in(image, f, &open);
     let slots = image.signature(f).loops();
-    let depth = if instr.op == Op::Endl { around.saturating_sub(1) } else { around };
+    let depth = if instr.op == Op::Endl {
+        around.saturating_sub(1)
+    } else {
+        around
+    };
     let (slot, turns) = (instr.a, instr.x);
     writeln!(
         out,

@@ -28,14 +28,19 @@ pub(crate) fn missing(text: &str) -> &'static str {
     let mut rest = text;
     while let Some((line, after)) = next_line(rest) {
         let statement = line_of(line).statement;
-        if matches!(statement, Statement::Places | Statement::Func | Statement::End) {
+        if matches!(
+            statement,
+            Statement::Places | Statement::Func | Statement::End
+        ) {
             last = statement;
         }
         rest = after;
     }
     match last {
-        Statement::Func => "The last function has no line `end`, and there is no line `entry` behind it.\n",
-        Statement::End => "There is no line `entry N`, which names the function that a run begins with.\n",
+        Statement::Func =>
+            "The last function has no line `end`, and there is no line `entry` behind it.\n",
+        Statement::End =>
+            "There is no line `entry N`, which names the function that a run begins with.\n",
         Statement::Places => "There is no function: func, its instructions, end; and then entry.\n",
         _ => "There is no line `places N`, with which a text begins.\n",
     }

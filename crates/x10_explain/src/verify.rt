@@ -81,7 +81,13 @@ pub(crate) fn push_flow_fault(
         return Ok(());
     }
     let result = image.signature(f).result();
-    let spot = Spot { image, flow, result, pc, instr };
+    let spot = Spot {
+        image,
+        flow,
+        result,
+        pc,
+        instr,
+    };
     let lack = first_lack(&spot);
     let have = match lack.register() {
         None => None,

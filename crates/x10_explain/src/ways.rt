@@ -96,7 +96,11 @@ pub(crate) fn way_into(
         return Way::Several;
     };
     if pc == 0 {
-        return if jumps.count == 0 { Way::Entry } else { Way::Several };
+        return if jumps.count == 0 {
+            Way::Entry
+        } else {
+            Way::Several
+        };
     }
     if jumps.count == 0 && falls {
         return Way::Next(pc - 1);

@@ -14,9 +14,12 @@ pub returns-in-Ok : goal.returns-in-Ok
 returns-in-Ok c = λ function there. (c.in_default.ensures.first function there, solved_least c.args.image.now function c.solve.new.table.items (c.in-Ok.ensures.solved function there))
 
 pub returns-in-Err : goal.returns-in-Err
-returns-in-Err c = rw c.named.ensures (λ function there. (refl, flaws_by c.args.image.now function c.in-Err.fault.pc c.solve.new.table.items c.in-Err.fault.cause (record {
-  range = c.in_default.ensures.first function there;
-  without = c.in-Err.ensures.without function there;
-  stops = c.in-Err.ensures.cause function there;
-  shows = c.in-Err.ensures.shows function there;
-})))
+returns-in-Err c = rw c.named.ensures (λ function there. (
+  refl,
+  flaws_by c.args.image.now function c.in-Err.fault.pc c.solve.new.table.items c.in-Err.fault.cause (record {
+    range = c.in_default.ensures.first function there;
+    without = c.in-Err.ensures.without function there;
+    stops = c.in-Err.ensures.cause function there;
+    shows = c.in-Err.ensures.shows function there;
+  }),
+))
