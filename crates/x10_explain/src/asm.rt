@@ -3,12 +3,13 @@ ghost use Rattle.std.specs.Prelude.{◌≡◌, ◌++◌, List, ℕ, IfOk, OnOk, 
 ghost use Rattle.std.specs.String.{string_bytes};
 ghost use Rattle.x10_explain.specs.Heads.{asm_head, asm_word};
 
+use crate::alone::line_fault;
 use crate::expected::push_expected;
 use crate::hints::push_hints;
 use crate::text::{line_at, missing};
 use std::alloc::{AllocError, Global};
 use std::fmt::Write;
-use x10_asm::{AsmCause, AsmFault, Statement, line_of};
+use x10_asm::{AsmCause, AsmFault, Statement, line_of, next_line};
 
 // The name of a cause.
 fn word(cause: AsmCause) -> &'static str
@@ -58,13 +59,57 @@ fn reasons(alloc: Global, text: &str, fault: AsmFault) -> Result<String, AllocEr
         }
         return Ok(out);
     };
+    push_line(alloc, &mut out, line, fault)?;
+    Ok(out)
+}
+
+// A line, and what is wrong with it.
+fn push_line(
+    alloc: Global,
+    out: &mut String,
+    line: &str,
+    fault: AsmFault,
+) -> Result<(), AllocError> {
     out.push_str(line)?;
     out.push_str("\n")?;
     let statement = line_of(line).statement;
-    push_cause(&mut out, fault.cause, statement)?;
-    push_expected(&mut out, statement)?;
-    push_hints(alloc, &mut out, line, fault)?;
-    Ok(out)
+    push_cause(out, fault.cause, statement)?;
+    push_expected(out, statement)?;
+    push_hints(alloc, out, line, fault)
+}
+
+/// The greatest number of faulty lines that are explained behind the first: each has 7 lines at most.
+const MOST_LINES: usize = 6;
+
+/// The lines behind a faulty one that are faulty by themselves, each explained.
+pub(crate) fn push_others(
+    alloc: Global,
+    out: &mut String,
+    text: &str,
+    first: usize,
+) -> Result<(), AllocError> {
+    let mut told: usize = 0;
+    let mut number: usize = 1;
+    let mut rest = text;
+    while let Some((line, after)) = next_line(rest) {
+        if number > first {
+            if let Some(cause) = line_fault(line) {
+                if told >= MOST_LINES {
+                    return out.push_str("and there are more faulty lines\n");
+                }
+                told = told.saturating_add(1);
+                let fault = AsmFault {
+                    line: number,
+                    cause,
+                };
+                push_head(out, fault)?;
+                push_line(alloc, out, line, fault)?;
+            }
+        }
+        number = number.saturating_add(1);
+        rest = after;
+    }
+    Ok(())
 }
 
 // What a cause says of a line.

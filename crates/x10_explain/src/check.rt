@@ -3,7 +3,7 @@ ghost use Rattle.std.specs.Prelude.{◌≡◌, ◌↔◌, IfOk, IsTrue, List, �
 ghost use Rattle.x10_verify.specs.declared.fault.VerifyCause.TheVariants.{Memory};
 ghost use Rattle.x10_explain.specs.Verdicts.{IsVerifiedImage, IsVerifiedText};
 
-use crate::asm::explain_asm;
+use crate::asm::{explain_asm, push_others};
 use crate::faults::find;
 use crate::head::head;
 use crate::image::explain_image;
@@ -11,7 +11,7 @@ use crate::text::push_source;
 use crate::verify::explained;
 use std::alloc::{AllocError, Global};
 use std::fmt::Write;
-use x10_asm::{AsmCause, assemble};
+use x10_asm::{AsmCause, AsmFault, assemble};
 use x10_image::{ImageFault, ImageView};
 use x10_verify::{Verified, VerifyCause, verify};
 
@@ -35,7 +35,8 @@ pub fn check_image(alloc: Global, bytes: &[u8]) -> Result<Report, AllocError>
     check_bytes(alloc, bytes, None)
 }
 
-/// The same of the module that a text spells; or why it spells none. Each fault is told with its line of the text.
+/// The same of the module that a text spells, each fault with its line of the text; or why it spells none: its first faulty
+/// line, and at most 6 more that are faulty wherever they stand.
 pub fn check_text(alloc: Global, text: &str) -> Result<Report, AllocError>
     ensures { IfOk result (λ report. IsTrue report.verified ↔ IsVerifiedText text.now) }
 {
@@ -48,13 +49,20 @@ pub fn check_text(alloc: Global, text: &str) -> Result<Report, AllocError>
             if fault.cause == AsmCause::Memory {
                 return Err(AllocError);
             }
-            let text = explain_asm(alloc, text, fault)?;
+            let text = lines_of(alloc, text, fault)?;
             Ok(Report {
                 verified: false,
                 text,
             })
         }
     }
+}
+
+// The first faulty line of a text, and those behind it that are faulty by themselves.
+fn lines_of(alloc: Global, text: &str, fault: AsmFault) -> Result<String, AllocError> {
+    let mut out = explain_asm(alloc, text, fault)?;
+    push_others(alloc, &mut out, text, fault.line)?;
+    Ok(out)
 }
 
 fn check_bytes(alloc: Global, bytes: &[u8], source: Option<&str>) -> Result<Report, AllocError>

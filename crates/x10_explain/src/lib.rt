@@ -2,6 +2,7 @@
 //! the verifier knows.
 #![tactic(auto)]
 
+mod alone;
 mod asm;
 mod check;
 mod commented;

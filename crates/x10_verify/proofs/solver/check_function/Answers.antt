@@ -1,4 +1,3 @@
-use Rattle.std.proofs.Common.{◌≡◌, length}
 use Rattle.x10_verify.specs.States.{stated}
 use Rattle.x10_verify.proofs.Prints.{noted_solved}
 use Rattle.x10_verify.proofs.Solved.{solved_least}
