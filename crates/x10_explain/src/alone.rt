@@ -20,7 +20,12 @@ pub(crate) fn line_fault(line: &str) -> Option<AsmCause> {
 fn operands_fault(op: Op, words: &str) -> Option<AsmCause> {
     let form = form(op);
     let mut rest = words;
-    for (operand, most) in [(form.a, 255), (form.b, 255), (form.c, 255), (form.x, 4_294_967_295)] {
+    for (operand, most) in [
+        (form.a, 255),
+        (form.b, 255),
+        (form.c, 255),
+        (form.x, 4_294_967_295),
+    ] {
         if operand == Operand::Unused {
             continue;
         }
@@ -50,7 +55,9 @@ fn is_number(word: &[u8], most: u64) -> bool {
         if !byte.is_ascii_digit() {
             return false;
         }
-        value = value.saturating_mul(10).saturating_add(u64::from(byte.saturating_sub(b'0')));
+        value = value
+            .saturating_mul(10)
+            .saturating_add(u64::from(byte.saturating_sub(b'0')));
     }
     !word.is_empty() && value <= most
 }

@@ -107,7 +107,7 @@ fn push_entry(
     if n >= count {
         return writeln!(
             out,
-            "Nothing on the way here writes r{register}; the function begins with {count} registers set, its parameters."
+            "Nothing on the way here writes r{register}; where the function begins, its parameters alone are set, {count} of them."
         );
     }
     let slot = signature.parameter(n);

@@ -55,17 +55,18 @@ fn open_at(
     Ok(open)
 }
 
-// What is open before an instruction.
+// What is open before an instruction, `here` or `there`.
 fn push_open(
     out: &mut String,
     image: &ImageView,
     f: usize,
     open: &[usize],
+    place: &str,
 ) -> Result<(), AllocError> {
     match open.last() {
-        None => out.push_str("No loop or finish is open here.\n"),
+        None => writeln!(out, "No loop or finish is open {place}."),
         Some(opener) => {
-            out.push_str("The innermost that is open here was opened by ")?;
+            write!(out, "The innermost that is open {place} was opened by ")?;
             push_instruction_at(out, image, f, *opener)
         }
     }
@@ -88,7 +89,7 @@ fn push_nesting(
     };
     out.push_str(rule)?;
     let open = open_at(alloc, image, f, pc)?;
-    push_open(out, image, f, &open)
+    push_open(out, image, f, &open, "here")
 }
 
 fn push_jump(
@@ -103,7 +104,7 @@ fn push_jump(
     let target = instr.x as usize;
     if instr.op == Op::Endl {
         out.push_str("ENDL goes to the instruction behind its LOOP alone.\n")?;
-        return push_open(out, image, f, &open);
+        return push_open(out, image, f, &open, "here");
     }
     if target <= pc {
         return writeln!(
@@ -119,16 +120,10 @@ fn push_jump(
     }
     let there = open_at(alloc, image, f, target)?;
     out.push_str("A jump goes neither into a loop or finish nor out of a finish.\n")?;
-    push_open(out, image, f, &open)?;
+    push_open(out, image, f, &open, "here")?;
     out.push_str("It goes to ")?;
     push_instruction_at(out, image, f, target)?;
-    match there.last() {
-        None => out.push_str("No loop or finish is open there.\n"),
-        Some(opener) => {
-            out.push_str("The innermost that is open there was opened by ")?;
-            push_instruction_at(out, image, f, *opener)
-        }
-    }
+    push_open(out, image, f, &there, "there")
 }
 
 // How many loops of some regions there are.

@@ -207,6 +207,9 @@ fn push_named(out: &mut String, image: &ImageView, instr: Instr) -> Result<(), A
             None => Ok(()),
             Some(signature) => {
                 write!(out, "; function {x} takes")?;
+                if signature.parameters() == 0 {
+                    out.push_str(" nothing")?;
+                }
                 push_slots(out, &signature)?;
                 out.push_str(" and gives")?;
                 push_result(out, signature.result())
