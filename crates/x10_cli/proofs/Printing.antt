@@ -113,6 +113,7 @@ prints_kept verb.List asked bytes a b c p k = (p.0, p.1, Appends-kept a b c _ p.
 prints_kept verb.Verify asked bytes a b c p k = (p.0, p.1, p.2, p.3, Appends-kept a b c _ p.4 k)
 prints_kept verb.Bounds asked bytes a b c p k = (p.0, p.1, p.2, p.3, Appends-kept a b c _ p.4 k)
 prints_kept verb.Run asked bytes a b c p k = (p.0, p.1, p.2, p.3, Appends-kept a b c _ p.4 k)
+prints_kept verb.Draw asked bytes a b c p k = (p.0, p.1, p.2, p.3, Appends-kept a b c _ p.4 k)
 prints_kept verb.Trace asked bytes a b c p k =
     let h = p.2 in
     (p.0, p.1, record { first = h.first; last = h.last; opened = h.opened; traces = (h.traces.0, h.traces.1, Appends-kept a b c h.traces.0 h.traces.2 k); runs = h.runs; ended = h.ended })

@@ -19,6 +19,7 @@ use Rattle.x10_world.specs.Opening.{IsForbidden, IsOpenedWorld}
 use Rattle.x10_world.specs.Rounds.{HasEnded, RunsTo}
 use Rattle.x10_world.specs.StandsForWorld.{WorldState}
 use Rattle.x10_trace.specs.Trace.{Traced}
+use Rattle.x10_draw.specs.Pages.{IsPage}
 use Rattle.x10_world.specs.declared.rounds.Halt.{Halt}
 use Rattle.x10_world.specs.declared.rounds.Halt.TheVariants as halt
 use Rattle.x10_cli.specs.Lines.{bound_lines, all_lines}
@@ -65,6 +66,7 @@ CanBeDone verb.Verify places bytes = IsVerifiedImage bytes
 CanBeDone verb.Bounds places bytes = (m : Module) × IsImage bytes m × HasBounds m
 CanBeDone verb.Run places bytes = (c : Certified) × IsImageOf bytes c × (IsForbidden c (places_for places c) → ⊥)
 CanBeDone verb.Trace places bytes = (c : Certified) × IsImageOf bytes c × (IsForbidden c (places_for places c) → ⊥)
+CanBeDone verb.Draw places bytes = (c : Certified) × IsImageOf bytes c × (IsForbidden c (places_for places c) → ⊥)
 
 -- how many functions a verified module has, and the bound of its entry function
 abbrev pub verdict_line : ℕ → ℕ → List ℕ
@@ -94,15 +96,25 @@ pub record HasTraced (c : Certified) (places : ℕ) (old new : Option (List ℕ)
   pub runs : RunsTo first last
   pub ended : HasEnded last
 
+-- the picture of a run of the module, from its beginning to a world in which no activity lives
+pub record HasDrawn (c : Certified) (places : ℕ) (picture : List ℕ) : Type 0 where
+  pub first : WorldState
+  pub last : WorldState
+  pub opened : IsOpenedWorld c places first
+  pub runs : RunsTo first last
+  pub ended : HasEnded last
+  pub page : IsPage picture
+
 -- what is appended to what is known to be written: the image of the text's module, the listing of the image's, the
--- verdict, the bounds of its functions, the lines of a run that has ended, or those of its events, at as many places as were
--- asked for
+-- verdict, the bounds of its functions, the lines of a run that has ended, or those of its events, or its picture, at as many
+-- places as were asked for
 abbrev pub Prints : Verb → Option ℕ → List ℕ → Option (List ℕ) → Option (List ℕ) → Type 0
 Prints verb.Asm asked bytes old new = (m : Module) × (module_of bytes ≡ Ok m) × Appends old new (spelling m)
 Prints verb.List asked bytes old new = (m : Module) × IsImage bytes m × Appends old new (listing m)
 Prints verb.Verify asked bytes old new = (c : Certified) × (bound : ℕ) × IsImageOf bytes c × (slice_get c.bounds c.program.entry ≡ Some bound) × Appends old new (verdict_line (length c.program.functions) bound)
 Prints verb.Bounds asked bytes old new = (m : Module) × (bounds : List ℕ) × IsImage bytes m × (bounds_of m ≡ Ok bounds) × Appends old new (bound_lines 0 bounds)
 Prints verb.Trace asked bytes old new = (c : Certified) × IsImageOf bytes c × HasTraced c (places_for asked c) old new
+Prints verb.Draw asked bytes old new = (c : Certified) × (picture : List ℕ) × IsImageOf bytes c × HasDrawn c (places_for asked c) picture × Appends old new picture
 Prints verb.Run asked bytes old new = (c : Certified) × (outputs : List (List machine.Line)) × IsImageOf bytes c × HasRun c (places_for asked c) outputs × Appends old new (all_lines 0 outputs)
 
 -- the commands that ask the verifier
@@ -110,6 +122,7 @@ abbrev pub IsVerifying : Verb → Type 0
 IsVerifying verb.Verify = Unit {0}
 IsVerifying verb.Run = Unit {0}
 IsVerifying verb.Trace = Unit {0}
+IsVerifying verb.Draw = Unit {0}
 IsVerifying _ = ⊥
 
 -- the exit status of a fault

@@ -17,6 +17,7 @@ ghost use Rattle.x10_cli.specs.Answers.{IsImage, IsVerifiedImage, IsVerifying, C
 
 use crate::explain::explanation;
 use crate::fault::Fault;
+use crate::picture::print_picture;
 use crate::task::{Task, Verb};
 use std::alloc::Global;
 use std::io::Write;
@@ -31,7 +32,7 @@ use x10_world::{Rounds, World, run_rounds};
 
 /// Does what a task asks for with the bytes of its file, and tells the exit status: 0 done, 1 refused, 2 stopped, 4
 /// where a write failed or a text isn't UTF-8. What is printed goes to `out`, of `asm` the image, which is nothing where
-/// the text is refused; a fault is one line on `err`, `x10p: ` and its text, and after it, where the task says so, lines that
+/// the text is refused, and of `draw` the picture; a fault is one line on `err`, `x10p: ` and its text, and after it, where the task says so, lines that
 /// explain it. Where a run stops, what it printed until then stands on `out` before that.
 pub fn execute<O: Write, E: Write>(
     alloc: Global,
@@ -96,6 +97,7 @@ fn perform<O: Write>(alloc: Global, task: &Task, bytes: &[u8], out: &mut O) -> R
         Verb::Bounds => print_bounds(alloc, bytes, out),
         Verb::Run => print_run(alloc, task, bytes, out),
         Verb::Trace => print_trace(alloc, task, bytes, out),
+        Verb::Draw => print_picture(alloc, task, bytes, out),
     }
 }
 
@@ -108,7 +110,7 @@ fn image_of<'a>(alloc: Global, bytes: &'a [u8]) -> Result<ImageView<'a>, Fault>
 }
 
 /// The module of an image, verified.
-fn verified_in<'a>(alloc: Global, bytes: &'a [u8]) -> Result<Verified<'a>, Fault>
+pub(crate) fn verified_in<'a>(alloc: Global, bytes: &'a [u8]) -> Result<Verified<'a>, Fault>
     ensures found { IfOk result (IsImageOf bytes.now) }
     ensures refused { IfErr result (λ e. status_of e ≡ 1 → IsVerifiedImage bytes.now → ⊥) }
 {
@@ -248,7 +250,7 @@ fn print_outputs<O: Write>(world: &World, out: &mut O) -> Result<(), Fault>
 }
 
 /// How many places a run has.
-fn places_of(asked: Option<u16>, verified: &Verified) -> u16
+pub(crate) fn places_of(asked: Option<u16>, verified: &Verified) -> u16
     ensures { result ≡ places_for asked verified.now }
 {
     match asked {

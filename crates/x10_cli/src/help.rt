@@ -70,3 +70,13 @@ Exit status:
   2  stopped: lack of memory, a limit of the machine, or --limit
   3  these words aren't understood
   4  a file can't be read, or the output can't be written";
+
+pub const DRAW: &str = "Example:
+  x10p draw examples/seven.x10 seven.svg
+
+Exit status:
+  0  done
+  1  refused: the image, its module, or the number of places
+  2  stopped: lack of memory, a limit of the machine, or --limit
+  3  these words aren't understood
+  4  a file can't be read, or the output can't be written";

@@ -6,6 +6,7 @@ mod commands;
 mod explain;
 mod fault;
 mod help;
+mod picture;
 mod task;
 mod usage;
 

@@ -13,6 +13,8 @@ pub enum Verb {
     Run,
     /// Verify it, run it, and print what happens, event by event.
     Trace,
+    /// Verify it, run it, and draw what happens.
+    Draw,
 }
 
 /// What the words of a command line ask for.
@@ -21,7 +23,7 @@ pub struct Task<'a> {
     pub verb: Verb,
     /// The name of the file to read.
     pub input: &'a str,
-    /// The name of the file to write, of `asm` alone.
+    /// The name of the file to write, of `asm` and `draw` alone.
     pub output: Option<&'a str>,
     /// How many places; left out, the module's least number.
     pub places: Option<u16>,

@@ -103,6 +103,7 @@ fn task_of<'a>(matches: &ArgMatches<'a>) -> Option<Task<'a>> {
         "verify" => Verb::Verify,
         "bounds" => Verb::Bounds,
         "trace" => Verb::Trace,
+        "draw" => Verb::Draw,
         _ => Verb::Run,
     };
     Some(Task {
@@ -145,6 +146,17 @@ fn program<'a>(alloc: Global) -> Result<Command<'a>, AllocError> {
         .after_help(help::BOUNDS)
         .arg(image_name(alloc))?
         .arg(explain(alloc))?;
+    let picture = Arg::new(alloc, "OUTPUT")
+        .value_name("SVG")
+        .help("The file to write, the picture of the run")
+        .required(true);
+    let draw = run_words(
+        alloc,
+        "draw",
+        "Verify a module, run it, and draw what happens as an SVG document",
+        help::DRAW,
+    )?
+    .arg(picture)?;
     Command::new(alloc, "x10p")
         .about(ABOUT)
         .version(VERSION)
@@ -165,7 +177,8 @@ fn program<'a>(alloc: Global) -> Result<Command<'a>, AllocError> {
             "trace",
             "Verify a module, run it, and print what happens, event by event",
             help::TRACE,
-        )?)
+        )?)?
+        .subcommand(draw)
 }
 
 fn image_name<'a>(alloc: Global) -> Arg<'a> {

@@ -1,10 +1,10 @@
 //! The program `x10p`: it reads its words and the file that they name, and does what they ask for.
 #![tactic(auto)]
 
-mod image;
 mod input;
 mod output;
 mod trouble;
+mod whole;
 
 use crate::output::Output;
 use crate::trouble::Trouble;
@@ -49,7 +49,7 @@ fn perform(rt: &HostRuntime, task: &Task) -> Result<u8, Trouble> {
         Err(error) => return Err(Trouble::reading(error)),
     };
     match task.output {
-        Some(output) => write_image(rt, task, &mut file, output),
+        Some(output) => write(rt, task, &mut file, output),
         None => print(rt, task, &mut file),
     }
 }
@@ -90,28 +90,26 @@ fn speak(
     }
 }
 
-/// Assembles, and writes the image once it is whole. A text that would be its own image is left as it is.
-fn write_image(
-    rt: &HostRuntime,
-    task: &Task,
-    file: &mut File,
-    output: &str,
-) -> Result<u8, Trouble> {
-    match image::is_one_file(rt, file, output) {
+/// Does the work, and writes what it makes once that is whole, if there is anything; then what is told of a fault. A file
+/// that would be read and written is left as it is.
+fn write(rt: &HostRuntime, task: &Task, file: &mut File, output: &str) -> Result<u8, Trouble> {
+    match whole::is_one_file(rt, file, output) {
         Ok(false) => {}
         Ok(true) => return Err(Trouble::OneFile),
         Err(error) => return Err(Trouble::reading(error)),
     }
-    let text = input::read(rt, task.verb, file)?;
-    let mut image = Vec::new(rt.alloc());
-    let status = execute(rt.alloc(), task, &text, &mut image, &mut rt.stderr());
-    if status != 0 {
-        return Ok(status);
+    let bytes = input::read(rt, task.verb, file)?;
+    let mut made = Vec::new(rt.alloc());
+    let Ok(mut told) = Vec::with_capacity(rt.alloc(), FAULT_LINE) else {
+        return Err(Trouble::Memory);
+    };
+    let status = execute(rt.alloc(), task, &bytes, &mut made, &mut told);
+    if !made.is_empty()
+        && let Err(error) = whole::write(rt, output, &made)
+    {
+        return Err(Trouble::writing(error));
     }
-    match image::write(rt, output, &image) {
-        Ok(()) => Ok(status),
-        Err(error) => Err(Trouble::writing(error)),
-    }
+    Ok(speak(rt, task, None, &told, status))
 }
 
 /// Prints help on standard output, and what is wrong with the words on standard error.

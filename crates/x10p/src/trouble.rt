@@ -7,13 +7,13 @@ use x10_cli::{Fault, Task, tell};
 pub enum Trouble {
     /// No memory for what is in it.
     Memory,
-    /// TEXT can't be opened or read.
+    /// The file to read can't be opened or read.
     Read(io::Error),
-    /// IMAGE can't be written.
+    /// The file to write, IMAGE or SVG, can't be written.
     Written(io::Error),
     /// TEXT has more bytes than a text can have.
     TooLong,
-    /// TEXT and IMAGE are one file.
+    /// The files to read and to write are one.
     OneFile,
 }
 

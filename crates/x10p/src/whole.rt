@@ -1,12 +1,12 @@
-//! Writing an image, so that a file which is there stays as it was until the new one is whole.
+//! Writing a file, so that one which is there stays as it was until the new one is whole.
 use std::fs::{self, File, Metadata, OpenOptions};
 use std::io::{self, ErrorKind, Write};
 use std::os::unix::fs::MetadataExt;
 
-/// How many names for the file beside the image are tried.
+/// How many names for the new file beside the old one are tried.
 const NAMES: u32 = 10_000;
 
-/// Where an image goes.
+/// Where the bytes go.
 enum Target {
     /// Into what is there: a pipe, a device, or what a name of /dev or /proc leads to.
     Through,
@@ -23,11 +23,11 @@ pub fn is_one_file(rt: &HostRuntime, file: &File, name: &str) -> io::Result<bool
     }
 }
 
-/// Writes an image. Where that fails, an ordinary file is as it was, and nothing is left beside it.
-pub fn write(rt: &HostRuntime, name: &str, image: &[u8]) -> io::Result<()> {
+/// Writes a file. Where that fails, an ordinary file is as it was, and nothing is left beside it.
+pub fn write(rt: &HostRuntime, name: &str, bytes: &[u8]) -> io::Result<()> {
     match target_of(rt, name)? {
-        Target::Through => fs::write(rt, name, image),
-        Target::Beside(name) => replace(rt, name.as_str(), image),
+        Target::Through => fs::write(rt, name, bytes),
+        Target::Beside(name) => replace(rt, name.as_str(), bytes),
     }
 }
 
@@ -57,10 +57,10 @@ fn leads_to_file(rt: &HostRuntime, name: &str) -> bool {
 }
 
 /// Writes a new file beside the one of this name, and gives it the name.
-fn replace(rt: &HostRuntime, name: &str, image: &[u8]) -> io::Result<()> {
+fn replace(rt: &HostRuntime, name: &str, bytes: &[u8]) -> io::Result<()> {
     let old = writable(rt, name)?;
     let (beside, file) = file_beside(rt, name)?;
-    let done = fill(file, old, image).and_then(|()| fs::rename(rt, beside.as_str(), name));
+    let done = fill(file, old, bytes).and_then(|()| fs::rename(rt, beside.as_str(), name));
     if done.is_err() {
         // where it can't be removed either, the first error is told
         let _removed = fs::remove_file(rt, beside.as_str());
@@ -91,9 +91,9 @@ fn file_beside(rt: &HostRuntime, name: &str) -> io::Result<(String, File)> {
 }
 
 /// Writes all bytes. The file has the permissions of the one that it replaces, where the system lets it have them.
-fn fill(mut file: File, old: Option<Metadata>, image: &[u8]) -> io::Result<()> {
+fn fill(mut file: File, old: Option<Metadata>, bytes: &[u8]) -> io::Result<()> {
     if let Some(old) = old {
         let _kept = file.set_permissions(old.permissions());
     }
-    file.write_all(image)
+    file.write_all(bytes)
 }

@@ -1,0 +1,66 @@
+//! The command `draw`: a run's picture.
+ghost use Rattle.std.specs.Prelude.{◌≡◌, ◌≢◌, IfOk, IfErr, OnOk};
+ghost use Rattle.x10_world.specs.Rounds.{HasEnded, RunsTo};
+ghost use Rattle.x10_world.specs.StandsForWorld.{KeepsSetting};
+ghost use Rattle.x10_cli.specs.declared.task.Verb.TheVariants as verb;
+ghost use Rattle.x10_cli.specs.Answers.{CanBeDone, Prints, status_of};
+
+use crate::commands::{places_of, verified_in};
+use crate::fault::Fault;
+use crate::task::Task;
+use std::alloc::Global;
+use std::io::Write;
+use x10_draw::Drawing;
+use x10_model::Event;
+use x10_world::{Rounds, World};
+
+/// Runs a module, and prints the picture of what happened, also where the run stops before its end.
+pub(crate) fn print_picture<O: Write>(
+    alloc: Global,
+    task: &Task,
+    bytes: &[u8],
+    out: &mut O,
+) -> Result<(), Fault>
+    ensures done { IfOk result (λ _. CanBeDone verb.Draw task.now.places bytes.now) }
+    ensures printed { OnOk result (Prints verb.Draw task.now.places bytes.now (O.contents out.old) (O.contents out.new)) }
+    ensures refused { IfErr result (λ e. status_of e ≡ 1 → CanBeDone verb.Draw task.now.places bytes.now → ⊥) }
+{
+    let verified = verified_in(alloc, bytes)?;
+    let places = places_of(task.places, &verified);
+    let mut world = World::open(alloc, &verified, places)?;
+    let mut drawing = Drawing::new(alloc, places)?;
+    let ended = draw(alloc, &mut world, task.limit, &mut drawing);
+    let picture = drawing.svg()?;
+    out.write_all(picture.as_bytes())?;
+    Ok(ended?)
+}
+
+/// Makes the events of a program until the run has ended, so many at most, and notes each.
+fn draw(alloc: Global, world: &mut World, limit: u64, drawing: &mut Drawing) -> Result<(), Fault>
+    ensures runs { RunsTo world.old world.new }
+    ensures ended { OnOk result (HasEnded world.new) }
+    ensures status { IfErr result (λ e. status_of e ≢ 1) }
+{
+    let mut rounds = Rounds::new(alloc, world)?;
+    for _ in 0..limit {
+        let Some(event) = rounds.next(world)? else {
+            return Err(Fault::Limit);
+        };
+        draw_event(world, event, drawing)?;
+        if world.closed() {
+            return Ok(());
+        }
+    }
+    Err(Fault::Limit)
+}
+
+/// Makes an event, and notes it.
+fn draw_event(world: &mut World, event: Event, drawing: &mut Drawing) -> Result<(), Fault>
+    ensures kept { KeepsSetting world.old world.new }
+    ensures runs { RunsTo world.old world.new }
+    ensures status { IfErr result (λ e. status_of e ≢ 1) }
+{
+    let done = world.event(event)?;
+    drawing.note(world, event, &done)?;
+    Ok(())
+}
