@@ -99,7 +99,9 @@ fn task_of<'a>(matches: &ArgMatches<'a>) -> Option<Task<'a>> {
     let (name, matches) = matches.subcommand()?;
     let verb = match name {
         "asm" => Verb::Asm,
+        "list" if matches.get_flag("verbose") => Verb::ListVerbose,
         "list" => Verb::List,
+        "check" => Verb::Check,
         "verify" => Verb::Verify,
         "bounds" => Verb::Bounds,
         "trace" => Verb::Trace,
@@ -129,10 +131,21 @@ fn program<'a>(alloc: Global) -> Result<Command<'a>, AllocError> {
         .arg(input(alloc, "TEXT", "The file of the assembler text"))?
         .arg(output)?
         .arg(explain(alloc))?;
+    let verbose = Arg::new(alloc, "verbose")
+        .long("verbose")
+        .help("With what the verifier knows at each instruction, in comments")
+        .action(ArgAction::SetTrue);
     let list = Command::new(alloc, "list")
         .about("Print a module as assembler text, which assembles to the same image")
         .after_help(help::LIST)
         .arg(image_name(alloc))?
+        .arg(explain(alloc))?;
+    let list = list.arg(verbose)?;
+    let file = input(alloc, "FILE", "The file of a text, or of a module's image");
+    let check = Command::new(alloc, "check")
+        .about("Tell all that is wrong with a text or an image, or the most steps of each function")
+        .after_help(help::CHECK)
+        .arg(file)?
         .arg(explain(alloc))?;
     let verify = Command::new(alloc, "verify")
         .about(
@@ -164,6 +177,7 @@ fn program<'a>(alloc: Global) -> Result<Command<'a>, AllocError> {
         .subcommand_required(true)
         .subcommand(asm)?
         .subcommand(list)?
+        .subcommand(check)?
         .subcommand(verify)?
         .subcommand(bounds)?
         .subcommand(run_words(
