@@ -19,5 +19,9 @@ mod statement;
 mod words;
 
 pub use assembling::assemble;
+pub use escape::push_quoted;
 pub use fault::{AsmCause, AsmFault};
-pub use listing::list;
+pub use listing::{list, push_instruction};
+pub use split::{next_line, next_word};
+pub use statement::{Line, Statement, line_of};
+pub use words::{push_int, push_kind, push_number, push_result, push_slot, push_word};

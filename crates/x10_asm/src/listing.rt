@@ -119,8 +119,9 @@ fn push_operands(out: &mut String, instr: Instr) -> Result<(), AllocError>
     Ok(())
 }
 
+/// Pushes the line of an instruction: its name and its operands, and the line's end.
 #[tactic(auto, unfolding(crate::specs::Listing::instruction_line))]
-fn push_instruction(out: &mut String, instr: Instr) -> Result<(), AllocError>
+pub fn push_instruction(out: &mut String, instr: Instr) -> Result<(), AllocError>
     ensures { OnOk result (string_bytes out.new ≡ string_bytes out.old ++ instruction_line instr) }
 {
     out.push_str(name(instr.op))?;

@@ -33,8 +33,14 @@ fn code_of(alloc: Global, image: &ImageView, f: usize) -> Result<Vec<Instr>, All
     Ok(code)
 }
 
-/// The bound of a function, given those of the functions before it.
-fn bound_at(alloc: Global, image: &ImageView, f: usize, earlier: &[u64]) -> Result<u64, BoundFault>
+/// The bound of one function, given those of the functions before it, or its first fault: for those who look at a
+/// function by itself. The time and the memory taken are linear in its instructions.
+pub fn bound_at(
+    alloc: Global,
+    image: &ImageView,
+    f: usize,
+    earlier: &[u64],
+) -> Result<u64, BoundFault>
     requires function { f < length image.now.functions }
     requires few { f < 2 ^ 16 }
     requires earlier { f ≡ length earlier.now }

@@ -11,7 +11,7 @@ mod spot;
 mod steps;
 
 pub use fault::{BoundCause, BoundFault};
-pub use functions::{bounds, regions};
+pub use functions::{bound_at, bounds, regions};
 pub use region::Region;
 
 #[cfg(test)]

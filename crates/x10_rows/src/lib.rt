@@ -12,6 +12,8 @@ mod copies;
 #[cfg(test)]
 mod drawing;
 #[cfg(test)]
+mod explaining;
+#[cfg(test)]
 mod finishes;
 #[cfg(test)]
 mod forged;

@@ -1,5 +1,5 @@
 -- What a fault of flow says is a reason that there is no consistent assignment.
-use Rattle.std.proofs.Common.{◌≡◌, ℕ, ◌+◌, ◌<◌, ◌≤◌, length, Option, Some, None, refl, sym, ap, subst, ◌∙◌, inl, inr, arith}
+use Rattle.std.proofs.Common.{◌≡◌, ℕ, ◌+◌, ◌<◌, Option, Some, None, refl, sym, ap, subst, ◌∙◌, inl, inr, arith}
 use Rattle.std.specs.Prelude.{slice_get}
 use Rattle.std.proofs.lemmas.Option.{same_Some, slice_get_within}
 use Rattle.x10_kinds.specs.declared.kind.Kind.{Kind}
@@ -13,7 +13,7 @@ use Rattle.x10_model.specs.declared.slot.Slot.{Slot}
 use Rattle.x10_model.specs.Modules.{Module, Function, FitsImage}
 use Rattle.x10_model.specs.Ranges.{function_at, instr_in}
 use Rattle.x10_model.specs.Structure.{is_target}
-use Rattle.x10_model.specs.Assignments.{State, IsBelow, IsKind, IsPlaced, FitsAs, ReturnsWell, Point, Edges, Permits, Reaches, HasAssignment, AreInRange, entry_state, parameter_kind}
+use Rattle.x10_model.specs.Assignments.{State, IsBelow, IsKind, IsPlaced, FitsAs, ReturnsWell, Point, Edges, Permits, AreInRange, entry_state, parameter_kind}
 use Rattle.x10_verify.specs.declared.fault.FlowCause.{FlowCause}
 use Rattle.x10_verify.specs.declared.fault.FlowCause.TheVariants as flow
 use Rattle.x10_verify.specs.declared.table.Effect.{Effect}
@@ -25,7 +25,7 @@ use Rattle.x10_verify.specs.declared.table.Rule.{Rule}
 use Rattle.x10_verify.specs.Knowledge.{Follows, entered, handed_on, merged, restated, LeastAt, point}
 use Rattle.x10_verify.specs.Merging.{IsMet}
 use Rattle.x10_verify.specs.Effects.{IsNarrow, CanApply}
-use Rattle.x10_verify.specs.Rules.{Asked, field_of, IsPlaceTerm, IsCalled, GivesBack, Settles, Allows, rule_for, after, edge_if, goes_on_of}
+use Rattle.x10_verify.specs.Rules.{Asked, field_of, IsPlaceTerm, IsCalled, GivesBack, Settles, Allows, rule_for, after, goes_on_of}
 use Rattle.x10_verify.specs.Causes.{Want, Anything, Fitting, AnObject, AnObjectOrNull, AReference, APlaceOrReference, AnIntOrText, Meets, IsRefused, IsUnfit, HasNoField, IsNoPlace, IsUncalled, IsUnreturned, IsCauseOf, IsCauseAt}
 use Rattle.x10_verify.specs.LawsOfFaults.{CausesRefuteRules, FollowedIsKnown, FoundIsWithout}
 use Rattle.x10_verify.proofs.Below.{entry_cases}

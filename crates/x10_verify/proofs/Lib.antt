@@ -17,3 +17,4 @@ pub mod InFunction
 pub mod Solved
 pub mod Prints
 pub mod Found
+pub mod Flows

@@ -19,7 +19,7 @@ use Rattle.x10_model.specs.Assignments.{State, IsBelow, IsKind, Edges, Permits, 
 use Rattle.x10_verify.specs.declared.states.Entry.{Entry}
 use Rattle.x10_verify.specs.Knowledge.{point}
 use Rattle.x10_verify.specs.Least.{HasLeast, IsReached}
-use Rattle.x10_verify.specs.Solving.{Solves}
+use Rattle.x10_verify.specs.Solving.{IsSolved}
 use Rattle.x10_verify.specs.Printing.{AreNoted, HasRows, PrintsText, bit_at, bit_if, bit_in, row_if, is_print, is_text, prints_in}
 use Rattle.x10_verify.specs.States.{state_if, state_in, stated}
 use Rattle.x10_model.proofs.Decided.{get_below}
@@ -144,11 +144,13 @@ module _ (program : Module) (f : ℕ) (function : Function) (there : function_at
       ]
 
 -- what is noted of the states so far, once none waits
-pub noted_solved : (program : Module) (f at len : ℕ) (table : List Entry) (row : List Bool) → f < length program.functions → len ≡ length (code_at program f) → len ≤ at
-    → ((function : Function) → function_at program f ≡ Some function → Solves program function at table) → ((pc : ℕ) → bit_in row pc ≡ prints_in (instr_at program f pc) (stated table pc)) → AreNoted program (bit_in row) f
-noted_solved program f at len table row lt size le solves bits pc =
+pub noted_solved : (program : Module) (f len : ℕ) (table : List Entry) (row : List Bool) → f < length program.functions → len ≡ length (code_at program f)
+    → ((function : Function) → function_at program f ≡ Some function → IsSolved program function table) → ((pc : ℕ) → bit_in row pc ≡ prints_in (instr_at program f pc) (stated table pc)) → AreNoted program (bit_in row) f
+noted_solved program f len table row lt size solves bits pc =
     let g = get_below program.functions f lt in
-    let least = solved program g.0 at len table (code_length program f len g.0 g.1 size) le (solves g.0 g.1) in
+    let s = solves g.0 g.1 in
+    let same : length g.0.code ≡ len = code_length program f len g.0 g.1 size in
+    let least = solved program g.0 s.0 len table same (let past : length g.0.code ≤ s.0 = s.1 in omega arith) s.2 in
     let bit : bit_in row pc ≡ prints_in (slice_get g.0.code pc) (stated table pc) = bits pc ∙ ap (λ o. prints_in (instr_in o pc) (stated table pc)) g.1 in
     subst (λ b. b ≡ true ↔ PrintsText program f pc) (sym bit) (prints_iff program f g.0 g.1 (stated table, least) pc)
 

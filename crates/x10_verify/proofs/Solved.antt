@@ -13,7 +13,7 @@ use Rattle.x10_verify.specs.Known.{entered, state_of}
 use Rattle.x10_verify.specs.Knowledge as knowledge
 use Rattle.x10_verify.specs.Knowledge.{LeastAt, SameState}
 use Rattle.x10_verify.specs.Least.{IsLeast}
-use Rattle.x10_verify.specs.Solving.{Solves}
+use Rattle.x10_verify.specs.Solving.{IsSolved, Solves}
 use Rattle.x10_verify.specs.States.{state_in, stated, waits, IsFresh, IsMetIn, Arrives}
 use Rattle.x10_verify.proofs.Below.{IsBelow-trans, SameState-below, SameState-sym}
 use Rattle.x10_verify.proofs.Solving.{Arrived, arrived}
@@ -80,6 +80,9 @@ solved program function at len table size le h = record {
   };
   below = λ pc s e a. (h.least pc s e).below a.0 a.1;
 }
+
+pub solved_least : (program : Module) (function : Function) (table : List Entry) → IsSolved program function table → IsLeast program function (stated table)
+solved_least program function table h = solved program function h.0 (length function.code) table refl h.1 h.2
 
 -- and nothing is left of the function
 pub cleared : (program : Module) (function : Function) (at len : ℕ) (old new : List Entry) → length function.code ≡ len → Solves program function at old → ((q : ℕ) → q < len → state_in (slice_get new q) ≡ None) → ((q : ℕ) → len ≤ q → slice_get new q ≡ slice_get old q) → IsFresh new

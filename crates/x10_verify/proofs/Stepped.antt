@@ -22,7 +22,7 @@ use Rattle.x10_verify.specs.Rules.{Allows, rule_for, after, edge_if, edges_of, g
 use Rattle.x10_verify.specs.States.{Takes, state_if, state_in, stated, waits, waits_in, is_waiting, total}
 use Rattle.x10_verify.specs.declared.fault.FlowCause.TheVariants as flow
 use Rattle.x10_verify.specs.Causes.{IsCauseAt}
-use Rattle.x10_verify.specs.Solving.{Holds, Solves, JumpsIf, GoesOnIf, Stops}
+use Rattle.x10_verify.specs.Solving.{Holds, LeadsOut, Shows, Solves, JumpsIf, GoesOnIf, Stops}
 use Rattle.x10_verify.proofs.Below.{IsBelow-trans, SameState-below, SameState-sym}
 use Rattle.x10_verify.proofs.Effects.{after_state}
 use Rattle.x10_verify.proofs.Parts.{parts_permit}
@@ -207,37 +207,50 @@ step_on program function at len instr known effect next t0 t1 t2 t3 size is fit 
     let p = go_on_on program function at len instr known effect t2 t3 next (is_target (form_of instr.op).x) (goes_on_of instr.op) size refl is kept least allows sound g f in
     finishes program function at (state_of known) instr effect next t3 is allows p
 
+-- the state of a taken instruction stays in the table
+pub taken_there : (old : List Entry) (at : ℕ) (known : Known) (new : List Entry) → Takes old at known new → stated new at ≡ Some (state_of known)
+taken_there old at known new t = ap state_in (ap (λ xs. slice_get xs at) t.is ∙ get_set old at (record { mark = Done; known = t.before.known }) t.before t.was) ∙ ap (λ k. Some (state_of k)) t.known_is
+
 -- a rule that does not hold
 pub step_refused : (program : Module) (function : Function) (at : ℕ) (instr : Instr) (known : Known) (why : FlowCause) (t0 t1 : List Entry) → slice_get function.code at ≡ Some instr → Takes t0 at known t1
     → ((e : Effect) → Allows (rule_for instr.op instr) (point program function at instr) (state_of known) e → ⊥) → IsCauseAt (rule_for instr.op instr) (point program function at instr) (state_of known) why
-    → Solves program function at t0 → (HasAssignment program function → ⊥) × Stops program function at why
+    → Solves program function at t0 → (HasAssignment program function → ⊥) × Stops program function at why × Shows program function at why t1
 step_refused program function at instr known why t0 t1 is t never cause h =
     let own = taken_state t0 at known t1 t in
-    let least = h.least at (state_of known) own in
-    (least_never program function at (state_of known) instr (h.kept at (state_of known) own).narrow is least never, inl (record { instr = instr; state = state_of known; is_instr = is; follows = least.follows; cause = cause }))
+    let least = h.least at (state_of known) own in (
+      least_never program function at (state_of known) instr (h.kept at (state_of known) own).narrow is least never,
+      inl (record { instr = instr; state = state_of known; is_instr = is; follows = least.follows; cause = cause }),
+      record { least = (takes program function at known t0 t1 t h).least; stops = inl (instr, state_of known, is, taken_there t0 at known t1 t, cause) },
+    )
 
 -- a jump out of the function
-pub step_jumps_out : (program : Module) (function : Function) (at len : ℕ) (instr : Instr) (known : Known) (effect : Effect) (why : FlowCause) (t0 t1 : List Entry) → length function.code ≡ len → slice_get function.code at ≡ Some instr → Takes t0 at known t1
-    → Allows (rule_for instr.op instr) (point program function at instr) (state_of known) effect → is_target (form_of instr.op).x ≡ true → len ≤ instr.x → why ≡ flow.Unset
-    → Solves program function at t0 → (HasAssignment program function → ⊥) × Stops program function at why
-step_jumps_out program function at len instr known effect why t0 t1 size is t allows jumps out unset h =
+pub step_jumps_out : (program : Module) (function : Function) (at len : ℕ) (instr : Instr) (known : Known) (effect : Effect) (why : FlowCause) (t0 t1 t2 : List Entry) → length function.code ≡ len → slice_get function.code at ≡ Some instr → Takes t0 at known t1
+    → Allows (rule_for instr.op instr) (point program function at instr) (state_of known) effect → is_target (form_of instr.op).x ≡ true → len ≤ instr.x → why ≡ flow.Unset → t2 ≡ t1
+    → Solves program function at t0 → (HasAssignment program function → ⊥) × Stops program function at why × Shows program function at why t2
+step_jumps_out program function at len instr known effect why t0 t1 t2 size is t allows jumps out unset same h =
     let own = taken_state t0 at known t1 t in
-    let least = h.least at (state_of known) own in (
+    let least = h.least at (state_of known) own in
+    let leads : LeadsOut function at instr why = (unset, inl (jumps, (let e : length function.code ≤ instr.x = omega arith in e))) in (
       least_past program function instr.x (state_of known) (omega arith) (least_jump program function at (state_of known) instr effect (h.kept at (state_of known) own).narrow is least allows jumps),
-      inr (instr, is, (unset, inl (jumps, (let e : length function.code ≤ instr.x = omega arith in e)))),
+      inr (instr, is, leads),
+      subst (λ x. Shows program function at why x) (sym same) (record { least = (takes program function at known t0 t1 t h).least; stops = inr (instr, is, leads) }),
     )
 
 -- the last instruction goes on
-pub step_runs_out : (program : Module) (function : Function) (at len : ℕ) (instr : Instr) (known : Known) (effect : Effect) (why : FlowCause) (t0 t1 : List Entry) → length function.code ≡ len → slice_get function.code at ≡ Some instr → ResultsFit program
-    → ((form_of instr.op).x ≡ operand.Place → instr.x < 64) → Takes t0 at known t1 → Allows (rule_for instr.op instr) (point program function at instr) (state_of known) effect → goes_on_of instr.op ≡ true → len ≤ at + 1 → why ≡ flow.Unset
-    → Solves program function at t0 → (HasAssignment program function → ⊥) × Stops program function at why
-step_runs_out program function at len instr known effect why t0 t1 size is fit place t allows on out unset h =
+pub step_runs_out : (program : Module) (function : Function) (at len : ℕ) (instr : Instr) (known : Known) (effect : Effect) (why : FlowCause) (next : ℕ) (t0 t1 t2 t3 : List Entry) → length function.code ≡ len → slice_get function.code at ≡ Some instr → ResultsFit program
+    → ((form_of instr.op).x ≡ operand.Place → instr.x < 64) → Takes t0 at known t1 → Allows (rule_for instr.op instr) (point program function at instr) (state_of known) effect → JumpsIf (is_target (form_of instr.op).x) instr at len known t1 next t2
+    → goes_on_of instr.op ≡ true → len ≤ at + 1 → why ≡ flow.Unset → t3 ≡ t2
+    → Solves program function at t0 → (HasAssignment program function → ⊥) × Stops program function at why × Shows program function at why t3
+step_runs_out program function at len instr known effect why next t0 t1 t2 t3 size is fit place t allows j on out unset same h =
     let own = taken_state t0 at known t1 t in
     let kept : IsKept (state_of known) = h.kept at (state_of known) own in
     let least = h.least at (state_of known) own in
-    let sound = allows_sound (rule_for instr.op instr) (point program function at instr) (state_of known) effect kept.narrow fit (table_sound instr.op instr place) allows in (
+    let sound = allows_sound (rule_for instr.op instr) (point program function at instr) (state_of known) effect kept.narrow fit (table_sound instr.op instr place) allows in
+    let f = jump_on program function at len instr known effect t1 t2 next (is_target (form_of instr.op).x) size refl is kept least allows j (takes program function at known t0 t1 t h) in
+    let leads : LeadsOut function at instr why = (unset, inr (on, (let e : length function.code ≤ at + 1 = omega arith in e))) in (
       least_past program function (at + 1) (after instr.a (state_of known) effect) (omega arith) (least_on program function at (state_of known) instr effect kept.narrow is least allows sound on),
-      inr (instr, is, (unset, inr (on, (let e : length function.code ≤ at + 1 = omega arith in e)))),
+      inr (instr, is, leads),
+      subst (λ x. Shows program function at why x) (sym same) (record { least = f.works.least; stops = inr (instr, is, leads) }),
     )
 
 -- ---- how often the table can change

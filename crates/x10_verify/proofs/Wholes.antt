@@ -106,6 +106,12 @@ has_names m f fits range pc i is =
     let g = instr_of m f pc (function_at m f) i refl is in
     named_in m g.0 i fits (function_fits m f g.0 fits g.1) (range f pc g.0 i g.1 g.2)
 
+-- the same of one function, by itself
+pub names_in : (m : Module) (f : ℕ) → FitsImage m → ((function : Function) → function_at m f ≡ Some function → AreInRangeTo m function (length function.code)) → HasNames m f
+names_in m f fits range pc i is =
+    let g = instr_of m f pc (function_at m f) i refl is in
+    named_in m g.0 i fits (function_fits m f g.0 fits g.1) (range g.0 g.1 pc i (slice_get_within g.0.code pc i g.2) g.2)
+
 -- ---- the longest function
 
 pub length_more : (m : Module) (f longest len : ℕ) → ((g : ℕ) → g < f → length (code_at m g) ≤ longest) → len ≡ length (code_at m f) → (g : ℕ) → g < f + 1 → length (code_at m g) ≤ max longest len

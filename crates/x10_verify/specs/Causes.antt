@@ -1,16 +1,14 @@
 -- When a cause holds at an instruction: which of the things that its rule asks for is missing in a state.
-use Rattle.std.specs.Prelude.{◌≡◌, ◌≢◌, ℕ, ◌+◌, ◌≤◌, ◌⊎◌, true, false, List, length, Option, Some, None, slice_get}
+use Rattle.std.specs.Prelude.{◌≡◌, ◌≢◌, ℕ, ◌+◌, ◌⊎◌, true, false, List, Option, Some, None, slice_get}
 use Rattle.x10_kinds.specs.declared.kind.Kind.{Kind}
 use Rattle.x10_kinds.specs.declared.kind.Kind.TheVariants as kind
 use Rattle.x10_kinds.specs.declared.homes.Term.{Term}
 use Rattle.x10_kinds.specs.declared.homes.Term.TheVariants as term
 use Rattle.x10_kinds.specs.Kinds.{Fits}
 use Rattle.x10_code.specs.declared.instr.Instr.{Instr}
-use Rattle.x10_code.specs.Table.{form_of}
 use Rattle.x10_model.specs.declared.slot.Slot.{Slot}
 use Rattle.x10_model.specs.Modules.{Module, Function}
 use Rattle.x10_model.specs.Ranges.{function_at}
-use Rattle.x10_model.specs.Structure.{is_target}
 use Rattle.x10_model.specs.Assignments.{State, Point, IsKind}
 use Rattle.x10_verify.specs.declared.fault.FlowCause.{FlowCause}
 use Rattle.x10_verify.specs.declared.fault.FlowCause.TheVariants as flow
@@ -19,7 +17,7 @@ use Rattle.x10_verify.specs.declared.table.Outcome.TheVariants.{Fixed, Copies, C
 use Rattle.x10_verify.specs.declared.table.Outcome.TheVariants.{Locates, Exports, Opens, FindsHere, FindsSame, Starts, Prints}
 use Rattle.x10_verify.specs.declared.table.Rule.{Rule}
 use Rattle.x10_verify.specs.Knowledge.{Follows, point}
-use Rattle.x10_verify.specs.Rules.{field_of, rule_for, goes_on_of}
+use Rattle.x10_verify.specs.Rules.{field_of, rule_for}
 
 -- what is asked of a register
 pub data Want : Type 0 where

@@ -3,6 +3,7 @@ pub mod Known
 pub mod Ranges
 pub mod Verdict
 pub mod Faults
+pub mod Flows
 pub mod Certified
 pub mod Least
 pub mod Printing

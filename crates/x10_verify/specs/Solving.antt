@@ -15,8 +15,8 @@ use Rattle.x10_verify.specs.declared.table.Effect.{Effect}
 use Rattle.x10_verify.specs.Knowledge.{LeastAt, SameState, point}
 use Rattle.x10_verify.specs.Known.{state_of}
 use Rattle.x10_verify.specs.Effects.{IsKept, IsNarrow}
-use Rattle.x10_verify.specs.Rules.{after, goes_on_of}
-use Rattle.x10_verify.specs.Causes.{IsFound}
+use Rattle.x10_verify.specs.Rules.{after, goes_on_of, rule_for}
+use Rattle.x10_verify.specs.Causes.{IsCauseAt, IsFound}
 use Rattle.x10_verify.specs.States.{Arrives, stated, waits}
 
 -- the rule of instruction q holds in a state, and what follows knows no more than it is given
@@ -34,6 +34,10 @@ pub record Solves (program : Module) (function : Function) (at : ℕ) (table : L
   pub least : (q : ℕ) (s : State) → stated table q ≡ Some s → LeastAt program function q s
   pub behind : (q : ℕ) → q < at → waits table q ≡ false
 
+-- none waits any more
+abbrev pub IsSolved : Module → Function → List Entry → Type 0
+IsSolved program function table = (at : ℕ) × (length function.code ≤ at) × Solves program function at table
+
 -- the instruction leads to none; where the structure holds and all that is named is there, none does
 abbrev pub LeadsOut : Function → ℕ → Instr → FlowCause → Type 0
 LeadsOut function pc instr why = (why ≡ Unset)
@@ -47,10 +51,24 @@ Stops program function pc why = IsFound program function pc why ⊎ ((instr : In
 abbrev pub StopsIn : Module → ℕ → ℕ → FlowCause → Type 0
 StopsIn m f pc why = (function : Function) × (function_at m f ≡ Some function) × Stops m function pc why
 
+-- the cause holds in the state that the table has there, or the instruction leads to none
+abbrev pub StopsAt : Module → Function → ℕ → FlowCause → List Entry → Type 0
+StopsAt program function pc why table = ((instr : Instr) × (s : State) × (slice_get function.code pc ≡ Some instr) × (stated table pc ≡ Some s)
+    × IsCauseAt (rule_for instr.op instr) (point program function pc instr) s why) ⊎ ((instr : Instr) × (slice_get function.code pc ≡ Some instr) × LeadsOut function pc instr why)
+
+-- each state is one that every consistent assignment has at least, and follows from the entry
+abbrev pub AreLeast : Module → Function → List Entry → Type 0
+AreLeast program function table = (q : ℕ) (s : State) → stated table q ≡ Some s → LeastAt program function q s
+
+-- what the table shows where the flow stops
+pub record Shows (program : Module) (function : Function) (pc : ℕ) (why : FlowCause) (table : List Entry) : Type 0 where
+  pub least : AreLeast program function table
+  pub stops : StopsAt program function pc why table
+
 -- one waiting instruction more: the states so far and where to go on, or no consistent assignment, and why
 abbrev pub Steps : Module → Function → ℕ → List Entry → Result ℕ FlowCause → List Entry → Type 0
 Steps program function at old (Ok next) new = Solves program function at old → Solves program function next new
-Steps program function at old (Err cause) new = Solves program function at old → (HasAssignment program function → ⊥) × Stops program function at cause
+Steps program function at old (Err cause) new = Solves program function at old → (HasAssignment program function → ⊥) × Stops program function at cause × Shows program function at cause new
 
 -- what became of the jump to x: its state has changed, and is to be looked at next where it is no later instruction
 abbrev pub JumpsIf : Bool → Instr → ℕ → ℕ → Known → List Entry → ℕ → List Entry → Type 0
@@ -60,7 +78,7 @@ JumpsIf false i at len known old next new = (next ≡ at + 1) × (new ≡ old)
 
 abbrev pub Jumps : Instr → ℕ → ℕ → Known → List Entry → Result ℕ FlowCause → List Entry → Type 0
 Jumps i at len known old (Ok next) new = JumpsIf (is_target (form_of i.op).x) i at len known old next new
-Jumps i at len known old (Err cause) new = (is_target (form_of i.op).x ≡ true) × (len ≤ i.x) × (cause ≡ Unset)
+Jumps i at len known old (Err cause) new = (is_target (form_of i.op).x ≡ true) × (len ≤ i.x) × (cause ≡ Unset) × (new ≡ old)
 
 -- what became of the next instruction
 abbrev pub GoesOnIf : Bool → Instr → ℕ → ℕ → Effect → Known → List Entry → List Entry → Type 0
@@ -70,4 +88,4 @@ GoesOnIf false i at len effect known old new = new ≡ old
 
 abbrev pub GoesOn : Instr → ℕ → ℕ → Effect → Known → List Entry → Result Unit FlowCause → List Entry → Type 0
 GoesOn i at len effect known old (Ok done) new = GoesOnIf (goes_on_of i.op) i at len effect known old new
-GoesOn i at len effect known old (Err cause) new = (goes_on_of i.op ≡ true) × (len ≤ at + 1) × (cause ≡ Unset)
+GoesOn i at len effect known old (Err cause) new = (goes_on_of i.op ≡ true) × (len ≤ at + 1) × (cause ≡ Unset) × (new ≡ old)

@@ -5,6 +5,7 @@ mod calls;
 mod decide;
 mod entry;
 mod fault;
+mod flow;
 mod known;
 pub mod laws;
 mod merge;
@@ -20,6 +21,8 @@ mod verified;
 mod whole;
 
 pub use fault::{VerifyCause, VerifyFault};
+pub use flow::{Flow, known_flow};
+pub use table::{Effect, Outcome, Rule, rule_of};
 pub use verified::{Verified, verify};
 
 #[cfg(test)]

@@ -8,7 +8,7 @@ ghost use Rattle.x10_model.specs.Ranges.{function_at};
 ghost use Rattle.x10_verify.specs.Least.{HasLeast};
 ghost use Rattle.x10_verify.specs.Named.{HasNames};
 ghost use Rattle.x10_verify.specs.Printing.{AreNoted, bit_in};
-ghost use Rattle.x10_verify.specs.Solving.{Steps, Stops};
+ghost use Rattle.x10_verify.specs.Solving.{IsSolved, Shows, Steps, Stops};
 ghost use Rattle.x10_verify.specs.States.{IsFresh, total};
 
 use crate::entry::entry;
@@ -26,9 +26,38 @@ pub(crate) struct FlowFault {
     pub(crate) pc: usize,
 }
 
+/// Fills a table without states with those of a function, or finds a rule that fails in every assignment of it. Code
+/// without loops is walked once; an instruction in loops as often as what is known before it changes, and once.
+pub(crate) fn solve(image: &ImageView, f: usize, table: &mut Vec<Entry>) -> Result<(), FlowFault>
+    requires there { f < length image.now.functions }
+    requires names { HasNames image.now f }
+    requires room { length (code_at image.now f) ≤ length table.old.items }
+    requires fresh { IsFresh table.old.items }
+    ensures solved { IfOk result (λ _. (function : Function) → function_at image.now f ≡ Some function → IsSolved image.now function table.new.items) }
+    ensures without { IfErr result (λ _. (function : Function) → function_at image.now f ≡ Some function → HasAssignment image.now function → ⊥) }
+    ensures cause { IfErr result (λ fault. (function : Function) → function_at image.now f ≡ Some function → Stops image.now function fault.pc fault.cause) }
+    ensures shows { IfErr result (λ fault. (function : Function) → function_at image.now f ≡ Some function → Shows image.now function fault.pc fault.cause table.new.items) }
+    ensures small { IfErr result (λ fault. fault.pc ≤ 4096) }
+    ensures size { IfOk result (λ _. length table.new.items ≡ length table.old.items) }
+{
+    let signature = image.signature(f);
+    let slot = signature.result();
+    let len = image.code_len(f);
+    let first = entry(&signature);
+    first.narrow();
+    arrive(table, 0, &first);
+    let mut at = 0;
+    while at < len {
+        match pass(image, f, slot, at, len, table) {
+            Err(cause) => return Err(FlowFault { cause, pc: at }),
+            Ok(next) => at = next,
+        }
+    }
+    Ok(())
+}
+
 /// A function has a consistent assignment, or some rule fails in every one. The table comes and goes without a state; the
-/// row gets the answers of which instructions print a text. Code without loops is walked once; an instruction in loops as
-/// often as what is known before it changes, and once.
+/// row gets the answers of which instructions print a text. The time is that of `solve`.
 pub(crate) fn check_function(
     image: &ImageView,
     f: usize,
@@ -48,21 +77,11 @@ pub(crate) fn check_function(
     ensures size { IfOk result (λ _. length table.new.items ≡ length table.old.items) }
     ensures row { length row.new.items ≡ length row.old.items }
 {
-    let signature = image.signature(f);
-    let slot = signature.result();
-    let len = image.code_len(f);
-    let first = entry(&signature);
-    first.narrow();
-    arrive(table, 0, &first);
-    let mut at = 0;
-    while at < len {
-        match pass(image, f, slot, at, len, table) {
-            Err(cause) => return Err(FlowFault { cause, pc: at }),
-            Ok(next) => at = next,
-        }
+    if let Err(fault) = solve(image, f, table) {
+        return Err(fault);
     }
     note(image, f, table, row);
-    clear(table, len);
+    clear(table, image.code_len(f));
     Ok(())
 }
 

@@ -11,7 +11,7 @@ use x10_kinds::{Kind, Term};
 
 /// What an instruction does to the state that goes on to the next one.
 #[derive(Clone, Copy, Debug, PartialEq, Eq)]
-pub(crate) enum Effect {
+pub enum Effect {
     /// Nothing.
     Keeps,
     /// Register a is written: a value of the kind, at the place of the term or at one that nothing is known of.
@@ -22,7 +22,7 @@ pub(crate) enum Effect {
 
 /// What settles an instruction's effect, and what it asks beside the kinds of its row.
 #[derive(Clone, Copy, Debug, PartialEq, Eq)]
-pub(crate) enum Outcome {
+pub enum Outcome {
     /// The operation alone.
     Fixed(Effect),
     /// The kind and the place of register b.
@@ -57,15 +57,15 @@ pub(crate) enum Outcome {
 
 /// A row of the table: the kinds that registers a, b and c are asked for, and what settles the effect.
 #[derive(Clone, Copy, Debug, PartialEq, Eq)]
-pub(crate) struct Rule {
-    pub(crate) a: Option<Kind>,
-    pub(crate) b: Option<Kind>,
-    pub(crate) c: Option<Kind>,
-    pub(crate) outcome: Outcome,
+pub struct Rule {
+    pub a: Option<Kind>,
+    pub b: Option<Kind>,
+    pub c: Option<Kind>,
+    pub outcome: Outcome,
 }
 
-/// The row of an instruction. Constant time.
-pub(crate) fn rule_of(instr: Instr) -> Rule
+/// The row of an instruction: what the verifier goes by, and so what those who explain its answer go by. Constant time.
+pub fn rule_of(instr: Instr) -> Rule
     requires { NamesSmall instr }
     ensures value { result ≡ rule_for instr.op instr }
 {

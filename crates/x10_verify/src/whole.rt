@@ -22,8 +22,8 @@ pub(crate) struct Position {
     pub(crate) pc: usize,
 }
 
-// The first instruction of a function that names what isn't there.
-fn first_out(image: &ImageView, f: usize) -> Option<usize>
+/// The first instruction of a function that names what isn't there.
+pub(crate) fn first_out(image: &ImageView, f: usize) -> Option<usize>
     requires { f < length image.now.functions }
     ensures first { (function : Function) → function_at image.now f ≡ Some function → MatchOption result (AreInRangeTo image.now function (length function.code)) (λ pc. IsOutAt image.now function pc) }
     ensures small { IfSome result (λ pc. pc < 4096) }

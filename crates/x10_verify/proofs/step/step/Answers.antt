@@ -16,8 +16,8 @@ returns-in_err-effect-clause-steps c = (
 pub returns-in_err-next-clause-steps : goal.returns-in_err-next-clause-steps
 returns-in_err-next-clause-steps c = (
     let p = err_from_is_err_and c.from_residual-in_err-next.result c.from_residual-in_err-next.ensures.1 in
-    rw (p.1, p.2) (λ function same is size. step_jumps_out c.args.image.now function c.args.at c.args.len c.args.instr c.take-known.result c.in_ok-effect.effect _ c.args.table.now.items c.take-known.new.table.items size is c.take-known.ensures.taken
-    (c.in_ok-effect.ensures.decides function c.args.at same) c.in_err-next.ensures.0 c.in_err-next.ensures.1 c.in_err-next.ensures.2))
+    rw (p.1, p.2) (λ function same is size. step_jumps_out c.args.image.now function c.args.at c.args.len c.args.instr c.take-known.result c.in_ok-effect.effect _ c.args.table.now.items c.take-known.new.table.items c.jump.new.table.items size is c.take-known.ensures.taken
+    (c.in_ok-effect.ensures.decides function c.args.at same) c.in_err-next.ensures.0 c.in_err-next.ensures.1 c.in_err-next.ensures.2 c.in_err-next.ensures.3))
 
 pub go_on-requires-clause-can : goal.go_on-requires-clause-can
 go_on-requires-clause-can c =
@@ -27,8 +27,8 @@ go_on-requires-clause-can c =
 pub returns-in_err-go_on-clause-steps : goal.returns-in_err-go_on-clause-steps
 returns-in_err-go_on-clause-steps c = (
     let p = err_from_is_err_and c.from_residual-in_err-go_on.result c.from_residual-in_err-go_on.ensures.1 in
-    rw (p.1, p.2) (λ function same is size. step_runs_out c.args.image.now function c.args.at c.args.len c.args.instr c.take-known.result c.in_ok-effect.effect _ c.args.table.now.items c.take-known.new.table.items size is (results_fit c.args.image.now c.fits.ensures) c.requires.named.small.place c.take-known.ensures.taken
-    (c.in_ok-effect.ensures.decides function c.args.at same) c.in_err-go_on.ensures.0 c.in_err-go_on.ensures.1 c.in_err-go_on.ensures.2))
+    rw (p.1, p.2) (λ function same is size. step_runs_out c.args.image.now function c.args.at c.args.len c.args.instr c.take-known.result c.in_ok-effect.effect _ c.in_ok-next.next c.args.table.now.items c.take-known.new.table.items c.jump.new.table.items c.go_on.new.table.items size is (results_fit c.args.image.now c.fits.ensures) c.requires.named.small.place c.take-known.ensures.taken
+    (c.in_ok-effect.ensures.decides function c.args.at same) c.in_ok-next.ensures c.in_err-go_on.ensures.0 c.in_err-go_on.ensures.1 c.in_err-go_on.ensures.2 c.in_err-go_on.ensures.3))
 
 pub returns-clause-steps : goal.returns-clause-steps
 returns-clause-steps c = λ function same is size. step_on c.args.image.now function c.args.at c.args.len c.args.instr c.take-known.result c.in_ok-effect.effect c.in_ok-next.next c.args.table.now.items c.take-known.new.table.items c.jump.new.table.items c.go_on.new.table.items size is

@@ -3,7 +3,7 @@ use Rattle.x10_model.specs.Modules.{Function}
 use Rattle.x10_model.specs.Ranges.{function_at}
 use Rattle.x10_verify.specs.Solving.{Solves}
 use Rattle.x10_verify.specs.States.{total}
-use Rattle.x10_verify.proofs.solver.check_function.Given as goal
+use Rattle.x10_verify.proofs.solver.solve.Given as goal
 
 abbrev pub invariant-loop-at : goal.invariant-loop-at
 invariant-loop-at l = record {

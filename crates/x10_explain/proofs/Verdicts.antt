@@ -1,0 +1,73 @@
+-- Whether bytes are the image of a verified module, by what the verifier says.
+use Rattle.std.proofs.Common.{◌≡◌, ℕ, Bool, true, List, Option, Some, None, Result, Ok, refl, sym, ap, subst, ◌∙◌}
+use Rattle.std.specs.Prelude.{◌↔◌}
+use Rattle.x10_model.specs.Images.{spelling}
+use Rattle.x10_model.specs.Modules.{Module, FitsImage}
+use Rattle.x10_model.specs.ReadingImages.{ImageFault, module_at}
+use Rattle.x10_model.specs.Structure as structure
+use Rattle.x10_model.specs.Structure.{bounds_of}
+use Rattle.x10_model.specs.Verified.{IsVerified}
+use Rattle.x10_model.proofs.ImageLaws.{module_again}
+use Rattle.x10_asm.specs.Reading.{module_of}
+use Rattle.x10_asm.specs.Sources.{IsImageOf}
+use Rattle.x10_asm.specs.declared.fault.AsmFault.{AsmFault}
+use Rattle.x10_bounds.specs.Faults.{named}
+use Rattle.x10_verify.specs.Certified.{Certified, IsCertified}
+use Rattle.x10_verify.specs.Faults.{IsStructureFault, RefutesBy, Refutes}
+use Rattle.x10_verify.specs.Verdict.{IsFirstOut, IsFirstWithout}
+use Rattle.x10_verify.specs.declared.fault.VerifyCause.{VerifyCause}
+use Rattle.x10_verify.specs.declared.fault.VerifyCause.TheVariants as cause
+use Rattle.x10_verify.specs.declared.fault.VerifyFault.{VerifyFault}
+use Rattle.x10_explain.specs.Verdicts.{IsGood, IsVerifiedImage, IsVerifiedText}
+
+abbrev answer : Module → Result Module ImageFault
+answer m = Ok m
+
+-- bytes are the image of one module
+pub same_module : (m n : Module) (bytes : List ℕ) → FitsImage m → bytes ≡ spelling m → FitsImage n → bytes ≡ spelling n → m ≡ n
+same_module m n bytes fm em fn en =
+    let h : answer m ≡ answer n = sym (module_again m fm) ∙ ap module_at (sym em ∙ en) ∙ module_again n fn in
+    cc
+
+broken : (m : Module) (bounds : List ℕ) (c : Option structure.BoundCause) (f pc : ℕ) → IsStructureFault m c f pc → bounds_of m ≡ Ok bounds → ⊥
+broken m bounds None f pc r e = r
+broken m bounds (Some c) f pc r e = absurd (let h = sym r ∙ e in cc)
+
+out_of_range : (m : Module) (bounds : List ℕ) (f pc : ℕ) → IsFirstOut m f pc → IsVerified m bounds → ⊥
+out_of_range m bounds f pc out v = out.out.out (v.in_range f pc out.function out.out.instr out.is_function out.out.is_instr)
+
+without : (m : Module) (bounds : List ℕ) (f : ℕ) → IsFirstWithout m f → IsVerified m bounds → ⊥
+without m bounds f out v = out.without (v.assignments f out.function out.is_function)
+
+not_by : (m : Module) (bounds : List ℕ) (c : VerifyCause) (f pc : ℕ) → RefutesBy c m f pc → (c ≡ cause.Memory → ⊥) → IsVerified m bounds → ⊥
+not_by m bounds (cause.Structure c) f pc r other v = broken m bounds (named c) f pc r v.bounds_are
+not_by m bounds cause.Index f pc r other v = out_of_range m bounds f pc r.1 v
+not_by m bounds cause.Unset f pc r other v = without m bounds f r.2 v
+not_by m bounds cause.Kind f pc r other v = without m bounds f r.2 v
+not_by m bounds cause.Home f pc r other v = without m bounds f r.2 v
+not_by m bounds cause.Result f pc r other v = without m bounds f r.2 v
+not_by m bounds cause.Memory f pc r other v = other refl
+
+-- what the verifier refutes isn't the image of a verified module
+pub not_verified : (bytes : List ℕ) (m : Module) (f : VerifyFault) → FitsImage m → bytes ≡ spelling m → Refutes m f → (f.cause ≡ cause.Memory → ⊥) → IsVerifiedImage bytes → ⊥
+not_verified bytes m f fits spelled r other (n, is, good) =
+    let same = same_module n m bytes good.fits is fits spelled in
+    not_by m good.bounds f.cause f.function f.pc r other (subst (λ k. IsVerified k good.bounds) same good.verified)
+
+-- what it accepts is
+pub is_verified : (bytes : List ℕ) (m : Module) (c : Certified) → bytes ≡ spelling m → c.program ≡ m → IsCertified c → IsVerifiedImage bytes
+is_verified bytes m c spelled same is = (c.program, spelled ∙ ap spelling (sym same), record { bounds = c.bounds; fits = is.fits; verified = is.verified })
+
+-- ---- of a text
+
+abbrev read_as : Module → Result Module AsmFault
+read_as m = Ok m
+
+pub text_verdict : (text items slice : List ℕ) (b : Bool) → slice ≡ items → IsImageOf items (module_of text) → (b ≡ true ↔ IsVerifiedImage slice) → (b ≡ true ↔ IsVerifiedText text)
+text_verdict text items slice b same (m, fits, read, spelled) h = (
+  λ is. (let v = h.0 is in (m, read, subst IsGood (same_module v.0 m items v.2.fits (sym same ∙ v.1) fits spelled) v.2)),
+  λ v. (
+      let e : read_as m ≡ read_as v.0 = sym read ∙ v.1 in
+      let one : v.0 ≡ m = cc in
+      h.1 (m, same ∙ spelled, subst IsGood one v.2)),
+)

@@ -1,0 +1,157 @@
+//! All faults of a module that can be told by themselves.
+ghost use Rattle.std.specs.Prelude.{◌≡◌, ◌↔◌, IfOk, IsTrue, List, ℕ};
+ghost use Rattle.x10_verify.specs.declared.fault.VerifyCause.TheVariants.{Memory};
+ghost use Rattle.x10_explain.specs.Verdicts.{IsVerifiedImage, IsVerifiedText};
+
+use crate::asm::{explain_asm, push_others};
+use crate::faults::find;
+use crate::head::head;
+use crate::image::explain_image;
+use crate::text::push_source;
+use crate::verify::explained;
+use std::alloc::{AllocError, Global};
+use std::fmt::Write;
+use x10_asm::{AsmCause, AsmFault, assemble};
+use x10_image::{ImageFault, ImageView};
+use x10_verify::{Verified, VerifyCause, verify};
+
+/// What is found of a module.
+#[derive(Debug, Drop)]
+pub struct Report {
+    /// Whether it is verified.
+    pub verified: bool,
+    /// Its bounds, a line for each function; or its faults, each explained, in at most 60 lines.
+    pub text: String,
+}
+
+/// The greatest number of faults that are explained: each has 8 lines at most.
+const MOST_FAULTS: usize = 7;
+
+/// Whether an image is verified, which is `verify`'s answer; and the bound of each function, or the first fault of each
+/// function that has one. It costs `verify` twice, and the explanations of at most 7 functions.
+pub fn check_image(alloc: Global, bytes: &[u8]) -> Result<Report, AllocError>
+    ensures { IfOk result (λ report. IsTrue report.verified ↔ IsVerifiedImage bytes.now) }
+{
+    check_bytes(alloc, bytes, None)
+}
+
+/// The same of the module that a text spells, each fault with its line of the text; or why it spells none: its first faulty
+/// line, and at most 6 more that are faulty wherever they stand.
+pub fn check_text(alloc: Global, text: &str) -> Result<Report, AllocError>
+    ensures { IfOk result (λ report. IsTrue report.verified ↔ IsVerifiedText text.now) }
+{
+    match assemble(alloc, text) {
+        Ok(bytes) => {
+            let report = check_bytes(alloc, &bytes, Some(text))?;
+            Ok(report)
+        }
+        Err(fault) => {
+            if fault.cause == AsmCause::Memory {
+                return Err(AllocError);
+            }
+            let text = lines_of(alloc, text, fault)?;
+            Ok(Report {
+                verified: false,
+                text,
+            })
+        }
+    }
+}
+
+// The first faulty line of a text, and those behind it that are faulty by themselves.
+fn lines_of(alloc: Global, text: &str, fault: AsmFault) -> Result<String, AllocError> {
+    let mut out = explain_asm(alloc, text, fault)?;
+    push_others(alloc, &mut out, text, fault.line)?;
+    Ok(out)
+}
+
+fn check_bytes(alloc: Global, bytes: &[u8], source: Option<&str>) -> Result<Report, AllocError>
+    ensures { IfOk result (λ report. IsTrue report.verified ↔ IsVerifiedImage bytes.now) }
+{
+    let image = match ImageView::read(alloc, bytes) {
+        Ok(image) => image,
+        Err(ImageFault::Memory) => return Err(AllocError),
+        Err(fault) => {
+            let text = explain_image(alloc, bytes, fault)?;
+            return Ok(Report {
+                verified: false,
+                text,
+            });
+        }
+    };
+    match verify(alloc, image) {
+        Ok(verified) => {
+            let text = bounds_of(alloc, &verified)?;
+            Ok(Report {
+                verified: true,
+                text,
+            })
+        }
+        Err(fault) => {
+            if is_memory(fault.cause) {
+                return Err(AllocError);
+            }
+            let text = faults_of(alloc, bytes, source)?;
+            Ok(Report {
+                verified: false,
+                text,
+            })
+        }
+    }
+}
+
+// Whether memory ran out.
+fn is_memory(cause: VerifyCause) -> bool
+    ensures { IsTrue result ↔ cause ≡ Memory }
+{
+    matches!(cause, VerifyCause::Memory)
+}
+
+// A line for each function: its number and its bound.
+fn bounds_of(alloc: Global, verified: &Verified) -> Result<String, AllocError> {
+    let mut out = String::new(alloc);
+    for f in 0..verified.image().functions() {
+        let bound = verified.bound(f);
+        writeln!(out, "{f} {bound}")?;
+    }
+    Ok(out)
+}
+
+// The first fault of each function that has one.
+fn faults_of(alloc: Global, bytes: &[u8], source: Option<&str>) -> Result<String, AllocError> {
+    let mut out = String::new(alloc);
+    match ImageView::read(alloc, bytes) {
+        Ok(image) => push_faults(alloc, &mut out, &image, source)?,
+        Err(_) => return Err(AllocError),
+    }
+    Ok(out)
+}
+
+fn push_faults(
+    alloc: Global,
+    out: &mut String,
+    image: &ImageView,
+    source: Option<&str>,
+) -> Result<(), AllocError> {
+    let mut bounds = Vec::new(alloc);
+    let mut told: usize = 0;
+    for _ in 0..image.functions() {
+        let f = bounds.len();
+        if f >= image.functions() {
+            return Ok(());
+        }
+        let finding = find(alloc, image, f, &bounds)?;
+        bounds.push(finding.bound)?;
+        let Some(fault) = finding.fault else {
+            continue;
+        };
+        if told >= MOST_FAULTS {
+            return out.push_str("and there are faults of more functions\n");
+        }
+        told = told.saturating_add(1);
+        out.push_str(&head(alloc, image, fault)?)?;
+        push_source(out, source, f, usize::from(fault.pc))?;
+        out.push_str(&explained(alloc, image, &finding.flow, fault)?)?;
+    }
+    Ok(())
+}

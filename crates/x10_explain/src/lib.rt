@@ -1,0 +1,32 @@
+//! Explanations for people: of a fault of the verifier, the assembler or the image reader, and the listing that shows what
+//! the verifier knows.
+#![tactic(auto)]
+
+mod alone;
+mod asm;
+mod check;
+mod commented;
+mod expected;
+mod faults;
+mod head;
+mod hints;
+mod image;
+mod index;
+mod known;
+mod lack;
+mod left;
+mod origin;
+mod phrase;
+mod regions;
+mod rule;
+mod text;
+mod verbose;
+mod verify;
+mod want;
+mod ways;
+
+pub use asm::explain_asm;
+pub use check::{Report, check_image, check_text};
+pub use image::explain_image;
+pub use verbose::list_verbose;
+pub use verify::explain_verify;

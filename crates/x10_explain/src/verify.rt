@@ -1,0 +1,168 @@
+//! Why the verifier refuses a module.
+ghost use Rattle.std.specs.Prelude.{◌≡◌, ◌++◌, List, ℕ, IfOk};
+ghost use Rattle.std.specs.String.{string_bytes};
+ghost use Rattle.x10_explain.specs.Heads.{head_line};
+
+use crate::head::{head, instr_in};
+use crate::index::push_index;
+use crate::lack::{Lack, Role, Spot, callee, fields_of, first_lack};
+use crate::origin::push_origin;
+use crate::phrase::{push_known, push_term};
+use crate::regions::push_structure;
+use std::alloc::{AllocError, Global};
+use std::fmt::Write;
+use x10_asm::push_slot;
+use x10_code::{Instr, name};
+use x10_image::ImageView;
+use x10_kinds::Term;
+use x10_verify::{Flow, VerifyCause, VerifyFault, known_flow};
+
+/// Why the verifier refuses a module, in at most 10 lines: the rule, the function and the instruction, as the listing writes
+/// it; what the rule asks, of which register or operand; what the verifier knows there, and where that comes from. A fault
+/// that isn't this module's is told by its first line. The states are those of the verifier, so the time is that of one
+/// function's flow, and as much memory.
+pub fn explain_verify(
+    alloc: Global,
+    image: &ImageView,
+    fault: VerifyFault,
+) -> Result<String, AllocError>
+    ensures { IfOk result (λ s. (rest : List ℕ) × (string_bytes s ≡ head_line image.now fault ++ rest)) }
+{
+    let mut out = head(alloc, image, fault)?;
+    let rest = reasons(alloc, image, fault)?;
+    out.push_str(&rest)?;
+    Ok(out)
+}
+
+// What stands below the first line.
+fn reasons(alloc: Global, image: &ImageView, fault: VerifyFault) -> Result<String, AllocError> {
+    let f = usize::from(fault.function);
+    if f >= image.functions() {
+        return Ok(String::new(alloc));
+    }
+    let flow = known_flow(alloc, image, f)?;
+    explained(alloc, image, &flow, fault)
+}
+
+/// What stands below the first line, by what is known of the function.
+pub(crate) fn explained(
+    alloc: Global,
+    image: &ImageView,
+    flow: &Flow,
+    fault: VerifyFault,
+) -> Result<String, AllocError> {
+    let mut out = String::new(alloc);
+    let (f, pc) = (usize::from(fault.function), usize::from(fault.pc));
+    let Some(instr) = instr_in(image, f, pc) else {
+        return Ok(out);
+    };
+    match fault.cause {
+        VerifyCause::Structure(cause) => push_structure(alloc, &mut out, image, cause, f, pc)?,
+        VerifyCause::Index => push_index(&mut out, image, f, instr)?,
+        VerifyCause::Memory => out.push_str("There was no memory to look at the module.\n")?,
+        VerifyCause::Unset | VerifyCause::Kind | VerifyCause::Home | VerifyCause::Result => {
+            push_flow_fault(alloc, &mut out, image, flow, fault, instr)?;
+        }
+    }
+    Ok(out)
+}
+
+/// Lines on a fault of the flow, by what is known of its function.
+pub(crate) fn push_flow_fault(
+    alloc: Global,
+    out: &mut String,
+    image: &ImageView,
+    flow: &Flow,
+    fault: VerifyFault,
+    instr: Instr,
+) -> Result<(), AllocError> {
+    let (f, pc) = (usize::from(fault.function), usize::from(fault.pc));
+    if f >= image.functions() {
+        return Ok(());
+    }
+    let result = image.signature(f).result();
+    let spot = Spot {
+        image,
+        flow,
+        result,
+        pc,
+        instr,
+    };
+    let lack = first_lack(&spot);
+    let have = match lack.register() {
+        None => None,
+        Some(register) => flow.kind(pc, register),
+    };
+    if !flow.is_reached(pc) || lack.cause(have) != fault.cause {
+        return out.push_str("What is known there meets the rule: the fault isn't this module's.\n");
+    }
+    push_lack(out, &spot, lack)?;
+    push_origin(alloc, out, &spot, f, lack)
+}
+
+// What is asked, and what is known of it.
+fn push_lack(out: &mut String, spot: &Spot, lack: Lack) -> Result<(), AllocError> {
+    let name = name(spot.instr.op);
+    let (a, c, x) = (spot.instr.a, spot.instr.c, spot.instr.x);
+    match lack {
+        Lack::Register(register, want, role) => {
+            write!(out, "{name} asks that r{register} is")?;
+            want.push(out)?;
+            push_role(out, spot, role)?;
+            out.push_str("; ")?;
+            push_known(out, register, spot.flow.kind(spot.pc, register))?;
+            out.push_str(".\n")
+        }
+        Lack::NoField(register, class) => {
+            let count = match fields_of(spot.image, usize::from(class)) {
+                None => 0,
+                Some(fields) => fields.len(),
+            };
+            writeln!(
+                out,
+                "{name} asks for field {c} of the object in r{register}; its class {class} has {count} fields, numbered from 0."
+            )
+        }
+        Lack::Home(register, at, role) => {
+            write!(out, "{name} asks that the home of r{register} is ")?;
+            push_term(out, at)?;
+            push_role(out, spot, role)?;
+            out.push_str("; it isn't known to be.\n")
+        }
+        Lack::NoResult => writeln!(
+            out,
+            "There is no result, so operand a has to be 0; it is {a}."
+        ),
+        Lack::Dropped => writeln!(
+            out,
+            "{name} starts an activity with function {x}, whose result nothing would take: it may give none."
+        ),
+        Lack::LeadsOut => out.push_str("The function goes on behind its last instruction.\n"),
+    }
+}
+
+// What a register is for.
+fn push_role(out: &mut String, spot: &Spot, role: Role) -> Result<(), AllocError> {
+    let x = spot.instr.x;
+    match role {
+        Role::Operand => Ok(()),
+        Role::Field(n) => write!(out, ", for field {n} of class {x}"),
+        Role::Argument(n) => {
+            write!(out, ", for parameter {n} of function {x}")?;
+            match callee(spot.image, spot.instr) {
+                Some(signature) if n < signature.parameters() => {
+                    out.push_str(", which is")?;
+                    push_slot(out, signature.parameter(n))
+                }
+                _ => Ok(()),
+            }
+        }
+        Role::Result => match spot.result {
+            None => Ok(()),
+            Some(slot) => {
+                out.push_str(", for the function's result, which is")?;
+                push_slot(out, slot)
+            }
+        },
+    }
+}
