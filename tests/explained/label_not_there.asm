@@ -4,7 +4,7 @@
 ; status 1: asm: line 12 Label
 ; > Label, line 12: JMP @over
 ; > A label of it is unknown in its function, there twice, or no label's name.
-; > Expected: JMP INSTRUCTION, where @NAME may stand for the instruction behind a label; all in decimal, the last number of a constant, class, function, count or instruction up to 4294967295, others up to 255.
+; > Expected: JMP INSTRUCTION; decimal numbers up to 255, INSTRUCTION up to 4294967295, or @NAME of a label.
 places 1
 int 7
 func 1 0 none

@@ -4,7 +4,7 @@
 ; status 1: asm: line 11 Number
 ; > Number, line 11: INTK 256 0
 ; > A word of it is to be a number and isn't, or is outside its range, or names a class that isn't there.
-; > Expected: INTK REGISTER INT; all in decimal, the last number of a constant, class, function, count or instruction up to 4294967295, others up to 255.
+; > Expected: INTK REGISTER INT; decimal numbers up to 255, INT up to 4294967295.
 places 1
 int 7
 func 1 0 none

@@ -4,7 +4,7 @@
 ; status 1: verify: Unset 0 0
 ; > Unset, function 0, instruction 0: PRINT 0
 ; > PRINT asks that r0 is int or text; r0 isn't set.
-; > Nothing on the way here writes r0; the function begins with 0 registers set, its parameters.
+; > Nothing on the way here writes r0; where the function begins, its parameters alone are set, 0 of them.
 places 1
 int 7
 func 1 0 none

@@ -4,7 +4,7 @@
 ; status 1: asm: line 12 Number
 ; > Number, line 12: INTK r0 0
 ; > A word of it is to be a number and isn't, or is outside its range, or names a class that isn't there.
-; > Expected: INTK REGISTER INT; all in decimal, the last number of a constant, class, function, count or instruction up to 4294967295, others up to 255.
+; > Expected: INTK REGISTER INT; decimal numbers up to 255, INT up to 4294967295.
 ; > Hint: a register is its number alone, 0 and not r0.
 places 1
 int 7

@@ -4,7 +4,7 @@
 ; status 1: asm: line 11 Count
 ; > Count, line 11: INTK 0
 ; > It has too few or too many words.
-; > Expected: INTK REGISTER INT; all in decimal, the last number of a constant, class, function, count or instruction up to 4294967295, others up to 255.
+; > Expected: INTK REGISTER INT; decimal numbers up to 255, INT up to 4294967295.
 places 1
 int 7
 func 1 0 none
