@@ -1,5 +1,6 @@
 -- What the program's answers say of a file, of a module and of a run.
-use Rattle.std.specs.Prelude.{◌≡◌, ◌⊎◌, ℕ, List, [], ◌∷◌, ◌++◌, length, Option, Some, None, Ok, IsSome, slice_get, codes, decimal}
+use Rattle.std.specs.List.{starts_with}
+use Rattle.std.specs.Prelude.{◌≡◌, ◌⊎◌, Bool, true, false, ◌==◌, ℕ, List, [], ◌∷◌, ◌++◌, length, Option, Some, None, Ok, IsSome, slice_get, codes, decimal}
 use Rattle.std.specs.Io.KnownBytes.{Appends}
 use Rattle.std.specs.Prelude.{String}
 use Rattle.std.specs.Global.{Global}
@@ -61,7 +62,7 @@ places_for (Some places) c = places
 
 -- whether a file is taken as an image: by its first four bytes, "X10P"
 abbrev pub begins_as_image : List ℕ → Bool
-begins_as_image bytes = 4 <= length bytes && slice_index_or bytes 0 0 == 88 && slice_index_or bytes 1 0 == 49 && slice_index_or bytes 2 0 == 48 && slice_index_or bytes 3 0 == 80
+begins_as_image bytes = starts_with (λ x y. x == y) bytes (codes "X10P")
 
 abbrev pub is_good_file : Bool → List ℕ → Type 0
 is_good_file true bytes = verdict.IsVerifiedImage bytes

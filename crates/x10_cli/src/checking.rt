@@ -28,7 +28,7 @@ pub(crate) fn print_check<O: Write>(alloc: Global, bytes: &[u8], out: &mut O) ->
 pub fn is_image(bytes: &[u8]) -> bool
     ensures { result ≡ begins_as_image bytes.now }
 {
-    bytes.len() >= 4 && bytes[0] == b'X' && bytes[1] == b'1' && bytes[2] == b'0' && bytes[3] == b'P'
+    bytes.starts_with(b"X10P")
 }
 
 fn report_of(alloc: Global, bytes: &[u8]) -> Result<Report, Fault>
