@@ -1,6 +1,6 @@
 //! Where things stand on the page, in pixels.
 use crate::column::Column;
-use crate::sketch::Spot;
+use crate::parts::Spot;
 use std::alloc::{AllocError, Global};
 
 /// The height of a row.

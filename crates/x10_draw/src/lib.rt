@@ -10,8 +10,10 @@ mod geometry;
 mod label;
 mod legend;
 mod page;
+mod parts;
 mod shapes;
 mod sketch;
+mod telling;
 mod words;
 
 pub use counts::Counts;

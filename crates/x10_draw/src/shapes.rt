@@ -4,7 +4,7 @@ use crate::escape::push_escaped;
 use crate::frame_kind::FrameKind;
 use crate::geometry::{Grid, letters_wide, row_y};
 use crate::label::{Label, Tone};
-use crate::sketch::{Arrow, Bracket, End, Fork, Spot};
+use crate::parts::{Arrow, Bracket, End, Fork, Spot};
 use std::alloc::AllocError;
 use std::fmt::Write;
 

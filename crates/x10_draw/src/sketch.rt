@@ -1,71 +1,14 @@
 //! What a drawing has seen: columns with their stays, pieces of bars, arrows, brackets and labels.
 use crate::column::{Column, Row, Span, State};
 use crate::frame_kind::{FrameKind, facts_of, head_of};
-use crate::label::{Label, Tone, push_cut};
+use crate::label::{Label, Tone};
+use crate::parts::{Arrow, Bracket, End, Fork, Spot};
+use crate::telling::{Move, delivery_label, main_label, print, quiet_label, taken_text, text_of};
 use std::alloc::{AllocError, Global};
 use std::fmt::Write;
-use x10_code::{Op, name};
+use x10_code::Op;
 use x10_model::Event;
-use x10_place::Line;
 use x10_world::{Done, World};
-
-/// An end of an arrow: a lane of a place, or its lifeline, and the row.
-#[derive(Clone, Copy, Debug, PartialEq, Eq)]
-pub(crate) struct Spot {
-    pub(crate) place: u16,
-    pub(crate) lane: Option<usize>,
-    pub(crate) row: u64,
-}
-
-/// A frame, from where it was put out to where it was taken in.
-#[derive(Clone, Copy, Debug, PartialEq, Eq)]
-pub(crate) struct Arrow {
-    pub(crate) number: u64,
-    pub(crate) kind: FrameKind,
-    pub(crate) function: Option<u16>,
-    waiting: Option<usize>,
-    pub(crate) from: Spot,
-    pub(crate) to: u16,
-    pub(crate) head: Option<Spot>,
-}
-
-/// A finish of a stay, from FINB to FINE.
-#[derive(Clone, Copy, Debug, PartialEq, Eq)]
-pub(crate) struct Bracket {
-    pub(crate) place: u16,
-    pub(crate) lane: usize,
-    pub(crate) depth: usize,
-    pub(crate) number: u64,
-    pub(crate) from: u64,
-    pub(crate) to: Option<u64>,
-}
-
-/// The beginning of a stay beside the one that started it, by ASYNC.
-#[derive(Clone, Copy, Debug, PartialEq, Eq)]
-pub(crate) struct Fork {
-    pub(crate) place: u16,
-    pub(crate) from: usize,
-    pub(crate) to: usize,
-    pub(crate) row: u64,
-}
-
-/// The end of a stay.
-#[derive(Clone, Copy, Debug, PartialEq, Eq)]
-pub(crate) struct End {
-    pub(crate) place: u16,
-    pub(crate) lane: usize,
-    pub(crate) row: u64,
-}
-
-/// A step that moved: whose, and the instruction.
-#[derive(Clone, Copy)]
-struct Move {
-    place: u16,
-    key: usize,
-    function: u16,
-    pc: u16,
-    op: Op,
-}
 
 /// How much is told of each event.
 #[derive(Clone, Copy, Debug, PartialEq, Eq)]
@@ -429,9 +372,14 @@ impl Sketch {
         })?;
         let name = kind.name();
         write!(text, " {name} {number}")?;
-        if kind != FrameKind::Shift {
-            return Ok(());
+        if kind == FrameKind::Shift {
+            return self.leave(step, to, row);
         }
+        Ok(())
+    }
+
+    /// A stay goes on by a Shift to a place.
+    fn leave(&mut self, step: Move, to: u16, row: u64) -> Result<(), AllocError> {
         let state = if to == step.place {
             State::Beside
         } else {
@@ -519,76 +467,4 @@ fn is_quiet(op: Op) -> bool {
         op,
         Op::Async | Op::At | Op::Ata | Op::Finb | Op::Fine | Op::Print
     )
-}
-
-/// Where a step was made: function, instruction and operation, as the listing has them.
-fn text_of(alloc: Global, step: Move) -> Result<String, AllocError> {
-    let (function, pc, name) = (step.function, step.pc, name(step.op));
-    format!(in alloc; "{function}:{pc} {name}")
-}
-
-/// What a delivery tells: the frame, and the function that begins.
-fn taken_text(alloc: Global, arrow: Arrow) -> Result<String, AllocError> {
-    let (name, number) = (arrow.kind.name(), arrow.number);
-    match arrow.function {
-        Some(function) => format!(in alloc; "{name} {number} func {function}"),
-        None => format!(in alloc; "{name} {number}"),
-    }
-}
-
-/// Pushes the last of a place's lines, cut behind so many letters; all of it, where it was cut.
-fn print(
-    alloc: Global,
-    lines: Option<&[Line]>,
-    letters: usize,
-    text: &mut String,
-) -> Result<Option<String>, AllocError> {
-    let Some(lines) = lines else {
-        return Ok(None);
-    };
-    let Some(line) = lines.last() else {
-        return Ok(None);
-    };
-    text.push_str(" ")?;
-    match line {
-        Line::Int(number) => write!(text, "{number}")?,
-        Line::Text(line) => {
-            if push_cut(text, line, letters)? {
-                return Ok(Some(String::from_str(alloc, line)?));
-            }
-        }
-    }
-    Ok(None)
-}
-
-/// Main stands at place 0.
-fn main_label(text: String) -> Label {
-    let spot = Spot {
-        place: 0,
-        lane: Some(0),
-        row: 0,
-    };
-    delivery_label(spot, text)
-}
-
-fn quiet_label(step: Move, row: u64, tone: Tone, text: String) -> Label {
-    Label {
-        place: step.place,
-        lane: Some(step.key),
-        row,
-        tone,
-        text,
-        full: None,
-    }
-}
-
-fn delivery_label(spot: Spot, text: String) -> Label {
-    Label {
-        place: spot.place,
-        lane: spot.lane,
-        row: spot.row,
-        tone: Tone::Notable,
-        text,
-        full: None,
-    }
 }

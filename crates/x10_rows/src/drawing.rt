@@ -73,6 +73,38 @@ fn noted(alloc: Global, world: &mut World, limit: u64) -> Result<Drawing, Fail> 
     Ok(drawing)
 }
 
+/// The drawing of the first events of a run, so many at most.
+fn drawn(alloc: Global, image: &[u8], places: u16, limit: u64) -> Result<Drawing, Fail> {
+    let verified = verify(alloc, ImageView::read(alloc, image)?)?;
+    let mut world = World::open(alloc, &verified, places)?;
+    noted(alloc, &mut world, limit)
+}
+
+/// The picture of them, for a program as text.
+fn pictured(alloc: Global, text: &str, places: u16, limit: u64) -> Result<String, Fail> {
+    let image = assemble(alloc, text)?;
+    Ok(drawn(alloc, &image, places, limit)?.svg()?)
+}
+
+/// The picture of the events of a run after so many, of which nothing was noted.
+fn pictured_late(alloc: Global, text: &str, places: u16, missed: u64) -> Result<String, Fail> {
+    let image = assemble(alloc, text)?;
+    let verified = verify(alloc, ImageView::read(alloc, &image)?)?;
+    let mut world = World::open(alloc, &verified, places)?;
+    noted(alloc, &mut world, missed)?;
+    Ok(noted(alloc, &mut world, 1000)?.svg()?)
+}
+
+/// Whether a picture has all these parts.
+fn has(svg: &str, parts: &[&str]) -> bool {
+    for part in parts {
+        if !svg.contains(*part) {
+            return false;
+        }
+    }
+    true
+}
+
 #[test]
 fn escaped_texts(rt: HostRuntime) -> Result<(), Fail> {
     let mut out = String::from_str(rt.alloc(), "<")?;
@@ -90,9 +122,7 @@ fn escaped_texts(rt: HostRuntime) -> Result<(), Fail> {
 
 #[test]
 fn a_short_run_drawn(rt: HostRuntime) -> Result<(), Fail> {
-    let verified = verify(rt.alloc(), ImageView::read(rt.alloc(), &SEVEN)?)?;
-    let mut world = World::open(rt.alloc(), &verified, 1)?;
-    let drawing = noted(rt.alloc(), &mut world, 100)?;
+    let drawing = drawn(rt.alloc(), &SEVEN, 1, 100)?;
     let counts = Counts {
         steps: 3,
         taken: 0,
@@ -100,32 +130,19 @@ fn a_short_run_drawn(rt: HostRuntime) -> Result<(), Fail> {
     };
     assert_eq!(rt; drawing.counts(), counts);
     let svg = drawing.svg()?;
-    let (head, rest) = svg
-        .split_once("put nothing out.</text>\n")
-        .ok_or("a legend")?;
-    assert!(rt; head.starts_with("<?xml version=\"1.0\" encoding=\"UTF-8\"?>\n<svg "));
-    assert!(rt; head.contains("<title>The events of a run. Places: 1</title>"));
-    assert!(rt; head.contains("Places: 1. Steps: 3, frames taken in: 0, idle events: 0."));
-    assert_eq!(rt; rest, SEVEN_DRAWN);
+    let parts = [
+        "<?xml version=\"1.0\" encoding=\"UTF-8\"?>\n<svg ",
+        "<title>The events of a run. Places: 1</title>",
+        "Places: 1. Steps: 3, frames taken in: 0, idle events: 0.",
+    ];
+    assert!(rt; has(&svg, &parts));
+    assert!(rt; svg.ends_with(SEVEN_DRAWN));
     Ok(())
-}
-
-/// Whether a picture has all these parts.
-fn has(svg: &str, parts: &[&str]) -> bool {
-    for part in parts {
-        if !svg.contains(*part) {
-            return false;
-        }
-    }
-    true
 }
 
 #[test]
 fn a_stay_beside_another_drawn(rt: HostRuntime) -> Result<(), Fail> {
-    let image = assemble(rt.alloc(), BESIDE)?;
-    let verified = verify(rt.alloc(), ImageView::read(rt.alloc(), &image)?)?;
-    let mut world = World::open(rt.alloc(), &verified, 1)?;
-    let svg = noted(rt.alloc(), &mut world, 1000)?.svg()?;
+    let svg = pictured(rt.alloc(), BESIDE, 1, 1000)?;
     let parts = [
         // Main goes on in another lane, and is not away; its finishes are one in the other.
         "<path d=\"M46 198V342\" stroke=\"#4a76b8\" stroke-width=\"2\"/>",
@@ -140,52 +157,50 @@ fn a_stay_beside_another_drawn(rt: HostRuntime) -> Result<(), Fail> {
         "<title>&lt;&amp;&gt;&#10; &apos;a line&apos; that is &quot;longer&quot; than a label shows</title>1:1 PRINT &lt;&amp;&gt;  &apos;a line&apos; that is &quot;longe\u{2026}</text>",
     ];
     assert!(rt; has(&svg, &parts));
-    assert!(rt; !svg.contains("M46 198V342\" stroke=\"#4a76b8\" stroke-dasharray"));
     Ok(())
 }
 
 #[test]
 fn three_places_drawn(rt: HostRuntime) -> Result<(), Fail> {
-    let image = assemble(rt.alloc(), AWAY)?;
-    let verified = verify(rt.alloc(), ImageView::read(rt.alloc(), &image)?)?;
-    let mut world = World::open(rt.alloc(), &verified, 3)?;
-    let begun = noted(rt.alloc(), &mut world, 3)?;
-    assert!(rt;
-        has(
-            &begun.svg()?,
-            &[", in flight at the end</title>", "M42 162H33V"]
-        )
-    );
-    // What a drawing hasn't seen it leaves out: a stay begins where it is first seen, and a frame has no arrow.
-    let late = noted(rt.alloc(), &mut world, 100)?.svg()?;
-    assert!(rt;
-        has(
-            &late,
-            &[
-                ">frame ",
-                "PRINT 5</text>",
-                "PRINT 9</text>",
-                ":6 RET end</text>"
-            ]
-        )
-    );
-    let mut world = World::open(rt.alloc(), &verified, 3)?;
-    let mut drawing = noted(rt.alloc(), &mut world, 1000)?;
+    let svg = pictured(rt.alloc(), AWAY, 3, 1000)?;
     let parts = [
         "<path d=\"M46 186V246\" stroke=\"#4a76b8\" stroke-dasharray=\"4 3\"/>",
         "<path d=\"M46 186L214 198\" fill=\"none\" stroke=\"#b35900\" marker-end=\"url(#shift)\"><title>Shift 0 from place 0 to place 1</title>",
         "<path d=\"M218 234L30 258\"",
         ">1:2 RET Back 2 Report 3 end</text>",
     ];
-    assert!(rt; has(&drawing.svg()?, &parts));
-    // Events of no place and of no frame are counted, and nothing else.
-    let before = drawing.counts();
-    let drawn = drawing.svg()?.len();
+    assert!(rt; has(&svg, &parts));
+    Ok(())
+}
+
+#[test]
+fn a_part_of_a_run_drawn(rt: HostRuntime) -> Result<(), Fail> {
+    let begun = pictured(rt.alloc(), AWAY, 3, 3)?;
+    assert!(rt; has(&begun, &[", in flight at the end</title>", "M42 162H33V"]));
+    // What a drawing hasn't seen it leaves out: a stay begins where it is first seen, and a frame has no arrow.
+    let late = pictured_late(rt.alloc(), AWAY, 3, 3)?;
+    assert!(rt;
+        has(
+            &late,
+            &[">frame 0</text>", "PRINT 5</text>", ":6 RET end</text>"]
+        )
+    );
+    Ok(())
+}
+
+#[test]
+fn events_of_nothing_drawn(rt: HostRuntime) -> Result<(), Fail> {
+    let verified = verify(rt.alloc(), ImageView::read(rt.alloc(), &SEVEN)?)?;
+    let world = World::open(rt.alloc(), &verified, 1)?;
+    let mut drawing = Drawing::new(rt.alloc(), 1)?;
     drawing.note(&world, Event::Step(99, usize::MAX), &Done::Idle)?;
     drawing.note(&world, Event::Deliver(99), &Done::Idle)?;
     drawing.note(&world, Event::Deliver(99), &Done::Taken { to: 99 })?;
-    assert_eq!(rt; drawing.counts().idle, before.idle.saturating_add(2));
-    assert_eq!(rt; drawing.counts().taken, before.taken.saturating_add(1));
-    assert!(rt; drawing.svg()?.len() < drawn.saturating_add(4));
+    let counts = Counts {
+        steps: 0,
+        taken: 1,
+        idle: 2,
+    };
+    assert_eq!(rt; drawing.counts(), counts);
     Ok(())
 }
