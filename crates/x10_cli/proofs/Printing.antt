@@ -110,6 +110,8 @@ traces_more x y z a b c event before one makes = (before.0 ++ trace_lines z even
 pub prints_kept : (v : Verb) (asked : Option ℕ) (bytes : List ℕ) (a b c : Option (List ℕ)) → Prints v asked bytes a b → Keeps b c → Prints v asked bytes a c
 prints_kept verb.Asm asked bytes a b c p k = (p.0, p.1, Appends-kept a b c _ p.2 k)
 prints_kept verb.List asked bytes a b c p k = (p.0, p.1, Appends-kept a b c _ p.2 k)
+prints_kept verb.ListVerbose asked bytes a b c p k = (p.0, p.1, p.2, Appends-kept a b c _ p.3 k)
+prints_kept verb.Check asked bytes a b c p k = (p.0, p.1, Appends-kept a b c _ p.2 k)
 prints_kept verb.Verify asked bytes a b c p k = (p.0, p.1, p.2, p.3, Appends-kept a b c _ p.4 k)
 prints_kept verb.Bounds asked bytes a b c p k = (p.0, p.1, p.2, p.3, Appends-kept a b c _ p.4 k)
 prints_kept verb.Run asked bytes a b c p k = (p.0, p.1, p.2, p.3, Appends-kept a b c _ p.4 k)

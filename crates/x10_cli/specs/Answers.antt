@@ -1,5 +1,6 @@
 -- What the program's answers say of a file, of a module and of a run.
-use Rattle.std.specs.Prelude.{◌≡◌, ◌⊎◌, ℕ, List, [], ◌∷◌, ◌++◌, length, Option, Some, None, Ok, IsSome, slice_get, codes, decimal}
+use Rattle.std.specs.List.{starts_with}
+use Rattle.std.specs.Prelude.{◌≡◌, ◌⊎◌, Bool, true, false, ◌==◌, ℕ, List, [], ◌∷◌, ◌++◌, length, Option, Some, None, Ok, IsSome, slice_get, codes, decimal}
 use Rattle.std.specs.Io.KnownBytes.{Appends}
 use Rattle.std.specs.Prelude.{String}
 use Rattle.std.specs.Global.{Global}
@@ -10,8 +11,9 @@ use Rattle.x10_model.specs.declared.event.Event.{Event}
 use Rattle.x10_model.specs.Structure.{bounds_of}
 use Rattle.x10_model.specs.Places as machine
 use Rattle.x10_model.specs.Worlds.{World, Ideal, Run, WithinBounds, IsOver, opening}
-use Rattle.x10_asm.specs.Listing.{listing}
+use Rattle.x10_asm.specs.Listing.{listing, places_line}
 use Rattle.x10_asm.specs.Reading.{module_of}
+use Rattle.x10_explain.specs.Verdicts as verdict
 use Rattle.x10_verify.specs.Certified.{Certified}
 use Rattle.x10_verify.specs.Faults.{HasBounds}
 use Rattle.x10_world.specs.Endings.{IsImageOf, AreLinesOf}
@@ -58,10 +60,24 @@ abbrev pub places_for : Option ℕ → Certified → ℕ
 places_for None c = c.program.least_places
 places_for (Some places) c = places
 
+-- whether a file is taken as an image: by its first four bytes, "X10P"
+abbrev pub begins_as_image : List ℕ → Bool
+begins_as_image bytes = starts_with (λ x y. x == y) bytes (codes "X10P")
+
+abbrev pub is_good_file : Bool → List ℕ → Type 0
+is_good_file true bytes = verdict.IsVerifiedImage bytes
+is_good_file false bytes = verdict.IsVerifiedText bytes
+
+-- the file is the image of a verified module, or a text that spells one
+abbrev pub IsChecked : List ℕ → Type 0
+IsChecked bytes = is_good_file (begins_as_image bytes) bytes
+
 -- the file's bytes, and of a run the number of places, are such that the command can be done
 abbrev pub CanBeDone : Verb → Option ℕ → List ℕ → Type 0
 CanBeDone verb.Asm places bytes = (m : Module) × (module_of bytes ≡ Ok m)
 CanBeDone verb.List places bytes = (m : Module) × IsImage bytes m
+CanBeDone verb.ListVerbose places bytes = (m : Module) × IsImage bytes m
+CanBeDone verb.Check places bytes = IsChecked bytes
 CanBeDone verb.Verify places bytes = IsVerifiedImage bytes
 CanBeDone verb.Bounds places bytes = (m : Module) × IsImage bytes m × HasBounds m
 CanBeDone verb.Run places bytes = (c : Certified) × IsImageOf bytes c × (IsForbidden c (places_for places c) → ⊥)
@@ -111,6 +127,8 @@ pub record HasDrawn (c : Certified) (places : ℕ) (picture : List ℕ) : Type 0
 abbrev pub Prints : Verb → Option ℕ → List ℕ → Option (List ℕ) → Option (List ℕ) → Type 0
 Prints verb.Asm asked bytes old new = (m : Module) × (module_of bytes ≡ Ok m) × Appends old new (spelling m)
 Prints verb.List asked bytes old new = (m : Module) × IsImage bytes m × Appends old new (listing m)
+Prints verb.ListVerbose asked bytes old new = (m : Module) × (rest : List ℕ) × IsImage bytes m × Appends old new (places_line m.least_places ++ rest)
+Prints verb.Check asked bytes old new = (text : List ℕ) × IsChecked bytes × Appends old new text
 Prints verb.Verify asked bytes old new = (c : Certified) × (bound : ℕ) × IsImageOf bytes c × (slice_get c.bounds c.program.entry ≡ Some bound) × Appends old new (verdict_line (length c.program.functions) bound)
 Prints verb.Bounds asked bytes old new = (m : Module) × (bounds : List ℕ) × IsImage bytes m × (bounds_of m ≡ Ok bounds) × Appends old new (bound_lines 0 bounds)
 Prints verb.Trace asked bytes old new = (c : Certified) × IsImageOf bytes c × HasTraced c (places_for asked c) old new

@@ -15,6 +15,7 @@ ghost use Rattle.x10_cli.specs.declared.task.Verb.TheVariants as verb;
 ghost use Rattle.x10_cli.specs.declared.fault.Fault.TheVariants as fault;
 ghost use Rattle.x10_cli.specs.Answers.{IsImage, IsVerifiedImage, IsVerifying, CanBeDone, IsStatus, Prints, Traces, places_for, status_of};
 
+use crate::checking::print_check;
 use crate::explain::explanation;
 use crate::fault::Fault;
 use crate::picture::print_picture;
@@ -23,6 +24,7 @@ use std::alloc::Global;
 use std::io::Write;
 use x10_asm::{assemble, list};
 use x10_bounds::bounds;
+use x10_explain::list_verbose;
 use x10_image::ImageView;
 use x10_model::Event;
 use x10_place::Line;
@@ -93,6 +95,8 @@ fn perform<O: Write>(alloc: Global, task: &Task, bytes: &[u8], out: &mut O) -> R
     match task.verb {
         Verb::Asm => print_image(alloc, bytes, out),
         Verb::List => print_listing(alloc, bytes, out),
+        Verb::ListVerbose => print_verbose(alloc, bytes, out),
+        Verb::Check => print_check(alloc, bytes, out),
         Verb::Verify => print_verdict(alloc, bytes, out),
         Verb::Bounds => print_bounds(alloc, bytes, out),
         Verb::Run => print_run(alloc, task, bytes, out),
@@ -138,6 +142,18 @@ fn print_listing<O: Write>(alloc: Global, bytes: &[u8], out: &mut O) -> Result<(
 {
     let image = image_of(alloc, bytes)?;
     let listing = list(alloc, &image)?;
+    out.write_all(listing.as_bytes())?;
+    Ok(())
+}
+
+/// The listing with what the verifier knows.
+fn print_verbose<O: Write>(alloc: Global, bytes: &[u8], out: &mut O) -> Result<(), Fault>
+    ensures done { IfOk result (λ _. CanBeDone verb.ListVerbose None bytes.now) }
+    ensures printed { OnOk result (Prints verb.ListVerbose None bytes.now (O.contents out.old) (O.contents out.new)) }
+    ensures refused { IfErr result (λ e. status_of e ≡ 1 → CanBeDone verb.ListVerbose None bytes.now → ⊥) }
+{
+    let image = image_of(alloc, bytes)?;
+    let listing = list_verbose(alloc, &image)?;
     out.write_all(listing.as_bytes())?;
     Ok(())
 }

@@ -3,8 +3,11 @@
 use crate::fault::Fault;
 use crate::task::{Task, Verb};
 use std::alloc::{AllocError, Global};
-use x10_bounds::bounds;
+use x10_asm::AsmFault;
+use x10_bounds::{BoundFault, bounds};
+use x10_explain::{explain_asm, explain_image, explain_verify};
 use x10_image::ImageView;
+use x10_verify::{VerifyCause, VerifyFault};
 
 /// Sentences on a fault of a task over the bytes of its file, a line each; none where there is nothing to add.
 pub(crate) fn explanation(
@@ -14,15 +17,41 @@ pub(crate) fn explanation(
     fault: Fault,
 ) -> Result<String, AllocError> {
     match fault {
-        Fault::Asm(_) | Fault::Image(_) | Fault::Verify(_) | Fault::Bounds(_) => {
-            Ok(String::new(alloc))
-        }
+        // a check has said all of this
+        _ if task.verb == Verb::Check && fault.status() == 1 => Ok(String::new(alloc)),
+        Fault::Asm(fault) => of_asm(alloc, bytes, fault),
+        Fault::Image(fault) => explain_image(alloc, bytes, fault),
+        Fault::Verify(fault) => of_verify(alloc, bytes, fault),
+        Fault::Bounds(fault) => of_verify(alloc, bytes, structure(fault)),
         Fault::Places => of_places(alloc, task, bytes),
         Fault::Memory => line(alloc, "The system gives no more memory to the program."),
         Fault::StopMemory => of_memory(alloc, task, bytes),
         Fault::StopLimit(which) => of_count(alloc, which),
         Fault::Limit => of_events(alloc, task, bytes),
         Fault::File => of_text(alloc, task, bytes),
+    }
+}
+
+fn of_asm(alloc: Global, bytes: &[u8], fault: AsmFault) -> Result<String, AllocError> {
+    match str::from_utf8(bytes) {
+        Ok(text) => explain_asm(alloc, text, fault),
+        Err(_) => Ok(String::new(alloc)),
+    }
+}
+
+fn of_verify(alloc: Global, bytes: &[u8], fault: VerifyFault) -> Result<String, AllocError> {
+    match ImageView::read(alloc, bytes) {
+        Ok(image) => explain_verify(alloc, &image, fault),
+        Err(_) => Err(AllocError),
+    }
+}
+
+/// A fault of structure as the verifier's.
+fn structure(fault: BoundFault) -> VerifyFault {
+    VerifyFault {
+        cause: VerifyCause::Structure(fault.cause),
+        function: fault.function,
+        pc: fault.pc,
     }
 }
 
@@ -112,7 +141,7 @@ fn bound_of_main(alloc: Global, bytes: &[u8]) -> Option<u64> {
 
 /// Where a text isn't UTF-8. Else the fault is the writer's, of which its owner knows more.
 fn of_text(alloc: Global, task: &Task, bytes: &[u8]) -> Result<String, AllocError> {
-    let (Verb::Asm, Err(error)) = (task.verb, str::from_utf8(bytes)) else {
+    let (Verb::Asm | Verb::Check, Err(error)) = (task.verb, str::from_utf8(bytes)) else {
         return Ok(String::new(alloc));
     };
     let name = task.input;

@@ -31,6 +31,16 @@ Exit status:
   3  these words aren't understood
   4  a file can't be read, or the output can't be written";
 
+pub const CHECK: &str = "Example:
+  x10p check examples/doubles.asm
+
+Exit status:
+  0  done
+  1  refused: the text, the image, or the module
+  2  lack of memory
+  3  these words aren't understood
+  4  a file can't be read, or the output can't be written";
+
 pub const VERIFY: &str = "Example:
   x10p verify examples/seven.x10
 

@@ -2,6 +2,7 @@
 //! writers.
 #![tactic(auto)]
 
+mod checking;
 mod commands;
 mod explain;
 mod fault;
@@ -10,6 +11,7 @@ mod picture;
 mod task;
 mod usage;
 
+pub use checking::is_image;
 pub use commands::{execute, tell};
 pub use fault::Fault;
 pub use task::{Task, Verb};

@@ -5,6 +5,10 @@ pub enum Verb {
     Asm,
     /// Print the canonical listing of an image.
     List,
+    /// Print the listing with what the verifier knows at each instruction.
+    ListVerbose,
+    /// Tell all faults of a text or an image that can be told by themselves, or the bound of each function.
+    Check,
     /// Verify it, and tell how many functions it has and the bound of its entry function.
     Verify,
     /// Tell the bound of each function.

@@ -99,7 +99,9 @@ fn task_of<'a>(matches: &ArgMatches<'a>) -> Option<Task<'a>> {
     let (name, matches) = matches.subcommand()?;
     let verb = match name {
         "asm" => Verb::Asm,
+        "list" if matches.get_flag("verbose") => Verb::ListVerbose,
         "list" => Verb::List,
+        "check" => Verb::Check,
         "verify" => Verb::Verify,
         "bounds" => Verb::Bounds,
         "trace" => Verb::Trace,
@@ -117,68 +119,106 @@ fn task_of<'a>(matches: &ArgMatches<'a>) -> Option<Task<'a>> {
 }
 
 fn program<'a>(alloc: Global) -> Result<Command<'a>, AllocError> {
-    let output = Arg::new(alloc, "OUTPUT")
-        .value_name("IMAGE")
-        .help("The file to write, the module's image")
-        .required(true);
-    let asm = Command::new(alloc, "asm")
+    let command = Command::new(alloc, "x10p")
+        .about(ABOUT)
+        .version(VERSION)
+        .after_help(help::PROGRAM)
+        .subcommand_required(true);
+    with_runs(alloc, with_looks(alloc, command)?)
+}
+
+/// With the commands that run nothing.
+fn with_looks<'a>(alloc: Global, command: Command<'a>) -> Result<Command<'a>, AllocError> {
+    command
+        .subcommand(asm(alloc)?)?
+        .subcommand(list(alloc)?)?
+        .subcommand(check(alloc)?)?
+        .subcommand(verify(alloc)?)?
+        .subcommand(bounds(alloc)?)
+}
+
+/// With the commands that run a module.
+fn with_runs<'a>(alloc: Global, command: Command<'a>) -> Result<Command<'a>, AllocError> {
+    command
+        .subcommand(run(alloc)?)?
+        .subcommand(trace(alloc)?)?
+        .subcommand(draw(alloc)?)
+}
+
+fn asm<'a>(alloc: Global) -> Result<Command<'a>, AllocError> {
+    Command::new(alloc, "asm")
         .about(
             "Assemble a text into a module's image; where the text is refused, nothing is written",
         )
         .after_help(help::ASM)
         .arg(input(alloc, "TEXT", "The file of the assembler text"))?
-        .arg(output)?
-        .arg(explain(alloc))?;
-    let list = Command::new(alloc, "list")
+        .arg(output(alloc, "IMAGE", "The file to write, the module's image"))?
+        .arg(explain(alloc))
+}
+
+fn list<'a>(alloc: Global) -> Result<Command<'a>, AllocError> {
+    let verbose = Arg::new(alloc, "verbose")
+        .long("verbose")
+        .help("With what the verifier knows at each instruction, in comments")
+        .action(ArgAction::SetTrue);
+    Command::new(alloc, "list")
         .about("Print a module as assembler text, which assembles to the same image")
         .after_help(help::LIST)
         .arg(image_name(alloc))?
-        .arg(explain(alloc))?;
-    let verify = Command::new(alloc, "verify")
+        .arg(verbose)?
+        .arg(explain(alloc))
+}
+
+fn check<'a>(alloc: Global) -> Result<Command<'a>, AllocError> {
+    Command::new(alloc, "check")
+        .about("Tell all that is wrong with a text or an image, or the most steps of each function")
+        .after_help(help::CHECK)
+        .arg(input(alloc, "FILE", "The file of a text, or of a module's image"))?
+        .arg(explain(alloc))
+}
+
+fn verify<'a>(alloc: Global) -> Result<Command<'a>, AllocError> {
+    Command::new(alloc, "verify")
         .about(
             "Verify a module: print how many functions it has and the bound of its entry function",
         )
         .after_help(help::VERIFY)
         .arg(image_name(alloc))?
-        .arg(explain(alloc))?;
-    let bounds = Command::new(alloc, "bounds")
+        .arg(explain(alloc))
+}
+
+fn bounds<'a>(alloc: Global) -> Result<Command<'a>, AllocError> {
+    Command::new(alloc, "bounds")
         .about("Print the most steps that each function takes, a line `FUNCTION STEPS` each")
         .after_help(help::BOUNDS)
         .arg(image_name(alloc))?
-        .arg(explain(alloc))?;
-    let picture = Arg::new(alloc, "OUTPUT")
-        .value_name("SVG")
-        .help("The file to write, the picture of the run")
-        .required(true);
-    let draw = run_words(
+        .arg(explain(alloc))
+}
+
+fn run<'a>(alloc: Global) -> Result<Command<'a>, AllocError> {
+    let about = "Verify a module, run it, and print each place's lines, `PLACE: LINE` each";
+    run_words(alloc, "run", about, help::RUN)
+}
+
+fn trace<'a>(alloc: Global) -> Result<Command<'a>, AllocError> {
+    let about = "Verify a module, run it, and print what happens, event by event";
+    run_words(alloc, "trace", about, help::TRACE)
+}
+
+fn draw<'a>(alloc: Global) -> Result<Command<'a>, AllocError> {
+    let about = "Verify a module, run it, and draw what happens as an SVG document";
+    run_words(alloc, "draw", about, help::DRAW)?.arg(output(
         alloc,
-        "draw",
-        "Verify a module, run it, and draw what happens as an SVG document",
-        help::DRAW,
-    )?
-    .arg(picture)?;
-    Command::new(alloc, "x10p")
-        .about(ABOUT)
-        .version(VERSION)
-        .after_help(help::PROGRAM)
-        .subcommand_required(true)
-        .subcommand(asm)?
-        .subcommand(list)?
-        .subcommand(verify)?
-        .subcommand(bounds)?
-        .subcommand(run_words(
-            alloc,
-            "run",
-            "Verify a module, run it, and print each place's lines, `PLACE: LINE` each",
-            help::RUN,
-        )?)?
-        .subcommand(run_words(
-            alloc,
-            "trace",
-            "Verify a module, run it, and print what happens, event by event",
-            help::TRACE,
-        )?)?
-        .subcommand(draw)
+        "SVG",
+        "The file to write, the picture of the run",
+    ))
+}
+
+fn output<'a>(alloc: Global, name: &'a str, help: &'a str) -> Arg<'a> {
+    Arg::new(alloc, "OUTPUT")
+        .value_name(name)
+        .help(help)
+        .required(true)
 }
 
 fn image_name<'a>(alloc: Global) -> Arg<'a> {

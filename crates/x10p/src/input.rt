@@ -2,7 +2,7 @@
 use crate::trouble::Trouble;
 use std::fs::File;
 use std::io::Read;
-use x10_cli::Verb;
+use x10_cli::{Verb, is_image};
 use x10_image::{ImageFault, ImageView};
 
 /// How many bytes are read before they are looked at for the first time.
@@ -54,6 +54,7 @@ fn is_at_end(file: &mut File, goal: u64, bytes: &mut Vec<u8>) -> Result<bool, Tr
 fn look_at(rt: &HostRuntime, verb: Verb, bytes: &[u8]) -> Result<Look, Trouble> {
     match verb {
         Verb::Asm => Ok(look_at_text(bytes)),
+        Verb::Check if !is_image(bytes) => Ok(look_at_text(bytes)),
         _ => look_at_image(rt, bytes),
     }
 }

@@ -1,0 +1,67 @@
+//! The command `check`: all that can be told of a text or an image.
+ghost use Rattle.std.specs.Prelude.{◌≡◌, ◌≢◌, ◌↔◌, IfOk, IfErr, OnOk, IsTrue, None};
+ghost use Rattle.x10_cli.specs.declared.task.Verb.TheVariants as verb;
+ghost use Rattle.x10_cli.specs.Answers.{CanBeDone, Prints, IsChecked, begins_as_image, status_of};
+
+use crate::commands::verified_in;
+use crate::fault::Fault;
+use std::alloc::Global;
+use std::io::Write;
+use x10_asm::assemble;
+use x10_explain::{Report, check_image, check_text};
+
+/// Prints the bounds of the module that a file is, or what is wrong with it.
+pub(crate) fn print_check<O: Write>(alloc: Global, bytes: &[u8], out: &mut O) -> Result<(), Fault>
+    ensures done { IfOk result (λ _. CanBeDone verb.Check None bytes.now) }
+    ensures printed { OnOk result (Prints verb.Check None bytes.now (O.contents out.old) (O.contents out.new)) }
+    ensures refused { IfErr result (λ e. status_of e ≡ 1 → CanBeDone verb.Check None bytes.now → ⊥) }
+{
+    let report = report_of(alloc, bytes)?;
+    out.write_all(report.text.as_bytes())?;
+    if report.verified {
+        return Ok(());
+    }
+    Err(first_fault(alloc, bytes))
+}
+
+/// Whether a file is taken as an image, by its first four bytes; else it is taken as a text.
+pub fn is_image(bytes: &[u8]) -> bool
+    ensures { result ≡ begins_as_image bytes.now }
+{
+    bytes.starts_with(b"X10P")
+}
+
+fn report_of(alloc: Global, bytes: &[u8]) -> Result<Report, Fault>
+    ensures verdict { IfOk result (λ report. IsTrue report.verified ↔ IsChecked bytes.now) }
+    ensures status { IfErr result (λ e. status_of e ≢ 1) }
+{
+    if is_image(bytes) {
+        return Ok(check_image(alloc, bytes)?);
+    }
+    let Ok(text) = str::from_utf8(bytes) else {
+        return Err(Fault::File);
+    };
+    Ok(check_text(alloc, text)?)
+}
+
+/// The fault of a file that isn't a verified module, as the other commands tell it.
+fn first_fault(alloc: Global, bytes: &[u8]) -> Fault {
+    match verified(alloc, bytes) {
+        // where the verdict was another one before, memory was refused
+        Ok(()) => Fault::Memory,
+        Err(fault) => fault,
+    }
+}
+
+fn verified(alloc: Global, bytes: &[u8]) -> Result<(), Fault> {
+    if is_image(bytes) {
+        verified_in(alloc, bytes)?;
+        return Ok(());
+    }
+    let Ok(text) = str::from_utf8(bytes) else {
+        return Err(Fault::File);
+    };
+    let image = assemble(alloc, text)?;
+    verified_in(alloc, &image)?;
+    Ok(())
+}

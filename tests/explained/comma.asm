@@ -1,0 +1,16 @@
+; Commas between operands.
+;
+; $ x10p asm --explain comma.asm comma.x10
+; status 1: asm: line 12 Number
+; > Number, line 12: INTK 0, 0
+; > A word of it is to be a number and isn't, or is outside its range, or names a class that isn't there.
+; > Expected: INTK REGISTER INT; decimal numbers up to 255, INT up to 4294967295.
+; > Hint: words are parted by spaces, without commas.
+places 1
+int 7
+func 1 0 none
+INTK 0, 0
+PRINT 0
+RET 0
+end
+entry 0

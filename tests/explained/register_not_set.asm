@@ -1,0 +1,14 @@
+; A register that nothing has set.
+;
+; $ x10p verify --explain register_not_set.x10
+; status 1: verify: Unset 0 0
+; > Unset, function 0, instruction 0: PRINT 0
+; > PRINT asks that r0 is int or text; r0 isn't set.
+; > Nothing on the way here writes r0; where the function begins, its parameters alone are set, 0 of them.
+places 1
+int 7
+func 1 0 none
+PRINT 0
+RET 0
+end
+entry 0
