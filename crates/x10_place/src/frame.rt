@@ -259,6 +259,7 @@ impl CallFrame {
 
     /// Operations of this frame alone, one after another: as many as come before one that isn't, and at most so many. How
     /// many there were.
+    #[inline(never)]
     pub(crate) fn stretch(&mut self, heap: &mut Heap, verified: &Verified, most: u64) -> u64
         requires inside { IsInside verified.now.program self.old }
         requires typed { IsTypedFrame verified.now.program heap.old self.old }
