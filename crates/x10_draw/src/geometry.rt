@@ -5,7 +5,7 @@ use std::alloc::{AllocError, Global};
 
 /// The height of a row.
 const ROW: u64 = 12;
-/// The height of the head, above row 0.
+/// The height of the head, above the first row.
 const HEAD: u64 = 150;
 /// The width of a letter.
 const LETTER: u64 = 6;
