@@ -16,8 +16,7 @@ use Rattle.x10_frame.specs.declared.fault.FrameFault.{FrameFault as RustFault}
 use Rattle.x10_frame.specs.Faults.{named, IsFault, IsFaultOrMemory}
 use Rattle.x10_frame.specs.Heads.{IsGraphHead, head_of, graph_of, sent_of, received_of, with_graph, most_roots, counts_at, graph_after}
 use Rattle.x10_frame.specs.Bodies.{IsGraph, GivesGraph, IsBody, GivesBody}
-use Rattle.x10_frame.proofs.Loops.{lenient}
-use Rattle.x10_frame.proofs.Readers.{early}
+use Rattle.x10_bytes.proofs.Loops.{lenient, early}
 
 nothing_at : (bytes : List ℕ) (at : ℕ) → StandsAt bytes at []
 nothing_at bytes at = record { rest = drop at bytes; is = refl }

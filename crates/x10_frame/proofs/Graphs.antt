@@ -9,11 +9,12 @@ use Rattle.x10_model.proofs.ItemLaws.{Few, item_reads}
 use Rattle.x10_model.specs.Offsets.{EndsWith}
 use Rattle.x10_model.proofs.Offsets.{place_is, still_ends}
 use Rattle.x10_frame.specs.Faults.{IsFault, IsFaultOrMemory}
-use Rattle.x10_frame.specs.Places.{IsWalk, IsTable, IsNodeTable}
+use Rattle.x10_frame.specs.NodeTables.{IsNodeTable}
+use Rattle.x10_bytes.specs.Tables.{IsWalk, IsTable}
 use Rattle.x10_frame.specs.Graphs.{counts_at, graph_from}
 use Rattle.x10_frame.specs.Bodies.{IsGraph}
-use Rattle.x10_frame.proofs.Loops.{lenient}
-use Rattle.x10_frame.proofs.Readers.{Drops, drops_reads, drops_done, drops_bind, drops_such_that, split, early, early_such_that, such_that_is, such_that_not}
+use Rattle.x10_bytes.proofs.Loops.{lenient, early}
+use Rattle.x10_frame.proofs.Readers.{Drops, drops_reads, drops_done, drops_bind, drops_such_that, split, early_such_that, such_that_is, such_that_not}
 
 pub counts_drop : (most : ℕ) → Drops (counts_at most)
 unfolding counts_at

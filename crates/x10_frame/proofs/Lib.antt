@@ -1,8 +1,3 @@
-pub mod Numbers
-pub mod Loops
-pub mod TableLoops
-pub mod Texts
-pub mod Counts
 pub mod Turns
 pub mod Readers
 pub mod Graphs
@@ -10,6 +5,7 @@ pub mod Heads
 pub mod Bodies
 pub mod Whole
 pub mod ReadAgain
+pub mod KnownItems
 pub mod Shows
 pub mod Spelling
 pub mod Drafts

@@ -53,14 +53,36 @@ left_start places n bytes h =
     let k : n - 0 ≡ n = omega arith in
     rw (k, items_in_is places n bytes h.items h.rest h.reads) (record { items = h.items; rest = h.rest; reads = h.reads; is = λ j. (let z : j ≡ 0 + j = omega arith in ap (λ (t : ℕ). slice_get h.items t) z) })
 
+taken : (x y : Item) (r s : List ℕ) (read : Result (Item × List ℕ) FrameFault) → read ≡ Ok (x, r) → read ≡ Ok (y, s) → (x ≡ y) × (r ≡ s)
+taken x y r s read a b = same {E = FrameFault} x y r s (sym a ∙ b)
+
+-- the first of n values that are left, and those after it
+pub some_there : (places n : ℕ) (bytes : List ℕ) → HasItems places n bytes → 0 < n → IsOk (item_at places full full bytes)
+some_there places n bytes h lt =
+    let k : n ≡ suc (n - 1) = omega (arith, lt) in
+    let f = first_of places (n - 1) bytes h.items h.rest (rw k at h.reads) in
+    rw f.reads refl
+
+pub record Stepped (places n : ℕ) (all : List Item) (x : Item) (rest : List ℕ) : Type 0 where
+  pub there : HasItems places (n - 1) rest
+  pub are : all ≡ x ∷ items_in places (n - 1) rest
+
+pub stepped : (places n : ℕ) (bytes : List ℕ) (x : Item) (rest : List ℕ) → HasItems places n bytes → 0 < n → item_at places full full bytes ≡ Ok (x, rest) → Stepped places n (items_in places n bytes) x rest
+stepped places n bytes x rest h lt e =
+    let k : n ≡ suc (n - 1) = omega (arith, lt) in
+    let f = first_of places (n - 1) bytes h.items h.rest (rw k at h.reads) in
+    let is = taken f.item x f.middle rest (item_at places full full bytes) f.reads e in
+    let then : times (n - 1) (item_at places full full) rest ≡ Ok (f.others, h.rest) = ap (times (n - 1) (item_at places full full)) (sym is.1) ∙ f.then in
+    record {
+      there = record { items = f.others; rest = h.rest; reads = then };
+      are = items_in_is places n bytes h.items h.rest h.reads ∙ sym f.is ∙ ap (λ (y : Item). y ∷ f.others) is.0 ∙ ap (λ (ys : List Item). x ∷ ys) (sym (items_in_is places (n - 1) rest f.others h.rest then));
+    }
+
 pub is_there : (places n i : ℕ) (bytes : List ℕ) (all : List Item) → i < n → Left places (n - i) i bytes all → IsOk (item_at places full full bytes)
 is_there places n i bytes all lt l =
     let k : n - i ≡ suc (n - (i + 1)) = omega arith in
     let f = first_of places (n - (i + 1)) bytes l.items l.rest (rw k at l.reads) in
     rw f.reads refl
-
-taken : (x y : Item) (r s : List ℕ) (read : Result (Item × List ℕ) FrameFault) → read ≡ Ok (x, r) → read ≡ Ok (y, s) → (x ≡ y) × (r ≡ s)
-taken x y r s read a b = same {E = FrameFault} x y r s (sym a ∙ b)
 
 pub left_next : (places n i : ℕ) (bytes : List ℕ) (all : List Item) (x : Item) (rest : List ℕ) → i < n → Left places (n - i) i bytes all → item_at places full full bytes ≡ Ok (x, rest) → Left places (n - (i + 1)) (i + 1) rest all
 left_next places n i bytes all x rest lt l e =

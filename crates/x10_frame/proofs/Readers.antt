@@ -1,11 +1,12 @@
 -- Readers in sequence: their order, what they leave, and their faults.
-use Rattle.std.proofs.Common.{◌≡◌, ℕ, Bool, true, false, List, [], ◌++◌, Option, Some, None, Result, Ok, Err, refl, sym, subst, ◌∙◌}
+use Rattle.std.proofs.Common.{◌≡◌, ℕ, Bool, true, false, List, [], ◌++◌, Option, Result, Ok, Err, refl, sym, subst, ◌∙◌}
 use Rattle.x10_model.specs.Readers.{Reader, IsBytes, bind, done, check, such_that, expect}
 use Rattle.x10_model.specs.ReadingFrames.{FrameFault}
 use Rattle.x10_model.proofs.ReaderLaws.{Reads, Takes, Takes-then, same, bind_ok}
 use Rattle.x10_model.specs.Offsets.{EndsWith}
 use Rattle.x10_model.proofs.Offsets.{still_ends}
 use Rattle.x10_frame.specs.Faults.{IsFaultOrMemory}
+use Rattle.x10_bytes.proofs.Loops.{early}
 
 -- ---- order
 
@@ -86,14 +87,6 @@ pub ends_after : (frame bytes rest : List ℕ) → EndsWith frame bytes → Leav
 ends_after frame bytes rest e l = still_ends frame bytes l.0 rest e l.1.parts
 
 -- ---- faults
-
-then_fault : {A B : Type 0} (r : Reader FrameFault A) (next : A → Reader FrameFault B) (bytes : List ℕ) (f : FrameFault) → r bytes ≡ Err f → bind r next bytes ≡ Err f
-unfolding bind
-then_fault r next bytes f e = rw e refl
-
-pub early : {A B : Type 0} (r : Reader FrameFault A) (next : A → Reader FrameFault B) (bytes : List ℕ) (f : Option FrameFault) → IsFaultOrMemory f (r bytes) → IsFaultOrMemory f (bind r next bytes)
-early r next bytes None h = tt
-early r next bytes (Some f) h = then_fault r next bytes f h
 
 pub early_such_that : {A : Type 0} (r : Reader FrameFault A) (holds : A → Bool) (fault : FrameFault) (bytes : List ℕ) (f : Option FrameFault) → IsFaultOrMemory f (r bytes) → IsFaultOrMemory f (such_that r holds fault bytes)
 unfolding such_that

@@ -1,17 +1,17 @@
 -- What the parts of a view are, by the frame that it shows.
-use Rattle.std.proofs.Common.{◌≡◌, ℕ, zero, suc, ◌+◌, ◌*◌, ◌^◌, ◌<◌, ◌≤◌, List, [], ◌∷◌, ◌++◌, length, get_or, drop, Some, refl, sym, ap, subst, ◌∙◌, arith, flat_map, slice_get, length-append}
+use Rattle.std.proofs.Common.{◌≡◌, ℕ, zero, suc, ◌+◌, ◌*◌, ◌^◌, ◌<◌, ◌≤◌, List, [], ◌∷◌, ◌++◌, length, drop, Some, refl, sym, ap, subst, ◌∙◌, arith, flat_map, slice_get, length-append}
 use Rattle.std.specs.Prelude.{slice_range, slice_index}
 use Rattle.std.specs.List.{AllByRecursion}
 use Rattle.std.specs.Int.{w16, w32, to_be_bytes, from_be_bytes}
-use Rattle.std.proofs.lemmas.Nat.{from_be_bytes-to_be_bytes_2, from_be_bytes-to_be_bytes_4}
-use Rattle.std.proofs.lemmas.List.{get_or_default}
 use Rattle.std.proofs.lemmas.List.Concat.{flat_map-cons}
 use Rattle.x10_model.specs.Frames.{Item, Node, Graph, Frame, Spawn, Shift, Back, Report, Tables, tables_of, Turn, turn, next_turn, none, used_after, FitsNode, FitsGraph, FitsFrame, item_bytes, blob_bytes, node_bytes, counts_bytes, spelling}
 use Rattle.x10_model.specs.Readers.{FitsEach}
 use Rattle.x10_model.proofs.ItemLaws.{Few}
 use Rattle.x10_model.proofs.ImageParts.{length-items}
-use Rattle.x10_model.specs.Offsets.{StandsAt, AreAt}
-use Rattle.x10_model.proofs.Offsets.{later, narrow, place_small, byte_is, range_is, same_length, item_of}
+use Rattle.x10_model.specs.Offsets.{StandsAt}
+use Rattle.x10_model.proofs.Offsets.{later, narrow, place_small, byte_is, range_is}
+use Rattle.x10_model.proofs.Lists.{all_at}
+use Rattle.x10_bytes.proofs.Parts.{number2_is, number4_is}
 use Rattle.x10_frame.specs.declared.head.Head.{Head}
 use Rattle.x10_frame.specs.declared.head.Head.TheVariants as head
 use Rattle.x10_frame.specs.Heads.{head_of, graph_of, sent_of, received_of, no_graph}
@@ -76,11 +76,6 @@ counts_of places f h fits e =
     let c = counts_are places f fits in
     (ap (counts_with places) (sym e) ∙ sym c.0, ap (counts_with places) (sym e) ∙ sym c.1)
 
-pub all_at : {A : Type 0} (P : A → Type 0) (xs : List A) (i : ℕ) (x : A) → AllByRecursion P xs → slice_get xs i ≡ Some x → P x
-all_at P [] i x h e = absurd cc
-all_at P (y ∷ xs) zero x h e = let is : y ≡ x = cc in subst P is h.0
-all_at P (y ∷ xs) (suc i) x h e = all_at P xs i x h.1 e
-
 -- the node that has its turn
 turn_of : (places : ℕ) (all : Tables) (t : Turn) (ns : List Node) (i : ℕ) (n : Node) → FitsEach (FitsNode places all) next_turn t ns → slice_get ns i ≡ Some n → (u : Turn) × FitsNode places all u n
 turn_of places all t [] i n h e = absurd cc
@@ -89,21 +84,6 @@ turn_of places all t (m ∷ ns) (suc i) n h e = turn_of places all (next_turn t 
 
 pub node_fits : (places : ℕ) (g : Graph) (i : ℕ) (n : Node) → FitsGraph places 16 g → slice_get g.nodes i ≡ Some n → (u : Turn) × FitsNode places (tables_of g) u n
 node_fits places g i n h e = turn_of places (tables_of g) (turn 0 (used_after none g.roots)) g.nodes i n h.nodes.1 e
-
--- ---- places
-
--- the entry of a table, as it is read
-pub item_in : {A : Type 0} (spell : A → List ℕ) (bytes table : List ℕ) (xs : List A) (i at : ℕ) → AreAt spell bytes table xs → i < length xs → at ≡ get_or table i at → (x : A) × (slice_get xs i ≡ Some x) × StandsAt bytes at (spell x)
-item_in spell bytes table xs i at places lt e =
-    let found = item_of _ table xs i places lt in
-    let is : get_or table i 0 ≡ at = sym (e ∙ get_or_default table i at 0 (omega (arith, lt, same_length _ table xs places))) in
-    (found.0, found.1, subst (λ (n : ℕ). StandsAt bytes n (spell found.0)) is found.2)
-
-number2_is : (bytes : List ℕ) (at n : ℕ) → n < 2 ^ 16 → StandsAt bytes at (to_be_bytes w16 n) → from_be_bytes w16 (slice_range bytes at (at + 2)) ≡ n
-number2_is bytes at n lt s = ap (from_be_bytes w16) (range_is bytes at (at + 2) (to_be_bytes w16 n) refl s) ∙ from_be_bytes-to_be_bytes_2 n lt
-
-number4_is : (bytes : List ℕ) (at n : ℕ) → n < 2 ^ 32 → StandsAt bytes at (to_be_bytes w32 n) → from_be_bytes w32 (slice_range bytes at (at + 4)) ≡ n
-number4_is bytes at n lt s = ap (from_be_bytes w32) (range_is bytes at (at + 4) (to_be_bytes w32 n) refl s) ∙ from_be_bytes-to_be_bytes_4 n lt
 
 -- ---- counts
 

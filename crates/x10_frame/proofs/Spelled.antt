@@ -1,41 +1,17 @@
 -- Where a frame's parts stand in its spelling, by how the spelling is put together.
-use Rattle.std.proofs.Common.{◌≡◌, ℕ, zero, suc, ◌+◌, ◌*◌, ◌<◌, ◌≤◌, List, [], ◌∷◌, ◌++◌, length, Some, refl, sym, ap, subst, ◌∙◌, append-nil, arith, take, drop, flat_map, slice_get, length-append, length-take}
+use Rattle.std.proofs.Common.{◌≡◌, ℕ, ◌+◌, ◌*◌, ◌<◌, List, [], ◌++◌, length, Some, refl, sym, subst, ◌∙◌, append-nil, arith, drop, flat_map, slice_get}
 use Rattle.std.specs.Int.{w16, w32, to_be_bytes}
-use Rattle.std.proofs.lemmas.Option.{slice_get_within}
-use Rattle.std.proofs.lemmas.List.Concat.{flat_map-cons}
 use Rattle.x10_model.specs.Frames.{Item, Node, Graph, Frame, Spawn, Shift, Back, Report, item_bytes, blob_bytes, node_bytes, graph_bytes, launch_bytes, counts_bytes, spelling}
 use Rattle.x10_model.proofs.ImageParts.{length-items}
 use Rattle.x10_model.specs.Offsets.{StandsAt}
-use Rattle.x10_model.proofs.Offsets.{later, narrow, place_small, range_is}
+use Rattle.x10_model.proofs.Offsets.{later, narrow}
+use Rattle.x10_bytes.proofs.Parts.{part_at, part_behind, item_here, before_it}
 use Rattle.x10_frame.specs.declared.head.Head.{Head}
 use Rattle.x10_frame.specs.declared.head.Head.TheVariants as head
 use Rattle.x10_frame.specs.Heads.{head_of, graph_of, sent_of, received_of}
 use Rattle.x10_frame.specs.Writing.{head_bytes, sizes_bytes}
-use Rattle.x10_frame.specs.Parts.{IsPart, roots_from, texts_from, rails_from, nodes_from, place_of_root, place_of_text, place_of_rail, place_of_node, counts_from, place_of_sent, place_of_received}
-
-part_at : (bytes : List ℕ) (at : ℕ) (part : List ℕ) → 0 < length part → StandsAt bytes at part → IsPart bytes at part
-part_at bytes at part some s = record { end = place_small bytes at part some s; is = sym (range_is bytes at (at + length part) part refl s) }
-
--- ---- an item among others
-
-item_here : {A : Type 0} (spell : A → List ℕ) (bytes : List ℕ) (at : ℕ) (xs : List A) (i : ℕ) (x : A) → StandsAt bytes at (flat_map spell xs) → slice_get xs i ≡ Some x
-    → StandsAt bytes (at + length (flat_map spell (take i xs))) (spell x)
-item_here spell bytes at [] i x s e = absurd cc
-item_here spell bytes at (y ∷ xs) zero x s e =
-    let is : y ≡ x = cc in
-    let here : at + 0 ≡ at = omega arith in
-    subst (λ z. StandsAt bytes (at + 0) (spell z)) is (rw here (narrow bytes at (spell y) (flat_map spell xs) (rw flat_map-cons at s)))
-item_here spell bytes at (y ∷ xs) (suc i) x s e =
-    let long : length (flat_map spell (y ∷ take i xs)) ≡ length (spell y) + length (flat_map spell (take i xs)) = ap length (flat_map-cons spell y (take i xs)) ∙ length-append (spell y) (flat_map spell (take i xs)) in
-    let there : at + length (spell y) + length (flat_map spell (take i xs)) ≡ at + length (flat_map spell (y ∷ take i xs)) = omega (arith, long) in
-    let rest = later bytes at (length (spell y)) (at + length (spell y)) (spell y) (flat_map spell xs) refl refl (rw flat_map-cons at s) in
-    subst (λ (n : ℕ). StandsAt bytes n (spell x)) there (item_here spell bytes (at + length (spell y)) xs i x rest e)
-
--- the items before it, of one length
-before_it : {A : Type 0} (spell : A → List ℕ) (k : ℕ) → ((x : A) → length (spell x) ≡ k) → (xs : List A) (i : ℕ) (x : A) → slice_get xs i ≡ Some x → length (flat_map spell (take i xs)) ≡ k * i
-before_it spell k each xs i x e =
-    let many : length (take i xs) ≡ i = omega (arith, length-take i xs, slice_get_within xs i x e) in
-    length-items spell k each (take i xs) ∙ ap (λ n. k * n) many
+use Rattle.x10_frame.specs.Parts.{roots_from, texts_from, rails_from, nodes_from, place_of_root, place_of_text, place_of_rail, place_of_node, counts_from, place_of_sent, place_of_received}
+use Rattle.x10_bytes.specs.Tables.{IsPart}
 
 -- ---- the head, and what follows it
 
@@ -132,10 +108,7 @@ node_some n = omega arith
 -- a text or a rail, behind its length
 blob_part : (bytes : List ℕ) (at : ℕ) (blob : List ℕ) → StandsAt bytes at (blob_bytes blob) → IsPart bytes (at + 4) blob
 unfolding blob_bytes
-blob_part bytes at blob s =
-    let back = later bytes at 4 (at + 4) (to_be_bytes w32 (length blob)) blob refl refl s in
-    let small : at + (4 + length blob) ≤ length bytes = omega (arith, place_small bytes at (to_be_bytes w32 (length blob) ++ blob) (omega arith) s) in
-    record { end = omega (arith, small); is = sym (range_is bytes (at + 4) (at + 4 + length blob) blob refl back) }
+blob_part bytes at blob s = part_behind bytes at 4 (to_be_bytes w32 (length blob)) blob refl (omega arith) s
 
 pub root_part : (f : Frame) (i : ℕ) (x : Item) → slice_get (graph_of f).roots i ≡ Some x → IsPart (spelling f) (place_of_root f i) (item_bytes x)
 root_part f i x e = part_at (spelling f) (place_of_root f i) (item_bytes x) (item_some x) (item_here item_bytes (spelling f) (roots_from f) (graph_of f).roots i x (graph_stands f).roots e)

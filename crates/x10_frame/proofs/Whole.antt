@@ -11,8 +11,7 @@ use Rattle.x10_frame.specs.Faults.{IsFault, IsFaultOrMemory, Gives}
 use Rattle.x10_frame.specs.Heads.{head_of, head_at, after_head}
 use Rattle.x10_frame.specs.Bodies.{HasBody, IsBody}
 use Rattle.x10_frame.specs.Views.{frame_in, IsView}
-use Rattle.x10_frame.proofs.Loops.{lenient}
-use Rattle.x10_frame.proofs.Readers.{early}
+use Rattle.x10_bytes.proofs.Loops.{lenient, early}
 use Rattle.x10_frame.proofs.Heads.{parts_is}
 
 -- ---- faults

@@ -1,6 +1,6 @@
 pub mod Faults
 pub mod Items
-pub mod Places
+pub mod NodeTables
 pub mod Heads
 pub mod Graphs
 pub mod Bodies

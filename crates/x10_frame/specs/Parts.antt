@@ -1,14 +1,9 @@
 -- Where the parts of a frame stand in its spelling.
-use Rattle.std.specs.Prelude.{◌≡◌, ℕ, ◌+◌, ◌*◌, ◌≤◌, List, length, take, slice_range}
+use Rattle.std.specs.Prelude.{ℕ, ◌+◌, ◌*◌, length, take}
 use Rattle.std.specs.List.{flat_map}
 use Rattle.x10_model.specs.Frames.{Frame, item_bytes, blob_bytes, node_bytes}
 use Rattle.x10_frame.specs.Heads.{head_of, graph_of, sent_of}
 use Rattle.x10_frame.specs.Writing.{head_bytes}
-
--- the bytes from one place on
-pub record IsPart (bytes : List ℕ) (from : ℕ) (part : List ℕ) : Type 0 where
-  pub end : from + length part ≤ length bytes
-  pub is : part ≡ slice_range bytes from (from + length part)
 
 -- where the roots begin: behind the head and the four sizes of the graph, in two bytes each
 abbrev pub roots_from : Frame → ℕ

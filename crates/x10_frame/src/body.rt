@@ -24,6 +24,7 @@ pub struct Body {
     pub nodes: Vec<usize>,
 }
 
+#[inline(always)]
 fn read_counts<'a>(
     alloc: Global,
     frame: &[u8],
@@ -48,6 +49,7 @@ fn read_counts<'a>(
 
 /// Where the parts of a frame with such a head stand in the frame that the bytes end, and the bytes
 /// after it.
+#[inline(always)]
 pub fn read_body<'a>(
     alloc: Global,
     frame: &[u8],

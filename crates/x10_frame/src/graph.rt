@@ -12,11 +12,11 @@ ghost use Rattle.x10_frame.specs.Bodies.{GivesGraph};
 
 use crate::body::Body;
 use crate::fault::FrameFault;
-use crate::fields::u16_at;
 use crate::parts::past_items;
 use crate::tables::{node_table, rail_table, text_table};
 use crate::used::Used;
 use std::alloc::Global;
+use x10_bytes::u16_at;
 
 /// How many roots, texts, rails and nodes a graph has.
 #[derive(Clone, Copy, Debug)]
@@ -26,10 +26,11 @@ struct Counts {
 }
 
 #[tactic(auto, unfolding(x10_model::specs::Readers::such_that, x10_model::specs::Readers::bind, x10_model::specs::Readers::check, x10_model::specs::Readers::done))]
+#[inline(always)]
 fn root_count_at(bytes: &[u8], most: u16) -> Result<(u16, &[u8]), FrameFault>
     ensures exact { Answers (λ x. (x.0, x.1.now)) result (such_that (number w16 Short) (λ n. nat_le n most) Order bytes.now) }
 {
-    let (count, bytes) = u16_at(bytes)?;
+    let (count, bytes) = u16_at::<FrameFault>(bytes)?;
     if count > most {
         return Err(FrameFault::Order);
     }
@@ -37,14 +38,15 @@ fn root_count_at(bytes: &[u8], most: u16) -> Result<(u16, &[u8]), FrameFault>
 }
 
 #[tactic(auto, unfolding(crate::specs::Graphs::counts_at, x10_model::specs::Readers::bind, x10_model::specs::Readers::done))]
+#[inline(always)]
 fn counts_at(bytes: &[u8], most: u16) -> Result<(Counts, &[u8]), FrameFault>
     ensures exact { Answers (λ x. ((x.0.roots, tables_in x.0.all), x.1.now)) result (counts_at most bytes.now) }
     ensures few { IfOk result (λ x. (x.0.all.texts < 2 ^ 16) × (x.0.all.rails < 2 ^ 16) × (x.0.all.nodes < 2 ^ 16)) }
 {
     let (roots, bytes) = root_count_at(bytes, most)?;
-    let (texts, bytes) = u16_at(bytes)?;
-    let (rails, bytes) = u16_at(bytes)?;
-    let (nodes, bytes) = u16_at(bytes)?;
+    let (texts, bytes) = u16_at::<FrameFault>(bytes)?;
+    let (rails, bytes) = u16_at::<FrameFault>(bytes)?;
+    let (nodes, bytes) = u16_at::<FrameFault>(bytes)?;
     let all = Used {
         texts: u32::from(texts),
         rails: u32::from(rails),

@@ -9,7 +9,8 @@ ghost use Rattle.x10_frame.specs.Heads.{head_at, numbers_at};
 ghost use Rattle.x10_frame.specs.Heads as spec;
 
 use crate::fault::FrameFault;
-use crate::fields::{byte_at, place_at, u16_at, u32_at};
+use crate::fields::place_at;
+use x10_bytes::{byte_at, u16_at, u32_at};
 
 /// What a frame is, from which place to which, and its other numbers.
 #[derive(Clone, Copy, Debug, PartialEq, Eq)]
@@ -47,10 +48,11 @@ pub enum Head {
 }
 
 #[tactic(auto, unfolding(x10_model::specs::Readers::expect, x10_model::specs::Readers::bind, x10_model::specs::Readers::check))]
+#[inline(always)]
 fn after_version(bytes: &[u8]) -> Result<&[u8], FrameFault>
     ensures exact { Answers (λ x. (tt, x.now)) result (expect (byte Short) 1 Version bytes.now) }
 {
-    let (version, bytes) = byte_at(bytes)?;
+    let (version, bytes) = byte_at::<FrameFault>(bytes)?;
     if version != 1 {
         return Err(FrameFault::Version);
     }
@@ -58,10 +60,11 @@ fn after_version(bytes: &[u8]) -> Result<&[u8], FrameFault>
 }
 
 #[tactic(auto, unfolding(x10_model::specs::Readers::such_that, x10_model::specs::Readers::bind, x10_model::specs::Readers::check, x10_model::specs::Readers::done))]
+#[inline(always)]
 fn type_at(bytes: &[u8]) -> Result<(u8, &[u8]), FrameFault>
     ensures exact { Answers (λ x. (x.0, x.1.now)) result (such_that (byte Short) (λ n. nat_le 1 n && nat_le n 4) FrameType bytes.now) }
 {
-    let (kind, bytes) = byte_at(bytes)?;
+    let (kind, bytes) = byte_at::<FrameFault>(bytes)?;
     if !(1..=4).contains(&kind) {
         return Err(FrameFault::FrameType);
     }
@@ -70,10 +73,11 @@ fn type_at(bytes: &[u8]) -> Result<(u8, &[u8]), FrameFault>
 
 /// The bytes after the number of places, which is this one.
 #[tactic(auto, unfolding(x10_model::specs::Readers::expect, x10_model::specs::Readers::bind, x10_model::specs::Readers::check))]
+#[inline(always)]
 fn after_places(bytes: &[u8], places: u16) -> Result<&[u8], FrameFault>
     ensures exact { Answers (λ x. (tt, x.now)) result (expect (number w16 Short) places Place bytes.now) }
 {
-    let (number, bytes) = u16_at(bytes)?;
+    let (number, bytes) = u16_at::<FrameFault>(bytes)?;
     if number != places {
         return Err(FrameFault::Place);
     }
@@ -81,12 +85,13 @@ fn after_places(bytes: &[u8], places: u16) -> Result<&[u8], FrameFault>
 }
 
 #[tactic(auto, unfolding(crate::specs::Heads::spawn_at, x10_model::specs::Readers::bind, x10_model::specs::Readers::done))]
+#[inline(always)]
 fn spawn_at(bytes: &[u8], places: u16, from: u16, to: u16) -> Result<(Head, &[u8]), FrameFault>
     ensures exact { Answers (λ x. (x.0, x.1.now)) result (spec.spawn_at places from to bytes.now) }
 {
     let (home, bytes) = place_at(bytes, places)?;
-    let (number, bytes) = u32_at(bytes)?;
-    let (function, bytes) = u16_at(bytes)?;
+    let (number, bytes) = u32_at::<FrameFault>(bytes)?;
+    let (function, bytes) = u16_at::<FrameFault>(bytes)?;
     let head = Head::Spawn {
         from,
         to,
@@ -98,13 +103,14 @@ fn spawn_at(bytes: &[u8], places: u16, from: u16, to: u16) -> Result<(Head, &[u8
 }
 
 #[tactic(auto, unfolding(crate::specs::Heads::shift_at, x10_model::specs::Readers::bind, x10_model::specs::Readers::done))]
+#[inline(always)]
 fn shift_at(bytes: &[u8], places: u16, from: u16, to: u16) -> Result<(Head, &[u8]), FrameFault>
     ensures exact { Answers (λ x. (x.0, x.1.now)) result (spec.shift_at places from to bytes.now) }
 {
-    let (waiting, bytes) = u32_at(bytes)?;
+    let (waiting, bytes) = u32_at::<FrameFault>(bytes)?;
     let (home, bytes) = place_at(bytes, places)?;
-    let (number, bytes) = u32_at(bytes)?;
-    let (function, bytes) = u16_at(bytes)?;
+    let (number, bytes) = u32_at::<FrameFault>(bytes)?;
+    let (function, bytes) = u16_at::<FrameFault>(bytes)?;
     let head = Head::Shift {
         from,
         to,
@@ -117,23 +123,26 @@ fn shift_at(bytes: &[u8], places: u16, from: u16, to: u16) -> Result<(Head, &[u8
 }
 
 #[tactic(auto, unfolding(crate::specs::Heads::back_at, x10_model::specs::Readers::bind, x10_model::specs::Readers::done))]
+#[inline(always)]
 fn back_at(bytes: &[u8], from: u16, to: u16) -> Result<(Head, &[u8]), FrameFault>
     ensures exact { Answers (λ x. (x.0, x.1.now)) result (spec.back_at from to bytes.now) }
 {
-    let (waiting, bytes) = u32_at(bytes)?;
+    let (waiting, bytes) = u32_at::<FrameFault>(bytes)?;
     Ok((Head::Back { from, to, waiting }, bytes))
 }
 
 #[tactic(auto, unfolding(crate::specs::Heads::report_at, x10_model::specs::Readers::bind, x10_model::specs::Readers::done))]
+#[inline(always)]
 fn report_at(bytes: &[u8], places: u16, from: u16, to: u16) -> Result<(Head, &[u8]), FrameFault>
     ensures exact { Answers (λ x. (x.0, x.1.now)) result (spec.report_at places from to bytes.now) }
 {
-    let (number, bytes) = u32_at(bytes)?;
+    let (number, bytes) = u32_at::<FrameFault>(bytes)?;
     let bytes = after_places(bytes, places)?;
     Ok((Head::Report { from, to, number }, bytes))
 }
 
 #[tactic(auto, unfolding(crate::specs::Heads::numbers_at, x10_model::specs::Readers::given))]
+#[inline(always)]
 fn numbers_at(
     bytes: &[u8],
     places: u16,
@@ -155,6 +164,7 @@ fn numbers_at(
 /// The numbers before the graph of a frame, or before the counts of a report, and the bytes after
 /// them.
 #[tactic(auto, unfolding(crate::specs::Heads::head_at, x10_model::specs::Readers::bind))]
+#[inline(always)]
 pub fn read_head(bytes: &[u8], places: u16) -> Result<(Head, &[u8]), FrameFault>
     ensures exact { Answers (λ x. (x.0, x.1.now)) result (head_at places bytes.now) }
 {

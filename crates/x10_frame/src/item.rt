@@ -3,13 +3,15 @@
 ghost use Rattle.x10_model.specs.Readers.{byte, such_that};
 ghost use Rattle.x10_model.specs.ReadingFrames.{Short, Tag, item_at, untagged_at};
 ghost use Rattle.x10_model.specs.Frames.{Tables};
-ghost use Rattle.std.specs.Prelude.{◌≡◌, ◌<◌, ◌&&◌, Ok, Some, nat_le, slice_get, IsOk};
+ghost use Rattle.std.specs.Prelude.{◌≡◌, ◌<◌, ◌&&◌, Some, nat_le, slice_get};
 ghost use Rattle.x10_frame.specs.Faults.{Answers};
-ghost use Rattle.x10_frame.specs.Items.{item_of, tables_in, full, items_in, HasItems};
+ghost use Rattle.x10_frame.specs.Items.{item_of, tables_in, items_in, HasItems};
 
 use crate::fault::FrameFault;
-use crate::fields::{byte_at, i64_at, index_at, place_at, u16_at, u32_at};
+use crate::fields::{index_at, place_at};
+use crate::known::known_item;
 use crate::used::Used;
+use x10_bytes::{byte_at, i64_at, u16_at, u32_at};
 
 /// A value as a frame spells it: texts, rails and objects by their numbers in the frame's tables.
 #[derive(Clone, Copy, Debug, PartialEq, Eq)]
@@ -29,7 +31,7 @@ pub enum Item {
 fn tag_at(bytes: &[u8]) -> Result<(u8, &[u8]), FrameFault>
     ensures exact { Answers (λ x. (x.0, x.1.now)) result (such_that (byte Short) (λ n. nat_le 1 n && nat_le n 7) Tag bytes.now) }
 {
-    let (tag, bytes) = byte_at(bytes)?;
+    let (tag, bytes) = byte_at::<FrameFault>(bytes)?;
     if !(1..=7).contains(&tag) {
         return Err(FrameFault::Tag);
     }
@@ -42,8 +44,8 @@ fn ref_at(bytes: &[u8], places: u16) -> Result<(Item, &[u8]), FrameFault>
     ensures exact { (all : Tables) (used : Tables) → Answers (λ x. (item_of x.0, x.1.now)) result (untagged_at places all used 7 bytes.now) }
 {
     let (home, bytes) = place_at(bytes, places)?;
-    let (id, bytes) = u32_at(bytes)?;
-    let (class, bytes) = u16_at(bytes)?;
+    let (id, bytes) = u32_at::<FrameFault>(bytes)?;
+    let (class, bytes) = u16_at::<FrameFault>(bytes)?;
     Ok((Item::Ref { home, id, class }, bytes))
 }
 
@@ -60,7 +62,7 @@ fn untagged_at<'a>(
 {
     match tag {
         1 => {
-            let (number, bytes) = i64_at(bytes)?;
+            let (number, bytes) = i64_at::<FrameFault>(bytes)?;
             Ok((Item::Int(number), bytes))
         }
         2 => {
@@ -100,20 +102,6 @@ pub fn item_at<'a>(
     untagged_at(bytes, tag, places, all, used)
 }
 
-/// A value that was read before, and the bytes after it. No table is looked at again.
-#[inline(always)]
-fn known_item(bytes: &[u8], places: u16) -> (Item, &[u8])
-    requires { IsOk (item_at places full full bytes.now) }
-    ensures { item_at places full full bytes.now ≡ Ok (item_of result.0, result.1.now) }
-{
-    let full = Used {
-        texts: 65_535,
-        rails: 65_535,
-        nodes: 65_535,
-    };
-    item_at(bytes, places, &full, &full).unwrap()
-}
-
 /// One of so many values that were read before.
 pub fn nth_item(bytes: &[u8], places: u16, count: u16, i: usize) -> Item
     requires there { HasItems places count bytes.now }
@@ -122,9 +110,9 @@ pub fn nth_item(bytes: &[u8], places: u16, count: u16, i: usize) -> Item
 {
     let mut rest = bytes;
     for _ in 0..i {
-        let (_, after) = known_item(rest, places);
+        let (_, after) = known_item(rest);
         rest = after;
     }
-    let (item, _) = known_item(rest, places);
+    let (item, _) = known_item(rest);
     item
 }

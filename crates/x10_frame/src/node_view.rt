@@ -2,6 +2,7 @@ ghost use Rattle.std.specs.Prelude.{◌≡◌, ◌<◌, length, Some, slice_get}
 ghost use Rattle.x10_frame.specs.Items.{item_of};
 
 use crate::item::{Item, nth_item};
+use crate::values::Values;
 use std::marker::Model;
 
 /// An object of a frame, in its bytes. Clauses see the node.
@@ -49,5 +50,17 @@ impl<'a> NodeView<'a> {
         ensures value { slice_get self.now.fields j ≡ Some (item_of result) }
     {
         nth_item(self.values, self.places, u16::from(self.count), j)
+    }
+
+    /// The fields, from the first on. Constant time.
+    #[inline(always)]
+    pub fn values(&self) -> Values<'a>
+        ensures value { result ≡ self.now.fields }
+    {
+        Values {
+            places: self.places,
+            count: u16::from(self.count),
+            bytes: self.values,
+        }
     }
 }

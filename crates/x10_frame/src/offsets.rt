@@ -6,25 +6,7 @@ ghost use Rattle.std.specs.Int.{w16, w32, from_be_bytes};
 ghost use Rattle.x10_frame.specs.Items.{items_in, HasItems};
 
 use crate::node_view::NodeView;
-use byteorder::{BigEndian, ByteOrder};
-
-/// The number of two bytes at a place.
-#[inline(always)]
-fn u16_in(bytes: &[u8], at: usize) -> u16
-    requires { at + 2 ≤ length bytes.now }
-    ensures { result ≡ from_be_bytes w16 (slice_range bytes.now at (at + 2)) }
-{
-    BigEndian::read_u16(&bytes[at..at + 2])
-}
-
-/// The number of four bytes at a place.
-#[inline(always)]
-fn u32_in(bytes: &[u8], at: usize) -> u32
-    requires { at + 4 ≤ length bytes.now }
-    ensures { result ≡ from_be_bytes w32 (slice_range bytes.now at (at + 4)) }
-{
-    BigEndian::read_u32(&bytes[at..at + 4])
-}
+use x10_bytes::{u16_in, u32_in};
 
 /// One of the counts of four bytes each that begin at a place.
 #[inline(always)]
@@ -33,15 +15,6 @@ pub fn count_in(bytes: &[u8], start: usize, i: usize) -> u32
     ensures { result ≡ from_be_bytes w32 (slice_range bytes.now (start + 4 * i) (start + 4 * i + 4)) }
 {
     u32_in(bytes, start + 4 * i)
-}
-
-/// The bytes from a place on.
-#[inline(always)]
-pub fn bytes_from(bytes: &[u8], at: usize) -> &[u8]
-    requires { at ≤ length bytes.now }
-    ensures { result.now ≡ drop at bytes.now }
-{
-    &bytes[at..]
 }
 
 /// The text or rail at a place: its length in four bytes, and its bytes.

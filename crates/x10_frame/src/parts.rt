@@ -6,14 +6,16 @@ ghost use Rattle.x10_model.specs.Frames.{uses, turn};
 ghost use Rattle.x10_model.specs.Readers.{byte, such_that, many, times};
 ghost use Rattle.x10_model.specs.Readers as readers;
 ghost use Rattle.x10_model.specs.ReadingFrames.{Short, Order, item_at, node_at, text_at, rail_at};
-ghost use Rattle.x10_frame.specs.Faults.{Answers, Passes};
+ghost use Rattle.x10_frame.specs.Faults.{named, Answers, Passes};
 ghost use Rattle.x10_frame.specs.Items.{tables_in};
-ghost use Rattle.x10_frame.specs.Places.{Walks, PassesNode};
+ghost use Rattle.x10_frame.specs.NodeTables.{PassesNode};
+ghost use Rattle.x10_bytes.specs.Tables.{Walks};
 
 use crate::fault::FrameFault;
-use crate::fields::{byte_at, length_at, u16_at};
+use crate::fields::length_at;
 use crate::item::item_at;
 use crate::used::Used;
+use x10_bytes::{byte_at, past, u16_at};
 use x10_model::limits::MOST_FIELDS;
 
 /// What was used after so many values, and the bytes after them.
@@ -25,7 +27,7 @@ pub fn past_items<'a>(
     all: &Used,
     used: &Used,
 ) -> Result<(Used, &'a [u8]), FrameFault>
-    ensures exact { Walks uses (tables_in used.now) (λ x. tables_in x.0) (λ x. x.1.now) result (many (item_at places (tables_in all.now)) uses count (tables_in used.now) bytes.now) }
+    ensures exact { Walks named uses (tables_in used.now) (λ x. tables_in x.0) (λ x. x.1.now) result (many (item_at places (tables_in all.now)) uses count (tables_in used.now) bytes.now) }
 {
     let mut met = *used;
     let mut rest = bytes;
@@ -42,7 +44,7 @@ pub fn past_items<'a>(
 fn field_count_at(bytes: &[u8]) -> Result<(u8, &[u8]), FrameFault>
     ensures exact { Answers (λ x. (x.0, x.1.now)) result (such_that (byte Short) (λ n. nat_le n 16) Order bytes.now) }
 {
-    let (count, bytes) = byte_at(bytes)?;
+    let (count, bytes) = byte_at::<FrameFault>(bytes)?;
     if count > MOST_FIELDS {
         return Err(FrameFault::Order);
     }
@@ -61,7 +63,7 @@ pub fn past_node<'a>(
 ) -> Result<(Used, &'a [u8]), FrameFault>
     ensures exact { PassesNode (tables_in used.now) (λ x. tables_in x.0) (λ x. x.1.now) result (node_at places (tables_in all.now) (turn number (tables_in used.now)) bytes.now) }
 {
-    let (_, bytes) = u16_at(bytes)?;
+    let (_, bytes) = u16_at::<FrameFault>(bytes)?;
     if number >= used.nodes {
         return Err(FrameFault::Order);
     }
@@ -70,44 +72,26 @@ pub fn past_node<'a>(
 }
 
 /// The bytes after a text.
-#[tactic(auto, unfolding(x10_model::specs::ReadingFrames::text_at, x10_model::specs::Readers::such_that, x10_model::specs::Readers::bind, x10_model::specs::Readers::part, x10_model::specs::Readers::check, x10_model::specs::Readers::done))]
+#[tactic(auto, unfolding(x10_model::specs::ReadingFrames::text_at, x10_model::specs::Readers::bind))]
 pub fn past_text(bytes: &[u8]) -> Result<&[u8], FrameFault>
     ensures exact { Passes (λ x. x.now) result (text_at bytes.now) }
 {
     let (length, bytes) = length_at(bytes)?;
-    let length = length as usize;
-    if bytes.len() < length {
-        return Err(FrameFault::Short);
-    }
-    let (text, rest) = bytes.split_at(length);
-    match str::from_utf8(text) {
-        Ok(_) => Ok(rest),
-        Err(_) => Err(FrameFault::Text),
-    }
+    x10_bytes::past_text(bytes, length as usize, FrameFault::Text)
 }
 
 /// The bytes after a rail.
-#[tactic(auto, unfolding(x10_model::specs::ReadingFrames::rail_at, x10_model::specs::Readers::bind, x10_model::specs::Readers::part))]
+#[tactic(auto, unfolding(x10_model::specs::ReadingFrames::rail_at, x10_model::specs::Readers::bind))]
 pub fn past_rail(bytes: &[u8]) -> Result<&[u8], FrameFault>
     ensures exact { Passes (λ x. x.now) result (rail_at bytes.now) }
 {
     let (length, bytes) = length_at(bytes)?;
-    let length = length as usize;
-    if bytes.len() < length {
-        return Err(FrameFault::Short);
-    }
-    let (_, rest) = bytes.split_at(length);
-    Ok(rest)
+    past(bytes, length as usize)
 }
 
 /// The bytes after so many counts of a report.
 pub fn past_counts(bytes: &[u8], count: u16) -> Result<&[u8], FrameFault>
     ensures exact { Passes (λ x. x.now) result (times count (readers.number w32 Short) bytes.now) }
 {
-    let length = 4 * usize::from(count);
-    if bytes.len() < length {
-        return Err(FrameFault::Short);
-    }
-    let (_, rest) = bytes.split_at(length);
-    Ok(rest)
+    past(bytes, 4 * usize::from(count))
 }

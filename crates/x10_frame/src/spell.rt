@@ -3,30 +3,41 @@
 ghost use Rattle.std.specs.Prelude.{◌≡◌, [], ◌∷◌, ◌++◌, ◌^◌, ◌<◌, ◌≤◌, OnOk, length};
 ghost use Rattle.std.specs.List.{flat_map};
 ghost use Rattle.std.specs.Int.{w16, w32, to_be_bytes};
+ghost use Rattle.x10_model.specs.Images.{int_bytes};
 ghost use Rattle.x10_model.specs.Frames.{item_bytes, blob_bytes, node_bytes, counts_bytes};
+ghost use Rattle.x10_frame.specs.declared.head.Head.TheVariants as head;
 ghost use Rattle.x10_frame.specs.Items.{item_of};
 ghost use Rattle.x10_frame.specs.Heads.{IsGraphHead};
 ghost use Rattle.x10_frame.specs.Writing.{head_bytes, values_bytes, node_of};
 
 use crate::head::Head;
 use crate::item::Item;
+use byteorder::{BigEndian, ByteOrder};
 use std::alloc::AllocError;
 
+/// A tag, and a number of two bytes.
 #[inline(always)]
-fn put(out: &mut Vec<u8>, tag: u8, bytes: &[u8]) -> Result<(), AllocError>
-    ensures { OnOk result (out.new.items ≡ out.old.items ++ tag ∷ bytes.now) }
+fn put_tagged(out: &mut Vec<u8>, tag: u8, number: u16) -> Result<(), AllocError>
+    ensures { OnOk result (out.new.items ≡ out.old.items ++ tag ∷ to_be_bytes w16 number) }
 {
-    out.push(tag)?;
-    out.extend_from_slice(bytes)
+    let n = number.to_be_bytes();
+    out.extend_from_slice(&[tag, n[0], n[1]])
+}
+
+#[inline(always)]
+fn put_int(out: &mut Vec<u8>, number: i64) -> Result<(), AllocError>
+    ensures { OnOk result (out.new.items ≡ out.old.items ++ 1 ∷ int_bytes number) }
+{
+    let n = number.to_be_bytes();
+    out.extend_from_slice(&[1, n[0], n[1], n[2], n[3], n[4], n[5], n[6], n[7]])
 }
 
 #[inline(always)]
 fn put_ref(out: &mut Vec<u8>, home: u16, id: u32, class: u16) -> Result<(), AllocError>
     ensures { OnOk result (out.new.items ≡ out.old.items ++ 7 ∷ (to_be_bytes w16 home ++ (to_be_bytes w32 id ++ to_be_bytes w16 class))) }
 {
-    put(out, 7, &home.to_be_bytes())?;
-    out.extend_from_slice(&id.to_be_bytes())?;
-    out.extend_from_slice(&class.to_be_bytes())
+    let (h, i, c) = (home.to_be_bytes(), id.to_be_bytes(), class.to_be_bytes());
+    out.extend_from_slice(&[7, h[0], h[1], i[0], i[1], i[2], i[3], c[0], c[1]])
 }
 
 /// A value.
@@ -36,12 +47,12 @@ pub fn put_item(out: &mut Vec<u8>, item: &Item) -> Result<(), AllocError>
     ensures { OnOk result (out.new.items ≡ out.old.items ++ item_bytes (item_of item.now)) }
 {
     match *item {
-        Item::Int(number) => put(out, 1, &number.to_be_bytes()),
-        Item::Place(place) => put(out, 2, &place.to_be_bytes()),
-        Item::Text(index) => put(out, 3, &index.to_be_bytes()),
-        Item::Rail(index) => put(out, 4, &index.to_be_bytes()),
-        Item::Object(index) => put(out, 5, &index.to_be_bytes()),
-        Item::Null => put(out, 6, &[]),
+        Item::Int(number) => put_int(out, number),
+        Item::Place(place) => put_tagged(out, 2, place),
+        Item::Text(index) => put_tagged(out, 3, index),
+        Item::Rail(index) => put_tagged(out, 4, index),
+        Item::Object(index) => put_tagged(out, 5, index),
+        Item::Null => out.extend_from_slice(&[6]),
         Item::Ref { home, id, class } => put_ref(out, home, id, class),
     }
 }
@@ -71,9 +82,8 @@ pub fn put_blob(out: &mut Vec<u8>, bytes: &[u8]) -> Result<(), AllocError>
 pub fn put_begin(out: &mut Vec<u8>, class: u16, fields: u8) -> Result<(), AllocError>
     ensures { OnOk result (out.new.items ≡ out.old.items ++ (to_be_bytes w16 class ++ fields ∷ [])) }
 {
-    out.extend_from_slice(&class.to_be_bytes())?;
-    out.push(fields)?;
-    Ok(())
+    let c = class.to_be_bytes();
+    out.extend_from_slice(&[c[0], c[1], fields])
 }
 
 /// A node.
@@ -82,39 +92,73 @@ pub fn put_node(out: &mut Vec<u8>, class: u16, fields: &[Item]) -> Result<(), Al
     requires { length fields.now ≤ 16 }
     ensures { OnOk result (out.new.items ≡ out.old.items ++ node_bytes (node_of class fields.now)) }
 {
-    out.extend_from_slice(&class.to_be_bytes())?;
-    out.push(fields.len() as u8)?;
+    put_begin(out, class, fields.len() as u8)?;
     put_items(out, fields)
 }
 
 /// The counts of a report.
-#[inline(always)]
 pub fn put_counts(out: &mut Vec<u8>, counts: &[u32]) -> Result<(), AllocError>
     ensures { OnOk result (out.new.items ≡ out.old.items ++ counts_bytes counts.now) }
 {
-    for count in counts {
-        out.extend_from_slice(&count.to_be_bytes())?;
-    }
+    let start = out.len();
+    out.resize(start + 4 * counts.len(), 0)?;
+    BigEndian::write_u32_into(counts, &mut out[start..]);
     Ok(())
 }
 
-fn put_start(out: &mut Vec<u8>, kind: u8, from: u16, to: u16) -> Result<(), AllocError>
-    ensures { OnOk result (out.new.items ≡ out.old.items ++ (1 ∷ kind ∷ (to_be_bytes w16 from ++ to_be_bytes w16 to))) }
+#[inline(always)]
+fn put_spawn(
+    out: &mut Vec<u8>,
+    from: u16,
+    to: u16,
+    home: u16,
+    number: u32,
+    function: u16,
+) -> Result<(), AllocError>
+    ensures { OnOk result (out.new.items ≡ out.old.items ++ head_bytes (head.Spawn from to home number function)) }
 {
-    out.push(1)?;
-    put(out, kind, &from.to_be_bytes())?;
-    out.extend_from_slice(&to.to_be_bytes())
+    let (f, t, h) = (from.to_be_bytes(), to.to_be_bytes(), home.to_be_bytes());
+    let (n, u) = (number.to_be_bytes(), function.to_be_bytes());
+    out.extend_from_slice(&[
+        1, 1, f[0], f[1], t[0], t[1], h[0], h[1], n[0], n[1], n[2], n[3], u[0], u[1],
+    ])
 }
 
-fn put_finish(out: &mut Vec<u8>, home: u16, number: u32, function: u16) -> Result<(), AllocError>
-    ensures { OnOk result (out.new.items ≡ out.old.items ++ (to_be_bytes w16 home ++ (to_be_bytes w32 number ++ to_be_bytes w16 function))) }
+#[inline(always)]
+fn put_shift(
+    out: &mut Vec<u8>,
+    from: u16,
+    to: u16,
+    waiting: u32,
+    home: u16,
+    number: u32,
+    function: u16,
+) -> Result<(), AllocError>
+    ensures { OnOk result (out.new.items ≡ out.old.items ++ head_bytes (head.Shift from to waiting home number function)) }
 {
-    out.extend_from_slice(&home.to_be_bytes())?;
-    out.extend_from_slice(&number.to_be_bytes())?;
-    out.extend_from_slice(&function.to_be_bytes())
+    let (f, t, w) = (from.to_be_bytes(), to.to_be_bytes(), waiting.to_be_bytes());
+    let (h, n, u) = (
+        home.to_be_bytes(),
+        number.to_be_bytes(),
+        function.to_be_bytes(),
+    );
+    out.extend_from_slice(&[
+        1, 2, f[0], f[1], t[0], t[1], w[0], w[1], w[2], w[3], h[0], h[1], n[0], n[1], n[2], n[3],
+        u[0], u[1],
+    ])
+}
+
+/// The head of a frame of two places and a number: type 3 or 4.
+#[inline(always)]
+fn put_short(out: &mut Vec<u8>, kind: u8, from: u16, to: u16, number: u32) -> Result<(), AllocError>
+    ensures { OnOk result (out.new.items ≡ out.old.items ++ ((1 ∷ kind ∷ []) ++ (to_be_bytes w16 from ++ (to_be_bytes w16 to ++ to_be_bytes w32 number)))) }
+{
+    let (f, t, n) = (from.to_be_bytes(), to.to_be_bytes(), number.to_be_bytes());
+    out.extend_from_slice(&[1, kind, f[0], f[1], t[0], t[1], n[0], n[1], n[2], n[3]])
 }
 
 /// What stands before the graph of a frame, or before the number of places of a report.
+#[inline(always)]
 pub fn put_head(out: &mut Vec<u8>, head: &Head) -> Result<(), AllocError>
     ensures { OnOk result (out.new.items ≡ out.old.items ++ head_bytes head.now) }
 {
@@ -125,10 +169,7 @@ pub fn put_head(out: &mut Vec<u8>, head: &Head) -> Result<(), AllocError>
             home,
             number,
             function,
-        } => {
-            put_start(out, 1, from, to)?;
-            put_finish(out, home, number, function)
-        }
+        } => put_spawn(out, from, to, home, number, function),
         Head::Shift {
             from,
             to,
@@ -136,18 +177,8 @@ pub fn put_head(out: &mut Vec<u8>, head: &Head) -> Result<(), AllocError>
             home,
             number,
             function,
-        } => {
-            put_start(out, 2, from, to)?;
-            out.extend_from_slice(&waiting.to_be_bytes())?;
-            put_finish(out, home, number, function)
-        }
-        Head::Back { from, to, waiting } => {
-            put_start(out, 3, from, to)?;
-            out.extend_from_slice(&waiting.to_be_bytes())
-        }
-        Head::Report { from, to, number } => {
-            put_start(out, 4, from, to)?;
-            out.extend_from_slice(&number.to_be_bytes())
-        }
+        } => put_shift(out, from, to, waiting, home, number, function),
+        Head::Back { from, to, waiting } => put_short(out, 3, from, to, waiting),
+        Head::Report { from, to, number } => put_short(out, 4, from, to, number),
     }
 }

@@ -6,8 +6,10 @@ ghost use Rattle.x10_model.specs.Readers.{many, times};
 ghost use Rattle.x10_model.specs.ReadingFrames.{text_at, rail_at, node_at};
 ghost use Rattle.x10_model.specs.ReadingFrames as reading;
 ghost use Rattle.x10_model.specs.Offsets.{EndsWith};
+ghost use Rattle.x10_frame.specs.Faults.{named};
 ghost use Rattle.x10_frame.specs.Items.{tables_in};
-ghost use Rattle.x10_frame.specs.Places.{GivesTable, GivesNodes};
+ghost use Rattle.x10_frame.specs.NodeTables.{GivesNodes};
+ghost use Rattle.x10_bytes.specs.Tables.{GivesTable};
 
 use crate::fault::FrameFault;
 use crate::parts::{past_node, past_rail, past_text};
@@ -22,7 +24,7 @@ pub fn text_table<'a>(
     count: u32,
 ) -> Result<(Vec<usize>, &'a [u8]), FrameFault>
     requires { EndsWith frame.now bytes.now }
-    ensures exact { GivesTable blob_bytes frame.now (λ x. x.0.items) (λ x. x.1.now) result (times count text_at bytes.now) }
+    ensures exact { GivesTable named blob_bytes frame.now (λ x. x.0.items) (λ x. x.1.now) result (times count text_at bytes.now) }
 {
     let mut table = Vec::new(alloc);
     let mut rest = bytes;
@@ -42,7 +44,7 @@ pub fn rail_table<'a>(
     count: u32,
 ) -> Result<(Vec<usize>, &'a [u8]), FrameFault>
     requires { EndsWith frame.now bytes.now }
-    ensures exact { GivesTable blob_bytes frame.now (λ x. x.0.items) (λ x. x.1.now) result (times count rail_at bytes.now) }
+    ensures exact { GivesTable named blob_bytes frame.now (λ x. x.0.items) (λ x. x.1.now) result (times count rail_at bytes.now) }
 {
     let mut table = Vec::new(alloc);
     let mut rest = bytes;

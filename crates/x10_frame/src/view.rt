@@ -7,16 +7,18 @@ ghost use Rattle.x10_frame.specs.Faults.{Gives};
 ghost use Rattle.x10_frame.specs.Heads.{head_of, graph_of, sent_of, received_of};
 ghost use Rattle.x10_frame.specs.Items.{item_of};
 ghost use Rattle.x10_frame.specs.Writing.{head_bytes};
-ghost use Rattle.x10_frame.specs.Parts.{IsPart, place_of_root, place_of_text, place_of_rail, place_of_node, place_of_sent, place_of_received};
+ghost use Rattle.x10_frame.specs.Parts.{place_of_root, place_of_text, place_of_rail, place_of_node, place_of_sent, place_of_received};
+ghost use Rattle.x10_bytes.specs.Tables.{IsPart};
 
 use crate::body::{Body, read_body};
 use crate::fault::FrameFault;
 use crate::head::{Head, read_head};
 use crate::item::{Item, nth_item};
 use crate::node_view::NodeView;
-use crate::offsets::{blob_in, bytes_from, count_in, node_in};
+use crate::offsets::{blob_in, count_in, node_in};
 use std::alloc::Global;
 use std::marker::Model;
+use x10_bytes::bytes_from;
 
 /// A frame, read in place: the bytes themselves, and where its parts begin. Clauses see the frame.
 #[derive(Drop)]
@@ -39,6 +41,7 @@ impl<'a> Model for FrameView<'a> {
     ghost invariant = { λ a. IsView a.bytes.now a.places a.head a.body.start a.body.roots a.body.texts.items a.body.rails.items a.body.nodes.items };
 }
 
+#[inline(always)]
 fn whole<'a>(alloc: Global, bytes: &'a [u8], places: u16) -> Result<FrameView<'a>, FrameFault>
     ensures exact { Gives (λ v. v) result (frame_at places bytes.now) }
 {

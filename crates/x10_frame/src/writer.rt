@@ -40,13 +40,13 @@ impl Model for FrameWriter {
     ghost view = { λ w. w.bytes.items };
 }
 
+#[inline(always)]
 fn put_sizes(out: &mut Vec<u8>, sizes: &Sizes) -> Result<(), AllocError>
     ensures { OnOk result (out.new.items ≡ out.old.items ++ sizes_bytes sizes.now.roots sizes.now.texts sizes.now.rails sizes.now.nodes) }
 {
-    out.extend_from_slice(&sizes.roots.to_be_bytes())?;
-    out.extend_from_slice(&sizes.texts.to_be_bytes())?;
-    out.extend_from_slice(&sizes.rails.to_be_bytes())?;
-    out.extend_from_slice(&sizes.nodes.to_be_bytes())
+    let (r, t) = (sizes.roots.to_be_bytes(), sizes.texts.to_be_bytes());
+    let (l, n) = (sizes.rails.to_be_bytes(), sizes.nodes.to_be_bytes());
+    out.extend_from_slice(&[r[0], r[1], t[0], t[1], l[0], l[1], n[0], n[1]])
 }
 
 impl FrameWriter {
@@ -62,6 +62,7 @@ impl FrameWriter {
     }
 
     /// The same, with room for so many bytes: where the frame has no more, no other call takes memory.
+    #[inline(always)]
     pub fn with_room(
         alloc: Global,
         head: &Head,
@@ -75,6 +76,16 @@ impl FrameWriter {
         put_head(&mut bytes, head)?;
         put_sizes(&mut bytes, sizes)?;
         Ok(FrameWriter { bytes })
+    }
+
+    /// The same, with room for so many bytes more.
+    #[inline(always)]
+    pub fn reserve(self, bytes: usize) -> Result<FrameWriter, AllocError>
+        ensures value { IfOk result (λ w. w ≡ self) }
+    {
+        let mut written = self.bytes;
+        written.reserve(bytes)?;
+        Ok(FrameWriter { bytes: written })
     }
 
     /// The next value: one that is passed, or the next field of an object that was begun.
@@ -145,21 +156,39 @@ impl FrameWriter {
     }
 }
 
+/// The frame that takes what a place has counted of a finish to the finish's home: how many activities it sent to each
+/// place, and how many it received from each. It is the frame of a report that has these numbers.
+pub fn write_counts(
+    alloc: Global,
+    from: u16,
+    to: u16,
+    number: u32,
+    sent: &[u32],
+    received: &[u32],
+) -> Result<Vec<u8>, AllocError>
+    requires { length sent.now < 2 ^ 16 }
+    ensures value { IfOk result (λ bytes. bytes.items ≡ spelling (frames.Report from to number sent.now received.now)) }
+{
+    let mut bytes = Vec::with_capacity(alloc, 16 + 8 * sent.len())?;
+    put_head(&mut bytes, &Head::Report { from, to, number })?;
+    let places = sent.len() as u16;
+    bytes.extend_from_slice(&places.to_be_bytes())?;
+    put_counts(&mut bytes, sent)?;
+    put_counts(&mut bytes, received)?;
+    Ok(bytes)
+}
+
 /// The frame that takes a report to the home of its finish.
 pub fn write_report(alloc: Global, to: u16, report: &Report) -> Result<Vec<u8>, AllocError>
     requires { length report.now.sent.items < 2 ^ 16 }
     ensures value { IfOk result (λ bytes. bytes.items ≡ spelling (frames.Report report.now.place to report.now.number report.now.sent.items report.now.received.items)) }
 {
-    let mut bytes = Vec::with_capacity(alloc, 16 + 8 * report.sent.len())?;
-    let head = Head::Report {
-        from: report.place,
+    write_counts(
+        alloc,
+        report.place,
         to,
-        number: report.number,
-    };
-    put_head(&mut bytes, &head)?;
-    let places = report.sent.len() as u16;
-    bytes.extend_from_slice(&places.to_be_bytes())?;
-    put_counts(&mut bytes, &report.sent)?;
-    put_counts(&mut bytes, &report.received)?;
-    Ok(bytes)
+        report.number,
+        &report.sent,
+        &report.received,
+    )
 }

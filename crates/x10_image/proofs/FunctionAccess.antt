@@ -17,7 +17,8 @@ use Rattle.x10_image.specs.Parts.{Signature, signature_of, FitsSignature, slots_
 use Rattle.std.proofs.lemmas.List.{append-nil}
 use Rattle.x10_image.proofs.Functions.{function_parts, function_small, tag_is}
 use Rattle.x10_image.proofs.Decoded.{slots_again, slot_again}
-use Rattle.x10_image.proofs.Accessors.{Shows, item_in, number_is}
+use Rattle.x10_image.proofs.Accessors.{Shows}
+use Rattle.x10_bytes.proofs.Parts.{item_in, number2_is}
 use Rattle.x10_model.proofs.Lists.{all_at}
 use Rattle.x10_model.specs.Offsets.{StandsAt}
 use Rattle.x10_model.proofs.Offsets.{byte_is, first_is, range_is, item_at}
@@ -50,7 +51,7 @@ code_is bytes at m f h = rw h.is refl
 pub count_is : (bytes : List ℕ) (at : ℕ) (m : Module) (f : ℕ) → (h : IsHere bytes at m f) → from_be_bytes w16 (slice_range bytes (at + 8 + 4 * slice_index bytes at) (at + 8 + 4 * slice_index bytes at + 2)) ≡ length h.function.code
 count_is bytes at m f h =
     let here : StandsAt bytes (at + 8 + 4 * slice_index bytes at) (to_be_bytes w16 (length h.function.code)) = rw (parameters_are bytes at m f h) (function_parts bytes at h.function h.here).count in
-    number_is bytes (at + 8 + 4 * slice_index bytes at) (length h.function.code) (omega (arith, h.fits.length)) here
+    number2_is bytes (at + 8 + 4 * slice_index bytes at) (length h.function.code) (omega (arith, h.fits.length)) here
 
 code_here : (bytes : List ℕ) (at : ℕ) (m : Module) (f : ℕ) → (h : IsHere bytes at m f) → StandsAt bytes (at + 12 + 4 * slice_index bytes at) (flat_map instruction h.function.code)
 code_here bytes at m f h = rw (parameters_are bytes at m f h) (function_parts bytes at h.function h.here).code

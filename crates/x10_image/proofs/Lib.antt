@@ -1,6 +1,3 @@
-pub mod Loops
-pub mod Texts
-pub mod TableLoops
 pub mod Whole
 pub mod Functions
 pub mod Spelled

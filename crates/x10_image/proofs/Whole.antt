@@ -1,5 +1,5 @@
 -- Reading a whole image: what each step gives, and what they make together.
-use Rattle.std.proofs.Common.{◌≡◌, ◌≢◌, ℕ, ℤ, zero, suc, ◌+◌, ◌-◌, true, false, List, [], ◌∷◌, ◌++◌, length, Option, Some, None, Result, Ok, Err, IfOk, refl, sym, ap, subst, ◌∙◌, arith, flat_map, length-append, slice_get}
+use Rattle.std.proofs.Common.{◌≡◌, ◌≢◌, ℕ, ℤ, zero, suc, ◌-◌, true, false, List, [], ◌∷◌, ◌++◌, length, Option, Some, None, Result, Ok, Err, IfOk, refl, sym, ap, subst, ◌∙◌, arith, flat_map, slice_get}
 use Rattle.x10_kinds.specs.declared.kind.Kind.{Kind}
 use Rattle.x10_model.specs.Modules.{Module, Function, FitsImage}
 use Rattle.x10_model.specs.Images.{Header, header_of, header_bytes, class_bytes, int_bytes, text_bytes, function_bytes, spelling}
@@ -14,10 +14,9 @@ use Rattle.x10_image.specs.declared.header.Header.{Header as KeptHeader}
 use Rattle.x10_image.specs.declared.fault.ImageFault.{ImageFault as RustFault}
 use Rattle.x10_image.specs.Faults.{IsFault, IsFaultOrMemory, Gives}
 use Rattle.x10_image.specs.Headers.{seen}
-use Rattle.x10_image.specs.Places.{AreFrom, IsTable}
-use Rattle.x10_image.specs.Parts.{classes_from, texts_from, functions_from}
+use Rattle.x10_bytes.specs.Tables.{IsTable}
 use Rattle.x10_image.specs.Views.{module_in, IsView}
-use Rattle.x10_image.proofs.Loops.{lenient}
+use Rattle.x10_bytes.proofs.Loops.{lenient, early}
 
 -- ---- the reader, step by step
 
@@ -46,16 +45,16 @@ abbrev pub IsHeader : List ℕ → Header → List ℕ → Type 0
 IsHeader bytes h rest = header_at bytes ≡ Ok (h, rest)
 
 abbrev pub AreClasses : List ℕ → Header → List ℕ → List ℕ → List ℕ → Type 0
-AreClasses bytes h table from rest = IsTable class_bytes bytes from table rest (times h.classes (class_at h.classes) from)
+AreClasses bytes h table from rest = IsTable class_bytes bytes table rest (times h.classes (class_at h.classes) from)
 
 abbrev pub AreInts : Header → List ℕ → List ℕ → Type 0
 AreInts h from rest = (ints : List ℤ) × (times h.ints (int Short) from ≡ Ok (ints, rest))
 
 abbrev pub AreTexts : List ℕ → Header → List ℕ → List ℕ → List ℕ → Type 0
-AreTexts bytes h table from rest = IsTable text_bytes bytes from table rest (times h.texts text_at from)
+AreTexts bytes h table from rest = IsTable text_bytes bytes table rest (times h.texts text_at from)
 
 abbrev pub AreFunctions : List ℕ → Header → List ℕ → List ℕ → List ℕ → Type 0
-AreFunctions bytes h table from rest = IsTable function_bytes bytes from table rest (numbered h.functions (function_at h.classes) from)
+AreFunctions bytes h table from rest = IsTable function_bytes bytes table rest (numbered h.functions (function_at h.classes) from)
 
 pub header_ends : (bytes : List ℕ) (h : Header) (rest : List ℕ) → IsBytes bytes → IsHeader bytes h rest → EndsWith bytes rest
 header_ends bytes h rest b e = record { before = header_bytes h; is = (header_reads.takes bytes h rest b e).0.parts }
@@ -67,14 +66,6 @@ pub ints_end : (bytes : List ℕ) (h : Header) (from rest : List ℕ) → IsByte
 ints_end bytes h from rest b e i = still_ends bytes from (flat_map int_bytes i.0) rest e (ints_take h from i.0 rest (ends_bytes bytes from b e) i.1).0
 
 -- ---- faults
-
-then_fault : {A B : Type 0} (r : Reader ImageFault A) (next : A → Reader ImageFault B) (bytes : List ℕ) (f : ImageFault) → r bytes ≡ Err f → bind r next bytes ≡ Err f
-unfolding bind
-then_fault r next bytes f e = rw e refl
-
-pub early : {A B : Type 0} (r : Reader ImageFault A) (next : A → Reader ImageFault B) (bytes : List ℕ) (f : Option ImageFault) → IsFaultOrMemory f (r bytes) → IsFaultOrMemory f (bind r next bytes)
-early r next bytes None h = tt
-early r next bytes (Some f) h = then_fault r next bytes f h
 
 parts_fault : (bytes : List ℕ) (f : ImageFault) → parts_at bytes ≡ Err f → module_at bytes ≡ Err f
 unfolding module_at all_of
@@ -193,11 +184,6 @@ is_view bytes h r1 ct r2 r3 ts_table r4 ft r5 s e =
     let is : module_in bytes ≡ m = module_in_is bytes m e in
     let law = module_takes bytes m s.small e in
     let b2 = ends_bytes bytes r2 s.small s.classes.ends in
-    let head = header_is bytes h r1 ct r2 r3 ts_table r4 ft r5 s in
-    let in_header : length bytes ≡ classes_from m + length r1 = ap length (header_reads.takes bytes (seen h) r1 s.small s.header).0.parts ∙ length-append (header_bytes (seen h)) r1 ∙ ap (λ (k : Header). length (header_bytes k) + length r1) (sym head) in
-    let in_ints : length r2 ≡ length (flat_map int_bytes s.ints.0) + length r3 = ap length (ints_take (seen h) r2 s.ints.0 r3 b2 s.ints.1).0 ∙ length-append (flat_map int_bytes s.ints.0) r3 in
-    let second : length bytes - length r3 ≡ texts_from m = omega (arith, in_header, in_ints, s.classes.took) in
-    let third : length bytes - length r4 ≡ functions_from m = omega (arith, in_header, in_ints, s.classes.took, s.texts.took) in
     record {
       fits = subst FitsImage (sym is) law.0;
       spelled = law.1 ∙ ap spelling (sym is);
@@ -206,8 +192,6 @@ is_view bytes h r1 ct r2 r3 ts_table r4 ft r5 s e =
       classes_at = subst (λ (n : Module). AreAt class_bytes bytes ct n.classes) (sym is) s.classes.places;
       texts_at = subst (λ (n : Module). AreAt text_bytes bytes ts_table n.texts) (sym is) s.texts.places;
       functions_at = subst (λ (n : Module). AreAt function_bytes bytes ft n.functions) (sym is) s.functions.places;
-      texts_start = subst (λ (n : Module). AreFrom text_bytes (texts_from n) ts_table n.texts) (sym is) (subst (λ k. AreFrom text_bytes k ts_table s.texts.items) second s.texts.starts);
-      functions_start = subst (λ (n : Module). AreFrom function_bytes (functions_from n) ft n.functions) (sym is) (subst (λ k. AreFrom function_bytes k ft s.functions.items) third s.functions.starts);
     }
 
 pub is_in : (bytes : List ℕ) (m : Module) → module_at bytes ≡ Ok m → module_at bytes ≡ Ok (module_in bytes)

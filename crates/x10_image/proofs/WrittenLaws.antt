@@ -1,7 +1,7 @@
 -- What the tests of a module say, and the bytes that are written.
 use Rattle.std.proofs.Common.{◌≡◌, ℕ, zero, suc, ◌^◌, ◌≤◌, Bool, true, false, not, ◌&&◌, ◌||◌, eqb, ltb, leb, is_none, eqb-true, eq-eqb, List, [], ◌∷◌, ◌++◌, length, map, Option, Some, None, IfSome, FitsSigned, refl, sym, ap, subst, ◌∙◌, append_assoc, arith, flat_map, slice_get, ltb-true, lt-ltb, leb-true, le-leb}
 use Rattle.std.proofs.lemmas.List.{length-map}
-use Rattle.std.specs.Prelude.{Vec}
+use Rattle.std.specs.Prelude.{Vec, IsUtf8}
 use Rattle.std.specs.Global.{Global}
 use Rattle.std.specs.Option.{option_map}
 use Rattle.std.specs.List.{AllByRecursion, list_all}
@@ -299,3 +299,8 @@ code_few m i f h e =
 
 pub shown_instr : (m : Module) (i pc : ℕ) (f : Function) (j : Instr) → slice_get m.functions.items i ≡ Some f → slice_get f.code.items pc ≡ Some j → instr_at (shown m) i pc ≡ Some j
 shown_instr m i pc f j e is = ap (λ (o : Option model.Function). instr_in o pc) (slice_get-map function_shown m.functions.items i ∙ ap (option_map function_shown) e) ∙ is
+
+-- of what is text, the length alone counts
+pub text_fits_by : (text : List ℕ) (b : Bool) → IsUtf8 text → b ≡ (b && is_utf8 text)
+text_fits_by text true utf8 = sym (is_utf8-from_IsUtf8 text utf8)
+text_fits_by text false utf8 = refl

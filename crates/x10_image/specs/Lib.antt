@@ -1,6 +1,6 @@
 pub mod Faults
+pub mod Misfits
 pub mod Headers
-pub mod Places
 pub mod Views
 pub mod Parts
 pub mod Written

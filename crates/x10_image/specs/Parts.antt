@@ -1,5 +1,5 @@
 -- The parts of a module that a view hands out.
-use Rattle.std.specs.Prelude.{◌≡◌, ℕ, zero, suc, ◌+◌, ◌*◌, ◌≤◌, ◌==◌, List, [], ◌∷◌, ◌++◌, length, Option, Some, None, IfSome, slice_index, slice_range, take}
+use Rattle.std.specs.Prelude.{ℕ, zero, suc, ◌+◌, ◌*◌, ◌≤◌, ◌==◌, List, [], ◌∷◌, ◌++◌, length, Option, Some, None, IfSome, slice_index, take}
 use Rattle.std.specs.List.{AllByRecursion, flat_map}
 use Rattle.std.specs.Int.{w16, from_be_bytes}
 use Rattle.x10_model.specs.declared.limits.TheConstants.{MOST_LOOPS, MOST_PARAMETERS, MOST_REGISTERS}
@@ -41,11 +41,6 @@ code_in (Some f) = f.code
 -- the instructions of function f
 abbrev pub code_at : Module → ℕ → List Instr
 code_at m f = code_in (function_at m f)
-
--- the bytes from one place on
-pub record IsPart (bytes : List ℕ) (from : ℕ) (part : List ℕ) : Type 0 where
-  pub end : from + length part ≤ length bytes
-  pub is : part ≡ slice_range bytes from (from + length part)
 
 -- ---- places in a module's spelling
 

@@ -7,8 +7,6 @@ use Rattle.x10_model.specs.ReadingImages.{ImageFault, module_at}
 use Rattle.x10_model.specs.Offsets.{StandsAt, AreAt}
 use Rattle.x10_image.specs.declared.header.Header.{Header}
 use Rattle.x10_image.specs.Headers.{seen}
-use Rattle.x10_image.specs.Places.{AreFrom}
-use Rattle.x10_image.specs.Parts.{texts_from, functions_from}
 
 abbrev pub read_or_empty : Result Module ImageFault → Module
 read_or_empty (Ok m) = m
@@ -27,5 +25,3 @@ pub record IsView (bytes : List ℕ) (header : Header) (ints : ℕ) (classes tex
   pub classes_at : AreAt class_bytes bytes classes (module_in bytes).classes
   pub texts_at : AreAt text_bytes bytes texts (module_in bytes).texts
   pub functions_at : AreAt function_bytes bytes functions (module_in bytes).functions
-  pub texts_start : AreFrom text_bytes (texts_from (module_in bytes)) texts (module_in bytes).texts
-  pub functions_start : AreFrom function_bytes (functions_from (module_in bytes)) functions (module_in bytes).functions

@@ -1,57 +1,26 @@
-//! Numbers at the front of bytes.
+//! Numbers at the front of bytes, within their ranges.
 
-ghost use Rattle.std.specs.Int.{w16, w32};
+ghost use Rattle.std.specs.Int.{w16};
 ghost use Rattle.std.specs.Prelude.{nat_le, ◌&&◌};
-ghost use Rattle.x10_model.specs.Readers.{byte, number, need, such_that, expect};
+ghost use Rattle.x10_model.specs.Readers.{byte, number, such_that, expect};
 ghost use Rattle.x10_model.specs.ReadingImages.{Short, Count, Reserved, is_within};
-ghost use Rattle.x10_image.specs.Faults.{Answers};
+ghost use Rattle.x10_model.specs.ReadingImages as reading;
+ghost use Rattle.x10_image.specs.Faults.{named, Answers};
 
 use crate::fault::ImageFault;
-use byteorder::{BigEndian, ByteOrder};
+use x10_bytes::{ReadFault, byte_at, u16_at};
 use x10_model::limits::MOST_REGISTERS;
 
-/// One byte, and the bytes after it.
-#[tactic(auto, unfolding(x10_model::specs::Readers::byte))]
-pub fn byte_at(bytes: &[u8]) -> Result<(u8, &[u8]), ImageFault>
-    ensures exact { Answers (λ x. (x.0, x.1.now)) result (byte Short bytes.now) }
-{
-    match bytes {
-        [] => Err(ImageFault::Short),
-        [first, rest @ ..] => Ok((*first, rest)),
-    }
-}
+impl ReadFault for ImageFault {
+    ghost Fault = { reading.ImageFault };
 
-/// A number of two bytes, the highest first, and the bytes after it.
-pub fn u16_at(bytes: &[u8]) -> Result<(u16, &[u8]), ImageFault>
-    ensures exact { Answers (λ x. (x.0, x.1.now)) result (number w16 Short bytes.now) }
-{
-    if bytes.len() < 2 {
-        return Err(ImageFault::Short);
-    }
-    let (front, rest) = bytes.split_at(2);
-    Ok((BigEndian::read_u16(front), rest))
-}
+    ghost named = { named };
 
-/// A number of four bytes, the highest first, and the bytes after it.
-pub fn u32_at(bytes: &[u8]) -> Result<(u32, &[u8]), ImageFault>
-    ensures exact { Answers (λ x. (x.0, x.1.now)) result (number w32 Short bytes.now) }
-{
-    if bytes.len() < 4 {
-        return Err(ImageFault::Short);
-    }
-    let (front, rest) = bytes.split_at(4);
-    Ok((BigEndian::read_u32(front), rest))
-}
+    ghost short = { Short };
 
-/// Whether so many bytes are there.
-#[tactic(auto, unfolding(x10_model::specs::Readers::need))]
-pub fn has(bytes: &[u8], count: usize) -> Result<(), ImageFault>
-    ensures exact { Answers (λ _. (tt, bytes.now)) result (need count Short bytes.now) }
-{
-    if bytes.len() < count {
-        return Err(ImageFault::Short);
+    fn too_short() -> ImageFault {
+        ImageFault::Short
     }
-    Ok(())
 }
 
 /// One byte, at most so great, and the bytes after it.
@@ -59,7 +28,7 @@ pub fn has(bytes: &[u8], count: usize) -> Result<(), ImageFault>
 pub fn byte_at_most(bytes: &[u8], most: u8) -> Result<(u8, &[u8]), ImageFault>
     ensures exact { Answers (λ x. (x.0, x.1.now)) result (such_that (byte Short) (is_within 0 most) Count bytes.now) }
 {
-    let (number, bytes) = byte_at(bytes)?;
+    let (number, bytes) = byte_at::<ImageFault>(bytes)?;
     if number > most {
         return Err(ImageFault::Count);
     }
@@ -71,7 +40,7 @@ pub fn byte_at_most(bytes: &[u8], most: u8) -> Result<(u8, &[u8]), ImageFault>
 pub fn registers_at(bytes: &[u8], parameters: u8) -> Result<(u8, &[u8]), ImageFault>
     ensures exact { Answers (λ x. (x.0, x.1.now)) result (such_that (byte Short) (λ n. is_within 1 64 n && nat_le parameters n) Count bytes.now) }
 {
-    let (registers, bytes) = byte_at(bytes)?;
+    let (registers, bytes) = byte_at::<ImageFault>(bytes)?;
     if !(1..=MOST_REGISTERS).contains(&registers) || registers < parameters {
         return Err(ImageFault::Count);
     }
@@ -83,7 +52,7 @@ pub fn registers_at(bytes: &[u8], parameters: u8) -> Result<(u8, &[u8]), ImageFa
 pub fn u16_within(bytes: &[u8], least: u16, most: u16) -> Result<(u16, &[u8]), ImageFault>
     ensures exact { Answers (λ x. (x.0, x.1.now)) result (such_that (number w16 Short) (is_within least most) Count bytes.now) }
 {
-    let (number, bytes) = u16_at(bytes)?;
+    let (number, bytes) = u16_at::<ImageFault>(bytes)?;
     if number < least || number > most {
         return Err(ImageFault::Count);
     }
@@ -95,7 +64,7 @@ pub fn u16_within(bytes: &[u8], least: u16, most: u16) -> Result<(u16, &[u8]), I
 pub fn after_zero_byte(bytes: &[u8]) -> Result<&[u8], ImageFault>
     ensures exact { Answers (λ x. (tt, x.now)) result (expect (byte Short) 0 Reserved bytes.now) }
 {
-    let (reserved, bytes) = byte_at(bytes)?;
+    let (reserved, bytes) = byte_at::<ImageFault>(bytes)?;
     if reserved != 0 {
         return Err(ImageFault::Reserved);
     }
@@ -107,7 +76,7 @@ pub fn after_zero_byte(bytes: &[u8]) -> Result<&[u8], ImageFault>
 pub fn after_zero_u16(bytes: &[u8]) -> Result<&[u8], ImageFault>
     ensures exact { Answers (λ x. (tt, x.now)) result (expect (number w16 Short) 0 Reserved bytes.now) }
 {
-    let (reserved, bytes) = u16_at(bytes)?;
+    let (reserved, bytes) = u16_at::<ImageFault>(bytes)?;
     if reserved != 0 {
         return Err(ImageFault::Reserved);
     }

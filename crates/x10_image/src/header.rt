@@ -8,7 +8,8 @@ ghost use Rattle.x10_image.specs.Faults.{Answers};
 ghost use Rattle.x10_image.specs.Headers.{seen};
 
 use crate::fault::ImageFault;
-use crate::fields::{after_zero_u16, has, u16_at, u16_within, u32_at};
+use crate::fields::{after_zero_u16, u16_within};
+use x10_bytes::{has, u16_at, u32_at};
 use x10_model::limits::{MOST_FUNCTIONS, MOST_PLACES};
 
 pub const MAGIC: u32 = 0x5831_3050;
@@ -30,7 +31,7 @@ pub struct Header {
 fn after_magic(bytes: &[u8]) -> Result<&[u8], ImageFault>
     ensures exact { Answers (λ x. (tt, x.now)) result (expect (number w32 Short) magic Magic bytes.now) }
 {
-    let (found, bytes) = u32_at(bytes)?;
+    let (found, bytes) = u32_at::<ImageFault>(bytes)?;
     if found != MAGIC {
         return Err(ImageFault::Magic);
     }
@@ -41,7 +42,7 @@ fn after_magic(bytes: &[u8]) -> Result<&[u8], ImageFault>
 fn after_version(bytes: &[u8]) -> Result<&[u8], ImageFault>
     ensures exact { Answers (λ x. (tt, x.now)) result (expect (number w16 Short) 1 Version bytes.now) }
 {
-    let (found, bytes) = u16_at(bytes)?;
+    let (found, bytes) = u16_at::<ImageFault>(bytes)?;
     if found != VERSION {
         return Err(ImageFault::Version);
     }
@@ -53,15 +54,15 @@ fn after_version(bytes: &[u8]) -> Result<&[u8], ImageFault>
 pub fn read_header(bytes: &[u8]) -> Result<(Header, &[u8]), ImageFault>
     ensures exact { Answers (λ x. (seen x.0, x.1.now)) result (header_at bytes.now) }
 {
-    has(bytes, 20)?;
+    has::<ImageFault>(bytes, 20)?;
     let bytes = after_magic(bytes)?;
     let bytes = after_version(bytes)?;
     let (least_places, bytes) = u16_within(bytes, 1, MOST_PLACES)?;
-    let (classes, bytes) = u16_at(bytes)?;
-    let (ints, bytes) = u16_at(bytes)?;
-    let (texts, bytes) = u16_at(bytes)?;
+    let (classes, bytes) = u16_at::<ImageFault>(bytes)?;
+    let (ints, bytes) = u16_at::<ImageFault>(bytes)?;
+    let (texts, bytes) = u16_at::<ImageFault>(bytes)?;
     let (functions, bytes) = u16_within(bytes, 1, MOST_FUNCTIONS)?;
-    let (entry, bytes) = u16_at(bytes)?;
+    let (entry, bytes) = u16_at::<ImageFault>(bytes)?;
     let bytes = after_zero_u16(bytes)?;
     let header = Header {
         least_places,

@@ -6,7 +6,7 @@ ghost use Rattle.x10_model.specs.ReadingImages as reading;
 ghost use Rattle.x10_image.specs.Faults.{Answers};
 
 use crate::fault::ImageFault;
-use crate::fields::{byte_at, u16_at};
+use x10_bytes::{byte_at, u16_at};
 use x10_kinds::Kind;
 use x10_model::Slot;
 
@@ -37,8 +37,8 @@ fn without_class(kind: Kind, class: u16) -> Option<Kind>
 pub fn kind_at(bytes: &[u8], classes: u16) -> Result<(Kind, &[u8]), ImageFault>
     ensures exact { Answers (λ x. (x.0, x.1.now)) result (kind_at classes bytes.now) }
 {
-    let (tag, bytes) = byte_at(bytes)?;
-    let (class, bytes) = u16_at(bytes)?;
+    let (tag, bytes) = byte_at::<ImageFault>(bytes)?;
+    let (class, bytes) = u16_at::<ImageFault>(bytes)?;
     let kind = kind_with(classes, tag, class).ok_or(ImageFault::Kind)?;
     Ok((kind, bytes))
 }
@@ -70,9 +70,9 @@ fn slot_with(classes: u16, tag: u8, class: u16, flag: u8) -> Option<Slot>
 pub fn slot_at(bytes: &[u8], classes: u16) -> Result<(Slot, &[u8]), ImageFault>
     ensures exact { Answers (λ x. (x.0, x.1.now)) result (slot_at classes bytes.now) }
 {
-    let (tag, bytes) = byte_at(bytes)?;
-    let (class, bytes) = u16_at(bytes)?;
-    let (flag, bytes) = byte_at(bytes)?;
+    let (tag, bytes) = byte_at::<ImageFault>(bytes)?;
+    let (class, bytes) = u16_at::<ImageFault>(bytes)?;
+    let (flag, bytes) = byte_at::<ImageFault>(bytes)?;
     let slot = slot_with(classes, tag, class, flag).ok_or(ImageFault::Kind)?;
     Ok((slot, bytes))
 }
@@ -91,9 +91,9 @@ fn result_with(classes: u16, tag: u8, class: u16, flag: u8) -> Option<Option<Slo
 pub fn result_at(bytes: &[u8], classes: u16) -> Result<(Option<Slot>, &[u8]), ImageFault>
     ensures exact { Answers (λ x. (x.0, x.1.now)) result (result_at classes bytes.now) }
 {
-    let (tag, bytes) = byte_at(bytes)?;
-    let (class, bytes) = u16_at(bytes)?;
-    let (flag, bytes) = byte_at(bytes)?;
+    let (tag, bytes) = byte_at::<ImageFault>(bytes)?;
+    let (class, bytes) = u16_at::<ImageFault>(bytes)?;
+    let (flag, bytes) = byte_at::<ImageFault>(bytes)?;
     let result = result_with(classes, tag, class, flag).ok_or(ImageFault::Kind)?;
     Ok((result, bytes))
 }

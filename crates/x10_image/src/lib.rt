@@ -3,10 +3,12 @@
 
 mod class_view;
 mod fault;
+mod field;
 mod fields;
 mod fitting;
 mod header;
 mod kinds;
+mod misfit;
 mod module;
 mod offsets;
 mod parts;
@@ -17,7 +19,9 @@ mod writing;
 
 pub use class_view::ClassView;
 pub use fault::ImageFault;
+pub use field::{Field, Meaning};
 pub use fitting::signature_fits;
+pub use misfit::{Item, Misfit, misfit_in};
 pub use module::{Function, Module};
 pub use sig_view::SigView;
 pub use view::ImageView;

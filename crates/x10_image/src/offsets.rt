@@ -2,7 +2,7 @@
 //! read, so nothing is looked for again.
 
 ghost use Rattle.std.specs.Prelude.{◌≡◌, ◌+◌, ◌*◌, ◌≤◌, Ok, length, slice_index, slice_range, IsUtf8, ◌==◌, if◌then◌else◌};
-ghost use Rattle.std.specs.Int.{w16, w64, from_be_bytes, cast_signed};
+ghost use Rattle.std.specs.Int.{w16, from_be_bytes};
 ghost use Rattle.x10_code.specs.declared.instr.Instr.{Instr};
 ghost use Rattle.x10_code.specs.Spelling.{decoded};
 ghost use Rattle.x10_image.specs.Parts.{slot_at, kinds_in, slots_in};
@@ -10,24 +10,9 @@ ghost use Rattle.x10_image.specs.Parts.{slot_at, kinds_in, slots_in};
 use crate::class_view::ClassView;
 use crate::sig_view::{SigView, slot_in};
 use byteorder::{BigEndian, ByteOrder};
+use x10_bytes::u16_in;
 use x10_code::{Instr, op_with_code};
 use x10_model::Slot;
-
-/// The number of two bytes at a place.
-fn u16_in(bytes: &[u8], at: usize) -> u16
-    requires { at + 2 ≤ length bytes.now }
-    ensures { result ≡ from_be_bytes w16 (slice_range bytes.now at (at + 2)) }
-{
-    BigEndian::read_u16(&bytes[at..at + 2])
-}
-
-/// The constant number at a place.
-pub fn int_in(bytes: &[u8], at: usize) -> i64
-    requires { at + 8 ≤ length bytes.now }
-    ensures { result ≡ cast_signed w64 (from_be_bytes w64 (slice_range bytes.now at (at + 8))) }
-{
-    BigEndian::read_i64(&bytes[at..at + 8])
-}
 
 /// The text at a place: its length in two bytes, and its bytes.
 pub fn text_in(bytes: &[u8], at: usize) -> &str

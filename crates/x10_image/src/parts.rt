@@ -5,10 +5,9 @@ ghost use Rattle.x10_model.specs.ReadingImages.{Short, kind_at, slot_at, class_a
 ghost use Rattle.x10_image.specs.Faults.{Passes};
 
 use crate::fault::ImageFault;
-use crate::fields::{
-    after_zero_byte, after_zero_u16, byte_at, byte_at_most, has, registers_at, u16_at, u16_within,
-};
+use crate::fields::{after_zero_byte, after_zero_u16, byte_at_most, registers_at, u16_within};
 use crate::kinds::{kind_at, result_at, slot_at};
+use x10_bytes::{byte_at, has, past, u16_at};
 use x10_code::decode_slice;
 use x10_model::limits::{MOST_FIELDS, MOST_INSTRUCTIONS, MOST_LOOPS, MOST_PARAMETERS};
 
@@ -28,8 +27,8 @@ fn past_kinds(bytes: &[u8], count: u8, classes: u16) -> Result<&[u8], ImageFault
 pub fn past_class(bytes: &[u8], classes: u16) -> Result<&[u8], ImageFault>
     ensures exact { Passes (λ x. x.now) result (class_at classes bytes.now) }
 {
-    let (count, bytes) = byte_at(bytes)?;
-    has(bytes, 3 * usize::from(count))?;
+    let (count, bytes) = byte_at::<ImageFault>(bytes)?;
+    has::<ImageFault>(bytes, 3 * usize::from(count))?;
     if count > MOST_FIELDS {
         return Err(ImageFault::Count);
     }
@@ -40,29 +39,16 @@ pub fn past_class(bytes: &[u8], classes: u16) -> Result<&[u8], ImageFault>
 pub fn past_ints(bytes: &[u8], count: u16) -> Result<&[u8], ImageFault>
     ensures exact { Passes (λ x. x.now) result (times count (int Short) bytes.now) }
 {
-    let length = 8 * usize::from(count);
-    if bytes.len() < length {
-        return Err(ImageFault::Short);
-    }
-    let (_, rest) = bytes.split_at(length);
-    Ok(rest)
+    past(bytes, 8 * usize::from(count))
 }
 
 /// The bytes after a text.
-#[tactic(auto, unfolding(x10_model::specs::ReadingImages::text_at, x10_model::specs::Readers::such_that, x10_model::specs::Readers::bind, x10_model::specs::Readers::part, x10_model::specs::Readers::check, x10_model::specs::Readers::done))]
+#[tactic(auto, unfolding(x10_model::specs::ReadingImages::text_at, x10_model::specs::Readers::bind))]
 pub fn past_text(bytes: &[u8]) -> Result<&[u8], ImageFault>
     ensures exact { Passes (λ x. x.now) result (text_at bytes.now) }
 {
-    let (length, bytes) = u16_at(bytes)?;
-    let length = usize::from(length);
-    if bytes.len() < length {
-        return Err(ImageFault::Short);
-    }
-    let (text, rest) = bytes.split_at(length);
-    match str::from_utf8(text) {
-        Ok(_) => Ok(rest),
-        Err(_) => Err(ImageFault::Text),
-    }
+    let (length, bytes) = u16_at::<ImageFault>(bytes)?;
+    x10_bytes::past_text(bytes, usize::from(length), ImageFault::Text)
 }
 
 /// The bytes after an instruction, by its function's number and its own.
@@ -106,17 +92,17 @@ fn past_code(bytes: &[u8], function: u16, count: u16) -> Result<&[u8], ImageFaul
 pub fn past_function(bytes: &[u8], classes: u16, function: u16) -> Result<&[u8], ImageFault>
     ensures exact { Passes (λ x. x.now) result (function_at classes function bytes.now) }
 {
-    has(bytes, 4)?;
+    has::<ImageFault>(bytes, 4)?;
     let (parameters, bytes) = byte_at_most(bytes, MOST_PARAMETERS)?;
     let (_, bytes) = registers_at(bytes, parameters)?;
     let (_, bytes) = byte_at_most(bytes, MOST_LOOPS)?;
     let bytes = after_zero_byte(bytes)?;
-    has(bytes, 4 * (usize::from(parameters) + 1))?;
+    has::<ImageFault>(bytes, 4 * (usize::from(parameters) + 1))?;
     let bytes = past_slots(bytes, parameters, classes)?;
     let (_, bytes) = result_at(bytes, classes)?;
-    has(bytes, 4)?;
+    has::<ImageFault>(bytes, 4)?;
     let (instructions, bytes) = u16_within(bytes, 1, MOST_INSTRUCTIONS)?;
     let bytes = after_zero_u16(bytes)?;
-    has(bytes, 8 * usize::from(instructions))?;
+    has::<ImageFault>(bytes, 8 * usize::from(instructions))?;
     past_code(bytes, function, instructions)
 }

@@ -4,7 +4,8 @@ ghost use Rattle.x10_model.specs.Images.{class_bytes, text_bytes, function_bytes
 ghost use Rattle.x10_model.specs.Readers.{times, numbered};
 ghost use Rattle.x10_model.specs.ReadingImages.{class_at, text_at, function_at};
 ghost use Rattle.x10_model.specs.Offsets.{EndsWith};
-ghost use Rattle.x10_image.specs.Places.{GivesTable};
+ghost use Rattle.x10_bytes.specs.Tables.{GivesTable};
+ghost use Rattle.x10_image.specs.Faults.{named};
 
 use crate::fault::ImageFault;
 use crate::parts::{past_class, past_function, past_text};
@@ -18,7 +19,7 @@ pub fn class_table<'a>(
     count: u16,
 ) -> Result<(Vec<usize>, &'a [u8]), ImageFault>
     requires { EndsWith image.now bytes.now }
-    ensures exact { GivesTable class_bytes image.now bytes.now (λ x. x.0.items) (λ x. x.1.now) result (times count (class_at count) bytes.now) }
+    ensures exact { GivesTable named class_bytes image.now (λ x. x.0.items) (λ x. x.1.now) result (times count (class_at count) bytes.now) }
 {
     let mut table = Vec::new(alloc);
     let mut rest = bytes;
@@ -38,7 +39,7 @@ pub fn text_table<'a>(
     count: u16,
 ) -> Result<(Vec<usize>, &'a [u8]), ImageFault>
     requires { EndsWith image.now bytes.now }
-    ensures exact { GivesTable text_bytes image.now bytes.now (λ x. x.0.items) (λ x. x.1.now) result (times count text_at bytes.now) }
+    ensures exact { GivesTable named text_bytes image.now (λ x. x.0.items) (λ x. x.1.now) result (times count text_at bytes.now) }
 {
     let mut table = Vec::new(alloc);
     let mut rest = bytes;
@@ -59,7 +60,7 @@ pub fn function_table<'a>(
     count: u16,
 ) -> Result<(Vec<usize>, &'a [u8]), ImageFault>
     requires { EndsWith image.now bytes.now }
-    ensures exact { GivesTable function_bytes image.now bytes.now (λ x. x.0.items) (λ x. x.1.now) result (numbered count (function_at classes) bytes.now) }
+    ensures exact { GivesTable named function_bytes image.now (λ x. x.0.items) (λ x. x.1.now) result (numbered count (function_at classes) bytes.now) }
 {
     let mut table = Vec::new(alloc);
     let mut rest = bytes;

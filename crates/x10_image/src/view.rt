@@ -8,17 +8,19 @@ ghost use Rattle.x10_model.specs.Images.{class_bytes, int_bytes, function_bytes,
 ghost use Rattle.x10_model.specs.ReadingImages.{module_at, is_entry};
 ghost use Rattle.x10_model.specs.Offsets.{AreAt};
 ghost use Rattle.x10_image.specs.Faults.{Gives};
-ghost use Rattle.x10_image.specs.Parts.{IsPart, place_of_class, place_of_int, place_of_text, place_of_signature, place_of_count, place_of_code, place_of_instr, FitsSignature, signature_of, signature_bytes, code_at};
+ghost use Rattle.x10_image.specs.Parts.{place_of_class, place_of_int, place_of_text, place_of_signature, place_of_count, place_of_code, place_of_instr, FitsSignature, signature_of, signature_bytes, code_at};
+ghost use Rattle.x10_bytes.specs.Tables.{IsPart};
 
 use crate::class_view::ClassView;
 use crate::fault::ImageFault;
 use crate::header::{Header, read_header};
-use crate::offsets::{class_in, code_len_in, code_place, instr_in, int_in, signature_in, text_in};
+use crate::offsets::{class_in, code_len_in, code_place, instr_in, signature_in, text_in};
 use crate::parts::past_ints;
 use crate::sig_view::SigView;
 use crate::tables::{class_table, function_table, text_table};
 use std::alloc::Global;
 use std::marker::Model;
+use x10_bytes::i64_in;
 use x10_code::Instr;
 
 /// A module's image, read in place: the bytes themselves, and where each class, text and function
@@ -164,7 +166,7 @@ impl<'a> ImageView<'a> {
         ensures value { slice_get self.now.ints i ≡ Some result }
         ensures part { IsPart (spelling self.now) (place_of_int self.now i) (int_bytes result) }
     {
-        int_in(self.bytes, self.ints + 8 * i)
+        i64_in(self.bytes, self.ints + 8 * i)
     }
 
     /// A constant text, in the image's bytes: behind its length there.

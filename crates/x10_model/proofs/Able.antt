@@ -22,8 +22,9 @@ use Rattle.x10_model.specs.Places.{Setting, CallFrame, Origin, Stay, Export, Mes
 use Rattle.x10_model.specs.Moves.{Situation, Holds, Passes, GivesBack, SendsBack, Returns, as_list, resumed, entry_frame, new_stay, writes_or_goes, next_or_goes, is_zero, wrapped, quotient, remainder, truth, joined_text, rail_length, byte_at, byte_value, place_number, place_of, line_of, with_line, with_cell, MakesRail, SetsByte, index_of, Does}
 use Rattle.x10_model.specs.Wrong.{Want, Anything, AnInt, APlace, AText, ARail, AnObject, AReference, AnIntOrText, AnObjectOrNull, APlaceOrReference, Meets, asked, IsTarget, IsDetached, IsFieldOwner, IsWrongAt, operand, argument, result_dropped, new_field, no_field, put_field, away, no_export, result, finish_open, no_call, no_finish}
 use Rattle.x10_model.specs.Laws.{IsSent, HasRoom}
-use Rattle.x10_model.proofs.NotWrong.{none_some, same_some, Met}
+use Rattle.x10_model.proofs.NotWrong.{Met}
 use Rattle.x10_model.proofs.Decided.{and_then, same_or_not, get_below, met_or_not, slots_or_not, kinds_or_not, kind_or_not, gives_or_not}
+use Rattle.x10_model.proofs.Lists.{same_some, none_some}
 
 -- the operation can be done in the situation
 abbrev pub Able : Op → Situation → Type 0

@@ -10,7 +10,9 @@ use Rattle.x10_model.specs.Values.{Value, Int, Place, Text, Rail, Object, Null, 
 use Rattle.x10_model.specs.Signatures.{HasHome, FitsSlotAt}
 use Rattle.x10_model.specs.Moves.{Situation, Holds, HoldsFrom, GivesBack}
 use Rattle.x10_model.specs.Wrong.{Want, Anything, AnInt, APlace, AText, ARail, AnObject, AReference, AnIntOrText, AnObjectOrNull, APlaceOrReference, Meets}
-use Rattle.x10_model.proofs.NotWrong.{some_is, none_some, same_some, Met}
+use Rattle.x10_model.proofs.NotWrong.{Met}
+use Rattle.std.proofs.lemmas.Option.{same_Some}
+use Rattle.x10_model.proofs.Lists.{same_some, none_some}
 
 pub and_then : {A B C : Type 0} → A ⊎ C → (A → B ⊎ C) → B ⊎ C
 and_then (inl a) f = f a
@@ -38,11 +40,11 @@ get_below (x ∷ xs) (suc i) lt = get_below xs i (omega arith)
 rail_cell : (o : Option Cell) → ((bytes : List ℕ) × (o ≡ Some (Bytes bytes))) ⊎ ((bytes : List ℕ) × (o ≡ Some (Bytes bytes)) → ⊥)
 rail_cell None = inr (λ h. none_some None (Bytes h.0) refl h.1)
 rail_cell (Some (Bytes bytes)) = inl (bytes, refl)
-rail_cell (Some (Fields class fields)) = inr (λ h. absurd (let e = some_is (Fields class fields) (Bytes h.0) h.1 in cc))
+rail_cell (Some (Fields class fields)) = inr (λ h. absurd (let e = same_Some (Fields class fields) (Bytes h.0) h.1 in cc))
 
 object_cell : (o : Option Cell) → ((class : ℕ) × (fields : List Value) × (o ≡ Some (Fields class fields))) ⊎ ((class : ℕ) × (fields : List Value) × (o ≡ Some (Fields class fields)) → ⊥)
 object_cell None = inr (λ h. none_some None (Fields h.0 h.1) refl h.2)
-object_cell (Some (Bytes bytes)) = inr (λ h. absurd (let e = some_is (Bytes bytes) (Fields h.0 h.1) h.2 in cc))
+object_cell (Some (Bytes bytes)) = inr (λ h. absurd (let e = same_Some (Bytes bytes) (Fields h.0 h.1) h.2 in cc))
 object_cell (Some (Fields class fields)) = inl (class, fields, refl)
 
 class_is : (d c : ℕ) (xs ys : List Value) → Fields d xs ≡ Fields c ys → d ≡ c
@@ -50,10 +52,10 @@ class_is d c xs ys e = cc
 
 class_cell : (o : Option Cell) (c : ℕ) → ((fields : List Value) × (o ≡ Some (Fields c fields))) ⊎ ((fields : List Value) × (o ≡ Some (Fields c fields)) → ⊥)
 class_cell None c = inr (λ h. none_some None (Fields c h.0) refl h.1)
-class_cell (Some (Bytes bytes)) c = inr (λ h. absurd (let e = some_is (Bytes bytes) (Fields c h.0) h.1 in cc))
+class_cell (Some (Bytes bytes)) c = inr (λ h. absurd (let e = same_Some (Bytes bytes) (Fields c h.0) h.1 in cc))
 class_cell (Some (Fields d fields)) c = elim (same_or_not d c) [
   | inl e ↦ inl (fields, ap (λ k. Some (Fields k fields)) e)
-  | inr n ↦ inr (λ h. n (class_is d c fields h.0 (some_is (Fields d fields) (Fields c h.0) h.1)))
+  | inr n ↦ inr (λ h. n (class_is d c fields h.0 (same_Some (Fields d fields) (Fields c h.0) h.1)))
 ]
 
 -- ---- what is asked of a register

@@ -7,8 +7,9 @@ use Rattle.x10_model.specs.Places.{Setting, Stay, Message, Spawn, Shift, Back, r
 use Rattle.x10_model.specs.Deliveries.{Receives}
 use Rattle.x10_model.specs.Wrong.{IsWrong, no_instruction, wrong_at, IsMisfit}
 use Rattle.x10_model.specs.Worlds.{Flying, World, Rule, Steps, Delivers, IsIdle, no_place, no_stay, is_away, not_flying, Happens, steps, delivers, idle, GoesWrong, step, delivery, nowhere}
-use Rattle.x10_model.proofs.NotWrong.{none_some, same_some, moves_not_wrong}
+use Rattle.x10_model.proofs.NotWrong.{moves_not_wrong}
 use Rattle.x10_model.proofs.Ready.{received_fits}
+use Rattle.x10_model.proofs.Lists.{same_some, none_some}
 
 pub flying_is : (m n : Message) → Flying m ≡ Flying n → m ≡ n
 flying_is m n e = cc

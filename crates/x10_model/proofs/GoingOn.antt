@@ -1,14 +1,15 @@
 -- What comes last changes what came before last; and whom a frame's message is for.
-use Rattle.std.proofs.Common.{◌≡◌, true, [], ◌∷◌, ◌++◌, Some, refl, sym, ap, ◌∙◌, append_assoc, eq-eqb}
+use Rattle.std.proofs.Common.{◌≡◌, true, [], ◌∷◌, ◌++◌, refl, sym, ap, ◌∙◌, append_assoc, eq-eqb}
 use Rattle.std.proofs.lemmas.List.Concat.{flat_map-cons}
 use Rattle.x10_model.specs.Places as places
-use Rattle.x10_model.specs.Places.{Finish, Message}
+use Rattle.x10_model.specs.Places.{Finish}
 use Rattle.x10_model.specs.Worlds.{same_finish}
 use Rattle.x10_model.specs.Frames as frames
 use Rattle.x10_model.specs.Frames.{Frame}
 use Rattle.x10_model.specs.Totals.{totals_after}
 use Rattle.x10_model.specs.Logs.{events_of_turn, events_of}
 use Rattle.x10_model.specs.Laws.{TotalsGoOn, ReportsAreDue, LogsGoOn, FramesCarryTo}
+use Rattle.std.proofs.lemmas.Option.{same_Some}
 
 pub totals_go_on : TotalsGoOn
 totals_go_on f t [] h = refl
@@ -28,11 +29,8 @@ logs_go_on (t ∷ turns) second =
     ∙ sym (append_assoc (events_of_turn t) (events_of turns) (events_of second))
     ∙ ap (λ es. es ++ events_of second) (sym (flat_map-cons events_of_turn t turns))
 
-same_message : (m n : Message) → Some m ≡ Some n → m ≡ n
-same_message m n e = cc
-
 pub frames_carry_to : FramesCarryTo
-frames_carry_to (frames.Spawn from to home number function graph) m e = ap places.receiver (sym (same_message _ m e))
-frames_carry_to (frames.Shift from to waiting home number function graph) m e = ap places.receiver (sym (same_message _ m e))
-frames_carry_to (frames.Back from to waiting graph) m e = ap places.receiver (sym (same_message _ m e))
+frames_carry_to (frames.Spawn from to home number function graph) m e = ap places.receiver (sym (same_Some _ m e))
+frames_carry_to (frames.Shift from to waiting home number function graph) m e = ap places.receiver (sym (same_Some _ m e))
+frames_carry_to (frames.Back from to waiting graph) m e = ap places.receiver (sym (same_Some _ m e))
 frames_carry_to (frames.Report from to number sent received) m e = absurd cc

@@ -1,4 +1,5 @@
 pub mod Lists
+pub mod Bounds
 pub mod Finishes
 pub mod NotWrong
 pub mod Decided
@@ -21,6 +22,7 @@ pub mod ItemLaws
 pub mod GraphLaws
 pub mod FrameLaws
 pub mod Loops
+pub mod Moving
 pub mod RelayMoves
 pub mod Relayed
 pub mod Refusals

@@ -1,11 +1,41 @@
--- Lists: what the standard library lacks.
-use Rattle.std.proofs.Common.{◌≡◌, ℕ, zero, suc, List, [], ◌∷◌, Some, subst}
+-- Lists and options: what the standard library lacks.
+use Rattle.std.proofs.Common.{◌≡◌, ◌≢◌, ℕ, zero, suc, ◌<◌, List, [], ◌∷◌, ◌++◌, length, set, Option, None, Some, refl, sym, ap, subst, arith}
 use Rattle.std.specs.Prelude.{slice_get}
 use Rattle.std.specs.List.{AllByRecursion}
 use Rattle.std.proofs.lemmas.Option.{same_Some}
+
+pub same_some : {X : Type 0} (o : Option X) (x y : X) → o ≡ Some x → o ≡ Some y → x ≡ y
+same_some o x y e f = cc
+
+pub none_some : {X : Type 0} (o : Option X) (x : X) → o ≡ None → o ≡ Some x → ⊥
+none_some o x e f = cc
 
 -- what holds of all items holds of each
 pub all_at : {A : Type 0} (P : A → Type 0) (xs : List A) (i : ℕ) (x : A) → AllByRecursion P xs → slice_get xs i ≡ Some x → P x
 all_at P [] i x h e = absurd cc
 all_at P (y ∷ xs) zero x h e = subst P (same_Some y x e) h.0
 all_at P (y ∷ xs) (suc i) x h e = all_at P xs i x h.1 e
+
+-- the item behind others
+pub append_get : {A : Type 0} (xs : List A) (y : A) (ys : List A) → slice_get (xs ++ y ∷ ys) (length xs) ≡ Some y
+append_get [] y ys = refl
+append_get (x ∷ xs) y ys = append_get xs y ys
+
+-- ---- a list in which one item is another
+
+pub set_here : {A : Type 0} (xs : List A) (i : ℕ) (x : A) → i < length xs → slice_get (set xs i x) i ≡ Some x
+set_here [] i x lt = absurd (omega arith)
+set_here (y ∷ xs) zero x lt = refl
+set_here (y ∷ xs) (suc i) x lt = set_here xs i x (omega arith)
+
+pub set_off : {A : Type 0} (xs : List A) (i j : ℕ) (x : A) → j ≢ i → slice_get (set xs i x) j ≡ slice_get xs j
+set_off [] i j x ne = refl
+set_off (y ∷ xs) zero zero x ne = absurd (ne refl)
+set_off (y ∷ xs) zero (suc j) x ne = refl
+set_off (y ∷ xs) (suc i) zero x ne = refl
+set_off (y ∷ xs) (suc i) (suc j) x ne = set_off xs i j x (λ e. ne (ap suc e))
+
+pub set_same : {A : Type 0} (xs : List A) (i : ℕ) (x : A) → slice_get xs i ≡ Some x → set xs i x ≡ xs
+set_same [] i x e = refl
+set_same (y ∷ xs) zero x e = ap (λ z. z ∷ xs) (sym (same_Some y x e))
+set_same (y ∷ xs) (suc i) x e = ap (λ zs. y ∷ zs) (set_same xs i x e)

@@ -15,17 +15,8 @@ use Rattle.x10_model.specs.Places as places
 use Rattle.x10_model.specs.Places.{Setting, Stay, CallFrame, Effect}
 use Rattle.x10_model.specs.Moves.{Situation, Holds, HoldsFrom, Passes, Returns, Does, Moves, place_of, line_of}
 use Rattle.x10_model.specs.Wrong.{Want, AnIntOrText, APlaceOrReference, Meets, asked, IsTarget, IsDetached, IsFieldOwner, IsWrongAt, out_of_range, operand, argument, result_dropped, new_field, no_field, put_field, away, no_export, result, finish_open, no_call, no_finish, IsWrong, no_instruction, wrong_at}
-
--- ---- options
-
-pub some_is : {X : Type 0} (x y : X) → Some x ≡ Some y → x ≡ y
-some_is x y e = cc
-
-pub same_some : {X : Type 0} (o : Option X) (x y : X) → o ≡ Some x → o ≡ Some y → x ≡ y
-same_some o x y e f = cc
-
-pub none_some : {X : Type 0} (o : Option X) (x : X) → o ≡ None → o ≡ Some x → ⊥
-none_some o x e f = cc
+use Rattle.std.proofs.lemmas.Option.{same_Some}
+use Rattle.x10_model.proofs.Lists.{same_some, none_some}
 
 -- ---- lists
 
@@ -56,7 +47,7 @@ AllMet s (a ∷ as') = Met s a.0 a.1 × AllMet s as'
 
 met_member : (s : Situation) (xs : List (ℕ × Want)) (i r : ℕ) (want : Want) → AllMet s xs → slice_get xs i ≡ Some (r, want) → Met s r want
 met_member s [] i r want h e = absurd cc
-met_member s (x ∷ xs) zero r want h e = subst (λ (p : ℕ × Want). Met s p.0 p.1) (some_is x (r, want) e) h.0
+met_member s (x ∷ xs) zero r want h e = subst (λ (p : ℕ × Want). Met s p.0 p.1) (same_Some x (r, want) e) h.0
 met_member s (x ∷ xs) (suc i) r want h e = met_member s xs i r want h.1 e
 
 pub met_in : (s : Situation) (xs : List (ℕ × Want)) (r : ℕ) (want : Want) → AllMet s xs → IsIn (r, want) xs → Met s r want

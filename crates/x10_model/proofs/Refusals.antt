@@ -17,8 +17,8 @@ use Rattle.x10_model.specs.Places.{with_stay}
 use Rattle.x10_model.specs.Copies.{Node, Snapshot, Names, named, IsOfKindIn, IsInside, IsReached, root, field, IsWhole}
 use Rattle.x10_model.specs.Wrong.{AText, Meets, no_instruction, wrong_at, out_of_range, operand, argument, result_dropped, new_field, no_field, put_field, away, no_export, result, finish_open, no_call, no_finish, not_here, graph, torn, spawn, shift, back}
 use Rattle.x10_model.specs.Refused.{a_number, taker, giver, trying, an_object, at_zero, EachMoveGoesWrong, nothing, node, EachMessageMisfits, shared, SharedArrives}
-use Rattle.x10_model.proofs.NotWrong.{some_is}
 use Rattle.x10_model.proofs.Worked.{one_distinct}
+use Rattle.std.proofs.lemmas.Option.{same_Some}
 
 one_zero : (n m : ℕ) → n ≡ 1 → m ≡ 0 → n ≡ m → ⊥
 one_zero n m one none e = omega arith
@@ -38,10 +38,10 @@ no_argument s at (v ∷ vs) none held fit = not_there v (sym none ∙ held.0)
 
 null_field : (s : Situation) (vs : List Value) → s.stay.top.registers s.instr.b ≡ Some Null → HoldsFrom s s.instr.b vs → AreOfKinds (IsOfKind s.place.cells) vs (kind.Int ∷ []) → ⊥
 null_field s [] null held fit = fit
-null_field s (v ∷ vs) null held fit = subst (λ w. IsOfKind s.place.cells w kind.Int) (sym (some_is Null v (sym null ∙ held.0))) fit.0
+null_field s (v ∷ vs) null held fit = subst (λ w. IsOfKind s.place.cells w kind.Int) (sym (same_Some Null v (sym null ∙ held.0))) fit.0
 
 null_put : (k : Kind) → Some kind.Int ≡ Some k → IsOfKind an_object Null k → ⊥
-null_put k e is = subst (λ j. IsOfKind an_object Null j) (sym (some_is kind.Int k e)) is
+null_put k e is = subst (λ j. IsOfKind an_object Null j) (sym (same_Some kind.Int k e)) is
 
 no_result : (s : Situation) (v : Option Value) → s.stay.top.registers s.instr.a ≡ None → GivesBack s (Some a_number) v → ⊥
 no_result s None none g = g
@@ -59,7 +59,7 @@ pub each_move_goes_wrong : EachMoveGoesWrong
 each_move_goes_wrong = record {
   no_instruction = no_instruction _ refl refl refl;
   out_of_range = wrong_at _ _ _ refl refl refl refl (out_of_range (λ range. (let lt : 9 < 8 = range.a in absurd (omega arith))));
-  operand = wrong_at _ _ _ refl refl refl refl (operand 0 AText (0, refl) (λ v held meets. null_text v (some_is Null v held) meets));
+  operand = wrong_at _ _ _ refl refl refl refl (operand 0 AText (0, refl) (λ v held meets. null_text v (same_Some Null v held) meets));
   argument = wrong_at _ _ _ refl refl refl refl (argument 0 refl (λ vs held fit. no_argument (situated (instr op.Call 0 0 0 1) []) 0 vs refl held fit));
   result_dropped = wrong_at _ _ _ refl refl refl refl (result_dropped _ tt refl);
   new_field = wrong_at _ _ _ refl refl refl refl (new_field refl (λ vs held fit. null_field (situated (instr op.New 1 0 0 0) (Null ∷ [])) vs refl held fit));
@@ -69,7 +69,7 @@ each_move_goes_wrong = record {
   no_export = wrong_at _ _ _ refl refl refl refl (no_export 0 0 refl refl (λ object e. not_there _ e));
   result = wrong_at _ _ _ refl refl refl refl (result refl (λ v g. no_result giving v refl g));
   finish_open = wrong_at _ _ _ refl refl refl refl (finish_open 1 [] refl refl refl);
-  no_call = wrong_at _ _ _ refl refl refl refl (no_call _ [] refl refl (λ call e is. ret_call call.op (ap (λ (i : Instr). i.op) (sym (some_is _ call e))) is));
+  no_call = wrong_at _ _ _ refl refl refl refl (no_call _ [] refl refl (λ call e is. ret_call call.op (ap (λ (i : Instr). i.op) (sym (same_Some _ call e))) is));
   no_finish = wrong_at _ _ _ refl refl refl refl (no_finish refl refl);
 }
 
@@ -80,7 +80,7 @@ lonely = record { roots = []; rails = []; nodes = node 0 ∷ [] }
 
 unreached : (v : Value) → IsReached lonely v → ⊥
 unreached v (root w m) = not_there v m.1
-unreached v (field w zero n reached e m) = not_there v (subst (λ (k : Node). slice_get k.fields m.0 ≡ Some v) (sym (some_is (node 0) n e)) m.1)
+unreached v (field w zero n reached e m) = not_there v (subst (λ (k : Node). slice_get k.fields m.0 ≡ Some v) (sym (same_Some (node 0) n e)) m.1)
 unreached v (field w (suc k) n reached e m) = not_there n e
 
 pub each_message_misfits : EachMessageMisfits
@@ -88,7 +88,7 @@ each_message_misfits = record {
   not_here = not_here _ (one_zero 1 0 refl refl);
   graph = graph _ (λ fits. not_there _ (fits.classes 0 (node 7) refl).1);
   torn = torn _ (λ whole. unreached (Object 0) (whole.nodes_reached 0 (lit< tt)));
-  spawn = spawn 1 0 _ 1 _ (λ callee fits none. subst (λ (f : Function). FitSlots (IsOfKindIn nothing) 0 [] f.parameters) (sym (some_is taker callee fits.callee_is)) fits.arguments);
+  spawn = spawn 1 0 _ 1 _ (λ callee fits none. subst (λ (f : Function). FitSlots (IsOfKindIn nothing) 0 [] f.parameters) (sym (same_Some taker callee fits.callee_is)) fits.arguments);
   shift = shift 1 0 0 _ 9 _ (λ callee fits. not_there callee fits.callee_is);
   back = back 1 0 0 _ (λ stay call callee waits fits. not_there stay waits.is_there);
 }
@@ -100,8 +100,8 @@ below_one P p zero lt = p
 below_one P p (suc k) lt = absurd (omega arith)
 
 twice : (v : Value) → IsIn v (Object 0 ∷ Object 0 ∷ []) → Object 0 ≡ v
-twice v (zero, e) = some_is (Object 0) v e
-twice v (suc zero, e) = some_is (Object 0) v e
+twice v (zero, e) = same_Some (Object 0) v e
+twice v (suc zero, e) = same_Some (Object 0) v e
 twice v (suc (suc i), e) = absurd (not_there v e)
 
 shared_whole : IsWhole shared
@@ -113,7 +113,7 @@ shared_whole = record {
 }
   where
     no_fields : (k : ℕ) (n : Node) (v : Value) → slice_get shared.nodes k ≡ Some n → IsIn v n.fields → IsInside shared v
-    no_fields zero n v e m = absurd (not_there v (subst (λ (j : Node). slice_get j.fields m.0 ≡ Some v) (sym (some_is (node 0) n e)) m.1))
+    no_fields zero n v e m = absurd (not_there v (subst (λ (j : Node). slice_get j.fields m.0 ≡ Some v) (sym (same_Some (node 0) n e)) m.1))
     no_fields (suc k) n v e m = absurd (not_there n e)
 
 abbrev shared_names : Names
@@ -123,7 +123,7 @@ abbrev after : Cells
 after = with_entry no_cells 5 (Some (Fields 0 []))
 
 lies_at : (k : ℕ) (n : Node) → slice_get shared.nodes k ≡ Some n → after (slice_index shared_names.objects k) ≡ Some (Fields n.class (map (named shared_names) n.fields))
-lies_at zero n e = subst (λ (j : Node). after 5 ≡ Some (Fields j.class (map (named shared_names) j.fields))) (some_is (node 0) n e) refl
+lies_at zero n e = subst (λ (j : Node). after 5 ≡ Some (Fields j.class (map (named shared_names) j.fields))) (same_Some (node 0) n e) refl
 lies_at (suc k) n e = absurd (not_there n e)
 
 pub shared_arrives : SharedArrives

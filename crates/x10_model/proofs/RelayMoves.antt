@@ -8,6 +8,7 @@ use Rattle.x10_model.specs.Moves.{Moves, new_stay, with_line}
 use Rattle.x10_model.specs.Deliveries.{FitsPlace}
 use Rattle.x10_model.specs.Worlds.{first_place, empty_place}
 use Rattle.x10_model.specs.Relay.{relaying}
+use Rattle.x10_model.proofs.Moving.{moves}
 
 -- ---- nothing is passed
 
@@ -173,183 +174,43 @@ comes_back = Back 1 0 0 nothing
 -- ---- the moves
 
 pub move1 : Moves relaying 0 home0 0 home1 (Opens 1 root)
-move1 = record {
-  stay = _;
-  function = _;
-  instr = _;
-  is_there = refl;
-  is_ready = refl;
-  function_is = refl;
-  instr_is = refl;
-  in_range = record { a = tt; b = tt; c = tt; x = tt };
-  does = (refl, refl);
-}
+move1 = moves refl refl refl refl (record { a = tt; b = tt; c = tt; x = tt }) (refl, refl)
 
 pub move2 : Moves relaying 0 home1 0 home2 (Works)
-move2 = record {
-  stay = _;
-  function = _;
-  instr = _;
-  is_there = refl;
-  is_ready = refl;
-  function_is = refl;
-  instr_is = refl;
-  in_range = record { a = lit< tt; b = tt; c = tt; x = lit< tt };
-  does = (refl, refl);
-}
+move2 = moves refl refl refl refl (record { a = lit< tt; b = tt; c = tt; x = lit< tt }) (refl, refl)
 
 pub move3 : Moves relaying 0 home2 0 home3 (Shifts goes_there inner)
-move3 = record {
-  stay = _;
-  function = _;
-  instr = _;
-  is_there = refl;
-  is_ready = refl;
-  function_is = refl;
-  instr_is = refl;
-  in_range = record { a = tt; b = (λ e. refl, lit≤ tt); c = lit< tt; x = lit< tt };
-  does = (_, [], 1, nothing, refl, record { callee_is = refl; held = tt; fit = tt }, captured home2.cells, refl, refl);
-}
+move3 = moves refl refl refl refl (record { a = tt; b = (λ e. refl, lit≤ tt); c = lit< tt; x = lit< tt }) (_, [], 1, nothing, refl, record { callee_is = refl; held = tt; fit = tt }, captured home2.cells, refl, refl)
 
 pub move5 : Moves relaying 1 middle1 0 middle2 (Works)
-move5 = record {
-  stay = _;
-  function = _;
-  instr = _;
-  is_there = refl;
-  is_ready = refl;
-  function_is = refl;
-  instr_is = refl;
-  in_range = record { a = lit< tt; b = tt; c = tt; x = lit< tt };
-  does = (refl, refl);
-}
+move5 = moves refl refl refl refl (record { a = lit< tt; b = tt; c = tt; x = lit< tt }) (refl, refl)
 
 pub move6 : Moves relaying 1 middle2 0 middle3 (Spawns begins_other 0 inner)
-move6 = record {
-  stay = _;
-  function = _;
-  instr = _;
-  is_there = refl;
-  is_ready = refl;
-  function_is = refl;
-  instr_is = refl;
-  in_range = record { a = tt; b = (λ e. refl, lit≤ tt); c = lit< tt; x = lit< tt };
-  does = (_, [], 2, nothing, refl, record { callee_is = refl; held = tt; fit = tt }, refl, captured middle2.cells, refl, refl);
-}
+move6 = moves refl refl refl refl (record { a = tt; b = (λ e. refl, lit≤ tt); c = lit< tt; x = lit< tt }) (_, [], 2, nothing, refl, record { callee_is = refl; held = tt; fit = tt }, refl, captured middle2.cells, refl, refl)
 
 pub move7 : Moves relaying 1 middle3 0 middle4 (Ends inner (Some comes_back))
-move7 = record {
-  stay = _;
-  function = _;
-  instr = _;
-  is_there = refl;
-  is_ready = refl;
-  function_is = refl;
-  instr_is = refl;
-  in_range = record { a = tt; b = tt; c = tt; x = tt };
-  does = (None, tt, (Some comes_back, refl, (nothing, captured middle3.cells, refl), refl, refl));
-}
+move7 = moves refl refl refl refl (record { a = tt; b = tt; c = tt; x = tt }) (None, tt, (Some comes_back, refl, (nothing, captured middle3.cells, refl), refl, refl))
 
 pub move9 : Moves relaying 0 home4 0 home4 (Waits 1)
-move9 = record {
-  stay = _;
-  function = _;
-  instr = _;
-  is_there = refl;
-  is_ready = refl;
-  function_is = refl;
-  instr_is = refl;
-  in_range = record { a = tt; b = tt; c = tt; x = tt };
-  does = (1, [], refl, inl (refl, refl));
-}
+move9 = moves refl refl refl refl (record { a = tt; b = tt; c = tt; x = tt }) (1, [], refl, inl (refl, refl))
 
 pub move11 : Moves relaying 2 last1 0 last2 (Works)
-move11 = record {
-  stay = _;
-  function = _;
-  instr = _;
-  is_there = refl;
-  is_ready = refl;
-  function_is = refl;
-  instr_is = refl;
-  in_range = record { a = lit< tt; b = tt; c = tt; x = lit< tt };
-  does = (pos 5, refl, (refl, refl));
-}
+move11 = moves refl refl refl refl (record { a = lit< tt; b = tt; c = tt; x = lit< tt }) (pos 5, refl, (refl, refl))
 
 pub move12 : Moves relaying 2 last2 0 last3 (Works)
-move12 = record {
-  stay = _;
-  function = _;
-  instr = _;
-  is_there = refl;
-  is_ready = refl;
-  function_is = refl;
-  instr_is = refl;
-  in_range = record { a = lit< tt; b = tt; c = tt; x = tt };
-  does = (Int (pos 5), Number (pos 5), refl, refl, (refl, refl));
-}
+move12 = moves refl refl refl refl (record { a = lit< tt; b = tt; c = tt; x = tt }) (Int (pos 5), Number (pos 5), refl, refl, (refl, refl))
 
 pub move13 : Moves relaying 2 last3 0 last4 (Ends inner None)
-move13 = record {
-  stay = _;
-  function = _;
-  instr = _;
-  is_there = refl;
-  is_ready = refl;
-  function_is = refl;
-  instr_is = refl;
-  in_range = record { a = tt; b = tt; c = tt; x = tt };
-  does = (None, tt, (None, refl, refl, refl, refl));
-}
+move13 = moves refl refl refl refl (record { a = tt; b = tt; c = tt; x = tt }) (None, tt, (None, refl, refl, refl, refl))
 
 pub move14 : Moves relaying 0 home4 0 home5 (Closes 1)
-move14 = record {
-  stay = _;
-  function = _;
-  instr = _;
-  is_there = refl;
-  is_ready = refl;
-  function_is = refl;
-  instr_is = refl;
-  in_range = record { a = tt; b = tt; c = tt; x = tt };
-  does = (1, [], refl, inr (refl, refl));
-}
+move14 = moves refl refl refl refl (record { a = tt; b = tt; c = tt; x = tt }) (1, [], refl, inr (refl, refl))
 
 pub move15 : Moves relaying 0 home5 0 home6 (Works)
-move15 = record {
-  stay = _;
-  function = _;
-  instr = _;
-  is_there = refl;
-  is_ready = refl;
-  function_is = refl;
-  instr_is = refl;
-  in_range = record { a = lit< tt; b = tt; c = tt; x = lit< tt };
-  does = (pos 9, refl, (refl, refl));
-}
+move15 = moves refl refl refl refl (record { a = lit< tt; b = tt; c = tt; x = lit< tt }) (pos 9, refl, (refl, refl))
 
 pub move16 : Moves relaying 0 home6 0 home7 (Works)
-move16 = record {
-  stay = _;
-  function = _;
-  instr = _;
-  is_there = refl;
-  is_ready = refl;
-  function_is = refl;
-  instr_is = refl;
-  in_range = record { a = lit< tt; b = tt; c = tt; x = tt };
-  does = (Int (pos 9), Number (pos 9), refl, refl, (refl, refl));
-}
+move16 = moves refl refl refl refl (record { a = lit< tt; b = tt; c = tt; x = tt }) (Int (pos 9), Number (pos 9), refl, refl, (refl, refl))
 
 pub move17 : Moves relaying 0 home7 0 home8 (Ends root None)
-move17 = record {
-  stay = _;
-  function = _;
-  instr = _;
-  is_there = refl;
-  is_ready = refl;
-  function_is = refl;
-  instr_is = refl;
-  in_range = record { a = tt; b = tt; c = tt; x = tt };
-  does = (None, tt, (None, refl, refl, refl, refl));
-}
+move17 = moves refl refl refl refl (record { a = tt; b = tt; c = tt; x = tt }) (None, tt, (None, refl, refl, refl, refl))

@@ -1,5 +1,5 @@
 -- The worked run over three places, event by event.
-use Rattle.std.proofs.Common.{◌≡◌, ℕ, zero, suc, ◌≤◌, List, [], ◌∷◌, Some, None, refl, ap, subst, inl, inr, arith, lit≤}
+use Rattle.std.proofs.Common.{◌≡◌, ℕ, zero, suc, ◌≤◌, List, [], ◌∷◌, Option, Some, None, refl, ap, subst, inl, inr, arith, lit≤}
 use Rattle.std.specs.Prelude.{slice_get}
 use Rattle.std.proofs.lemmas.Bool.{cases_eq, eq-eqb, ne_eqb}
 use Rattle.x10_model.specs.declared.event.Event.{Event}
@@ -9,9 +9,15 @@ use Rattle.x10_model.specs.Places as places
 use Rattle.x10_model.specs.Places.{Setting, Finish, root, Origin, Stay, Message, Spawn, Shift, Back, Effect, Waits, Works, Spawns, Shifts, Opens, Closes, Ends, Number, with_stay, next, writes}
 use Rattle.x10_model.specs.Worlds.{Post, Unused, Flying, Taken, World, IsWithin, itself, enclosed, stays, flies, HasEnded, Ideal, Steps, Delivers, steps, delivers, Run, done, then, WithinBounds, opening, net_after, book_after, book_with}
 use Rattle.x10_model.specs.Relay.{relaying, relay_bounds, RelayRuns}
-use Rattle.x10_model.proofs.NotWrong.{some_is}
+use Rattle.x10_model.specs.Modules.{Function}
+use Rattle.x10_model.specs.Ranges.{function_at}
+use Rattle.x10_model.specs.Copies.{IsOfKindIn}
+use Rattle.x10_model.specs.Signatures.{FitSlots}
+use Rattle.x10_model.specs.Moves.{new_stay}
+use Rattle.x10_model.specs.Deliveries.{Begins}
 use Rattle.x10_model.proofs.Events.{happens_right}
-use Rattle.x10_model.proofs.RelayMoves.{arrived, nothing_fits, inner, main3, home1, home2, home3, home4, home5, home6, home7, home8, middle0, middle1, middle2, middle3, middle4, last0, last1, last2, last3, last4, goes_there, begins_other, comes_back, move1, move2, move3, move5, move6, move7, move9, move11, move12, move13, move14, move15, move16, move17}
+use Rattle.x10_model.proofs.RelayMoves.{nothing, arrived, nothing_fits, inner, main3, home1, home2, home3, home4, home5, home6, home7, home8, middle0, middle1, middle2, middle3, middle4, last0, last1, last2, last3, last4, goes_there, begins_other, comes_back, move1, move2, move3, move5, move6, move7, move9, move11, move12, move13, move14, move15, move16, move17}
+use Rattle.std.proofs.lemmas.Option.{same_Some}
 
 -- ---- the worlds
 
@@ -82,16 +88,16 @@ InBounds w = WithinBounds relay_bounds w
 
 alone : (w : World) (n : ℕ) → w.book.begun ≡ 1 → (w.book.activities 0).function ≡ 2 → (w.book.activities 0).steps ≡ n → n ≤ 10 → InBounds w
 alone w n begun function made le zero bound lt e =
-    let is : 10 ≡ bound = some_is 10 bound (subst (λ f. slice_get relay_bounds f ≡ Some bound) function e) in
+    let is : 10 ≡ bound = same_Some 10 bound (subst (λ f. slice_get relay_bounds f ≡ Some bound) function e) in
     omega arith
 alone w n begun function made le (suc a) bound lt e = absurd (omega arith)
 
 both : (w : World) (m n : ℕ) → w.book.begun ≡ 2 → (w.book.activities 0).function ≡ 2 → (w.book.activities 0).steps ≡ m → m ≤ 10 → (w.book.activities 1).function ≡ 0 → (w.book.activities 1).steps ≡ n → n ≤ 3 → InBounds w
 both w m n begun f0 s0 l0 f1 s1 l1 zero bound lt e =
-    let is : 10 ≡ bound = some_is 10 bound (subst (λ f. slice_get relay_bounds f ≡ Some bound) f0 e) in
+    let is : 10 ≡ bound = same_Some 10 bound (subst (λ f. slice_get relay_bounds f ≡ Some bound) f0 e) in
     omega arith
 both w m n begun f0 s0 l0 f1 s1 l1 (suc zero) bound lt e =
-    let is : 3 ≡ bound = some_is 3 bound (subst (λ f. slice_get relay_bounds f ≡ Some bound) f1 e) in
+    let is : 3 ≡ bound = same_Some 3 bound (subst (λ f. slice_get relay_bounds f ≡ Some bound) f1 e) in
     omega arith
 both w m n begun f0 s0 l0 f1 s1 l1 (suc (suc a)) bound lt e = absurd (omega arith)
 
@@ -209,6 +215,21 @@ step16 = record { old = _; new = _; effect = _; number = 9; place_is = refl; mov
 step17 : Steps Ideal relaying w16 0 0 w17
 step17 = record { old = _; new = _; effect = _; number = 9; place_is = refl; moves = move17; allowed = tt; unused = refl; net_is = refl; book_is = refl }
 
+-- a stay begins where nothing is passed
+begins : (here : ℕ) (old new : places.Place) (function : ℕ) (callee : Function) (back : Option Origin) → function_at relaying.program function ≡ Some callee → FitSlots (IsOfKindIn nothing) here [] callee.parameters
+    → (back ≡ None → callee.result ≡ None) → old.stays 0 ≡ None → new ≡ with_stay (record old { cells = old.cells }) 0 (Some (new_stay function [] inner back)) → Begins relaying here old function nothing inner back 0 new
+begins here old new function callee back callee_is arguments no_result free new_is = record {
+  callee = callee;
+  fits_function = record { callee_is = callee_is; arguments = arguments };
+  no_result = no_result;
+  fits_place = nothing_fits _ _;
+  arguments = [];
+  cells = _;
+  arrives = arrived _;
+  free = free;
+  new_is = new_is;
+}
+
 take4 : Delivers relaying w3 0 w4
 take4 = record {
   message = goes_there;
@@ -218,20 +239,7 @@ take4 = record {
   new = middle1;
   flying = refl;
   place_is = refl;
-  receives = (
-    refl,
-    record {
-      callee = _;
-      fits_function = record { callee_is = refl; arguments = tt };
-      no_result = λ e. refl;
-      fits_place = nothing_fits _ _;
-      arguments = [];
-      cells = _;
-      arrives = arrived _;
-      free = refl;
-      new_is = refl;
-    },
-  );
+  receives = (refl, begins _ _ _ _ _ _ refl tt (λ e. refl) refl refl);
   net_is = refl;
   book_is = refl;
 }
@@ -274,20 +282,7 @@ take10 = record {
   new = last1;
   flying = refl;
   place_is = refl;
-  receives = (
-    refl,
-    record {
-      callee = _;
-      fits_function = record { callee_is = refl; arguments = tt };
-      no_result = λ e. refl;
-      fits_place = nothing_fits _ _;
-      arguments = [];
-      cells = _;
-      arrives = arrived _;
-      free = refl;
-      new_is = refl;
-    },
-  );
+  receives = (refl, begins _ _ _ _ _ _ refl tt (λ e. refl) refl refl);
   net_is = refl;
   book_is = refl;
 }

@@ -13,115 +13,36 @@ use Rattle.x10_model.specs.Maps.{with_entry}
 use Rattle.x10_model.specs.Moves.{Moves, with_line}
 use Rattle.x10_model.specs.Worlds.{World, Ideal, Steps, steps, Run, done, then, WithinBounds, first_place, opening, net_after, book_after}
 use Rattle.x10_model.specs.Examples.{on_places, seven, AddWraps, LoopSetsItsSlot, TextsAreJoined, FieldIsRead, ByteIsSet, PlacesGoRound, FinishIsOpened, NumberIsPrinted, EachGroupMoves, CycleIsCopied, pair_of_objects, pair_snapshot, SevenRuns}
-use Rattle.x10_model.proofs.NotWrong.{some_is}
 use Rattle.x10_model.proofs.Events.{happens_right}
+use Rattle.std.proofs.lemmas.Option.{same_Some}
+use Rattle.x10_model.proofs.Moving.{moves}
 
 -- ---- moves
 
 add_wraps : AddWraps
 unfolding int_wrap
-add_wraps = record {
-  stay = _;
-  function = _;
-  instr = _;
-  is_there = refl;
-  is_ready = refl;
-  function_is = refl;
-  instr_is = refl;
-  in_range = record { a = lit< tt; b = lit< tt; c = lit< tt; x = tt };
-  does = (pos 9223372036854775807, pos 1, refl, refl, (refl, refl));
-}
+add_wraps = moves refl refl refl refl (record { a = lit< tt; b = lit< tt; c = lit< tt; x = tt }) (pos 9223372036854775807, pos 1, refl, refl, (refl, refl))
 
 loop_sets : LoopSetsItsSlot
-loop_sets = record {
-  stay = _;
-  function = _;
-  instr = _;
-  is_there = refl;
-  is_ready = refl;
-  function_is = refl;
-  instr_is = refl;
-  in_range = record { a = lit< tt; b = tt; c = tt; x = tt };
-  does = (refl, refl);
-}
+loop_sets = moves refl refl refl refl (record { a = lit< tt; b = tt; c = tt; x = tt }) (refl, refl)
 
 texts_join : TextsAreJoined
-texts_join = record {
-  stay = _;
-  function = _;
-  instr = _;
-  is_there = refl;
-  is_ready = refl;
-  function_is = refl;
-  instr_is = refl;
-  in_range = record { a = lit< tt; b = lit< tt; c = lit< tt; x = lit< tt };
-  does = (72 ∷ [], 105 ∷ [], refl, refl, (refl, refl));
-}
+texts_join = moves refl refl refl refl (record { a = lit< tt; b = lit< tt; c = lit< tt; x = lit< tt }) (72 ∷ [], 105 ∷ [], refl, refl, (refl, refl))
 
 field_read : FieldIsRead
-field_read = record {
-  stay = _;
-  function = _;
-  instr = _;
-  is_there = refl;
-  is_ready = refl;
-  function_is = refl;
-  instr_is = refl;
-  in_range = record { a = lit< tt; b = lit< tt; c = tt; x = tt };
-  does = (5, 0, Int (pos 3) ∷ Null ∷ [], Null, refl, refl, refl, (refl, refl));
-}
+field_read = moves refl refl refl refl (record { a = lit< tt; b = lit< tt; c = tt; x = tt }) (5, 0, Int (pos 3) ∷ Null ∷ [], Null, refl, refl, refl, (refl, refl))
 
 byte_set : ByteIsSet
-byte_set = record {
-  stay = _;
-  function = _;
-  instr = _;
-  is_there = refl;
-  is_ready = refl;
-  function_is = refl;
-  instr_is = refl;
-  in_range = record { a = lit< tt; b = lit< tt; c = lit< tt; x = lit< tt };
-  does = (5, 0 ∷ 0 ∷ [], pos 1, negsuc 0, refl, refl, refl, refl, (refl, refl));
-}
+byte_set = moves refl refl refl refl (record { a = lit< tt; b = lit< tt; c = lit< tt; x = lit< tt }) (5, 0 ∷ 0 ∷ [], pos 1, negsuc 0, refl, refl, refl, refl, (refl, refl))
 
 places_round : PlacesGoRound
-places_round = record {
-  stay = _;
-  function = _;
-  instr = _;
-  is_there = refl;
-  is_ready = refl;
-  function_is = refl;
-  instr_is = refl;
-  in_range = record { a = lit< tt; b = lit< tt; c = tt; x = tt };
-  does = (2, refl, (refl, refl));
-}
+places_round = moves refl refl refl refl (record { a = lit< tt; b = lit< tt; c = tt; x = tt }) (2, refl, (refl, refl))
 
 finish_opens : FinishIsOpened
-finish_opens = record {
-  stay = _;
-  function = _;
-  instr = _;
-  is_there = refl;
-  is_ready = refl;
-  function_is = refl;
-  instr_is = refl;
-  in_range = record { a = tt; b = tt; c = tt; x = tt };
-  does = (refl, refl);
-}
+finish_opens = moves refl refl refl refl (record { a = tt; b = tt; c = tt; x = tt }) (refl, refl)
 
 number_prints : NumberIsPrinted
-number_prints = record {
-  stay = _;
-  function = _;
-  instr = _;
-  is_there = refl;
-  is_ready = refl;
-  function_is = refl;
-  instr_is = refl;
-  in_range = record { a = lit< tt; b = tt; c = tt; x = tt };
-  does = (Int (pos 7), Number (pos 7), refl, refl, (refl, refl));
-}
+number_prints = moves refl refl refl refl (record { a = lit< tt; b = tt; c = tt; x = tt }) (Int (pos 7), Number (pos 7), refl, refl, (refl, refl))
 
 pub each_group : EachGroupMoves
 each_group = record { numbers = add_wraps; control = loop_sets; text = texts_join; objects = field_read; rails = byte_set; places = places_round; activities = finish_opens; output = number_prints }
@@ -129,11 +50,11 @@ each_group = record { numbers = add_wraps; control = loop_sets; text = texts_joi
 -- ---- a copy
 
 one_is : {X : Type 0} (x v : X) (i : ℕ) → slice_get (x ∷ []) i ≡ Some v → x ≡ v
-one_is x v zero e = some_is x v e
+one_is x v zero e = same_Some x v e
 one_is x v (suc i) e = absurd cc
 
 two_are : {X : Type 0} (x y v : X) (i : ℕ) → slice_get (x ∷ y ∷ []) i ≡ Some v → (x ≡ v) ⊎ (y ≡ v)
-two_are x y v zero e = inl (some_is x v e)
+two_are x y v zero e = inl (same_Some x v e)
 two_are x y v (suc i) e = inr (one_is y v i e)
 
 below_two : (P : ℕ → Type 0) → P 0 → P 1 → (k : ℕ) → k < 2 → P k
@@ -152,8 +73,8 @@ one_distinct x (suc i) j y e f = absurd cc
 
 two_distinct : (x y : ℕ) → (x ≡ y → ⊥) → AreDistinct (x ∷ y ∷ [])
 two_distinct x y ne zero zero v e f = refl
-two_distinct x y ne zero (suc j) v e f = absurd (ne (some_is x v e ∙ sym (one_is y v j f)))
-two_distinct x y ne (suc i) zero v e f = absurd (ne (some_is x v f ∙ sym (one_is y v i e)))
+two_distinct x y ne zero (suc j) v e f = absurd (ne (same_Some x v e ∙ sym (one_is y v j f)))
+two_distinct x y ne (suc i) zero v e f = absurd (ne (same_Some x v f ∙ sym (one_is y v i e)))
 two_distinct x y ne (suc i) (suc j) v e f = ap suc (one_distinct y i j v e f)
 
 inside_fields : (w v : Value) (i : ℕ) → IsInside pair_snapshot w → slice_get (w ∷ Rail 0 ∷ []) i ≡ Some v → IsInside pair_snapshot v
@@ -190,12 +111,12 @@ abbrev LiesAt : ℕ → Node → Type 0
 LiesAt k node = pair_of_objects (slice_index pair_names.objects k) ≡ Some (Fields node.class (map (named pair_names) node.fields))
 
 lies_at : (k : ℕ) (node : Node) → slice_get pair_snapshot.nodes k ≡ Some node → LiesAt k node
-lies_at zero node e = subst (LiesAt 0) (some_is (node_of (Object 1)) node e) refl
-lies_at (suc zero) node e = subst (LiesAt 1) (some_is (node_of (Object 0)) node e) refl
+lies_at zero node e = subst (LiesAt 0) (same_Some (node_of (Object 1)) node e) refl
+lies_at (suc zero) node e = subst (LiesAt 1) (same_Some (node_of (Object 0)) node e) refl
 lies_at (suc (suc k)) node e = absurd cc
 
 bytes_at : (i : ℕ) (bytes : List ℕ) → slice_get pair_snapshot.rails i ≡ Some bytes → pair_of_objects (slice_index pair_names.rails i) ≡ Some (Bytes bytes)
-bytes_at zero bytes e = ap (λ b. Some (Bytes b)) (some_is (0 ∷ 0 ∷ []) bytes e)
+bytes_at zero bytes e = ap (λ b. Some (Bytes b)) (same_Some (0 ∷ 0 ∷ []) bytes e)
 bytes_at (suc i) bytes e = absurd cc
 
 pub cycle_is_copied : CycleIsCopied
@@ -246,43 +167,13 @@ world_after zero = opening setting 0
 world_after (suc n) = record { net = net_after (world_after n).net 0 (place_after (suc n)) (effect_of n) 0; book = book_after (world_after n).book ((world_after n).book.belongs 0 0) 0 (effect_of n) 0 }
 
 first_move : Moves setting 0 (place_after 0) 0 (place_after 1) Works
-first_move = record {
-  stay = _;
-  function = _;
-  instr = _;
-  is_there = refl;
-  is_ready = refl;
-  function_is = refl;
-  instr_is = refl;
-  in_range = record { a = lit< tt; b = tt; c = tt; x = lit< tt };
-  does = (pos 7, refl, (refl, refl));
-}
+first_move = moves refl refl refl refl (record { a = lit< tt; b = tt; c = tt; x = lit< tt }) (pos 7, refl, (refl, refl))
 
 second_move : Moves setting 0 (place_after 1) 0 (place_after 2) Works
-second_move = record {
-  stay = _;
-  function = _;
-  instr = _;
-  is_there = refl;
-  is_ready = refl;
-  function_is = refl;
-  instr_is = refl;
-  in_range = record { a = lit< tt; b = tt; c = tt; x = tt };
-  does = (Int (pos 7), Number (pos 7), refl, refl, (refl, refl));
-}
+second_move = moves refl refl refl refl (record { a = lit< tt; b = tt; c = tt; x = tt }) (Int (pos 7), Number (pos 7), refl, refl, (refl, refl))
 
 third_move : Moves setting 0 (place_after 2) 0 (place_after 3) (Ends places.root None)
-third_move = record {
-  stay = _;
-  function = _;
-  instr = _;
-  is_there = refl;
-  is_ready = refl;
-  function_is = refl;
-  instr_is = refl;
-  in_range = record { a = tt; b = tt; c = tt; x = tt };
-  does = (None, tt, (None, refl, refl, refl, refl));
-}
+third_move = moves refl refl refl refl (record { a = tt; b = tt; c = tt; x = tt }) (None, tt, (None, refl, refl, refl, refl))
 
 first_step : Steps Ideal setting (world_after 0) 0 0 (world_after 1)
 first_step = record { old = _; new = _; effect = _; number = 0; place_is = refl; moves = first_move; allowed = tt; unused = refl; net_is = refl; book_is = refl }
@@ -296,7 +187,7 @@ third_step = record { old = _; new = _; effect = _; number = 0; place_is = refl;
 -- the one activity has made so many steps
 within : (w : World) (n : ℕ) → w.book.begun ≡ 1 → (w.book.activities 0).steps ≡ n → (w.book.activities 0).function ≡ 0 → n ≤ 3 → WithinBounds (3 ∷ []) w
 within w n begun made function le zero bound lt e =
-    let is : 3 ≡ bound = some_is 3 bound (subst (λ f. slice_get (3 ∷ []) f ≡ Some bound) function e) in
+    let is : 3 ≡ bound = same_Some 3 bound (subst (λ f. slice_get (3 ∷ []) f ≡ Some bound) function e) in
     omega arith
 within w n begun made function le (suc a) bound lt e = absurd (omega arith)
 

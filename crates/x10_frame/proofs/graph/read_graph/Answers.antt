@@ -5,8 +5,8 @@ use Rattle.x10_model.proofs.Offsets.{ends_bytes}
 use Rattle.x10_frame.specs.Faults.{named}
 use Rattle.x10_frame.specs.Items.{tables_in}
 use Rattle.x10_frame.specs.Graphs.{counts_at}
-use Rattle.x10_frame.proofs.Loops.{lenient}
-use Rattle.x10_frame.proofs.Readers.{early, ends_after}
+use Rattle.x10_bytes.proofs.Loops.{lenient, early}
+use Rattle.x10_frame.proofs.Readers.{ends_after}
 use Rattle.x10_frame.proofs.Graphs.{counts_drop, graph_of_counts, graph_is}
 use Rattle.x10_frame.proofs.graph.read_graph.Goals as goal
 

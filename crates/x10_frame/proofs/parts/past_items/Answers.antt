@@ -4,7 +4,7 @@ use Rattle.x10_model.specs.Readers.{many}
 use Rattle.x10_model.specs.ReadingFrames.{item_at}
 use Rattle.x10_frame.specs.Faults.{named}
 use Rattle.x10_frame.specs.Items.{tables_in}
-use Rattle.x10_frame.proofs.Loops.{along_start, along_next, along_fault, walked}
+use Rattle.x10_bytes.proofs.Loops.{along_start, along_next, along_fault, walked}
 use Rattle.x10_frame.proofs.parts.past_items.Goals as goal
 
 pub loop-init : goal.loop-init

@@ -3,7 +3,7 @@ use Rattle.x10_model.specs.Frames.{uses}
 use Rattle.x10_model.specs.Readers.{many}
 use Rattle.x10_model.specs.ReadingFrames.{item_at}
 use Rattle.x10_frame.specs.Items.{tables_in}
-use Rattle.x10_frame.proofs.Loops.{Along}
+use Rattle.x10_bytes.proofs.Loops.{Along}
 use Rattle.x10_frame.proofs.parts.past_items.Given as goal
 
 abbrev pub invariant-loop : goal.invariant-loop

@@ -7,8 +7,8 @@ use Rattle.x10_model.proofs.GraphLaws.{node_reads}
 use Rattle.x10_model.proofs.Offsets.{ends_small, ends_bytes}
 use Rattle.x10_frame.specs.Faults.{named}
 use Rattle.x10_frame.specs.Items.{tables_in}
-use Rattle.x10_frame.proofs.TableLoops.{placed_start, placed_next, placed_fault, placed_nodes}
-use Rattle.x10_frame.proofs.Turns.{next_is}
+use Rattle.x10_bytes.proofs.TableLoops.{placed_start, placed_next, placed_fault}
+use Rattle.x10_frame.proofs.Turns.{placed_nodes, next_is}
 use Rattle.x10_frame.proofs.tables.node_table.Goals as goal
 
 pub loop-number-init : goal.loop-number-init

@@ -3,7 +3,7 @@ use Rattle.x10_model.specs.Frames.{node_bytes, next_turn, turn}
 use Rattle.x10_model.specs.Readers.{many}
 use Rattle.x10_model.specs.ReadingFrames.{node_at}
 use Rattle.x10_frame.specs.Items.{tables_in}
-use Rattle.x10_frame.proofs.TableLoops.{Placed}
+use Rattle.x10_bytes.proofs.TableLoops.{Placed}
 use Rattle.x10_frame.proofs.tables.node_table.Given as goal
 
 abbrev pub invariant-loop-number : goal.invariant-loop-number

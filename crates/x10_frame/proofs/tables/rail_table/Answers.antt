@@ -1,13 +1,12 @@
 use Rattle.std.proofs.Common.{ℕ, refl, arith}
 use Rattle.std.proofs.lemmas.Result.{err_from_is_err_and}
-use Rattle.x10_model.specs.Frames.{FitsRail}
-use Rattle.x10_model.specs.Frames.{blob_bytes}
+use Rattle.x10_model.specs.Frames.{FitsRail, blob_bytes}
 use Rattle.x10_model.specs.Readers.{times}
 use Rattle.x10_model.specs.ReadingFrames.{rail_at}
 use Rattle.x10_model.proofs.GraphLaws.{rail_reads}
 use Rattle.x10_model.proofs.Offsets.{ends_small, ends_bytes}
 use Rattle.x10_frame.specs.Faults.{named}
-use Rattle.x10_frame.proofs.TableLoops.{placed_start, placed_next, placed_fault, placed_end}
+use Rattle.x10_bytes.proofs.TableLoops.{placed_start, placed_next, placed_fault, placed_end}
 use Rattle.x10_frame.proofs.tables.rail_table.Goals as goal
 
 pub loop-init : goal.loop-init

@@ -7,7 +7,7 @@ use Rattle.x10_model.specs.ReadingFrames.{text_at}
 use Rattle.x10_model.proofs.GraphLaws.{text_reads}
 use Rattle.x10_model.proofs.Offsets.{ends_small, ends_bytes}
 use Rattle.x10_frame.specs.Faults.{named}
-use Rattle.x10_frame.proofs.TableLoops.{placed_start, placed_next, placed_fault, placed_end}
+use Rattle.x10_bytes.proofs.TableLoops.{placed_start, placed_next, placed_fault, placed_end}
 use Rattle.x10_frame.proofs.tables.text_table.Goals as goal
 
 pub loop-init : goal.loop-init

@@ -2,7 +2,7 @@ use Rattle.std.proofs.Common.{ℕ, ◌-◌}
 use Rattle.x10_model.specs.Frames.{blob_bytes}
 use Rattle.x10_model.specs.Readers.{times}
 use Rattle.x10_model.specs.ReadingFrames.{text_at}
-use Rattle.x10_frame.proofs.TableLoops.{Placed}
+use Rattle.x10_bytes.proofs.TableLoops.{Placed}
 use Rattle.x10_frame.proofs.tables.text_table.Given as goal
 
 abbrev pub invariant-loop : goal.invariant-loop

@@ -1,4 +1,4 @@
-use Rattle.x10_image.proofs.Texts.{text_fits_by}
+use Rattle.x10_image.proofs.WrittenLaws.{text_fits_by}
 use Rattle.x10_image.proofs.fitting.text_fits.Goals as goal
 
 pub returns : goal.returns

@@ -1,7 +1,8 @@
 use Rattle.std.proofs.Common.{arith}
 use Rattle.x10_model.specs.Frames.{node_bytes}
 use Rattle.x10_model.proofs.Offsets.{same_length}
-use Rattle.x10_frame.proofs.Shows.{shows, graph_fits, few_of, node_fits, item_in, node_at}
+use Rattle.x10_frame.proofs.Shows.{shows, graph_fits, few_of, node_fits, node_at}
+use Rattle.x10_bytes.proofs.Parts.{item_in}
 use Rattle.x10_frame.proofs.Spelled.{node_part}
 use Rattle.x10_frame.proofs.view.FrameView.node.Goals as goal
 

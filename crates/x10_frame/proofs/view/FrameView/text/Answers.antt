@@ -2,7 +2,9 @@ use Rattle.std.proofs.Common.{arith}
 use Rattle.x10_model.specs.Modules.{FitsText}
 use Rattle.x10_model.specs.Frames.{blob_bytes}
 use Rattle.x10_model.proofs.Offsets.{same_length}
-use Rattle.x10_frame.proofs.Shows.{shows, graph_fits, all_at, item_in, blob_at}
+use Rattle.x10_frame.proofs.Shows.{shows, graph_fits, blob_at}
+use Rattle.x10_model.proofs.Lists.{all_at}
+use Rattle.x10_bytes.proofs.Parts.{item_in}
 use Rattle.x10_frame.proofs.Spelled.{text_part}
 use Rattle.x10_frame.proofs.view.FrameView.text.Goals as goal
 

@@ -1,7 +1,8 @@
 use Rattle.std.proofs.Common.{length, arith}
 use Rattle.x10_model.specs.Modules.{FitsClass}
 use Rattle.x10_model.specs.Images.{class_bytes}
-use Rattle.x10_image.proofs.Accessors.{shows, item_in, class_at}
+use Rattle.x10_image.proofs.Accessors.{shows, class_at}
+use Rattle.x10_bytes.proofs.Parts.{item_in}
 use Rattle.x10_image.proofs.Spelled.{class_part}
 use Rattle.x10_image.proofs.view.ImageView.class.Goals as goal
 use Rattle.x10_model.proofs.Lists.{all_at}

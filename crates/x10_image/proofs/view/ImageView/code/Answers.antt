@@ -1,8 +1,8 @@
-use Rattle.std.proofs.Common.{◌+◌, ◌*◌, arith, sym, ◌∙◌}
-use Rattle.x10_model.specs.Images.{function_bytes}
+use Rattle.std.proofs.Common.{◌+◌, ◌*◌, arith, ◌∙◌}
 use Rattle.x10_model.proofs.Offsets.{same_length}
-use Rattle.x10_image.proofs.Accessors.{shows, part_of, from_at}
-use Rattle.x10_image.proofs.FunctionAccess.{function_here, room_is, parameters_are, parameters_of, count_is, code_range, code_long}
+use Rattle.x10_image.proofs.Accessors.{shows}
+use Rattle.x10_image.proofs.Spelled.{code_part}
+use Rattle.x10_image.proofs.FunctionAccess.{function_here, room_is, count_is, code_range}
 use Rattle.x10_image.proofs.view.ImageView.code.Goals as goal
 
 pub index-at-requires : goal.index-at-requires
@@ -51,5 +51,4 @@ returns-clause-part c =
     let v = shows _ _ _ _ _ _ _ c.self.invariant c.self.view_is in
     let h = function_here _ _ _ _ _ _ _ c.args.f c.index-at.result.now v c.requires c.index-at.ensures in
     let is = code_range _ _ _ _ _ (c.code_place-start.result + 8 * c.code_len_in.result) h c.code_place-start.ensures (omega (arith, c.code_len_in.ensures ∙ count_is _ _ _ _ h)) in
-    let at = from_at function_bytes _ _ _ c.args.f c.index-at.result.now v.functions_start c.requires c.index-at.ensures in
-    rw is (part_of _ _ c.code_place-start.result _ (c.code_place-start.result + 8 * c.code_len_in.result) _ v.spelled (omega (arith, c.code_place-start.ensures, at, parameters_are _ _ _ _ h, parameters_of _ _ _ _ h)) (omega (arith, c.code_len_in.ensures ∙ count_is _ _ _ _ h, code_long _ _ _ _ h)) (omega (arith, c.code_len_in.ensures ∙ count_is _ _ _ _ h, c.code_place-start.ensures, room_is _ _ _ _ h)) (sym is))
+    rw is (code_part _ c.args.f h.function h.is h.fits.length.0)

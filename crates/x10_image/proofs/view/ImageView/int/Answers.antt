@@ -17,8 +17,8 @@ overflow_add-self-inside c =
     let found = int_at c.self.inside.bytes.now c.self.inside.ints (c.self.inside.ints + 8 * c.args.i) c.args.i c.args.self.now.ints v.ints_at v.fits.ints.1 c.requires refl in
     omega (arith, found.2.room)
 
-pub int_in-requires : goal.int_in-requires
-int_in-requires c =
+pub i64_in-requires : goal.i64_in-requires
+i64_in-requires c =
     let v = shows _ _ _ _ _ _ _ c.self.invariant c.self.view_is in
     let found = int_at c.self.inside.bytes.now c.self.inside.ints (c.self.inside.ints + 8 * c.args.i) c.args.i c.args.self.now.ints v.ints_at v.fits.ints.1 c.requires refl in
     found.2.room
@@ -27,7 +27,7 @@ pub returns-clause-value : goal.returns-clause-value
 returns-clause-value c =
     let v = shows _ _ _ _ _ _ _ c.self.invariant c.self.view_is in
     let found = int_at c.self.inside.bytes.now c.self.inside.ints (c.self.inside.ints + 8 * c.args.i) c.args.i c.args.self.now.ints v.ints_at v.fits.ints.1 c.requires refl in
-    rw (c.int_in.ensures, found.2.value) (found.1 ∙ ap (λ (z : ℤ). Some z) (sym (to_z-of_z w64 found.0 found.2.fits)))
+    rw (c.i64_in.ensures, found.2.value) (found.1 ∙ ap (λ (z : ℤ). Some z) (sym (to_z-of_z w64 found.0 found.2.fits)))
 
 pub returns-clause-part : goal.returns-clause-part
 returns-clause-part c = int_part _ _ _ (returns-clause-value c)

@@ -1,7 +1,9 @@
-use Rattle.std.proofs.Common.{◌+◌, arith, refl, sym, ap}
+use Rattle.std.proofs.Common.{arith}
 use Rattle.x10_model.specs.Modules.{FitsText}
 use Rattle.x10_model.specs.Images.{text_bytes}
-use Rattle.x10_image.proofs.Accessors.{shows, item_in, text_at, part_of, from_at}
+use Rattle.x10_image.proofs.Accessors.{shows, text_at}
+use Rattle.x10_image.proofs.Spelled.{text_part}
+use Rattle.x10_bytes.proofs.Parts.{item_in}
 use Rattle.x10_image.proofs.view.ImageView.text.Goals as goal
 use Rattle.x10_model.proofs.Lists.{all_at}
 use Rattle.x10_model.proofs.Offsets.{same_length}
@@ -47,8 +49,4 @@ returns-clause-fits c =
     rw (c.text_in.ensures, t.count, t.range) (all_at FitsText _ c.args.i found.0 v.fits.texts.1 found.1)
 
 pub returns-clause-part : goal.returns-clause-part
-returns-clause-part c =
-    let v = shows _ _ _ _ _ _ _ c.self.invariant c.self.view_is in
-    let found = item_in text_bytes _ _ _ c.args.i c.index.result.now v.texts_at c.requires c.index.ensures in
-    let t = text_at _ _ found.0 (all_at FitsText _ c.args.i found.0 v.fits.texts.1 found.1) found.2 in
-    rw (c.text_in.ensures, t.count, t.range) (part_of _ _ _ _ _ found.0 v.spelled (ap (λ n. n + 2) (from_at text_bytes _ _ _ c.args.i c.index.result.now v.texts_start c.requires c.index.ensures)) refl t.room (sym t.range))
+returns-clause-part c = text_part _ c.args.i _ (returns-clause-value c)

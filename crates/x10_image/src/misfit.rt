@@ -1,0 +1,153 @@
+//! Where bytes that are no image are wrong: the first part that the reader refuses.
+
+ghost use Rattle.std.specs.Prelude.{ℕ, IfErr, IfSome};
+ghost use Rattle.x10_image.specs.Misfits.{IsRefused};
+
+use crate::fault::ImageFault;
+use crate::field::{Field, class_field, function_field, header_field, int_field, text_field};
+use crate::header::read_header;
+use crate::parts::{past_class, past_function, past_ints, past_text};
+
+/// A part of an image.
+#[derive(Clone, Copy, Debug, PartialEq, Eq)]
+pub enum Item {
+    Header,
+    /// A class, by its number.
+    Class(u16),
+    /// The constant numbers, so many.
+    Ints(u16),
+    /// A constant text, by its number.
+    Text(u16),
+    /// A function, by its number.
+    Function(u16),
+    /// What stands behind the last function.
+    Behind,
+}
+
+/// The first part of bytes that is refused.
+#[derive(Clone, Copy, Debug)]
+pub struct Misfit<'a> {
+    pub item: Item,
+    pub fault: ImageFault,
+    /// The bytes from the part on.
+    pub from: &'a [u8],
+    /// The field of the part that is wrong; nothing where none was found.
+    pub field: Option<Field<'a>>,
+}
+
+/// The bytes after the classes.
+fn past_classes(bytes: &[u8], count: u16) -> Result<&[u8], Misfit<'_>>
+    ensures { IfErr result (λ m. IsRefused count m.item m.from.now m.fault) }
+{
+    let mut rest = bytes;
+    for class in 0..count {
+        match past_class(rest, count) {
+            Ok(after) => rest = after,
+            Err(fault) => {
+                return Err(Misfit {
+                    item: Item::Class(class),
+                    fault,
+                    from: rest,
+                    field: class_field(rest, count),
+                });
+            }
+        }
+    }
+    Ok(rest)
+}
+
+/// The bytes after the constant numbers.
+fn past_numbers(bytes: &[u8], count: u16) -> Result<&[u8], Misfit<'_>>
+    ensures { IfErr result (λ m. (classes : ℕ) → IsRefused classes m.item m.from.now m.fault) }
+{
+    match past_ints(bytes, count) {
+        Ok(rest) => Ok(rest),
+        Err(fault) => Err(Misfit {
+            item: Item::Ints(count),
+            fault,
+            from: bytes,
+            field: Some(int_field(bytes)),
+        }),
+    }
+}
+
+/// The bytes after the texts.
+fn past_texts(bytes: &[u8], count: u16) -> Result<&[u8], Misfit<'_>>
+    ensures { IfErr result (λ m. (classes : ℕ) → IsRefused classes m.item m.from.now m.fault) }
+{
+    let mut rest = bytes;
+    for text in 0..count {
+        match past_text(rest) {
+            Ok(after) => rest = after,
+            Err(fault) => {
+                return Err(Misfit {
+                    item: Item::Text(text),
+                    fault,
+                    from: rest,
+                    field: text_field(rest),
+                });
+            }
+        }
+    }
+    Ok(rest)
+}
+
+/// The bytes after the functions.
+fn past_functions(bytes: &[u8], classes: u16, count: u16) -> Result<&[u8], Misfit<'_>>
+    ensures { IfErr result (λ m. IsRefused classes m.item m.from.now m.fault) }
+{
+    let mut rest = bytes;
+    for function in 0..count {
+        match past_function(rest, classes, function) {
+            Ok(after) => rest = after,
+            Err(fault) => {
+                return Err(Misfit {
+                    item: Item::Function(function),
+                    fault,
+                    from: rest,
+                    field: function_field(rest, classes, function),
+                });
+            }
+        }
+    }
+    Ok(rest)
+}
+
+/// All parts one after the other.
+fn past_all(bytes: &[u8]) -> Result<(), Misfit<'_>>
+    ensures { IfErr result (λ m. (classes : ℕ) × IsRefused classes m.item m.from.now m.fault) }
+{
+    let (header, rest) = match read_header(bytes) {
+        Ok(read) => read,
+        Err(fault) => {
+            return Err(Misfit {
+                item: Item::Header,
+                fault,
+                from: bytes,
+                field: header_field(bytes),
+            });
+        }
+    };
+    let rest = past_classes(rest, header.classes)?;
+    let rest = past_numbers(rest, header.ints)?;
+    let rest = past_texts(rest, header.texts)?;
+    let rest = past_functions(rest, header.classes, header.functions)?;
+    if rest.is_empty() {
+        return Ok(());
+    }
+    Err(Misfit {
+        item: Item::Behind,
+        fault: ImageFault::Trailing,
+        from: rest,
+        field: None,
+    })
+}
+
+/// The first part of bytes that is refused, with its fault, which is that of reading the part from there on, and the field
+/// of it that is wrong. Nothing where each part is whole and in order, also where the entry is wrong. One pass over the
+/// bytes, and without memory.
+pub fn misfit_in(bytes: &[u8]) -> Option<Misfit<'_>>
+    ensures { IfSome result (λ m. (classes : ℕ) × IsRefused classes m.item m.from.now m.fault) }
+{
+    past_all(bytes).err()
+}
