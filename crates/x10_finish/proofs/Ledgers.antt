@@ -1,10 +1,6 @@
 -- Ledgers: what a change of one count does to the totals of all finishes.
-use Rattle.std.proofs.Common.{◌≡◌, ℕ, ◌==◌, Bool, true, false, cond, if◌then◌else◌, List, Option, Some, None, is_some, Result, Ok, Err, OnOk, OnErr, IfErr, inl, inr, refl, sym, ◌∙◌, ap, subst, arith}
+use Rattle.std.proofs.Common.{◌≡◌, ℕ, ◌==◌, ◌&&◌, Bool, true, false, cond, if◌then◌else◌, List, Option, Some, None, is_some, Result, Ok, Err, OnOk, OnErr, IfErr, inl, inr, refl, sym, ◌∙◌, ap, subst, arith}
 use Rattle.std.proofs.lemmas.Bool.{eqb-true}
-use Rattle.std.specs.Ordering.{nat_cmp, ordering_then, is_eq}
-use Rattle.std.specs.declared.cmp.Ordering.{Ordering}
-use Rattle.std.specs.declared.cmp.Ordering.TheVariants.{Less, Equal, Greater}
-use Rattle.std.specs.BTreeMap.{is_at}
 use Rattle.x10_kinds.specs.declared.stop.Stop.{Stop}
 use Rattle.x10_kinds.specs.declared.stop.Stop.TheVariants.{Memory, Limit}
 use Rattle.x10_model.specs.Places as machine
@@ -15,19 +11,18 @@ use Rattle.x10_finish.specs.declared.count.Count.{Count}
 use Rattle.x10_finish.specs.declared.count.Change.{Change}
 use Rattle.x10_finish.specs.declared.count.Change.TheVariants.{Begins, Sends, Receives}
 use Rattle.x10_finish.specs.Counts.{counted, IsWhole, IsLargest, IsFull}
-use Rattle.x10_finish.specs.Ledgers.{named, key_of, finish_cmp, count_of, counted_or_nothing, Ledger, totals_of, is_met, AreWhole, Counts, Forgets, Refuses}
+use Rattle.x10_finish.specs.Ledgers.{named, key_of, finish_eq, count_of, counted_or_nothing, Ledger, totals_of, is_met, AreWhole, Counts, Forgets, Refuses}
 
-equal_then : (o p : Ordering) → is_eq (ordering_then o p) ≡ (if is_eq o then is_eq p else false)
-equal_then Less p = refl
-equal_then Equal p = refl
-equal_then Greater p = refl
-
-equal_numbers : (x y : ℕ) → is_eq (nat_cmp x y) ≡ (y == x)
+equal_numbers : (x y : ℕ) → (x == y) ≡ (y == x)
 equal_numbers x y = grind arith
 
+both_are : (a b : Bool) → (a && b) ≡ (if a then b else false)
+both_are true b = refl
+both_are false b = refl
+
 -- a finish is found under its own key alone
-pub at_is_same : (k : Finish) (f : machine.Finish) → is_at (finish_cmp k) (key_of f) ≡ same_finish f (named k)
-at_is_same k f = equal_then (nat_cmp k.home f.home) (nat_cmp k.number f.number) ∙ rw (equal_numbers k.home f.home, equal_numbers k.number f.number) refl
+pub at_is_same : (k : Finish) (f : machine.Finish) → finish_eq k (key_of f) ≡ same_finish f (named k)
+at_is_same k f = rw (equal_numbers k.home f.home, equal_numbers k.number f.number) (both_are (f.home == k.home) (f.number == k.number))
 
 true_if : (a b : Bool) → (if a then b else false) ≡ true → (a ≡ true) × (b ≡ true)
 true_if true b e = (refl, e)
@@ -42,7 +37,7 @@ same_is f g e =
 
 -- one count is written or entered
 abbrev pub Writes : List (Finish × Count) → Finish → Count → List (Finish × Count) → Type 0
-Writes old k w new = (q : Finish) → count_of new q ≡ cond (is_at (finish_cmp k) q) (Some w) (count_of old q)
+Writes old k w new = (q : Finish) → count_of new q ≡ cond (finish_eq k q) (Some w) (count_of old q)
 
 picked : (b : Bool) (w : Count) (o : Option Count) (t : Totals) → (b ≡ true → counted w ≡ t) → counted_or_nothing (cond b (Some w) o) ≡ (if b then t else counted_or_nothing o)
 picked true w o t h = h refl
@@ -68,11 +63,11 @@ whole_then places true w c o h g e = let same : w ≡ c = cc in subst (IsWhole p
 whole_then places false w c o h g e = g e
 
 pub AreWhole-by : (places : ℕ) (old new : List (Finish × Count)) (k : Finish) (w : Count) → Writes old k w new → IsWhole places w → AreWhole places old → AreWhole places new
-AreWhole-by places old new k w h g all f c e = whole_then places (is_at (finish_cmp k) f) w c (count_of old f) g (all f c) (sym (h f) ∙ e)
+AreWhole-by places old new k w h g all f c e = whole_then places (finish_eq k f) w c (count_of old f) g (all f c) (sym (h f) ∙ e)
 
 -- one count goes
 abbrev pub Removes : List (Finish × Count) → Finish → List (Finish × Count) → Type 0
-Removes old k new = (q : Finish) → count_of new q ≡ cond (is_at (finish_cmp k) q) None (count_of old q)
+Removes old k new = (q : Finish) → count_of new q ≡ cond (finish_eq k q) None (count_of old q)
 
 gone : (b : Bool) (o : Option Count) → counted_or_nothing (cond b None o) ≡ (if b then nothing else counted_or_nothing o)
 gone true o = refl
@@ -86,8 +81,8 @@ pub Forgets-by : (old new : Ledger) (k : Finish) → new.place ≡ old.place →
 Forgets-by old new k e p h = record {
   place = e;
   places = p;
-  totals = λ g. ap counted_or_nothing (h (key_of g)) ∙ gone (is_at (finish_cmp k) (key_of g)) (count_of old.counts (key_of g)) ∙ ap (λ b. if b then nothing else totals_of old g) (at_is_same k g);
-  met = λ g. ap is_some (h (key_of g)) ∙ unmet (is_at (finish_cmp k) (key_of g)) (count_of old.counts (key_of g)) ∙ ap (λ b. if b then false else is_met old g) (at_is_same k g);
+  totals = λ g. ap counted_or_nothing (h (key_of g)) ∙ gone (finish_eq k (key_of g)) (count_of old.counts (key_of g)) ∙ ap (λ b. if b then nothing else totals_of old g) (at_is_same k g);
+  met = λ g. ap is_some (h (key_of g)) ∙ unmet (finish_eq k (key_of g)) (count_of old.counts (key_of g)) ∙ ap (λ b. if b then false else is_met old g) (at_is_same k g);
 }
 
 whole_left : (places : ℕ) (b : Bool) (c : Count) (o : Option Count) → (o ≡ Some c → IsWhole places c) → cond b None o ≡ Some c → IsWhole places c
@@ -95,7 +90,7 @@ whole_left places true c o g e = absurd cc
 whole_left places false c o g e = g e
 
 pub AreWhole-left : (places : ℕ) (old new : List (Finish × Count)) (k : Finish) → Removes old k new → AreWhole places old → AreWhole places new
-AreWhole-left places old new k h all f c e = whole_left places (is_at (finish_cmp k) f) c (count_of old f) (all f c) (sym (h f) ∙ e)
+AreWhole-left places old new k h all f c e = whole_left places (finish_eq k f) c (count_of old f) (all f c) (sym (h f) ∙ e)
 
 -- what was not counted yet is not full
 pub not_full : (change : Change) (t : Totals) → t ≡ nothing → IsFull change t → ⊥

@@ -36,6 +36,14 @@ pub record IsOpened (f : Finish) (places : ℕ) (b : Kept) : Type 0 where
   pub places_is : b.places ≡ places
   pub kept : kept_of b ≡ (λ p. zeros)
 
+-- the larger of each number is kept of a place that sent so many activities to each place, and received so many from each,
+-- and all else stays
+pub record MergesCounts (old : Kept) (from : ℕ) (sent received : List ℕ) (new : Kept) : Type 0 where
+  pub home : new.home ≡ old.home
+  pub number : new.number ≡ old.number
+  pub places : new.places ≡ old.places
+  pub kept : kept_of new ≡ merged (kept_of old) (record { place = from; number = old.number; sent = sent; received = received })
+
 -- the larger of each number is kept of the place that reports, and all else stays
 pub record Merges (old : Kept) (r : Report) (new : Kept) : Type 0 where
   pub home : new.home ≡ old.home

@@ -1,8 +1,5 @@
 -- What callers see of a tally: the totals of each finish.
-use Rattle.std.specs.Prelude.{◌≡◌, ℕ, Bool, true, false, List, Option, Some, None, if◌then◌else◌, length, is_some}
-use Rattle.std.specs.Ordering.{nat_cmp, ordering_then}
-use Rattle.std.specs.declared.cmp.Ordering.{Ordering}
-use Rattle.std.specs.BTreeMap.{is_at}
+use Rattle.std.specs.Prelude.{◌≡◌, ◌==◌, ◌&&◌, ℕ, Bool, true, false, List, Option, Some, None, if◌then◌else◌, length, is_some}
 use Rattle.std.specs.Map.{lookup}
 use Rattle.x10_kinds.specs.declared.stop.Stop.{Stop}
 use Rattle.x10_kinds.specs.declared.stop.Stop.TheVariants.{Memory, Limit, Stopped}
@@ -23,13 +20,13 @@ named f = record { home = f.home; number = f.number }
 abbrev pub key_of : machine.Finish → Finish
 key_of f = record { home = f.home; number = f.number }
 
--- finishes in order of their homes, and of their numbers there
-abbrev pub finish_cmp : Finish → Finish → Ordering
-finish_cmp f g = ordering_then (nat_cmp f.home g.home) (nat_cmp f.number g.number)
+-- finishes are the same where their homes are, and their numbers there
+abbrev pub finish_eq : Finish → Finish → Bool
+finish_eq f g = f.home == g.home && f.number == g.number
 
 -- the count of a finish
 abbrev pub count_of : List (Finish × Count) → Finish → Option Count
-count_of counts f = lookup (is_at (finish_cmp f)) counts
+count_of counts f = lookup (finish_eq f) counts
 
 abbrev pub counted_or_nothing : Option Count → Totals
 counted_or_nothing None = nothing
@@ -80,6 +77,12 @@ report_of r = record { place = r.place; number = r.number; sent = r.sent.items; 
 -- a report is due where the last activity of a finish ends away from its home
 abbrev pub gives_report : Ledger → machine.Finish → Bool
 gives_report l f = is_last f.home l.place (totals_of l f)
+
+-- the place's totals of the finish, one number for each place
+pub record AreDue (l : Ledger) (f : machine.Finish) (sent received : List ℕ) : Type 0 where
+  pub entry : reported (record { place = l.place; number = f.number; sent = sent; received = received }) ≡ entry_of (totals_of l f)
+  pub sent_is : length sent ≡ l.places
+  pub received_is : length received ≡ l.places
 
 -- the place's report of its totals of the finish, one number for each place
 pub record IsReportDue (l : Ledger) (f : machine.Finish) (r : Report) : Type 0 where

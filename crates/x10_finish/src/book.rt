@@ -2,7 +2,7 @@ ghost use Rattle.std.specs.Prelude.{◌≡◌, ◌↔◌, ◌<◌, ◌*◌, ◌^
 ghost use Rattle.x10_kinds.specs.declared.stop.Stop.TheVariants as stop;
 ghost use Rattle.x10_model.specs.Totals.{IsBalanced, IsDoneAt, entry_of, seen_from};
 ghost use Rattle.x10_finish.specs.Ledgers.{named, totals_of};
-ghost use Rattle.x10_finish.specs.Books.{Kept, finish_of, kept_of, IsOpened, Merges};
+ghost use Rattle.x10_finish.specs.Books.{Kept, finish_of, kept_of, IsOpened, MergesCounts, Merges};
 
 use crate::finish::Finish;
 use crate::pairs::{Pair, agrees, first_apart, merge};
@@ -72,16 +72,34 @@ impl Book {
         self.places
     }
 
-    /// Takes in a report of the finish, in whatever order they come: the larger of each number is kept. Linear in the
-    /// number of places, and without memory.
+    /// Takes in what a place reports of the finish: how many activities it sent to each place, and received from each.
+    /// Reports may come in whatever order: the larger of each number is kept. Linear in the number of places, and without
+    /// memory.
+    pub fn merge_counts(&mut self, from: u16, sent: &[u32], received: &[u32])
+        requires place { from < self.old.places }
+        requires sent { length sent.now ≡ self.old.places }
+        requires received { length received.now ≡ self.old.places }
+        ensures { MergesCounts self.old from sent.now received.now self.new }
+    {
+        let home = usize::from(self.finish.home);
+        self.unequal = merge(
+            &mut self.pairs,
+            self.unequal,
+            home,
+            usize::from(from),
+            sent,
+            received,
+        );
+    }
+
+    /// Takes in a report of the finish, as `merge_counts` does.
     pub fn merge(&mut self, report: &Report)
         requires place { report.now.place < self.old.places }
         requires sent { length report.now.sent.items ≡ self.old.places }
         requires received { length report.now.received.items ≡ self.old.places }
         ensures { Merges self.old report.now self.new }
     {
-        let (home, places) = (usize::from(self.finish.home), usize::from(self.places));
-        self.unequal = merge(&mut self.pairs, self.unequal, home, places, report);
+        self.merge_counts(report.place, &report.sent, &report.received);
     }
 
     /// Whether what each place sent to another is what the other received from it: by the home's own totals as they are

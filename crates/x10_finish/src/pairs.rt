@@ -3,8 +3,6 @@
 ghost use Rattle.std.specs.Prelude.{◌≡◌, ◌+◌, ◌*◌, ◌<◌, ◌≤◌, ◌^◌, ℕ, true, false, IfNone, IfSome, length, slice_index};
 ghost use Rattle.x10_finish.specs.Pairs.{pair_at, difference, unequal_in, raised_at, merged_to, agreed};
 
-use x10_frame::Report;
-
 /// How many activities one place has reported that it sent to another, and the other that it received from the one.
 #[derive(Clone, Copy, Debug, PartialEq, Eq)]
 pub struct Pair {
@@ -24,6 +22,7 @@ fn differs(home: usize, from: usize, to: usize, pair: Pair) -> usize
 }
 
 /// The larger of each number for one pair. Takes how many pairs differ and gives how many do then. Constant time.
+#[inline(always)]
 pub fn raise(
     pairs: &mut Vec<Pair>,
     unequal: usize,
@@ -55,37 +54,37 @@ pub fn raise(
     unequal + differs(home, from, to, new) - differs(home, from, to, old)
 }
 
-/// Takes in the numbers of a report, the larger of each. Takes how many pairs differ and gives how many do then.
-/// Linear in the number of places.
+/// Takes in how many activities a place sent to each other and received from each, the larger of each number. Takes how
+/// many pairs differ and gives how many do then. Linear in the number of places.
 pub fn merge(
     pairs: &mut Vec<Pair>,
     mut unequal: usize,
     home: usize,
-    places: usize,
-    report: &Report,
+    place: usize,
+    sent: &[u32],
+    received: &[u32],
 ) -> usize
-    requires few { places < 2 ^ 16 }
-    requires place { report.now.place < places }
-    requires sent { length report.now.sent.items ≡ places }
-    requires received { length report.now.received.items ≡ places }
-    requires whole { length pairs.old.items ≡ places * places }
-    requires unequal { unequal ≡ unequal_in home places pairs.old.items }
-    ensures whole { length pairs.new.items ≡ places * places }
-    ensures unequal { result ≡ unequal_in home places pairs.new.items }
-    ensures pairs { (a b : ℕ) → pair_at places pairs.new.items a b ≡ merged_to report.now.place report.now.sent.items report.now.received.items places (pair_at places pairs.old.items) a b }
+    requires few { length sent.now < 2 ^ 16 }
+    requires place { place < length sent.now }
+    requires received { length received.now ≡ length sent.now }
+    requires whole { length pairs.old.items ≡ length sent.now * length sent.now }
+    requires unequal { unequal ≡ unequal_in home (length sent.now) pairs.old.items }
+    ensures whole { length pairs.new.items ≡ length sent.now * length sent.now }
+    ensures unequal { result ≡ unequal_in home (length sent.now) pairs.new.items }
+    ensures pairs { (a b : ℕ) → pair_at (length sent.now) pairs.new.items a b ≡ merged_to place sent.now received.now (length sent.now) (pair_at (length sent.now) pairs.old.items) a b }
 {
-    let place = usize::from(report.place);
+    let places = sent.len();
     for q in 0..places {
-        let sent = Pair {
-            sent: report.sent[q],
+        let went = Pair {
+            sent: sent[q],
             received: 0,
         };
-        unequal = raise(pairs, unequal, home, places, place, q, sent);
-        let received = Pair {
+        unequal = raise(pairs, unequal, home, places, place, q, went);
+        let came = Pair {
             sent: 0,
-            received: report.received[q],
+            received: received[q],
         };
-        unequal = raise(pairs, unequal, home, places, q, place, received);
+        unequal = raise(pairs, unequal, home, places, q, place, came);
     }
     unequal
 }

@@ -1,29 +1,30 @@
-ghost use Rattle.std.specs.Prelude.{◌≡◌, ◌+◌, ◌^◌, ◌<◌, ◌⊎◌, ℕ, true, false, IfErr, IfOk, OnOk, OnErr, Err, None, Some, if◌then◌else◌, length, slice_index};
-ghost use Rattle.std.specs.BTreeMap.{Updates};
+ghost use Rattle.std.specs.Prelude.{◌≡◌, ◌+◌, ◌^◌, ◌<◌, ◌⊎◌, ℕ, true, false, IfErr, IfOk, IfNone, IfSome, OnOk, OnErr, Err, None, Some, if◌then◌else◌, length, slice_index};
+ghost use Rattle.std.specs.HashMap.{Updates};
 ghost use Rattle.x10_kinds.specs.declared.stop.Stop.TheVariants as stop;
 ghost use Rattle.x10_model.specs.Places as machine;
 ghost use Rattle.x10_model.specs.Totals.{nothing, begins_one, ends_one, sends_to, receives_from};
 ghost use Rattle.x10_finish.specs.Counts.{Fits, IsFull, IsLargest, changed};
 ghost use Rattle.x10_finish.specs.declared.count.Change.TheVariants as change;
-ghost use Rattle.x10_finish.specs.Ledgers.{Ledger, finish_cmp, count_of, totals_of, is_met, named, Counts, Forgets, Refuses, gives_report, IsAnswer};
+ghost use Rattle.x10_finish.specs.Ledgers.{Ledger, finish_eq, count_of, totals_of, is_met, named, Counts, Forgets, Refuses, gives_report, AreDue, IsAnswer};
 
 use crate::count::{Change, Count, apply, no_count};
 use crate::finish::Finish;
 use std::alloc::Global;
-use std::collections::BTreeMap;
+use std::collections::HashMap;
 use std::marker::Model;
 use x10_frame::Report;
 use x10_kinds::Stop;
 
-/// What one place counts of each finish that it met. Clauses see the totals of each finish. A finish is found in
-/// logarithmic time, and each call takes that time unless it says otherwise. A finish is met where it is counted for the first
-/// time, which takes memory for two numbers for each place; afterwards counting takes none.
+/// What one place counts of each finish that it met. Clauses see the totals of each finish. A finish is found by its hash, in
+/// constant time as a rule, and each call takes that time unless it says otherwise. A finish is met where it is counted for
+/// the first time, which takes memory for two numbers for each place, and now and then a larger table; afterwards counting
+/// takes none.
 #[derive(Drop)]
 pub struct Tally {
     alloc: Global,
     place: u16,
     places: u16,
-    counts: BTreeMap<Finish, Count>,
+    counts: HashMap<Finish, Count>,
 }
 
 impl Model for Tally {
@@ -36,8 +37,8 @@ impl Model for Tally {
     ghost invariant = { λ t. AreWhole t.places t.counts.entries };
 }
 
-fn put(counts: &mut BTreeMap<Finish, Count>, finish: Finish, count: Count) -> Result<(), Stop>
-    ensures ok { OnOk result (Updates finish_cmp counts.old counts.new finish (Some count)) }
+fn put(counts: &mut HashMap<Finish, Count>, finish: Finish, count: Count) -> Result<(), Stop>
+    ensures ok { OnOk result (Updates finish_eq counts.old counts.new finish (Some count)) }
     ensures absent { OnErr result (count_of counts.old.entries finish ≡ None) }
     ensures err { IfErr result (λ why. (why ≡ stop.Memory) × (counts.new.entries ≡ counts.old.entries)) }
 {
@@ -59,7 +60,7 @@ impl Tally {
             alloc,
             place,
             places,
-            counts: BTreeMap::new(alloc),
+            counts: HashMap::new(alloc),
         }
     }
 
@@ -136,21 +137,34 @@ impl Tally {
         self.count(finish, Change::Begins)
     }
 
-    /// What goes to the home of a finish when one more activity ends here: the totals, where that is the last one and
-    /// the home is elsewhere. Nothing is counted yet. The report takes memory for two numbers for each place.
+    /// What the home of a finish is told when one more activity ends here: how many were sent to each place and received
+    /// from each, where that is the last one and the home is elsewhere. Nothing is counted yet.
+    pub fn due(&self, finish: Finish) -> Option<(&[u32], &[u32])>
+        requires { 0 < (totals_of self.now (named finish)).live }
+        ensures none { IfNone result (gives_report self.now (named finish) ≡ false) }
+        ensures some { IfSome result (λ x. (gives_report self.now (named finish) ≡ true) × AreDue self.now (named finish) x.0.now x.1.now) }
+    {
+        let count = &self.counts[&finish];
+        if finish.home == self.place || count.live != 1 {
+            return None;
+        }
+        Some((&count.sent, &count.received))
+    }
+
+    /// The report that goes to the home of a finish when one more activity ends here, as `due` says. The report takes memory
+    /// for two numbers for each place.
     pub fn leaving(&self, finish: Finish) -> Result<Option<Report>, Stop>
         requires { 0 < (totals_of self.now (named finish)).live }
         ensures ok { IfOk result (IsAnswer self.now (named finish)) }
         ensures err { IfErr result (λ why. (why ≡ stop.Memory) × (gives_report self.now (named finish) ≡ true)) }
     {
-        let count = &self.counts[&finish];
-        if finish.home == self.place || count.live != 1 {
+        let Some((sent, received)) = self.due(finish) else {
             return Ok(None);
-        }
-        let Ok(sent) = Vec::from_slice(self.alloc, &count.sent) else {
+        };
+        let Ok(sent) = Vec::from_slice(self.alloc, sent) else {
             return Err(Stop::Memory);
         };
-        let Ok(received) = Vec::from_slice(self.alloc, &count.received) else {
+        let Ok(received) = Vec::from_slice(self.alloc, received) else {
             return Err(Stop::Memory);
         };
         Ok(Some(Report {

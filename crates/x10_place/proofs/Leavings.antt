@@ -19,8 +19,7 @@ use Rattle.x10_model.specs.Frames as frames
 use Rattle.x10_heap.specs.Words.{Context, AreWordsOf, HoldsHeap}
 use Rattle.x10_heap.proofs.Growing.{Grows, grows_not}
 use Rattle.std.specs.List.{AllByRecursion}
-use Rattle.x10_frame.specs.declared.report.Report.{Report}
-use Rattle.x10_finish.specs.Ledgers.{report_of, IsAnswer}
+use Rattle.x10_finish.specs.Ledgers.{gives_report, AreDue}
 use Rattle.x10_model.specs.Frames.{spelling}
 use Rattle.x10_frame.specs.declared.head.Head.TheVariants as head
 use Rattle.x10_copy.specs.Captured.{kinds_of, IsSnapshot}
@@ -56,35 +55,35 @@ all_small [] h = tt
 all_small (x ∷ xs) h = (h 0, all_small xs (λ k. h (suc k)))
 
 -- none is due
-pub reports_none : (s : StoreState) (f : Finish) (o : Option Report) → s.ledger.place ≡ s.here → IsAnswer s.ledger f o → o ≡ None → Reports s f None
-reports_none s f o here answer e = subst (λ n. is_last f.home n (totals_in s f) ≡ false) here (subst (λ q. IsAnswer s.ledger f q) e answer)
+pub reports_none : (s : StoreState) (f : Finish) → s.ledger.place ≡ s.here → gives_report s.ledger f ≡ false → Reports s f None
+reports_none s f here none = subst (λ n. is_last f.home n (totals_in s f) ≡ false) here none
 
 -- one is due, and goes to the home of the finish
-pub reports_one : (s : StoreState) (f : Finish) (o : Option Report) (r : Report) (bytes : Vec ℕ Global) → s.ledger.place ≡ s.here → s.ledger.places ≡ s.places → s.here < s.places → f.home < s.places → f.number < 2 ^ 32 → IsAnswer s.ledger f o → o ≡ Some r → AllByRecursion (λ n. n < 2 ^ 32) r.sent.items → AllByRecursion (λ n. n < 2 ^ 32) r.received.items
-    → bytes.items ≡ spelling (frames.Report r.place f.home r.number r.sent.items r.received.items) → Reports s f (Some (record { to = f.home; bytes = bytes }))
-reports_one s f o r bytes here places within home few answer e sent received spelled =
-    let due = subst (λ q. IsAnswer s.ledger f q) e answer in (
-      subst (λ n. is_last f.home n (totals_in s f) ≡ true) here due.0,
-      record {
-        report = report_of r;
-        to_is = refl;
-        place_is = due.1.place ∙ here;
-        number_is = due.1.number;
-        entry_is = due.1.entry;
-        carries = record {
-          fits = record {
-            from = subst (λ n. n < s.places) (sym (due.1.place ∙ here)) within;
-            to = home;
-            body = (subst (λ n. n < 2 ^ 32) (sym due.1.number) few, (due.1.sent ∙ places, sent), (due.1.received ∙ places, received));
-          };
-          spelled = spelled;
-        };
-      },
-    )
+pub reports_one : (s : StoreState) (f : Finish) (sent received : List ℕ) (bytes : Vec ℕ Global) → s.ledger.place ≡ s.here → s.ledger.places ≡ s.places → s.here < s.places → f.home < s.places → f.number < 2 ^ 32
+    → (gives_report s.ledger f ≡ true) × AreDue s.ledger f sent received → AllByRecursion (λ n. n < 2 ^ 32) sent → AllByRecursion (λ n. n < 2 ^ 32) received
+    → bytes.items ≡ spelling (frames.Report s.here f.home f.number sent received) → Reports s f (Some (record { to = f.home; bytes = bytes }))
+reports_one s f sent received bytes here places within home few due small less spelled = (
+  subst (λ n. is_last f.home n (totals_in s f) ≡ true) here due.0,
+  record {
+    report = record { place = s.here; number = f.number; sent = sent; received = received };
+    to_is = refl;
+    place_is = refl;
+    number_is = refl;
+    entry_is = due.1.entry;
+    carries = record {
+      fits = record {
+        from = within;
+        to = home;
+        body = (few, (due.1.sent_is ∙ places, small), (due.1.received_is ∙ places, less));
+      };
+      spelled = spelled;
+    };
+  },
+)
 
 -- how many counts it has
-pub report_short : (s : StoreState) (f : Finish) (o : Option Report) (r : Report) → s.ledger.places ≡ s.places → s.places ≤ 64 → IsAnswer s.ledger f o → o ≡ Some r → length r.sent.items < 2 ^ 16
-report_short s f o r places few answer e = let due = subst (λ q. IsAnswer s.ledger f q) e answer in let long = due.1.sent in omega (arith, long, places, few)
+pub report_short : (s : StoreState) (f : Finish) (sent received : List ℕ) → s.ledger.places ≡ s.places → s.places ≤ 64 → AreDue s.ledger f sent received → length sent < 2 ^ 16
+report_short s f sent received places few due = let long = due.sent_is in omega (arith, long, places, few)
 
 module _ (far : Far) (p : PlaceState) (m : machine.Place) (stands : StandsFor far p m) (key : ℕ) (out : Sent) (slab : Slab StayState) (t : StoreState) (checks : IsChecked p.program) (d : LeavesAt p.program p.stays (store_of p) key out slab t) (ready : d.stay.away ≡ false) where
   abbrev a : StayState

@@ -47,7 +47,7 @@ given_words x cells None (Some v) words r there given = absurd given
 given_words x cells (Some slot) None words r there given = absurd given
 
 -- one more that is the same
-pub set_taken : (xs ys : List Slot) (i : ℕ) (x : Slot) → i < length ys → slice_get xs i ≡ Some x → take i ys ≡ take i xs → take (i + 1) (slice_set ys i x) ≡ take (i + 1) xs
+pub set_taken : {X : Type 0} (xs ys : List X) (i : ℕ) (x : X) → i < length ys → slice_get xs i ≡ Some x → take i ys ≡ take i xs → take (i + 1) (slice_set ys i x) ≡ take (i + 1) xs
 set_taken xs [] i x lt e h = absurd (omega (arith, lt))
 set_taken [] (y ∷ ys) i x lt e h = absurd cc
 set_taken (z ∷ xs) (y ∷ ys) zero x lt e h = ap (λ q. q ∷ []) (sym (some_is z x e))
@@ -65,5 +65,5 @@ sound_words law program s slots words h fits all =
     subst (λ n. AreSound n s.heap (kinds_of slots) words × IsSoundHeap program.classes n s.heap) h.places (subst (λ (q : HeapState). AreSound h.context.places q (kinds_of slots) words × IsSoundHeap program.classes h.context.places q) h.heap sound)
 
 -- the same of an array
-pub slots_kept : (xs ys : List Slot) (i : ℕ) (x : Slot) → length ys ≡ 16 → i < 16 → slice_get xs i ≡ Some x → take i ys ≡ take i xs → (length (slice_set ys i x) ≡ 16) × (take (i + 1) (slice_set ys i x) ≡ take (i + 1) xs)
-slots_kept xs ys i x long lt e h = (simp length-set long, set_taken xs ys i x (omega (arith, long, lt)) e h)
+pub kept_next : {X : Type 0} (n : ℕ) (xs ys : List X) (i : ℕ) (x : X) → length ys ≡ n → i < n → slice_get xs i ≡ Some x → take i ys ≡ take i xs → (length (slice_set ys i x) ≡ n) × (take (i + 1) (slice_set ys i x) ≡ take (i + 1) xs)
+kept_next n xs ys i x long lt e h = (simp length-set long, set_taken xs ys i x (omega (arith, long, lt)) e h)

@@ -22,7 +22,7 @@ use slab::Slab;
 use std::alloc::Global;
 use x10_code::Instr;
 use x10_finish::Finish;
-use x10_frame::{Head, write_report};
+use x10_frame::{Head, write_counts};
 use x10_kinds::Stop;
 use x10_verify::Verified;
 
@@ -91,12 +91,13 @@ fn report(alloc: Global, store: &Store, finish: Finish) -> Result<Option<Outgoin
     ensures ok { IfOk result (Reports store.now (finish_as finish)) }
     ensures err { IfErr result (λ why. why ≡ stop.Memory) }
 {
-    let Some(report) = store.leaving(finish)? else {
+    let Some((sent, received)) = store.due(finish) else {
         return Ok(None);
     };
-    counts_are_small(&report.sent);
-    counts_are_small(&report.received);
-    match write_report(alloc, finish.home, &report) {
+    counts_are_small(sent);
+    counts_are_small(received);
+    let here = store.spot().here;
+    match write_counts(alloc, here, finish.home, finish.number, sent, received) {
         Ok(bytes) => Ok(Some(Outgoing {
             to: finish.home,
             bytes,

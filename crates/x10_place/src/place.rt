@@ -63,8 +63,9 @@ impl<'a> Place<'a> {
     ///
     /// Constant time, but that CALL, ASYNC, NEW, RAIL, TEXTK, TCAT and PRINT of a text also copy or fill what they make,
     /// that AT, ATA and a RET that sends a result back copy all that they send, that FINB makes two numbers for each pair of
-    /// places, that FINE looks at the places where nothing lives under its finish here, that a finish is looked up in
-    /// logarithmic time, that a report has two numbers for each place, and that a list that grows is copied now and then.
+    /// places, that FINE looks at the places where nothing lives under its finish here, that the book of an open finish is
+    /// looked up in logarithmic time, that a report has two numbers for each place, and that a list or table that grows is
+    /// copied now and then.
     /// What makes, prints or sends something takes memory, and so do CALL, ASYNC and FINB.
     #[inline(always)]
     pub fn step(&mut self, key: usize) -> Result<Stepped, Stop>

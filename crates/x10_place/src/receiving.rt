@@ -105,7 +105,7 @@ fn take(
         Head::Back { from, waiting, .. } => {
             resume(alloc, verified, stays, store, view, from, waiting)
         }
-        Head::Report { from, number, .. } => take_report(alloc, store, view, from, number),
+        Head::Report { from, number, .. } => take_report(store, view, from, number),
     }
 }
 

@@ -1,47 +1,47 @@
 //! Counts of a finish of this place come from another one.
-ghost use Rattle.std.specs.Prelude.{◌≡◌, ◌<◌, ◌≤◌, IfErr, IfOk, OnErr, OnOk, length};
+ghost use Rattle.std.specs.Prelude.{◌≡◌, ◌<◌, ◌≤◌, IfErr, OnOk, length, take};
 ghost use Rattle.x10_frame.specs.Heads.{sent_of, received_of};
-ghost use Rattle.x10_copy.specs.declared.refusal.Refusal.TheVariants as refusal;
 ghost use Rattle.x10_place.specs.Arrivals.{Merges, IsReportRefused};
 ghost use Rattle.x10_place.specs.Receiving.{report_of};
 
 use crate::store::Store;
-use std::alloc::{AllocError, Global};
 use x10_copy::Refusal;
-use x10_frame::{FrameView, Report};
+use x10_frame::FrameView;
 
-/// How many activities a report says were sent to each place.
-fn sent(alloc: Global, view: &FrameView) -> Result<Vec<u32>, AllocError>
-    ensures { IfOk result (λ counts. counts.items ≡ sent_of view.now) }
+/// How many activities a report says were sent to each place, and after them numbers that mean nothing.
+fn sent(view: &FrameView) -> [u32; 64]
+    requires { length (sent_of view.now) ≤ 64 }
+    ensures { take (length (sent_of view.now)) result ≡ sent_of view.now }
 {
-    let mut counts = Vec::with_capacity(alloc, view.counts())?;
+    let mut counts = [0; 64];
     for place in 0..view.counts() {
-        counts.push(view.sent(place))?;
+        counts[place] = view.sent(place);
     }
-    Ok(counts)
+    counts
 }
 
-/// How many it says were received from each.
-fn received(alloc: Global, view: &FrameView) -> Result<Vec<u32>, AllocError>
-    ensures { IfOk result (λ counts. counts.items ≡ received_of view.now) }
+/// How many it says were received from each, and after them numbers that mean nothing.
+fn received(view: &FrameView) -> [u32; 64]
+    requires { length (received_of view.now) ≤ 64 }
+    ensures { take (length (received_of view.now)) result ≡ received_of view.now }
 {
-    let mut counts = Vec::with_capacity(alloc, view.counts())?;
+    let mut counts = [0; 64];
     for place in 0..view.counts() {
-        counts.push(view.received(place))?;
+        counts[place] = view.received(place);
     }
-    Ok(counts)
+    counts
 }
 
 /// The book of a finish takes in what a report says. One of a finish that was closed says nothing new. Where it is refused,
 /// nothing has changed.
 pub(crate) fn take_report(
-    alloc: Global,
     store: &mut Store,
     view: &FrameView,
     from: u16,
     number: u32,
 ) -> Result<(), Refusal>
     requires from { from < store.old.places }
+    requires few { store.old.places ≤ 64 }
     requires sent { length (sent_of view.now) ≡ store.old.places }
     requires received { length (received_of view.now) ≡ store.old.places }
     ensures ok { OnOk result ((number < store.old.opened) × Merges store.old (report_of from number (sent_of view.now) (received_of view.now)) store.new) }
@@ -53,12 +53,8 @@ pub(crate) fn take_report(
     if !store.has_book(number) {
         return Ok(());
     }
-    let report = Report {
-        place: from,
-        number,
-        sent: sent(alloc, view)?,
-        received: received(alloc, view)?,
-    };
-    store.merge(&report);
+    let count = view.counts();
+    let (sent, received) = (sent(view), received(view));
+    store.merge(from, number, &sent[..count], &received[..count]);
     Ok(())
 }

@@ -1,14 +1,14 @@
 //! What a place keeps for all its stays.
-ghost use Rattle.std.specs.Prelude.{◌≡◌, ◌≤◌, ◌<◌, ◌^◌, ◌++◌, ◌∷◌, [], ◌⊎◌, ◌↔◌, ◌+◌, None, Err, IfErr, IfOk, IsTrue, OnErr, OnOk, Some, length};
+ghost use Rattle.std.specs.Prelude.{◌≡◌, ◌≤◌, ◌<◌, ◌^◌, ◌++◌, ◌∷◌, [], ◌⊎◌, ◌↔◌, ◌+◌, true, false, None, Err, IfErr, IfOk, IfNone, IfSome, IsTrue, OnErr, OnOk, Some, length};
 ghost use Rattle.x10_heap.specs.Heaps.{IsFull};
 ghost use Rattle.x10_finish.specs.Counts.{IsLargest};
-ghost use Rattle.x10_finish.specs.Ledgers.{IsAnswer};
+ghost use Rattle.x10_finish.specs.Ledgers.{gives_report, AreDue};
 ghost use Rattle.x10_kinds.specs.declared.stop.Stop.TheVariants as stop;
 ghost use Rattle.x10_model.specs.Maps.{with_entry};
 ghost use Rattle.x10_model.specs.Totals.{zeros, nothing, begins_one, ends_one, sends_to};
 ghost use Rattle.x10_place.specs.Opening.{IsNewStore};
 ghost use Rattle.x10_place.specs.Stays.{finish_as, finish_at, totals_in, books_in, changed_at, Recounts, HasBook, IsDoneHere};
-ghost use Rattle.x10_finish.specs.Ledgers.{report_of};
+ghost use Rattle.x10_place.specs.Receiving.{report_of};
 ghost use Rattle.x10_place.specs.Arrivals.{Merges, IsOpenHere, Comes, IsKeptOut};
 
 use crate::line::Line;
@@ -19,7 +19,6 @@ use std::collections::BTreeMap;
 use std::marker::Model;
 use x10_copy::Marks;
 use x10_finish::{Book, Finish, Tally};
-use x10_frame::Report;
 use x10_heap::Heap;
 use x10_kinds::Stop;
 
@@ -158,15 +157,16 @@ impl Store {
         self.tally.came(finish, from)
     }
 
-    /// The book of a finish that is open here takes in a report. Takes no memory.
-    pub(crate) fn merge(&mut self, report: &Report)
-        requires place { report.now.place < self.old.places }
-        requires sent { length report.now.sent.items ≡ self.old.places }
-        requires received { length report.now.received.items ≡ self.old.places }
-        ensures { Merges self.old (report_of report.now) self.new }
+    /// The book of a finish that is open here takes in what a place reports: how many it sent to each place, and received
+    /// from each. Takes no memory.
+    pub(crate) fn merge(&mut self, from: u16, number: u32, sent: &[u32], received: &[u32])
+        requires place { from < self.old.places }
+        requires sent { length sent.now ≡ self.old.places }
+        requires received { length received.now ≡ self.old.places }
+        ensures { Merges self.old (report_of from number sent.now received.now) self.new }
     {
-        if let Some(book) = self.books.get_mut(&report.number) {
-            book.merge(report);
+        if let Some(book) = self.books.get_mut(&number) {
+            book.merge_counts(from, sent, received);
         }
     }
 }
@@ -261,15 +261,16 @@ impl Store {
         self.tally.spawned(finish, to)
     }
 
-    /// What goes to the home of a finish when one more activity under it ends here.
-    pub(crate) fn leaving(&self, finish: Finish) -> Result<Option<Report>, Stop>
+    /// What the home of a finish is told when one more activity under it ends here, if it is told something then: how many
+    /// were sent to each place, and received from each.
+    pub(crate) fn due(&self, finish: Finish) -> Option<(&[u32], &[u32])>
         requires { 0 < (totals_in self.now (finish_as finish)).live }
-        ensures ok { IfOk result (IsAnswer self.now.ledger (finish_as finish)) }
+        ensures none { IfNone result (gives_report self.now.ledger (finish_as finish) ≡ false) }
+        ensures some { IfSome result (λ x. (gives_report self.now.ledger (finish_as finish) ≡ true) × AreDue self.now.ledger (finish_as finish) x.0.now x.1.now) }
         ensures here { self.now.ledger.place ≡ self.now.here }
         ensures places { self.now.ledger.places ≡ self.now.places }
-        ensures err { IfErr result (λ why. why ≡ stop.Memory) }
     {
-        self.tally.leaving(finish)
+        self.tally.due(finish)
     }
 
     /// An activity under a finish ends here. Takes no memory.

@@ -50,6 +50,15 @@ enum Turn {
     Steps(usize),
 }
 
+/// What comes next.
+#[derive(Clone, Copy)]
+enum Work {
+    /// Steps of the one activity that there is, at a place and with a key.
+    Stretch(u16, usize),
+    /// One event.
+    Event(Event),
+}
+
 /// The order of a program's events. In a round each place, by rising number, takes in the frames that are in flight to it
 /// when its turn comes, by rising number, and then makes a step of each of its activities that are there, by rising key;
 /// what these begin waits for the next round. It is told nothing of the events: it looks at the world before each one, so
@@ -67,10 +76,6 @@ pub struct Rounds {
     /// The place whose turn it is.
     place: u16,
     turn: Turn,
-    /// How many activities made a step in this round.
-    met: usize,
-    /// Whether at most one made a step in the round before.
-    quiet: bool,
 }
 
 impl Rounds {
@@ -90,8 +95,6 @@ impl Rounds {
             next_key: None,
             place: 0,
             turn: Turn::TakesIn(0),
-            met: 0,
-            quiet: true,
         })
     }
 
@@ -201,7 +204,6 @@ impl Rounds {
         if keys.known.is_empty() {
             self.busy &= !bit(self.place);
         }
-        self.met = self.met.saturating_add(keys.known.len());
         Ok(())
     }
 
@@ -215,14 +217,10 @@ impl Rounds {
 
     /// Ends a turn. The next one is that of the first busy place from a number on, or else of the first one in a new round.
     fn pass(&mut self, from: u16) {
-        match first_from(self.busy, from) {
-            Some(place) => self.place = place,
-            None => {
-                self.place = first_from(self.busy, 0).unwrap_or(0);
-                self.quiet = self.met < 2;
-                self.met = 0;
-            }
-        }
+        self.place = match first_from(self.busy, from) {
+            Some(place) => place,
+            None => first_from(self.busy, 0).unwrap_or(0),
+        };
         self.turn = Turn::TakesIn(self.taken());
     }
 
@@ -234,13 +232,13 @@ impl Rounds {
         }
     }
 
-    /// The one activity that there is, by its place and key, where a round begins; none where there are others, or where a
-    /// frame is in flight. It is looked for only where the round before met no second one.
+    /// The one activity that there is, by its place and key, where the place's turn has nothing to take in; none where there
+    /// are others, or where a frame is in flight.
     fn lone(&self, world: &World) -> Option<(u16, usize)> {
-        let Turn::TakesIn(from) = self.turn else {
+        let Turn::TakesIn(_) = self.turn else {
             return None;
         };
-        if !self.quiet || self.met > 0 || self.busy.count_ones() > 1 || from != self.taken() {
+        if self.busy.count_ones() > 1 {
             return None;
         }
         let keys = self.lists.get(usize::from(self.place))?;
@@ -263,10 +261,35 @@ impl Rounds {
             }
             self.pass(self.place.saturating_add(1));
         }
-        if let Some((place, key)) = self.lone(world) {
-            return self.stretch(world, place, key, left);
+        self.go_on(world, left)
+    }
+
+    /// What comes next where a turn begins or goes on: how many events.
+    fn go_on(&mut self, world: &mut World, left: u64) -> Result<u64, Halt>
+        ensures runs { RunsTo world.old world.new }
+    {
+        let Some(work) = self.find(world)? else {
+            return Err(Halt::Limit);
+        };
+        match work {
+            Work::Stretch(place, key) => self.stretch(world, place, key, left),
+            Work::Event(event) => make(world, event),
         }
-        self.event(world)
+    }
+
+    /// What comes next where a turn begins or goes on; nothing where nothing is in flight and no activity is there.
+    fn find(&mut self, world: &World) -> Result<Option<Work>, AllocError> {
+        for _ in 0..=MOST_PLACES {
+            if let Some((place, key)) = self.lone(world) {
+                return Ok(Some(Work::Stretch(place, key)));
+            }
+            if let Some(event) = self.next_here(world)? {
+                self.watch(world, self.place);
+                return Ok(Some(Work::Event(event)));
+            }
+            self.pass(self.place.saturating_add(1));
+        }
+        Ok(None)
     }
 
     /// How many activities make a step in the turn.
@@ -318,9 +341,17 @@ impl Rounds {
         let Some(event) = self.next(world)? else {
             return Err(Halt::Limit);
         };
-        world.run(&[event])?;
-        Ok(1)
+        make(world, event)
     }
+}
+
+/// Makes one event: how many were made.
+#[inline(always)]
+fn make(world: &mut World, event: Event) -> Result<u64, Halt>
+    ensures runs { RunsTo world.old world.new }
+{
+    world.run(&[event])?;
+    Ok(1)
 }
 
 /// Runs a world in rounds until the run has ended, with so many events at most, idle ones among them: those of `Rounds`, one

@@ -4,7 +4,7 @@ use Rattle.x10_finish.proofs.pairs.merge.Given as goal
 
 abbrev pub invariant-loop-q : goal.invariant-loop-q
 invariant-loop-q l = record {
-  whole : length l.pairs.items ≡ l.places * l.places;
-  unequal : l.unequal ≡ unequal_in l.home l.places l.pairs.items;
-  pairs : (a b : ℕ) → pair_at l.places l.pairs.items a b ≡ merged_to l.report.place l.report.sent.items l.report.received.items l.q (pair_at l.places l.initial.pairs.items) a b;
+  whole : length l.pairs.items ≡ length l.sent * length l.sent;
+  unequal : l.unequal ≡ unequal_in l.home (length l.sent) l.pairs.items;
+  pairs : (a b : ℕ) → pair_at (length l.sent) l.pairs.items a b ≡ merged_to l.place l.sent l.received l.q (pair_at (length l.sent) l.initial.pairs.items) a b;
 }

@@ -1,11 +1,11 @@
 use Rattle.std.proofs.Common.{IsSome, is_some, refl, sym, ◌∙◌, ap, subst}
 use Rattle.std.proofs.lemmas.Map.Steps.{set_value_same}
-use Rattle.std.specs.BTreeMap.{BTreeMap, is_at}
+use Rattle.std.specs.HashMap.{HashMap}
 use Rattle.std.specs.Map.{set_value}
 use Rattle.x10_finish.specs.declared.finish.Finish.{Finish}
 use Rattle.x10_finish.specs.declared.count.Count.{Count}
 use Rattle.x10_finish.specs.Counts.{Fits, IsFull, changed, IsWhole}
-use Rattle.x10_finish.specs.Ledgers.{Ledger, finish_cmp, count_of, counted_or_nothing, totals_of, is_met, named, Counts, Refuses}
+use Rattle.x10_finish.specs.Ledgers.{Ledger, finish_eq, count_of, counted_or_nothing, totals_of, is_met, named, Counts, Refuses}
 use Rattle.x10_finish.specs.contracts.tally.Tally.{the_view}
 use Rattle.x10_finish.proofs.Ledgers.{Counts-by, AreWhole-by, not_full, on_ok, if_err, if_both, Refuses-full, Refuses-memory}
 use Rattle.x10_finish.proofs.tally.Tally.count.Goals as goal
@@ -39,8 +39,8 @@ pub returns-in-Some-clause-err : goal.returns-in-Some-clause-err
 returns-in-Some-clause-err c =
     if_err c.apply.result c.apply.ensures.err (λ why e. (
       ap (λ es. let l : Ledger = record { place = c.self.inside.place; places = c.self.inside.places; counts = es } in l)
-          ((c.get_mut.follows.holds c.apply.new.count).0 ∙ ap (set_value (is_at (finish_cmp c.args.finish)) c.self.inside.counts.entries) e.2
-          ∙ set_value_same (is_at (finish_cmp c.args.finish)) c.self.inside.counts.entries c.in-Some.count.now (sym c.in-Some.ensures.value))
+          ((c.get_mut.follows.holds c.apply.new.count).0 ∙ ap (set_value (finish_eq c.args.finish) c.self.inside.counts.entries) e.2
+          ∙ set_value_same (finish_eq c.args.finish) c.self.inside.counts.entries c.in-Some.count.now (sym c.in-Some.ensures.value))
           ∙ c.self.view_is,
       subst (λ l. Refuses (is_met l (named c.args.finish)) (IsFull c.args.change (totals_of l (named c.args.finish))) why) c.self.view_is
           (Refuses-full _ (IsFull c.args.change (counted_or_nothing (count_of c.self.inside.counts.entries c.args.finish))) why e.0
@@ -52,7 +52,7 @@ returns-in_err-apply-clause-err c = absurd (not_full c.args.change _ c.in-Ok.ens
 
 pub returns-clause-err : goal.returns-clause-err
 returns-clause-err c =
-    let same = ap (λ (m : BTreeMap Finish Count). m.entries) c.get_mut.follows.holds-at-none in
+    let same = ap (λ (m : HashMap Finish Count _). m.entries) c.get_mut.follows.holds-at-none in
     if_both c.put.result c.put.ensures.err c.put.ensures.absent (λ why e a. (
       ap (λ es. let l : Ledger = record { place = c.self.inside.place; places = c.self.inside.places; counts = es } in l) (e.1 ∙ same) ∙ c.self.view_is,
       subst (λ l. Refuses (is_met l (named c.args.finish)) (IsFull c.args.change (totals_of l (named c.args.finish))) why) c.self.view_is
