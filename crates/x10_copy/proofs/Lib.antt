@@ -17,3 +17,4 @@ pub mod OfKinds
 pub mod Taking
 pub mod Receiving
 pub mod Lawful
+pub mod Finding

@@ -13,7 +13,7 @@ pairs_step f (a ∷ xs) (b ∷ ys) zero x y e g =
     rw (ea, eb) refl
 pairs_step f (a ∷ xs) (b ∷ ys) (suc i) x y e g = pairs_step f xs ys i x y e g
 
-each_step : {X : Type 0} (f : X → Bool) (xs : List X) (i : ℕ) (x : X) → slice_get xs i ≡ Some x
+pub each_step : {X : Type 0} (f : X → Bool) (xs : List X) (i : ℕ) (x : X) → slice_get xs i ≡ Some x
     → each_passes f (drop i xs) ≡ (f x && each_passes f (drop (suc i) xs))
 each_step f [] i x e = absurd cc
 each_step f (a ∷ xs) zero x e =

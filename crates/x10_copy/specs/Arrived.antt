@@ -1,5 +1,5 @@
 -- What arrives in a heap, and why a frame is refused.
-use Rattle.std.specs.Prelude.{◌≡◌, ℕ, ◌+◌, ◌*◌, ◌≤◌, ◌^◌, ◌⊎◌, IsTrue, List, ◌++◌, map, length}
+use Rattle.std.specs.Prelude.{◌≡◌, ◌↔◌, ℕ, ◌+◌, ◌*◌, ◌≤◌, ◌^◌, ◌⊎◌, Bool, IsTrue, Option, Some, None, List, ◌++◌, map, length}
 use Rattle.std.specs.Int.{w64, cast_unsigned}
 use Rattle.x10_kinds.specs.declared.stop.Stop.{Stop}
 use Rattle.x10_kinds.specs.declared.stop.Stop.TheVariants as stop
@@ -85,6 +85,12 @@ pub record FitsArrival (m : Module) (here home : ℕ) (h : HeapState) (slots : L
   pub kinds : FitKinds m slots s
   pub homes : HaveHomes home s.roots slots
   pub exports : NamesExports here (map export_as h.exports) s
+
+-- what is found of a graph's values: nothing where they aren't of their kinds, else whether global references with their
+-- home here name exports of their class
+abbrev pub IsFound : Module → (here : ℕ) → HeapState → List Slot → Graph → Option Bool → Type 0
+IsFound m here h slots g None = FitKinds m slots (snapshot_of g) → ⊥
+IsFound m here h slots g (Some exported) = FitKinds m slots (snapshot_of g) × (IsTrue exported ↔ NamesExports here (map export_as h.exports) (snapshot_of g))
 
 -- there would be more than 2^32 - 1 objects, texts or rails
 abbrev pub Passes : HeapState → Graph → ℕ → Type 0

@@ -71,3 +71,8 @@ are_exported here exports items = each_passes (is_exported here exports) items
 
 abbrev pub nodes_exported : ℕ → List Export → List Node → Bool
 nodes_exported here exports nodes = each_passes (λ n. are_exported here exports n.fields) nodes
+
+-- what two tests of the same values find: nothing where the first one fails
+abbrev pub found : Bool → Bool → Option Bool
+found false exported = None
+found true exported = Some exported

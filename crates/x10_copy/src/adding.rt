@@ -68,8 +68,9 @@ fn put_words(words: &mut [u64], node: &NodeView, bases: &Bases)
     requires { length words.old ≡ length node.now.fields }
     ensures { words.new ≡ map (word_at bases.now.texts bases.now.rails bases.now.objects) node.now.fields }
 {
+    let mut values = node.values();
     for j in 0..node.fields() {
-        words[j] = bases.word(&node.field(j));
+        words[j] = bases.word(&values.step());
     }
 }
 

@@ -1,17 +1,15 @@
 //! What a frame brings, put into a heap.
 
-ghost use Rattle.std.specs.Prelude.{◌≡◌, ◌↔◌, ℕ, IfOk, IfErr, IsTrue, List, length, map};
+ghost use Rattle.std.specs.Prelude.{◌≡◌, ℕ, IfOk, IfErr, IfSome, List, length};
 ghost use Rattle.x10_frame.specs.Heads.{graph_of};
 ghost use Rattle.x10_model.specs.Marshalling.{snapshot_of};
-ghost use Rattle.x10_model.specs.Deliveries.{NamesExports};
-ghost use Rattle.x10_heap.specs.Words.{export_as};
 ghost use Rattle.x10_model.specs.Modules.{Module};
 ghost use Rattle.x10_model.specs.declared.slot.Slot.{Slot};
-ghost use Rattle.x10_copy.specs.Arrived.{arrived, FitKinds, FitsArrival, IsRefusal, IsMisfit, IsBrought, IsArrived, IsForRoom, IsLonger, StopsAll, same_stop};
+ghost use Rattle.x10_copy.specs.Arrived.{arrived, FitsArrival, IsRefusal, IsMisfit, IsFound, IsBrought, IsArrived, IsForRoom, IsLonger, StopsAll, same_stop};
 ghost use Rattle.x10_copy.specs.Taken.{IsTakenIn};
 
 use crate::adding::{Bases, Roots, add_objects, add_rails, add_texts, root_words};
-use crate::fitting::{have_homes, nodes_exported, nodes_fit, roots_exported, roots_fit};
+use crate::fitting::{have_homes, nodes_found, roots_exported, roots_fit};
 use crate::refusal::Refusal;
 use std::alloc::Global;
 use x10_frame::FrameView;
@@ -20,23 +18,27 @@ use x10_image::ImageView;
 use x10_kinds::Stop;
 use x10_model::Slot;
 
-fn kinds_fit(view: &FrameView, image: &ImageView, slots: &[Slot]) -> bool
-    ensures told { IsTrue result ↔ FitKinds image.now slots.now (snapshot_of (graph_of view.now)) }
-    ensures long { IsTrue result → length (graph_of view.now).roots ≡ length slots.now }
+/// Whether all global references with their home here name exports of their classes, where all values are of their kinds.
+fn values_found(
+    view: &FrameView,
+    heap: &Heap,
+    image: &ImageView,
+    here: u16,
+    slots: &[Slot],
+) -> Option<bool>
+    ensures found { IsFound image.now here heap.now slots.now (graph_of view.now) result }
+    ensures long { IfSome result (λ _. length (graph_of view.now).roots ≡ length slots.now) }
 {
     if !roots_fit(view, slots) {
-        return false;
+        return None;
     }
-    nodes_fit(view, image)
-}
-
-fn exports_fit(view: &FrameView, heap: &Heap, here: u16) -> bool
-    ensures { IsTrue result ↔ NamesExports here (map export_as heap.now.exports) (snapshot_of (graph_of view.now)) }
-{
-    if !roots_exported(view, heap, here) {
-        return false;
+    let Some(exported) = nodes_found(view, heap, image, here) else {
+        return None;
+    };
+    if !exported {
+        return Some(false);
     }
-    nodes_exported(view, heap, here)
+    Some(roots_exported(view, heap, here))
 }
 
 /// What is asked of a frame's values before they arrive at the place `here`: `Kind` where they aren't of the kinds of
@@ -54,13 +56,13 @@ pub fn check(
     ensures ok { IfOk result (λ _. FitsArrival image.now here home heap.now slots.now (snapshot_of (graph_of view.now))) }
     ensures err { IfErr result (λ why. IsMisfit image.now here home heap.now slots.now (graph_of view.now) why) }
 {
-    if !kinds_fit(view, image, slots) {
+    let Some(exported) = values_found(view, heap, image, here, slots) else {
         return Err(Refusal::Kind);
-    }
+    };
     if !have_homes(view, slots, home) {
         return Err(Refusal::Home);
     }
-    if !exports_fit(view, heap, here) {
+    if !exported {
         return Err(Refusal::Ref);
     }
     Ok(())

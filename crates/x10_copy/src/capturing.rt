@@ -23,9 +23,6 @@ use x10_model::Slot;
 /// The most bytes before the roots, in a frame with a graph.
 const HEAD: usize = 26;
 
-/// What stands before each object's fields.
-const NODE: usize = 3;
-
 /// What stands before each text's or rail's bytes.
 const LENGTH: usize = 4;
 
@@ -53,13 +50,13 @@ fn rails_size(marks: &Marks, heap: &Heap) -> usize
     size
 }
 
-/// How many bytes the frame has, or a few more where its head is a short one.
-fn room(marks: &Marks, heap: &Heap) -> usize
+/// How many bytes the frame has that passes so many words, or a few more where its head is a short one.
+fn room(marks: &Marks, heap: &Heap, words: usize) -> usize
     requires { AreThere heap.now marks.now }
 {
-    let nodes = NODE * marks.objects();
     let blobs = texts_size(marks, heap).wrapping_add(rails_size(marks, heap));
-    marks.size().wrapping_add(HEAD + nodes).wrapping_add(blobs)
+    let front = HEAD.wrapping_add(words);
+    front.wrapping_add(marks.size()).wrapping_add(blobs)
 }
 
 fn written(
@@ -89,7 +86,7 @@ fn written(
         rails: marks.rails() as u16,
         nodes: marks.objects() as u16,
     };
-    let writer = FrameWriter::with_room(alloc, head, &sizes, room(marks, heap))?;
+    let writer = FrameWriter::with_room(alloc, head, &sizes, room(marks, heap, words.len()))?;
     let writer = put_roots(writer, marks, slots, words)?;
     let writer = put_texts(writer, marks, heap)?;
     let writer = put_rails(writer, marks, heap)?;

@@ -56,46 +56,6 @@ pub fn roots_fit(view: &FrameView, slots: &[Slot]) -> bool
     true
 }
 
-/// Whether an object's fields are of these kinds, one for each.
-#[inline(always)]
-fn fields_fit(view: &FrameView, class: &ClassView, node: &NodeView) -> bool
-    ensures { result ≡ spec.all_fit (graph_of view.now) class.now node.now.fields }
-{
-    if node.fields() != class.len() {
-        return false;
-    }
-    for j in 0..class.len() {
-        if !item_fits(view, class.field(j), &node.field(j)) {
-            return false;
-        }
-    }
-    true
-}
-
-/// Whether an object has the fields of its class.
-#[inline(always)]
-fn node_fits(view: &FrameView, image: &ImageView, node: &NodeView) -> bool
-    ensures { result ≡ spec.class_fits (graph_of view.now) (slice_get image.now.classes node.now.class) node.now.fields }
-{
-    let class = usize::from(node.class());
-    if class >= image.classes() {
-        return false;
-    }
-    fields_fit(view, &image.class(class), node)
-}
-
-/// Whether each object has the fields of its class.
-pub fn nodes_fit(view: &FrameView, image: &ImageView) -> bool
-    ensures { result ≡ spec.nodes_fit image.now.classes (graph_of view.now) (graph_of view.now).nodes }
-{
-    for k in 0..view.nodes() {
-        if !node_fits(view, image, &view.node(k)) {
-            return false;
-        }
-    }
-    true
-}
-
 /// Whether a value is a global reference with this home.
 fn has_home(item: &Item, at: u16) -> bool
     ensures { result ≡ spec.has_home at (item_of item.now) }
@@ -160,27 +120,61 @@ pub fn roots_exported(view: &FrameView, heap: &Heap, here: u16) -> bool
     true
 }
 
-/// The same of an object's fields.
+/// Whether all references among an object's fields may be named, where the fields are of these kinds, one for each.
 #[inline(always)]
-fn fields_exported(node: &NodeView, heap: &Heap, here: u16) -> bool
-    ensures { result ≡ spec.are_exported here heap.now.exports node.now.fields }
+fn fields_found(
+    view: &FrameView,
+    heap: &Heap,
+    here: u16,
+    class: &ClassView,
+    node: &NodeView,
+) -> Option<bool>
+    ensures { result ≡ spec.found (spec.all_fit (graph_of view.now) class.now node.now.fields) (spec.are_exported here heap.now.exports node.now.fields) }
 {
-    for j in 0..node.fields() {
-        if !is_exported(heap, here, &node.field(j)) {
-            return false;
-        }
+    if node.fields() != class.len() {
+        return None;
     }
-    true
+    let mut values = node.values();
+    let mut exported = true;
+    for j in 0..class.len() {
+        let item = values.step();
+        if !item_fits(view, class.field(j), &item) {
+            return None;
+        }
+        exported &= is_exported(heap, here, &item);
+    }
+    Some(exported)
 }
 
-/// The same of all objects' fields.
-pub fn nodes_exported(view: &FrameView, heap: &Heap, here: u16) -> bool
-    ensures { result ≡ spec.nodes_exported here heap.now.exports (graph_of view.now).nodes }
+/// The same where the object has the fields of its class.
+#[inline(always)]
+fn node_found(
+    view: &FrameView,
+    heap: &Heap,
+    image: &ImageView,
+    here: u16,
+    node: &NodeView,
+) -> Option<bool>
+    ensures { result ≡ spec.found (spec.class_fits (graph_of view.now) (slice_get image.now.classes node.now.class) node.now.fields) (spec.are_exported here heap.now.exports node.now.fields) }
 {
-    for k in 0..view.nodes() {
-        if !fields_exported(&view.node(k), heap, here) {
-            return false;
-        }
+    let class = usize::from(node.class());
+    if class >= image.classes() {
+        return None;
     }
-    true
+    fields_found(view, heap, here, &image.class(class), node)
+}
+
+/// Whether all references among the fields of the frame's objects may be named, where each object has the fields of its
+/// class. One pass.
+pub fn nodes_found(view: &FrameView, heap: &Heap, image: &ImageView, here: u16) -> Option<bool>
+    ensures { result ≡ spec.found (spec.nodes_fit image.now.classes (graph_of view.now) (graph_of view.now).nodes) (spec.nodes_exported here heap.now.exports (graph_of view.now).nodes) }
+{
+    let mut exported = true;
+    for k in 0..view.nodes() {
+        let Some(named) = node_found(view, heap, image, here, &view.node(k)) else {
+            return None;
+        };
+        exported &= named;
+    }
+    Some(exported)
 }

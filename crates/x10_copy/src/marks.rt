@@ -23,7 +23,8 @@ pub struct Marks {
     texts: Numbers,
     rails: Numbers,
     objects: Numbers,
-    /// How many bytes the words met so far take in the message. No clause speaks of it: it is for room alone.
+    /// How many bytes what was met so far takes in the message, but for the tags of the words that are passed, for texts
+    /// and for rails. No clause speaks of it: it is for room alone.
     size: usize,
 }
 
@@ -35,13 +36,13 @@ impl Model for Marks {
     ghost view = { λ m. record { texts = m.texts; rails = m.rails; objects = m.objects } };
 }
 
-/// How many bytes a word takes in a message.
+/// How many bytes a word takes in a message behind its tag.
 #[inline(always)]
-fn item_size(kind: Kind, word: u64) -> usize {
+fn untagged_size(kind: Kind, word: u64) -> usize {
     match kind {
-        Kind::Int | Kind::GRef(_) => 9,
-        Kind::Opt(_) if word == 0 => 1,
-        _ => 3,
+        Kind::Int | Kind::GRef(_) => 8,
+        Kind::Opt(_) if word == 0 => 0,
+        _ => 2,
     }
 }
 
@@ -68,9 +69,18 @@ impl Marks {
         self.size = 0;
     }
 
-    /// How many bytes the words that were met take in the message.
+    /// How many bytes what was met takes in the message, but for the tags of the words that are passed, for texts and for
+    /// rails.
     pub(crate) fn size(&self) -> usize {
         self.size
+    }
+
+    /// So many bytes more are taken.
+    #[inline(always)]
+    pub(crate) fn take_room(&mut self, bytes: usize)
+        ensures { self.new ≡ self.old }
+    {
+        self.size = self.size.wrapping_add(bytes);
     }
 
     pub(crate) fn texts(&self) -> usize
@@ -124,7 +134,7 @@ impl Marks {
         ensures ok { IfOk result (λ _. self.new ≡ noted self.old kind word) }
         ensures err { IfErr result (λ why. IsOver (noted self.old kind word) why) }
     {
-        self.size = self.size.wrapping_add(item_size(kind, word));
+        self.size = self.size.wrapping_add(untagged_size(kind, word));
         match kind {
             Kind::Int | Kind::Place | Kind::GRef(_) => Ok(()),
             Kind::Text => self.texts.note(word as u32, TEXTS),

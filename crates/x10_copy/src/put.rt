@@ -1,6 +1,6 @@
 //! Writing what a message takes along.
 
-ghost use Rattle.std.specs.Prelude.{◌≡◌, ◌≤◌, ◌++◌, IfOk, length, map};
+ghost use Rattle.std.specs.Prelude.{◌≡◌, ℕ, ◌<◌, ◌≤◌, ◌++◌, IfOk, length, map, slice_index};
 ghost use Rattle.std.specs.List.{AllByRecursion, flat_map};
 ghost use Rattle.x10_model.specs.Modules.{FitsText};
 ghost use Rattle.x10_model.specs.Frames.{FitsRail, item_bytes, blob_bytes, node_bytes};
@@ -9,6 +9,7 @@ ghost use Rattle.x10_copy.specs.Graphs.{AreThere, kinds_at, object_at, text_at, 
 ghost use Rattle.x10_copy.specs.Captured.{kinds_of};
 ghost use Rattle.x10_copy.specs.Walks.{AllFound};
 
+use crate::mark::{TOGETHER, size_of};
 use crate::marks::Marks;
 use std::alloc::AllocError;
 use x10_frame::FrameWriter;
@@ -100,6 +101,26 @@ fn put_object(
     put_fields(writer, marks, &class, words)
 }
 
+/// Looks at the object whose turn it is, and at those after it that belong together with it, where it is the first of them,
+/// and asks for their room.
+#[inline(always)]
+fn look_ahead(
+    writer: FrameWriter,
+    marks: &Marks,
+    heap: &Heap,
+    turn: usize,
+) -> Result<FrameWriter, AllocError>
+    requires there { (k : ℕ) → k < length marks.now.objects → slice_index marks.now.objects k < length heap.now.objects }
+    requires turn { turn < length marks.now.objects }
+    ensures { IfOk result (λ w. w ≡ writer) }
+{
+    if !turn.is_multiple_of(TOGETHER) {
+        return Ok(writer);
+    }
+    let near = marks.objects().min(turn + TOGETHER);
+    writer.reserve(size_of(marks, heap, turn, near))
+}
+
 /// The objects.
 pub fn put_objects(
     writer: FrameWriter,
@@ -113,6 +134,7 @@ pub fn put_objects(
 {
     let mut writer = writer;
     for k in 0..marks.objects() {
+        writer = look_ahead(writer, marks, heap, k)?;
         writer = put_object(writer, marks, heap, image, marks.object(k))?;
     }
     Ok(writer)

@@ -25,7 +25,7 @@ pub note_object-requires : goal.note_object-requires
 note_object-requires c =
     let lt : c.loop-k.k < length c.loop-k.marks.objects = omega (arith, c.loop-k-test.true, c.objects.ensures.value) in
     let there = (c.loop-k.invariant.walked.there.objects c.loop-k.k lt).below in
-    rw c.object-object.ensures (wordy c.args.image.now.classes c.args.places c.args.heap.now (get_or c.loop-k.marks.objects c.loop-k.k 0) (omega arith) there
+    rw (c.object-object.ensures, c.look_ahead-seen.ensures) (wordy c.args.image.now.classes c.args.places c.args.heap.now (get_or c.loop-k.marks.objects c.loop-k.k 0) (omega arith) there
     (c.requires.heap (get_or c.loop-k.marks.objects c.loop-k.k 0) there))
 
 pub returns-in_err-note_object-clause-err : goal.returns-in_err-note_object-clause-err
@@ -35,18 +35,18 @@ returns-in_err-note_object-clause-err c =
     let p = err_from_is_err_and c.from_residual-in_err-note_object.result c.from_residual-in_err-note_object.ensures.1 in
     rw (p.1, p.2) (next_over c.args.image.now.classes c.args.heap.now (kinds_of c.args.slots.now) c.args.words.now c.args.places c.loop-k.k c.loop-k.marks
     c.in_err-note_object.field-0.0 c.loop-k.invariant.walked lt
-    (c.requires.heap (get_or c.loop-k.marks.objects c.loop-k.k 0) there) (rw c.object-object.ensures at c.in_err-note_object.ensures.err))
+    (c.requires.heap (get_or c.loop-k.marks.objects c.loop-k.k 0) there) (rw (c.object-object.ensures, c.look_ahead-seen.ensures) at c.in_err-note_object.ensures.err))
 
 pub loop-k-preserved : goal.loop-k-preserved
 loop-k-preserved c =
     let lt : c.loop-k.k < length c.loop-k.marks.objects = omega (arith, c.loop-k-test.true, c.objects.ensures.value) in
     let there = (c.loop-k.invariant.walked.there.objects c.loop-k.k lt).below in
     record {
-      within = rw (c.in_ok-note_object.ensures.ok, c.object-object.ensures) (next_long c.args.image.now.classes c.args.heap.now c.loop-k.k c.loop-k.marks lt);
-      walked = rw (c.in_ok-note_object.ensures.ok, c.object-object.ensures)
+      within = rw (c.in_ok-note_object.ensures.ok, c.object-object.ensures, c.look_ahead-seen.ensures) (next_long c.args.image.now.classes c.args.heap.now c.loop-k.k c.loop-k.marks lt);
+      walked = rw (c.in_ok-note_object.ensures.ok, c.object-object.ensures, c.look_ahead-seen.ensures)
           (next c.args.image.now.classes c.args.heap.now (kinds_of c.args.slots.now) c.args.words.now c.args.places c.loop-k.k c.loop-k.marks
           c.loop-k.invariant.walked lt
-          (c.requires.heap (get_or c.loop-k.marks.objects c.loop-k.k 0) there) (rw c.object-object.ensures at c.note_object.ensures.small));
+          (c.requires.heap (get_or c.loop-k.marks.objects c.loop-k.k 0) there) (rw (c.object-object.ensures, c.look_ahead-seen.ensures) at c.note_object.ensures.small));
     }
 
 pub returns-clause-ok : goal.returns-clause-ok
