@@ -3,6 +3,7 @@
 ; $ x10p asm --explain byte_order_mark.asm byte_order_mark.x10
 ; status 1: asm: line 1 Word
 ; > Word, line 1: ﻿; A byte order mark before the first line.
+; >               ^^
 ; > Its first word begins no line.
 ; > Expected: places, class, int, text, func, end, entry, an instruction's name in capitals, a label that ends in a colon, or a semicolon for a comment.
 ; > Hint: the text begins with a byte order mark; write it without.

@@ -1,8 +1,9 @@
 ; A comment behind an instruction.
 ;
 ; $ x10p asm --explain comment_behind.asm comment_behind.x10
-; status 1: asm: line 12 Count
-; > Count, line 12: INTK 0 0 ; seven
+; status 1: asm: line 13 Count
+; > Count, line 13: INTK 0 0 ; seven
+; >                          ^
 ; > It has too few or too many words.
 ; > Expected: INTK REGISTER INT; decimal numbers up to 255, INT up to 4294967295.
 ; > Hint: a comment needs a line of its own.

@@ -1,8 +1,9 @@
 ; A text without its second quote.
 ;
 ; $ x10p asm --explain text_not_closed.asm text_not_closed.x10
-; status 1: asm: line 9 Text
-; > Text, line 9: text "seven
+; status 1: asm: line 10 Text
+; > Text, line 10: text "seven
+; >                     ^
 ; > A text is in quotes; a backslash stands before a quote, a backslash or an n alone; it has at most 65,535 bytes.
 ; > Expected: text "..".
 places 1

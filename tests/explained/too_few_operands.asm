@@ -1,8 +1,9 @@
 ; An operand is missing.
 ;
 ; $ x10p asm --explain too_few_operands.asm too_few_operands.x10
-; status 1: asm: line 11 Count
-; > Count, line 11: INTK 0
+; status 1: asm: line 12 Count
+; > Count, line 12: INTK 0
+; >                        ^
 ; > It has too few or too many words.
 ; > Expected: INTK REGISTER INT; decimal numbers up to 255, INT up to 4294967295.
 places 1

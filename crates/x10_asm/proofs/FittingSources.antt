@@ -19,24 +19,24 @@ use Rattle.x10_asm.specs.declared.statement.Statement.TheVariants as statement
 use Rattle.x10_asm.specs.Lines.{lines, words, after_word}
 use Rattle.x10_asm.specs.Labels.{Label}
 use Rattle.x10_asm.specs.LabelLines.{labels_from}
-use Rattle.x10_asm.specs.Statements.{said, first_word, other_words}
+use Rattle.x10_asm.specs.Statements.{statement_in, first_word, other_words}
 use Rattle.x10_asm.specs.Reading.{is_start, is_inside, is_finished, places_of, class_of, int_line_of, text_of, func_of, end_of, entry_of, label_at, Source, no_function, after_statement, after_line, ended, go_on, read_from, is_class, classes_in, nothing_read, module_of}
 use Rattle.x10_asm.specs.LawsOfTexts.{SpelledFits}
 use Rattle.x10_asm.proofs.InRanges.{same_ok, all_end, IsLow, labels_low, FitsNext, instruction_fits}
 use Rattle.x10_asm.proofs.Passing.{no_classes, class_counted, other_passed, step, stop}
 use Rattle.x10_asm.proofs.FittingLines.{IsOpen, not_true, int_begun, text_begun, func_begun, inside_begun, begun, one_more, small_places, TakesClass, class_fits, TakesInt, int_taken, TakesText, text_taken, TakesFunction, func_taken, TakesEnd, end_taken, TakesEntry, entry_taken}
 
+-- the lists that were read so far are in the ranges
+pub record FitsLists (classes : ℕ) (cs : List (List Kind)) (ints : List ℤ) (texts : List (List ℕ)) (functions : List Function) : Type 0 where
+  of_classes : (length cs < 2 ^ 16) × AllByRecursion (FitsClass classes) cs
+  of_ints : (length ints < 2 ^ 16) × AllByRecursion (FitsSigned w64) ints
+  of_texts : (length texts < 2 ^ 16) × AllByRecursion FitsText texts
+  of_functions : (length functions ≤ 256) × AllByRecursion (FitsFunction classes) functions
+
 -- what was read so far is in the ranges
 pub record IsFitting (classes : ℕ) (s : Source) : Type 0 where
   least : is_start s.stage ≡ false → (1 ≤ s.so_far.least_places) × (s.so_far.least_places ≤ 64)
-  few_classes : length s.so_far.classes < 2 ^ 16
-  fields : AllByRecursion (FitsClass classes) s.so_far.classes
-  few_ints : length s.so_far.ints < 2 ^ 16
-  ints : AllByRecursion (FitsSigned w64) s.so_far.ints
-  few_texts : length s.so_far.texts < 2 ^ 16
-  texts : AllByRecursion FitsText s.so_far.texts
-  few_functions : length s.so_far.functions ≤ 256
-  functions : AllByRecursion (FitsFunction classes) s.so_far.functions
+  lists : FitsLists classes s.so_far.classes s.so_far.ints s.so_far.texts s.so_far.functions
   inside : is_inside s.stage ≡ true → IsOpen classes s.function × (length s.so_far.functions < 256)
   labels : AllByRecursion IsLow s.labels
   entry : is_finished s.stage ≡ true → (1 ≤ length s.so_far.functions) × (is_entry (slice_get s.so_far.functions s.so_far.entry) ≡ true)
@@ -53,14 +53,7 @@ after_places : (classes : ℕ) (s : Source) (n : ℕ) → IsFitting classes s �
 after_places classes s n h fits = record {
   fitting = record {
     least = λ e. fits;
-    few_classes = h.few_classes;
-    fields = h.fields;
-    few_ints = h.few_ints;
-    ints = h.ints;
-    few_texts = h.few_texts;
-    texts = h.texts;
-    few_functions = h.few_functions;
-    functions = h.functions;
+    lists = h.lists;
     inside = λ e. not_true e;
     labels = h.labels;
     entry = λ e. not_true e;
@@ -73,14 +66,12 @@ after_class : (classes : ℕ) (s : Source) (fields : List Kind) → IsFitting cl
 after_class classes s fields h t = record {
   fitting = record {
     least = h.least;
-    few_classes = omega (arith, one_more s.so_far.classes fields, t.room);
-    fields = all_end (FitsClass classes) s.so_far.classes fields h.fields t.fits;
-    few_ints = h.few_ints;
-    ints = h.ints;
-    few_texts = h.few_texts;
-    texts = h.texts;
-    few_functions = h.few_functions;
-    functions = h.functions;
+    lists = record {
+      of_classes = (omega (arith, one_more s.so_far.classes fields, t.room), all_end (FitsClass classes) s.so_far.classes fields h.lists.of_classes.1 t.fits);
+      of_ints = h.lists.of_ints;
+      of_texts = h.lists.of_texts;
+      of_functions = h.lists.of_functions;
+    };
     inside = h.inside;
     labels = h.labels;
     entry = h.entry;
@@ -93,14 +84,12 @@ after_int : (classes : ℕ) (s : Source) (z : ℤ) → IsFitting classes s → T
 after_int classes s z h t = record {
   fitting = record {
     least = λ e. h.least (int_begun s.stage t.stage_is);
-    few_classes = h.few_classes;
-    fields = h.fields;
-    few_ints = omega (arith, one_more s.so_far.ints z, t.room);
-    ints = all_end (FitsSigned w64) s.so_far.ints z h.ints t.fits;
-    few_texts = h.few_texts;
-    texts = h.texts;
-    few_functions = h.few_functions;
-    functions = h.functions;
+    lists = record {
+      of_classes = h.lists.of_classes;
+      of_ints = (omega (arith, one_more s.so_far.ints z, t.room), all_end (FitsSigned w64) s.so_far.ints z h.lists.of_ints.1 t.fits);
+      of_texts = h.lists.of_texts;
+      of_functions = h.lists.of_functions;
+    };
     inside = λ e. not_true e;
     labels = h.labels;
     entry = λ e. not_true e;
@@ -113,14 +102,12 @@ after_text : (classes : ℕ) (s : Source) (text : List ℕ) → IsFitting classe
 after_text classes s text h t = record {
   fitting = record {
     least = λ e. h.least (text_begun s.stage t.stage_is);
-    few_classes = h.few_classes;
-    fields = h.fields;
-    few_ints = h.few_ints;
-    ints = h.ints;
-    few_texts = omega (arith, one_more s.so_far.texts text, t.room);
-    texts = all_end FitsText s.so_far.texts text h.texts t.fits;
-    few_functions = h.few_functions;
-    functions = h.functions;
+    lists = record {
+      of_classes = h.lists.of_classes;
+      of_ints = h.lists.of_ints;
+      of_texts = (omega (arith, one_more s.so_far.texts text, t.room), all_end FitsText s.so_far.texts text h.lists.of_texts.1 t.fits);
+      of_functions = h.lists.of_functions;
+    };
     inside = λ e. not_true e;
     labels = h.labels;
     entry = λ e. not_true e;
@@ -133,14 +120,7 @@ after_func : (classes : ℕ) (s : Source) (labels : List Label) (f : Function) �
 after_func classes s labels f h low t = record {
   fitting = record {
     least = λ e. h.least (func_begun s.stage t.stage_is);
-    few_classes = h.few_classes;
-    fields = h.fields;
-    few_ints = h.few_ints;
-    ints = h.ints;
-    few_texts = h.few_texts;
-    texts = h.texts;
-    few_functions = h.few_functions;
-    functions = h.functions;
+    lists = h.lists;
     inside = λ e. (t.fits, t.room);
     labels = low;
     entry = λ e. not_true e;
@@ -155,14 +135,7 @@ after_instruction classes s i h t =
     record {
       fitting = record {
         least = h.least;
-        few_classes = h.few_classes;
-        fields = h.fields;
-        few_ints = h.few_ints;
-        ints = h.ints;
-        few_texts = h.few_texts;
-        texts = h.texts;
-        few_functions = h.few_functions;
-        functions = h.functions;
+        lists = h.lists;
         inside = λ e. (
           record {
             parameters = f.parameters;
@@ -190,23 +163,24 @@ after_end classes s h t =
     record {
       fitting = record {
         least = λ e. h.least (inside_begun s.stage t.stage_is);
-        few_classes = h.few_classes;
-        fields = h.fields;
-        few_ints = h.few_ints;
-        ints = h.ints;
-        few_texts = h.few_texts;
-        texts = h.texts;
-        few_functions = omega (arith, one_more s.so_far.functions s.function, inside.1);
-        functions = all_end (FitsFunction classes) s.so_far.functions s.function h.functions (record {
-          parameters = f.parameters;
-          registers = f.registers;
-          room = f.room;
-          loops = f.loops;
-          slots = f.slots;
-          result = f.result;
-          length = (omega (arith, t.some), f.few);
-          code = f.code;
-        });
+        lists = record {
+          of_classes = h.lists.of_classes;
+          of_ints = h.lists.of_ints;
+          of_texts = h.lists.of_texts;
+          of_functions = (
+            omega (arith, one_more s.so_far.functions s.function, inside.1),
+            all_end (FitsFunction classes) s.so_far.functions s.function h.lists.of_functions.1 (record {
+              parameters = f.parameters;
+              registers = f.registers;
+              room = f.room;
+              loops = f.loops;
+              slots = f.slots;
+              result = f.result;
+              length = (omega (arith, t.some), f.few);
+              code = f.code;
+            }),
+          );
+        };
         inside = λ e. not_true e;
         labels = tt;
         entry = λ e. not_true e;
@@ -219,14 +193,7 @@ after_entry : (classes : ℕ) (s : Source) (n : ℕ) → IsFitting classes s →
 after_entry classes s n h t = record {
   fitting = record {
     least = λ e. h.least (func_begun s.stage t.stage_is);
-    few_classes = h.few_classes;
-    fields = h.fields;
-    few_ints = h.few_ints;
-    ints = h.ints;
-    few_texts = h.few_texts;
-    texts = h.texts;
-    few_functions = h.few_functions;
-    functions = h.functions;
+    lists = h.lists;
     inside = λ e. not_true e;
     labels = h.labels;
     entry = λ e. (omega (arith, t.some), t.entry);
@@ -246,7 +213,7 @@ with_ok : {A : Type 0} (make : A → Source) (r : Result A AsmCause) (q : Result
 with_ok make (Ok x) q t h k e = (x, refl, sym (k x refl) ∙ e)
 with_ok make (Err c) q t h k e = let f : q ≡ Err c = h c refl in absurd cc
 
-follows : (classes : ℕ) (s : Source) (line : ℕ) (text : List ℕ) (ws others : List (List ℕ)) (st : Statement) (t : Source) → said ws ≡ st → IsFitting classes s → after_statement classes s line text ws others st ≡ Ok t → Follows classes (count_after st s) t
+follows : (classes : ℕ) (s : Source) (line : ℕ) (text : List ℕ) (ws others : List (List ℕ)) (st : Statement) (t : Source) → statement_in ws ≡ st → IsFitting classes s → after_statement classes s line text ws others st ≡ Ok t → Follows classes (count_after st s) t
 follows classes s line text ws others statement.Silent t is h e = at_state classes _ s t e (record { fitting = h; counted = refl })
 follows classes s line text ws others statement.Places t is h e =
     let r = places_of s.stage (other_words ws) in
@@ -287,9 +254,9 @@ follows classes s line text ws others (statement.Instruction o) t is h e =
     at_state classes _ _ t f.2 (after_instruction classes s f.0 h (g f.0 f.1))
 follows classes s line text ws others statement.Unknown t is h e = absurd cc
 
-line_follows : (classes : ℕ) (s : Source) (line : ℕ) (text : List ℕ) (others : List (List ℕ)) (t : Source) → IsFitting classes s → after_line classes s line text others ≡ Ok t → Follows classes (count_after (said (words text)) s) t
+line_follows : (classes : ℕ) (s : Source) (line : ℕ) (text : List ℕ) (others : List (List ℕ)) (t : Source) → IsFitting classes s → after_line classes s line text others ≡ Ok t → Follows classes (count_after (statement_in (words text)) s) t
 unfolding after_line
-line_follows classes s line text others t h e = follows classes s line text (words text) others (said (words text)) t refl h e
+line_follows classes s line text others t h e = follows classes s line text (words text) others (statement_in (words text)) t refl h e
 
 -- ---- the text
 
@@ -314,11 +281,11 @@ entry_is (Some f) h =
 whole : (classes : ℕ) (s : Source) → IsFitting classes s → is_finished s.stage ≡ true → length s.so_far.classes ≡ classes → FitsImage s.so_far
 whole classes s h f all = record {
   least_places = h.least (begun s.stage f);
-  classes = h.few_classes;
-  fields = rw all h.fields;
-  ints = (h.few_ints, h.ints);
-  texts = (h.few_texts, h.texts);
-  functions = ((h.entry f).0, h.few_functions, rw all h.functions);
+  classes = h.lists.of_classes.0;
+  fields = rw all h.lists.of_classes.1;
+  ints = h.lists.of_ints;
+  texts = h.lists.of_texts;
+  functions = ((h.entry f).0, h.lists.of_functions.0, rw all h.lists.of_functions.1);
   entry = entry_is (slice_get s.so_far.functions s.so_far.entry) (h.entry f).1;
 }
 
@@ -334,19 +301,17 @@ read_fits classes s line (text ∷ others) m h all e =
     let on = went_on (after_line classes s line text others) line _ m (sym (step classes s line text others) ∙ e) in
     let f = line_follows classes s line text others on.0 h on.1 in
     read_fits classes on.0 (suc line) others m f.fitting
-    (counts_on (length s.so_far.classes) (length on.0.so_far.classes) (classes_in others) (classes_in (text ∷ others)) classes (is_class (said (words text))) all (class_counted text others) (other_passed text others) f.counted) on.2
+    (counts_on (length s.so_far.classes) (length on.0.so_far.classes) (classes_in others) (classes_in (text ∷ others)) classes (is_class (statement_in (words text))) all (class_counted text others) (other_passed text others) f.counted) on.2
 
 nothing_fits : (classes : ℕ) → IsFitting classes nothing_read
 nothing_fits classes = record {
   least = λ e. absurd cc;
-  few_classes = omega arith;
-  fields = tt;
-  few_ints = omega arith;
-  ints = tt;
-  few_texts = omega arith;
-  texts = tt;
-  few_functions = omega arith;
-  functions = tt;
+  lists = record {
+    of_classes = (omega arith, tt);
+    of_ints = (omega arith, tt);
+    of_texts = (omega arith, tt);
+    of_functions = (omega arith, tt);
+  };
   inside = λ e. not_true e;
   labels = tt;
   entry = λ e. not_true e;

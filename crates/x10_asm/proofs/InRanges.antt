@@ -28,7 +28,7 @@ use Rattle.x10_asm.specs.Literals.{scan, fitting, closed, unquoted, literal}
 use Rattle.x10_asm.specs.Labels.{Label, is_name, label_name, label_of}
 use Rattle.x10_asm.specs.LabelLines.{index_after, ends_labels, defined, labels_from}
 use Rattle.x10_asm.specs.Operands.{operand_at, Last, numbered, named_or_number, target_at, last_at, index_of, resolved, instruction_of}
-use Rattle.x10_asm.specs.Statements.{said, first_word}
+use Rattle.x10_asm.specs.Statements.{statement_in, first_word}
 
 -- ---- steps in a row
 
@@ -248,8 +248,8 @@ pub labels_low : (texts : List (List ℕ)) (line index : ℕ) → index ≤ 4096
 unfolding labels_from
 labels_low [] line index h = tt
 labels_low (text ∷ others) line index h =
-    if_all IsLow (ends_labels (said (words text))) [] _ tt
-    (all_join IsLow (defined (said (words text)) (first_word (words text)) line index) _ (defined_low (said (words text)) (first_word (words text)) line index h) (labels_low others (suc line) (index_after (said (words text)) index) (index_low (said (words text)) index h)))
+    if_all IsLow (ends_labels (statement_in (words text))) [] _ tt
+    (all_join IsLow (defined (statement_in (words text)) (first_word (words text)) line index) _ (defined_low (statement_in (words text)) (first_word (words text)) line index h) (labels_low others (suc line) (index_after (statement_in (words text)) index) (index_low (statement_in (words text)) index h)))
 
 -- ---- instructions
 

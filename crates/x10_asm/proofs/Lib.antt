@@ -20,4 +20,5 @@ pub mod ListingAgain
 pub mod Answered
 pub mod InRanges
 pub mod FittingLines
+pub mod FlawedLines
 pub mod FittingSources

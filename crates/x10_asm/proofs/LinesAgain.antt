@@ -12,7 +12,7 @@ use Rattle.x10_asm.specs.declared.stage.Stage.TheVariants as stage
 use Rattle.x10_asm.specs.declared.statement.Statement.{Statement}
 use Rattle.x10_asm.specs.declared.statement.Statement.TheVariants as statement
 use Rattle.x10_asm.specs.Lines.{words}
-use Rattle.x10_asm.specs.Statements.{said, statement_of}
+use Rattle.x10_asm.specs.Statements.{statement_in, statement_of}
 use Rattle.x10_asm.specs.Kinds.{field_of}
 use Rattle.x10_asm.specs.Listing.{spaced, kind_word, quoted}
 use Rattle.x10_asm.specs.Reading.{Source, after_line, after_statement, takes_int, takes_text, no_function, places_of, class_of, int_line_of, text_of, with_places, with_class, with_int, with_text}
@@ -37,11 +37,11 @@ pub gives : (classes : ℕ) (s : Source) (line : ℕ) (texts others : List (List
     → after_line classes s line (body_of first others) texts ≡ after_statement classes s line (body_of first others) (first ∷ others) texts st
 gives classes s line texts others first st h hs e =
     let split = line_words first others h hs in
-    line_gives classes s line (body_of first others) texts (said (words (body_of first others))) refl st (ap said split ∙ e)
+    line_gives classes s line (body_of first others) texts (statement_in (words (body_of first others))) refl st (ap statement_in split ∙ e)
     ∙ ap (λ (ws : List (List ℕ)). after_statement classes s line (body_of first others) ws texts st) split
 
-pub said_first : (first : List ℕ) (others : List (List ℕ)) (st : Statement) → IsWord first → AllByRecursion IsWord others → statement_of first ≡ st → said (words (body_of first others)) ≡ st
-said_first first others st h hs e = ap said (line_words first others h hs) ∙ e
+pub statement_first : (first : List ℕ) (others : List (List ℕ)) (st : Statement) → IsWord first → AllByRecursion IsWord others → statement_of first ≡ st → statement_in (words (body_of first others)) ≡ st
+statement_first first others st h hs e = ap statement_in (line_words first others h hs) ∙ e
 
 word : (first : ℕ) (others : List ℕ) → list_all (nat_lt 32) (first ∷ others) ≡ true → IsWord (first ∷ others)
 word first others h = record { some = omega arith; printed = h }
@@ -151,8 +151,8 @@ text_line_again : (s : Stage) (before : ℕ) (text : List ℕ) → takes_text s 
 unfolding text_of
 text_line_again s before text t f lt = rw (literal_again text f, t, lt-ltb before 65535 lt) refl
 
-pub says_text_line : (text : List ℕ) → said (words (body_of (codes "text") (quoted text ∷ []))) ≡ statement.Text
-says_text_line text = ap said (word_then (codes "text") (flat_map spaced (quoted text ∷ [])) text_first refl) ∙ says_text
+pub says_text_line : (text : List ℕ) → statement_in (words (body_of (codes "text") (quoted text ∷ []))) ≡ statement.Text
+says_text_line text = ap statement_in (word_then (codes "text") (flat_map spaced (quoted text ∷ [])) text_first refl) ∙ says_text
 
 pub text_turns : (classes : ℕ) (s : Stage) (m : Module) (text : List ℕ) → takes_text s ≡ true → FitsText text → length m.texts < 65535
     → Turns classes (body_of (codes "text") (quoted text ∷ [])) (outside s m) (outside stage.Texts (record m { texts = m.texts ++ text ∷ [] }))
@@ -160,7 +160,7 @@ text_turns classes s m text t f lt = record {
   plain = plain_text text;
   turns = λ line labels others. (
     labels,
-    line_gives classes (labelled (outside s m) labels) line (body_of (codes "text") (quoted text ∷ [])) others (said (words (body_of (codes "text") (quoted text ∷ [])))) refl statement.Text (says_text_line text)
+    line_gives classes (labelled (outside s m) labels) line (body_of (codes "text") (quoted text ∷ [])) others (statement_in (words (body_of (codes "text") (quoted text ∷ [])))) refl statement.Text (says_text_line text)
         ∙ ap (λ (rest : List ℕ). with_text (labelled (outside s m) labels) (text_of s (length m.texts) rest)) (after_text text)
         ∙ ap (with_text (labelled (outside s m) labels)) (text_line_again s (length m.texts) text t f lt),
   );

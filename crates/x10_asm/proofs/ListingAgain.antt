@@ -14,7 +14,7 @@ use Rattle.x10_asm.specs.declared.stage.Stage.TheVariants as stage
 use Rattle.x10_asm.specs.declared.statement.Statement.TheVariants as statement
 use Rattle.x10_asm.specs.Lines.{lines, words}
 use Rattle.x10_asm.specs.Listing.{spaced, line, kind_word, quoted, operand_words, places_line, class_line, int_line, text_line, func_line, instruction_line, end_line, function_lines, entry_line, listing}
-use Rattle.x10_asm.specs.Statements.{said}
+use Rattle.x10_asm.specs.Statements.{statement_in}
 use Rattle.x10_asm.specs.Reading.{Source, is_class, takes_int, takes_text, takes_func, nothing_read, read_from, classes_in, module_of}
 use Rattle.x10_asm.proofs.SpelledWords.{decimal_word, int_word, all_words, kind_is_word}
 use Rattle.x10_asm.proofs.SpelledInstructions.{said_name, name_is_word, operands_are_words}
@@ -22,7 +22,7 @@ use Rattle.std.proofs.lemmas.Option.{slice_get_within}
 use Rattle.x10_asm.proofs.Splitting.{no_lines}
 use Rattle.x10_asm.proofs.Passing.{no_classes, stop}
 use Rattle.x10_asm.proofs.ReadingAgain.{Turns, Leads, labelled, nothing_leads, then_leads, class_leads, line_leads}
-use Rattle.x10_asm.proofs.LinesAgain.{outside, inside, body_of, said_first, places_word, class_word, int_first, func_word, end_word, entry_word, says_places, says_class, says_int, says_text_line, says_func, says_end, says_entry, places_turns, class_turns, int_turns, text_turns}
+use Rattle.x10_asm.proofs.LinesAgain.{outside, inside, body_of, statement_first, places_word, class_word, int_first, func_word, end_word, entry_word, says_places, says_class, says_int, says_text_line, says_func, says_end, says_entry, places_turns, class_turns, int_turns, text_turns}
 use Rattle.x10_asm.proofs.FunctionsAgain.{begun, func_words, func_are_words, func_turns, instruction_turns, end_turns, entry_turns}
 
 -- the same, by equal ends
@@ -30,7 +30,7 @@ leads_to : (classes : ℕ) (p : List ℕ) (s t u : Source) (j k : ℕ) → Leads
 leads_to classes p s t u j k h e f = subst (λ (n : ℕ). Leads classes p s u n) f (subst (λ (v : Source). Leads classes p s v j) e h)
 
 -- a line that is no class
-one_line : (classes : ℕ) (first : List ℕ) (others : List (List ℕ)) (s t : Source) → Turns classes (body_of first others) s t → is_class (said (words (body_of first others))) ≡ false → Leads classes (line first others) s t 0
+one_line : (classes : ℕ) (first : List ℕ) (others : List (List ℕ)) (s t : Source) → Turns classes (body_of first others) s t → is_class (statement_in (words (body_of first others))) ≡ false → Leads classes (line first others) s t 0
 one_line classes first others s t h e = subst (λ (p : List ℕ). Leads classes p s t 0) (append_assoc first (flat_map spaced others) (10 ∷ [])) (line_leads classes (body_of first others) s t h e)
 
 -- ---- classes
@@ -40,7 +40,7 @@ unfolding class_line
 class_line_leads classes m fields few f lt =
     let hs = all_words kind_word _ (λ k g. kind_is_word classes k few g) fields f.kinds in
     subst (λ (p : List ℕ). Leads classes p (outside stage.Classes m) (outside stage.Classes (record m { classes = m.classes ++ fields ∷ [] })) 1) (append_assoc (codes "class") (flat_map spaced (map kind_word fields)) (10 ∷ []))
-    (class_leads classes (body_of (codes "class") (map kind_word fields)) (outside stage.Classes m) (outside stage.Classes (record m { classes = m.classes ++ fields ∷ [] })) (class_turns classes m fields few f.kinds f.count lt) (ap is_class (said_first (codes "class") (map kind_word fields) statement.Class class_word hs says_class)))
+    (class_leads classes (body_of (codes "class") (map kind_word fields)) (outside stage.Classes m) (outside stage.Classes (record m { classes = m.classes ++ fields ∷ [] })) (class_turns classes m fields few f.kinds f.count lt) (ap is_class (statement_first (codes "class") (map kind_word fields) statement.Class class_word hs says_class)))
 
 classes_lead : (classes : ℕ) (m : Module) (cs : List (List Kind)) → classes < 2 ^ 16 → AllByRecursion (FitsClass classes) cs → length m.classes + length cs < 2 ^ 16
     → Leads classes (flat_map class_line cs) (outside stage.Classes m) (outside stage.Classes (record m { classes = m.classes ++ cs })) (length cs)
@@ -90,7 +90,7 @@ func_after_text stage.Finished t = t
 
 int_line_leads : (classes : ℕ) (s : Stage) (m : Module) (z : ℤ) → takes_int s ≡ true → FitsSigned w64 z → length m.ints < 65535 → Leads classes (int_line z) (outside s m) (outside stage.Ints (record m { ints = m.ints ++ z ∷ [] })) 0
 unfolding int_line
-int_line_leads classes s m z t f lt = one_line classes (codes "int") (signed_decimal z ∷ []) (outside s m) _ (int_turns classes s m z t f lt) (ap is_class (said_first (codes "int") (signed_decimal z ∷ []) statement.Int int_first (int_word z f, tt) says_int))
+int_line_leads classes s m z t f lt = one_line classes (codes "int") (signed_decimal z ∷ []) (outside s m) _ (int_turns classes s m z t f lt) (ap is_class (statement_first (codes "int") (signed_decimal z ∷ []) statement.Int int_first (int_word z f, tt) says_int))
 
 ints_lead : (classes : ℕ) (s : Stage) (m : Module) (zs : List ℤ) → takes_int s ≡ true → AllByRecursion (FitsSigned w64) zs → length m.ints + length zs < 2 ^ 16 → LeadsOn classes (flat_map int_line zs) s m (record m { ints = m.ints ++ zs }) takes_text
 ints_lead classes s m [] t h lt = on_to classes [] s m m _ takes_text (nothing_on classes s m takes_text (text_after_int s t)) (ap (λ (xs : List ℤ). record m { ints = xs }) (sym (append-nil m.ints)))
@@ -116,7 +116,7 @@ texts_lead classes s m (x ∷ xs) t h lt =
 
 instruction_line_leads : (classes : ℕ) (m : Module) (f : Function) (i : Instr) → IsInstr i → length f.code < 4096 → Leads classes (instruction_line i) (inside m f) (inside m (record f { code = f.code ++ i ∷ [] })) 0
 unfolding instruction_line
-instruction_line_leads classes m f i b lt = one_line classes (name_of i.op) (operand_words i) (inside m f) _ (instruction_turns classes m f i b lt) (ap is_class (said_first (name_of i.op) (operand_words i) (statement.Instruction i.op) (name_is_word i.op) (operands_are_words i b) (said_name i.op)))
+instruction_line_leads classes m f i b lt = one_line classes (name_of i.op) (operand_words i) (inside m f) _ (instruction_turns classes m f i b lt) (ap is_class (statement_first (name_of i.op) (operand_words i) (statement.Instruction i.op) (name_is_word i.op) (operands_are_words i b) (said_name i.op)))
 
 code_leads : (classes : ℕ) (m : Module) (f : Function) (is : List Instr) → AllByRecursion IsInstr is → length f.code + length is ≤ 4096 → Leads classes (flat_map instruction_line is) (inside m f) (inside m (record f { code = f.code ++ is })) 0
 code_leads classes m f [] h le = leads_to classes [] _ _ _ 0 0 (nothing_leads classes (inside m f)) (ap (λ (xs : List Instr). inside m (record f { code = xs })) (sym (append-nil f.code))) refl
@@ -129,11 +129,11 @@ code_leads classes m f (i ∷ is) h le =
 
 func_line_leads : (classes : ℕ) (s : Stage) (m : Module) (f : Function) → takes_func s ≡ true → classes < 2 ^ 16 → FitsFunction classes f → length m.functions < 256 → Leads classes (func_line f.registers f.loops f.result f.parameters) (outside s m) (inside m (begun f)) 0
 unfolding func_line
-func_line_leads classes s m f t few h lt = one_line classes (codes "func") (func_words f) (outside s m) _ (func_turns classes s m f t few h lt) (ap is_class (said_first (codes "func") (func_words f) statement.Func func_word (func_are_words classes f few h) says_func))
+func_line_leads classes s m f t few h lt = one_line classes (codes "func") (func_words f) (outside s m) _ (func_turns classes s m f t few h lt) (ap is_class (statement_first (codes "func") (func_words f) statement.Func func_word (func_are_words classes f few h) says_func))
 
 end_line_leads : (classes : ℕ) (m : Module) (f : Function) → 0 < length f.code → Leads classes end_line (inside m f) (outside stage.Functions (record m { functions = m.functions ++ f ∷ [] })) 0
 unfolding end_line
-end_line_leads classes m f lt = one_line classes (codes "end") [] (inside m f) _ (end_turns classes m f lt) (ap is_class (said_first (codes "end") [] statement.End end_word tt says_end))
+end_line_leads classes m f lt = one_line classes (codes "end") [] (inside m f) _ (end_turns classes m f lt) (ap is_class (statement_first (codes "end") [] statement.End end_word tt says_end))
 
 function_leads : (classes : ℕ) (s : Stage) (m : Module) (f : Function) → takes_func s ≡ true → classes < 2 ^ 16 → FitsFunction classes f → length m.functions < 256 → Leads classes (function_lines f) (outside s m) (outside stage.Functions (record m { functions = m.functions ++ f ∷ [] })) 0
 unfolding function_lines
@@ -161,11 +161,11 @@ HasEntry functions n = (f : Function) × (slice_get functions n ≡ Some f) × I
 
 places_line_leads : (classes n : ℕ) (m : Module) → 1 ≤ n → n ≤ 64 → Leads classes (places_line n) (outside stage.Start m) (outside stage.Classes (record m { least_places = n })) 0
 unfolding places_line
-places_line_leads classes n m low high = one_line classes (codes "places") (decimal n ∷ []) (outside stage.Start m) _ (places_turns classes n m low high) (ap is_class (said_first (codes "places") (decimal n ∷ []) statement.Places places_word (decimal_word n (omega arith), tt) says_places))
+places_line_leads classes n m low high = one_line classes (codes "places") (decimal n ∷ []) (outside stage.Start m) _ (places_turns classes n m low high) (ap is_class (statement_first (codes "places") (decimal n ∷ []) statement.Places places_word (decimal_word n (omega arith), tt) says_places))
 
 pub entry_line_leads : (classes : ℕ) (s : Stage) (m : Module) (n : ℕ) → takes_func s ≡ true → n < 2 ^ 16 → 0 < length m.functions → HasEntry m.functions n → Leads classes (entry_line n) (outside s m) (outside stage.Finished (record m { entry = n })) 0
 unfolding entry_line
-entry_line_leads classes s m n t small some e = one_line classes (codes "entry") (decimal n ∷ []) (outside s m) _ (entry_turns classes s m n e.0 t small some e.1 e.2) (ap is_class (said_first (codes "entry") (decimal n ∷ []) statement.Entry entry_word (decimal_word n (omega arith), tt) says_entry))
+entry_line_leads classes s m n t small some e = one_line classes (codes "entry") (decimal n ∷ []) (outside s m) _ (entry_turns classes s m n e.0 t small some e.1 e.2) (ap is_class (statement_first (codes "entry") (decimal n ∷ []) statement.Entry entry_word (decimal_word n (omega arith), tt) says_entry))
 
 -- a listing that leads from nothing to the module reads as that module
 read_whole : (m : Module) (text : List ℕ) (count : ℕ) → count ≡ length m.classes → Leads (length m.classes) text nothing_read (outside stage.Finished m) count → module_of text ≡ Ok m

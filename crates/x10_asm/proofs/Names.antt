@@ -10,7 +10,7 @@ use Rattle.x10_asm.specs.declared.statement.Statement.{Statement}
 use Rattle.x10_asm.specs.declared.statement.Statement.TheVariants.{Silent, Places, Class, Int, Text, Func, End, Entry, Label}
 use Rattle.x10_asm.specs.Lines.{begins, words}
 use Rattle.x10_asm.specs.Labels.{ends_in_colon}
-use Rattle.x10_asm.specs.Statements.{statement_of, label_or_instruction, instruction_or_unknown, said, first_word}
+use Rattle.x10_asm.specs.Statements.{statement_of, label_or_instruction, instruction_or_unknown, statement_in, first_word}
 
 none_named : (word : List ℕ) (r : Option Op) → op_of_name word ≡ r → ((o : Op) → word ≡ name_of o → ◌≡◌ {A = Option Op} None (Some o)) → ◌≡◌ {A = Option Op} None r
 none_named word None e only = refl
@@ -63,6 +63,6 @@ silent : Silent ≡ Label → ⊥
 unfolding is_label
 silent e = false≢true (ap is_label e)
 
-pub said_label_ends : (ws : List (List ℕ)) → said ws ≡ Label → ends_in_colon (first_word ws) ≡ true
-said_label_ends [] e = absurd (silent e)
-said_label_ends (w ∷ ws) e = label_ends w e
+pub line_label_ends : (ws : List (List ℕ)) → statement_in ws ≡ Label → ends_in_colon (first_word ws) ≡ true
+line_label_ends [] e = absurd (silent e)
+line_label_ends (w ∷ ws) e = label_ends w e

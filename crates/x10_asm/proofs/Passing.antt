@@ -8,7 +8,7 @@ use Rattle.x10_asm.specs.declared.fault.AsmFault.{AsmFault}
 use Rattle.x10_asm.specs.declared.source.Source.{Source}
 use Rattle.x10_asm.specs.declared.statement.Statement.{Statement}
 use Rattle.x10_asm.specs.Lines.{words}
-use Rattle.x10_asm.specs.Statements.{said}
+use Rattle.x10_asm.specs.Statements.{statement_in}
 use Rattle.x10_asm.specs.Reading as reading
 use Rattle.x10_asm.specs.Reading.{after_line, ended, go_on, fault_at, read_from, is_class, classes_in, is_finished}
 use Rattle.x10_asm.specs.Sources.{StandsFor}
@@ -20,11 +20,11 @@ pub no_classes : classes_in [] ≡ 0
 unfolding classes_in
 no_classes = refl
 
-pub class_counted : (text : List ℕ) (others : List (List ℕ)) → is_class (said (words text)) ≡ true → classes_in (text ∷ others) ≡ suc (classes_in others)
+pub class_counted : (text : List ℕ) (others : List (List ℕ)) → is_class (statement_in (words text)) ≡ true → classes_in (text ∷ others) ≡ suc (classes_in others)
 unfolding classes_in
 class_counted text others e = rw e refl
 
-pub other_passed : (text : List ℕ) (others : List (List ℕ)) → is_class (said (words text)) ≡ false → classes_in (text ∷ others) ≡ classes_in others
+pub other_passed : (text : List ℕ) (others : List (List ℕ)) → is_class (statement_in (words text)) ≡ false → classes_in (text ∷ others) ≡ classes_in others
 unfolding classes_in
 other_passed text others e = rw e refl
 
@@ -62,10 +62,10 @@ passed_all kept classes line texts all p e = sym p.left ∙ ap (read_from classe
 
 -- ---- counting classes
 
-pub counted_more : (texts others : List (List ℕ)) (text : List ℕ) (s : Statement) → texts ≡ text ∷ others → s ≡ said (words text) → is_class s ≡ true → classes_in texts ≡ suc (classes_in others)
+pub counted_more : (texts others : List (List ℕ)) (text : List ℕ) (s : Statement) → texts ≡ text ∷ others → s ≡ statement_in (words text) → is_class s ≡ true → classes_in texts ≡ suc (classes_in others)
 counted_more texts others text s e es k = ap classes_in e ∙ class_counted text others (ap is_class (sym es) ∙ k)
 
-pub counted_other : (texts others : List (List ℕ)) (text : List ℕ) (s : Statement) → texts ≡ text ∷ others → s ≡ said (words text) → is_class s ≡ false → classes_in texts ≡ classes_in others
+pub counted_other : (texts others : List (List ℕ)) (text : List ℕ) (s : Statement) → texts ≡ text ∷ others → s ≡ statement_in (words text) → is_class s ≡ false → classes_in texts ≡ classes_in others
 counted_other texts others text s e es k = ap classes_in e ∙ other_passed text others (ap is_class (sym es) ∙ k)
 
 -- ---- the end

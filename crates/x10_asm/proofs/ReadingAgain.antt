@@ -3,7 +3,7 @@ use Rattle.std.proofs.Common.{◌≡◌, ℕ, suc, ◌+◌, true, false, List, [
 use Rattle.x10_asm.specs.declared.fault.AsmCause.{AsmCause}
 use Rattle.x10_asm.specs.Lines.{lines, words}
 use Rattle.x10_asm.specs.Labels.{Label}
-use Rattle.x10_asm.specs.Statements.{said}
+use Rattle.x10_asm.specs.Statements.{statement_in}
 use Rattle.x10_asm.specs.Reading.{Source, after_line, read_from, is_class, classes_in, go_on}
 use Rattle.x10_asm.proofs.SpelledLines.{is_plain, line_then}
 use Rattle.x10_asm.proofs.Passing.{step, class_counted, other_passed}
@@ -62,13 +62,13 @@ line_reads classes body s t h line labels rest =
 line_is : (body rest : List ℕ) → is_plain body ≡ true → lines ((body ++ 10 ∷ []) ++ rest) ≡ body ∷ lines rest
 line_is body rest h = ap lines (append_assoc body (10 ∷ []) rest) ∙ line_then body rest h
 
-pub class_leads : (classes : ℕ) (body : List ℕ) (s t : Source) → Turns classes body s t → is_class (said (words body)) ≡ true → Leads classes (body ++ 10 ∷ []) s t 1
+pub class_leads : (classes : ℕ) (body : List ℕ) (s t : Source) → Turns classes body s t → is_class (statement_in (words body)) ≡ true → Leads classes (body ++ 10 ∷ []) s t 1
 class_leads classes body s t h e = record {
   reads = line_reads classes body s t h;
   counts = λ rest. ap classes_in (line_is body rest h.plain) ∙ class_counted body (lines rest) e ∙ omega arith;
 }
 
-pub line_leads : (classes : ℕ) (body : List ℕ) (s t : Source) → Turns classes body s t → is_class (said (words body)) ≡ false → Leads classes (body ++ 10 ∷ []) s t 0
+pub line_leads : (classes : ℕ) (body : List ℕ) (s t : Source) → Turns classes body s t → is_class (statement_in (words body)) ≡ false → Leads classes (body ++ 10 ∷ []) s t 0
 line_leads classes body s t h e = record {
   reads = line_reads classes body s t h;
   counts = λ rest. ap classes_in (line_is body rest h.plain) ∙ other_passed body (lines rest) e ∙ sym (zero-add (classes_in (lines rest)));

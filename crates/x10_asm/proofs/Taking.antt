@@ -18,7 +18,7 @@ use Rattle.std.specs.String.{string_bytes}
 use Rattle.std.proofs.lemmas.List.{length-map, map-append}
 use Rattle.x10_asm.specs.declared.statement.Statement.{Statement}
 use Rattle.x10_asm.specs.Lines.{words}
-use Rattle.x10_asm.specs.Statements.{said}
+use Rattle.x10_asm.specs.Statements.{statement_in}
 use Rattle.x10_asm.specs.Sources.{StandsFor}
 
 -- what the definition keeps, with labels of its own
@@ -98,7 +98,7 @@ map-push g new old x e = ap (map g) e ∙ map-append g old (x ∷ [])
 
 -- ---- what a line says decides
 
-pub line_gives : (classes : ℕ) (s : reading.Source) (line : ℕ) (text : List ℕ) (others : List (List ℕ)) (said_here : Statement) → said_here ≡ said (words text) → (wanted : Statement) → said_here ≡ wanted
+pub line_gives : (classes : ℕ) (s : reading.Source) (line : ℕ) (text : List ℕ) (others : List (List ℕ)) (said_here : Statement) → said_here ≡ statement_in (words text) → (wanted : Statement) → said_here ≡ wanted
     → after_line classes s line text others ≡ after_statement classes s line text (words text) others wanted
 unfolding after_line
 line_gives classes s line text others here e wanted w = ap (after_statement classes s line text (words text) others) (sym e ∙ w)

@@ -6,7 +6,7 @@ use Rattle.x10_asm.specs.declared.statement.Statement.TheVariants.{Silent, Place
 use Rattle.x10_asm.specs.declared.statement.Statement.TheVariants as statement
 use Rattle.x10_asm.specs.Lines.{words}
 use Rattle.x10_asm.specs.Labels.{Label, is_name, label_name}
-use Rattle.x10_asm.specs.Statements.{said, first_word}
+use Rattle.x10_asm.specs.Statements.{statement_in, first_word}
 
 -- one instruction more, of the most that a function may have
 abbrev pub counted : ℕ → ℕ
@@ -32,5 +32,5 @@ defined _ word line index = []
 unfoldable pub labels_from : ℕ → ℕ → List (List ℕ) → List Label
 labels_from line index [] = []
 labels_from line index (text ∷ others) =
-    if ends_labels (said (words text)) then []
-    else (defined (said (words text)) (first_word (words text)) line index ++ labels_from (suc line) (index_after (said (words text)) index) others)
+    if ends_labels (statement_in (words text)) then []
+    else (defined (statement_in (words text)) (first_word (words text)) line index ++ labels_from (suc line) (index_after (statement_in (words text)) index) others)

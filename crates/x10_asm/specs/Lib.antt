@@ -9,5 +9,6 @@ pub mod Tables
 pub mod Statements
 pub mod LabelLines
 pub mod Reading
+pub mod Flaws
 pub mod Sources
 pub mod LawsOfTexts

@@ -20,7 +20,7 @@ use Rattle.x10_asm.specs.Literals.{literal}
 use Rattle.x10_asm.specs.Labels.{Label, label_name, label_of}
 use Rattle.x10_asm.specs.LabelLines.{labels_from}
 use Rattle.x10_asm.specs.Operands.{instruction_of}
-use Rattle.x10_asm.specs.Statements.{said, first_word, other_words}
+use Rattle.x10_asm.specs.Statements.{statement_in, first_word, other_words}
 pub use Rattle.x10_image.specs.Written.{signature_fits}
 
 -- ---- the order of lines
@@ -223,7 +223,7 @@ after_statement classes s line text ws others (statement.Instruction op) = with_
 after_statement classes s line text ws others statement.Unknown = Err cause.Word
 
 unfoldable pub after_line : ℕ → Source → ℕ → List ℕ → List (List ℕ) → Result Source AsmCause
-after_line classes s line text others = after_statement classes s line text (words text) others (said (words text))
+after_line classes s line text others = after_statement classes s line text (words text) others (statement_in (words text))
 
 abbrev pub fault_at : ℕ → AsmCause → AsmFault
 fault_at line fault = record { line = line; cause = fault }
@@ -248,7 +248,7 @@ is_class _ = false
 -- how many of the lines are classes
 unfoldable pub classes_in : List (List ℕ) → ℕ
 classes_in [] = 0
-classes_in (text ∷ others) = if is_class (said (words text)) then suc (classes_in others) else classes_in others
+classes_in (text ∷ others) = if is_class (statement_in (words text)) then suc (classes_in others) else classes_in others
 
 abbrev pub nothing_read : Source
 nothing_read = record { stage = stage.Start; so_far = record { least_places = 0; classes = []; ints = []; texts = []; functions = []; entry = 0 }; function = no_function; labels = [] }

@@ -30,9 +30,9 @@ statement_of word =
     else label_or_instruction word)))))))
 
 -- what a line of words says; a blank line says nothing
-abbrev pub said : List (List ℕ) → Statement
-said [] = Silent
-said (first ∷ others) = statement_of first
+abbrev pub statement_in : List (List ℕ) → Statement
+statement_in [] = Silent
+statement_in (first ∷ others) = statement_of first
 
 abbrev pub first_word : List (List ℕ) → List ℕ
 first_word [] = []

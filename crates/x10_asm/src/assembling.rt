@@ -25,8 +25,8 @@ fn is_class(statement: Statement) -> bool
     statement == Statement::Class
 }
 
-/// How many lines of a text are classes.
-fn classes_in(text: &str) -> usize
+/// How many lines of a text are classes. One pass.
+pub fn classes_in(text: &str) -> usize
     ensures { result ≡ reading.classes_in (lines text.now) }
 {
     let mut count = 0;

@@ -58,7 +58,7 @@ fn reference_of(word: &str, classes: usize) -> Result<Slot, AsmCause>
 
 /// The kind of a parameter.
 #[tactic(auto, unfolding(crate::specs::Kinds::slot_of))]
-fn slot_of(word: &str, classes: usize) -> Result<Slot, AsmCause>
+pub fn slot_of(word: &str, classes: usize) -> Result<Slot, AsmCause>
     ensures { result ≡ kinds.slot_of classes word.now }
 {
     if word == "int" {
@@ -78,7 +78,7 @@ fn slot_of(word: &str, classes: usize) -> Result<Slot, AsmCause>
 
 /// The kind of a field, which has no home flag.
 #[tactic(auto, unfolding(crate::specs::Kinds::field_of))]
-fn field_of(word: &str, classes: usize) -> Result<Kind, AsmCause>
+pub fn field_of(word: &str, classes: usize) -> Result<Kind, AsmCause>
     ensures { result ≡ kinds.field_of classes word.now }
 {
     if stripped(word, "here:").is_some() {

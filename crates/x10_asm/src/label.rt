@@ -17,7 +17,7 @@ use x10_model::limits::MOST_INSTRUCTIONS;
 /// Where a label stands: the number of its line, counted from 1, and the index of the instruction
 /// that follows it, at most the 4,096 that a function may have.
 #[derive(Clone, Copy, Debug, PartialEq, Eq)]
-pub struct Mark {
+pub struct Definition {
     pub line: usize,
     pub index: u32,
 }
@@ -75,33 +75,33 @@ fn counted(index: u32) -> u32
 
 /// Adds a label, unless its name is there.
 fn define<'a>(
-    table: &mut BTreeMap<&'a str, Mark>,
+    table: &mut BTreeMap<&'a str, Definition>,
     name: &'a str,
-    mark: Mark,
+    definition: Definition,
 ) -> Result<(), AllocError>
-    ensures { OnOk result ((all : List labels.Label) → IsTable table.old all → IsTable table.new (all ++ record { name = name.now; line = mark.line; index = mark.index } ∷ [])) }
+    ensures { OnOk result ((all : List labels.Label) → IsTable table.old all → IsTable table.new (all ++ record { name = name.now; line = definition.line; index = definition.index } ∷ [])) }
 {
     if !table.contains_key(name) {
-        table.insert(name, mark)?;
+        table.insert(name, definition)?;
     }
     Ok(())
 }
 
 /// Adds the label that a line defines, if it defines one.
 fn define_by<'a>(
-    table: &mut BTreeMap<&'a str, Mark>,
+    table: &mut BTreeMap<&'a str, Definition>,
     line: Line<'a>,
-    mark: Mark,
+    definition: Definition,
 ) -> Result<(), AllocError>
     requires label { line.statement ≡ Label → labels.ends_in_colon line.first.now ≡ true }
-    ensures { OnOk result ((all : List labels.Label) → IsTable table.old all → IsTable table.new (all ++ labelled.defined line.entry.statement line.entry.first.now mark.line mark.index)) }
+    ensures { OnOk result ((all : List labels.Label) → IsTable table.old all → IsTable table.new (all ++ labelled.defined line.entry.statement line.entry.first.now definition.line definition.index)) }
 {
     if line.statement != Statement::Label {
         return Ok(());
     }
     let name = label_name(line.first);
     if is_name(name) {
-        define(table, name, mark)?;
+        define(table, name, definition)?;
     }
     Ok(())
 }
@@ -131,7 +131,7 @@ pub fn labels_of<'a>(
     alloc: Global,
     number: usize,
     text: &'a str,
-) -> Result<BTreeMap<&'a str, Mark>, AllocError>
+) -> Result<BTreeMap<&'a str, Definition>, AllocError>
     requires { number + length text.now < 2 ^ 64 }
     ensures { IfOk result (λ m. IsTable m (labelled.labels_from number 0 (lines text.now))) }
 {
@@ -147,7 +147,7 @@ pub fn labels_of<'a>(
         define_by(
             &mut table,
             line,
-            Mark {
+            Definition {
                 line: number,
                 index,
             },

@@ -4,6 +4,7 @@
 mod assembling;
 mod escape;
 mod fault;
+mod flaws;
 mod kind;
 mod label;
 pub mod laws;
@@ -18,10 +19,12 @@ mod stage;
 mod statement;
 mod words;
 
-pub use assembling::assemble;
+pub use assembling::{assemble, classes_in};
 pub use escape::push_quoted;
 pub use fault::{AsmCause, AsmFault};
+pub use flaws::{Flaw, flaw_of};
 pub use listing::{list, push_instruction};
+pub use number::number_of;
 pub use split::{next_line, next_word};
 pub use statement::{Line, Statement, line_of};
 pub use words::{push_int, push_kind, push_number, push_result, push_slot, push_word};

@@ -14,7 +14,7 @@ ghost use Rattle.x10_asm.specs.Tables.{IsTable};
 
 use crate::fault::AsmCause;
 use crate::kind::{are_fields, are_slots, fields_of, result_is_known, result_of, slots_of};
-use crate::label::{Mark, label_name};
+use crate::label::{Definition, label_name};
 use crate::literal::literal;
 use crate::number::{no_more, number_at, one_int, one_number};
 use crate::split::{after_spaces, next_word};
@@ -204,11 +204,11 @@ pub fn entry_of(stage: Stage, functions: &[Function], line: &str) -> Result<u16,
 }
 
 /// Whether a label's name is defined by this line, and by none before in the function.
-fn is_defined_at(table: &BTreeMap<&str, Mark>, name: &str, number: usize) -> bool
+fn is_defined_at(table: &BTreeMap<&str, Definition>, name: &str, number: usize) -> bool
     ensures { (all : List labels.Label) → IsTable table.now all → result ≡ reading.is_defined_at number (labels.label_of all name.now) }
 {
     match table.get(name) {
-        Some(mark) => mark.line == number,
+        Some(definition) => definition.line == number,
         None => false,
     }
 }
@@ -217,7 +217,7 @@ fn is_defined_at(table: &BTreeMap<&str, Mark>, name: &str, number: usize) -> boo
 #[tactic(auto, unfolding(crate::specs::Reading::label_at))]
 pub fn label_at(
     stage: Stage,
-    table: &BTreeMap<&str, Mark>,
+    table: &BTreeMap<&str, Definition>,
     number: usize,
     word: &str,
     line: &str,

@@ -13,7 +13,7 @@ use crate::split::next_word;
 
 /// The number that decimal digits spell, if it is at most so great. A word that spells a greater one
 /// is left as soon as that shows.
-fn number_of(word: &str, most: u64) -> Option<u64>
+pub fn number_of(word: &str, most: u64) -> Option<u64>
     requires { most ≤ 2 ^ 63 }
     ensures value { result ≡ spec.number_of most word.now }
     ensures below { IfSome result (λ n. n ≤ most) }
@@ -90,7 +90,7 @@ fn negative(number: u64) -> i64
     }
 }
 
-fn int_of(word: &str) -> Option<i64>
+pub fn int_of(word: &str) -> Option<i64>
     ensures { result ≡ spec.int_of word.now }
 {
     match word.strip_prefix("-") {

@@ -11,7 +11,7 @@ ghost use Rattle.x10_asm.specs.Operands.{Last};
 ghost use Rattle.x10_asm.specs.Tables.{IsTable};
 
 use crate::fault::AsmCause;
-use crate::label::Mark;
+use crate::label::Definition;
 use crate::number::{no_more, number_at};
 use crate::split::{next_word, stripped};
 use std::collections::BTreeMap;
@@ -20,7 +20,7 @@ use x10_model::limits::MOST_INSTRUCTIONS;
 
 /// One of the operands a, b and c, and what follows its word. An operand that the form doesn't name
 /// is 0 and has no word.
-fn operand_at(line: &str, operand: Operand) -> Result<(u8, &str), AsmCause>
+pub fn operand_at(line: &str, operand: Operand) -> Result<(u8, &str), AsmCause>
     ensures { Answers (λ x. (x.0, words x.1.now)) result (operands.operand_at operand 255 (words line.now)) }
 {
     if operand == Operand::Unused {
@@ -45,7 +45,7 @@ fn target_at(line: &str) -> Result<(Option<&str>, u32, &str), AsmCause>
 }
 
 /// The operand x: of a jump a label's name or a number, else a number, and what follows its word.
-fn last_at(line: &str, operand: Operand) -> Result<(Option<&str>, u32, &str), AsmCause>
+pub fn last_at(line: &str, operand: Operand) -> Result<(Option<&str>, u32, &str), AsmCause>
     ensures { Answers (λ x. record { name = option_copied x.0; number = x.1; others = words x.2.now }) result (operands.last_at operand (words line.now)) }
 {
     if operand == Operand::Target {
@@ -59,14 +59,18 @@ fn last_at(line: &str, operand: Operand) -> Result<(Option<&str>, u32, &str), As
 }
 
 /// The index that a label's name stands for, or the number itself.
-fn resolved(table: &BTreeMap<&str, Mark>, name: Option<&str>, number: u32) -> Result<u32, AsmCause>
+fn resolved(
+    table: &BTreeMap<&str, Definition>,
+    name: Option<&str>,
+    number: u32,
+) -> Result<u32, AsmCause>
     ensures { (all : List labels.Label) → IsTable table.now all → result ≡ operands.resolved all (option_copied name.entry) number }
 {
     let Some(name) = name else {
         return Ok(number);
     };
     match table.get(name) {
-        Some(mark) => Ok(mark.index),
+        Some(definition) => Ok(definition.index),
         None => Err(AsmCause::Label),
     }
 }
@@ -75,7 +79,7 @@ fn resolved(table: &BTreeMap<&str, Mark>, name: Option<&str>, number: u32) -> Re
 /// instructions before it.
 #[tactic(auto, unfolding(crate::specs::Operands::instruction_of))]
 pub fn instruction_of(
-    table: &BTreeMap<&str, Mark>,
+    table: &BTreeMap<&str, Definition>,
     is_inside: bool,
     count: usize,
     op: Op,

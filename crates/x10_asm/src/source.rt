@@ -12,7 +12,7 @@ ghost use Rattle.x10_asm.specs.Lines as spec;
 ghost use Rattle.x10_asm.specs.Sources.{StandsFor, Takes};
 
 use crate::fault::AsmCause;
-use crate::label::{Mark, labels_of};
+use crate::label::{Definition, labels_of};
 use crate::lines::{class_of, end_of, entry_of, func_of, int_of, label_at, places_of, text_of};
 use crate::operand::instruction_of;
 use crate::stage::{Stage, is_inside};
@@ -30,7 +30,7 @@ pub struct Source<'a> {
     pub stage: Stage,
     pub so_far: Module,
     pub function: Function,
-    pub labels: BTreeMap<&'a str, Mark>,
+    pub labels: BTreeMap<&'a str, Definition>,
 }
 
 fn no_function(alloc: Global) -> Function

@@ -98,7 +98,7 @@ pub struct Line<'a> {
 
 /// What a line says. A blank line has the empty word.
 pub fn line_of(line: &str) -> Line<'_>
-    ensures statement { result.statement ≡ statements.said (words line.now) }
+    ensures statement { result.statement ≡ statements.statement_in (words line.now) }
     ensures first { result.first.now ≡ first_word (words line.now) }
     ensures rest { words result.rest.now ≡ other_words (words line.now) }
     ensures after { spec.after_spaces result.rest.now ≡ spec.after_word line.now }

@@ -3,12 +3,10 @@ ghost use Rattle.std.specs.Prelude.{◌≡◌, ◌≢◌, ◌↔◌, IfOk, IfErr
 ghost use Rattle.x10_cli.specs.declared.task.Verb.TheVariants as verb;
 ghost use Rattle.x10_cli.specs.Answers.{CanBeDone, Prints, IsChecked, begins_as_image, status_of};
 
-use crate::commands::verified_in;
 use crate::fault::Fault;
 use std::alloc::Global;
 use std::io::Write;
-use x10_asm::assemble;
-use x10_explain::{Report, check_image, check_text};
+use x10_explain::{Refusal, Report, check_image, check_text};
 
 /// Prints the bounds of the module that a file is, or what is wrong with it.
 pub(crate) fn print_check<O: Write>(alloc: Global, bytes: &[u8], out: &mut O) -> Result<(), Fault>
@@ -21,7 +19,7 @@ pub(crate) fn print_check<O: Write>(alloc: Global, bytes: &[u8], out: &mut O) ->
     if report.verified {
         return Ok(());
     }
-    Err(first_fault(alloc, bytes))
+    Err(fault_of(report.refusal))
 }
 
 /// Whether a file is taken as an image, by its first four bytes; else it is taken as a text.
@@ -45,23 +43,11 @@ fn report_of(alloc: Global, bytes: &[u8]) -> Result<Report, Fault>
 }
 
 /// The fault of a file that isn't a verified module, as the other commands tell it.
-fn first_fault(alloc: Global, bytes: &[u8]) -> Fault {
-    match verified(alloc, bytes) {
-        // where the verdict was another one before, memory was refused
-        Ok(()) => Fault::Memory,
-        Err(fault) => fault,
+fn fault_of(refusal: Option<Refusal>) -> Fault {
+    match refusal {
+        Some(Refusal::Asm(fault)) => Fault::from(fault),
+        Some(Refusal::Image(fault)) => Fault::from(fault),
+        Some(Refusal::Verify(fault)) => Fault::from(fault),
+        None => Fault::Memory,
     }
-}
-
-fn verified(alloc: Global, bytes: &[u8]) -> Result<(), Fault> {
-    if is_image(bytes) {
-        verified_in(alloc, bytes)?;
-        return Ok(());
-    }
-    let Ok(text) = str::from_utf8(bytes) else {
-        return Err(Fault::File);
-    };
-    let image = assemble(alloc, text)?;
-    verified_in(alloc, &image)?;
-    Ok(())
 }

@@ -3,13 +3,13 @@ ghost use Rattle.std.specs.Prelude.{◌≡◌, ◌++◌, List, ℕ, IfOk, OnOk, 
 ghost use Rattle.std.specs.String.{string_bytes};
 ghost use Rattle.x10_explain.specs.Heads.{asm_head, asm_word};
 
-use crate::alone::line_fault;
+use crate::caret::push_marks;
 use crate::expected::push_expected;
 use crate::hints::push_hints;
-use crate::text::{line_at, missing};
+use crate::text::{front_of, line_at, missing, push_shown};
 use std::alloc::{AllocError, Global};
 use std::fmt::Write;
-use x10_asm::{AsmCause, AsmFault, Statement, line_of, next_line};
+use x10_asm::{AsmCause, AsmFault, Statement, classes_in, flaw_of, line_of, next_line};
 
 // The name of a cause.
 fn word(cause: AsmCause) -> &'static str
@@ -28,14 +28,15 @@ fn word(cause: AsmCause) -> &'static str
     }
 }
 
-/// Why a text spells no module, in at most 10 lines: the cause and the number of the line, with the line itself; what the
-/// cause says of it, what such a line has to be, and hints for common mistakes. Linear in the text up to the faulty line.
+/// Why a text spells no module, in at most 10 lines: the cause and the number of the line, with the line itself and marks
+/// beneath the word at fault; what the cause says of it, what such a line has to be, and hints for common mistakes. Linear
+/// in the text up to the faulty line, and in all of it where the line names classes.
 pub fn explain_asm(alloc: Global, text: &str, fault: AsmFault) -> Result<String, AllocError>
     ensures { IfOk result (λ s. (rest : List ℕ) × (string_bytes s ≡ asm_head fault ++ rest)) }
 {
     let mut out = String::new(alloc);
     push_head(&mut out, fault)?;
-    let rest = reasons(alloc, text, fault)?;
+    let rest = reasons(alloc, text, fault, out.len())?;
     out.push_str(&rest)?;
     Ok(out)
 }
@@ -49,36 +50,64 @@ fn push_head(out: &mut String, fault: AsmFault) -> Result<(), AllocError>
     write!(out, "{word}, line {line}: ")
 }
 
-// What stands behind that.
-fn reasons(alloc: Global, text: &str, fault: AsmFault) -> Result<String, AllocError> {
+// What stands behind that, which has so many bytes.
+fn reasons(
+    alloc: Global,
+    text: &str,
+    fault: AsmFault,
+    before: usize,
+) -> Result<String, AllocError> {
     let mut out = String::new(alloc);
-    let Some(line) = line_at(text, fault.line) else {
+    let Some((line, _)) = line_at(text, fault.line) else {
         out.push_str("the text ends before it.\n")?;
         if fault.cause == AsmCause::Order {
             out.push_str(missing(text))?;
         }
         return Ok(out);
     };
-    push_line(alloc, &mut out, line, fault)?;
+    push_line(
+        alloc,
+        &mut out,
+        before,
+        line,
+        fault,
+        classes_for(text, line),
+    )?;
     Ok(out)
 }
 
-// A line, and what is wrong with it.
+// Whether a line may name a class.
+fn names_class(line: &str) -> bool {
+    matches!(line_of(line).statement, Statement::Class | Statement::Func)
+}
+
+// How many classes a text has, if a line may name one.
+fn classes_for(text: &str, line: &str) -> usize {
+    if names_class(line) {
+        classes_in(text)
+    } else {
+        0
+    }
+}
+
+// A line behind so many bytes, and what is wrong with it, in a text with so many classes.
 fn push_line(
     alloc: Global,
     out: &mut String,
+    before: usize,
     line: &str,
     fault: AsmFault,
+    classes: usize,
 ) -> Result<(), AllocError> {
-    out.push_str(line)?;
-    out.push_str("\n")?;
+    push_shown(out, line)?;
+    push_marks(out, before, line, fault.cause, classes)?;
     let statement = line_of(line).statement;
     push_cause(out, fault.cause, statement)?;
     push_expected(out, statement)?;
-    push_hints(alloc, out, line, fault)
+    push_hints(alloc, out, front_of(line), fault)
 }
 
-/// The greatest number of faulty lines that are explained behind the first: each has 7 lines at most.
+/// The greatest number of faulty lines that are explained behind the first: each has 8 lines at most.
 const MOST_LINES: usize = 6;
 
 /// The lines behind a faulty one that are faulty by themselves, each explained.
@@ -88,28 +117,49 @@ pub(crate) fn push_others(
     text: &str,
     first: usize,
 ) -> Result<(), AllocError> {
+    let Some((_, behind)) = line_at(text, first) else {
+        return Ok(());
+    };
+    let mut classes: Option<usize> = None;
     let mut told: usize = 0;
-    let mut number: usize = 1;
-    let mut rest = text;
+    let mut number = first;
+    let mut rest = behind;
     while let Some((line, after)) = next_line(rest) {
-        if number > first {
-            if let Some(cause) = line_fault(line) {
-                if told >= MOST_LINES {
-                    return out.push_str("and there are more faulty lines\n");
-                }
-                told = told.saturating_add(1);
-                let fault = AsmFault {
-                    line: number,
-                    cause,
-                };
-                push_head(out, fault)?;
-                push_line(alloc, out, line, fault)?;
-            }
-        }
         number = number.saturating_add(1);
         rest = after;
+        if names_class(line) && classes.is_none() {
+            classes = Some(classes_in(text));
+        }
+        let count = classes.unwrap_or(0);
+        let Some(flaw) = flaw_of(line, count) else {
+            continue;
+        };
+        if told >= MOST_LINES {
+            return out.push_str("and there are more faulty lines\n");
+        }
+        told = told.saturating_add(1);
+        push_other(alloc, out, line, number, flaw.cause, count)?;
     }
     Ok(())
+}
+
+// A faulty line, with its cause and its number.
+fn push_other(
+    alloc: Global,
+    out: &mut String,
+    line: &str,
+    number: usize,
+    cause: AsmCause,
+    classes: usize,
+) -> Result<(), AllocError> {
+    let fault = AsmFault {
+        line: number,
+        cause,
+    };
+    let before = out.len();
+    push_head(out, fault)?;
+    let wide = out.len().saturating_sub(before);
+    push_line(alloc, out, wide, line, fault, classes)
 }
 
 // What a cause says of a line.

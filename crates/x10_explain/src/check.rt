@@ -13,13 +13,23 @@ use std::alloc::{AllocError, Global};
 use std::fmt::Write;
 use x10_asm::{AsmCause, AsmFault, assemble};
 use x10_image::{ImageFault, ImageView};
-use x10_verify::{Verified, VerifyCause, verify};
+use x10_verify::{Verified, VerifyCause, VerifyFault, verify};
+
+/// Why a check refuses a module: the fault that the first call tells which refuses it.
+#[derive(Clone, Copy, Debug, PartialEq, Eq)]
+pub enum Refusal {
+    Asm(AsmFault),
+    Image(ImageFault),
+    Verify(VerifyFault),
+}
 
 /// What is found of a module.
 #[derive(Debug, Drop)]
 pub struct Report {
     /// Whether it is verified.
     pub verified: bool,
+    /// Why it isn't.
+    pub refusal: Option<Refusal>,
     /// Its bounds, a line for each function; or its faults, each explained, in at most 60 lines.
     pub text: String,
 }
@@ -28,7 +38,8 @@ pub struct Report {
 const MOST_FAULTS: usize = 7;
 
 /// Whether an image is verified, which is `verify`'s answer; and the bound of each function, or the first fault of each
-/// function that has one. It costs `verify` twice, and the explanations of at most 7 functions.
+/// function that has one. Where it isn't verified this costs `verify` of all functions twice at most, and the explanations
+/// of at most 7 functions.
 pub fn check_image(alloc: Global, bytes: &[u8]) -> Result<Report, AllocError>
     ensures { IfOk result (λ report. IsTrue report.verified ↔ IsVerifiedImage bytes.now) }
 {
@@ -52,6 +63,7 @@ pub fn check_text(alloc: Global, text: &str) -> Result<Report, AllocError>
             let text = lines_of(alloc, text, fault)?;
             Ok(Report {
                 verified: false,
+                refusal: Some(Refusal::Asm(fault)),
                 text,
             })
         }
@@ -75,6 +87,7 @@ fn check_bytes(alloc: Global, bytes: &[u8], source: Option<&str>) -> Result<Repo
             let text = explain_image(alloc, bytes, fault)?;
             return Ok(Report {
                 verified: false,
+                refusal: Some(Refusal::Image(fault)),
                 text,
             });
         }
@@ -84,6 +97,7 @@ fn check_bytes(alloc: Global, bytes: &[u8], source: Option<&str>) -> Result<Repo
             let text = bounds_of(alloc, &verified)?;
             Ok(Report {
                 verified: true,
+                refusal: None,
                 text,
             })
         }
@@ -94,6 +108,7 @@ fn check_bytes(alloc: Global, bytes: &[u8], source: Option<&str>) -> Result<Repo
             let text = faults_of(alloc, bytes, source)?;
             Ok(Report {
                 verified: false,
+                refusal: Some(Refusal::Verify(fault)),
                 text,
             })
         }

@@ -1,7 +1,7 @@
 //! Hints for common mistakes in a text.
 
 use std::alloc::{AllocError, Global};
-use x10_asm::{AsmCause, AsmFault, next_word};
+use x10_asm::{AsmCause, AsmFault, Statement, line_of, next_word};
 use x10_code::op_named;
 
 /// A common mistake.
@@ -64,12 +64,17 @@ fn shows(line: &str, fault: AsmFault, mistake: Mistake) -> bool {
     let in_number = fault.cause == AsmCause::Number;
     match mistake {
         Mistake::Mark => has_mark(line.as_bytes()),
-        Mistake::Tab => !in_text && has_tab(line.as_bytes()),
+        Mistake::Tab => !is_text_line(line) && has_tab(line.as_bytes()),
         Mistake::Comment | Mistake::Comma => !in_text && shows_word(line, mistake),
         Mistake::RegisterName | Mistake::LabelAsNumber | Mistake::Negative => {
             in_number && shows_word(line, mistake)
         }
     }
+}
+
+// Whether a line is a constant text, in which a tab may stand.
+fn is_text_line(line: &str) -> bool {
+    line_of(line).statement == Statement::Text
 }
 
 /// Whether bytes begin with those of a byte order mark.

@@ -3,6 +3,7 @@ ghost use Rattle.std.specs.Prelude.{◌≡◌, ◌++◌, ◌<◌, List, ℕ, IfO
 ghost use Rattle.std.specs.String.{string_bytes};
 ghost use Rattle.x10_explain.specs.Heads.{image_head, image_word};
 
+use crate::position::push_position;
 use crate::text::is_text;
 use std::alloc::{AllocError, Global};
 use std::fmt::Write;
@@ -27,9 +28,9 @@ fn word(fault: ImageFault) -> &'static str
     }
 }
 
-/// Why bytes are no image, in at most 5 lines: the fault and how many bytes there are; what the fault says, and of code the
-/// function and the instruction; what the header counts, where it is there; and whether the bytes are a text that is to be
-/// assembled. One pass over the bytes.
+/// Why bytes are no image, in at most 5 lines: the fault and how many bytes there are; where the fault is, the field that
+/// begins there and its bytes; what the fault says; what the header counts, where it is there; and whether the bytes are a
+/// text that is to be assembled. One pass over the bytes.
 pub fn explain_image(alloc: Global, bytes: &[u8], fault: ImageFault) -> Result<String, AllocError>
     ensures { IfOk result (λ s. (rest : List ℕ) × (string_bytes s ≡ image_head fault (length bytes.now) ++ rest)) }
 {
@@ -51,6 +52,7 @@ fn push_head(out: &mut String, fault: ImageFault, len: usize) -> Result<(), Allo
 // What stands below that.
 fn reasons(alloc: Global, bytes: &[u8], fault: ImageFault) -> Result<String, AllocError> {
     let mut out = String::new(alloc);
+    push_position(&mut out, bytes, fault)?;
     push_fault(&mut out, bytes, fault)?;
     if is_text(bytes) {
         out.push_str("These bytes are a text: assemble it first, with `asm`.\n")?;

@@ -2,8 +2,8 @@
 //! the verifier knows.
 #![tactic(auto)]
 
-mod alone;
 mod asm;
+mod caret;
 mod check;
 mod commented;
 mod expected;
@@ -17,6 +17,8 @@ mod lack;
 mod left;
 mod origin;
 mod phrase;
+mod position;
+mod quotes;
 mod regions;
 mod rule;
 mod text;
@@ -26,7 +28,7 @@ mod want;
 mod ways;
 
 pub use asm::explain_asm;
-pub use check::{Report, check_image, check_text};
+pub use check::{Refusal, Report, check_image, check_text};
 pub use image::explain_image;
 pub use verbose::list_verbose;
 pub use verify::explain_verify;

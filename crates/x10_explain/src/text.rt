@@ -6,20 +6,42 @@ use std::alloc::AllocError;
 use std::fmt::Write;
 use x10_asm::{Statement, line_of, next_line};
 
-/// The line with a number, from 1 on.
-pub(crate) fn line_at(text: &str, number: usize) -> Option<&str>
-    ensures { IfSome result (λ line. IsUtf8 line.now) }
+/// The line with a number, from 1 on, and the text after it.
+pub(crate) fn line_at(text: &str, number: usize) -> Option<(&str, &str)>
+    ensures { IfSome result (λ x. IsUtf8 x.0.now × IsUtf8 x.1.now) }
 {
     let mut left = number;
     let mut rest = text;
     while let Some((line, after)) = next_line(rest) {
         if left == 1 {
-            return Some(line);
+            return Some((line, after));
         }
         left = left.saturating_sub(1);
         rest = after;
     }
     None
+}
+
+/// So many bytes of a line are shown at most: no screen is as wide.
+pub(crate) const MOST_SHOWN: usize = 1000;
+
+/// The front of a line, as much as is shown.
+pub(crate) fn front_of(line: &str) -> &str {
+    match line.split_at_checked(line.floor_char_boundary(MOST_SHOWN)) {
+        Some((front, _)) => front,
+        None => line,
+    }
+}
+
+/// Pushes a line as far as it is shown, and its end.
+pub(crate) fn push_shown(out: &mut String, line: &str) -> Result<(), AllocError> {
+    let front = front_of(line);
+    out.push_str(front)?;
+    out.push_str(if front.len() < line.len() {
+        " ..\n"
+    } else {
+        "\n"
+    })
 }
 
 /// What a text lacks that ends too early.
@@ -48,6 +70,9 @@ pub(crate) fn missing(text: &str) -> &'static str {
 
 /// Where a text stands for an image's bytes: whether it is UTF-8, and its first line that says something begins as one may.
 pub(crate) fn is_text(bytes: &[u8]) -> bool {
+    if bytes.starts_with(b"X10P") {
+        return false;
+    }
     match str::from_utf8(bytes) {
         Ok(text) => has_mark(bytes) || begins_well(text),
         Err(_) => false,
@@ -78,7 +103,10 @@ pub(crate) fn push_source(
     };
     match line_of_instruction(text, f, pc) {
         None => Ok(()),
-        Some((number, line)) => writeln!(out, "line {number}: {line}"),
+        Some((number, line)) => {
+            write!(out, "line {number}: ")?;
+            push_shown(out, line)
+        }
     }
 }
 

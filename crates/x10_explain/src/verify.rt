@@ -40,15 +40,25 @@ fn reasons(alloc: Global, image: &ImageView, fault: VerifyFault) -> Result<Strin
     if f >= image.functions() {
         return Ok(String::new(alloc));
     }
+    if !is_of_flow(fault.cause) {
+        return without_flow(alloc, image, fault);
+    }
     let flow = known_flow(alloc, image, f)?;
     explained(alloc, image, &flow, fault)
 }
 
-/// What stands below the first line, by what is known of the function.
-pub(crate) fn explained(
+/// Whether a fault is one of what is known in a function, for which the states are wanted.
+fn is_of_flow(cause: VerifyCause) -> bool {
+    matches!(
+        cause,
+        VerifyCause::Unset | VerifyCause::Kind | VerifyCause::Home | VerifyCause::Result
+    )
+}
+
+/// What stands below the first line of a fault that isn't of what is known.
+fn without_flow(
     alloc: Global,
     image: &ImageView,
-    flow: &Flow,
     fault: VerifyFault,
 ) -> Result<String, AllocError> {
     let mut out = String::new(alloc);
@@ -60,9 +70,25 @@ pub(crate) fn explained(
         VerifyCause::Structure(cause) => push_structure(alloc, &mut out, image, cause, f, pc)?,
         VerifyCause::Index => push_index(&mut out, image, f, instr)?,
         VerifyCause::Memory => out.push_str("There was no memory to look at the module.\n")?,
-        VerifyCause::Unset | VerifyCause::Kind | VerifyCause::Home | VerifyCause::Result => {
-            push_flow_fault(alloc, &mut out, image, flow, fault, instr)?;
-        }
+        VerifyCause::Unset | VerifyCause::Kind | VerifyCause::Home | VerifyCause::Result => {}
+    }
+    Ok(out)
+}
+
+/// What stands below the first line, by what is known of the function.
+pub(crate) fn explained(
+    alloc: Global,
+    image: &ImageView,
+    flow: &Flow,
+    fault: VerifyFault,
+) -> Result<String, AllocError> {
+    if !is_of_flow(fault.cause) {
+        return without_flow(alloc, image, fault);
+    }
+    let mut out = String::new(alloc);
+    let (f, pc) = (usize::from(fault.function), usize::from(fault.pc));
+    if let Some(instr) = instr_in(image, f, pc) {
+        push_flow_fault(alloc, &mut out, image, flow, fault, instr)?;
     }
     Ok(out)
 }

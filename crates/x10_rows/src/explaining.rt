@@ -69,11 +69,11 @@ fn texts_and_images(rt: HostRuntime) -> Result<(), Fail> {
     };
     let told = explain_asm(rt.alloc(), text, fault)?;
     let wanted =
-        "Number, line 3:   HERE r0 ; here\nA word of it is to be a number and isn't, or is outside its range, or names a class that isn't there.\nExpected: HERE REGISTER; decimal numbers up to 255.\nHint: a comment needs a line of its own.\nHint: a register is its number alone, 0 and not r0.\n";
+        "Number, line 3:   HERE r0 ; here\n                       ^^\nA word of it is to be a number and isn't, or is outside its range, or names a class that isn't there.\nExpected: HERE REGISTER; decimal numbers up to 255.\nHint: a comment needs a line of its own.\nHint: a register is its number alone, 0 and not r0.\n";
     assert_eq!(rt; told.as_str(), wanted);
     let told = explain_image(rt.alloc(), text.as_bytes(), ImageFault::Magic)?;
     let wanted =
-        "Magic, in 40 bytes\nAn image begins with the bytes 58 31 30 50, in hexadecimal.\nThese bytes are a text: assemble it first, with `asm`.\n";
+        "Magic, in 40 bytes\nAt byte 0: the magic of the header, 70 6c 61 63.\nAn image begins with the bytes 58 31 30 50, in hexadecimal.\nThese bytes are a text: assemble it first, with `asm`.\n";
     assert_eq!(rt; told.as_str(), wanted);
     Ok(())
 }

@@ -75,9 +75,15 @@ fn node_again(
     node: &NodeView,
 ) -> Result<FrameWriter, Fail> {
     let mut fields = Vec::new(alloc);
+    let mut values = node.values();
     for j in 0..node.fields() {
-        fields.push(node.field(j))?;
+        assert_eq!(rt; values.left(), node.fields() - j);
+        assert!(rt; values.left() > 0);
+        let value = values.step();
+        assert_eq!(rt; value, node.field(j));
+        fields.push(value)?;
     }
+    assert_eq!(rt; values.left(), 0);
     assert!(rt; fields.len() <= 16);
     Ok(writer.node(node.class(), &fields)?)
 }
@@ -100,7 +106,9 @@ fn graph_again(
     for i in 0..view.roots() {
         roots.push(view.root(i))?;
     }
-    let mut writer = FrameWriter::new(alloc, head, &sizes)?.roots(&roots)?;
+    let mut writer = FrameWriter::new(alloc, head, &sizes)?
+        .reserve(100)?
+        .roots(&roots)?;
     for i in 0..view.texts() {
         writer = writer.text(view.text(i))?;
     }

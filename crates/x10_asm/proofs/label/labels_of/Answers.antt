@@ -1,7 +1,7 @@
 use Rattle.std.proofs.Common.{◌∙◌, sym, ap, arith}
 use Rattle.x10_asm.specs.Lines.{lines, words}
 use Rattle.x10_asm.specs.LabelLines.{ends_labels, labels_from}
-use Rattle.x10_asm.proofs.Names.{said_label_ends}
+use Rattle.x10_asm.proofs.Names.{line_label_ends}
 use Rattle.x10_asm.proofs.LabelTables.{labelled_end, labelled_before_end, labelled_more}
 use Rattle.x10_asm.proofs.label.labels_of.Goals as goal
 
@@ -11,7 +11,7 @@ returns-then-ends_labels c =
     labelled_before_end c.loop-text.table c.loop-text.number c.loop-text.index (lines c.loop-text.rest.now) (lines c.in-Some.after.now) c.in-Some.text.now (labels_from c.args.number 0 (lines c.args.text.now)) c.loop-text.invariant.labelled c.in-Some.ensures.lines ends
 
 pub define_by-requires : goal.define_by-requires
-define_by-requires c = record { label = λ e. rw c.line_of-line.ensures.first (said_label_ends (words c.in-Some.text.now) (sym c.line_of-line.ensures.statement ∙ e)) }
+define_by-requires c = record { label = λ e. rw c.line_of-line.ensures.first (line_label_ends (words c.in-Some.text.now) (sym c.line_of-line.ensures.statement ∙ e)) }
 
 pub loop-text-preserved : goal.loop-text-preserved
 loop-text-preserved c = record {

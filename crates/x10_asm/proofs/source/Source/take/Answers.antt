@@ -8,12 +8,12 @@ use Rattle.x10_asm.specs.Statements.{other_words}
 use Rattle.x10_asm.specs.Reading as reading
 use Rattle.x10_asm.specs.Reading.{with_places, with_class, with_int, with_text, with_func, with_instruction, with_end, with_entry, with_nothing, places_of, class_of, int_line_of, text_of, func_of, end_of, entry_of, label_at, is_inside}
 use Rattle.x10_asm.specs.Sources.{Takes}
-use Rattle.x10_asm.proofs.Names.{said_label_ends}
+use Rattle.x10_asm.proofs.Names.{line_label_ends}
 use Rattle.x10_asm.proofs.Taking.{line_gives}
 use Rattle.x10_asm.proofs.source.Source.take.Goals as goal
 
 pub take_label-requires : goal.take_label-requires
-take_label-requires c = rw c.line_of-line.ensures.first (said_label_ends (words c.args.text.now) (sym c.line_of-line.ensures.statement ∙ c.in-Label.is))
+take_label-requires c = rw c.line_of-line.ensures.first (line_label_ends (words c.args.text.now) (sym c.line_of-line.ensures.statement ∙ c.in-Label.is))
 
 pub returns-in-Silent : goal.returns-in-Silent
 returns-in-Silent c = λ s f. (s, line_gives c.args.classes s c.args.number c.args.text.now (lines c.args.rest.now) c.line_of-line.result.statement c.line_of-line.ensures.statement statement.Silent c.in-Silent.is, f)

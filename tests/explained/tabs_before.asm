@@ -1,0 +1,16 @@
+; Tabs in the line before the word: they stand in the line of the marks too, so that the marks are beneath the word.
+;
+; $ x10p asm --explain tabs_before.asm tabs_before.x10
+; status 1: asm: line 10 Count
+; > Count, line 10: text "a	b	c" more
+; >                        	 	   ^^^^
+; > It has too few or too many words.
+; > Expected: text "..".
+places 1
+text "a	b	c" more
+func 1 0 none
+TEXTK 0 0
+PRINT 0
+RET 0
+end
+entry 0

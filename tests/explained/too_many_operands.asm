@@ -1,0 +1,17 @@
+; A word too many.
+;
+; $ x10p asm --explain too_many_operands.asm too_many_operands.x10
+; status 1: asm: line 13 Count
+; > Count, line 13:    ADD  0 0   0 17 18
+; >                                 ^^
+; > It has too few or too many words.
+; > Expected: ADD REGISTER REGISTER REGISTER; decimal numbers up to 255.
+places 1
+int 7
+func 1 0 none
+INTK 0 0
+   ADD  0 0   0 17 18
+PRINT 0
+RET 0
+end
+entry 0
