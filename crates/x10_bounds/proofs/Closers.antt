@@ -1,5 +1,5 @@
 -- The first closers of the regions, from the last instruction to the first; and the regions in order.
-use Rattle.std.proofs.Common.{◌≡◌, ◌≢◌, ◌⊎◌, ℕ, zero, suc, ◌+◌, ◌<◌, Bool, true, false, ◌==◌, List, [], ◌∷◌, ◌++◌, length, drop, Option, Some, None, refl, sym, ap, subst, ◌∙◌, inl, inr, append_assoc, arith}
+use Rattle.std.proofs.Common.{◌≡◌, ◌≢◌, ◌⊎◌, ℕ, ◌+◌, ◌<◌, Bool, true, false, ◌==◌, List, [], ◌∷◌, ◌++◌, length, drop, Option, Some, None, sym, ap, subst, ◌∙◌, inl, inr, append_assoc, arith}
 use Rattle.std.specs.Prelude.{if◌then◌else◌, not, slice_get, slice_set}
 use Rattle.x10_code.specs.declared.op.Op.{Op}
 use Rattle.x10_code.specs.declared.op.Op.TheVariants as op
@@ -11,6 +11,8 @@ use Rattle.x10_bounds.specs.declared.region.Region.{Region}
 use Rattle.x10_bounds.specs.Regions.{AreClosersFrom, closed_by, first_opener, is_number, leaves_open, opened_by, regions_from, in_list}
 use Rattle.x10_bounds.proofs.Around.{IsChain, chain}
 use Rattle.x10_bounds.proofs.Failing.{drop-at, drop-end}
+use Rattle.x10_model.proofs.Lists.{set_here, set_off}
+use Rattle.std.proofs.Math.ListN.{length-set}
 
 first_before : (code : List Instr) (pc o : ℕ) (rs : List structure.Region) → IsChain code pc rs → first_opener rs ≡ Some o → o < pc
 first_before code pc o [] c e = absurd cc
@@ -48,25 +50,6 @@ closes_nothing code n pc closers closed next lt says e are = record {
       ∙ ap (λ (x : Option ℕ). Some x) (ap (λ (c : Option ℕ). if not (is_number o c) then first_failing (leaves_open code o) (pc + 1) (drop (pc + 1) code) else Some pc) (sym e ∙ says at.0 at.1) ∙ sym (closer_more code o pc at.0 at.1));
 }
 
-set_here : {A : Type 0} (xs : List A) (k : ℕ) (x : A) → k < length xs → slice_get (slice_set xs k x) k ≡ Some x
-set_here [] k x lt = absurd (omega arith)
-set_here (y ∷ xs) zero x lt = refl
-set_here (y ∷ xs) (suc k) x lt = set_here xs k x (omega arith)
-
-set_there : {A : Type 0} (xs : List A) (k j : ℕ) (x : A) → j ≢ k → slice_get (slice_set xs k x) j ≡ slice_get xs j
-set_there [] zero j x ne = refl
-set_there [] (suc k) j x ne = refl
-set_there (y ∷ xs) zero zero x ne = absurd (ne refl)
-set_there (y ∷ xs) zero (suc j) x ne = refl
-set_there (y ∷ xs) (suc k) zero x ne = refl
-set_there (y ∷ xs) (suc k) (suc j) x ne = set_there xs k j x (λ e. ne (ap (λ (n : ℕ). suc n) e))
-
-length-set : {A : Type 0} (xs : List A) (k : ℕ) (x : A) → length (slice_set xs k x) ≡ length xs
-length-set [] zero x = refl
-length-set [] (suc k) x = refl
-length-set (y ∷ xs) zero x = refl
-length-set (y ∷ xs) (suc k) x = let h : length (slice_set xs k x) ≡ length xs = length-set xs k x in omega arith
-
 same_or_not : (a b : ℕ) → ((a ≡ b) × ((b == a) ≡ true)) ⊎ ((a ≢ b) × ((b == a) ≡ false))
 same_or_not a b = grind arith
 
@@ -85,7 +68,7 @@ closes_one code n pc o closers closed next lt says e are = record {
             subst (λ (j : ℕ). slice_get (slice_set closers j (Some pc)) k ≡ Some (Some pc)) h.0 (set_here closers k (Some pc) small)
             ∙ ap (λ (x : Option ℕ). Some x) (ap (λ (b : Bool). if not b then rest else Some pc) (sym h.1) ∙ now)
         | inr h ↦
-            set_there closers o k (Some pc) h.0 ∙ are.each k within ∙ ap (λ (j : ℕ). Some (first_failing (leaves_open code k) j (drop j code))) next
+            set_off closers o k (Some pc) h.0 ∙ are.each k within ∙ ap (λ (j : ℕ). Some (first_failing (leaves_open code k) j (drop j code))) next
             ∙ ap (λ (x : Option ℕ). Some x) (ap (λ (b : Bool). if not b then rest else Some pc) (sym h.1) ∙ now)
       ];
 }

@@ -1,16 +1,13 @@
 -- What the bounds of a module say of each of its functions.
-use Rattle.std.proofs.Common.{◌≡◌, ℕ, zero, suc, List, [], ◌∷◌, ◌++◌, length, Option, Some, None, Result, Ok, Err, refl, subst}
+use Rattle.std.proofs.Common.{◌≡◌, ℕ, zero, suc, List, [], ◌∷◌, ◌++◌, length, Some, Ok, subst}
 use Rattle.std.specs.Prelude.{slice_get}
 use Rattle.x10_model.specs.Modules.{Module, Function}
 use Rattle.x10_model.specs.Ranges.{function_at}
-use Rattle.x10_model.specs.Structure.{BoundFault, BoundCause, Nesting, Jump, LoopSlot, nesting_fault, jump_fault, slot_fault, unless, checked_bound, with_bound, bounds_from, bounds_of}
+use Rattle.x10_model.specs.Structure.{Nesting, Jump, LoopSlot, nesting_fault, jump_fault, slot_fault, checked_bound, bounds_from, bounds_of}
 use Rattle.x10_bounds.specs.Potential.{IsStructured}
 use Rattle.x10_bounds.specs.OpenFinishes.{FinishesMatch}
 use Rattle.x10_bounds.proofs.OpenFinishes.{structured_matches}
-
-unless_ok : {A : Type 0} (o : Option ℕ) (cause : BoundCause) (f : ℕ) (r : Result A BoundFault) (x : A) → unless o cause f r ≡ Ok x → (o ≡ None) × (r ≡ Ok x)
-unless_ok None cause f r x e = (refl, e)
-unless_ok (Some pc) cause f r x e = absurd cc
+use Rattle.x10_model.proofs.Bounds.{unless_ok, with_ok}
 
 checked_structured : (f bound : ℕ) (earlier : List ℕ) (function : Function) → checked_bound f earlier function ≡ Ok bound → IsStructured function.loops function.code
 checked_structured f bound earlier function e =
@@ -18,10 +15,6 @@ checked_structured f bound earlier function e =
     let j = unless_ok (jump_fault function.code) Jump f _ bound n.1 in
     let s = unless_ok (slot_fault function.loops function.code) LoopSlot f _ bound j.1 in
     record { nests = n.0; jumps = j.0; slots = s.0 }
-
-with_ok : (earlier : List ℕ) (r : Result ℕ BoundFault) (others : List ℕ → Result (List ℕ) BoundFault) (bounds : List ℕ) → with_bound earlier r others ≡ Ok bounds → (bound : ℕ) × (r ≡ Ok bound) × (others (earlier ++ bound ∷ []) ≡ Ok bounds)
-with_ok earlier (Ok bound) others bounds e = (bound, refl, e)
-with_ok earlier (Err fault) others bounds e = absurd cc
 
 each : (fs : List Function) (earlier bounds : List ℕ) (i : ℕ) (function : Function) → bounds_from earlier fs ≡ Ok bounds → slice_get fs i ≡ Some function → IsStructured function.loops function.code
 each [] earlier bounds i function e at = absurd cc

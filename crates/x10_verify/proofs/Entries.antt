@@ -21,6 +21,7 @@ use Rattle.x10_verify.specs.Known.{kind_in, state_of, entered, FlagsFit}
 use Rattle.x10_verify.specs.Knowledge.{SameState}
 use Rattle.x10_verify.proofs.Below.{entry_cases}
 use Rattle.x10_verify.proofs.Rows.{kind_in-set}
+use Rattle.std.proofs.lemmas.Option.{same_Some, slice_get_past}
 
 -- ---- kinds
 
@@ -28,11 +29,6 @@ pub none_in : (n r : ℕ) → kind_in (replicate n None) r ≡ None
 none_in zero r = refl
 none_in (suc n) zero = refl
 none_in (suc n) (suc r) = none_in n r
-
-past : (slots : List Slot) (r : ℕ) → length slots ≤ r → slice_get slots r ≡ None
-past [] r le = refl
-past (s ∷ ss) zero le = absurd (omega arith)
-past (s ∷ ss) (suc r) le = past ss r (omega arith)
 
 -- the kinds so far
 pub record KindsTo (slots : List Slot) (kinds : List (Option Kind)) (i : ℕ) : Type 0 where
@@ -68,16 +64,13 @@ kinds_go_on slots kinds i slot h lt e = record { size = simp length-set h.size; 
     ]
 
 pub kinds_done : (slots : List Slot) (kinds : List (Option Kind)) (i : ℕ) → KindsTo slots kinds i → length slots ≤ i → (r : ℕ) → kind_in kinds r ≡ parameter_kind (slice_get slots r)
-kinds_done slots kinds i h le r = elim (cases_lt r i) [ inl lt ↦ h.set r lt | inr ge ↦ h.unset r ge ∙ sym (ap parameter_kind (past slots r (omega arith))) ]
+kinds_done slots kinds i h le r = elim (cases_lt r i) [ inl lt ↦ h.set r lt | inr ge ↦ h.unset r ge ∙ sym (ap parameter_kind (slice_get_past slots r (omega arith))) ]
 
 -- ---- homes
 
 drop_at : (slots : List Slot) (i : ℕ) (slot : Slot) → slice_get slots i ≡ Some slot → drop i slots ≡ slot ∷ drop (suc i) slots
 drop_at [] i slot e = absurd cc
-drop_at (s ∷ ss) zero slot e = ap (λ x. x ∷ ss) (some_is s slot e)
-  where
-    some_is : (x y : Slot) → Some x ≡ Some y → x ≡ y
-    some_is x y q = cc
+drop_at (s ∷ ss) zero slot e = ap (λ x. x ∷ ss) (same_Some s slot e)
 drop_at (s ∷ ss) (suc i) slot e = drop_at ss i slot e
 
 all_dropped : (slots : List Slot) → drop (length slots) slots ≡ []

@@ -35,7 +35,7 @@ use Rattle.x10_verify.proofs.Tables.{table_sound, can_apply, results_fit}
 use Rattle.x10_verify.proofs.Solving.{least_on, least_jump, least_never, least_same}
 use Rattle.x10_verify.proofs.Stepped.{edges_in}
 use Rattle.x10_verify.proofs.Wholes.{function_fits, has_names}
-use Rattle.x10_model.proofs.NotWrong.{none_some}
+use Rattle.x10_model.proofs.Lists.{none_some}
 
 -- ---- a cause and a rule
 

@@ -1,6 +1,6 @@
 -- Weakening a state by another, register by register, gives the least state above both.
 use Rattle.std.proofs.Common.{◌≡◌, ◌≢◌, ◌⊎◌, ℕ, ◌+◌, ◌*◌, ◌<◌, ◌≤◌, Bool, true, false, ◌==◌, ◌||◌, not, Option, Some, None, refl, sym, ap, subst, ◌∙◌, inl, inr, arith, rules}
-use Rattle.std.proofs.lemmas.Bool.{cases_lt, eq-eqb}
+use Rattle.std.proofs.lemmas.Bool.{cases_lt, eq-eqb, cases_Bool}
 use Rattle.x10_kinds.specs.declared.kind.Kind.{Kind}
 use Rattle.x10_kinds.specs.declared.kind.Kind.TheVariants.{Obj}
 use Rattle.x10_kinds.specs.declared.homes.Term.TheVariants as term
@@ -44,13 +44,9 @@ common_fits a b k l want ea eb one two =
 placed_common : (k l want : Kind) → Fits k want → Fits l want → has_place want ≡ true → meet_of k l ≡ Some k
 placed_common k l want one two placed = search rules
 
-bool_cases : (b : Bool) → (b ≡ true) ⊎ (b ≡ false)
-bool_cases true = inl refl
-bool_cases false = inr refl
-
 -- a kind that both fit, where the common one is another, has no place
 common_no_place : (a b : Option Kind) (k l want : Kind) → a ≡ Some k → b ≡ Some l → Fits k want → Fits l want → common_of a b ≢ a → has_place want ≡ false
-common_no_place a b k l want ea eb one two other = elim (bool_cases (has_place want)) [
+common_no_place a b k l want ea eb one two other = elim (cases_Bool (has_place want)) [
   | inl placed ↦ absurd (other (ap (λ x. common_of x b) ea ∙ ap (λ y. common_of (Some k) y) eb ∙ placed_common k l want one two placed ∙ sym ea))
   | inr none ↦ none
 ]
@@ -151,7 +147,7 @@ weakened_more v s n u t before changed is h lt other same = record {
     ]
 
     least_more : (w : State) → IsState w → ((r : ℕ) (want : Kind) → w.kinds r ≡ Some want → IsKind (state_of v) r want × IsKind (state_of s) r want) → Includes (equations v.homes) w.homes → Includes (equations t.homes) w.homes
-    least_more w state kinds homes x y tx ty e = same.homes x y tx ty ∙ from_alone_ways (equations u.homes) n x y (choose (bool_cases (same_term x (term.Reg n))) (bool_cases (same_term y (term.Reg n))))
+    least_more w state kinds homes x y tx ty e = same.homes x y tx ty ∙ from_alone_ways (equations u.homes) n x y (choose (cases_Bool (same_term x (term.Reg n))) (cases_Bool (same_term y (term.Reg n))))
       where
         free : holds_place (w.kinds n) ≡ false
         free = elim (option_cases (w.kinds n)) [
@@ -244,10 +240,10 @@ homes_fall old v kinds less =
 
 -- either of the two
 pub weakened_falls : (old v s u : Known) (homes kinds : Bool) → v.kinds ≡ old.kinds → (homes ≡ false → v.homes ≡ old.homes) → (homes ≡ true → rank v.homes < rank old.homes) → IsWeakened v s 64 u kinds → (homes || kinds) ≡ true → rank_of u < rank_of old
-weakened_falls old v s u homes kinds same kept less h e = by_cases (bool_cases homes) (bool_cases kinds)
+weakened_falls old v s u homes kinds same kept less h e = by_cases (cases_Bool homes) (cases_Bool kinds)
   where
     homes_le : rank_of v ≤ rank_of old
-    homes_le = elim (bool_cases homes) [
+    homes_le = elim (cases_Bool homes) [
       | inl yes' ↦ (let f = homes_fall old v same (less yes') in omega arith)
       | inr no' ↦ (let f : rank_of v ≡ rank_of old = ap rank_of (known_is old v same (kept no')) in omega arith)
     ]

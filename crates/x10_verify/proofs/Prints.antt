@@ -25,12 +25,12 @@ use Rattle.x10_verify.specs.States.{state_if, state_in, stated}
 use Rattle.x10_model.proofs.Decided.{get_below}
 use Rattle.x10_verify.proofs.InFunction.{code_length, same_function}
 use Rattle.x10_verify.proofs.Solved.{solved}
-use Rattle.x10_verify.proofs.Tabled.{get_set, get_other}
+use Rattle.x10_model.proofs.Lists.{set_here, set_off}
 
 -- ---- bits
 
 bit_set : (row : List Bool) (i : ℕ) (b : Bool) → i < length row → bit_in (set row i b) i ≡ b
-bit_set row i b lt = let g = get_below row i lt in ap bit_if (get_set row i b g.0 g.1)
+bit_set row i b lt = let g = get_below row i lt in ap bit_if (set_here row i b (slice_get_within row i g.0 g.1))
 
 -- one instruction more is noted
 pub noted_more : (program : Module) (f pc : ℕ) (table : List Entry) (row : List Bool) (i : Instr) (e : Entry) (b : Bool) → pc < length row → instr_at program f pc ≡ Some i → slice_get table pc ≡ Some e → b ≡ prints_in (Some i) (state_if e.mark e.known)
@@ -38,7 +38,7 @@ pub noted_more : (program : Module) (f pc : ℕ) (table : List Entry) (row : Lis
 noted_more program f pc table row i e b within instr entry is before q lt = elim (cases_eq q pc) [
   | inl at ↦ subst (λ n. bit_in (set row pc b) n ≡ prints_in (instr_at program f n) (stated table n)) (sym at)
       (bit_set row pc b within ∙ is ∙ sym (ap (λ o. prints_in o (stated table pc)) instr ∙ ap (λ o. prints_in (Some i) (state_in o)) entry))
-  | inr ne ↦ ap bit_if (get_other row pc q b ne) ∙ before q (omega arith)
+  | inr ne ↦ ap bit_if (set_off row pc q b ne) ∙ before q (omega arith)
 ]
 
 no_instr : (o : Option Function) (pc : ℕ) → length (code_in o) ≤ pc → instr_in o pc ≡ None
@@ -161,17 +161,17 @@ rows_set program rows f old row h there size = record {
   count = length-set rows f row ∙ h.count;
   sizes = λ g r e. elim (cases_eq g f) [
     | inl at ↦ (
-        let same : row ≡ r = same_Some row r (sym (get_set rows f row old there) ∙ ap (slice_get (set rows f row)) (sym at) ∙ e) in
+        let same : row ≡ r = same_Some row r (sym (set_here rows f row (slice_get_within rows f old there)) ∙ ap (slice_get (set rows f row)) (sym at) ∙ e) in
         ap (λ (v : Vec Bool Global). length v.items) (sym same) ∙ size ∙ h.sizes f old there ∙ ap (λ n. length (code_at program n)) (sym at))
-    | inr ne ↦ h.sizes g r (sym (get_other rows f g row ne) ∙ e)
+    | inr ne ↦ h.sizes g r (sym (set_off rows f g row ne) ∙ e)
   ];
 }
 
 pub rows_more : (program : Module) (rows : List (Vec Bool Global)) (f : ℕ) (old row : Vec Bool Global) → slice_get rows f ≡ Some old → ((g : ℕ) → g < f → AreNoted program (bit_at rows g) g) → AreNoted program (bit_in row.items) f
     → (g : ℕ) → g < f + 1 → AreNoted program (bit_at (set rows f row) g) g
 rows_more program rows f old row there before here g lt = elim (cases_eq g f) [
-  | inl at ↦ subst (λ n. AreNoted program (bit_at (set rows f row) n) n) (sym at) (λ pc. subst (λ b. b ≡ true ↔ PrintsText program f pc) (sym (ap (λ o. row_if o pc) (get_set rows f row old there))) (here pc))
-  | inr ne ↦ λ pc. subst (λ b. b ≡ true ↔ PrintsText program g pc) (sym (ap (λ o. row_if o pc) (get_other rows f g row ne))) (before g (omega arith) pc)
+  | inl at ↦ subst (λ n. AreNoted program (bit_at (set rows f row) n) n) (sym at) (λ pc. subst (λ b. b ≡ true ↔ PrintsText program f pc) (sym (ap (λ o. row_if o pc) (set_here rows f row (slice_get_within rows f old there)))) (here pc))
+  | inr ne ↦ λ pc. subst (λ b. b ≡ true ↔ PrintsText program g pc) (sym (ap (λ o. row_if o pc) (set_off rows f g row ne))) (before g (omega arith) pc)
 ]
 
 -- past the rows there is no function

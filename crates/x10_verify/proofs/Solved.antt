@@ -2,7 +2,7 @@
 use Rattle.std.proofs.Common.{◌≡◌, ◌⊎◌, ℕ, zero, suc, ◌+◌, ◌-◌, ◌*◌, ◌<◌, ◌≤◌, Bool, true, false, List, length, Some, None, refl, sym, ap, subst, ◌∙◌, inl, inr, arith}
 use Rattle.std.specs.Prelude.{slice_get}
 use Rattle.std.proofs.Math.Nat.{suc-mul}
-use Rattle.std.proofs.lemmas.Bool.{cases_eq, cases_lt}
+use Rattle.std.proofs.lemmas.Bool.{cases_eq, cases_lt, cases_Bool}
 use Rattle.std.proofs.lemmas.Option.{same_Some}
 use Rattle.x10_model.specs.Modules.{Module, Function}
 use Rattle.x10_model.specs.Assignments.{State, IsState, entry_state}
@@ -17,11 +17,7 @@ use Rattle.x10_verify.specs.Solving.{IsSolved, Solves}
 use Rattle.x10_verify.specs.States.{state_in, stated, waits, IsFresh, IsMetIn, Arrives}
 use Rattle.x10_verify.proofs.Below.{IsBelow-trans, SameState-below, SameState-sym}
 use Rattle.x10_verify.proofs.Solving.{Arrived, arrived}
-use Rattle.x10_model.proofs.NotWrong.{none_some}
-
-bool_cases : (b : Bool) → (b ≡ true) ⊎ (b ≡ false)
-bool_cases true = inl refl
-bool_cases false = inr refl
+use Rattle.x10_model.proofs.Lists.{none_some}
 
 -- with the state at the entry alone
 pub begins : (program : Module) (function : Function) (known : Known) (old new : List Entry) (changed : Bool) → 0 < length function.code → IsFresh old → Arrives old 0 known new changed
@@ -54,7 +50,7 @@ begins program function known old new changed some fresh arrives same state narr
     ]
 
     waiting : waits new 0 ≡ true
-    waiting = elim (bool_cases changed) [
+    waiting = elim (cases_Bool changed) [
       | inl changes ↦ a.waiting changes
       | inr stays ↦ absurd (none_some (stated new 0) (state_of known) (ap (λ t. stated t 0) (a.same stays) ∙ fresh 0) here)
     ]

@@ -1,8 +1,8 @@
 -- One instruction of the work list keeps the states so far sound and least.
-use Rattle.std.proofs.Common.{◌≡◌, ◌⊎◌, ℕ, zero, suc, ◌+◌, ◌<◌, ◌≤◌, Bool, true, false, List, [], ◌∷◌, ◌++◌, length, set, Option, Some, None, refl, sym, ap, subst, ◌∙◌, inl, inr, arith}
+use Rattle.std.proofs.Common.{◌≡◌, ◌⊎◌, ℕ, ◌+◌, ◌<◌, ◌≤◌, Bool, true, false, List, ◌++◌, length, Option, Some, None, refl, sym, ap, subst, ◌∙◌, inl, inr, arith}
 use Rattle.std.specs.Prelude.{slice_get}
-use Rattle.std.proofs.lemmas.Bool.{cases_eq}
-use Rattle.std.proofs.lemmas.Option.{same_Some}
+use Rattle.std.proofs.lemmas.Bool.{cases_eq, cases_Bool}
+use Rattle.std.proofs.lemmas.Option.{same_Some, slice_get_past, slice_get_within}
 use Rattle.x10_code.specs.declared.instr.Instr.{Instr}
 use Rattle.x10_code.specs.Table.{form_of}
 use Rattle.x10_model.specs.Maps.{IsIn}
@@ -22,8 +22,7 @@ use Rattle.x10_verify.proofs.Below.{IsBelow-refl, IsBelow-trans, SameState-below
 use Rattle.x10_verify.proofs.Effects.{after_below}
 use Rattle.x10_verify.proofs.Parts.{permits_parts, parts_permit}
 use Rattle.x10_verify.proofs.Settling.{allows_down, allows_once}
-use Rattle.x10_verify.proofs.Tabled.{get_set, get_other}
-use Rattle.x10_model.proofs.NotWrong.{none_some}
+use Rattle.x10_model.proofs.Lists.{set_same, none_some, set_here, set_off}
 
 -- ---- what every consistent assignment knows
 
@@ -79,16 +78,11 @@ least_never program function at s instr narrow is least never a =
     let r = rule_at program function at s instr narrow is least a.0 a.1 in
     never r.2 r.4
 
-past_end : (xs : List Instr) (n : ℕ) → length xs ≤ n → slice_get xs n ≡ None
-past_end [] n le = refl
-past_end (x ∷ xs) zero le = absurd (omega arith)
-past_end (x ∷ xs) (suc n) le = past_end xs n (omega arith)
-
 pub least_past : (program : Module) (function : Function) (pc : ℕ) (s : State) → length function.code ≤ pc → LeastAt program function pc s → HasAssignment program function → ⊥
 least_past program function pc s le least a =
     let l = least.below a.0 a.1 in
     let h = a.1.permitted pc l.0 l.1 in
-    none_some (slice_get function.code pc) h.0 (past_end function.code pc le) h.2
+    none_some (slice_get function.code pc) h.0 (slice_get_past function.code pc le) h.2
 
 pub least_same : (program : Module) (function : Function) (pc : ℕ) (s t : State) → SameState t s → LeastAt program function pc s → LeastAt program function pc t
 least_same program function pc s t alike least = record {
@@ -139,14 +133,9 @@ pub record Arrived (old : List Entry) (target : ℕ) (s : State) (new : List Ent
   pub waiting : changed ≡ true → waits new target ≡ true
   pub met : IsMetIn (stated old target) s u
 
-set_same : {X : Type 0} (xs : List X) (i : ℕ) (x : X) → slice_get xs i ≡ Some x → set xs i x ≡ xs
-set_same [] i x e = refl
-set_same (y ∷ ys) zero x e = ap (λ z. z ∷ ys) (sym (same_Some y x e))
-set_same (y ∷ ys) (suc i) x e = ap (λ zs. y ∷ zs) (set_same ys i x e)
-
 pub arrived : (old : List Entry) (target : ℕ) (known : Known) (new : List Entry) (changed : Bool) (a : Arrives old target known new changed) → Arrived old target (state_of known) new changed (state_of a.entry.known)
 arrived old target known new changed a = record {
-  elsewhere = λ q ne. ap (λ xs. slice_get xs q) a.is ∙ get_other old target q a.entry ne;
+  elsewhere = λ q ne. ap (λ xs. slice_get xs q) a.is ∙ set_off old target q a.entry ne;
   here = ap state_in there ∙ a.received.reached;
   same = λ f. a.is ∙ set_same old target a.entry (a.was ∙ ap Some (sym (a.received.same f)));
   waiting = λ f. ap waits_in there ∙ ap is_waiting (a.received.waiting f);
@@ -154,7 +143,7 @@ arrived old target known new changed a = record {
 }
   where
     there : slice_get new target ≡ Some a.entry
-    there = ap (λ xs. slice_get xs target) a.is ∙ get_set old target a.entry a.before a.was
+    there = ap (λ xs. slice_get xs target) a.is ∙ set_here old target a.entry (slice_get_within old target a.before a.was)
 
 -- each state that there was is at or below the one that there is
 grown : (old : List Entry) (target : ℕ) (s : State) (new : List Entry) (changed : Bool) (u : State) → Arrived old target s new changed u → IsKept s → ((q : ℕ) (v : State) → stated old q ≡ Some v → IsKept v)
@@ -169,10 +158,6 @@ pub reaches_on : (old : List Entry) (target : ℕ) (s : State) (new : List Entry
 reaches_on old target s new changed u a ks kept edge r =
     let g = grown old target s new changed u a ks kept edge.0 r.0 r.1 in
     (g.0, g.1, IsBelow-trans edge.1 r.0 g.0 r.2 g.2)
-
-bool_cases : (b : Bool) → (b ≡ true) ⊎ (b ≡ false)
-bool_cases true = inl refl
-bool_cases false = inr refl
 
 -- the instruction that is looked at has its state still, or waits again
 pub works_on : (program : Module) (function : Function) (at : ℕ) (s : State) (front next : ℕ) (old : List Entry) (target : ℕ) (t : State) (new : List Entry) (changed : Bool) (u : State)
@@ -191,13 +176,13 @@ works_on program function at s front next old target t new changed u a lt kt lt'
     | inr ne ↦ h.least q v (ap state_in (sym (a.elsewhere q ne)) ∙ e)
   ];
   behind = λ q less. elim (cases_eq q target) [
-    | inl at' ↦ elim (bool_cases changed) [
+    | inl at' ↦ elim (cases_Bool changed) [
       | inl is ↦ (let no' : next ≤ target = room is in absurd (omega arith))
       | inr not ↦ ap (λ xs. waits xs q) (a.same not) ∙ h.behind q (omega arith)
     ]
     | inr ne ↦ ap waits_in (a.elsewhere q ne) ∙ h.behind q (omega arith)
   ];
-  own = elim (bool_cases changed) [
+  own = elim (cases_Bool changed) [
     | inr not ↦ subst (λ xs. (stated xs at ≡ Some s) ⊎ (waits xs at ≡ true)) (sym (a.same not)) h.own
     | inl is ↦ elim (cases_eq at target) [
       | inl here ↦ inr (ap (waits new) here ∙ a.waiting is)
@@ -215,7 +200,7 @@ works_on program function at s front next old target t new changed u a lt kt lt'
     settled_on : (q : ℕ) (v : State) → (q ≡ at → ⊥) → stated new q ≡ Some v → waits new q ≡ false → Holds program function (stated new) q v
     settled_on q v ne e w = elim (cases_eq q target) [
       | inr off ↦ more q v (h.settled q v ne (ap state_in (sym (a.elsewhere q off)) ∙ e) (ap waits_in (sym (a.elsewhere q off)) ∙ w))
-      | inl here ↦ elim (bool_cases changed) [
+      | inl here ↦ elim (cases_Bool changed) [
         | inl is ↦ absurd (let f = a.waiting is in let g : waits new target ≡ false = ap (waits new) (sym here) ∙ w in cc)
         | inr not ↦ more q v (h.settled q v ne (ap (λ xs. stated xs q) (sym (a.same not)) ∙ e) (ap (λ xs. waits xs q) (sym (a.same not)) ∙ w))
       ]

@@ -29,8 +29,10 @@ use Rattle.x10_verify.proofs.Parts.{parts_permit}
 use Rattle.x10_verify.proofs.Settling.{allows_sound, ResultsFit}
 use Rattle.x10_verify.proofs.Solving.{Works, Arrived, arrived, works_on, reaches_on, reaches_here, least_on, least_jump, least_never, least_past, least_same}
 use Rattle.x10_verify.proofs.Tables.{table_sound}
-use Rattle.x10_verify.proofs.Tabled.{get_set, get_other, arrives_total, done_total}
+use Rattle.x10_verify.proofs.Tabled.{arrives_total, done_total}
 use Rattle.x10_kinds.specs.declared.homes.Term.TheVariants as term
+use Rattle.x10_model.proofs.Lists.{set_here, set_off}
+use Rattle.std.proofs.lemmas.Option.{same_Some, slice_get_within}
 
 -- an instruction that waits has a state
 waiting_state : (m : Mark) (k : Known) → is_waiting m ≡ true → state_if m k ≡ Some (state_of k)
@@ -60,10 +62,10 @@ takes program function at known old new t h = record {
     done = record { mark = Done; known = t.before.known }
 
     there : slice_get new at ≡ Some done
-    there = ap (λ xs. slice_get xs at) t.is ∙ get_set old at done t.before t.was
+    there = ap (λ xs. slice_get xs at) t.is ∙ set_here old at done (slice_get_within old at t.before t.was)
 
     off : (q : ℕ) → (q ≡ at → ⊥) → slice_get new q ≡ slice_get old q
-    off q ne = ap (λ xs. slice_get xs q) t.is ∙ get_other old at q done ne
+    off q ne = ap (λ xs. slice_get xs q) t.is ∙ set_off old at q done ne
 
     same : (q : ℕ) → stated new q ≡ stated old q
     same q = elim (cases_eq q at) [
@@ -146,20 +148,11 @@ go_on_on program function at len instr known effect old new next j true size on 
 -- ---- the rule holds again
 
 pub edges_in : (a b : Bool) (pc x : ℕ) (s t : State) (edge : ℕ × State) → IsIn edge (edge_if a pc s ++ edge_if b x t) → ((a ≡ true) × (edge ≡ (pc, s))) ⊎ ((b ≡ true) × (edge ≡ (x, t)))
-edges_in true b pc x s t edge (zero, e) = inl (refl, some_edge edge (pc, s) e)
-  where
-    some_edge : (f g : ℕ × State) → Some g ≡ Some f → f ≡ g
-    some_edge f g q = cc
-edges_in true true pc x s t edge (suc zero, e) = inr (refl, some_edge edge (x, t) e)
-  where
-    some_edge : (f g : ℕ × State) → Some g ≡ Some f → f ≡ g
-    some_edge f g q = cc
+edges_in true b pc x s t edge (zero, e) = inl (refl, sym (same_Some (pc, s) edge e))
+edges_in true true pc x s t edge (suc zero, e) = inr (refl, sym (same_Some (x, t) edge e))
 edges_in true true pc x s t edge (suc (suc i), e) = absurd cc
 edges_in true false pc x s t edge (suc i, e) = absurd cc
-edges_in false true pc x s t edge (zero, e) = inr (refl, some_edge edge (x, t) e)
-  where
-    some_edge : (f g : ℕ × State) → Some g ≡ Some f → f ≡ g
-    some_edge f g q = cc
+edges_in false true pc x s t edge (zero, e) = inr (refl, sym (same_Some (x, t) edge e))
 edges_in false true pc x s t edge (suc i, e) = absurd cc
 edges_in false false pc x s t edge (i, e) = absurd cc
 
@@ -186,11 +179,8 @@ finishes program function at s instr effect next table is allows p = record {
     holds : (t : State) → stated table at ≡ Some t → waits table at ≡ false → Holds program function (stated table) at t
     holds t e w = elim p.works.own [
       | inr waiting ↦ absurd (let f = waiting in cc)
-      | inl own ↦ subst (λ x. Holds program function (stated table) at x) (some_is s t (sym own ∙ e)) (instr, edges_of instr.op (point program function at instr) s effect, is, parts_permit instr.op (point program function at instr) s effect allows, reached)
+      | inl own ↦ subst (λ x. Holds program function (stated table) at x) (same_Some s t (sym own ∙ e)) (instr, edges_of instr.op (point program function at instr) s effect, is, parts_permit instr.op (point program function at instr) s effect allows, reached)
     ]
-      where
-        some_is : (x y : State) → Some x ≡ Some y → x ≡ y
-        some_is x y q = cc
 
 -- ---- the whole step
 
@@ -209,7 +199,7 @@ step_on program function at len instr known effect next t0 t1 t2 t3 size is fit 
 
 -- the state of a taken instruction stays in the table
 pub taken_there : (old : List Entry) (at : ℕ) (known : Known) (new : List Entry) → Takes old at known new → stated new at ≡ Some (state_of known)
-taken_there old at known new t = ap state_in (ap (λ xs. slice_get xs at) t.is ∙ get_set old at (record { mark = Done; known = t.before.known }) t.before t.was) ∙ ap (λ k. Some (state_of k)) t.known_is
+taken_there old at known new t = ap state_in (ap (λ xs. slice_get xs at) t.is ∙ set_here old at (record { mark = Done; known = t.before.known }) (slice_get_within old at t.before t.was)) ∙ ap (λ k. Some (state_of k)) t.known_is
 
 -- a rule that does not hold
 pub step_refused : (program : Module) (function : Function) (at : ℕ) (instr : Instr) (known : Known) (why : FlowCause) (t0 t1 : List Entry) → slice_get function.code at ≡ Some instr → Takes t0 at known t1

@@ -1,18 +1,17 @@
 -- What the bounds of a module say of each function: the last instruction ends it, and its bound is that of its code.
-use Rattle.std.proofs.Common.{◌≡◌, ◌⊎◌, ℕ, zero, suc, ◌+◌, ◌-◌, ◌<◌, ◌≤◌, ◌^◌, Bool, true, false, cond, List, [], ◌∷◌, ◌++◌, length, Option, Some, None, Result, Ok, Err, refl, sym, subst, inl, inr, arith, length-append}
+use Rattle.std.proofs.Common.{◌≡◌, ◌⊎◌, ℕ, zero, suc, ◌+◌, ◌-◌, ◌<◌, ◌≤◌, ◌^◌, Bool, true, false, cond, List, [], ◌∷◌, ◌++◌, length, Option, Some, None, Ok, Err, refl, sym, subst, inl, inr, arith, length-append}
 use Rattle.std.specs.Prelude.{slice_get, nat_le}
 use Rattle.std.proofs.lemmas.Bool.{cases_lt, and_parts}
 use Rattle.x10_code.specs.declared.op.Op.{Op}
 use Rattle.x10_code.specs.declared.op.Op.TheVariants as op
 use Rattle.x10_code.specs.declared.instr.Instr.{Instr}
 use Rattle.x10_model.specs.Modules.{Module, Function}
-use Rattle.x10_model.specs.Structure.{BoundFault, BoundCause, Nesting, Jump, LoopSlot, CallOrder, around, bound_of, first_failing, nests, is_ret, is_last_ret, is_empty, ends_well, or_else, nesting_fault, jump_fault, slot_fault, order_fault, unless, checked_bound, with_bound, bounds_from, bounds_of}
+use Rattle.x10_model.specs.Structure.{BoundFault, Nesting, Jump, LoopSlot, CallOrder, around, bound_of, first_failing, nests, is_ret, is_last_ret, is_empty, ends_well, or_else, nesting_fault, jump_fault, slot_fault, order_fault, checked_bound, bounds_from, bounds_of}
+use Rattle.x10_model.proofs.Bounds.{unless_ok, with_ok}
+use Rattle.x10_model.proofs.Lists.{append_get}
+use Rattle.std.proofs.lemmas.Option.{same_Some, slice_get_within}
 
 -- ---- no fault
-
-unless_ok : {A : Type 0} (o : Option ℕ) (cause : BoundCause) (f : ℕ) (r : Result A BoundFault) (x : A) → unless o cause f r ≡ Ok x → (o ≡ None) × (r ≡ Ok x)
-unless_ok None cause f r x e = (refl, e)
-unless_ok (Some pc) cause f r x e = absurd cc
 
 small_ok : (b : Bool) (n x : ℕ) (fault : BoundFault) → cond b (Ok n) (Err fault) ≡ Ok x → n ≡ x
 small_ok true n x fault e = cc
@@ -29,17 +28,9 @@ checked function earlier f bound e =
 
 -- ---- each function of a module
 
-with_ok : (earlier : List ℕ) (r : Result ℕ BoundFault) (others : List ℕ → Result (List ℕ) BoundFault) (bounds : List ℕ) → with_bound earlier r others ≡ Ok bounds → (bound : ℕ) × (r ≡ Ok bound) × (others (earlier ++ bound ∷ []) ≡ Ok bounds)
-with_ok earlier (Ok bound) others bounds e = (bound, refl, e)
-with_ok earlier (Err fault) others bounds e = absurd cc
-
 -- a function with its bound, after those before it
 abbrev pub HasBound : Function → ℕ → Type 0
 HasBound f bound = (earlier : List ℕ) × (nesting_fault f.code ≡ None) × (bound_of earlier f.code ≡ bound)
-
-append_get : (xs : List ℕ) (y : ℕ) (ys : List ℕ) → slice_get (xs ++ y ∷ ys) (length xs) ≡ Some y
-append_get [] y ys = refl
-append_get (x ∷ xs) y ys = append_get xs y ys
 
 append_front : (xs ys : List ℕ) (i x : ℕ) → slice_get xs i ≡ Some x → slice_get (xs ++ ys) i ≡ Some x
 append_front [] ys i x e = absurd cc
@@ -63,10 +54,7 @@ each (h ∷ fs) earlier bounds zero f e g =
     let c = checked (length earlier) earlier h w.0 w.1 in
     let here : slice_get bounds (length earlier) ≡ Some w.0 = kept fs (earlier ++ w.0 ∷ []) bounds (length earlier) w.0 w.2 (append_get earlier w.0 []) in
     let at : length earlier + 0 ≡ length earlier = omega arith in
-    (w.0, subst (λ n. slice_get bounds n ≡ Some w.0) (sym at) here, subst (λ (k : Function). HasBound k w.0) (some_is h f g) (earlier, c.0, c.1))
-  where
-    some_is : (x y : Function) → Some x ≡ Some y → x ≡ y
-    some_is x y q = cc
+    (w.0, subst (λ n. slice_get bounds n ≡ Some w.0) (sym at) here, subst (λ (k : Function). HasBound k w.0) (same_Some h f g) (earlier, c.0, c.1))
 each (h ∷ fs) earlier bounds (suc i) f e g =
     let w = with_ok earlier (checked_bound (length earlier) earlier h) (λ bs. bounds_from bs fs) bounds e in
     let r = each fs (earlier ++ w.0 ∷ []) bounds i f w.2 g in
@@ -100,17 +88,12 @@ ret_is _ e = absurd cc
 last_is_ret : (o : Option Instr) (i : Instr) → is_last_ret o ≡ true → o ≡ Some i → i.op ≡ op.Ret
 last_is_ret o i e f = ret_is i.op (subst (λ x. is_last_ret x ≡ true) f e)
 
-below : (xs : List Instr) (n : ℕ) (x : Instr) → slice_get xs n ≡ Some x → n < length xs
-below [] n x e = absurd cc
-below (y ∷ ys) zero x e = omega arith
-below (y ∷ ys) (suc n) x e = let h : n < length ys = below ys n x e in omega arith
-
 -- an instruction that doesn't end its function has one after it
 pub has_next : (code : List Instr) (pc : ℕ) (i : Instr) → nesting_fault code ≡ None → slice_get code pc ≡ Some i → (i.op ≡ op.Ret → ⊥) → pc + 1 < length code
 has_next code pc i e g not-ret = next (cases_lt (pc + 1) (length code))
   where
     lt : pc < length code
-    lt = below code pc i g
+    lt = slice_get_within code pc i g
 
     next : ((pc + 1) < length code) ⊎ (length code ≤ pc + 1) → pc + 1 < length code
     next (inl h) = h

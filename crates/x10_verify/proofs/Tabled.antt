@@ -1,7 +1,7 @@
 -- Tables of states: one entry changed, none known, and how often they can change.
-use Rattle.std.proofs.Common.{◌≡◌, ◌⊎◌, ℕ, zero, suc, ◌*◌, ◌<◌, ◌≤◌, Bool, true, false, List, [], ◌∷◌, ◌++◌, length, set, get_or, Option, Some, None, refl, sym, ap, subst, ◌∙◌, inl, inr, arith}
+use Rattle.std.proofs.Common.{◌≡◌, ℕ, zero, suc, ◌*◌, ◌<◌, ◌≤◌, Bool, true, List, [], ◌∷◌, ◌++◌, length, set, Option, Some, None, refl, sym, ap, subst, ◌∙◌, inl, inr, arith}
 use Rattle.std.specs.Prelude.{slice_get}
-use Rattle.std.proofs.lemmas.Bool.{cases_eq}
+use Rattle.std.proofs.lemmas.Bool.{cases_eq, cases_Bool}
 use Rattle.std.proofs.Math.ListN.{length-set}
 use Rattle.std.proofs.lemmas.Option.{slice_get_within}
 use Rattle.x10_kinds.specs.declared.kind.Kind.{Kind}
@@ -15,25 +15,9 @@ use Rattle.x10_verify.specs.declared.states.Entry.{Entry}
 use Rattle.x10_verify.specs.Known.{kind_in, state_of}
 use Rattle.x10_verify.specs.Merging.{weight, rank_of}
 use Rattle.x10_verify.specs.States.{state_if, waits, is_waiting, IsFresh, IsMetIn, Receives, Arrives, height_if, height_in, total}
+use Rattle.x10_model.proofs.Lists.{set_here, set_off}
 
 -- ---- entries of a list
-
-pub get_is : {X : Type 0} (xs : List X) (i : ℕ) (x : X) → i < length xs → x ≡ get_or xs i x → slice_get xs i ≡ Some x
-get_is [] i x lt e = absurd (omega arith)
-get_is (y ∷ ys) zero x lt e = ap Some (sym e)
-get_is (y ∷ ys) (suc i) x lt e = get_is ys i x (omega arith) e
-
-pub get_set : {X : Type 0} (xs : List X) (i : ℕ) (x y : X) → slice_get xs i ≡ Some y → slice_get (set xs i x) i ≡ Some x
-get_set [] i x y e = absurd cc
-get_set (z ∷ zs) zero x y e = refl
-get_set (z ∷ zs) (suc i) x y e = get_set zs i x y e
-
-pub get_other : {X : Type 0} (xs : List X) (i j : ℕ) (x : X) → (j ≡ i → ⊥) → slice_get (set xs i x) j ≡ slice_get xs j
-get_other [] i j x ne = refl
-get_other (z ∷ zs) zero zero x ne = absurd (ne refl)
-get_other (z ∷ zs) zero (suc j) x ne = refl
-get_other (z ∷ zs) (suc i) zero x ne = refl
-get_other (z ∷ zs) (suc i) (suc j) x ne = get_other zs i j x (λ e. ne (ap suc e))
 
 -- ---- ranks
 
@@ -79,31 +63,24 @@ total-lt old new k size each lt less = subst (λ n. sum_below n (λ q. height_in
 set_heights : (old : List Entry) (at : ℕ) (before entry : Entry) → slice_get old at ≡ Some before → height_if entry.mark entry.known ≤ height_if before.mark before.known → (q : ℕ) → height_in (slice_get (set old at entry) q) ≤ height_in (slice_get old q)
 set_heights old at before entry was le q = elim (cases_eq q at) [
   | inl here ↦ (
-      let a : height_in (slice_get (set old at entry) q) ≡ height_if entry.mark entry.known = ap (λ n. height_in (slice_get (set old at entry) n)) here ∙ ap height_in (get_set old at entry before was) in
+      let a : height_in (slice_get (set old at entry) q) ≡ height_if entry.mark entry.known = ap (λ n. height_in (slice_get (set old at entry) n)) here ∙ ap height_in (set_here old at entry (slice_get_within old at before was)) in
       let b : height_in (slice_get old q) ≡ height_if before.mark before.known = ap (λ n. height_in (slice_get old n)) here ∙ ap height_in was in
       omega arith)
-  | inr ne ↦ (let a : height_in (slice_get (set old at entry) q) ≡ height_in (slice_get old q) = ap height_in (get_other old at q entry ne) in omega arith)
+  | inr ne ↦ (let a : height_in (slice_get (set old at entry) q) ≡ height_in (slice_get old q) = ap height_in (set_off old at q entry ne) in omega arith)
 ]
-
-bool_cases : (b : Bool) → (b ≡ true) ⊎ (b ≡ false)
-bool_cases true = inl refl
-bool_cases false = inr refl
-
-pub set_size : {X : Type 0} (xs : List X) (i : ℕ) (x : X) → length (set xs i x) ≡ length xs
-set_size xs i x = simp length-set
 
 pub arrives_total : (old : List Entry) (target : ℕ) (known : Known) (new : List Entry) (changed : Bool) → Arrives old target known new changed → (total new ≤ total old) × (changed ≡ true → total new < total old)
 arrives_total old target known new changed a = (
-  subst (λ xs. total xs ≤ total old) (sym a.is) (total-le old (set old target a.entry) (set_size old target a.entry) (set_heights old target a.before a.entry a.was le)),
-  λ e. subst (λ xs. total xs < total old) (sym a.is) (total-lt old (set old target a.entry) target (set_size old target a.entry) (set_heights old target a.before a.entry a.was le) (slice_get_within old target a.before a.was)
-      (let x : height_in (slice_get (set old target a.entry) target) ≡ height_if a.entry.mark a.entry.known = ap height_in (get_set old target a.entry a.before a.was) in
+  subst (λ xs. total xs ≤ total old) (sym a.is) (total-le old (set old target a.entry) (length-set old target a.entry) (set_heights old target a.before a.entry a.was le)),
+  λ e. subst (λ xs. total xs < total old) (sym a.is) (total-lt old (set old target a.entry) target (length-set old target a.entry) (set_heights old target a.before a.entry a.was le) (slice_get_within old target a.before a.was)
+      (let x : height_in (slice_get (set old target a.entry) target) ≡ height_if a.entry.mark a.entry.known = ap height_in (set_here old target a.entry (slice_get_within old target a.before a.was)) in
       let y : height_in (slice_get old target) ≡ height_if a.before.mark a.before.known = ap height_in a.was in
       let f : height_if a.entry.mark a.entry.known < height_if a.before.mark a.before.known = a.received.falls e in
       omega arith)),
 )
   where
     le : height_if a.entry.mark a.entry.known ≤ height_if a.before.mark a.before.known
-    le = elim (bool_cases changed) [
+    le = elim (cases_Bool changed) [
       | inl is ↦ (let f : height_if a.entry.mark a.entry.known < height_if a.before.mark a.before.known = a.received.falls is in omega arith)
       | inr not ↦ (let s : height_if a.entry.mark a.entry.known ≡ height_if a.before.mark a.before.known = ap (λ (e : Entry). height_if e.mark e.known) (a.received.same not) in omega arith)
     ]
@@ -114,8 +91,8 @@ waiting_height _ k e = absurd cc
 
 pub done_total : (old : List Entry) (at : ℕ) (before : Entry) → slice_get old at ≡ Some before → is_waiting before.mark ≡ true → total (set old at (record { mark = Done; known = before.known })) ≤ total old
 done_total old at before was waits =
-    total-le old (set old at (record { mark = Done; known = before.known })) (set_size old at (record { mark = Done; known = before.known }))
+    total-le old (set old at (record { mark = Done; known = before.known })) (length-set old at (record { mark = Done; known = before.known }))
     (set_heights old at before (record { mark = Done; known = before.known }) was (let e : height_if before.mark before.known ≡ rank_of before.known = waiting_height before.mark before.known waits in omega arith))
 
 pub arrives_size : (old : List Entry) (target : ℕ) (known : Known) (new : List Entry) (changed : Bool) → Arrives old target known new changed → length new ≡ length old
-arrives_size old target known new changed a = ap length a.is ∙ set_size old target a.entry
+arrives_size old target known new changed a = ap length a.is ∙ length-set old target a.entry

@@ -1,5 +1,5 @@
 -- All instructions of a function, and all functions of a module.
-use Rattle.std.proofs.Common.{◌≡◌, ◌≢◌, ◌⊎◌, ℕ, zero, suc, ◌+◌, ◌<◌, ◌≤◌, true, List, [], ◌∷◌, length, get_or, max, Option, Some, None, refl, sym, ap, subst, ◌∙◌, inl, inr, arith}
+use Rattle.std.proofs.Common.{◌≡◌, ◌≢◌, ◌⊎◌, ℕ, ◌+◌, ◌<◌, ◌≤◌, true, List, length, max, Option, Some, None, refl, sym, ap, subst, ◌∙◌, inl, inr, arith}
 use Rattle.std.specs.Prelude.{slice_get}
 use Rattle.std.proofs.lemmas.Bool.{cases_lt}
 use Rattle.x10_code.specs.declared.op.Op.{Op}
@@ -15,7 +15,7 @@ use Rattle.x10_model.specs.Assignments.{AreInRange, HasAssignment}
 use Rattle.x10_verify.specs.Named.{IsNamed, IsResultNamed, HasNames}
 use Rattle.x10_verify.specs.Least.{HasLeast}
 use Rattle.x10_verify.specs.Verdict.{AreInRangeTo, IsOutAt, IsFirstOut, IsFirstWithout}
-use Rattle.std.specs.Prelude.{Ok, slice_index}
+use Rattle.std.specs.Prelude.{Ok}
 use Rattle.std.proofs.lemmas.Option.{same_Some, slice_get_within, slice_get_past}
 use Rattle.x10_image.specs.Parts.{code_in, code_at}
 use Rattle.x10_model.specs.Structure.{bounds_of, is_call}
@@ -148,13 +148,3 @@ bound_below m bounds f e lt =
     let g = get_below m.functions f lt in
     let b = bounds_each m bounds f g.0 e g.1 in
     slice_get_within bounds f b.0 b.1
-
-pub bound_there : (bounds : List ℕ) (f : ℕ) → f < length bounds → slice_get bounds f ≡ Some (slice_index bounds f)
-bound_there [] f lt = absurd (omega arith)
-bound_there (b ∷ bs) zero lt = refl
-bound_there (b ∷ bs) (suc f) lt = bound_there bs f (omega arith)
-
-pub read_is : (xs : List ℕ) (f r : ℕ) → f < length xs → r ≡ get_or xs f r → slice_get xs f ≡ Some r
-read_is [] f r lt e = absurd (omega arith)
-read_is (x ∷ xs) zero r lt e = ap Some (sym e)
-read_is (x ∷ xs) (suc f) r lt e = read_is xs f r (omega arith) e

@@ -1,10 +1,10 @@
 use Rattle.std.proofs.Common.{◌≡◌, Some, arith, refl, sym, ap, ◌∙◌}
 use Rattle.std.specs.Prelude.{slice_get}
 use Rattle.x10_verify.specs.States.{waits_in}
-use Rattle.x10_verify.proofs.Tabled.{get_is}
 use Rattle.x10_verify.proofs.states.take.Goals as goal
+use Rattle.std.proofs.lemmas.Option.{slice_get_read}
 
 pub returns-clause-taken : goal.returns-clause-taken
 returns-clause-taken c =
-    let was : slice_get c.args.table.now.items c.args.at ≡ Some c.index_mut-entry.result.now = get_is c.args.table.now.items c.args.at c.index_mut-entry.result.now (omega arith) c.index_mut-entry.ensures.value in
+    let was : slice_get c.args.table.now.items c.args.at ≡ Some c.index_mut-entry.result.now = slice_get_read c.args.table.now.items _ c.args.at c.index_mut-entry.result.now refl (omega arith) c.index_mut-entry.ensures.value in
     record { before = c.index_mut-entry.result.now; was = was; known_is = refl; waited = sym (ap waits_in was) ∙ c.requires.waiting; is = refl }

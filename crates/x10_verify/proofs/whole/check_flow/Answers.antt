@@ -1,11 +1,11 @@
-use Rattle.std.proofs.Common.{◌≡◌, ◌∙◌, Some, arith}
+use Rattle.std.proofs.Common.{◌≡◌, ◌∙◌, Some, arith, refl}
 use Rattle.std.specs.Prelude.{slice_get}
 use Rattle.x10_verify.specs.Least.{HasLeast}
 use Rattle.x10_verify.specs.Solving.{Stops}
 use Rattle.x10_verify.proofs.Prints.{rows_all, rows_more, rows_set}
-use Rattle.x10_verify.proofs.Tabled.{get_is}
 use Rattle.x10_verify.proofs.Wholes.{first_without_is, function_there, all_functions, functions_more, has_names, least_assigns}
 use Rattle.x10_verify.proofs.whole.check_flow.Goals as goal
+use Rattle.std.proofs.lemmas.Option.{slice_get_read}
 
 pub check_function-requires-clause-names : goal.check_function-requires-clause-names
 check_function-requires-clause-names c = has_names c.args.image.now c.loop-function.function c.fits.ensures c.requires.range
@@ -21,7 +21,7 @@ returns-clause-ok c = all_functions c.args.image.now (HasLeast c.args.image.now)
 
 pub loop-function-preserved : goal.loop-function-preserved
 loop-function-preserved c =
-    let there : slice_get c.loop-function.rows.items c.loop-function.function ≡ Some c.index_mut.result.now = get_is c.loop-function.rows.items c.loop-function.function c.index_mut.result.now (omega (arith, c.loop-function.invariant.rows.count)) c.index_mut.ensures.value in record {
+    let there : slice_get c.loop-function.rows.items c.loop-function.function ≡ Some c.index_mut.result.now = slice_get_read c.loop-function.rows.items _ c.loop-function.function c.index_mut.result.now refl (omega (arith, c.loop-function.invariant.rows.count)) c.index_mut.ensures.value in record {
       assigned = functions_more c.args.image.now (HasLeast c.args.image.now) c.loop-function.function c.loop-function.invariant.assigned c.in_default.ensures.decides;
       rows = rows_set c.args.image.now c.loop-function.rows.items c.loop-function.function c.index_mut.result.now c.check_function.new.row c.loop-function.invariant.rows there c.in_default.ensures.row;
       noted = rows_more c.args.image.now c.loop-function.rows.items c.loop-function.function c.index_mut.result.now c.check_function.new.row there c.loop-function.invariant.noted c.in_default.ensures.noted;
