@@ -13,6 +13,3 @@ mod steps;
 pub use fault::{BoundCause, BoundFault};
 pub use functions::{bound_at, bounds, regions};
 pub use region::Region;
-
-#[cfg(test)]
-mod tests;

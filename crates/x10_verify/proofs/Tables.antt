@@ -1,5 +1,5 @@
 -- The rows of the table are right: what they set names what there may be, and what stands for a place.
-use Rattle.std.proofs.Common.{◌≡◌, ℕ, ◌<◌, true, length, Option, Some, None, refl, subst, arith}
+use Rattle.std.proofs.Common.{◌≡◌, ℕ, ◌<◌, true, length, Option, Some, None, refl, subst}
 use Rattle.std.specs.Prelude.{IfSome}
 use Rattle.x10_kinds.specs.declared.kind.Kind.{Kind}
 use Rattle.x10_kinds.specs.declared.homes.Term.{Term}
@@ -67,15 +67,3 @@ flag_fits n (Some slot) h = h.flag
 
 pub results_fit : (m : Module) → FitsImage m → ResultsFit m
 results_fit m fits f function e = flag_fits (length m.classes) function.result (all_at (FitsFunction (length m.classes)) m.functions f function fits.functions.2 e).result
-
--- an instruction with small numbers names what there may be
-pub named_small : (m : Module) (i : Instr) → i.a < 64 → i.x < 64 → IsNamed m i
-named_small m i a x = record {
-  small = record { class = λ e. omega arith; place = λ e. x };
-  a = λ e. a;
-  result = λ e. any_result (result_of (function_at m i.x)) i.a a;
-}
-  where
-    any_result : (o : Option Slot) (n : ℕ) → n < 64 → IsResultNamed o n
-    any_result None n lt = tt
-    any_result (Some slot) n lt = lt

@@ -24,8 +24,3 @@ pub use fault::{VerifyCause, VerifyFault};
 pub use flow::{Flow, known_flow};
 pub use table::{Effect, Outcome, Rule, rule_of};
 pub use verified::{Verified, verify};
-
-#[cfg(test)]
-mod flow_tests;
-#[cfg(test)]
-mod printing_tests;
