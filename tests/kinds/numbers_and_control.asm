@@ -3,9 +3,12 @@
 ; this place.
 ;
 ; $ x10p verify numbers_and_control.x10
-; verified 13 functions, entry bound 51
+; verified 16 functions, entry bound 63
 ; $ x10p run numbers_and_control.x10
 ; 0: 3
+; 0: 1
+; 0: 0
+; 0: 0
 ; 0: 1
 ; 0: 5
 ; 0: 3
@@ -57,7 +60,26 @@ func 12 0 none int place text rail obj:0 obj:1 opt:0 gref:0 here:0
 zero:
   RET 0
 end
-; 6: MOVE of what may be null
+; 6: REM
+func 12 0 none int place text rail obj:0 obj:1 opt:0 gref:0 here:0
+  REM 9 0 0 @zero
+  PRINT 9
+zero:
+  RET 0
+end
+; 7: LT
+func 12 0 none int place text rail obj:0 obj:1 opt:0 gref:0 here:0
+  LT 9 0 0
+  PRINT 9
+  RET 0
+end
+; 8: EQ
+func 12 0 none int place text rail obj:0 obj:1 opt:0 gref:0 here:0
+  EQ 9 0 0
+  PRINT 9
+  RET 0
+end
+; 9: MOVE of what may be null
 func 12 0 none int place text rail obj:0 obj:1 opt:0 gref:0 here:0
   MOVE 9 6
   IFOBJ 9 9 @null
@@ -66,25 +88,25 @@ func 12 0 none int place text rail obj:0 obj:1 opt:0 gref:0 here:0
 null:
   RET 0
 end
-; 7: JZ of a number, to the next instruction
+; 10: JZ of a number, to the next instruction
 func 12 0 none int place text rail obj:0 obj:1 opt:0 gref:0 here:0
   JZ 0 @next
 next:
   PRINT 0
   RET 0
 end
-; 8: CALL of a function that takes and gives nothing
+; 11: CALL of a function that takes and gives nothing
 func 12 0 none int place text rail obj:0 obj:1 opt:0 gref:0 here:0
   CALL 0 0 0
   RET 0
 end
-; 9: CALL with a number
+; 12: CALL with a number
 func 12 0 none int place text rail obj:0 obj:1 opt:0 gref:0 here:0
   CALL 9 0 1
   PRINT 9
   RET 0
 end
-; 10: CALL with a reference whose home is here, as its result's is
+; 13: CALL with a reference whose home is here, as its result's is
 func 12 0 none int place text rail obj:0 obj:1 opt:0 gref:0 here:0
   CALL 9 8 2
   GOPEN 9 9
@@ -92,7 +114,7 @@ func 12 0 none int place text rail obj:0 obj:1 opt:0 gref:0 here:0
   PRINT 9
   RET 0
 end
-; 11: PRINT of a text
+; 14: PRINT of a text
 func 12 0 none int place text rail obj:0 obj:1 opt:0 gref:0 here:0
   PRINT 2
   RET 0
@@ -118,7 +140,10 @@ func 12 0 none
   CALL 0 0 9
   CALL 0 0 10
   CALL 0 0 11
+  CALL 0 0 12
+  CALL 0 0 13
+  CALL 0 0 14
 no:
   RET 0
 end
-entry 12
+entry 15

@@ -2,10 +2,11 @@
 ; a place, a text, a rail, objects of two classes, one that may be null, a reference and one of this place.
 ;
 ; $ x10p verify texts_objects_and_rails.x10
-; verified 16 functions, entry bound 60
+; verified 17 functions, entry bound 64
 ; $ x10p run texts_objects_and_rails.x10
 ; 0: seven
 ; 0: 5
+; 0: sevenseven
 ; 0: 3
 ; 0: 3
 ; 0: 3
@@ -56,24 +57,31 @@ func 12 0 none int place text rail obj:0 obj:1 opt:0 gref:0 here:0
   PRINT 9
   RET 0
 end
-; 6: NEW of a class without fields
+; 6: TCAT
+func 12 0 none int place text rail obj:0 obj:1 opt:0 gref:0 here:0
+  TCAT 9 2 2 @long
+  PRINT 9
+long:
+  RET 0
+end
+; 7: NEW of a class without fields
 func 12 0 none int place text rail obj:0 obj:1 opt:0 gref:0 here:0
   NEW 9 0 1
   RET 0
 end
-; 7: GET of an object from a field
+; 8: GET of an object from a field
 func 12 0 none int place text rail obj:0 obj:1 opt:0 gref:0 here:0
   GET 9 4 1
   RET 0
 end
-; 8: PUT of a number into a field
+; 9: PUT of a number into a field
 func 12 0 none int place text rail obj:0 obj:1 opt:0 gref:0 here:0
   PUT 4 0 0
   GET 9 4 0
   PRINT 9
   RET 0
 end
-; 9: NULL
+; 10: NULL
 func 12 0 none int place text rail obj:0 obj:1 opt:0 gref:0 here:0
   NULL 9 0
   IFOBJ 9 9 @null
@@ -82,7 +90,7 @@ null:
   PRINT 0
   RET 0
 end
-; 10: IFOBJ of what may be null
+; 11: IFOBJ of what may be null
 func 12 0 none int place text rail obj:0 obj:1 opt:0 gref:0 here:0
   IFOBJ 9 6 @null
   GET 9 9 0
@@ -90,7 +98,7 @@ func 12 0 none int place text rail obj:0 obj:1 opt:0 gref:0 here:0
 null:
   RET 0
 end
-; 11: RAIL
+; 12: RAIL
 func 12 0 none int place text rail obj:0 obj:1 opt:0 gref:0 here:0
   RAIL 9 0 @no
   RLEN 9 9
@@ -98,14 +106,14 @@ func 12 0 none int place text rail obj:0 obj:1 opt:0 gref:0 here:0
 no:
   RET 0
 end
-; 12: RGET
+; 13: RGET
 func 12 0 none int place text rail obj:0 obj:1 opt:0 gref:0 here:0
   RGET 9 3 0 @no
   PRINT 9
 no:
   RET 0
 end
-; 13: RSET
+; 14: RSET
 func 12 0 none int place text rail obj:0 obj:1 opt:0 gref:0 here:0
   RSET 3 0 0 @no
   RGET 9 3 0 @no
@@ -113,7 +121,7 @@ func 12 0 none int place text rail obj:0 obj:1 opt:0 gref:0 here:0
 no:
   RET 0
 end
-; 14: RLEN
+; 15: RLEN
 func 12 0 none int place text rail obj:0 obj:1 opt:0 gref:0 here:0
   RLEN 9 3
   PRINT 9
@@ -143,7 +151,8 @@ func 12 0 none
   CALL 0 0 12
   CALL 0 0 13
   CALL 0 0 14
+  CALL 0 0 15
 no:
   RET 0
 end
-entry 15
+entry 16
