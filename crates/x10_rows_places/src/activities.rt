@@ -1,11 +1,11 @@
 //! Many activities at one place under ten thousand random events, beside a plain count of what each of them does.
 use crate::places::place_of;
-use crate::walk::number;
 use std::process::Abort;
 use std::test::*;
 use x10_asm::assemble;
 use x10_image::ImageView;
 use x10_place::{Place, Stepped};
+use x10_samples::random;
 use x10_verify::verify;
 
 /// Main starts 400 branches in a finish, and one more that outlives it. A branch starts two leaves in a finish of its
@@ -203,8 +203,8 @@ fn ten_thousand_events(rt: HostRuntime) -> Result<(), Fail> {
     plain.begin(0, Activity::new(Kind::Main, 0));
     let mut seed = 1;
     for _ in 0..10_000u32 {
-        let most = number(&mut seed) % 64;
-        let key = number(&mut seed) % (most + 1);
+        let most = random(&mut seed) % 64;
+        let key = random(&mut seed) % (most + 1);
         plain.step(&rt, &mut place, key)?;
     }
     assert!(rt;

@@ -1,5 +1,4 @@
 //! Pictures of runs.
-use crate::seven::SEVEN;
 use crate::travels::AWAY;
 use std::alloc::{AllocError, Global};
 use std::test::*;
@@ -7,6 +6,7 @@ use x10_asm::assemble;
 use x10_draw::{Counts, Drawing, push_escaped};
 use x10_image::ImageView;
 use x10_model::Event;
+use x10_samples::SEVEN;
 use x10_verify::verify;
 use x10_world::{Done, Rounds, World};
 

@@ -1,5 +1,4 @@
 //! Frames that no place sends: which fault is told of each, and that the place is as before.
-use crate::frames::{BACK, CYCLE};
 use crate::places::{place_of, ran};
 use crate::receiving::{is_used, printed, refused, spawn, takes};
 use crate::travels::{ALONG, AWAY};
@@ -10,6 +9,7 @@ use x10_copy::Refusal;
 use x10_frame::FrameFault;
 use x10_image::ImageView;
 use x10_place::Place;
+use x10_samples::{BACK, CYCLE};
 use x10_verify::verify;
 
 /// A function wants a reference whose home is here, and another one. Main makes a reference.

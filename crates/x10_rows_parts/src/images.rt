@@ -1,12 +1,12 @@
 ghost use Rattle.std.specs.Prelude.{◌<◌, length};
 
-use crate::seven::{SEVEN, with_byte};
 use std::alloc::{AllocError, Global};
 use std::test::*;
 use x10_code::{Instr, Op};
 use x10_image::{Function, ImageFault, ImageView, Module, write};
 use x10_kinds::Kind;
 use x10_model::Slot;
+use x10_samples::{SEVEN, with_byte};
 
 fn instr(op: Op, a: u8, x: u32) -> Instr {
     Instr {

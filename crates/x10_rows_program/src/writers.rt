@@ -1,9 +1,9 @@
-use crate::seven::SEVEN;
 use crate::usage::words_of;
 use std::alloc::Global;
 use std::io::{self, ErrorKind, Write};
 use std::test::*;
 use x10_cli::{execute, parse};
+use x10_samples::SEVEN;
 
 /// A writer that takes a byte at a time, so many of them, and then fails.
 #[derive(Drop)]

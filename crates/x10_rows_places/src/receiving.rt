@@ -1,5 +1,4 @@
 //! What a place takes in and what it refuses, after which it goes on.
-use crate::frames::{BACK, CYCLE, OTHER_REPORT, REPORT};
 use crate::places::{idles, place_of, ran};
 use crate::travels::{ALONG, AWAY};
 use std::process::Abort;
@@ -9,6 +8,7 @@ use x10_copy::Refusal;
 use x10_frame::FrameFault;
 use x10_image::ImageView;
 use x10_place::{Line, Place, Stepped};
+use x10_samples::{BACK, CYCLE, OTHER_REPORT, REPORT};
 use x10_verify::verify;
 
 /// Main starts an activity at place 1 and one at place 2 in a finish.

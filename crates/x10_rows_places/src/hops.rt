@@ -1,6 +1,5 @@
 //! What goes from one place to another, where memory is refused on the way. These tests meet that only where the runner
 //! refuses an allocation; one that is refused before the places are there is left to the tests of other crates.
-use crate::frames::CYCLE;
 use crate::places::place_of;
 use crate::receiving::refused;
 use std::alloc::Global;
@@ -13,6 +12,7 @@ use x10_image::ImageView;
 use x10_kinds::Stop;
 use x10_model::Event;
 use x10_place::{Line, Outgoing, Place, Sent, Stepped};
+use x10_samples::CYCLE;
 use x10_verify::verify;
 use x10_world::World;
 

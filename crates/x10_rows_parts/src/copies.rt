@@ -9,6 +9,7 @@ use x10_heap::Heap;
 use x10_image::ImageView;
 use x10_kinds::{Kind, Stop};
 use x10_model::Slot;
+use x10_samples::{CYCLE, HEAD};
 
 /// A link to an object, a rail and a place's object; and a class with no field.
 const CLASSES: &str = "places 2
@@ -19,13 +20,6 @@ RET 0
 end
 entry 0
 ";
-
-/// Two objects, each of which holds the other, a rail that they share, and a global reference.
-const CYCLE: [u8; 67] = [
-    1, 1, 0, 0, 0, 1, 0, 0, 0, 0, 0, 1, 0, 0, 0, 1, 0, 0, 0, 1, 0, 2, 5, 0, 0, 0, 0, 0, 2, 0, 0, 0,
-    0, 3, 5, 0, 1, 4, 0, 0, 7, 0, 0, 0, 0, 0, 0, 0, 1, 0, 0, 3, 5, 0, 0, 4, 0, 0, 7, 0, 0, 0, 0, 0,
-    0, 0, 1,
-];
 
 /// A class of each kind of field, one of 16 fields, one of none, and one with a global reference.
 const MIXED: &str = "places 2
@@ -57,9 +51,6 @@ const SHARED: [u8; 317] = [
     255, 255, 255, 255, 0, 0, 4, 5, 0, 0, 5, 0, 2, 3, 0, 1, 4, 0, 0, 0, 0, 4, 6, 5, 0, 2, 3, 0, 0,
     4, 0, 0, 0, 0, 4, 5, 0, 2, 5, 0, 4, 3, 0, 1, 4, 0, 0,
 ];
-
-/// What stands before the graph in a frame for place 1.
-const HEAD: [u8; 14] = [1, 1, 0, 0, 0, 1, 0, 0, 0, 0, 0, 1, 0, 0];
 
 fn slot(kind: Kind) -> Slot {
     Slot {

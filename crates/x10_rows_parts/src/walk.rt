@@ -5,6 +5,7 @@ use std::process::Abort;
 use std::test::*;
 use x10_finish::{Book, Finish, Tally};
 use x10_frame::Report;
+use x10_samples::random;
 
 const FINISH: Finish = Finish { home: 2, number: 9 };
 
@@ -90,13 +91,6 @@ struct Walk {
     book: Book,
     reports: Vec<Report>,
     plain: Plain,
-}
-
-pub(crate) fn number(seed: &mut u64) -> usize {
-    *seed = seed
-        .wrapping_mul(6_364_136_223_846_793_005)
-        .wrapping_add(1_442_695_040_888_963_407);
-    (*seed >> 33) as usize
 }
 
 impl Walk {
@@ -215,9 +209,9 @@ impl Walk {
     /// One random event that can happen; `busy` says how readily activities are made.
     fn event(&mut self, rt: &impl Abort, busy: usize) -> Result<(), Fail> {
         let (p, q, kind) = (
-            number(&mut self.seed) % 5,
-            number(&mut self.seed) % 5,
-            number(&mut self.seed) % 16,
+            random(&mut self.seed) % 5,
+            random(&mut self.seed) % 5,
+            random(&mut self.seed) % 16,
         );
         let works = self.plain.live[p] > 0 || p == HOME;
         if works && kind < busy {
@@ -235,7 +229,7 @@ impl Walk {
         if self.reports.is_empty() {
             return Ok(());
         }
-        let i = number(&mut self.seed) % self.reports.len();
+        let i = random(&mut self.seed) % self.reports.len();
         self.take(rt, i, kind == 15);
         Ok(())
     }

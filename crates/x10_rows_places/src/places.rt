@@ -1,5 +1,4 @@
 //! A place by itself: its calls, and what they answer.
-use crate::seven::SEVEN;
 use std::alloc::Global;
 use std::test::*;
 use x10_asm::assemble;
@@ -7,6 +6,7 @@ use x10_code::Op;
 use x10_image::ImageView;
 use x10_kinds::Stop;
 use x10_place::{Line, Place, Stepped};
+use x10_samples::SEVEN;
 use x10_verify::{Verified, verify};
 
 /// A number and four times that, through three calls; the innermost has one register more than a frame holds in place.

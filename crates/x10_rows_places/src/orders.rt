@@ -1,5 +1,4 @@
 //! Worlds of five places whose frames come in several orders, and one under many random events.
-use crate::walk::number;
 use std::alloc::Global;
 use std::process::Abort;
 use std::test::*;
@@ -7,6 +6,7 @@ use x10_asm::assemble;
 use x10_image::ImageView;
 use x10_model::Event;
 use x10_place::Line;
+use x10_samples::random;
 use x10_verify::verify;
 use x10_world::{World, run_rounds};
 
@@ -211,27 +211,27 @@ fn below(seed: &mut u64, most: u64) -> u64 {
     if most == 0 {
         return 0;
     }
-    number(seed) as u64 % most
+    random(seed) as u64 % most
 }
 
 /// A frame by chance, mostly one on its way to some place.
 fn some_delivery(world: &World, seed: &mut u64) -> Event {
-    let place = (number(seed) % 5) as u16;
+    let place = (random(seed) % 5) as u16;
     let from = below(seed, world.posted());
     Event::Deliver(world.next_frame(place, from).unwrap_or(from))
 }
 
 /// A step by chance, mostly of an activity at some place.
 fn some_step(world: &World, seed: &mut u64) -> Event {
-    let place = (number(seed) % 6) as u16;
-    let most = number(seed) % 64;
-    let from = number(seed) % (most + 1);
+    let place = (random(seed) % 6) as u16;
+    let most = random(seed) % 64;
+    let from = random(seed) % (most + 1);
     Event::Step(place, next_key(world, place, from).unwrap_or(from))
 }
 
 /// An event by chance, and what holds after it: main prints last, and a run that has ended leaves nothing to do.
 fn one_event(rt: &impl Abort, world: &mut World, seed: &mut u64) {
-    let event = if number(seed) % 4 == 0 {
+    let event = if random(seed) % 4 == 0 {
         some_delivery(world, seed)
     } else {
         some_step(world, seed)

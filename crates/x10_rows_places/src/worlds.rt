@@ -1,9 +1,9 @@
-use crate::seven::{SEVEN, with_byte};
 use std::test::*;
 use x10_image::{ImageFault, ImageView};
 use x10_kinds::Stop;
 use x10_model::Event;
 use x10_place::Line;
+use x10_samples::{SEVEN, with_byte};
 use x10_verify::{VerifyCause, VerifyFault, verify};
 use x10_world::{Halt, OpenFault, RunFault, World, run_image, run_rounds};
 

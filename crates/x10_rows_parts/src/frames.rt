@@ -6,44 +6,7 @@ use std::test::*;
 use x10_frame::{
     FrameFault, FrameView, FrameWriter, Head, Item, NodeView, Report, Sizes, write_report,
 };
-
-/// An activity that goes on at place 1.
-pub(crate) const SHIFT: [u8; 26] = [
-    1, 2, 0, 0, 0, 1, 0, 0, 0, 0, 0, 0, 0, 0, 0, 1, 0, 1, 0, 0, 0, 0, 0, 0, 0, 0,
-];
-
-/// A new activity with nothing passed.
-pub(crate) const SPAWN: [u8; 22] = [
-    1, 1, 0, 1, 0, 2, 0, 0, 0, 0, 0, 1, 0, 0, 0, 0, 0, 0, 0, 0, 0, 0,
-];
-
-/// The way back, with no result.
-pub(crate) const BACK: [u8; 18] = [1, 3, 0, 1, 0, 0, 0, 0, 0, 0, 0, 0, 0, 0, 0, 0, 0, 0];
-
-/// One sent to place 2, one received from place 0.
-pub(crate) const REPORT: [u8; 36] = [
-    1, 4, 0, 1, 0, 0, 0, 0, 0, 1, 0, 3, 0, 0, 0, 0, 0, 0, 0, 0, 0, 0, 0, 1, 0, 0, 0, 1, 0, 0, 0, 0,
-    0, 0, 0, 0,
-];
-
-/// None sent, one received from place 1.
-pub(crate) const OTHER_REPORT: [u8; 36] = [
-    1, 4, 0, 2, 0, 0, 0, 0, 0, 1, 0, 3, 0, 0, 0, 0, 0, 0, 0, 0, 0, 0, 0, 0, 0, 0, 0, 0, 0, 0, 0, 1,
-    0, 0, 0, 0,
-];
-
-/// A new activity with two objects, each of which holds the other, a rail that they share, and a global
-/// reference.
-pub(crate) const CYCLE: [u8; 67] = [
-    1, 1, 0, 0, 0, 1, 0, 0, 0, 0, 0, 1, 0, 0, 0, 1, 0, 0, 0, 1, 0, 2, 5, 0, 0, 0, 0, 0, 2, 0, 0, 0,
-    0, 3, 5, 0, 1, 4, 0, 0, 7, 0, 0, 0, 0, 0, 0, 0, 1, 0, 0, 3, 5, 0, 0, 4, 0, 0, 7, 0, 0, 0, 0, 0,
-    0, 0, 1,
-];
-
-/// A new activity at the only place.
-pub(crate) const ALONE: [u8; 22] = [
-    1, 1, 0, 0, 0, 0, 0, 0, 0, 0, 0, 0, 0, 0, 0, 0, 0, 0, 0, 0, 0, 0,
-];
+use x10_samples::{ALONE, BACK, CYCLE, HEAD, OTHER_REPORT, REPORT, SHIFT, SPAWN};
 
 /// A new activity with an empty text, a rail of two bytes, -2, place 1, null and a text of one
 /// character.
@@ -52,9 +15,6 @@ const VALUES: [u8; 61] = [
     255, 255, 255, 255, 255, 255, 254, 2, 0, 1, 6, 3, 0, 1, 0, 0, 0, 0, 0, 0, 0, 3, 226, 130, 172,
     0, 0, 0, 2, 128, 0,
 ];
-
-/// What stands before the counts of a graph in the frames that are refused.
-const HEAD: [u8; 14] = [1, 1, 0, 0, 0, 1, 0, 0, 0, 0, 0, 1, 0, 0];
 
 fn fault(alloc: Global, bytes: &[u8], places: u16) -> Option<FrameFault> {
     FrameView::read(alloc, bytes, places).err()

@@ -1,5 +1,4 @@
 use crate::listing::{WHOLE, image};
-use crate::seven;
 use std::test::*;
 use x10_asm::{AsmCause, assemble};
 
@@ -10,7 +9,7 @@ const SEVEN: &str = "places 1\nint 7\nfunc 1 0 none\nINTK 0 0\nPRINT 0\nRET 0\ne
 #[test]
 fn want_of_memory(rt: HostRuntime) {
     match assemble(rt.alloc(), SEVEN) {
-        Ok(bytes) => assert_eq!(rt; bytes.as_slice(), seven::SEVEN.as_slice()),
+        Ok(bytes) => assert_eq!(rt; bytes.as_slice(), x10_samples::SEVEN.as_slice()),
         Err(fault) => assert!(rt; fault.line == 0 && fault.cause == AsmCause::Memory),
     }
 }

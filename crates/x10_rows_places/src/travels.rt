@@ -1,11 +1,11 @@
 //! Worlds of one to three places, event by event, and the frames that they put out, byte for byte.
-use crate::frames::{ALONE, BACK, CYCLE, OTHER_REPORT, REPORT, SHIFT, SPAWN};
 use std::process::Abort;
 use std::test::*;
 use x10_asm::assemble;
 use x10_image::ImageView;
 use x10_model::Event;
 use x10_place::Line;
+use x10_samples::{ALONE, BACK, CYCLE, OTHER_REPORT, REPORT, SHIFT, SPAWN};
 use x10_verify::verify;
 use x10_world::World;
 

@@ -1,8 +1,8 @@
-use crate::seven::SEVEN;
 use std::test::*;
 use x10_bounds::BoundCause::Nesting;
 use x10_code::{Instr, Op};
 use x10_image::ImageView;
+use x10_samples::SEVEN;
 use x10_verify::{VerifyCause, VerifyFault, verify};
 
 const RET: Instr = Instr {
