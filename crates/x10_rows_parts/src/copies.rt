@@ -1,4 +1,5 @@
 //! What a message takes along, and that it arrives.
+use crate::frames::spawned;
 use std::alloc::Global;
 use std::process::Abort;
 use std::test::*;
@@ -9,7 +10,7 @@ use x10_heap::Heap;
 use x10_image::ImageView;
 use x10_kinds::{Kind, Stop};
 use x10_model::Slot;
-use x10_samples::{CYCLE, HEAD};
+use x10_samples::CYCLE;
 
 /// A link to an object, a rail and a place's object; and a class with no field.
 const CLASSES: &str = "places 2
@@ -33,9 +34,26 @@ end
 entry 0
 ";
 
+/// The objects of `mixed`: of which class, and what its fields hold.
+const OBJECTS: &[(u16, &[u64])] = &[
+    (2, &[]),
+    (0, &[3, 4, 1, 1]),
+    (0, &[0, 5, 1, 1]),
+    (0, &[5, 4, 2, 1]),
+    (0, &[2, 5, 2, 1]),
+    (
+        1,
+        &[0, 1, 2, 3, 4, 5, 6, 7, 8, 9, 10, 11, 12, 13, 14, u64::MAX],
+    ),
+    (2, &[]),
+];
+
 /// The words that go along, of the kinds of `mixed_slots`: objects, a null, one text twice and one that is equal to it, a
 /// rail, numbers, places and global references of both places.
 const WORDS: [u64; 16] = [2, 0, 1, 2, 1, 1, u64::MAX, 1, 0, 1, 6, 5, 2, 0, 0, 0];
+
+/// The same at `host`, where they arrived.
+const WORDS_THERE: [u64; 16] = [2, 0, 1, 2, 1, 1, u64::MAX, 1, 0, 1, 3, 4, 2, 0, 0, 0];
 
 /// Their frame: the objects 1, 5, 4, 2 and 3 of `mixed` in this order, its texts 1 and 2, and its rail 1.
 const SHARED: [u8; 317] = [
@@ -57,6 +75,19 @@ fn slot(kind: Kind) -> Slot {
         kind,
         home_here: false,
     }
+}
+
+/// Of which the home has to be the place itself.
+fn here(class: u16) -> Slot {
+    Slot {
+        kind: Kind::GRef(class),
+        home_here: true,
+    }
+}
+
+/// The frame as a slice, of which a proof sees the type alone.
+fn shared() -> &'static [u8] {
+    &SHARED
 }
 
 /// The frame of a new activity at place 1 that takes the words along.
@@ -82,16 +113,19 @@ fn frame_with(
     capture(alloc, marks, heap, image, 2, &head, slots, words)
 }
 
-fn frame_of(
+/// Whether the words go along as these bytes.
+fn sends(
     alloc: Global,
     rt: &impl Abort,
     heap: &Heap,
     image: &ImageView,
     slots: &[Slot],
     words: &[u64],
-) -> Result<Vec<u8>, Stop> {
+    bytes: &[u8],
+) -> Result<bool, Stop> {
     let mut marks = Marks::new(alloc);
-    frame_with(alloc, rt, &mut marks, heap, image, slots, words)
+    let frame = frame_with(alloc, rt, &mut marks, heap, image, slots, words)?;
+    Ok(frame.as_slice() == bytes)
 }
 
 /// What a frame brings, put into the heap of place 1.
@@ -108,31 +142,76 @@ fn arrival(
     arrive(alloc, &view, heap, image, 1, 1, slots)
 }
 
-/// An object with no field, a rail, and two objects in a cycle.
-fn sender(alloc: Global) -> Result<Heap, Stop> {
+/// Why a frame doesn't arrive, if it doesn't.
+fn refusal(
+    alloc: Global,
+    heap: &mut Heap,
+    image: &ImageView,
+    bytes: &[u8],
+    slots: &[Slot],
+) -> Option<Refusal> {
+    arrival(alloc, heap, image, bytes, slots).err()
+}
+
+/// Whether a frame arrives, and its roots are these words.
+fn brings(
+    alloc: Global,
+    heap: &mut Heap,
+    image: &ImageView,
+    bytes: &[u8],
+    slots: &[Slot],
+    words: &[u64],
+) -> bool {
+    match arrival(alloc, heap, image, bytes, slots) {
+        Ok(roots) => roots.as_slice() == words,
+        Err(_) => false,
+    }
+}
+
+/// A heap of these texts, rails and objects.
+fn heap_of(
+    alloc: Global,
+    rt: &impl Abort,
+    texts: &[&str],
+    rails: &[u16],
+    objects: &[(u16, &[u64])],
+) -> Result<Heap, Stop> {
     let mut heap = Heap::new(alloc);
-    heap.new_object(1, &[])?;
-    heap.new_rail(2)?;
-    heap.new_object(0, &[3, 0, 0])?;
-    heap.new_object(0, &[2, 0, 0])?;
+    for text in texts {
+        assert!(rt; text.len() < 65_536);
+        heap.new_text(text)?;
+    }
+    for bytes in rails {
+        heap.new_rail(*bytes)?;
+    }
+    for (class, fields) in objects {
+        heap.new_object(*class, fields)?;
+    }
     Ok(heap)
 }
 
-fn receiver(alloc: Global) -> Result<Heap, Stop> {
-    let mut heap = Heap::new(alloc);
-    heap.new_object(1, &[])?;
-    heap.new_rail(1)?;
-    Ok(heap)
+/// An object with no field, a rail, and two objects in a cycle.
+fn sender(alloc: Global, rt: &impl Abort) -> Result<Heap, Stop> {
+    let objects: [(u16, &[u64]); 3] = [(1, &[]), (0, &[3, 0, 0]), (0, &[2, 0, 0])];
+    heap_of(alloc, rt, &[], &[2], &objects)
+}
+
+fn receiver(alloc: Global, rt: &impl Abort) -> Result<Heap, Stop> {
+    heap_of(alloc, rt, &[], &[1], &[(1, &[])])
+}
+
+/// How many objects, rails and texts a heap has.
+fn counts(heap: &Heap) -> (usize, usize, usize) {
+    (heap.objects(), heap.rails(), heap.texts())
 }
 
 #[test]
 fn a_cycle_goes_along(rt: HostRuntime) -> Result<(), Fail> {
     let bytes = assemble(rt.alloc(), CLASSES)?;
     let image = ImageView::read(rt.alloc(), &bytes)?;
-    let heap = sender(rt.alloc())?;
+    let heap = sender(rt.alloc(), &rt)?;
     let slots = [slot(Kind::Obj(0))];
-    let frame = frame_of(rt.alloc(), &rt, &heap, &image, &slots, &[3])?;
-    assert!(rt; frame.as_slice() == &CYCLE[..]);
+    assert!(rt; sends(rt.alloc(), &rt, &heap, &image, &slots, &[3], &CYCLE)?);
     Ok(())
 }
 
@@ -140,11 +219,10 @@ fn a_cycle_goes_along(rt: HostRuntime) -> Result<(), Fail> {
 fn a_cycle_arrives(rt: HostRuntime) -> Result<(), Fail> {
     let bytes = assemble(rt.alloc(), CLASSES)?;
     let image = ImageView::read(rt.alloc(), &bytes)?;
-    let mut heap = receiver(rt.alloc())?;
+    let mut heap = receiver(rt.alloc(), &rt)?;
     let slots = [slot(Kind::Obj(0))];
-    let roots = arrival(rt.alloc(), &mut heap, &image, &CYCLE, &slots)?;
-    assert!(rt; roots.as_slice() == &[2u64][..]);
-    assert!(rt; heap.objects() == 3 && heap.rails() == 2 && heap.texts() == 0);
+    assert!(rt; brings(rt.alloc(), &mut heap, &image, &CYCLE, &slots, &[2]));
+    assert!(rt; counts(&heap) == (3, 2, 0));
     Ok(())
 }
 
@@ -152,20 +230,11 @@ fn a_cycle_arrives(rt: HostRuntime) -> Result<(), Fail> {
 fn another_kind_is_refused(rt: HostRuntime) -> Result<(), Fail> {
     let bytes = assemble(rt.alloc(), CLASSES)?;
     let image = ImageView::read(rt.alloc(), &bytes)?;
-    let mut heap = receiver(rt.alloc())?;
+    let mut heap = receiver(rt.alloc(), &rt)?;
     let slots = [slot(Kind::Obj(1))];
-    let refused = arrival(rt.alloc(), &mut heap, &image, &CYCLE, &slots).err();
-    assert!(rt; matches!(refused, Some(Refusal::Kind)));
-    assert!(rt; heap.objects() == 1 && heap.rails() == 1);
+    let why = refusal(rt.alloc(), &mut heap, &image, &CYCLE, &slots);
+    assert!(rt; why == Some(Refusal::Kind) && counts(&heap) == (1, 1, 0));
     Ok(())
-}
-
-/// Of which the home has to be the place itself.
-fn here(class: u16) -> Slot {
-    Slot {
-        kind: Kind::GRef(class),
-        home_here: true,
-    }
 }
 
 fn mixed_slots() -> [Slot; 16] {
@@ -190,40 +259,36 @@ fn mixed_slots() -> [Slot; 16] {
 }
 
 /// Parts that are shared, objects that lead back to themselves, and parts that nothing reaches.
-fn mixed(alloc: Global) -> Result<Heap, Stop> {
-    let mut heap = Heap::new(alloc);
-    for text in ["unused", "same", "same"] {
-        heap.new_text(text)?;
-    }
-    heap.new_rail(1)?;
-    heap.new_rail(2)?;
-    heap.new_object(2, &[])?;
-    heap.new_object(0, &[3, 4, 1, 1])?;
-    heap.new_object(0, &[0, 5, 1, 1])?;
-    heap.new_object(0, &[5, 4, 2, 1])?;
-    heap.new_object(0, &[2, 5, 2, 1])?;
-    heap.new_object(
-        1,
-        &[0, 1, 2, 3, 4, 5, 6, 7, 8, 9, 10, 11, 12, 13, 14, u64::MAX],
-    )?;
-    heap.new_object(2, &[])?;
-    Ok(heap)
+fn mixed(alloc: Global, rt: &impl Abort) -> Result<Heap, Stop> {
+    heap_of(alloc, rt, &["unused", "same", "same"], &[1, 2], OBJECTS)
 }
 
 /// An object of class 2, which global references name, a rail and a text.
 fn host(alloc: Global, rt: &impl Abort) -> Result<Heap, Stop> {
-    let mut heap = Heap::new(alloc);
-    heap.new_object(2, &[])?;
-    heap.new_rail(1)?;
-    heap.new_text("here")?;
+    let mut heap = heap_of(alloc, rt, &["here"], &[1], &[(2, &[])])?;
     assert!(rt; heap.objects() == 1);
     heap.export(0)?;
     Ok(heap)
 }
 
-/// How many objects, rails and texts a heap has.
-fn counts(heap: &Heap) -> (usize, usize, usize) {
-    (heap.objects(), heap.rails(), heap.texts())
+/// Whether the words go along as the shared frame.
+fn sends_shared(
+    alloc: Global,
+    rt: &impl Abort,
+    heap: &Heap,
+    image: &ImageView,
+    words: &[u64],
+) -> Result<bool, Stop> {
+    sends(alloc, rt, heap, image, &mixed_slots(), words, shared())
+}
+
+/// `host` where the shared frame has arrived, which would go along again in the same way.
+fn goes_on(alloc: Global, rt: &impl Abort, image: &ImageView) -> Result<bool, Stop> {
+    let mut heap = host(alloc, rt)?;
+    let slots = mixed_slots();
+    assert!(rt; brings(alloc, &mut heap, image, shared(), &slots, &WORDS_THERE));
+    assert!(rt; counts(&heap) == (6, 2, 3));
+    sends_shared(alloc, rt, &heap, image, &WORDS_THERE)
 }
 
 /// What is shared goes along once, arrives once, and would go along again in the same way.
@@ -231,19 +296,14 @@ fn counts(heap: &Heap) -> (usize, usize, usize) {
 fn shared_parts_go_once(rt: HostRuntime) -> Result<(), Fail> {
     let bytes = assemble(rt.alloc(), MIXED)?;
     let image = ImageView::read(rt.alloc(), &bytes)?;
-    let heap = mixed(rt.alloc())?;
-    let slots = mixed_slots();
-    let frame = frame_of(rt.alloc(), &rt, &heap, &image, &slots, &WORDS)?;
-    assert!(rt; frame.as_slice() == &SHARED[..]);
-    let mut other = host(rt.alloc(), &rt)?;
-    let roots = arrival(rt.alloc(), &mut other, &image, &SHARED, &slots)?;
-    let words = [2, 0, 1, 2, 1, 1, u64::MAX, 1, 0, 1, 3, 4, 2, 0, 0, 0u64];
-    assert!(rt; roots.as_slice() == &words[..]);
-    assert_eq!(rt; counts(&other), (6, 2, 3));
-    let again = frame_of(rt.alloc(), &rt, &other, &image, &slots, &words)?;
-    assert!(rt; again.as_slice() == &SHARED[..]);
+    let heap = mixed(rt.alloc(), &rt)?;
+    assert!(rt; sends_shared(rt.alloc(), &rt, &heap, &image, &WORDS)?);
+    assert!(rt; goes_on(rt.alloc(), &rt, &image)?);
     Ok(())
 }
+
+/// Kinds of roots, a graph that is to arrive there, and why it doesn't.
+type Case<'a> = (&'a [Slot], &'a [u8], Option<Refusal>);
 
 /// Why a graph doesn't arrive at `host`, if it doesn't; then that is as it was.
 fn refused(
@@ -252,153 +312,115 @@ fn refused(
     image: &ImageView,
     slots: &[Slot],
     graph: &[u8],
-) -> Option<Refusal> {
-    let Ok(mut heap) = host(alloc, rt) else {
-        return Some(Refusal::Memory);
-    };
-    let mut bytes = Vec::new(alloc);
-    if bytes.extend_from_slice(&HEAD).is_err() || bytes.extend_from_slice(graph).is_err() {
-        return Some(Refusal::Memory);
+) -> Result<Option<Refusal>, Fail> {
+    let mut heap = host(alloc, rt)?;
+    let frame = spawned(alloc, graph)?;
+    let why = refusal(alloc, &mut heap, image, &frame, slots);
+    assert!(rt; why.is_none() || counts(&heap) == (1, 1, 1));
+    Ok(why)
+}
+
+/// Whether each graph has the answer of its case.
+fn answers(alloc: Global, rt: &impl Abort, image: &ImageView, cases: &[Case]) -> Result<bool, Fail> {
+    for case in cases {
+        if refused(alloc, rt, image, case.0, case.1)? != case.2 {
+            return Ok(false);
+        }
     }
-    let answer = arrival(alloc, &mut heap, image, &bytes, slots);
-    assert!(rt; answer.is_ok() || counts(&heap) == (1, 1, 1));
-    answer.err()
+    Ok(true)
+}
+
+/// Each graph has the answer of its case.
+fn are_answered(alloc: Global, rt: &impl Abort, cases: &[Case]) -> Result<(), Fail> {
+    let bytes = assemble(alloc, MIXED)?;
+    let image = ImageView::read(alloc, &bytes)?;
+    assert!(rt; answers(alloc, rt, &image, cases)?);
+    Ok(())
 }
 
 /// Kinds of the roots, and fields of an object.
 #[test]
 fn kinds_are_asked_for(rt: HostRuntime) -> Result<(), Fail> {
-    let bytes = assemble(rt.alloc(), MIXED)?;
-    let image = ImageView::read(rt.alloc(), &bytes)?;
     let int = slot(Kind::Int);
-    let number = [0, 1, 0, 0, 0, 0, 0, 0, 1, 0, 0, 0, 0, 0, 0, 0, 5u8];
-    assert_eq!(rt; refused(rt.alloc(), &rt, &image, &[int], &number), None);
-    assert_eq!(rt;
-        refused(rt.alloc(), &rt, &image, &[], &number),
-        Some(Refusal::Kind)
-    );
-    assert_eq!(rt;
-        refused(rt.alloc(), &rt, &image, &[int, int], &number),
-        Some(Refusal::Kind)
-    );
-    assert_eq!(rt;
-        refused(rt.alloc(), &rt, &image, &[slot(Kind::Text)], &number),
-        Some(Refusal::Kind)
-    );
-    let null = [0, 1, 0, 0, 0, 0, 0, 0, 6u8];
-    assert_eq!(rt;
-        refused(rt.alloc(), &rt, &image, &[slot(Kind::Opt(0))], &null),
-        None
-    );
-    assert_eq!(rt;
-        refused(rt.alloc(), &rt, &image, &[slot(Kind::Obj(0))], &null),
-        Some(Refusal::Kind)
-    );
-    let longer = [0, 1, 0, 0, 0, 0, 0, 1, 5, 0, 0, 0, 2, 1, 6u8];
-    assert_eq!(rt;
-        refused(rt.alloc(), &rt, &image, &[slot(Kind::Obj(2))], &longer),
-        Some(Refusal::Kind)
-    );
-    let no_class = [0, 1, 0, 0, 0, 0, 0, 1, 5, 0, 0, 0, 9, 0u8];
-    assert_eq!(rt;
-        refused(rt.alloc(), &rt, &image, &[slot(Kind::Obj(9))], &no_class),
-        Some(Refusal::Kind)
-    );
-    let swapped = [
-        0, 1, 0, 0, 0, 0, 0, 1, 5, 0, 0, 0, 3, 2, 2, 0, 1, 7, 0, 0, 0, 0, 0, 0, 0, 2u8,
+    let number: &[u8] = &[0, 1, 0, 0, 0, 0, 0, 0, 1, 0, 0, 0, 0, 0, 0, 0, 5];
+    let null: &[u8] = &[0, 1, 0, 0, 0, 0, 0, 0, 6];
+    let longer: &[u8] = &[0, 1, 0, 0, 0, 0, 0, 1, 5, 0, 0, 0, 2, 1, 6];
+    let no_class: &[u8] = &[0, 1, 0, 0, 0, 0, 0, 1, 5, 0, 0, 0, 9, 0];
+    let swapped: &[u8] = &[
+        0, 1, 0, 0, 0, 0, 0, 1, 5, 0, 0, 0, 3, 2, 2, 0, 1, 7, 0, 0, 0, 0, 0, 0, 0, 2,
     ];
-    assert_eq!(rt;
-        refused(rt.alloc(), &rt, &image, &[slot(Kind::Obj(3))], &swapped),
-        Some(Refusal::Kind)
-    );
-    Ok(())
+    let cases: [Case; 9] = [
+        (&[int], number, None),
+        (&[], number, Some(Refusal::Kind)),
+        (&[int, int], number, Some(Refusal::Kind)),
+        (&[slot(Kind::Text)], number, Some(Refusal::Kind)),
+        (&[slot(Kind::Opt(0))], null, None),
+        (&[slot(Kind::Obj(0))], null, Some(Refusal::Kind)),
+        (&[slot(Kind::Obj(2))], longer, Some(Refusal::Kind)),
+        (&[slot(Kind::Obj(9))], no_class, Some(Refusal::Kind)),
+        (&[slot(Kind::Obj(3))], swapped, Some(Refusal::Kind)),
+    ];
+    are_answered(rt.alloc(), &rt, &cases)
 }
 
 /// Homes, and what a global reference names.
 #[test]
 fn references_are_asked_for(rt: HostRuntime) -> Result<(), Fail> {
-    let bytes = assemble(rt.alloc(), MIXED)?;
-    let image = ImageView::read(rt.alloc(), &bytes)?;
-    let away = [0, 1, 0, 0, 0, 0, 0, 0, 7, 0, 0, 0, 0, 0, 5, 0, 2u8];
-    assert_eq!(rt;
-        refused(rt.alloc(), &rt, &image, &[slot(Kind::GRef(2))], &away),
-        None
-    );
-    assert_eq!(rt;
-        refused(rt.alloc(), &rt, &image, &[here(2)], &away),
-        Some(Refusal::Home)
-    );
-    let named = [0, 1, 0, 0, 0, 0, 0, 0, 7, 0, 1, 0, 0, 0, 0, 0, 2u8];
-    assert_eq!(rt; refused(rt.alloc(), &rt, &image, &[here(2)], &named), None);
-    let nothing = [0, 1, 0, 0, 0, 0, 0, 0, 7, 0, 1, 0, 0, 0, 1, 0, 2u8];
-    assert_eq!(rt;
-        refused(rt.alloc(), &rt, &image, &[here(2)], &nothing),
-        Some(Refusal::Ref)
-    );
-    let of_another = [0, 1, 0, 0, 0, 0, 0, 0, 7, 0, 1, 0, 0, 0, 0, 0, 0u8];
-    assert_eq!(rt;
-        refused(rt.alloc(), &rt, &image, &[here(0)], &of_another),
-        Some(Refusal::Ref)
-    );
-    let field = [
-        0, 1, 0, 0, 0, 0, 0, 1, 5, 0, 0, 0, 3, 2, 7, 0, 1, 0, 0, 0, 9, 0, 2, 2, 0, 0u8,
+    let away: &[u8] = &[0, 1, 0, 0, 0, 0, 0, 0, 7, 0, 0, 0, 0, 0, 5, 0, 2];
+    let named: &[u8] = &[0, 1, 0, 0, 0, 0, 0, 0, 7, 0, 1, 0, 0, 0, 0, 0, 2];
+    let nothing: &[u8] = &[0, 1, 0, 0, 0, 0, 0, 0, 7, 0, 1, 0, 0, 0, 1, 0, 2];
+    let of_another: &[u8] = &[0, 1, 0, 0, 0, 0, 0, 0, 7, 0, 1, 0, 0, 0, 0, 0, 0];
+    let field: &[u8] = &[
+        0, 1, 0, 0, 0, 0, 0, 1, 5, 0, 0, 0, 3, 2, 7, 0, 1, 0, 0, 0, 9, 0, 2, 2, 0, 0,
     ];
-    assert_eq!(rt;
-        refused(rt.alloc(), &rt, &image, &[slot(Kind::Obj(3))], &field),
-        Some(Refusal::Ref)
-    );
-    Ok(())
+    let cases: [Case; 6] = [
+        (&[slot(Kind::GRef(2))], away, None),
+        (&[here(2)], away, Some(Refusal::Home)),
+        (&[here(2)], named, None),
+        (&[here(2)], nothing, Some(Refusal::Ref)),
+        (&[here(0)], of_another, Some(Refusal::Ref)),
+        (&[slot(Kind::Obj(3))], field, Some(Refusal::Ref)),
+    ];
+    are_answered(rt.alloc(), &rt, &cases)
 }
 
 /// Of two faults the kind is told before the home, and the home before the reference, wherever they are.
 #[test]
 fn the_first_fault_is_named(rt: HostRuntime) -> Result<(), Fail> {
-    let bytes = assemble(rt.alloc(), MIXED)?;
-    let image = ImageView::read(rt.alloc(), &bytes)?;
     let any = slot(Kind::GRef(2));
-    let both = [
-        0, 2, 0, 0, 0, 0, 0, 0, 7, 0, 0, 0, 0, 0, 5, 0, 2, 7, 0, 1, 0, 0, 0, 1, 0, 2u8,
+    let both: &[u8] = &[
+        0, 2, 0, 0, 0, 0, 0, 0, 7, 0, 0, 0, 0, 0, 5, 0, 2, 7, 0, 1, 0, 0, 0, 1, 0, 2,
     ];
-    assert_eq!(rt;
-        refused(rt.alloc(), &rt, &image, &[here(2), any], &both),
-        Some(Refusal::Home)
-    );
-    assert_eq!(rt;
-        refused(rt.alloc(), &rt, &image, &[any, any], &both),
-        Some(Refusal::Ref)
-    );
-    assert_eq!(rt;
-        refused(rt.alloc(), &rt, &image, &[here(2), here(0)], &both),
-        Some(Refusal::Kind)
-    );
-    let turned = [
-        0, 2, 0, 0, 0, 0, 0, 0, 7, 0, 1, 0, 0, 0, 1, 0, 2, 7, 0, 0, 0, 0, 0, 5, 0, 2u8,
+    let turned: &[u8] = &[
+        0, 2, 0, 0, 0, 0, 0, 0, 7, 0, 1, 0, 0, 0, 1, 0, 2, 7, 0, 0, 0, 0, 0, 5, 0, 2,
     ];
-    assert_eq!(rt;
-        refused(rt.alloc(), &rt, &image, &[any, here(2)], &turned),
-        Some(Refusal::Home)
-    );
-    assert_eq!(rt;
-        refused(rt.alloc(), &rt, &image, &[here(0), here(2)], &turned),
-        Some(Refusal::Kind)
-    );
-    Ok(())
+    let cases: [Case; 5] = [
+        (&[here(2), any], both, Some(Refusal::Home)),
+        (&[any, any], both, Some(Refusal::Ref)),
+        (&[here(2), here(0)], both, Some(Refusal::Kind)),
+        (&[any, here(2)], turned, Some(Refusal::Home)),
+        (&[here(0), here(2)], turned, Some(Refusal::Kind)),
+    ];
+    are_answered(rt.alloc(), &rt, &cases)
 }
 
-/// The frame of `mixed`; where a growth was refused it is tried again, with the same marks.
-fn captured(
+/// Whether the frame of `mixed` is made; where a growth was refused it is tried again, with the same marks.
+fn is_captured(
     alloc: Global,
     rt: &impl Abort,
     marks: &mut Marks,
     heap: &Heap,
     image: &ImageView,
-) -> Option<Vec<u8>> {
+) -> bool {
     let slots = mixed_slots();
     match frame_with(alloc, rt, marks, heap, image, &slots, &WORDS) {
-        Ok(frame) => Some(frame),
+        Ok(frame) => frame.as_slice() == shared(),
         Err(why) => {
             assert!(rt; matches!(why, Stop::Memory));
-            frame_with(alloc, rt, marks, heap, image, &slots, &WORDS).ok()
+            match frame_with(alloc, rt, marks, heap, image, &slots, &WORDS) {
+                Ok(frame) => frame.as_slice() == shared(),
+                Err(_) => false,
+            }
         }
     }
 }
@@ -406,14 +428,21 @@ fn captured(
 /// Whether that frame arrives; where a growth was refused nothing has changed, and it is tried again.
 fn taken_in(alloc: Global, rt: &impl Abort, heap: &mut Heap, image: &ImageView) -> bool {
     let slots = mixed_slots();
-    match arrival(alloc, heap, image, &SHARED, &slots) {
-        Ok(_) => true,
-        Err(why) => {
-            assert!(rt; matches!(why, Refusal::Memory));
-            assert!(rt; counts(heap) == (1, 1, 1));
-            arrival(alloc, heap, image, &SHARED, &slots).is_ok()
-        }
-    }
+    let Some(why) = refusal(alloc, heap, image, shared(), &slots) else {
+        return true;
+    };
+    assert!(rt; why == Refusal::Memory && counts(heap) == (1, 1, 1));
+    refusal(alloc, heap, image, shared(), &slots).is_none()
+}
+
+/// The frame is made and arrives, if both heaps were made.
+fn goes_in_spite(alloc: Global, rt: &impl Abort, image: &ImageView) {
+    let (Ok(heap), Ok(mut other)) = (mixed(alloc, rt), host(alloc, rt)) else {
+        return;
+    };
+    assert!(rt; is_captured(alloc, rt, &mut Marks::new(alloc), &heap, image));
+    assert!(rt; taken_in(alloc, rt, &mut other, image));
+    assert!(rt; counts(&other) == (6, 2, 3));
 }
 
 /// Every answer is right, or it is that a growth was refused and all is as before: to be run with each allocation failing
@@ -426,12 +455,5 @@ fn memory_refused(rt: HostRuntime) {
     let Ok(image) = ImageView::read(rt.alloc(), &bytes) else {
         return;
     };
-    let (Ok(heap), Ok(mut other)) = (mixed(rt.alloc()), host(rt.alloc(), &rt)) else {
-        return;
-    };
-    let mut marks = Marks::new(rt.alloc());
-    let frame = captured(rt.alloc(), &rt, &mut marks, &heap, &image);
-    assert!(rt; frame.is_some_and(|bytes| bytes.as_slice() == &SHARED[..]));
-    assert!(rt; taken_in(rt.alloc(), &rt, &mut other, &image));
-    assert!(rt; counts(&other) == (6, 2, 3));
+    goes_in_spite(rt.alloc(), &rt, &image);
 }

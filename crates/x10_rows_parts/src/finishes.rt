@@ -84,39 +84,75 @@ fn without_the_first_report(rt: HostRuntime) -> Result<(), Fail> {
     Ok(())
 }
 
-#[test]
-fn last_to_end_reports(rt: HostRuntime) -> Result<(), Fail> {
-    let mut tally = Tally::new(rt.alloc(), 2, 3);
+/// An activity under the finish ends.
+fn end(rt: &impl Abort, tally: &mut Tally) -> Result<Option<Report>, Stop> {
+    assert!(rt; tally.live(FINISH) > 0);
+    tally.ended(FINISH)
+}
+
+/// How many activities live under the finish.
+fn live(tally: &Tally) -> u32 {
+    tally.live(FINISH)
+}
+
+/// Whether a report is that of a place, and has these counts.
+fn is_report(report: &Report, place: u16, sent: &[u32], received: &[u32]) -> bool {
+    report.place == place
+        && report.number == 1
+        && report.sent.as_slice() == sent
+        && report.received.as_slice() == received
+}
+
+/// What place 2 has met: one activity came from place 0, one was begun, and one was sent to place 1.
+fn busy(alloc: Global) -> Result<Tally, Stop> {
+    let mut tally = Tally::new(alloc, 2, 3);
     tally.came(FINISH, 0)?;
     tally.began(FINISH)?;
     tally.spawned(FINISH, 1)?;
-    assert_eq!(rt; tally.live(FINISH), 2);
-    assert!(rt; tally.ended(FINISH)?.is_none());
-    assert!(rt; tally.live(FINISH) > 0);
-    let Some(report) = tally.ended(FINISH)? else {
-        return Err(Fail::from("no report"));
-    };
-    assert_eq!(rt; (report.place, report.number), (2, 1));
-    assert_eq!(rt; report.sent.as_slice(), [0, 1, 0].as_slice());
-    assert_eq!(rt; report.received.as_slice(), [1, 0, 0].as_slice());
-    assert_eq!(rt; tally.live(FINISH), 0);
+    Ok(tally)
+}
+
+#[test]
+fn last_to_end_reports(rt: HostRuntime) -> Result<(), Fail> {
+    let mut tally = busy(rt.alloc())?;
+    assert!(rt; live(&tally) == 2);
+    assert!(rt; end(&rt, &mut tally)?.is_none());
+    let report = end(&rt, &mut tally)?.ok_or("no report")?;
+    assert!(rt; is_report(&report, 2, &[0, 1, 0], &[1, 0, 0]));
+    assert!(rt; live(&tally) == 0);
     Ok(())
+}
+
+/// Whether a book balances, and whether its finish is done.
+fn answers(book: &Book, tally: &Tally) -> (bool, bool) {
+    (book.balanced(tally), book.done(tally))
+}
+
+/// The home of the finish, with a book for it.
+fn home(alloc: Global) -> Result<(Tally, Book), Stop> {
+    Ok((Tally::new(alloc, 0, 3), Book::open(alloc, FINISH, 3)?))
 }
 
 #[test]
 fn home_reports_nothing(rt: HostRuntime) -> Result<(), Fail> {
-    let mut tally = Tally::new(rt.alloc(), 0, 3);
-    let book = Book::open(rt.alloc(), FINISH, 3)?;
-    assert!(rt; book.done(&tally));
+    let (mut tally, book) = home(rt.alloc())?;
+    assert!(rt; answers(&book, &tally) == (true, true));
     tally.began(FINISH)?;
-    assert!(rt; book.balanced(&tally));
-    assert!(rt; !book.done(&tally));
-    assert!(rt; tally.live(FINISH) > 0);
-    assert!(rt; tally.ended(FINISH)?.is_none());
-    assert!(rt; book.done(&tally));
-    assert_eq!(rt; (tally.place(), tally.places()), (0, 3));
-    assert_eq!(rt; (book.finish(), book.places()), (FINISH, 3));
+    assert!(rt; answers(&book, &tally) == (true, false));
+    assert!(rt; end(&rt, &mut tally)?.is_none());
+    assert!(rt; answers(&book, &tally) == (true, true));
+    assert!(rt; (tally.place(), tally.places()) == (0, 3));
+    assert!(rt; (book.finish(), book.places()) == (FINISH, 3));
     Ok(())
+}
+
+/// How many live under a finish, and how many numbers are kept of what was sent and received.
+fn counted(tally: &Tally, finish: Finish) -> (u32, usize, usize) {
+    (
+        tally.live(finish),
+        tally.sent(finish).len(),
+        tally.received(finish).len(),
+    )
 }
 
 #[test]
@@ -126,23 +162,26 @@ fn finishes_are_counted_apart(rt: HostRuntime) -> Result<(), Fail> {
     for (home, number) in finishes {
         let finish = Finish { home, number };
         tally.meet(finish)?;
-        assert_eq!(rt; tally.live(finish), 0);
-        assert_eq!(rt; tally.sent(finish).len(), 4);
+        assert_eq!(rt; counted(&tally, finish), (0, 4, 4));
     }
-    let finish = Finish { home: 1, number: 2 };
-    tally.began(finish)?;
+    tally.began(Finish { home: 1, number: 2 })?;
     for (home, number) in finishes {
         let live = u32::from(home == 1 && number == 2);
-        assert_eq!(rt; tally.live(Finish { home, number }), live);
+        assert_eq!(rt; counted(&tally, Finish { home, number }), (live, 4, 4));
     }
-    assert_eq!(rt; tally.received(Finish { home: 0, number: 8 }).len(), 0);
+    assert_eq!(rt; counted(&tally, Finish { home: 0, number: 8 }), (0, 0, 0));
     Ok(())
 }
 
 /// Whether a call went through; a refused growth is the only other answer that it may give.
 fn went(rt: &impl Abort, answer: Result<(), Stop>) -> bool {
-    assert!(rt; answer.is_ok() || answer == Err(Stop::Memory));
-    answer.is_ok()
+    match answer {
+        Ok(()) => true,
+        Err(stop) => {
+            assert!(rt; stop == Stop::Memory);
+            false
+        }
+    }
 }
 
 /// Every answer is right, or it is that a growth was refused and nothing has changed: to be run with each allocation

@@ -1,12 +1,13 @@
 ghost use Rattle.x10_frame.specs.Heads.{IsGraphHead};
 
-use std::alloc::Global;
+use crate::heaps::long;
+use std::alloc::{AllocError, Global};
 use std::process::Abort;
 use std::test::*;
 use x10_frame::{
     FrameFault, FrameView, FrameWriter, Head, Item, NodeView, Report, Sizes, write_report,
 };
-use x10_samples::{ALONE, BACK, CYCLE, HEAD, OTHER_REPORT, REPORT, SHIFT, SPAWN};
+use x10_samples::{ALONE, BACK, CYCLE, OTHER_REPORT, REPORT, SHIFT, SPAWN};
 
 /// A new activity with an empty text, a rail of two bytes, -2, place 1, null and a text of one
 /// character.
@@ -16,16 +17,37 @@ const VALUES: [u8; 61] = [
     0, 0, 0, 2, 128, 0,
 ];
 
+/// What stands before the counts of a graph, in a frame for a new activity at place 1.
+const HEAD: [u8; 14] = [1, 1, 0, 0, 0, 1, 0, 0, 0, 0, 0, 1, 0, 0];
+
+/// The frame for a new activity at place 1 with a graph.
+pub(crate) fn spawned(alloc: Global, graph: &[u8]) -> Result<Vec<u8>, AllocError> {
+    let mut bytes = Vec::from_slice(alloc, &HEAD)?;
+    bytes.extend_from_slice(graph)?;
+    Ok(bytes)
+}
+
 fn fault(alloc: Global, bytes: &[u8], places: u16) -> Option<FrameFault> {
     FrameView::read(alloc, bytes, places).err()
 }
 
-/// The fault of the head and these bytes, where there are two places.
-fn graph_fault(alloc: Global, graph: &[u8]) -> Result<Option<FrameFault>, Fail> {
-    let mut bytes = Vec::new(alloc);
-    bytes.extend_from_slice(&HEAD)?;
-    bytes.extend_from_slice(graph)?;
-    Ok(fault(alloc, &bytes, 2))
+/// The fault of a frame with a graph, where there are two places.
+fn graph_fault(alloc: Global, graph: &[u8]) -> Result<Option<FrameFault>, AllocError> {
+    Ok(fault(alloc, &spawned(alloc, graph)?, 2))
+}
+
+/// The fields of a node, one after another and each by its number.
+fn fields_again(alloc: Global, rt: &impl Abort, node: &NodeView) -> Result<Vec<Item>, Fail> {
+    let mut fields = Vec::new(alloc);
+    let mut values = node.values();
+    for j in 0..node.fields() {
+        assert!(rt; values.left() > 0 && values.left() == node.fields() - j);
+        let value = values.step();
+        assert!(rt; value == node.field(j));
+        fields.push(value)?;
+    }
+    assert!(rt; values.left() == 0);
+    Ok(fields)
 }
 
 fn node_again(
@@ -34,16 +56,7 @@ fn node_again(
     writer: FrameWriter,
     node: &NodeView,
 ) -> Result<FrameWriter, Fail> {
-    let mut fields = Vec::new(alloc);
-    let mut values = node.values();
-    for j in 0..node.fields() {
-        assert_eq!(rt; values.left(), node.fields() - j);
-        assert!(rt; values.left() > 0);
-        let value = values.step();
-        assert_eq!(rt; value, node.field(j));
-        fields.push(value)?;
-    }
-    assert_eq!(rt; values.left(), 0);
+    let fields = fields_again(alloc, rt, node)?;
     assert!(rt; fields.len() <= 16);
     Ok(writer.node(node.class(), &fields)?)
 }
@@ -137,8 +150,7 @@ fn each_frame_both_ways(rt: HostRuntime) -> Result<(), Fail> {
 
 #[test]
 fn most_roots_and_fields(rt: HostRuntime) -> Result<(), Fail> {
-    let mut bytes = Vec::from_slice(rt.alloc(), &HEAD)?;
-    bytes.extend_from_slice(&[0, 16, 0, 0, 0, 0, 0, 1, 5, 0, 0])?;
+    let mut bytes = spawned(rt.alloc(), &[0, 16, 0, 0, 0, 0, 0, 1, 5, 0, 0])?;
     bytes.extend_from_slice(&[6; 15])?;
     bytes.extend_from_slice(&[0, 0, 16])?;
     bytes.extend_from_slice(&[6; 16])?;
@@ -164,13 +176,22 @@ fn fields_of(alloc: Global, object: u16) -> Result<Vec<Item>, Fail> {
     Ok(fields)
 }
 
-/// The frame of as many texts and as many rails as there can be, the last of each as long as it can be.
-fn greatest(alloc: Global, rt: &impl Abort) -> Result<Vec<u8>, Fail> {
-    let mut long = String::new(alloc);
-    for _ in 0..65_535u32 {
-        long.push('a')?;
-    }
+/// As many texts and as many rails as there can be, the last of each as long as it can be.
+fn texts_and_rails(rt: &impl Abort, writer: FrameWriter, long: &str) -> Result<FrameWriter, Fail> {
     assert!(rt; long.len() == 65_535);
+    let mut writer = writer;
+    for _ in 1..65_535u32 {
+        writer = writer.text("")?;
+    }
+    writer = writer.text(long)?;
+    for _ in 1..65_535u32 {
+        writer = writer.rail(&[])?;
+    }
+    Ok(writer.rail(long.as_bytes())?)
+}
+
+/// The frame of as many texts and as many rails as there can be.
+fn greatest(alloc: Global, rt: &impl Abort) -> Result<Vec<u8>, Fail> {
     let head = Head::Back {
         from: 0,
         to: 1,
@@ -182,15 +203,8 @@ fn greatest(alloc: Global, rt: &impl Abort) -> Result<Vec<u8>, Fail> {
         rails: 65_535,
         nodes: 8_738,
     };
-    let mut writer = FrameWriter::new(alloc, &head, &sizes)?.roots(&[Item::Object(0)])?;
-    for _ in 1..65_535u32 {
-        writer = writer.text("")?;
-    }
-    writer = writer.text(&long)?;
-    for _ in 1..65_535u32 {
-        writer = writer.rail(&[])?;
-    }
-    writer = writer.rail(long.as_bytes())?;
+    let writer = FrameWriter::new(alloc, &head, &sizes)?.roots(&[Item::Object(0)])?;
+    let mut writer = texts_and_rails(rt, writer, &long(alloc, 65_535)?)?;
     for object in 0..8_738u16 {
         let fields = fields_of(alloc, object)?;
         assert!(rt; fields.len() <= 16);
@@ -199,17 +213,23 @@ fn greatest(alloc: Global, rt: &impl Abort) -> Result<Vec<u8>, Fail> {
     Ok(writer.finish())
 }
 
+/// How many roots, texts, rails and nodes a view has.
+fn sizes_of(view: &FrameView) -> (usize, usize, usize, usize) {
+    (view.roots(), view.texts(), view.rails(), view.nodes())
+}
+
+/// How long the last text and the last rail are, where there are both.
+fn last_lengths(view: &FrameView) -> Option<(usize, usize)> {
+    let (text, rail) = (view.texts().checked_sub(1)?, view.rails().checked_sub(1)?);
+    Some((view.text(text).len(), view.rail(rail).len()))
+}
+
 #[test]
 fn most_texts_and_rails(rt: HostRuntime) -> Result<(), Fail> {
     let bytes = greatest(rt.alloc(), &rt)?;
     let view = FrameView::read(rt.alloc(), &bytes, 2)?;
-    assert_eq!(rt;
-        (view.texts(), view.rails(), view.nodes()),
-        (65_535, 65_535, 8_738)
-    );
-    assert!(rt; view.texts() == 65_535 && view.rails() == 65_535);
-    assert_eq!(rt; view.text(65_534).len(), 65_535);
-    assert_eq!(rt; view.rail(65_534).len(), 65_535);
+    assert!(rt; sizes_of(&view) == (1, 65_535, 65_535, 8_738));
+    assert!(rt; last_lengths(&view) == Some((65_535, 65_535)));
     is_written_again(rt.alloc(), &rt, &bytes, 2)
 }
 
@@ -224,6 +244,24 @@ fn counts_without_bytes(rt: HostRuntime) {
     }
 }
 
+/// Whether the first root and the first rail are these.
+fn begins_with(view: &FrameView, root: Item, rail: &[u8]) -> bool {
+    view.roots() > 0 && view.rails() > 0 && view.root(0) == root && view.rail(0) == rail
+}
+
+/// Whether the first node is of a class and has these fields.
+fn has_first(
+    alloc: Global,
+    rt: &impl Abort,
+    view: &FrameView,
+    class: u16,
+    fields: &[Item],
+) -> Result<bool, Fail> {
+    assert!(rt; view.nodes() > 0);
+    let node = view.node(0);
+    Ok(node.class() == class && fields_again(alloc, rt, &node)?.as_slice() == fields)
+}
+
 #[test]
 fn parts_of_a_cycle(rt: HostRuntime) -> Result<(), Fail> {
     let view = FrameView::read(rt.alloc(), &CYCLE, 2)?;
@@ -234,28 +272,28 @@ fn parts_of_a_cycle(rt: HostRuntime) -> Result<(), Fail> {
         number: 1,
         function: 0,
     };
-    assert_eq!(rt; view.head(), head);
-    assert_eq!(rt; view.counts(), 0);
-    assert_eq!(rt;
-        (view.roots(), view.texts(), view.rails(), view.nodes()),
-        (1, 0, 1, 2)
-    );
-    assert!(rt; view.roots() == 1 && view.rails() == 1 && view.nodes() == 2);
-    assert!(rt; view.rail(0) == &[0, 0][..]);
-    assert_eq!(rt; view.root(0), Item::Object(0));
-    let node = view.node(0);
-    assert!(rt; node.class() == 0 && node.fields() == 3);
-    assert_eq!(rt;
-        (node.field(0), node.field(1)),
-        (Item::Object(1), Item::Rail(0))
-    );
     let here = Item::Ref {
         home: 0,
         id: 0,
         class: 1,
     };
-    assert_eq!(rt; node.field(2), here);
+    assert!(rt; view.head() == head && view.counts() == 0);
+    assert!(rt; sizes_of(&view) == (1, 0, 1, 2));
+    assert!(rt; begins_with(&view, Item::Object(0), &[0, 0]));
+    let fields = [Item::Object(1), Item::Rail(0), here];
+    assert!(rt; has_first(rt.alloc(), &rt, &view, 0, &fields)?);
     Ok(())
+}
+
+/// Whether a report has these counts.
+fn has_counts(view: &FrameView, sent: &[u32], received: &[u32]) -> bool {
+    for place in 0..view.counts() {
+        let (to, from) = (view.sent(place), view.received(place));
+        if sent.get(place).copied() != Some(to) || received.get(place).copied() != Some(from) {
+            return false;
+        }
+    }
+    true
 }
 
 #[test]
@@ -266,13 +304,8 @@ fn parts_of_a_report(rt: HostRuntime) -> Result<(), Fail> {
         to: 0,
         number: 1,
     };
-    assert_eq!(rt; view.head(), head);
-    assert!(rt; view.counts() == 3);
-    assert_eq!(rt; (view.sent(0), view.sent(1), view.sent(2)), (0, 0, 1));
-    assert_eq!(rt;
-        (view.received(0), view.received(1), view.received(2)),
-        (1, 0, 0)
-    );
+    assert!(rt; view.head() == head && view.counts() == 3);
+    assert!(rt; has_counts(&view, &[0, 0, 1], &[1, 0, 0]));
     Ok(())
 }
 
@@ -304,14 +337,18 @@ fn each_other_byte(rt: HostRuntime) -> Result<(), Fail> {
 
 #[test]
 fn refusals_of_heads(rt: HostRuntime) {
-    let alloc = rt.alloc();
-    assert_eq!(rt; fault(alloc, &[], 2), Some(FrameFault::Short));
-    assert_eq!(rt; fault(alloc, &[2], 2), Some(FrameFault::Version));
-    assert_eq!(rt; fault(alloc, &[1, 0], 2), Some(FrameFault::FrameType));
-    assert_eq!(rt; fault(alloc, &[1, 5], 2), Some(FrameFault::FrameType));
-    assert_eq!(rt; fault(alloc, &[1, 1, 0, 2], 2), Some(FrameFault::Place));
-    assert_eq!(rt; fault(alloc, &REPORT, 2), Some(FrameFault::Place));
-    assert_eq!(rt; fault(alloc, &REPORT, 4), Some(FrameFault::Place));
+    let heads: [(&[u8], u16, FrameFault); 7] = [
+        (&[], 2, FrameFault::Short),
+        (&[2], 2, FrameFault::Version),
+        (&[1, 0], 2, FrameFault::FrameType),
+        (&[1, 5], 2, FrameFault::FrameType),
+        (&[1, 1, 0, 2], 2, FrameFault::Place),
+        (&REPORT, 2, FrameFault::Place),
+        (&REPORT, 4, FrameFault::Place),
+    ];
+    for (bytes, places, want) in heads {
+        assert_eq!(rt; fault(rt.alloc(), bytes, places), Some(want), "{bytes:?}");
+    }
 }
 
 #[test]

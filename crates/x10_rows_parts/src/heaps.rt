@@ -1,4 +1,5 @@
 //! A heap by itself: what it holds after each call.
+use std::alloc::{AllocError, Global};
 use std::process::Abort;
 use std::test::*;
 use x10_heap::{Export, Heap};
@@ -41,11 +42,11 @@ fn objects(rt: HostRuntime) -> Result<(), Fail> {
         (2, 15, Some(0)),
         (3, 0, None),
     ] {
-        assert_eq!(rt; field(&heap, object, at), word);
+        assert!(rt; field(&heap, object, at) == word, "{object} {at}");
     }
     for (object, class) in [(0, 7), (1, 0), (2, 65_535)] {
         assert!(rt; object < 3 && heap.objects() == 3);
-        assert_eq!(rt; heap.class(object), class);
+        assert!(rt; heap.class(object) == class);
     }
     Ok(())
 }
@@ -64,33 +65,49 @@ fn rails(rt: HostRuntime) -> Result<(), Fail> {
     assert!(rt; set(&mut heap, 0, 2, 255) && set(&mut heap, 2, 65_534, 1));
     assert!(rt; !set(&mut heap, 0, 3, 1) && !set(&mut heap, 1, 0, 1));
     assert!(rt; heap.rails() == 3);
-    assert_eq!(rt; heap.rail(0), [0, 0, 255].as_slice());
-    assert_eq!(rt; heap.rail(1).len(), 0);
-    assert_eq!(rt; heap.rail_get(2, 65_534), Some(1));
-    assert_eq!(rt; heap.rail_get(2, 65_535), None);
+    assert!(rt; heap.rail(0) == [0, 0, 255].as_slice() && heap.rail(1).is_empty());
+    assert!(rt; heap.rail_get(2, 65_534) == Some(1) && heap.rail_get(2, 65_535).is_none());
     Ok(())
+}
+
+/// A text of so many bytes.
+pub(crate) fn long(alloc: Global, bytes: u32) -> Result<String, AllocError> {
+    let mut long = String::new(alloc);
+    for _ in 0..bytes {
+        long.push('a')?;
+    }
+    Ok(long)
+}
+
+/// A text of a heap, where there is one.
+fn text(heap: &Heap, text: u32) -> Option<&str> {
+    if text as usize >= heap.texts() {
+        return None;
+    }
+    Some(heap.text(text))
+}
+
+/// The number of two texts joined, where that isn't too long.
+fn join(rt: &impl Abort, heap: &mut Heap, one: u32, other: u32) -> Result<Option<u32>, Stop> {
+    let texts = heap.texts();
+    assert!(rt; (one as usize) < texts && (other as usize) < texts);
+    heap.join(one, other)
 }
 
 #[test]
 fn texts(rt: HostRuntime) -> Result<(), Fail> {
     let mut heap = Heap::new(rt.alloc());
-    let long = String::from_utf8(Vec::from_elem(rt.alloc(), b'a', 65_533)?)
-        .ok()
-        .ok_or("it is UTF-8")?;
-    heap.new_text("")?;
-    heap.new_text("\u{e9}b")?;
-    assert!(rt; long.len() <= 65_535);
-    heap.new_text(long.as_str())?;
-    assert!(rt; heap.texts() == 3);
-    assert_eq!(rt; heap.text(1), "\u{e9}b");
-    assert_eq!(rt; heap.join(1, 2)?, None);
-    assert!(rt; heap.texts() == 3);
-    assert_eq!(rt; heap.join(0, 2)?, Some(3));
-    assert!(rt; heap.texts() == 4);
-    assert_eq!(rt; heap.join(1, 1)?, Some(4));
-    assert!(rt; heap.texts() == 5);
-    assert_eq!(rt; heap.text(4), "\u{e9}b\u{e9}b");
-    assert_eq!(rt; heap.text(3).len(), 65_533);
+    let long = long(rt.alloc(), 65_533)?;
+    for added in ["", "\u{e9}b", long.as_str()] {
+        assert!(rt; added.len() < 65_536);
+        heap.new_text(added)?;
+    }
+    assert!(rt; text(&heap, 1) == Some("\u{e9}b"));
+    for (one, other, joined) in [(1, 2, None), (0, 2, Some(3)), (1, 1, Some(4))] {
+        assert!(rt; join(&rt, &mut heap, one, other)? == joined);
+    }
+    assert!(rt; text(&heap, 4) == Some("\u{e9}b\u{e9}b"));
+    assert!(rt; text(&heap, 3) == Some(long.as_str()) && heap.texts() == 5);
     Ok(())
 }
 
@@ -105,7 +122,7 @@ fn global_references(rt: HostRuntime) -> Result<(), Fail> {
     }
     for (id, class, object) in [(0, 2, 1), (1, 1, 0), (2, 2, 1)] {
         assert!(rt; id < 3 && heap.exports() == 3);
-        assert_eq!(rt; heap.opened(id), Export { class, object });
+        assert!(rt; heap.opened(id) == Export { class, object });
     }
     Ok(())
 }

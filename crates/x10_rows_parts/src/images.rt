@@ -1,5 +1,6 @@
 ghost use Rattle.std.specs.Prelude.{◌<◌, length};
 
+use crate::heaps::long;
 use std::alloc::{AllocError, Global};
 use std::test::*;
 use x10_code::{Instr, Op};
@@ -114,10 +115,6 @@ fn largest(alloc: Global) -> Result<Function, AllocError> {
 
 /// A module with the most functions and the longest text, and classes that name later ones.
 fn full(alloc: Global) -> Result<Module, AllocError> {
-    let mut long = String::new(alloc);
-    for _ in 0..65_535 {
-        long.push('a')?;
-    }
     let mut module = Module {
         least_places: 64,
         classes: Vec::new(alloc),
@@ -132,7 +129,7 @@ fn full(alloc: Global) -> Result<Module, AllocError> {
         &[Kind::Int, Kind::Place, Kind::Text, Kind::Rail],
     )?)?;
     module.texts.push(String::new(alloc))?;
-    module.texts.push(long)?;
+    module.texts.push(long(alloc, 65_535)?)?;
     module.functions.push(largest(alloc)?)?;
     for _ in 1..256 {
         module.functions.push(plain(alloc)?)?;
@@ -140,36 +137,50 @@ fn full(alloc: Global) -> Result<Module, AllocError> {
     Ok(module)
 }
 
+/// The least number of places and the entry of a view, and how many classes, numbers, texts and functions it has.
+fn sizes_of(view: &ImageView) -> (u16, u16, [usize; 4]) {
+    let counts = [
+        view.classes(),
+        view.ints(),
+        view.texts(),
+        view.functions(),
+    ];
+    (view.least(), view.entry(), counts)
+}
+
+/// Whether the code of each function of a view is these bytes.
+fn has_code(view: &ImageView, bytes: &[u8]) -> bool {
+    for f in 0..view.functions() {
+        if view.code(f) != bytes {
+            return false;
+        }
+    }
+    true
+}
+
+/// Whether a function is that of `SEVEN`.
+fn prints_seven(function: &Function) -> bool {
+    let code = [
+        instr(Op::Intk, 0, 0),
+        instr(Op::Print, 0, 0),
+        instr(Op::Ret, 0, 0),
+    ];
+    function.registers == 1
+        && function.loops == 0
+        && function.result.is_none()
+        && function.parameters.is_empty()
+        && function.code.as_slice() == code.as_slice()
+}
+
 #[test]
 fn seven_is_read(rt: HostRuntime) -> Result<(), Fail> {
-    let view = ImageView::read(rt.alloc(), &SEVEN)
-        .ok()
-        .ok_or("it is an image")?;
-    assert_eq!(rt; view.least(), 1);
-    assert_eq!(rt; view.entry(), 0);
-    assert_eq!(rt; view.classes(), 0);
-    assert_eq!(rt; view.ints(), 1);
-    assert_eq!(rt; view.texts(), 0);
-    assert_eq!(rt; view.functions(), 1);
+    let view = ImageView::read(rt.alloc(), &SEVEN)?;
+    assert!(rt; sizes_of(&view) == (1, 0, [0, 1, 0, 1]));
+    assert!(rt; has_code(&view, &SEVEN[40..]));
     let module = rebuilt(rt.alloc(), &view)?;
-    assert_eq!(rt; module.ints.as_slice(), [7].as_slice());
+    assert!(rt; module.ints.as_slice() == [7].as_slice());
     for function in &module.functions {
-        assert_eq!(rt; function.registers, 1);
-        assert_eq!(rt; function.loops, 0);
-        assert_eq!(rt; function.result, None);
-        assert_eq!(rt; function.parameters.len(), 0);
-        assert_eq!(rt;
-            function.code.as_slice(),
-            [
-                instr(Op::Intk, 0, 0),
-                instr(Op::Print, 0, 0),
-                instr(Op::Ret, 0, 0)
-            ]
-            .as_slice()
-        );
-    }
-    for f in 0..view.functions() {
-        assert_eq!(rt; view.code(f), &SEVEN[40..]);
+        assert!(rt; prints_seven(function));
     }
     Ok(())
 }
@@ -181,23 +192,30 @@ fn beginnings_are_short(rt: HostRuntime) {
     }
 }
 
+/// Which byte of `SEVEN` becomes which other, and the fault of that.
+const FAULTS: [(usize, u8, Option<ImageFault>); 15] = [
+    (0, 0x59, Some(ImageFault::Magic)),
+    (5, 2, Some(ImageFault::Version)),
+    (7, 64, None),
+    (7, 65, Some(ImageFault::Count)),
+    (7, 0, Some(ImageFault::Count)),
+    (32, 8, Some(ImageFault::Kind)),
+    (32, 5, Some(ImageFault::Kind)),
+    (19, 1, Some(ImageFault::Reserved)),
+    (31, 1, Some(ImageFault::Reserved)),
+    (17, 1, Some(ImageFault::Entry)),
+    (32, 1, Some(ImageFault::Entry)),
+    (42, 1, Some(ImageFault::Code(0, 0))),
+    (56, 0xff, Some(ImageFault::Code(0, 2))),
+    (4, 9, Some(ImageFault::Version)),
+    (3, 9, Some(ImageFault::Magic)),
+];
+
 #[test]
 fn each_fault_is_met(rt: HostRuntime) {
-    assert_eq!(rt; changed(&rt, 0, 0x59), Some(ImageFault::Magic));
-    assert_eq!(rt; changed(&rt, 5, 2), Some(ImageFault::Version));
-    assert_eq!(rt; changed(&rt, 7, 64), None);
-    assert_eq!(rt; changed(&rt, 7, 65), Some(ImageFault::Count));
-    assert_eq!(rt; changed(&rt, 7, 0), Some(ImageFault::Count));
-    assert_eq!(rt; changed(&rt, 32, 8), Some(ImageFault::Kind));
-    assert_eq!(rt; changed(&rt, 32, 5), Some(ImageFault::Kind));
-    assert_eq!(rt; changed(&rt, 19, 1), Some(ImageFault::Reserved));
-    assert_eq!(rt; changed(&rt, 31, 1), Some(ImageFault::Reserved));
-    assert_eq!(rt; changed(&rt, 17, 1), Some(ImageFault::Entry));
-    assert_eq!(rt; changed(&rt, 32, 1), Some(ImageFault::Entry));
-    assert_eq!(rt; changed(&rt, 42, 1), Some(ImageFault::Code(0, 0)));
-    assert_eq!(rt; changed(&rt, 56, 0xff), Some(ImageFault::Code(0, 2)));
-    assert_eq!(rt; changed(&rt, 4, 9), Some(ImageFault::Version));
-    assert_eq!(rt; changed(&rt, 3, 9), Some(ImageFault::Magic));
+    for (at, byte, want) in FAULTS {
+        assert!(rt; changed(&rt, at, byte) == want, "byte {at}");
+    }
 }
 
 /// A text of one byte after the constant number, and the rest of `SEVEN`.
@@ -232,10 +250,8 @@ fn changed_bytes_are_refused_or_spelled(rt: HostRuntime) -> Result<(), Fail> {
             bytes[at] = byte;
             match ImageView::read(rt.alloc(), &bytes) {
                 Ok(view) => {
-                    let again = write(rt.alloc(), &rebuilt(rt.alloc(), &view)?)
-                        .ok()
-                        .ok_or("it was read")?;
-                    assert_eq!(rt; again.as_slice(), bytes.as_slice());
+                    let again = write(rt.alloc(), &rebuilt(rt.alloc(), &view)?)?;
+                    assert!(rt; again.as_slice() == bytes.as_slice());
                 }
                 Err(fault) => assert!(rt; fault != ImageFault::Memory),
             }
@@ -244,17 +260,22 @@ fn changed_bytes_are_refused_or_spelled(rt: HostRuntime) -> Result<(), Fail> {
     Ok(())
 }
 
+/// How many functions the module has that bytes spell.
+fn functions_of(alloc: Global, bytes: &[u8]) -> Result<usize, Fail> {
+    Ok(rebuilt(alloc, &ImageView::read(alloc, bytes)?)?.functions.len())
+}
+
+/// The image of the module that bytes spell.
+fn written_again(alloc: Global, bytes: &[u8]) -> Result<Vec<u8>, Fail> {
+    let view = ImageView::read(alloc, bytes)?;
+    Ok(write(alloc, &rebuilt(alloc, &view)?)?)
+}
+
 #[test]
 fn written_is_read_and_written_again(rt: HostRuntime) -> Result<(), Fail> {
-    let module = full(rt.alloc())?;
-    let bytes = write(rt.alloc(), &module).ok().ok_or("it has an image")?;
-    let view = ImageView::read(rt.alloc(), &bytes)
-        .ok()
-        .ok_or("it was written")?;
-    let read = rebuilt(rt.alloc(), &view)?;
-    assert_eq!(rt; read.functions.len(), 256);
-    let again = write(rt.alloc(), &read).ok().ok_or("it was read")?;
-    assert_eq!(rt; again.as_slice(), bytes.as_slice());
+    let bytes = write(rt.alloc(), &full(rt.alloc())?)?;
+    assert!(rt; functions_of(rt.alloc(), &bytes)? == 256);
+    assert!(rt; written_again(rt.alloc(), &bytes)?.as_slice() == bytes.as_slice());
     Ok(())
 }
 

@@ -121,36 +121,64 @@ fn arrived(alloc: Global, image: &ImageView, bytes: &[u8], class: u16) -> (usize
     (heap.objects(), heap.texts(), heap.rails())
 }
 
+/// How many of the parts that the first object of a heap reaches arrive.
+fn that_go(
+    alloc: Global,
+    rt: &impl Abort,
+    image: &ImageView,
+    heap: &Heap,
+    class: u16,
+) -> Result<(usize, usize, usize), Stop> {
+    let frame = frame_of(alloc, rt, heap, image, class)?;
+    Ok(arrived(alloc, image, &frame, class))
+}
+
+/// Whether the first object of a heap doesn't go along for a limit.
+fn meets(
+    alloc: Global,
+    rt: &impl Abort,
+    image: &ImageView,
+    heap: &Heap,
+    class: u16,
+    limit: Stop,
+) -> bool {
+    match frame_of(alloc, rt, heap, image, class) {
+        Ok(_) => false,
+        Err(stop) => stop == limit,
+    }
+}
+
 /// A frame takes 65,535 objects along and no more; as many texts, and as many rails.
 #[test]
 fn the_most_objects(rt: HostRuntime) -> Result<(), Fail> {
     let bytes = assemble(rt.alloc(), LISTS)?;
     let image = ImageView::read(rt.alloc(), &bytes)?;
-    let heap = list(rt.alloc(), 65_535)?;
-    let frame = frame_of(rt.alloc(), &rt, &heap, &image, 0)?;
-    assert_eq!(rt; frame.len(), 393_233);
-    assert_eq!(rt; arrived(rt.alloc(), &image, &frame, 0), (65_535, 0, 0));
-    let heap = list(rt.alloc(), 65_536)?;
-    let refused = frame_of(rt.alloc(), &rt, &heap, &image, 0).err();
-    assert!(rt; matches!(refused, Some(Stop::Limit(7))));
+    let frame = frame_of(rt.alloc(), &rt, &list(rt.alloc(), 65_535)?, &image, 0)?;
+    assert!(rt; frame.len() == 393_233);
+    assert!(rt; arrived(rt.alloc(), &image, &frame, 0) == (65_535, 0, 0));
+    let more = list(rt.alloc(), 65_536)?;
+    assert!(rt; meets(rt.alloc(), &rt, &image, &more, 0, Stop::Limit(7)));
     Ok(())
 }
 
 #[test]
-fn the_most_texts_and_rails(rt: HostRuntime) -> Result<(), Fail> {
+fn the_most_texts(rt: HostRuntime) -> Result<(), Fail> {
     let bytes = assemble(rt.alloc(), LISTS)?;
     let image = ImageView::read(rt.alloc(), &bytes)?;
-    let heap = texts(rt.alloc(), 65_535)?;
-    let frame = frame_of(rt.alloc(), &rt, &heap, &image, 1)?;
-    assert_eq!(rt; arrived(rt.alloc(), &image, &frame, 1), (4_369, 65_535, 0));
-    let heap = texts(rt.alloc(), 65_536)?;
-    let refused = frame_of(rt.alloc(), &rt, &heap, &image, 1).err();
-    assert!(rt; matches!(refused, Some(Stop::Limit(8))));
-    let heap = rails(rt.alloc(), 65_535)?;
-    let frame = frame_of(rt.alloc(), &rt, &heap, &image, 2)?;
-    assert_eq!(rt; arrived(rt.alloc(), &image, &frame, 2), (4_369, 0, 65_535));
-    let heap = rails(rt.alloc(), 65_536)?;
-    let refused = frame_of(rt.alloc(), &rt, &heap, &image, 2).err();
-    assert!(rt; matches!(refused, Some(Stop::Limit(9))));
+    let most = texts(rt.alloc(), 65_535)?;
+    assert!(rt; that_go(rt.alloc(), &rt, &image, &most, 1)? == (4_369, 65_535, 0));
+    let more = texts(rt.alloc(), 65_536)?;
+    assert!(rt; meets(rt.alloc(), &rt, &image, &more, 1, Stop::Limit(8)));
+    Ok(())
+}
+
+#[test]
+fn the_most_rails(rt: HostRuntime) -> Result<(), Fail> {
+    let bytes = assemble(rt.alloc(), LISTS)?;
+    let image = ImageView::read(rt.alloc(), &bytes)?;
+    let most = rails(rt.alloc(), 65_535)?;
+    assert!(rt; that_go(rt.alloc(), &rt, &image, &most, 2)? == (4_369, 0, 65_535));
+    let more = rails(rt.alloc(), 65_536)?;
+    assert!(rt; meets(rt.alloc(), &rt, &image, &more, 2, Stop::Limit(9)));
     Ok(())
 }

@@ -28,6 +28,14 @@ fn at(rows: &[[u32; 5]; 5], p: usize, q: usize) -> u32 {
     row[q % 5]
 }
 
+/// What a place has counted of another: sent there, and received from there.
+fn counted(tally: &Tally, q: usize) -> (u32, u32) {
+    (
+        tally.sent(FINISH).get(q).copied().unwrap_or(0),
+        tally.received(FINISH).get(q).copied().unwrap_or(0),
+    )
+}
+
 fn add(rows: &mut [[u32; 5]; 5], p: usize, q: usize, more: bool) {
     let row = &mut rows[p % 5];
     let n = row[q % 5];
@@ -75,6 +83,14 @@ impl Plain {
 
     fn balances(&self) -> bool {
         (0..25usize).all(|i| self.agrees(i / 5, i % 5))
+    }
+
+    /// Whether a report is what a place has to tell.
+    fn tells(&self, p: usize, report: &Report) -> bool {
+        usize::from(report.place) == p
+            && report.number == FINISH.number
+            && report.sent.as_slice() == self.sent[p % 5].as_slice()
+            && report.received.as_slice() == self.received[p % 5].as_slice()
     }
 
     /// Nothing lives and nothing is in flight.
@@ -143,14 +159,9 @@ impl Walk {
         let report = tally.ended(FINISH)?;
         let live = self.plain.live[p % 5].saturating_sub(1);
         self.plain.live[p % 5] = live;
-        assert_eq!(rt; report.is_some(), live == 0 && p % 5 != HOME);
+        assert!(rt; report.is_some() == (live == 0 && p % 5 != HOME));
         if let Some(report) = report {
-            assert_eq!(rt; (usize::from(report.place), report.number), (p % 5, 9));
-            assert_eq!(rt; report.sent.as_slice(), self.plain.sent[p % 5].as_slice());
-            assert_eq!(rt;
-                report.received.as_slice(),
-                self.plain.received[p % 5].as_slice()
-            );
+            assert!(rt; self.plain.tells(p % 5, &report));
             self.reports.push(report)?;
         }
         Ok(())
@@ -182,12 +193,10 @@ impl Walk {
 
     fn compare_counts(&self, rt: &impl Abort, p: usize) {
         let tally = &self.tallies[p % 5];
-        assert_eq!(rt; tally.live(FINISH), self.plain.live[p % 5]);
+        assert!(rt; tally.live(FINISH) == self.plain.live[p % 5]);
         for q in 0..5usize {
-            let sent = tally.sent(FINISH).get(q).copied().unwrap_or(0);
-            let received = tally.received(FINISH).get(q).copied().unwrap_or(0);
-            assert_eq!(rt; sent, at(&self.plain.sent, p, q));
-            assert_eq!(rt; received, at(&self.plain.received, p, q));
+            let counts = (at(&self.plain.sent, p, q), at(&self.plain.received, p, q));
+            assert_eq!(rt; counted(tally, q), counts);
         }
     }
 

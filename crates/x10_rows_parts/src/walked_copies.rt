@@ -120,21 +120,22 @@ fn add_object(
     Some(())
 }
 
+/// An object of each class.
+fn add_four(heap: &mut Heap, dice: &mut Dice, image: &ImageView, counts: &Counts) -> Option<()> {
+    for class in 0..4u16 {
+        let number = usize::from(class);
+        if number < image.classes() {
+            add_object(heap, dice, counts, &image.class(number), class)?;
+        }
+    }
+    Some(())
+}
+
 fn random_heap(alloc: Global, dice: &mut Dice, image: &ImageView, counts: &Counts) -> Option<Heap> {
     let mut heap = Heap::new(alloc);
     add_bytes(&mut heap, dice, counts)?;
     for _ in 0..counts.fours {
-        for class in 0..4 {
-            if usize::from(class) < image.classes() {
-                add_object(
-                    &mut heap,
-                    dice,
-                    counts,
-                    &image.class(usize::from(class)),
-                    class,
-                )?;
-            }
-        }
+        add_four(&mut heap, dice, image, counts)?;
     }
     Some(heap)
 }
@@ -380,7 +381,7 @@ fn random_heaps_arrive(rt: HostRuntime) -> Result<(), Fail> {
     let mut marks = Marks::new(rt.alloc());
     for seed in 1..=HEAPS {
         let answer = arrives(rt.alloc(), &rt, &image, &mut marks, seed);
-        assert_eq!(rt; answer, Some(true), "seed {seed}");
+        assert!(rt; answer == Some(true), "seed {seed}");
     }
     Ok(())
 }

@@ -35,6 +35,3 @@ pub const CYCLE: [u8; 67] = [
 pub const ALONE: [u8; 22] = [
     1, 1, 0, 0, 0, 0, 0, 0, 0, 0, 0, 0, 0, 0, 0, 0, 0, 0, 0, 0, 0, 0,
 ];
-
-/// What stands before the counts of a graph: of a new activity at place 1.
-pub const HEAD: [u8; 14] = [1, 1, 0, 0, 0, 1, 0, 0, 0, 0, 0, 1, 0, 0];

@@ -6,5 +6,5 @@ mod frames;
 mod images;
 
 pub use chance::random;
-pub use frames::{ALONE, BACK, CYCLE, HEAD, OTHER_REPORT, REPORT, SHIFT, SPAWN};
+pub use frames::{ALONE, BACK, CYCLE, OTHER_REPORT, REPORT, SHIFT, SPAWN};
 pub use images::{SEVEN, with_byte};
