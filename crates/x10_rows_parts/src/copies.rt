@@ -1,5 +1,4 @@
 //! What a message takes along, and that it arrives.
-use crate::frames::spawned;
 use std::alloc::Global;
 use std::process::Abort;
 use std::test::*;
@@ -23,7 +22,7 @@ entry 0
 ";
 
 /// A class of each kind of field, one of 16 fields, one of none, and one with a global reference.
-const MIXED: &str = "places 2
+pub(crate) const MIXED: &str = "places 2
 class opt:0 obj:0 text rail
 class int int int int int int int int int int int int int int int int
 class
@@ -70,7 +69,7 @@ const SHARED: [u8; 317] = [
     4, 0, 0, 0, 0, 4, 5, 0, 2, 5, 0, 4, 3, 0, 1, 4, 0, 0,
 ];
 
-fn slot(kind: Kind) -> Slot {
+pub(crate) fn slot(kind: Kind) -> Slot {
     Slot {
         kind,
         home_here: false,
@@ -78,7 +77,7 @@ fn slot(kind: Kind) -> Slot {
 }
 
 /// Of which the home has to be the place itself.
-fn here(class: u16) -> Slot {
+pub(crate) fn here(class: u16) -> Slot {
     Slot {
         kind: Kind::GRef(class),
         home_here: true,
@@ -143,7 +142,7 @@ fn arrival(
 }
 
 /// Why a frame doesn't arrive, if it doesn't.
-fn refusal(
+pub(crate) fn refusal(
     alloc: Global,
     heap: &mut Heap,
     image: &ImageView,
@@ -201,7 +200,7 @@ fn receiver(alloc: Global, rt: &impl Abort) -> Result<Heap, Stop> {
 }
 
 /// How many objects, rails and texts a heap has.
-fn counts(heap: &Heap) -> (usize, usize, usize) {
+pub(crate) fn counts(heap: &Heap) -> (usize, usize, usize) {
     (heap.objects(), heap.rails(), heap.texts())
 }
 
@@ -264,7 +263,7 @@ fn mixed(alloc: Global, rt: &impl Abort) -> Result<Heap, Stop> {
 }
 
 /// An object of class 2, which global references name, a rail and a text.
-fn host(alloc: Global, rt: &impl Abort) -> Result<Heap, Stop> {
+pub(crate) fn host(alloc: Global, rt: &impl Abort) -> Result<Heap, Stop> {
     let mut heap = heap_of(alloc, rt, &["here"], &[1], &[(2, &[])])?;
     assert!(rt; heap.objects() == 1);
     heap.export(0)?;
@@ -300,108 +299,6 @@ fn shared_parts_go_once(rt: HostRuntime) -> Result<(), Fail> {
     assert!(rt; sends_shared(rt.alloc(), &rt, &heap, &image, &WORDS)?);
     assert!(rt; goes_on(rt.alloc(), &rt, &image)?);
     Ok(())
-}
-
-/// Kinds of roots, a graph that is to arrive there, and why it doesn't.
-type Case<'a> = (&'a [Slot], &'a [u8], Option<Refusal>);
-
-/// Why a graph doesn't arrive at `host`, if it doesn't; then that is as it was.
-fn refused(
-    alloc: Global,
-    rt: &impl Abort,
-    image: &ImageView,
-    slots: &[Slot],
-    graph: &[u8],
-) -> Result<Option<Refusal>, Fail> {
-    let mut heap = host(alloc, rt)?;
-    let frame = spawned(alloc, graph)?;
-    let why = refusal(alloc, &mut heap, image, &frame, slots);
-    assert!(rt; why.is_none() || counts(&heap) == (1, 1, 1));
-    Ok(why)
-}
-
-/// Whether each graph has the answer of its case.
-fn answers(alloc: Global, rt: &impl Abort, image: &ImageView, cases: &[Case]) -> Result<bool, Fail> {
-    for case in cases {
-        if refused(alloc, rt, image, case.0, case.1)? != case.2 {
-            return Ok(false);
-        }
-    }
-    Ok(true)
-}
-
-/// Each graph has the answer of its case.
-fn are_answered(alloc: Global, rt: &impl Abort, cases: &[Case]) -> Result<(), Fail> {
-    let bytes = assemble(alloc, MIXED)?;
-    let image = ImageView::read(alloc, &bytes)?;
-    assert!(rt; answers(alloc, rt, &image, cases)?);
-    Ok(())
-}
-
-/// Kinds of the roots, and fields of an object.
-#[test]
-fn kinds_are_asked_for(rt: HostRuntime) -> Result<(), Fail> {
-    let int = slot(Kind::Int);
-    let number: &[u8] = &[0, 1, 0, 0, 0, 0, 0, 0, 1, 0, 0, 0, 0, 0, 0, 0, 5];
-    let null: &[u8] = &[0, 1, 0, 0, 0, 0, 0, 0, 6];
-    let longer: &[u8] = &[0, 1, 0, 0, 0, 0, 0, 1, 5, 0, 0, 0, 2, 1, 6];
-    let no_class: &[u8] = &[0, 1, 0, 0, 0, 0, 0, 1, 5, 0, 0, 0, 9, 0];
-    let swapped: &[u8] = &[
-        0, 1, 0, 0, 0, 0, 0, 1, 5, 0, 0, 0, 3, 2, 2, 0, 1, 7, 0, 0, 0, 0, 0, 0, 0, 2,
-    ];
-    let cases: [Case; 9] = [
-        (&[int], number, None),
-        (&[], number, Some(Refusal::Kind)),
-        (&[int, int], number, Some(Refusal::Kind)),
-        (&[slot(Kind::Text)], number, Some(Refusal::Kind)),
-        (&[slot(Kind::Opt(0))], null, None),
-        (&[slot(Kind::Obj(0))], null, Some(Refusal::Kind)),
-        (&[slot(Kind::Obj(2))], longer, Some(Refusal::Kind)),
-        (&[slot(Kind::Obj(9))], no_class, Some(Refusal::Kind)),
-        (&[slot(Kind::Obj(3))], swapped, Some(Refusal::Kind)),
-    ];
-    are_answered(rt.alloc(), &rt, &cases)
-}
-
-/// Homes, and what a global reference names.
-#[test]
-fn references_are_asked_for(rt: HostRuntime) -> Result<(), Fail> {
-    let away: &[u8] = &[0, 1, 0, 0, 0, 0, 0, 0, 7, 0, 0, 0, 0, 0, 5, 0, 2];
-    let named: &[u8] = &[0, 1, 0, 0, 0, 0, 0, 0, 7, 0, 1, 0, 0, 0, 0, 0, 2];
-    let nothing: &[u8] = &[0, 1, 0, 0, 0, 0, 0, 0, 7, 0, 1, 0, 0, 0, 1, 0, 2];
-    let of_another: &[u8] = &[0, 1, 0, 0, 0, 0, 0, 0, 7, 0, 1, 0, 0, 0, 0, 0, 0];
-    let field: &[u8] = &[
-        0, 1, 0, 0, 0, 0, 0, 1, 5, 0, 0, 0, 3, 2, 7, 0, 1, 0, 0, 0, 9, 0, 2, 2, 0, 0,
-    ];
-    let cases: [Case; 6] = [
-        (&[slot(Kind::GRef(2))], away, None),
-        (&[here(2)], away, Some(Refusal::Home)),
-        (&[here(2)], named, None),
-        (&[here(2)], nothing, Some(Refusal::Ref)),
-        (&[here(0)], of_another, Some(Refusal::Ref)),
-        (&[slot(Kind::Obj(3))], field, Some(Refusal::Ref)),
-    ];
-    are_answered(rt.alloc(), &rt, &cases)
-}
-
-/// Of two faults the kind is told before the home, and the home before the reference, wherever they are.
-#[test]
-fn the_first_fault_is_named(rt: HostRuntime) -> Result<(), Fail> {
-    let any = slot(Kind::GRef(2));
-    let both: &[u8] = &[
-        0, 2, 0, 0, 0, 0, 0, 0, 7, 0, 0, 0, 0, 0, 5, 0, 2, 7, 0, 1, 0, 0, 0, 1, 0, 2,
-    ];
-    let turned: &[u8] = &[
-        0, 2, 0, 0, 0, 0, 0, 0, 7, 0, 1, 0, 0, 0, 1, 0, 2, 7, 0, 0, 0, 0, 0, 5, 0, 2,
-    ];
-    let cases: [Case; 5] = [
-        (&[here(2), any], both, Some(Refusal::Home)),
-        (&[any, any], both, Some(Refusal::Ref)),
-        (&[here(2), here(0)], both, Some(Refusal::Kind)),
-        (&[any, here(2)], turned, Some(Refusal::Home)),
-        (&[here(0), here(2)], turned, Some(Refusal::Kind)),
-    ];
-    are_answered(rt.alloc(), &rt, &cases)
 }
 
 /// Whether the frame of `mixed` is made; where a growth was refused it is tried again, with the same marks.

@@ -139,12 +139,7 @@ fn full(alloc: Global) -> Result<Module, AllocError> {
 
 /// The least number of places and the entry of a view, and how many classes, numbers, texts and functions it has.
 fn sizes_of(view: &ImageView) -> (u16, u16, [usize; 4]) {
-    let counts = [
-        view.classes(),
-        view.ints(),
-        view.texts(),
-        view.functions(),
-    ];
+    let counts = [view.classes(), view.ints(), view.texts(), view.functions()];
     (view.least(), view.entry(), counts)
 }
 
@@ -262,7 +257,11 @@ fn changed_bytes_are_refused_or_spelled(rt: HostRuntime) -> Result<(), Fail> {
 
 /// How many functions the module has that bytes spell.
 fn functions_of(alloc: Global, bytes: &[u8]) -> Result<usize, Fail> {
-    Ok(rebuilt(alloc, &ImageView::read(alloc, bytes)?)?.functions.len())
+    Ok(
+        rebuilt(alloc, &ImageView::read(alloc, bytes)?)?
+            .functions
+            .len(),
+    )
 }
 
 /// The image of the module that bytes spell.

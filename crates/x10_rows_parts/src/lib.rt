@@ -22,6 +22,8 @@ mod large_copies;
 #[cfg(test)]
 mod listing;
 #[cfg(test)]
+mod refused_copies;
+#[cfg(test)]
 mod verifying;
 #[cfg(test)]
 mod walk;

@@ -1,12 +1,10 @@
 //! Many activities at one place under ten thousand random events, beside a plain count of what each of them does.
-use crate::places::place_of;
+use crate::places::{opened, program};
 use std::process::Abort;
 use std::test::*;
 use x10_asm::assemble;
-use x10_image::ImageView;
 use x10_place::{Place, Stepped};
 use x10_samples::random;
-use x10_verify::verify;
 
 /// Main starts 400 branches in a finish, and one more that outlives it. A branch starts two leaves in a finish of its
 /// own, waits for them, and starts one more that it doesn't wait for. A leaf prints.
@@ -168,6 +166,13 @@ impl Plain {
         Ok(())
     }
 
+    /// Whether place and count have as many lines, and agree on this key and on the end of the run.
+    fn agrees(&self, place: &Place, key: usize) -> bool {
+        place.output().len() == self.lines
+            && place.closed() == (self.live(0) == 0)
+            && place.at(key).is_some() == self.at(key).is_some()
+    }
+
     /// A step of this key, at the place and in the count.
     fn step(&mut self, rt: &impl Abort, place: &mut Place, key: usize) -> Result<(), Fail> {
         let idles = self.idles(key);
@@ -179,9 +184,7 @@ impl Plain {
             }
             Err(_) => return Err("there is memory".into()),
         }
-        assert_eq!(rt; place.output().len(), self.lines);
-        assert_eq!(rt; place.closed(), self.live(0) == 0);
-        assert_eq!(rt; place.at(key).is_some(), self.at(key).is_some());
+        assert!(rt; self.agrees(place, key));
         Ok(())
     }
 }
@@ -189,8 +192,8 @@ impl Plain {
 #[test]
 fn ten_thousand_events(rt: HostRuntime) -> Result<(), Fail> {
     let bytes = assemble(rt.alloc(), BRANCHES)?;
-    let verified = verify(rt.alloc(), ImageView::read(rt.alloc(), &bytes)?)?;
-    let mut place = place_of(rt.alloc(), &verified, 0, 1).ok_or("place 0 is there")?;
+    let verified = program(rt.alloc(), &bytes)?;
+    let mut place = opened(rt.alloc(), &verified, 0, 1)?;
     let mut plain = Plain {
         activities: Vec::new(rt.alloc()),
         live: Vec::new(rt.alloc()),
@@ -220,6 +223,6 @@ fn ten_thousand_events(rt: HostRuntime) -> Result<(), Fail> {
         }
     }
     assert!(rt; place.closed());
-    assert_eq!(rt; plain.lines, 1_203);
+    assert!(rt; plain.lines == 1_203);
     Ok(())
 }

@@ -1,13 +1,13 @@
 //! Pictures of runs.
+use crate::places::program;
 use crate::travels::AWAY;
+use crate::worlds::world_of;
 use std::alloc::{AllocError, Global};
 use std::test::*;
 use x10_asm::assemble;
 use x10_draw::{Counts, Drawing, push_escaped};
-use x10_image::ImageView;
 use x10_model::Event;
 use x10_samples::SEVEN;
-use x10_verify::verify;
 use x10_world::{Done, Rounds, World};
 
 /// The picture of the run of seven, behind its legend.
@@ -75,8 +75,8 @@ fn noted(alloc: Global, world: &mut World, limit: u64) -> Result<Drawing, Fail> 
 
 /// The drawing of the first events of a run, so many at most.
 fn drawn(alloc: Global, image: &[u8], places: u16, limit: u64) -> Result<Drawing, Fail> {
-    let verified = verify(alloc, ImageView::read(alloc, image)?)?;
-    let mut world = World::open(alloc, &verified, places)?;
+    let verified = program(alloc, image)?;
+    let mut world = world_of(alloc, &verified, places)?;
     noted(alloc, &mut world, limit)
 }
 
@@ -89,8 +89,8 @@ fn pictured(alloc: Global, text: &str, places: u16, limit: u64) -> Result<String
 /// The picture of the events of a run after so many, of which nothing was noted.
 fn pictured_late(alloc: Global, text: &str, places: u16, missed: u64) -> Result<String, Fail> {
     let image = assemble(alloc, text)?;
-    let verified = verify(alloc, ImageView::read(alloc, &image)?)?;
-    let mut world = World::open(alloc, &verified, places)?;
+    let verified = program(alloc, &image)?;
+    let mut world = world_of(alloc, &verified, places)?;
     noted(alloc, &mut world, missed)?;
     Ok(noted(alloc, &mut world, 1000)?.svg()?)
 }
@@ -128,7 +128,7 @@ fn a_short_run_drawn(rt: HostRuntime) -> Result<(), Fail> {
         taken: 0,
         idle: 0,
     };
-    assert_eq!(rt; drawing.counts(), counts);
+    assert!(rt; drawing.counts() == counts);
     let svg = drawing.svg()?;
     let parts = [
         "<?xml version=\"1.0\" encoding=\"UTF-8\"?>\n<svg ",
@@ -190,8 +190,8 @@ fn a_part_of_a_run_drawn(rt: HostRuntime) -> Result<(), Fail> {
 
 #[test]
 fn events_of_nothing_drawn(rt: HostRuntime) -> Result<(), Fail> {
-    let verified = verify(rt.alloc(), ImageView::read(rt.alloc(), &SEVEN)?)?;
-    let world = World::open(rt.alloc(), &verified, 1)?;
+    let verified = program(rt.alloc(), &SEVEN)?;
+    let world = world_of(rt.alloc(), &verified, 1)?;
     let mut drawing = Drawing::new(rt.alloc(), 1)?;
     drawing.note(&world, Event::Step(99, usize::MAX), &Done::Idle)?;
     drawing.note(&world, Event::Deliver(99), &Done::Idle)?;
@@ -201,6 +201,6 @@ fn events_of_nothing_drawn(rt: HostRuntime) -> Result<(), Fail> {
         taken: 1,
         idle: 2,
     };
-    assert_eq!(rt; drawing.counts(), counts);
+    assert!(rt; drawing.counts() == counts);
     Ok(())
 }

@@ -1,5 +1,5 @@
 //! Frames that no place sends: which fault is told of each, and that the place is as before.
-use crate::places::{place_of, ran};
+use crate::places::{opened, program, ran};
 use crate::receiving::{is_used, printed, refused, spawn, takes};
 use crate::travels::{ALONG, AWAY};
 use std::process::Abort;
@@ -7,10 +7,8 @@ use std::test::*;
 use x10_asm::assemble;
 use x10_copy::Refusal;
 use x10_frame::FrameFault;
-use x10_image::ImageView;
 use x10_place::Place;
 use x10_samples::{BACK, CYCLE};
-use x10_verify::verify;
 
 /// A function wants a reference whose home is here, and another one. Main makes a reference.
 const REFERENCES: &str = "places 2
@@ -67,12 +65,12 @@ const REPORT_OF_TWO_PLACES: [u8; 28] = [
 fn each_is_told(rt: &impl Abort, place: &mut Place) {
     let mut frame = WRONG;
     let version = Refusal::Frame(FrameFault::Version);
-    assert_eq!(rt; refused(place, &frame), Some(version));
+    assert!(rt; refused(place, &frame) == Some(version));
     for (at, byte, fault) in RIGHT {
         if let Some(wrong) = frame.get_mut(at) {
             *wrong = byte;
         }
-        assert_eq!(rt; refused(place, &frame), Some(fault));
+        assert!(rt; refused(place, &frame) == Some(fault), "byte {at}");
     }
     assert!(rt; !is_used(place, 1));
     frame[11] = 0;
@@ -82,9 +80,9 @@ fn each_is_told(rt: &impl Abort, place: &mut Place) {
 #[test]
 fn one_fault_after_another(rt: HostRuntime) -> Result<(), Fail> {
     let bytes = assemble(rt.alloc(), REFERENCES)?;
-    let verified = verify(rt.alloc(), ImageView::read(rt.alloc(), &bytes)?)?;
-    let mut place = place_of(rt.alloc(), &verified, 0, 2).ok_or("place 0 is there")?;
-    assert_eq!(rt; ran(&mut place, 0, 2), Some(2));
+    let verified = program(rt.alloc(), &bytes)?;
+    let mut place = opened(rt.alloc(), &verified, 0, 2)?;
+    assert!(rt; ran(&mut place, 0, 2) == Some(2));
     each_is_told(&rt, &mut place);
     Ok(())
 }
@@ -96,24 +94,28 @@ fn are_refused(rt: &impl Abort, place: &mut Place) {
     let mut short = spawn(1, 0);
     short[20] = 255;
     short[21] = 255;
-    assert_eq!(rt; refused(place, &back), Some(Refusal::Segment));
-    assert_eq!(rt; refused(place, &BACK_WITH_FIVE), Some(Refusal::Kind));
-    assert_eq!(rt; refused(place, &REPORT_OF_SEVENTH), Some(Refusal::Finish));
-    let places = Refusal::Frame(FrameFault::Place);
-    assert_eq!(rt; refused(place, &REPORT_OF_TWO_PLACES), Some(places));
-    assert_eq!(rt; refused(place, &SPAWN_WITH_FIVE), Some(Refusal::Kind));
-    assert_eq!(rt; refused(place, &spawn(1, 3)), Some(Refusal::Function));
-    assert_eq!(rt; refused(place, &spawn(2, 0)), Some(Refusal::Finish));
-    let few = Refusal::Frame(FrameFault::Short);
-    assert_eq!(rt; refused(place, &short), Some(few));
+    let (unknown, unmet) = (spawn(1, 3), spawn(2, 0));
+    let frames: [(&[u8], Refusal); 8] = [
+        (&back, Refusal::Segment),
+        (&BACK_WITH_FIVE, Refusal::Kind),
+        (&REPORT_OF_SEVENTH, Refusal::Finish),
+        (&REPORT_OF_TWO_PLACES, Refusal::Frame(FrameFault::Place)),
+        (&SPAWN_WITH_FIVE, Refusal::Kind),
+        (&unknown, Refusal::Function),
+        (&unmet, Refusal::Finish),
+        (&short, Refusal::Frame(FrameFault::Short)),
+    ];
+    for (bytes, want) in frames {
+        assert!(rt; refused(place, bytes) == Some(want));
+    }
 }
 
 #[test]
 fn at_home(rt: HostRuntime) -> Result<(), Fail> {
     let bytes = assemble(rt.alloc(), AWAY)?;
-    let verified = verify(rt.alloc(), ImageView::read(rt.alloc(), &bytes)?)?;
-    let mut place = place_of(rt.alloc(), &verified, 0, 3).ok_or("place 0 is there")?;
-    assert_eq!(rt; ran(&mut place, 0, 100), Some(3));
+    let verified = program(rt.alloc(), &bytes)?;
+    let mut place = opened(rt.alloc(), &verified, 0, 3)?;
+    assert!(rt; ran(&mut place, 0, 100) == Some(3));
     are_refused(&rt, &mut place);
     assert!(rt; !is_used(&place, 1));
     let mut elsewhere = spawn(99, 0);
@@ -132,17 +134,17 @@ fn first_key(place: &Place) -> usize {
 fn takes_cycle(rt: &impl Abort, place: &mut Place) {
     assert!(rt; takes(place, &CYCLE));
     let key = first_key(place);
-    assert_eq!(rt; ran(place, key, 100), Some(10));
+    assert!(rt; ran(place, key, 100) == Some(10));
 }
 
 #[test]
 fn beginnings(rt: HostRuntime) -> Result<(), Fail> {
     let bytes = assemble(rt.alloc(), ALONG)?;
-    let verified = verify(rt.alloc(), ImageView::read(rt.alloc(), &bytes)?)?;
-    let mut place = place_of(rt.alloc(), &verified, 1, 2).ok_or("place 1 is there")?;
+    let verified = program(rt.alloc(), &bytes)?;
+    let mut place = opened(rt.alloc(), &verified, 1, 2)?;
     let short = Refusal::Frame(FrameFault::Short);
     for length in 0..67usize {
-        assert_eq!(rt; refused(&mut place, &CYCLE[..length]), Some(short));
+        assert!(rt; refused(&mut place, &CYCLE[..length]) == Some(short));
     }
     takes_cycle(&rt, &mut place);
     assert!(rt; printed(&place, 9));
@@ -191,10 +193,10 @@ fn other_values(rt: &impl Abort, place: &mut Place, at: usize) -> u32 {
 #[test]
 fn changed_bytes(rt: HostRuntime) -> Result<(), Fail> {
     let bytes = assemble(rt.alloc(), ALONG)?;
-    let verified = verify(rt.alloc(), ImageView::read(rt.alloc(), &bytes)?)?;
+    let verified = program(rt.alloc(), &bytes)?;
     let mut taken = 0u32;
     for at in 0..67usize {
-        let mut place = place_of(rt.alloc(), &verified, 1, 2).ok_or("place 1 is there")?;
+        let mut place = opened(rt.alloc(), &verified, 1, 2)?;
         taken = taken.saturating_add(other_values(&rt, &mut place, at));
         takes_cycle(&rt, &mut place);
     }

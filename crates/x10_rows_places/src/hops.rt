@@ -1,6 +1,6 @@
 //! What goes from one place to another, where memory is refused on the way. These tests meet that only where the runner
 //! refuses an allocation; one that is refused before the places are there is left to the tests of other crates.
-use crate::places::place_of;
+use crate::places::{opened, place_of, program, program_of};
 use crate::receiving::refused;
 use std::alloc::Global;
 use std::process::Abort;
@@ -8,12 +8,10 @@ use std::test::*;
 use x10_asm::assemble;
 use x10_code::Op;
 use x10_copy::Refusal;
-use x10_image::ImageView;
 use x10_kinds::Stop;
 use x10_model::Event;
 use x10_place::{Line, Outgoing, Place, Sent, Stepped};
 use x10_samples::CYCLE;
-use x10_verify::verify;
 use x10_world::World;
 
 /// An object with a rail, a text and a reference goes to place 1, where the text is printed, and comes back. Main prints
@@ -209,10 +207,7 @@ fn between_places(alloc: Global, rt: &impl Abort, by_steps: bool) -> Result<(), 
     let Ok(bytes) = assemble(alloc, THERE_AND_BACK) else {
         return Ok(());
     };
-    let Ok(view) = ImageView::read(alloc, &bytes) else {
-        return Ok(());
-    };
-    let Ok(verified) = verify(alloc, view) else {
+    let Some(verified) = program_of(alloc, &bytes) else {
         return Ok(());
     };
     let Some(mut one) = place_of(alloc, &verified, 0, 2) else {
@@ -228,9 +223,9 @@ fn between_places(alloc: Global, rt: &impl Abort, by_steps: bool) -> Result<(), 
 #[test]
 fn there_and_back(rt: HostRuntime) -> Result<(), Fail> {
     let bytes = assemble(rt.alloc(), THERE_AND_BACK)?;
-    let verified = verify(rt.alloc(), ImageView::read(rt.alloc(), &bytes)?)?;
-    let mut one = place_of(rt.alloc(), &verified, 0, 2).ok_or("place 0 is there")?;
-    let mut other = place_of(rt.alloc(), &verified, 1, 2).ok_or("place 1 is there")?;
+    let verified = program(rt.alloc(), &bytes)?;
+    let mut one = opened(rt.alloc(), &verified, 0, 2)?;
+    let mut other = opened(rt.alloc(), &verified, 1, 2)?;
     ends(&rt, &mut one, &mut other);
     Ok(())
 }
@@ -335,10 +330,7 @@ fn in_a_world(alloc: Global, rt: &impl Abort, way: &Way) -> Result<(), Fail> {
     let Ok(bytes) = assemble(alloc, way.text) else {
         return Ok(());
     };
-    let Ok(view) = ImageView::read(alloc, &bytes) else {
-        return Ok(());
-    };
-    let Ok(verified) = verify(alloc, view) else {
+    let Some(verified) = program_of(alloc, &bytes) else {
         return Ok(());
     };
     let Ok(mut world) = World::open(alloc, &verified, 2) else {

@@ -1,13 +1,13 @@
 //! Worlds of five places whose frames come in several orders, and one under many random events.
+use crate::places::program;
+use crate::worlds::world_of;
 use std::alloc::Global;
 use std::process::Abort;
 use std::test::*;
 use x10_asm::assemble;
-use x10_image::ImageView;
 use x10_model::Event;
 use x10_place::Line;
 use x10_samples::random;
-use x10_verify::verify;
 use x10_world::{World, run_rounds};
 
 /// Main starts 64 trees at the next place, in a finish: each activity prints how many levels are below it, and starts two
@@ -140,15 +140,15 @@ fn has_ended(rt: &impl Abort, world: &World) {
     assert!(rt; is_closed(world));
     assert!(rt; matches!(world.output(0), Some([Line::Int(9)])));
     for (place, count) in PRINTED.iter().enumerate() {
-        assert_eq!(rt; lines(world, place as u16), *count);
+        assert!(rt; lines(world, place as u16) == *count);
     }
 }
 
 /// Runs the trees, with the frames in an order. Main waits until all others have printed.
 fn in_order(alloc: Global, rt: &impl Abort, order: Order) -> Result<(), Fail> {
     let bytes = assemble(alloc, TREES)?;
-    let verified = verify(alloc, ImageView::read(alloc, &bytes)?)?;
-    let mut world = World::open(alloc, &verified, 5)?;
+    let verified = program(alloc, &bytes)?;
+    let mut world = world_of(alloc, &verified, 5)?;
     let mut seed = 1;
     for _ in 0..4_000u32 {
         all_go_on(rt, &mut world);
@@ -249,8 +249,8 @@ fn ends(alloc: Global, world: &mut World) -> bool {
 #[test]
 fn twenty_thousand_events(rt: HostRuntime) -> Result<(), Fail> {
     let bytes = assemble(rt.alloc(), TREES)?;
-    let verified = verify(rt.alloc(), ImageView::read(rt.alloc(), &bytes)?)?;
-    let mut world = World::open(rt.alloc(), &verified, 5)?;
+    let verified = program(rt.alloc(), &bytes)?;
+    let mut world = world_of(rt.alloc(), &verified, 5)?;
     let mut seed = 1;
     for _ in 0..20_000u32 {
         one_event(&rt, &mut world, &mut seed);

@@ -1,15 +1,13 @@
 //! What a place takes in and what it refuses, after which it goes on.
-use crate::places::{idles, place_of, ran};
+use crate::places::{idles, opened, program, ran};
 use crate::travels::{ALONG, AWAY};
 use std::process::Abort;
 use std::test::*;
 use x10_asm::assemble;
 use x10_copy::Refusal;
 use x10_frame::FrameFault;
-use x10_image::ImageView;
 use x10_place::{Line, Place, Stepped};
 use x10_samples::{BACK, CYCLE, OTHER_REPORT, REPORT};
-use x10_verify::verify;
 
 /// Main starts an activity at place 1 and one at place 2 in a finish.
 const TWO: &str = "places 3
@@ -103,8 +101,8 @@ pub(crate) fn takes(place: &mut Place, bytes: &[u8]) -> bool {
 
 /// Main waits for both reports, in whichever order they come. One that comes late changes nothing.
 fn waits_for_both(rt: &impl Abort, place: &mut Place) {
-    assert_eq!(rt; ran(place, 0, 100), Some(3));
-    assert_eq!(rt; ran(place, 0, 100), Some(2));
+    assert!(rt; ran(place, 0, 100) == Some(3));
+    assert!(rt; ran(place, 0, 100) == Some(2));
     assert!(rt; idles(place, 0));
     assert!(rt; takes(place, &report(2, [0, 1, 0], [1, 0, 0])));
     assert!(rt; idles(place, 0));
@@ -118,20 +116,26 @@ fn waits_for_both(rt: &impl Abort, place: &mut Place) {
 #[test]
 fn reports_in_another_order(rt: HostRuntime) -> Result<(), Fail> {
     let bytes = assemble(rt.alloc(), TWO)?;
-    let verified = verify(rt.alloc(), ImageView::read(rt.alloc(), &bytes)?)?;
-    let mut place = place_of(rt.alloc(), &verified, 0, 3).ok_or("place 0 is there")?;
+    let verified = program(rt.alloc(), &bytes)?;
+    let mut place = opened(rt.alloc(), &verified, 0, 3)?;
     waits_for_both(&rt, &mut place);
     Ok(())
 }
 
 /// What place 1 refuses to take in, and why.
 fn are_refused(rt: &impl Abort, place: &mut Place) {
-    let text = Refusal::Frame(FrameFault::Text);
-    assert_eq!(rt; refused(place, &cycle_with(42, 1)), Some(Refusal::Ref));
-    assert_eq!(rt; refused(place, &BACK_TO_ONE), Some(Refusal::Segment));
-    assert_eq!(rt; refused(place, &NO_TEXT), Some(text));
-    assert_eq!(rt; refused(place, &cycle_with(13, 2)), Some(Refusal::Function));
-    assert_eq!(rt; refused(place, &cycle_with(5, 0)), Some(Refusal::NotHere));
+    let (no_ref, no_function) = (cycle_with(42, 1), cycle_with(13, 2));
+    let elsewhere = cycle_with(5, 0);
+    let frames: [(&[u8], Refusal); 5] = [
+        (&no_ref, Refusal::Ref),
+        (&BACK_TO_ONE, Refusal::Segment),
+        (&NO_TEXT, Refusal::Frame(FrameFault::Text)),
+        (&no_function, Refusal::Function),
+        (&elsewhere, Refusal::NotHere),
+    ];
+    for (bytes, want) in frames {
+        assert!(rt; refused(place, bytes) == Some(want));
+    }
 }
 
 /// Place 1 goes on after what it refuses.
@@ -139,36 +143,36 @@ fn goes_on(rt: &impl Abort, place: &mut Place) {
     are_refused(rt, place);
     assert!(rt; !is_used(place, 0));
     assert!(rt; takes(place, &CYCLE));
-    assert_eq!(rt; ran(place, 0, 100), Some(10));
+    assert!(rt; ran(place, 0, 100) == Some(10));
     assert!(rt; printed(place, 9));
 }
 
 #[test]
 fn refused_and_then_taken(rt: HostRuntime) -> Result<(), Fail> {
     let bytes = assemble(rt.alloc(), ALONG)?;
-    let verified = verify(rt.alloc(), ImageView::read(rt.alloc(), &bytes)?)?;
-    let mut place = place_of(rt.alloc(), &verified, 1, 2).ok_or("place 1 is there")?;
+    let verified = program(rt.alloc(), &bytes)?;
+    let mut place = opened(rt.alloc(), &verified, 1, 2)?;
     goes_on(&rt, &mut place);
     Ok(())
 }
 
 /// Main comes back and closes its finish. Then nothing begins under it.
 fn closes(rt: &impl Abort, place: &mut Place) {
-    assert_eq!(rt; ran(place, 0, 100), Some(3));
+    assert!(rt; ran(place, 0, 100) == Some(3));
     assert!(rt; takes(place, &BACK) && takes(place, &REPORT));
     assert!(rt; takes(place, &OTHER_REPORT));
     assert!(rt; stands_at(place, 2, 3) && moves(place));
-    assert_eq!(rt; refused(place, &spawn(1, 0)), Some(Refusal::Finish));
+    assert!(rt; refused(place, &spawn(1, 0)) == Some(Refusal::Finish));
     assert!(rt; takes(place, &REPORT));
-    assert_eq!(rt; ran(place, 0, 100), Some(3));
+    assert!(rt; ran(place, 0, 100) == Some(3));
     assert!(rt; has_ended(place) && printed(place, 9));
 }
 
 #[test]
 fn after_the_finish(rt: HostRuntime) -> Result<(), Fail> {
     let bytes = assemble(rt.alloc(), AWAY)?;
-    let verified = verify(rt.alloc(), ImageView::read(rt.alloc(), &bytes)?)?;
-    let mut place = place_of(rt.alloc(), &verified, 0, 3).ok_or("place 0 is there")?;
+    let verified = program(rt.alloc(), &bytes)?;
+    let mut place = opened(rt.alloc(), &verified, 0, 3)?;
     closes(&rt, &mut place);
     Ok(())
 }

@@ -1,12 +1,12 @@
 //! Worlds of one to three places, event by event, and the frames that they put out, byte for byte.
+use crate::places::program;
+use crate::worlds::world_of;
 use std::process::Abort;
 use std::test::*;
 use x10_asm::assemble;
-use x10_image::ImageView;
 use x10_model::Event;
 use x10_place::Line;
 use x10_samples::{ALONE, BACK, CYCLE, OTHER_REPORT, REPORT, SHIFT, SPAWN};
-use x10_verify::verify;
 use x10_world::World;
 
 /// Main waits in a finish, goes to place 1 and back; what it starts from there at place 2 prints 5. Then main prints 9.
@@ -115,6 +115,11 @@ fn waits(world: &mut World, place: u16) -> bool {
     world.run_activity(place, 0, 1) == Ok(0)
 }
 
+/// Whether so many steps of the first key are made until it ends, waits or is away.
+fn makes(world: &mut World, place: u16, steps: u64) -> bool {
+    world.run_activity(place, 0, 100) == Ok(steps)
+}
+
 /// The frame with a number is in flight, and is taken in.
 fn arrives(rt: &impl Abort, world: &mut World, number: u64) {
     assert!(rt; world.frame(number).is_some());
@@ -162,23 +167,23 @@ fn goes_away(rt: &impl Abort, world: &mut World) {
 #[test]
 fn away_and_back(rt: HostRuntime) -> Result<(), Fail> {
     let bytes = assemble(rt.alloc(), AWAY)?;
-    let verified = verify(rt.alloc(), ImageView::read(rt.alloc(), &bytes)?)?;
-    let mut world = World::open(rt.alloc(), &verified, 3)?;
+    let verified = program(rt.alloc(), &bytes)?;
+    let mut world = world_of(rt.alloc(), &verified, 3)?;
     goes_away(&rt, &mut world);
     Ok(())
 }
 
 /// The objects go to place 1, whose report comes back.
 fn goes_along(rt: &impl Abort, world: &mut World) {
-    assert_eq!(rt; world.run_activity(0, 0, 100), Ok(12));
+    assert!(rt; makes(world, 0, 12));
     assert!(rt; world.posted() == 1 && flies(world, 0, 1, &CYCLE));
     assert!(rt; waits(world, 0));
     arrives(rt, world, 0);
-    assert_eq!(rt; world.run_activity(1, 0, 100), Ok(10));
+    assert!(rt; makes(world, 1, 10));
     assert!(rt; world.posted() == 2 && flies(world, 1, 0, &REPORT_OF_TWO));
     assert!(rt; waits(world, 0));
     arrives(rt, world, 1);
-    assert_eq!(rt; world.run_activity(0, 0, 100), Ok(5));
+    assert!(rt; makes(world, 0, 5));
     assert!(rt; world.closed());
     assert!(rt; printed(world, 0, 0) && printed(world, 1, 9));
 }
@@ -186,8 +191,8 @@ fn goes_along(rt: &impl Abort, world: &mut World) {
 #[test]
 fn two_objects_go_along(rt: HostRuntime) -> Result<(), Fail> {
     let bytes = assemble(rt.alloc(), ALONG)?;
-    let verified = verify(rt.alloc(), ImageView::read(rt.alloc(), &bytes)?)?;
-    let mut world = World::open(rt.alloc(), &verified, 2)?;
+    let verified = program(rt.alloc(), &bytes)?;
+    let mut world = world_of(rt.alloc(), &verified, 2)?;
     goes_along(&rt, &mut world);
     Ok(())
 }
@@ -206,8 +211,8 @@ fn goes_around(rt: &impl Abort, world: &mut World) {
 #[test]
 fn around_to_itself(rt: HostRuntime) -> Result<(), Fail> {
     let bytes = assemble(rt.alloc(), AROUND)?;
-    let verified = verify(rt.alloc(), ImageView::read(rt.alloc(), &bytes)?)?;
-    let mut world = World::open(rt.alloc(), &verified, 1)?;
+    let verified = program(rt.alloc(), &bytes)?;
+    let mut world = world_of(rt.alloc(), &verified, 1)?;
     goes_around(&rt, &mut world);
     Ok(())
 }

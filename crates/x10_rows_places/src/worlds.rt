@@ -1,10 +1,13 @@
+use crate::places::program;
+use std::alloc::Global;
+use std::process::Abort;
 use std::test::*;
 use x10_image::{ImageFault, ImageView};
 use x10_kinds::Stop;
 use x10_model::Event;
 use x10_place::Line;
 use x10_samples::{SEVEN, with_byte};
-use x10_verify::{VerifyCause, VerifyFault, verify};
+use x10_verify::{Verified, VerifyCause, VerifyFault, verify};
 use x10_world::{Halt, OpenFault, RunFault, World, run_image, run_rounds};
 
 /// INTK r0 7, PRINT r1, RET, with two registers.
@@ -14,98 +17,172 @@ fn prints_r1() -> [u8; 64] {
     bytes
 }
 
-#[test]
-fn runs_of_events(rt: HostRuntime) -> Result<(), Fail> {
-    let steps = [Event::Step(0, 0); 100];
-    let none = run_image(rt.alloc(), &SEVEN, 1, &[])?;
-    assert!(rt; !none.closed && none.done == 0 && none.stop.is_none());
-    let two = run_image(rt.alloc(), &SEVEN, 1, &steps[..2])?;
-    assert!(rt; !two.closed && two.done == 2 && two.stop.is_none());
-    assert!(rt; matches!(&two.outputs[0][..], [Line::Int(7)]));
-    let all = run_image(rt.alloc(), &SEVEN, 1, &steps)?;
-    assert!(rt; all.closed && all.done == 100 && all.stop.is_none());
-    assert!(rt; matches!(&all.outputs[0][..], [Line::Int(7)]));
-    Ok(())
+/// A run of `SEVEN` on one place: whether it has ended, how many events were made, and what was printed.
+fn outcome(alloc: Global, events: &[Event]) -> Result<(bool, usize, Option<i64>), Fail> {
+    let run = run_image(alloc, &SEVEN, 1, events)?;
+    let printed = match run.outputs.first() {
+        Some(lines) => match lines.as_slice() {
+            [Line::Int(line)] => Some(*line),
+            _ => None,
+        },
+        None => None,
+    };
+    if run.stop.is_some() {
+        return Err("the run has stopped".into());
+    }
+    Ok((run.closed, run.done, printed))
 }
 
 #[test]
-fn refusals(rt: HostRuntime) -> Result<(), Fail> {
-    let short = run_image(rt.alloc(), &SEVEN[..63], 1, &[]).err();
-    assert_eq!(rt; short, Some(RunFault::Image(ImageFault::Short)));
+fn runs_of_events(rt: HostRuntime) -> Result<(), Fail> {
+    let steps = [Event::Step(0, 0); 100];
+    assert!(rt; outcome(rt.alloc(), &[])? == (false, 0, None));
+    assert!(rt; outcome(rt.alloc(), &steps[..2])? == (false, 2, Some(7)));
+    assert!(rt; outcome(rt.alloc(), &steps)? == (true, 100, Some(7)));
+    Ok(())
+}
+
+/// Why an image doesn't run on so many places, if it doesn't.
+fn fault_of(alloc: Global, image: &[u8], places: u16) -> Option<RunFault> {
+    run_image(alloc, image, places, &[]).err()
+}
+
+/// On how many places an image runs.
+fn places_of(alloc: Global, image: &[u8], places: u16) -> Option<usize> {
+    match run_image(alloc, image, places, &[]) {
+        Ok(run) => Some(run.outputs.len()),
+        Err(_) => None,
+    }
+}
+
+#[test]
+fn refusals(rt: HostRuntime) {
+    let alloc = rt.alloc();
     let unset = VerifyFault {
         cause: VerifyCause::Unset,
         function: 0,
         pc: 1,
     };
-    let fault = run_image(rt.alloc(), &prints_r1(), 1, &[]).err();
-    assert_eq!(rt; fault, Some(RunFault::Verify(unset)));
+    let short = fault_of(alloc, &SEVEN[..63], 1);
+    assert!(rt; short == Some(RunFault::Image(ImageFault::Short)));
+    assert!(rt; fault_of(alloc, &prints_r1(), 1) == Some(RunFault::Verify(unset)));
     let least_two = with_byte(7, 2);
     for places in [0, 1, 65] {
-        let fault = run_image(rt.alloc(), &least_two, places, &[]).err();
-        assert_eq!(rt; fault, Some(RunFault::Open(OpenFault::Places)));
+        let fault = fault_of(alloc, &least_two, places);
+        assert!(rt; fault == Some(RunFault::Open(OpenFault::Places)));
     }
-    assert_eq!(rt;
-        run_image(rt.alloc(), &least_two, 64, &[])?.outputs.len(),
-        64
-    );
-    Ok(())
+    assert!(rt; places_of(alloc, &least_two, 64) == Some(64));
+}
+
+/// A world of so many places for a program.
+pub(crate) fn world_of<'a>(
+    alloc: Global,
+    verified: &'a Verified<'a>,
+    places: u16,
+) -> Result<World<'a>, Fail> {
+    Ok(World::open(alloc, verified, places)?)
+}
+
+/// How many steps of an activity are made, of so many at most.
+fn ran(world: &mut World, place: u16, key: usize, steps: u64) -> Option<u64> {
+    world.run_activity(place, key, steps).ok()
+}
+
+/// The least key in use at a place, if there is one.
+fn first_key(world: &World, place: u16) -> Option<usize> {
+    world.next_key(place, 0)
+}
+
+/// Whether a world has ended, and place 0 has printed the number 7.
+fn has_ended(world: &World) -> bool {
+    world.closed() && matches!(world.output(0), Some([Line::Int(7)]))
 }
 
 #[test]
 fn at_a_stretch(rt: HostRuntime) -> Result<(), Fail> {
-    let verified = verify(rt.alloc(), ImageView::read(rt.alloc(), &SEVEN)?)?;
-    let mut world = World::open(rt.alloc(), &verified, 2)?;
-    let key = world.next_key(0, 0).ok_or("main is there")?;
-    assert_eq!(rt; world.run_activity(1, key, 5), Ok(0));
-    assert_eq!(rt; world.run_activity(2, key, 5), Ok(0));
-    assert_eq!(rt; world.run_activity(0, 99, 5), Ok(0));
-    assert_eq!(rt; world.run_activity(0, key, 2), Ok(2));
+    let verified = program(rt.alloc(), &SEVEN)?;
+    let mut world = world_of(rt.alloc(), &verified, 2)?;
+    let key = first_key(&world, 0).ok_or("main is there")?;
+    for (place, key, steps, made) in [
+        (1, key, 5, 0),
+        (2, key, 5, 0),
+        (0, 99, 5, 0),
+        (0, key, 2, 2),
+    ] {
+        assert!(rt; ran(&mut world, place, key, steps) == Some(made));
+    }
     assert!(rt; !world.closed());
-    assert_eq!(rt; world.run_activity(0, key, 5), Ok(1));
-    assert!(rt; world.closed());
-    assert_eq!(rt; world.run_activity(0, key, 5), Ok(0));
-    assert!(rt; matches!(world.output(0), Some([Line::Int(7)])));
+    for made in [1, 0] {
+        assert!(rt; ran(&mut world, 0, key, 5) == Some(made) && has_ended(&world));
+    }
     Ok(())
+}
+
+/// Why a world makes no more of so many events in rounds.
+fn halt(alloc: Global, world: &mut World, limit: u64) -> Option<Halt> {
+    run_rounds(alloc, world, limit).err()
 }
 
 #[test]
 fn in_rounds(rt: HostRuntime) -> Result<(), Fail> {
-    let verified = verify(rt.alloc(), ImageView::read(rt.alloc(), &SEVEN)?)?;
-    let mut world = World::open(rt.alloc(), &verified, 2)?;
-    assert_eq!(rt; world.count(), 2);
-    assert_eq!(rt; run_rounds(rt.alloc(), &mut world, 0), Err(Halt::Limit));
-    assert_eq!(rt; run_rounds(rt.alloc(), &mut world, 2), Err(Halt::Limit));
+    let verified = program(rt.alloc(), &SEVEN)?;
+    let mut world = world_of(rt.alloc(), &verified, 2)?;
+    assert!(rt; world.count() == 2);
+    for limit in [0, 2] {
+        assert!(rt; halt(rt.alloc(), &mut world, limit) == Some(Halt::Limit));
+    }
     assert!(rt; !world.closed());
-    assert_eq!(rt; run_rounds(rt.alloc(), &mut world, 2), Ok::<(), Halt>(()));
-    assert!(rt; world.closed());
-    assert!(rt; matches!(world.output(0), Some([Line::Int(7)])));
+    assert!(rt; halt(rt.alloc(), &mut world, 2).is_none() && has_ended(&world));
     Ok(())
+}
+
+/// Why a world doesn't make some events.
+fn stop(world: &mut World, events: &[Event]) -> Option<Stop> {
+    world.run(events).err()
+}
+
+/// Whether nothing was sent, and place 1 has printed nothing.
+fn is_alone(world: &World) -> bool {
+    world.posted() == 0 && world.frame(0).is_none() && matches!(world.output(1), Some([]))
 }
 
 #[test]
 fn a_world(rt: HostRuntime) -> Result<(), Fail> {
-    let verified = verify(rt.alloc(), ImageView::read(rt.alloc(), &SEVEN)?)?;
-    let mut world = World::open(rt.alloc(), &verified, 2)?;
-    let key = world.next_key(0, 0).ok_or("main is there")?;
-    assert_eq!(rt; world.next_key(1, 0), None);
-    assert_eq!(rt; world.next_key(2, 0), None);
-    assert!(rt; world.output(2).is_none());
-    assert!(rt; !world.closed());
+    let verified = program(rt.alloc(), &SEVEN)?;
+    let mut world = world_of(rt.alloc(), &verified, 2)?;
+    let key = first_key(&world, 0).ok_or("main is there")?;
+    assert!(rt; first_key(&world, 1).is_none() && first_key(&world, 2).is_none());
+    assert!(rt; world.output(2).is_none() && !world.closed());
     let events = [
         Event::Step(1, 0),
         Event::Deliver(0),
         Event::Step(2, 0),
         Event::Step(0, key),
     ];
-    assert_eq!(rt; world.run(&events), Ok::<(), Stop>(()));
-    assert_eq!(rt; world.run(&[Event::Step(0, key); 2]), Ok::<(), Stop>(()));
-    assert!(rt; matches!(world.output(0), Some([Line::Int(7)])));
-    assert!(rt; matches!(world.output(1), Some([])));
-    assert!(rt; world.closed());
-    assert_eq!(rt; world.next_key(0, 0), None);
-    assert_eq!(rt; world.posted(), 0);
-    assert!(rt; world.frame(0).is_none());
+    assert!(rt; stop(&mut world, &events).is_none());
+    assert!(rt; stop(&mut world, &[Event::Step(0, key); 2]).is_none());
+    assert!(rt; has_ended(&world) && is_alone(&world));
+    assert!(rt; first_key(&world, 0).is_none());
     Ok(())
+}
+
+/// Whether a world takes no later call, and is as it was at the beginning.
+fn is_over(world: &mut World, events: &[Event]) -> bool {
+    let stopped = Some(Stop::Stopped);
+    stop(world, &[]) == stopped
+        && stop(world, events) == stopped
+        && matches!(world.output(0), Some([]))
+        && first_key(world, 0) == Some(0)
+        && !world.closed()
+}
+
+/// The run ends, or it stops for want of memory.
+fn ends_or_stops(rt: &impl Abort, world: &mut World) {
+    let events = [Event::Step(0, 0); 3];
+    match stop(world, &events) {
+        None => assert!(rt; has_ended(world)),
+        Some(why) => assert!(rt; why == Stop::Memory && is_over(world, &events)),
+    }
 }
 
 // Under `rt try --test --fail-alloc N` each allocation fails in turn: it is told by name, and after a Stop the world
@@ -124,18 +201,7 @@ fn memory_refused(rt: HostRuntime) -> Result<(), Fail> {
         Ok(world) => world,
         Err(fault) => return fails_for(fault == OpenFault::Memory),
     };
-    let events = [Event::Step(0, 0); 3];
-    if let Err(stop) = world.run(&events) {
-        assert_eq!(rt; stop, Stop::Memory);
-        assert_eq!(rt; world.run(&[]), Err(Stop::Stopped));
-        assert_eq!(rt; world.run(&events), Err(Stop::Stopped));
-        assert!(rt; matches!(world.output(0), Some([])));
-        assert_eq!(rt; world.next_key(0, 0), Some(0));
-        assert!(rt; !world.closed());
-        return Ok(());
-    }
-    assert!(rt; world.closed());
-    assert!(rt; matches!(world.output(0), Some([Line::Int(7)])));
+    ends_or_stops(&rt, &mut world);
     Ok(())
 }
 
