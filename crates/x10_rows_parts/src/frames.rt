@@ -1,0 +1,395 @@
+ghost use Rattle.x10_frame.specs.Heads.{IsGraphHead};
+
+use crate::heaps::long;
+use std::alloc::{AllocError, Global};
+use std::process::Abort;
+use std::test::*;
+use x10_frame::{
+    FrameFault, FrameView, FrameWriter, Head, Item, NodeView, Report, Sizes, write_report,
+};
+use x10_samples::{ALONE, BACK, CYCLE, OTHER_REPORT, REPORT, SHIFT, SPAWN};
+
+/// A new activity with an empty text, a rail of two bytes, -2, place 1, null and a text of one
+/// character.
+const VALUES: [u8; 61] = [
+    1, 1, 0, 0, 0, 1, 0, 0, 0, 0, 0, 1, 0, 0, 0, 6, 0, 2, 0, 1, 0, 0, 3, 0, 0, 4, 0, 0, 1, 255,
+    255, 255, 255, 255, 255, 255, 254, 2, 0, 1, 6, 3, 0, 1, 0, 0, 0, 0, 0, 0, 0, 3, 226, 130, 172,
+    0, 0, 0, 2, 128, 0,
+];
+
+/// What stands before the counts of a graph, in a frame for a new activity at place 1.
+const HEAD: [u8; 14] = [1, 1, 0, 0, 0, 1, 0, 0, 0, 0, 0, 1, 0, 0];
+
+/// The frame for a new activity at place 1 with a graph.
+pub(crate) fn spawned(alloc: Global, graph: &[u8]) -> Result<Vec<u8>, AllocError> {
+    let mut bytes = Vec::from_slice(alloc, &HEAD)?;
+    bytes.extend_from_slice(graph)?;
+    Ok(bytes)
+}
+
+fn fault(alloc: Global, bytes: &[u8], places: u16) -> Option<FrameFault> {
+    FrameView::read(alloc, bytes, places).err()
+}
+
+/// The fault of a frame with a graph, where there are two places.
+fn graph_fault(alloc: Global, graph: &[u8]) -> Result<Option<FrameFault>, AllocError> {
+    Ok(fault(alloc, &spawned(alloc, graph)?, 2))
+}
+
+/// The fields of a node, one after another and each by its number.
+fn fields_again(alloc: Global, rt: &impl Abort, node: &NodeView) -> Result<Vec<Item>, Fail> {
+    let mut fields = Vec::new(alloc);
+    let mut values = node.values();
+    for j in 0..node.fields() {
+        assert!(rt; values.left() > 0 && values.left() == node.fields() - j);
+        let value = values.step();
+        assert!(rt; value == node.field(j));
+        fields.push(value)?;
+    }
+    assert!(rt; values.left() == 0);
+    Ok(fields)
+}
+
+fn node_again(
+    alloc: Global,
+    rt: &impl Abort,
+    writer: FrameWriter,
+    node: &NodeView,
+) -> Result<FrameWriter, Fail> {
+    let fields = fields_again(alloc, rt, node)?;
+    assert!(rt; fields.len() <= 16);
+    Ok(writer.node(node.class(), &fields)?)
+}
+
+fn graph_again(
+    alloc: Global,
+    rt: &impl Abort,
+    view: &FrameView,
+    head: &Head,
+) -> Result<Vec<u8>, Fail>
+    requires { IsGraphHead head.now }
+{
+    let sizes = Sizes {
+        roots: view.roots() as u16,
+        texts: view.texts() as u16,
+        rails: view.rails() as u16,
+        nodes: view.nodes() as u16,
+    };
+    let mut roots = Vec::new(alloc);
+    for i in 0..view.roots() {
+        roots.push(view.root(i))?;
+    }
+    let mut writer = FrameWriter::new(alloc, head, &sizes)?
+        .reserve(100)?
+        .roots(&roots)?;
+    for i in 0..view.texts() {
+        writer = writer.text(view.text(i))?;
+    }
+    for i in 0..view.rails() {
+        writer = writer.rail(view.rail(i))?;
+    }
+    for i in 0..view.nodes() {
+        writer = node_again(alloc, rt, writer, &view.node(i))?;
+    }
+    Ok(writer.finish())
+}
+
+fn report_again(
+    alloc: Global,
+    rt: &impl Abort,
+    view: &FrameView,
+    from: u16,
+    to: u16,
+    number: u32,
+) -> Result<Vec<u8>, Fail> {
+    let mut sent = Vec::new(alloc);
+    let mut received = Vec::new(alloc);
+    for place in 0..view.counts() {
+        sent.push(view.sent(place))?;
+        received.push(view.received(place))?;
+    }
+    let report = Report {
+        place: from,
+        number,
+        sent,
+        received,
+    };
+    assert!(rt; report.sent.len() < 65_536);
+    Ok(write_report(alloc, to, &report)?)
+}
+
+/// The frame that a view shows, written again.
+fn again(alloc: Global, rt: &impl Abort, view: &FrameView) -> Result<Vec<u8>, Fail> {
+    let head = view.head();
+    match head {
+        Head::Spawn { .. } => graph_again(alloc, rt, view, &head),
+        Head::Shift { .. } => graph_again(alloc, rt, view, &head),
+        Head::Back { .. } => graph_again(alloc, rt, view, &head),
+        Head::Report { from, to, number } => report_again(alloc, rt, view, from, to, number),
+    }
+}
+
+fn is_written_again(alloc: Global, rt: &impl Abort, bytes: &[u8], places: u16) -> Result<(), Fail> {
+    let view = FrameView::read(alloc, bytes, places)?;
+    assert!(rt; again(alloc, rt, &view)?.as_slice() == bytes);
+    Ok(())
+}
+
+#[test]
+fn each_frame_both_ways(rt: HostRuntime) -> Result<(), Fail> {
+    let alloc = rt.alloc();
+    is_written_again(alloc, &rt, &SHIFT, 3)?;
+    is_written_again(alloc, &rt, &SPAWN, 3)?;
+    is_written_again(alloc, &rt, &BACK, 3)?;
+    is_written_again(alloc, &rt, &REPORT, 3)?;
+    is_written_again(alloc, &rt, &OTHER_REPORT, 3)?;
+    is_written_again(alloc, &rt, &CYCLE, 2)?;
+    is_written_again(alloc, &rt, &ALONE, 1)?;
+    is_written_again(alloc, &rt, &VALUES, 2)
+}
+
+#[test]
+fn most_roots_and_fields(rt: HostRuntime) -> Result<(), Fail> {
+    let mut bytes = spawned(rt.alloc(), &[0, 16, 0, 0, 0, 0, 0, 1, 5, 0, 0])?;
+    bytes.extend_from_slice(&[6; 15])?;
+    bytes.extend_from_slice(&[0, 0, 16])?;
+    bytes.extend_from_slice(&[6; 16])?;
+    is_written_again(rt.alloc(), &rt, &bytes, 2)
+}
+
+/// The fields of an object among 8,738, each of which names the next: 15 of 65,535 texts and 65,535 rails, one after
+/// another.
+fn fields_of(alloc: Global, object: u16) -> Result<Vec<Item>, Fail> {
+    let mut fields = Vec::new(alloc);
+    for j in 0..15u32 {
+        let used = u32::from(object) * 15 + j;
+        let number = (used % 65_535) as u16;
+        fields.push(if used < 65_535 {
+            Item::Text(number)
+        } else {
+            Item::Rail(number)
+        })?;
+    }
+    if object < 8_737 {
+        fields.push(Item::Object(object + 1))?;
+    }
+    Ok(fields)
+}
+
+/// As many texts and as many rails as there can be, the last of each as long as it can be.
+fn texts_and_rails(rt: &impl Abort, writer: FrameWriter, long: &str) -> Result<FrameWriter, Fail> {
+    assert!(rt; long.len() == 65_535);
+    let mut writer = writer;
+    for _ in 1..65_535u32 {
+        writer = writer.text("")?;
+    }
+    writer = writer.text(long)?;
+    for _ in 1..65_535u32 {
+        writer = writer.rail(&[])?;
+    }
+    Ok(writer.rail(long.as_bytes())?)
+}
+
+/// The frame of as many texts and as many rails as there can be.
+fn greatest(alloc: Global, rt: &impl Abort) -> Result<Vec<u8>, Fail> {
+    let head = Head::Back {
+        from: 0,
+        to: 1,
+        waiting: 0,
+    };
+    let sizes = Sizes {
+        roots: 1,
+        texts: 65_535,
+        rails: 65_535,
+        nodes: 8_738,
+    };
+    let writer = FrameWriter::new(alloc, &head, &sizes)?.roots(&[Item::Object(0)])?;
+    let mut writer = texts_and_rails(rt, writer, &long(alloc, 65_535)?)?;
+    for object in 0..8_738u16 {
+        let fields = fields_of(alloc, object)?;
+        assert!(rt; fields.len() <= 16);
+        writer = writer.node(object, &fields)?;
+    }
+    Ok(writer.finish())
+}
+
+/// How many roots, texts, rails and nodes a view has.
+fn sizes_of(view: &FrameView) -> (usize, usize, usize, usize) {
+    (view.roots(), view.texts(), view.rails(), view.nodes())
+}
+
+/// How long the last text and the last rail are, where there are both.
+fn last_lengths(view: &FrameView) -> Option<(usize, usize)> {
+    let (text, rail) = (view.texts().checked_sub(1)?, view.rails().checked_sub(1)?);
+    Some((view.text(text).len(), view.rail(rail).len()))
+}
+
+#[test]
+fn most_texts_and_rails(rt: HostRuntime) -> Result<(), Fail> {
+    let bytes = greatest(rt.alloc(), &rt)?;
+    let view = FrameView::read(rt.alloc(), &bytes, 2)?;
+    assert!(rt; sizes_of(&view) == (1, 65_535, 65_535, 8_738));
+    assert!(rt; last_lengths(&view) == Some((65_535, 65_535)));
+    is_written_again(rt.alloc(), &rt, &bytes, 2)
+}
+
+// Takes no memory at all, as `rt try --test --fail-alloc 1` shows: the tables grow with what is there.
+#[test]
+fn counts_without_bytes(rt: HostRuntime) {
+    for at in [17usize, 19, 21] {
+        let mut bytes = SPAWN;
+        bytes[at - 1] = 255;
+        bytes[at] = 255;
+        assert_eq!(rt; fault(rt.alloc(), &bytes, 3), Some(FrameFault::Short));
+    }
+}
+
+/// Whether the first root and the first rail are these.
+fn begins_with(view: &FrameView, root: Item, rail: &[u8]) -> bool {
+    view.roots() > 0 && view.rails() > 0 && view.root(0) == root && view.rail(0) == rail
+}
+
+/// Whether the first node is of a class and has these fields.
+fn has_first(
+    alloc: Global,
+    rt: &impl Abort,
+    view: &FrameView,
+    class: u16,
+    fields: &[Item],
+) -> Result<bool, Fail> {
+    assert!(rt; view.nodes() > 0);
+    let node = view.node(0);
+    Ok(node.class() == class && fields_again(alloc, rt, &node)?.as_slice() == fields)
+}
+
+#[test]
+fn parts_of_a_cycle(rt: HostRuntime) -> Result<(), Fail> {
+    let view = FrameView::read(rt.alloc(), &CYCLE, 2)?;
+    let head = Head::Spawn {
+        from: 0,
+        to: 1,
+        home: 0,
+        number: 1,
+        function: 0,
+    };
+    let here = Item::Ref {
+        home: 0,
+        id: 0,
+        class: 1,
+    };
+    assert!(rt; view.head() == head && view.counts() == 0);
+    assert!(rt; sizes_of(&view) == (1, 0, 1, 2));
+    assert!(rt; begins_with(&view, Item::Object(0), &[0, 0]));
+    let fields = [Item::Object(1), Item::Rail(0), here];
+    assert!(rt; has_first(rt.alloc(), &rt, &view, 0, &fields)?);
+    Ok(())
+}
+
+/// Whether a report has these counts.
+fn has_counts(view: &FrameView, sent: &[u32], received: &[u32]) -> bool {
+    for place in 0..view.counts() {
+        let (to, from) = (view.sent(place), view.received(place));
+        if sent.get(place).copied() != Some(to) || received.get(place).copied() != Some(from) {
+            return false;
+        }
+    }
+    true
+}
+
+#[test]
+fn parts_of_a_report(rt: HostRuntime) -> Result<(), Fail> {
+    let view = FrameView::read(rt.alloc(), &REPORT, 3)?;
+    let head = Head::Report {
+        from: 1,
+        to: 0,
+        number: 1,
+    };
+    assert!(rt; view.head() == head && view.counts() == 3);
+    assert!(rt; has_counts(&view, &[0, 0, 1], &[1, 0, 0]));
+    Ok(())
+}
+
+#[test]
+fn each_beginning_is_short(rt: HostRuntime) {
+    for length in 0..67usize {
+        assert_eq!(rt;
+            fault(rt.alloc(), &CYCLE[..length], 2),
+            Some(FrameFault::Short),
+            "of {length} bytes"
+        );
+    }
+}
+
+#[test]
+fn each_other_byte(rt: HostRuntime) -> Result<(), Fail> {
+    for place in 0..67usize {
+        let mut bytes = CYCLE;
+        for value in 0..=255u8 {
+            bytes[place] = value;
+            match FrameView::read(rt.alloc(), &bytes, 2) {
+                Ok(view) => assert!(rt; again(rt.alloc(), &rt, &view)?.as_slice() == &bytes[..]),
+                Err(fault) => assert!(rt; fault != FrameFault::Memory && value != CYCLE[place]),
+            }
+        }
+    }
+    Ok(())
+}
+
+#[test]
+fn refusals_of_heads(rt: HostRuntime) {
+    let heads: [(&[u8], u16, FrameFault); 7] = [
+        (&[], 2, FrameFault::Short),
+        (&[2], 2, FrameFault::Version),
+        (&[1, 0], 2, FrameFault::FrameType),
+        (&[1, 5], 2, FrameFault::FrameType),
+        (&[1, 1, 0, 2], 2, FrameFault::Place),
+        (&REPORT, 2, FrameFault::Place),
+        (&REPORT, 4, FrameFault::Place),
+    ];
+    for (bytes, places, want) in heads {
+        assert_eq!(rt; fault(rt.alloc(), bytes, places), Some(want), "{bytes:?}");
+    }
+}
+
+#[test]
+fn refused_for_their_order(rt: HostRuntime) -> Result<(), Fail> {
+    let graphs: [&[u8]; 7] = [
+        &[0, 17, 0, 0, 0, 0, 0, 0],
+        &[0, 1, 0, 0, 0, 0, 0, 1, 5, 0, 1],
+        &[0, 1, 0, 0, 0, 0, 0, 2, 5, 0, 1],
+        &[0, 0, 0, 0, 0, 0, 0, 1, 0, 0],
+        &[0, 1, 0, 0, 0, 0, 0, 1, 5, 0, 0, 0, 0, 17],
+        &[0, 1, 0, 1, 0, 0, 0, 0, 3, 0, 0, 0, 1, 0, 0],
+        &[0, 0, 0, 1, 0, 0, 0, 0, 0, 0, 0, 0],
+    ];
+    for graph in graphs {
+        assert_eq!(rt; graph_fault(rt.alloc(), graph)?, Some(FrameFault::Order));
+    }
+    Ok(())
+}
+
+#[test]
+fn refused_for_other_faults(rt: HostRuntime) -> Result<(), Fail> {
+    let graphs: [(&[u8], FrameFault); 7] = [
+        (&[0, 0, 0, 0, 0, 0, 0, 1, 0], FrameFault::Short),
+        (&[0, 0, 0, 0, 0, 0, 255, 255], FrameFault::Short),
+        (&[0, 1, 0, 0, 0, 0, 0, 0, 8], FrameFault::Tag),
+        (&[0, 1, 0, 0, 0, 0, 0, 0, 2, 0, 2], FrameFault::Place),
+        (&[0, 1, 0, 0, 0, 0, 0, 0, 7, 0, 2], FrameFault::Place),
+        (&[0, 0, 0, 0, 0, 0, 0, 0, 0], FrameFault::Trailing),
+        (
+            &[0, 1, 0, 1, 0, 0, 0, 0, 3, 0, 0, 0, 0, 0, 1, 255],
+            FrameFault::Text,
+        ),
+    ];
+    for (graph, fault) in graphs {
+        assert_eq!(rt; graph_fault(rt.alloc(), graph)?, Some(fault));
+    }
+    Ok(())
+}
+
+#[test]
+fn a_fault_is_shown_by_its_name(rt: HostRuntime) -> Result<(), Fail> {
+    assert!(rt; format!(in rt.alloc(); "{}", FrameFault::FrameType)?.as_str() == "FrameType");
+    Ok(())
+}

@@ -1,0 +1,154 @@
+//! A heap by itself: what it holds after each call.
+use std::alloc::{AllocError, Global};
+use std::process::Abort;
+use std::test::*;
+use x10_heap::{Export, Heap};
+use x10_kinds::Stop;
+
+/// The word in a field, where there is one.
+#[tactic(auto, using(x10_heap::proofs::Fields::has_field))]
+fn field(heap: &Heap, object: u32, field: u8) -> Option<u64> {
+    if object as usize >= heap.objects() || usize::from(field) >= heap.fields(object).len() {
+        return None;
+    }
+    Some(heap.get(object, field))
+}
+
+/// Writes a word to a field. False where there is none.
+#[tactic(auto, using(x10_heap::proofs::Fields::has_field))]
+fn put(heap: &mut Heap, object: u32, field: u8, word: u64) -> bool {
+    if object as usize >= heap.objects() || usize::from(field) >= heap.fields(object).len() {
+        return false;
+    }
+    heap.put(object, field, word);
+    true
+}
+
+#[test]
+fn objects(rt: HostRuntime) -> Result<(), Fail> {
+    let mut heap = Heap::new(rt.alloc());
+    let first = heap.new_object(7, &[1, 2])?;
+    let none = heap.new_object(0, &[])?;
+    let large = heap.new_object(65_535, &[u64::MAX; 16])?;
+    assert_eq!(rt; [first, none, large], [0, 1, 2]);
+    assert!(rt; put(&mut heap, 0, 1, 3) && put(&mut heap, 2, 15, 0));
+    assert!(rt; !put(&mut heap, 1, 0, 3));
+    for (object, at, word) in [
+        (0, 0, Some(1)),
+        (0, 1, Some(3)),
+        (0, 2, None),
+        (1, 0, None),
+        (2, 14, Some(u64::MAX)),
+        (2, 15, Some(0)),
+        (3, 0, None),
+    ] {
+        assert!(rt; field(&heap, object, at) == word, "{object} {at}");
+    }
+    for (object, class) in [(0, 7), (1, 0), (2, 65_535)] {
+        assert!(rt; object < 3 && heap.objects() == 3);
+        assert!(rt; heap.class(object) == class);
+    }
+    Ok(())
+}
+
+/// Writes a byte of a rail. False where there is none.
+fn set(heap: &mut Heap, rail: u32, index: usize, byte: u8) -> bool {
+    (rail as usize) < heap.rails() && heap.rail_set(rail, index, byte)
+}
+
+#[test]
+fn rails(rt: HostRuntime) -> Result<(), Fail> {
+    let mut heap = Heap::new(rt.alloc());
+    for bytes in [3, 0, 65_535] {
+        heap.new_rail(bytes)?;
+    }
+    assert!(rt; set(&mut heap, 0, 2, 255) && set(&mut heap, 2, 65_534, 1));
+    assert!(rt; !set(&mut heap, 0, 3, 1) && !set(&mut heap, 1, 0, 1));
+    assert!(rt; heap.rails() == 3);
+    assert!(rt; heap.rail(0) == [0, 0, 255].as_slice() && heap.rail(1).is_empty());
+    assert!(rt; heap.rail_get(2, 65_534) == Some(1) && heap.rail_get(2, 65_535).is_none());
+    Ok(())
+}
+
+/// A text of so many bytes.
+pub(crate) fn long(alloc: Global, bytes: u32) -> Result<String, AllocError> {
+    let mut long = String::new(alloc);
+    for _ in 0..bytes {
+        long.push('a')?;
+    }
+    Ok(long)
+}
+
+/// A text of a heap, where there is one.
+fn text(heap: &Heap, text: u32) -> Option<&str> {
+    if text as usize >= heap.texts() {
+        return None;
+    }
+    Some(heap.text(text))
+}
+
+/// The number of two texts joined, where that isn't too long.
+fn join(rt: &impl Abort, heap: &mut Heap, one: u32, other: u32) -> Result<Option<u32>, Stop> {
+    let texts = heap.texts();
+    assert!(rt; (one as usize) < texts && (other as usize) < texts);
+    heap.join(one, other)
+}
+
+#[test]
+fn texts(rt: HostRuntime) -> Result<(), Fail> {
+    let mut heap = Heap::new(rt.alloc());
+    let long = long(rt.alloc(), 65_533)?;
+    for added in ["", "\u{e9}b", long.as_str()] {
+        assert!(rt; added.len() < 65_536);
+        heap.new_text(added)?;
+    }
+    assert!(rt; text(&heap, 1) == Some("\u{e9}b"));
+    for (one, other, joined) in [(1, 2, None), (0, 2, Some(3)), (1, 1, Some(4))] {
+        assert!(rt; join(&rt, &mut heap, one, other)? == joined);
+    }
+    assert!(rt; text(&heap, 4) == Some("\u{e9}b\u{e9}b"));
+    assert!(rt; text(&heap, 3) == Some(long.as_str()) && heap.texts() == 5);
+    Ok(())
+}
+
+#[test]
+fn global_references(rt: HostRuntime) -> Result<(), Fail> {
+    let mut heap = Heap::new(rt.alloc());
+    heap.new_object(1, &[])?;
+    heap.new_object(2, &[])?;
+    for object in [1, 0, 1] {
+        assert!(rt; object < 2 && heap.objects() == 2);
+        heap.export(object)?;
+    }
+    for (id, class, object) in [(0, 2, 1), (1, 1, 0), (2, 2, 1)] {
+        assert!(rt; id < 3 && heap.exports() == 3);
+        assert!(rt; heap.opened(id) == Export { class, object });
+    }
+    Ok(())
+}
+
+/// Whether a call went through; a refused growth is the only other answer that it may give.
+fn went(rt: &impl Abort, answer: Result<u32, Stop>) -> usize {
+    assert!(rt; !matches!(answer, Err(Stop::Limit(_) | Stop::Stopped)));
+    usize::from(answer.is_ok())
+}
+
+/// Every answer is right, or it is that a growth was refused and nothing has changed: to be run with each allocation
+/// failing in turn.
+#[test]
+fn memory_refused(rt: HostRuntime) {
+    let mut heap = Heap::new(rt.alloc());
+    let objects = went(&rt, heap.new_object(1, &[5; 9]));
+    let rails = went(&rt, heap.new_rail(9));
+    let texts = went(&rt, heap.new_text("a text"));
+    assert!(rt; heap.objects() == objects && heap.rails() == rails);
+    assert!(rt; heap.texts() == texts && heap.exports() == 0);
+    if heap.objects() > 0 {
+        let exports = went(&rt, heap.export(0));
+        assert_eq!(rt; heap.exports(), exports);
+    }
+    if heap.texts() > 0 {
+        let joined = heap.join(0, 0).is_ok();
+        assert_eq!(rt; heap.texts(), if joined { 2 } else { 1 });
+    }
+}

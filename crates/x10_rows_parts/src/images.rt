@@ -1,0 +1,321 @@
+ghost use Rattle.std.specs.Prelude.{◌<◌, length};
+
+use crate::heaps::long;
+use std::alloc::{AllocError, Global};
+use std::test::*;
+use x10_code::{Instr, Op};
+use x10_image::{Function, ImageFault, ImageView, Module, write};
+use x10_kinds::Kind;
+use x10_model::Slot;
+use x10_samples::{SEVEN, with_byte};
+
+fn instr(op: Op, a: u8, x: u32) -> Instr {
+    Instr {
+        op,
+        a,
+        b: 0,
+        c: 0,
+        x,
+    }
+}
+
+/// The fault of the bytes, if they have one.
+fn fault(rt: &HostRuntime, bytes: &[u8]) -> Option<ImageFault> {
+    ImageView::read(rt.alloc(), bytes).err()
+}
+
+/// The fault of the bytes of `SEVEN` with one of them changed.
+fn changed(rt: &HostRuntime, at: usize, byte: u8) -> Option<ImageFault> {
+    fault(rt, &with_byte(at, byte))
+}
+
+/// The module that a view shows, taken from it part by part.
+fn rebuilt(alloc: Global, view: &ImageView<'_>) -> Result<Module, AllocError> {
+    let mut module = Module {
+        least_places: view.least(),
+        classes: Vec::new(alloc),
+        ints: Vec::new(alloc),
+        texts: Vec::new(alloc),
+        functions: Vec::new(alloc),
+        entry: view.entry(),
+    };
+    for c in 0..view.classes() {
+        let class = view.class(c);
+        let mut fields = Vec::new(alloc);
+        for i in 0..class.len() {
+            fields.push(class.field(i))?;
+        }
+        module.classes.push(fields)?;
+    }
+    for i in 0..view.ints() {
+        module.ints.push(view.int(i))?;
+    }
+    for i in 0..view.texts() {
+        module.texts.push(String::from_str(alloc, view.text(i))?)?;
+    }
+    for f in 0..view.functions() {
+        module.functions.push(function_of(alloc, view, f)?)?;
+    }
+    Ok(module)
+}
+
+fn function_of(alloc: Global, view: &ImageView<'_>, f: usize) -> Result<Function, AllocError>
+    requires { f < length view.now.functions }
+{
+    let signature = view.signature(f);
+    let mut function = Function {
+        parameters: Vec::new(alloc),
+        registers: signature.registers(),
+        loops: signature.loops(),
+        result: signature.result(),
+        code: Vec::new(alloc),
+    };
+    for i in 0..signature.parameters() {
+        function.parameters.push(signature.parameter(i))?;
+    }
+    for pc in 0..view.code_len(f) {
+        function.code.push(view.instr(f, pc))?;
+    }
+    Ok(function)
+}
+
+/// A function that takes and gives nothing.
+fn plain(alloc: Global) -> Result<Function, AllocError> {
+    Ok(Function {
+        parameters: Vec::new(alloc),
+        registers: 1,
+        loops: 0,
+        result: None,
+        code: Vec::from_slice(alloc, &[instr(Op::Ret, 0, 0)])?,
+    })
+}
+
+/// A function with the most of everything.
+fn largest(alloc: Global) -> Result<Function, AllocError> {
+    let slot = Slot {
+        kind: Kind::GRef(1),
+        home_here: true,
+    };
+    let mut function = Function {
+        parameters: Vec::new(alloc),
+        registers: 64,
+        loops: 8,
+        result: Some(slot),
+        code: Vec::new(alloc),
+    };
+    for _ in 0..16 {
+        function.parameters.push(slot)?;
+    }
+    for x in 0..4095 {
+        function.code.push(instr(Op::Intk, 63, x))?;
+    }
+    function.code.push(instr(Op::Ret, 0, 0))?;
+    Ok(function)
+}
+
+/// A module with the most functions and the longest text, and classes that name later ones.
+fn full(alloc: Global) -> Result<Module, AllocError> {
+    let mut module = Module {
+        least_places: 64,
+        classes: Vec::new(alloc),
+        ints: Vec::from_slice(alloc, &[i64::MIN, -1, 0, i64::MAX])?,
+        texts: Vec::new(alloc),
+        functions: Vec::new(alloc),
+        entry: 255,
+    };
+    module.classes.push(Vec::from_slice(alloc, &[Kind::Obj(1), Kind::Opt(1), Kind::GRef(1)])?)?;
+    module.classes.push(Vec::from_slice(
+        alloc,
+        &[Kind::Int, Kind::Place, Kind::Text, Kind::Rail],
+    )?)?;
+    module.texts.push(String::new(alloc))?;
+    module.texts.push(long(alloc, 65_535)?)?;
+    module.functions.push(largest(alloc)?)?;
+    for _ in 1..256 {
+        module.functions.push(plain(alloc)?)?;
+    }
+    Ok(module)
+}
+
+/// The least number of places and the entry of a view, and how many classes, numbers, texts and functions it has.
+fn sizes_of(view: &ImageView) -> (u16, u16, [usize; 4]) {
+    let counts = [view.classes(), view.ints(), view.texts(), view.functions()];
+    (view.least(), view.entry(), counts)
+}
+
+/// Whether the code of each function of a view is these bytes.
+fn has_code(view: &ImageView, bytes: &[u8]) -> bool {
+    for f in 0..view.functions() {
+        if view.code(f) != bytes {
+            return false;
+        }
+    }
+    true
+}
+
+/// Whether a function is that of `SEVEN`.
+fn prints_seven(function: &Function) -> bool {
+    let code = [
+        instr(Op::Intk, 0, 0),
+        instr(Op::Print, 0, 0),
+        instr(Op::Ret, 0, 0),
+    ];
+    function.registers == 1
+        && function.loops == 0
+        && function.result.is_none()
+        && function.parameters.is_empty()
+        && function.code.as_slice() == code.as_slice()
+}
+
+#[test]
+fn seven_is_read(rt: HostRuntime) -> Result<(), Fail> {
+    let view = ImageView::read(rt.alloc(), &SEVEN)?;
+    assert!(rt; sizes_of(&view) == (1, 0, [0, 1, 0, 1]));
+    assert!(rt; has_code(&view, &SEVEN[40..]));
+    let module = rebuilt(rt.alloc(), &view)?;
+    assert!(rt; module.ints.as_slice() == [7].as_slice());
+    for function in &module.functions {
+        assert!(rt; prints_seven(function));
+    }
+    Ok(())
+}
+
+#[test]
+fn beginnings_are_short(rt: HostRuntime) {
+    for n in 0..64 {
+        assert_eq!(rt; fault(&rt, &SEVEN[..n]), Some(ImageFault::Short));
+    }
+}
+
+/// Which byte of `SEVEN` becomes which other, and the fault of that.
+const FAULTS: [(usize, u8, Option<ImageFault>); 15] = [
+    (0, 0x59, Some(ImageFault::Magic)),
+    (5, 2, Some(ImageFault::Version)),
+    (7, 64, None),
+    (7, 65, Some(ImageFault::Count)),
+    (7, 0, Some(ImageFault::Count)),
+    (32, 8, Some(ImageFault::Kind)),
+    (32, 5, Some(ImageFault::Kind)),
+    (19, 1, Some(ImageFault::Reserved)),
+    (31, 1, Some(ImageFault::Reserved)),
+    (17, 1, Some(ImageFault::Entry)),
+    (32, 1, Some(ImageFault::Entry)),
+    (42, 1, Some(ImageFault::Code(0, 0))),
+    (56, 0xff, Some(ImageFault::Code(0, 2))),
+    (4, 9, Some(ImageFault::Version)),
+    (3, 9, Some(ImageFault::Magic)),
+];
+
+#[test]
+fn each_fault_is_met(rt: HostRuntime) {
+    for (at, byte, want) in FAULTS {
+        assert!(rt; changed(&rt, at, byte) == want, "byte {at}");
+    }
+}
+
+/// A text of one byte after the constant number, and the rest of `SEVEN`.
+fn with_text(alloc: Global, byte: u8) -> Result<Vec<u8>, AllocError> {
+    let mut bytes = Vec::from_slice(alloc, &SEVEN[..28])?;
+    bytes.extend_from_slice(&[0, 1, byte])?;
+    bytes.extend_from_slice(&SEVEN[28..])?;
+    if let Some(texts) = bytes.get_mut(13) {
+        *texts = 1;
+    }
+    Ok(bytes)
+}
+
+#[test]
+fn texts_are_utf8(rt: HostRuntime) -> Result<(), Fail> {
+    assert_eq!(rt; fault(&rt, &with_text(rt.alloc(), b'A')?), None);
+    assert_eq!(rt;
+        fault(&rt, &with_text(rt.alloc(), 0xff)?),
+        Some(ImageFault::Text)
+    );
+    let mut longer = Vec::from_slice(rt.alloc(), &SEVEN)?;
+    longer.push(0)?;
+    assert_eq!(rt; fault(&rt, &longer), Some(ImageFault::Trailing));
+    Ok(())
+}
+
+#[test]
+fn changed_bytes_are_refused_or_spelled(rt: HostRuntime) -> Result<(), Fail> {
+    for at in 0..64 {
+        for byte in 0..=255 {
+            let mut bytes = SEVEN;
+            bytes[at] = byte;
+            match ImageView::read(rt.alloc(), &bytes) {
+                Ok(view) => {
+                    let again = write(rt.alloc(), &rebuilt(rt.alloc(), &view)?)?;
+                    assert!(rt; again.as_slice() == bytes.as_slice());
+                }
+                Err(fault) => assert!(rt; fault != ImageFault::Memory),
+            }
+        }
+    }
+    Ok(())
+}
+
+/// How many functions the module has that bytes spell.
+fn functions_of(alloc: Global, bytes: &[u8]) -> Result<usize, Fail> {
+    Ok(
+        rebuilt(alloc, &ImageView::read(alloc, bytes)?)?
+            .functions
+            .len(),
+    )
+}
+
+/// The image of the module that bytes spell.
+fn written_again(alloc: Global, bytes: &[u8]) -> Result<Vec<u8>, Fail> {
+    let view = ImageView::read(alloc, bytes)?;
+    Ok(write(alloc, &rebuilt(alloc, &view)?)?)
+}
+
+#[test]
+fn written_is_read_and_written_again(rt: HostRuntime) -> Result<(), Fail> {
+    let bytes = write(rt.alloc(), &full(rt.alloc())?)?;
+    assert!(rt; functions_of(rt.alloc(), &bytes)? == 256);
+    assert!(rt; written_again(rt.alloc(), &bytes)?.as_slice() == bytes.as_slice());
+    Ok(())
+}
+
+#[test]
+fn modules_without_image_are_refused(rt: HostRuntime) -> Result<(), Fail> {
+    let mut module = full(rt.alloc())?;
+    module.entry = 0;
+    assert_eq!(rt; write(rt.alloc(), &module).err(), Some(ImageFault::Entry));
+    module.functions.push(plain(rt.alloc())?)?;
+    assert_eq!(rt; write(rt.alloc(), &module).err(), Some(ImageFault::Count));
+    let mut module = full(rt.alloc())?;
+    module
+        .classes
+        .push(Vec::from_slice(rt.alloc(), &[Kind::Obj(3)])?)?;
+    assert_eq!(rt; write(rt.alloc(), &module).err(), Some(ImageFault::Kind));
+    let mut module = full(rt.alloc())?;
+    for function in &mut module.functions {
+        function.code.push(instr(Op::At, 0, 0))?;
+    }
+    assert_eq!(rt; write(rt.alloc(), &module).err(), Some(ImageFault::Count));
+    let mut module = full(rt.alloc())?;
+    let mut bad = plain(rt.alloc())?;
+    bad.code.push(instr(Op::Jmp, 1, 0))?;
+    module.functions.pop();
+    module.functions.push(bad)?;
+    assert_eq!(rt;
+        write(rt.alloc(), &module).err(),
+        Some(ImageFault::Code(255, 1))
+    );
+    Ok(())
+}
+
+#[test]
+fn faults_show_their_names(rt: HostRuntime) -> Result<(), Fail> {
+    assert_eq!(rt;
+        format!(in rt.alloc(); "{}", ImageFault::Code(3, 7))?.as_str(),
+        "Code 3 7"
+    );
+    assert_eq!(rt;
+        format!(in rt.alloc(); "{}", ImageFault::Trailing)?.as_str(),
+        "Trailing"
+    );
+    Ok(())
+}

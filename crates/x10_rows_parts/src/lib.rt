@@ -1,0 +1,31 @@
+//! The tests of what lies below a place.
+#![tactic(auto)]
+
+#[cfg(test)]
+mod assembling;
+#[cfg(test)]
+mod codes;
+#[cfg(test)]
+mod copies;
+#[cfg(test)]
+mod finishes;
+#[cfg(test)]
+mod frames;
+#[cfg(test)]
+mod heaps;
+#[cfg(test)]
+mod images;
+#[cfg(test)]
+mod kinds;
+#[cfg(test)]
+mod large_copies;
+#[cfg(test)]
+mod listing;
+#[cfg(test)]
+mod refused_copies;
+#[cfg(test)]
+mod verifying;
+#[cfg(test)]
+mod walk;
+#[cfg(test)]
+mod walked_copies;

@@ -1,0 +1,205 @@
+//! Frames that no place sends: which fault is told of each, and that the place is as before.
+use crate::places::{opened, program, ran};
+use crate::receiving::{is_used, printed, refused, spawn, takes};
+use crate::travels::{ALONG, AWAY};
+use std::process::Abort;
+use std::test::*;
+use x10_asm::assemble;
+use x10_copy::Refusal;
+use x10_frame::FrameFault;
+use x10_place::Place;
+use x10_samples::{BACK, CYCLE};
+
+/// A function wants a reference whose home is here, and another one. Main makes a reference.
+const REFERENCES: &str = "places 2
+class
+func 2 0 none here:0 gref:0
+RET 0
+end
+func 2 0 none
+NEW 0 0 0
+GNEW 1 0
+RET 0
+end
+entry 1
+";
+
+/// A new activity with two references, of which nothing is right.
+const WRONG: [u8; 40] = [
+    2, 1, 0, 1, 0, 1, 0, 0, 0, 0, 0, 5, 0, 9, 0, 2, 0, 0, 0, 0, 0, 0, // version to function
+    7, 0, 1, 0, 0, 0, 0, 0, 1, // the first one's home and class
+    7, 0, 0, 0, 0, 0, 1, 0, 0, // the second one's number
+];
+
+/// What puts one fault after another right, and the fault that is told then.
+const RIGHT: [(usize, u8, Refusal); 6] = [
+    (0, 1, Refusal::NotHere),
+    (5, 0, Refusal::Function),
+    (13, 0, Refusal::Kind),
+    (30, 0, Refusal::Home),
+    (24, 0, Refusal::Ref),
+    (37, 0, Refusal::Finish),
+];
+
+/// The way back from place 1 with the number 5, and a new activity with it.
+const BACK_WITH_FIVE: [u8; 27] = [
+    1, 3, 0, 1, 0, 0, 0, 0, 0, 0, 0, 1, 0, 0, 0, 0, 0, 0, 1, 0, 0, 0, 0, 0, 0, 0, 5,
+];
+
+const SPAWN_WITH_FIVE: [u8; 31] = [
+    1, 1, 0, 1, 0, 0, 0, 0, 0, 0, 0, 1, 0, 0, 0, 1, 0, 0, 0, 0, 0, 0, 1, 0, 0, 0, 0, 0, 0, 0, 5,
+];
+
+/// Nothing was sent and nothing received of the seventh finish, as one of three places says.
+const REPORT_OF_SEVENTH: [u8; 36] = [
+    1, 4, 0, 1, 0, 0, 0, 0, 0, 7, 0, 3, 0, 0, 0, 0, 0, 0, 0, 0, 0, 0, 0, 0, 0, 0, 0, 0, 0, 0, 0, 0,
+    0, 0, 0, 0,
+];
+
+/// The same of the first, as one of two places says.
+const REPORT_OF_TWO_PLACES: [u8; 28] = [
+    1, 4, 0, 1, 0, 0, 0, 0, 0, 1, 0, 2, 0, 0, 0, 0, 0, 0, 0, 0, 0, 0, 0, 0, 0, 0, 0, 0,
+];
+
+/// Each fault is told in its turn, and the frame that has none is taken in.
+fn each_is_told(rt: &impl Abort, place: &mut Place) {
+    let mut frame = WRONG;
+    let version = Refusal::Frame(FrameFault::Version);
+    assert!(rt; refused(place, &frame) == Some(version));
+    for (at, byte, fault) in RIGHT {
+        if let Some(wrong) = frame.get_mut(at) {
+            *wrong = byte;
+        }
+        assert!(rt; refused(place, &frame) == Some(fault), "byte {at}");
+    }
+    assert!(rt; !is_used(place, 1));
+    frame[11] = 0;
+    assert!(rt; takes(place, &frame) && is_used(place, 1));
+}
+
+#[test]
+fn one_fault_after_another(rt: HostRuntime) -> Result<(), Fail> {
+    let bytes = assemble(rt.alloc(), REFERENCES)?;
+    let verified = program(rt.alloc(), &bytes)?;
+    let mut place = opened(rt.alloc(), &verified, 0, 2)?;
+    assert!(rt; ran(&mut place, 0, 2) == Some(2));
+    each_is_told(&rt, &mut place);
+    Ok(())
+}
+
+/// Frames that are refused where main is away at place 1, in a finish.
+fn are_refused(rt: &impl Abort, place: &mut Place) {
+    let mut back = BACK;
+    back[3] = 2;
+    let mut short = spawn(1, 0);
+    short[20] = 255;
+    short[21] = 255;
+    let (unknown, unmet) = (spawn(1, 3), spawn(2, 0));
+    let frames: [(&[u8], Refusal); 8] = [
+        (&back, Refusal::Segment),
+        (&BACK_WITH_FIVE, Refusal::Kind),
+        (&REPORT_OF_SEVENTH, Refusal::Finish),
+        (&REPORT_OF_TWO_PLACES, Refusal::Frame(FrameFault::Place)),
+        (&SPAWN_WITH_FIVE, Refusal::Kind),
+        (&unknown, Refusal::Function),
+        (&unmet, Refusal::Finish),
+        (&short, Refusal::Frame(FrameFault::Short)),
+    ];
+    for (bytes, want) in frames {
+        assert!(rt; refused(place, bytes) == Some(want));
+    }
+}
+
+#[test]
+fn at_home(rt: HostRuntime) -> Result<(), Fail> {
+    let bytes = assemble(rt.alloc(), AWAY)?;
+    let verified = program(rt.alloc(), &bytes)?;
+    let mut place = opened(rt.alloc(), &verified, 0, 3)?;
+    assert!(rt; ran(&mut place, 0, 100) == Some(3));
+    are_refused(&rt, &mut place);
+    assert!(rt; !is_used(&place, 1));
+    let mut elsewhere = spawn(99, 0);
+    elsewhere[7] = 2;
+    assert!(rt; takes(&mut place, &elsewhere) && is_used(&place, 1));
+    assert!(rt; takes(&mut place, &BACK));
+    Ok(())
+}
+
+/// The least key in use.
+fn first_key(place: &Place) -> usize {
+    place.next_key(0).unwrap_or(0)
+}
+
+/// Takes the frame of a cycle in, whose activity takes its ten steps.
+fn takes_cycle(rt: &impl Abort, place: &mut Place) {
+    assert!(rt; takes(place, &CYCLE));
+    let key = first_key(place);
+    assert!(rt; ran(place, key, 100) == Some(10));
+}
+
+#[test]
+fn beginnings(rt: HostRuntime) -> Result<(), Fail> {
+    let bytes = assemble(rt.alloc(), ALONG)?;
+    let verified = program(rt.alloc(), &bytes)?;
+    let mut place = opened(rt.alloc(), &verified, 1, 2)?;
+    let short = Refusal::Frame(FrameFault::Short);
+    for length in 0..67usize {
+        assert!(rt; refused(&mut place, &CYCLE[..length]) == Some(short));
+    }
+    takes_cycle(&rt, &mut place);
+    assert!(rt; printed(&place, 9));
+    Ok(())
+}
+
+/// Whether a step of a key is made, or finds nothing to do.
+fn goes(place: &mut Place, key: usize) -> bool {
+    place.step(key).is_ok()
+}
+
+/// Up to forty steps of what is there, of which none is stopped.
+fn goes_on(rt: &impl Abort, place: &mut Place) {
+    for _ in 0..40 {
+        let key = first_key(place);
+        assert!(rt; goes(place, key));
+    }
+}
+
+/// Whether a place stops after a refusal, which then is no fault of the bytes.
+fn stops(why: Refusal) -> bool {
+    matches!(why, Refusal::Memory | Refusal::Limit(_) | Refusal::Stopped)
+}
+
+/// The frame of a cycle with each value in place of one byte: how many of them are taken in.
+fn other_values(rt: &impl Abort, place: &mut Place, at: usize) -> u32 {
+    let mut taken = 0u32;
+    let mut frame = CYCLE;
+    for value in 0..=255u8 {
+        if let Some(byte) = frame.get_mut(at) {
+            *byte = value;
+        }
+        match refused(place, &frame) {
+            None => {
+                goes_on(rt, place);
+                taken = taken.saturating_add(1);
+            }
+            Some(why) => assert!(rt; !stops(why)),
+        }
+    }
+    taken
+}
+
+/// Any value is good in 14 of the bytes: the number of the finish, those of the rail, and the numbers of the two references,
+/// whose home is elsewhere. Two are good for the sender, and for the last field that names an object; one in each other.
+#[test]
+fn changed_bytes(rt: HostRuntime) -> Result<(), Fail> {
+    let bytes = assemble(rt.alloc(), ALONG)?;
+    let verified = program(rt.alloc(), &bytes)?;
+    let mut taken = 0u32;
+    for at in 0..67usize {
+        let mut place = opened(rt.alloc(), &verified, 1, 2)?;
+        taken = taken.saturating_add(other_values(&rt, &mut place, at));
+        takes_cycle(&rt, &mut place);
+    }
+    assert_eq!(rt; taken, 3_639);
+    Ok(())
+}

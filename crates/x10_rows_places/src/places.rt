@@ -1,0 +1,186 @@
+//! A place by itself: its calls, and what they answer.
+use std::alloc::Global;
+use std::process::Abort;
+use std::test::*;
+use x10_asm::assemble;
+use x10_code::Op;
+use x10_image::ImageView;
+use x10_kinds::Stop;
+use x10_place::{Line, Place, Stepped};
+use x10_samples::SEVEN;
+use x10_verify::{Verified, verify};
+
+/// A number and four times that, through three calls; the innermost has one register more than a frame holds in place.
+/// Then an object, a reference to it, a rail and two texts, of which the second is printed.
+const DEEP: &str = "places 1
+class int
+int 5
+text \"0123456789\"
+func 9 0 int int
+ADD 0 0 0
+RET 0
+end
+func 2 0 int int
+CALL 1 0 0
+ADD 0 0 1
+RET 0
+end
+func 2 0 int int
+CALL 1 0 1
+ADD 0 0 1
+RET 0
+end
+func 4 0 none
+INTK 1 0
+PRINT 1
+CALL 0 1 2
+PRINT 0
+NEW 2 0 0
+GNEW 3 2
+RAIL 2 1 10
+TEXTK 2 0
+TCAT 3 2 2 10
+PRINT 3
+RET 0
+end
+entry 3
+";
+
+/// A place of a run on so many places, where its module runs on so many.
+pub(crate) fn place_of<'a>(
+    alloc: Global,
+    verified: &'a Verified<'a>,
+    id: u16,
+    places: u16,
+) -> Option<Place<'a>> {
+    if id >= places || places > 64 || verified.image().least() > places {
+        return None;
+    }
+    Place::new(alloc, verified, id, places).ok()
+}
+
+/// The verified program that an image's bytes are, if memory is there.
+pub(crate) fn program_of(alloc: Global, bytes: &[u8]) -> Option<Verified<'_>> {
+    verify(alloc, ImageView::read(alloc, bytes).ok()?).ok()
+}
+
+/// The same, or why it isn't there.
+pub(crate) fn program(alloc: Global, bytes: &[u8]) -> Result<Verified<'_>, Fail> {
+    Ok(verify(alloc, ImageView::read(alloc, bytes)?)?)
+}
+
+/// The same place, which has to be there.
+pub(crate) fn opened<'a>(
+    alloc: Global,
+    verified: &'a Verified<'a>,
+    id: u16,
+    places: u16,
+) -> Result<Place<'a>, Fail> {
+    Ok(place_of(alloc, verified, id, places).ok_or("the place is there")?)
+}
+
+/// Whether the activity with a key moves.
+fn moves(place: &mut Place, key: usize) -> bool {
+    matches!(place.step(key), Ok(Stepped::Moved(_)))
+}
+
+/// Whether there is nothing to do for a key.
+pub(crate) fn idles(place: &mut Place, key: usize) -> bool {
+    matches!(place.step(key), Ok(Stepped::Idle))
+}
+
+/// How far many steps go, where no memory is wanted.
+pub(crate) fn ran(place: &mut Place, key: usize, most: u64) -> Option<u64> {
+    match place.run(key, most) {
+        (steps, Ok(_)) => Some(steps),
+        _ => None,
+    }
+}
+
+/// Whether an activity stands at an operation of the first function.
+fn stands_at(place: &Place, key: usize, op: Op) -> bool {
+    matches!(place.at(key), Some((0, _, at)) if at == op)
+}
+
+/// Whether the run has ended, and the number 7 was printed.
+fn has_ended(place: &Place) -> bool {
+    place.closed() && matches!(place.output(), [Line::Int(7)])
+}
+
+/// The least key in use, if there is one.
+fn first_key(place: &Place) -> Option<usize> {
+    place.next_key(0)
+}
+
+#[test]
+fn step_by_step(rt: HostRuntime) -> Result<(), Fail> {
+    let verified = program(rt.alloc(), &SEVEN)?;
+    let mut place = opened(rt.alloc(), &verified, 0, 1)?;
+    let key = first_key(&place).ok_or("main is there")?;
+    for op in [Op::Intk, Op::Print, Op::Ret] {
+        assert!(rt; !place.closed() && stands_at(&place, key, op));
+        assert!(rt; moves(&mut place, key));
+    }
+    assert!(rt; has_ended(&place) && idles(&mut place, key));
+    assert!(rt; place.at(key).is_none() && first_key(&place).is_none());
+    Ok(())
+}
+
+#[test]
+fn at_a_stretch(rt: HostRuntime) -> Result<(), Fail> {
+    let verified = program(rt.alloc(), &SEVEN)?;
+    let mut place = opened(rt.alloc(), &verified, 0, 1)?;
+    let key = first_key(&place).ok_or("main is there")?;
+    for (key, steps, made) in [(99, 5, 0), (key, 2, 2)] {
+        assert!(rt; ran(&mut place, key, steps) == Some(made) && !place.closed());
+    }
+    for made in [1, 0] {
+        assert!(rt; ran(&mut place, key, 5) == Some(made) && has_ended(&place));
+    }
+    Ok(())
+}
+
+#[test]
+fn another_place(rt: HostRuntime) -> Result<(), Fail> {
+    let verified = program(rt.alloc(), &SEVEN)?;
+    let mut place = opened(rt.alloc(), &verified, 1, 2)?;
+    assert!(rt; first_key(&place).is_none() && idles(&mut place, 0));
+    assert!(rt; !place.closed());
+    Ok(())
+}
+
+/// Whether a place that was refused memory stays as it was, and takes no later step.
+fn stays(place: &mut Place, key: usize, at: Option<(u16, u16, Op)>, lines: usize) -> bool {
+    let stopped = matches!(place.step(key), Err(Stop::Stopped));
+    stopped && place.at(key) == at && place.output().len() == lines
+}
+
+/// The run ends after its steps, or one that is refused changes nothing.
+fn ends_or_stays(rt: &impl Abort, place: &mut Place, key: usize) {
+    for _ in 0..19 {
+        let (at, lines) = (place.at(key), place.output().len());
+        if !moves(place, key) {
+            assert!(rt; stays(place, key, at, lines));
+            return;
+        }
+    }
+    assert!(rt; place.closed());
+}
+
+/// Where memory is refused, nothing moves, the output stays, and no later step is taken. It meets that only where the
+/// runner refuses an allocation; one that is refused before the place is there is left to the tests of other crates.
+#[test]
+fn memory_refused(rt: HostRuntime) -> Result<(), Fail> {
+    let Ok(bytes) = assemble(rt.alloc(), DEEP) else {
+        return Ok(());
+    };
+    let Some(verified) = program_of(rt.alloc(), &bytes) else {
+        return Ok(());
+    };
+    let Some(mut place) = place_of(rt.alloc(), &verified, 0, 1) else {
+        return Ok(());
+    };
+    let key = first_key(&place).ok_or("main is there")?;
+    ends_or_stays(&rt, &mut place, key);
+    Ok(())
+}

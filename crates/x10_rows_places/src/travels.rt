@@ -1,0 +1,218 @@
+//! Worlds of one to three places, event by event, and the frames that they put out, byte for byte.
+use crate::places::program;
+use crate::worlds::world_of;
+use std::process::Abort;
+use std::test::*;
+use x10_asm::assemble;
+use x10_model::Event;
+use x10_place::Line;
+use x10_samples::{ALONE, BACK, CYCLE, OTHER_REPORT, REPORT, SHIFT, SPAWN};
+use x10_world::World;
+
+/// Main waits in a finish, goes to place 1 and back; what it starts from there at place 2 prints 5. Then main prints 9.
+pub(crate) const AWAY: &str = "places 3
+int 5
+int 9
+func 1 0 none
+INTK 0 0
+PRINT 0
+RET 0
+end
+func 1 0 none
+PLACEK 0 2
+ATA 0 0 0
+RET 0
+end
+func 1 0 none
+FINB
+PLACEK 0 1
+AT 0 0 0 1
+FINE
+INTK 0 1
+PRINT 0
+RET 0
+end
+entry 2
+";
+
+/// Two objects, each of which holds the other, a rail that both hold and a global reference go to place 1. There the rail
+/// is changed, and its byte printed. Then main prints the byte of its own rail.
+pub(crate) const ALONG: &str = "places 2
+class opt:0 rail gref:1
+class
+int 2
+int 0
+int 9
+func 4 0 none obj:0
+GET 1 0 1
+INTK 2 1
+INTK 3 2
+RSET 1 2 3 9
+GET 0 0 0
+IFOBJ 0 0 9
+GET 1 0 1
+RGET 3 1 2 9
+PRINT 3
+RET 0
+end
+func 7 0 none
+NEW 3 0 1
+GNEW 2 3
+INTK 5 0
+RAIL 1 5 16
+NULL 0 0
+NEW 3 0 0
+MOVE 0 3
+NEW 4 0 0
+PUT 3 4 0
+FINB
+PLACEK 6 1
+ATA 4 6 0
+FINE
+INTK 5 1
+RGET 5 1 5 16
+PRINT 5
+RET 0
+end
+entry 1
+";
+
+/// Main starts an activity at the place after the last, which is its own.
+const AROUND: &str = "places 1
+func 1 0 none
+RET 0
+end
+func 2 0 none
+HERE 0
+NEXTP 0 0
+PLACEI 1 0
+PRINT 1
+ATA 0 0 0
+RET 0
+end
+entry 1
+";
+
+/// What place 1 has counted of main's finish in `ALONG`: one received from place 0.
+const REPORT_OF_TWO: [u8; 28] = [
+    1, 4, 0, 1, 0, 0, 0, 0, 0, 1, 0, 2, 0, 0, 0, 0, 0, 0, 0, 0, 0, 0, 0, 1, 0, 0, 0, 0,
+];
+
+/// Steps of the first key, which are made, whether they move or not.
+fn steps(rt: &impl Abort, world: &mut World, place: u16, times: u32) {
+    for _ in 0..times {
+        assert!(rt; world.run(&[Event::Step(place, 0)]).is_ok());
+    }
+}
+
+/// Whether a step of the first key moves.
+fn moves(world: &mut World, place: u16) -> bool {
+    world.run_activity(place, 0, 1) == Ok(1)
+}
+
+/// Whether a step of the first key finds nothing to do.
+fn waits(world: &mut World, place: u16) -> bool {
+    world.run_activity(place, 0, 1) == Ok(0)
+}
+
+/// Whether so many steps of the first key are made until it ends, waits or is away.
+fn makes(world: &mut World, place: u16, steps: u64) -> bool {
+    world.run_activity(place, 0, 100) == Ok(steps)
+}
+
+/// The frame with a number is in flight, and is taken in.
+fn arrives(rt: &impl Abort, world: &mut World, number: u64) {
+    assert!(rt; world.frame(number).is_some());
+    assert!(rt; world.run(&[Event::Deliver(number)]).is_ok());
+    assert!(rt; world.frame(number).is_none());
+}
+
+/// Whether the frame with a number is in flight to a place, and has these bytes.
+fn flies(world: &World, number: u64, place: u16, bytes: &[u8]) -> bool {
+    match world.frame(number) {
+        Some((to, there)) => to == place && there == bytes,
+        None => false,
+    }
+}
+
+/// Whether a place has printed one number, and nothing else.
+fn printed(world: &World, place: u16, number: i64) -> bool {
+    matches!(world.output(place), Some([Line::Int(line)]) if *line == number)
+}
+
+/// Main goes away and comes back, and waits for what was started at place 2.
+fn goes_away(rt: &impl Abort, world: &mut World) {
+    steps(rt, world, 0, 3);
+    assert!(rt; world.posted() == 1 && flies(world, 0, 1, &SHIFT));
+    arrives(rt, world, 0);
+    steps(rt, world, 1, 3);
+    assert!(rt; world.posted() == 4 && flies(world, 1, 2, &SPAWN));
+    assert!(rt; flies(world, 2, 0, &BACK) && flies(world, 3, 0, &REPORT));
+    arrives(rt, world, 2);
+    assert!(rt; waits(world, 0));
+    arrives(rt, world, 3);
+    assert!(rt; waits(world, 0));
+    arrives(rt, world, 1);
+    steps(rt, world, 2, 3);
+    assert!(rt; world.posted() == 5 && flies(world, 4, 0, &OTHER_REPORT));
+    assert!(rt; waits(world, 0));
+    arrives(rt, world, 4);
+    assert!(rt; moves(world, 0) && !world.closed());
+    steps(rt, world, 0, 3);
+    assert!(rt; world.closed() && world.posted() == 5);
+    assert!(rt; printed(world, 0, 9) && printed(world, 2, 5));
+    assert!(rt; matches!(world.output(1), Some([])));
+}
+
+#[test]
+fn away_and_back(rt: HostRuntime) -> Result<(), Fail> {
+    let bytes = assemble(rt.alloc(), AWAY)?;
+    let verified = program(rt.alloc(), &bytes)?;
+    let mut world = world_of(rt.alloc(), &verified, 3)?;
+    goes_away(&rt, &mut world);
+    Ok(())
+}
+
+/// The objects go to place 1, whose report comes back.
+fn goes_along(rt: &impl Abort, world: &mut World) {
+    assert!(rt; makes(world, 0, 12));
+    assert!(rt; world.posted() == 1 && flies(world, 0, 1, &CYCLE));
+    assert!(rt; waits(world, 0));
+    arrives(rt, world, 0);
+    assert!(rt; makes(world, 1, 10));
+    assert!(rt; world.posted() == 2 && flies(world, 1, 0, &REPORT_OF_TWO));
+    assert!(rt; waits(world, 0));
+    arrives(rt, world, 1);
+    assert!(rt; makes(world, 0, 5));
+    assert!(rt; world.closed());
+    assert!(rt; printed(world, 0, 0) && printed(world, 1, 9));
+}
+
+#[test]
+fn two_objects_go_along(rt: HostRuntime) -> Result<(), Fail> {
+    let bytes = assemble(rt.alloc(), ALONG)?;
+    let verified = program(rt.alloc(), &bytes)?;
+    let mut world = world_of(rt.alloc(), &verified, 2)?;
+    goes_along(&rt, &mut world);
+    Ok(())
+}
+
+/// What main sends comes to its own place.
+fn goes_around(rt: &impl Abort, world: &mut World) {
+    steps(rt, world, 0, 6);
+    assert!(rt; !world.closed());
+    assert!(rt; world.posted() == 1 && flies(world, 0, 0, &ALONE));
+    arrives(rt, world, 0);
+    steps(rt, world, 0, 1);
+    assert!(rt; world.closed() && world.posted() == 1);
+    assert!(rt; printed(world, 0, 0));
+}
+
+#[test]
+fn around_to_itself(rt: HostRuntime) -> Result<(), Fail> {
+    let bytes = assemble(rt.alloc(), AROUND)?;
+    let verified = program(rt.alloc(), &bytes)?;
+    let mut world = world_of(rt.alloc(), &verified, 1)?;
+    goes_around(&rt, &mut world);
+    Ok(())
+}

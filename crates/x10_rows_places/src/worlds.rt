@@ -1,0 +1,213 @@
+use crate::places::program;
+use std::alloc::Global;
+use std::process::Abort;
+use std::test::*;
+use x10_image::{ImageFault, ImageView};
+use x10_kinds::Stop;
+use x10_model::Event;
+use x10_place::Line;
+use x10_samples::{SEVEN, with_byte};
+use x10_verify::{Verified, VerifyCause, VerifyFault, verify};
+use x10_world::{Halt, OpenFault, RunFault, World, run_image, run_rounds};
+
+/// INTK r0 7, PRINT r1, RET, with two registers.
+fn prints_r1() -> [u8; 64] {
+    let mut bytes = with_byte(29, 2);
+    bytes[49] = 1;
+    bytes
+}
+
+/// A run of `SEVEN` on one place: whether it has ended, how many events were made, and what was printed.
+fn outcome(alloc: Global, events: &[Event]) -> Result<(bool, usize, Option<i64>), Fail> {
+    let run = run_image(alloc, &SEVEN, 1, events)?;
+    let printed = match run.outputs.first() {
+        Some(lines) => match lines.as_slice() {
+            [Line::Int(line)] => Some(*line),
+            _ => None,
+        },
+        None => None,
+    };
+    if run.stop.is_some() {
+        return Err("the run has stopped".into());
+    }
+    Ok((run.closed, run.done, printed))
+}
+
+#[test]
+fn runs_of_events(rt: HostRuntime) -> Result<(), Fail> {
+    let steps = [Event::Step(0, 0); 100];
+    assert!(rt; outcome(rt.alloc(), &[])? == (false, 0, None));
+    assert!(rt; outcome(rt.alloc(), &steps[..2])? == (false, 2, Some(7)));
+    assert!(rt; outcome(rt.alloc(), &steps)? == (true, 100, Some(7)));
+    Ok(())
+}
+
+/// Why an image doesn't run on so many places, if it doesn't.
+fn fault_of(alloc: Global, image: &[u8], places: u16) -> Option<RunFault> {
+    run_image(alloc, image, places, &[]).err()
+}
+
+/// On how many places an image runs.
+fn places_of(alloc: Global, image: &[u8], places: u16) -> Option<usize> {
+    match run_image(alloc, image, places, &[]) {
+        Ok(run) => Some(run.outputs.len()),
+        Err(_) => None,
+    }
+}
+
+#[test]
+fn refusals(rt: HostRuntime) {
+    let alloc = rt.alloc();
+    let unset = VerifyFault {
+        cause: VerifyCause::Unset,
+        function: 0,
+        pc: 1,
+    };
+    let short = fault_of(alloc, &SEVEN[..63], 1);
+    assert!(rt; short == Some(RunFault::Image(ImageFault::Short)));
+    assert!(rt; fault_of(alloc, &prints_r1(), 1) == Some(RunFault::Verify(unset)));
+    let least_two = with_byte(7, 2);
+    for places in [0, 1, 65] {
+        let fault = fault_of(alloc, &least_two, places);
+        assert!(rt; fault == Some(RunFault::Open(OpenFault::Places)));
+    }
+    assert!(rt; places_of(alloc, &least_two, 64) == Some(64));
+}
+
+/// A world of so many places for a program.
+pub(crate) fn world_of<'a>(
+    alloc: Global,
+    verified: &'a Verified<'a>,
+    places: u16,
+) -> Result<World<'a>, Fail> {
+    Ok(World::open(alloc, verified, places)?)
+}
+
+/// How many steps of an activity are made, of so many at most.
+fn ran(world: &mut World, place: u16, key: usize, steps: u64) -> Option<u64> {
+    world.run_activity(place, key, steps).ok()
+}
+
+/// The least key in use at a place, if there is one.
+fn first_key(world: &World, place: u16) -> Option<usize> {
+    world.next_key(place, 0)
+}
+
+/// Whether a world has ended, and place 0 has printed the number 7.
+fn has_ended(world: &World) -> bool {
+    world.closed() && matches!(world.output(0), Some([Line::Int(7)]))
+}
+
+#[test]
+fn at_a_stretch(rt: HostRuntime) -> Result<(), Fail> {
+    let verified = program(rt.alloc(), &SEVEN)?;
+    let mut world = world_of(rt.alloc(), &verified, 2)?;
+    let key = first_key(&world, 0).ok_or("main is there")?;
+    for (place, key, steps, made) in [
+        (1, key, 5, 0),
+        (2, key, 5, 0),
+        (0, 99, 5, 0),
+        (0, key, 2, 2),
+    ] {
+        assert!(rt; ran(&mut world, place, key, steps) == Some(made));
+    }
+    assert!(rt; !world.closed());
+    for made in [1, 0] {
+        assert!(rt; ran(&mut world, 0, key, 5) == Some(made) && has_ended(&world));
+    }
+    Ok(())
+}
+
+/// Why a world makes no more of so many events in rounds.
+fn halt(alloc: Global, world: &mut World, limit: u64) -> Option<Halt> {
+    run_rounds(alloc, world, limit).err()
+}
+
+#[test]
+fn in_rounds(rt: HostRuntime) -> Result<(), Fail> {
+    let verified = program(rt.alloc(), &SEVEN)?;
+    let mut world = world_of(rt.alloc(), &verified, 2)?;
+    assert!(rt; world.count() == 2);
+    for limit in [0, 2] {
+        assert!(rt; halt(rt.alloc(), &mut world, limit) == Some(Halt::Limit));
+    }
+    assert!(rt; !world.closed());
+    assert!(rt; halt(rt.alloc(), &mut world, 2).is_none() && has_ended(&world));
+    Ok(())
+}
+
+/// Why a world doesn't make some events.
+fn stop(world: &mut World, events: &[Event]) -> Option<Stop> {
+    world.run(events).err()
+}
+
+/// Whether nothing was sent, and place 1 has printed nothing.
+fn is_alone(world: &World) -> bool {
+    world.posted() == 0 && world.frame(0).is_none() && matches!(world.output(1), Some([]))
+}
+
+#[test]
+fn a_world(rt: HostRuntime) -> Result<(), Fail> {
+    let verified = program(rt.alloc(), &SEVEN)?;
+    let mut world = world_of(rt.alloc(), &verified, 2)?;
+    let key = first_key(&world, 0).ok_or("main is there")?;
+    assert!(rt; first_key(&world, 1).is_none() && first_key(&world, 2).is_none());
+    assert!(rt; world.output(2).is_none() && !world.closed());
+    let events = [
+        Event::Step(1, 0),
+        Event::Deliver(0),
+        Event::Step(2, 0),
+        Event::Step(0, key),
+    ];
+    assert!(rt; stop(&mut world, &events).is_none());
+    assert!(rt; stop(&mut world, &[Event::Step(0, key); 2]).is_none());
+    assert!(rt; has_ended(&world) && is_alone(&world));
+    assert!(rt; first_key(&world, 0).is_none());
+    Ok(())
+}
+
+/// Whether a world takes no later call, and is as it was at the beginning.
+fn is_over(world: &mut World, events: &[Event]) -> bool {
+    let stopped = Some(Stop::Stopped);
+    stop(world, &[]) == stopped
+        && stop(world, events) == stopped
+        && matches!(world.output(0), Some([]))
+        && first_key(world, 0) == Some(0)
+        && !world.closed()
+}
+
+/// The run ends, or it stops for want of memory.
+fn ends_or_stops(rt: &impl Abort, world: &mut World) {
+    let events = [Event::Step(0, 0); 3];
+    match stop(world, &events) {
+        None => assert!(rt; has_ended(world)),
+        Some(why) => assert!(rt; why == Stop::Memory && is_over(world, &events)),
+    }
+}
+
+// Under `rt try --test --fail-alloc N` each allocation fails in turn: it is told by name, and after a Stop the world
+// stays as it is.
+#[test]
+fn memory_refused(rt: HostRuntime) -> Result<(), Fail> {
+    let image = match ImageView::read(rt.alloc(), &SEVEN) {
+        Ok(image) => image,
+        Err(fault) => return fails_for(fault == ImageFault::Memory),
+    };
+    let verified = match verify(rt.alloc(), image) {
+        Ok(verified) => verified,
+        Err(fault) => return fails_for(fault.cause == VerifyCause::Memory),
+    };
+    let mut world = match World::open(rt.alloc(), &verified, 1) {
+        Ok(world) => world,
+        Err(fault) => return fails_for(fault == OpenFault::Memory),
+    };
+    ends_or_stops(&rt, &mut world);
+    Ok(())
+}
+
+fn fails_for(memory: bool) -> Result<(), Fail> {
+    memory
+        .then_some(())
+        .ok_or("a fault that is not want of memory")?;
+    Ok(())
+}

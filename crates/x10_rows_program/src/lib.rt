@@ -1,0 +1,9 @@
+//! The tests of the program's commands and explanations.
+#![tactic(auto)]
+
+#[cfg(test)]
+mod explaining;
+#[cfg(test)]
+mod usage;
+#[cfg(test)]
+mod writers;

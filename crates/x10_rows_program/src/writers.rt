@@ -1,0 +1,82 @@
+use crate::usage::words_of;
+use std::alloc::Global;
+use std::io::{self, ErrorKind, Write};
+use std::test::*;
+use x10_cli::{Task, execute, parse};
+use x10_samples::SEVEN;
+
+/// A writer that takes a byte at a time, so many of them, and then fails.
+#[derive(Drop)]
+struct Narrow {
+    taken: Vec<u8>,
+    room: usize,
+}
+
+impl Write for Narrow {
+    fn write(&mut self, buf: &[u8]) -> io::Result<usize> {
+        let Some(first) = buf.first() else {
+            return Ok(0);
+        };
+        if self.taken.len() >= self.room {
+            return Err(io::Error::from(ErrorKind::Other));
+        }
+        self.taken.push(*first)?;
+        Ok(1)
+    }
+
+    fn flush(&mut self) -> io::Result<()> {
+        Ok(())
+    }
+}
+
+fn narrow_to(alloc: Global, room: usize) -> Narrow {
+    Narrow {
+        taken: Vec::new(alloc),
+        room,
+    }
+}
+
+/// The status of a task on `SEVEN`, and what was written, where the output takes so many bytes.
+fn narrowed(alloc: Global, task: &Task, room: usize) -> (u8, Vec<u8>, Vec<u8>) {
+    let (mut out, mut err) = (narrow_to(alloc, room), Vec::new(alloc));
+    let status = execute(alloc, task, &SEVEN, &mut out, &mut err);
+    (status, out.taken, err)
+}
+
+/// Whether a task that prints a text fails wherever its output does, and tells that.
+fn fails(alloc: Global, task: &Task, text: &str) -> bool {
+    for room in 0..text.len() {
+        let (status, taken, told) = narrowed(alloc, task, room);
+        let begun = text.as_bytes().starts_with(&taken) && taken.len() == room;
+        if status != 4 || !begun || told.as_slice() != "x10p: file\n".as_bytes() {
+            return false;
+        }
+    }
+    true
+}
+
+#[test]
+fn each_write_fails(rt: HostRuntime) -> Result<(), Fail> {
+    let rows = [
+        ("run", "0: 7\n"),
+        ("bounds", "0 3\n"),
+        ("verify", "verified 1 functions, entry bound 3\n"),
+    ];
+    for (verb, text) in rows {
+        let words = words_of(rt.alloc(), &[verb, "F"])?;
+        let task = parse(rt.alloc(), &words).ok().ok_or("it is a task")?;
+        assert!(rt; fails(rt.alloc(), &task, text), "{verb}");
+    }
+    Ok(())
+}
+
+#[test]
+fn a_fault_that_cannot_be_told(rt: HostRuntime) -> Result<(), Fail> {
+    let alloc = rt.alloc();
+    let words = words_of(alloc, &["run", "F"])?;
+    let task = parse(alloc, &words).ok().ok_or("it is a task")?;
+    let (mut out, mut err) = (narrow_to(alloc, 0), narrow_to(alloc, 3));
+    assert!(rt; execute(alloc, &task, &[], &mut out, &mut err) == 4);
+    assert!(rt; err.taken.as_slice() == "x10".as_bytes());
+    Ok(())
+}
