@@ -4,6 +4,8 @@
 #[cfg(test)]
 mod assembling;
 #[cfg(test)]
+mod bounding;
+#[cfg(test)]
 mod codes;
 #[cfg(test)]
 mod copies;
