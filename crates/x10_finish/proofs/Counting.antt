@@ -4,8 +4,9 @@ use Rattle.std.proofs.lemmas.Bool.{eqb-true, ne_eqb, eq-eqb, cases_eq}
 use Rattle.std.proofs.lemmas.Option.{same_Some}
 use Rattle.x10_model.specs.Maps.{with_entry, with_pair}
 use Rattle.x10_model.specs.Totals.{Totals, Entry, Cut, zeros, entry_of, larger, sends_to, begins_one, ends_one, receives_from, is_last}
+use Rattle.x10_model.proofs.Lists.{none_some}
 use Rattle.x10_finish.specs.Detection.{Told, Counting, Event, PutsOut, Begins, Ends, Arrives, TakesIn, start, told_of, taken, after, IsAtWork, IsAble, AreAble, after_all, IsEarlierOf, in_flight, is_kept, is_nothing, IsBelow, IsCutOf, entry_or, entry_in, IsStill, AreStill, Lacks, IsToldNow, IsCounted}
-pub use Rattle.x10_finish.proofs.Entries.{entry_same, entry_other, at_entry, at_pair, none_some, below_itself, below_same, larger_second, larger_first}
+pub use Rattle.x10_finish.proofs.Entries.{entry_same, entry_other, at_entry, at_pair, below_itself, below_same, larger_second, larger_first}
 
 -- ---- a place that sends more
 
@@ -24,7 +25,7 @@ still_apart home s cut place p e now (inl lives) still there same =
     let quiet = (still p e there).live in
     let here : (s.totals p).live ≡ (s.totals place).live = ap (λ x. (s.totals x).live) same in
     omega arith
-still_apart home s cut place p e now (inr owner) still there same = none_some (cut home) e now (subst (λ x. cut x ≡ Some e) (same ∙ owner) there)
+still_apart home s cut place p e now (inr owner) still there same = absurd (none_some (cut home) e now (subst (λ x. cut x ≡ Some e) (same ∙ owner) there))
 
 -- totals of a place at work change, and no report
 still_on : (home : ℕ) (s : Counting) (cut : ℕ → Option Entry) (place : ℕ) (t : Totals) → cut home ≡ None → IsAtWork home s place → AreStill s.totals cut → AreStill (with_entry s.totals place t) cut
@@ -151,7 +152,7 @@ lacks_now places totals after cut p q e lp lq there still less same =
 at_receiver : (places : ℕ) (totals : ℕ → Totals) (t : Totals) (cut : ℕ → Option Entry) (p q : ℕ) → p < places → q < places → AreStill totals cut → (totals q).received p < (totals p).sent q → ((a b : ℕ) → (with_entry totals q t a).sent b ≡ (totals a).sent b)
     → (o : Option Entry) → cut q ≡ o → AreStill (with_entry totals q t) cut ⊎ Lacks places (with_entry totals q t) cut
 at_receiver places totals t cut p q lp lq still less same None e =
-    inl (λ r f there. at_entry (IsStill f) totals q r t (λ at. none_some (cut q) f e (subst (λ x. cut x ≡ Some f) at there)) (λ apart. still r f there))
+    inl (λ r f there. at_entry (IsStill f) totals q r t (λ at. absurd (none_some (cut q) f e (subst (λ x. cut x ≡ Some f) at there))) (λ apart. still r f there))
 at_receiver places totals t cut p q lp lq still less same (Some f) e = inr (lacks_now places totals (with_entry totals q t) cut p q f lp lq e still less (sym (same p q)))
 
 arrives : (places home : ℕ) (s : Counting) (p q : ℕ) → IsCounted places home s → p < places → q < places → 0 < s.flying p q → IsCounted places home (after home s (Arrives p q))
@@ -298,7 +299,7 @@ ended_cuts : (places home : ℕ) (s : Counting) (p n : ℕ) → IsCounted places
     → AreStill (with_entry s.totals p (ends_one (s.totals p))) cut ⊎ Lacks places (with_entry s.totals p (ends_one (s.totals p))) cut
 ended_cuts places home s p n i lives none cut is None at =
     let t = ends_one (s.totals p) in
-    elim (i.cuts cut (cut_before home s.told s.kept n p (s.totals p) cut is (λ e h. none_some (cut p) e at h))) [
+    elim (i.cuts cut (cut_before home s.told s.kept n p (s.totals p) cut is (λ e h. absurd (none_some (cut p) e at h)))) [
       | inl still ↦ inl (still_on home s cut p t is.now (inl lives) still)
       | inr l ↦ inr (lacks_on places s.totals (with_entry s.totals p t) cut (more_on s.totals p t (λ q. omega arith)) l)
     ]
@@ -318,7 +319,7 @@ ended_cuts places home s p n i lives none cut is (Some e) at =
 told_on : (told : ℕ → Option Told) (kept : Cut) (n : ℕ) (u : Told) (r : ℕ) (t : Totals) → told n ≡ None → HasTold told kept r t → HasTold (with_entry told n (Some u)) kept r t
 told_on told kept n u r t unused (inl same) = inl same
 told_on told kept n u r t unused (inr (m, v, h, at, now)) =
-    inr (m, v, at_entry (λ o. o ≡ Some v) told n m (Some u) (λ same. none_some (told n) v unused (subst (λ x. told x ≡ Some v) same h)) (λ apart. h), at, now)
+    inr (m, v, at_entry (λ o. o ≡ Some v) told n m (Some u) (λ same. absurd (none_some (told n) v unused (subst (λ x. told x ≡ Some v) same h))) (λ apart. h), at, now)
 
 ended_last : (places home : ℕ) (s : Counting) (p n : ℕ) → IsCounted places home s → 0 < (s.totals p).live → (s.totals p).live - 1 ≡ 0 → s.told n ≡ None
     → IsCounted places home (record s { totals = with_entry s.totals p (ends_one (s.totals p)); told = with_entry s.told n (Some (told_of p (s.totals p))) })

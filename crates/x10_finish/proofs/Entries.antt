@@ -30,9 +30,6 @@ at_pair P f i j a b v here there = elim (cases_eq a i) [
   | inr na ↦ (let p = ne_eqb a i na in rw p (there (λ both. na both.0)))
 ]
 
-pub none_some : {V : Type 0} {A : Type 0} (o : Option V) (v : V) → o ≡ None → o ≡ Some v → A
-none_some o v e f = absurd (let x = sym e ∙ f in cc)
-
 -- ---- entries
 
 pub below_itself : (e : Entry) → IsBelow e e

@@ -51,13 +51,10 @@ next_outside : (stays : Stays) (posts : ℕ → Post) (p k i : ℕ) (s : Stay) (
 next_outside stays posts p k i s [] there e = inl (by_stay p k s there refl)
 next_outside stays posts p k i s (n ∷ ns) there e = inr (k, i, s, there, nth_outside s.finishes i n ns e)
 
-one_finish : {f g : Finish} → Some f ≡ Some g → f ≡ g
-one_finish e = cc
-
 pub enclosed_inside : (stays : Stays) (opened : ℕ → ℕ) (enclosing : Finish → Option Finish) (posts : ℕ → Post) → IsNested stays opened enclosing posts → (f g : Finish) (k i : ℕ) (s : Stay) → stays f.home k ≡ Some s → nth s.finishes i ≡ Some f.number
     → enclosing f ≡ Some g → IsInside stays posts g
 enclosed_inside stays opened enclosing posts n f g k i s there at e =
-    subst (IsInside stays posts) (one_finish (sym (n.enclosed f.home k i f.number s there at) ∙ e)) (next_outside stays posts f.home k i s (outside s.finishes i) there refl)
+    subst (IsInside stays posts) (same_Some _ _ (sym (n.enclosed f.home k i f.number s there at) ∙ e)) (next_outside stays posts f.home k i s (outside s.finishes i) there refl)
 
 pub used_held : (stays : Stays) (opened : ℕ → ℕ) (enclosing : Finish → Option Finish) (posts : ℕ → Post) → IsNested stays opened enclosing posts → (f : Finish) → IsUsed stays posts f → IsHeld stays f
 used_held stays opened enclosing posts n f (by_stay p k s there same) = subst (IsHeld stays) same (n.inherited p k s there)

@@ -1,14 +1,16 @@
 -- Books of a place: after each move there is one for each finish that a stay has open.
 use Rattle.std.proofs.Common.{◌≡◌, ◌⊎◌, ℕ, zero, suc, ◌+◌, ◌<◌, ◌≤◌, [], ◌∷◌, Option, Some, None, refl, sym, ap, subst, ◌∙◌, inl, inr, arith}
+use Rattle.std.proofs.lemmas.Option.{same_Some}
 use Rattle.x10_model.specs.Maps.{with_entry}
 use Rattle.x10_model.specs.Places as machine
 use Rattle.x10_model.specs.Places.{Stay, Effect, Waits, Works, Begins, Spawns, Shifts, Opens, Closes, Ends}
 use Rattle.x10_model.specs.Totals.{Cut, zeros}
+use Rattle.x10_model.proofs.Lists.{none_some}
 use Rattle.x10_finish.specs.Nesting.{nth}
 use Rattle.x10_finish.specs.Stays.{MovesStay}
 use Rattle.x10_place.specs.Stays.{StoreState, books_in, HasBook}
 use Rattle.x10_place.specs.StandsFor.{first_number, AreBooked}
-use Rattle.x10_place.proofs.Maps.{some_is, none_some, at_key, off_key, same_or_not}
+use Rattle.x10_place.proofs.Maps.{at_key, off_key, same_or_not}
 use Rattle.x10_place.proofs.Recounting.{KeepsBooks}
 
 -- books and numbers as functions; other functions with the same values do as well
@@ -66,7 +68,7 @@ module _ (id opened : ℕ) (stays : ℕ → Option Stay) (books : ℕ → Option
       where
         was : (k i n : ℕ) (u : Stay) → with_entry stays key (Some t) k ≡ Some u → nth u.finishes i ≡ Some n → (w : Stay) × (stays k ≡ Some w) × (nth w.finishes i ≡ Some n)
         was k i n u is f = elim (found stays key k (Some t) u is) [
-          | inl c ↦ (s, ap stays c.0 ∙ there, subst (λ ns. nth ns i ≡ Some n) (ap (λ (z : Stay). z.finishes) (sym (some_is t u c.1)) ∙ e) f)
+          | inl c ↦ (s, ap stays c.0 ∙ there, subst (λ ns. nth ns i ≡ Some n) (ap (λ (z : Stay). z.finishes) (sym (same_Some t u c.1)) ∙ e) f)
           | inr c ↦ (u, c.1, f)
         ]
 
@@ -101,12 +103,12 @@ module _ (id opened : ℕ) (stays : ℕ → Option Stay) (books : ℕ → Option
         Origin k i n u = ((k ≡ key) × ((i ≡ 0) × (n ≡ number))) ⊎ ((j : ℕ) × (w : Stay) × (stays k ≡ Some w) × (nth w.finishes j ≡ Some n) × (((k ≡ key) × (i ≡ suc j)) ⊎ ((k ≡ key → ⊥) × (i ≡ j))))
 
         on_top : (k i n : ℕ) (u : Stay) → k ≡ key → nth (number ∷ s.finishes) i ≡ Some n → Origin k i n u
-        on_top k zero n u at f = inl (at, (refl, sym (some_is number n f)))
+        on_top k zero n u at f = inl (at, (refl, sym (same_Some number n f)))
         on_top k (suc i) n u at f = inr (i, s, ap stays at ∙ there, f, inl (at, refl))
 
         origin : (k i n : ℕ) (u : Stay) → with_entry stays key (Some t) k ≡ Some u → nth u.finishes i ≡ Some n → Origin k i n u
         origin k i n u is f = elim (found stays key k (Some t) u is) [
-          | inl c ↦ on_top k i n u c.0 (subst (λ ns. nth ns i ≡ Some n) (ap (λ (z : Stay). z.finishes) (sym (some_is t u c.1)) ∙ e) f)
+          | inl c ↦ on_top k i n u c.0 (subst (λ ns. nth ns i ≡ Some n) (ap (λ (z : Stay). z.finishes) (sym (same_Some t u c.1)) ∙ e) f)
           | inr c ↦ inr (i, u, c.1, f, inr (c.0, refl))
         ]
 
@@ -141,7 +143,7 @@ module _ (id opened : ℕ) (stays : ℕ → Option Stay) (books : ℕ → Option
 
         origin : (k i n : ℕ) (u : Stay) → with_entry stays key (Some t) k ≡ Some u → nth u.finishes i ≡ Some n → Origin k i n u
         origin k i n u is f = elim (found stays key k (Some t) u is) [
-          | inl c ↦ (suc i, s, ap stays c.0 ∙ there, subst (λ ns. nth ns (suc i) ≡ Some n) (sym e) (subst (λ ns. nth ns i ≡ Some n) (ap (λ (z : Stay). z.finishes) (sym (some_is t u c.1))) f), inl (c.0, refl))
+          | inl c ↦ (suc i, s, ap stays c.0 ∙ there, subst (λ ns. nth ns (suc i) ≡ Some n) (sym e) (subst (λ ns. nth ns i ≡ Some n) (ap (λ (z : Stay). z.finishes) (sym (same_Some t u c.1))) f), inl (c.0, refl))
           | inr c ↦ (i, u, c.1, f, inr (c.0, refl))
         ]
 
@@ -179,7 +181,7 @@ moved_booked here key old new Works s t h m k =
 moved_booked here key old new (Begins other function under) s t h m k =
     let first = same here s.opened old.stays (books_in s) h key m.stay m.changes.0 m.is_there m.changes.2.finishes_are in
     booked_as here s.opened t.opened (with_entry (with_entry old.stays key (Some m.changes.0)) other (Some m.changes.1)) new.stays (books_in s) (books_in t)
-    (without here s.opened (with_entry old.stays key (Some m.changes.0)) (books_in s) first other (Some m.changes.1) (λ u e. ap (λ (z : Stay). z.finishes) (sym (some_is m.changes.1 u e)) ∙ m.changes.3.finishes)) m.changes.6 k.0 k.1
+    (without here s.opened (with_entry old.stays key (Some m.changes.0)) (books_in s) first other (Some m.changes.1) (λ u e. ap (λ (z : Stay). z.finishes) (sym (same_Some m.changes.1 u e)) ∙ m.changes.3.finishes)) m.changes.6 k.0 k.1
 moved_booked here key old new (Spawns message function under) s t h m k =
     booked_as here s.opened t.opened (with_entry old.stays key (Some m.changes.0)) new.stays (books_in s) (books_in t) (same here s.opened old.stays (books_in s) h key m.stay m.changes.0 m.is_there m.changes.3.finishes_are) m.changes.6.stays k.0 k.1
 moved_booked here key old new (Shifts message under) s t h m k =

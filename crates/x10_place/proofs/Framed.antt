@@ -1,6 +1,7 @@
 -- A frame that stands for a call frame: the verifier's rule at its instruction, and frames after it.
 use Rattle.std.proofs.Common.{◌≡◌, ℕ, ◌<◌, ◌≤◌, List, length, get_or, set, Some, sym, ap, subst, ◌∙◌, inl, inr, arith, get_or-set_same, get_or-set_other}
 use Rattle.std.specs.Prelude.{slice_get, slice_index, slice_set}
+use Rattle.std.proofs.lemmas.Option.{same_Some}
 use Rattle.x10_code.specs.declared.instr.Instr.{Instr}
 use Rattle.x10_model.specs.Maps.{with_entry, IsIn}
 use Rattle.x10_model.specs.Modules.{Module, Function}
@@ -13,7 +14,7 @@ use Rattle.x10_heap.specs.Words.{Context}
 use Rattle.x10_place.specs.Homes.{AreHomes}
 use Rattle.x10_place.specs.Frames.{Becomes, space_of, HasSizes, IsFetchedFor}
 use Rattle.x10_place.specs.StandsFor.{Assigned, HoldRegisters, StandsForFrame}
-use Rattle.x10_place.proofs.Maps.{some_is, at_key, off_key, same_or_not}
+use Rattle.x10_place.proofs.Maps.{at_key, off_key, same_or_not}
 use Rattle.x10_place.proofs.Words.{words_weaken}
 use Rattle.x10_place.proofs.Homes.{homes_weaken}
 
@@ -48,7 +49,7 @@ slots_written cl l a n lt eight same slot less = elim (same_or_not slot a) [
 
 module _ (program : Module) (assigned : Assigned program) (x : Context) (f : CallFrame) (c : machine.CallFrame) (h : StandsForFrame program assigned x f c) (i : Instr) (fetched : IsFetchedFor program f i) where
   same_function : fetched.function ≡ h.function
-  same_function = some_is fetched.function h.function (sym fetched.is_function ∙ h.is_function)
+  same_function = same_Some fetched.function h.function (sym fetched.is_function ∙ h.is_function)
 
   pub is_instr : slice_get h.function.code f.pc ≡ Some i
   is_instr = subst (λ (g : Function). slice_get g.code f.pc ≡ Some i) same_function fetched.is_instr
@@ -66,7 +67,7 @@ module _ (program : Module) (assigned : Assigned program) (x : Context) (f : Cal
   pub rule : (out : Edges) × Permits i.op (point_of program h.function f i) h.state out × ((edge : ℕ × State) → IsIn edge out → Reaches (assigned f.function h.function h.is_function).0 edge)
   rule =
       let p = (assigned f.function h.function h.is_function).1.consistent.permitted f.pc h.state h.is_state in
-      let same : p.0 ≡ i = some_is p.0 i (sym p.2 ∙ is_instr) in
+      let same : p.0 ≡ i = same_Some p.0 i (sym p.2 ∙ is_instr) in
       (p.1, subst (λ (j : Instr). Permits j.op (point_of program h.function f j) h.state p.1) same p.3, p.4)
 
   -- a frame at an instruction that follows

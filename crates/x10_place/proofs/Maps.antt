@@ -3,12 +3,6 @@ use Rattle.std.proofs.Common.{◌≡◌, ◌⊎◌, ℕ, Bool, true, false, ◌=
 use Rattle.std.proofs.lemmas.Bool.{eqb-true, eq-eqb}
 use Rattle.x10_model.specs.Maps.{with_entry}
 
-pub some_is : {X : Type 0} (x y : X) → Some x ≡ Some y → x ≡ y
-some_is x y e = cc
-
-pub none_some : {X : Type 0} (o : Option X) (x : X) → o ≡ None → o ≡ Some x → ⊥
-none_some o x e f = cc
-
 entry_off : {V : Type 0} (map : ℕ → V) (key : ℕ) (value : V) (other : ℕ) (b : Bool) → (other == key) ≡ b → ((b ≡ true) × (other ≡ key) × (with_entry map key value other ≡ value)) ⊎ ((other ≡ key → ⊥) × (with_entry map key value other ≡ map other))
 entry_off map key value other true e = inl (refl, eqb-true other key e, rw e refl)
 entry_off map key value other false e = inr ((λ same. absurd (let f = eq-eqb other key same in cc)), rw e refl)

@@ -10,6 +10,7 @@ use Rattle.x10_model.specs.Places as machine
 use Rattle.x10_model.specs.Places.{Setting, Finish, Stay, innermost, innermost_of, Effect, Waits, Begins, with_stay, next}
 use Rattle.x10_model.specs.Moves.{Does, Moves}
 use Rattle.x10_model.specs.Assignments.{Permits}
+use Rattle.x10_model.proofs.Lists.{none_some}
 use Rattle.x10_finish.proofs.Stays.{stays_change}
 use Rattle.x10_finish.proofs.Tallied.{moved_tallied}
 use Rattle.x10_heap.specs.Words.{Context, HoldsHeap}
@@ -24,7 +25,7 @@ use Rattle.x10_place.specs.Stays.{StayState, StoreState, totals_in, innermost_at
 use Rattle.x10_place.specs.StandsFor.{Far, context, context_of, PlaceState, store_of, with_stays, line_as, Assigned, StandsForStay, StandForCallers, IsOfRun, HoldsExports, StandsFor, setting_of, location_of, IsCountedBy, Leads, LeadsAll}
 use Rattle.x10_place.specs.Messages.{no_sent}
 use Rattle.x10_place.specs.Stretches.{BeginsAt}
-use Rattle.x10_place.proofs.Maps.{none_some, at_key, off_key, same_or_not}
+use Rattle.x10_place.proofs.Maps.{at_key, off_key, same_or_not}
 use Rattle.x10_place.proofs.Framed.{point_of, is_instr, in_range, rule}
 use Rattle.x10_place.proofs.Growing.{stay_kept}
 use Rattle.x10_place.proofs.Local.{situated}

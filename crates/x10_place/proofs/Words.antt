@@ -2,6 +2,7 @@
 use Rattle.std.proofs.Common.{◌≡◌, ℕ, ◌*◌, ◌<◌, List, length, get_or, set, Option, Some, refl, sym, ap, subst, ◌∙◌, inl, inr, get_or-set_same, get_or-set_other}
 use Rattle.std.specs.Prelude.{slice_index, slice_set}
 use Rattle.std.specs.Int.{w64, cast_signed}
+use Rattle.std.proofs.lemmas.Option.{same_Some}
 use Rattle.x10_kinds.specs.declared.kind.Kind.{Kind}
 use Rattle.x10_kinds.specs.declared.kind.Kind.TheVariants as kind
 use Rattle.x10_kinds.specs.declared.homes.Term.{Term}
@@ -11,7 +12,7 @@ use Rattle.x10_model.specs.Values.{Value, Int, Fields, Cells, IsObjectOf, IsOfKi
 use Rattle.x10_model.specs.Assignments.{State, IsKind, IsBelow, set as set_kind}
 use Rattle.x10_heap.specs.Words.{Context, IsObjectWord, IsWordOf, HoldsObject, rail_cell, HoldsHeap}
 use Rattle.x10_place.specs.StandsFor.{HoldRegisters}
-use Rattle.x10_place.proofs.Maps.{some_is, at_key, off_key, same_or_not}
+use Rattle.x10_place.proofs.Maps.{at_key, off_key, same_or_not}
 
 -- ---- kinds
 
@@ -82,7 +83,7 @@ pub words_written : (x : Context) (s : State) (registers : ℕ → Option Value)
     → HoldRegisters x (set_kind s a k like) (with_entry registers a (Some v)) (slice_set words a word)
 words_written x s registers words a k like v word lt typed word-is r kind e = elim (same_or_not r a) [
   | inl at ↦
-      (let k-is : k ≡ kind = some_is k kind (sym (at_key s.kinds a (Some k)) ∙ subst (λ q. with_entry s.kinds a (Some k) q ≡ Some kind) at e) in
+      (let k-is : k ≡ kind = same_Some k kind (sym (at_key s.kinds a (Some k)) ∙ subst (λ q. with_entry s.kinds a (Some k) q ≡ Some kind) at e) in
       let held : with_entry registers a (Some v) r ≡ Some v = subst (λ q. with_entry registers a (Some v) q ≡ Some v) (sym at) (at_key registers a (Some v)) in
       let got : get_or (set words a word) r 0 ≡ word = subst (λ q. get_or (set words a word) q 0 ≡ word) (sym at) (get_or-set_same words a word 0 lt) in
       (v, held, subst (λ w. IsWordOf x kind w v) (sym got) (subst (λ w. IsWordOf x w word v) k-is word-is)))

@@ -2,6 +2,7 @@
 use Rattle.std.proofs.Common.{◌≡◌, ◌≢◌, ◌⊎◌, ℕ, true, false, if◌then◌else◌, List, length, Option, Some, None, Ok, refl, sym, ap, subst, ◌∙◌, inl, inr, arith}
 use Rattle.std.specs.Prelude.{IsTrue, slice_get, slice_set}
 use Rattle.std.proofs.lemmas.Bool.{cases_Bool}
+use Rattle.std.proofs.lemmas.Option.{same_Some}
 use Rattle.x10_model.specs.declared.event.Event.TheVariants.{Deliver}
 use Rattle.x10_model.specs.Maps.{with_entry}
 use Rattle.x10_model.specs.Modules.{Module}
@@ -15,6 +16,7 @@ use Rattle.x10_model.specs.Deliveries.{Receives}
 use Rattle.x10_model.specs.Totals.{Cut, Report, Took, totals_after, merged, reported}
 use Rattle.x10_model.specs.Worlds.{World, Flying, Taken, same_finish, book_with, Ideal, Happens, delivers, idle, not_flying, Delivers}
 use Rattle.x10_model.specs.Wrong as wrong
+use Rattle.x10_model.proofs.Lists.{none_some, set_off}
 use Rattle.x10_copy.specs.References.{AreNamedElsewhere}
 use Rattle.x10_finish.specs.Detection.{Told, taken}
 use Rattle.x10_finish.specs.Nesting.{stays_in, stays_of, IsHeld}
@@ -35,16 +37,16 @@ use Rattle.x10_world.proofs.Exporting.{delivery_exports}
 use Rattle.x10_world.proofs.Flying.{far_after, references_on, flies_fewer}
 use Rattle.x10_place.proofs.Knowing.{IsKnown, far_grows}
 use Rattle.x10_world.proofs.LinkingDeliveries.{answered_after_delivery}
-use Rattle.x10_world.proofs.Lists.{none_some, some_is, same_or_not, below, set_here, set_off, set_length, set_either}
+use Rattle.x10_world.proofs.Lists.{same_or_not, below, set_here, set_length, set_either}
 use Rattle.x10_world.proofs.Posting.{same_self, not_due, due_at}
 
 -- ---- what a frame brings
 
 -- the frame of a message brings that message
 takes_message : (p q : PlaceState) (f : Frame) (message : Message) → message_of f ≡ Some message → TakesFrame p f q → TakesMessage p message q
-takes_message p q (frames.Spawn from to home number function graph) message e t = subst (λ m. TakesMessage p m q) (some_is t.0 message (sym t.1 ∙ e)) t.2
-takes_message p q (frames.Shift from to waiting home number function graph) message e t = subst (λ m. TakesMessage p m q) (some_is t.0 message (sym t.1 ∙ e)) t.2
-takes_message p q (frames.Back from to waiting graph) message e t = subst (λ m. TakesMessage p m q) (some_is t.0 message (sym t.1 ∙ e)) t.2
+takes_message p q (frames.Spawn from to home number function graph) message e t = subst (λ m. TakesMessage p m q) (same_Some t.0 message (sym t.1 ∙ e)) t.2
+takes_message p q (frames.Shift from to waiting home number function graph) message e t = subst (λ m. TakesMessage p m q) (same_Some t.0 message (sym t.1 ∙ e)) t.2
+takes_message p q (frames.Back from to waiting graph) message e t = subst (λ m. TakesMessage p m q) (same_Some t.0 message (sym t.1 ∙ e)) t.2
 takes_message p q (frames.Report from to number sent received) message e t = absurd cc
 
 -- ---- a finish that is held has a book at its home

@@ -1,6 +1,7 @@
 -- Frames in flight, as some are posted and taken: they are still the messages that fly, and reports.
 use Rattle.std.proofs.Common.{◌≡◌, ◌≢◌, ◌⊎◌, ℕ, ◌≤◌, List, [], ◌∷◌, ◌++◌, Option, Some, None, refl, sym, ap, subst, ◌∙◌, inl, inr, arith}
 use Rattle.std.specs.Prelude.{IsTrue, slice_get}
+use Rattle.std.proofs.lemmas.Option.{same_Some}
 use Rattle.x10_model.specs.Maps.{with_entry}
 use Rattle.x10_model.specs.Modules.{Module}
 use Rattle.x10_model.specs.Values.{Value, Int, Place, Text, Rail, Object, Null, Ref}
@@ -9,12 +10,13 @@ use Rattle.x10_model.specs.Places as machine
 use Rattle.x10_model.specs.Places.{Finish, Message, receiver}
 use Rattle.x10_model.specs.Worlds.{World, Unused, Flying}
 use Rattle.x10_model.specs.Wrong.{graph_of}
+use Rattle.x10_model.proofs.Lists.{none_some}
 use Rattle.x10_copy.specs.References.{OfReference, OfReferences}
 use Rattle.x10_finish.specs.Detection.{Told}
 use Rattle.x10_finish.proofs.Counting.{entry_same, entry_other}
 use Rattle.x10_world.specs.Flights.{Flight, FlightsState, flight_among, flight_of, posted_to, taken_from, without}
 use Rattle.x10_world.specs.StandsForWorld.{is_export, exported_at, far_in, FliesAsMessage, FliesAsReport, Flies}
-use Rattle.x10_world.proofs.Lists.{none_some, some_is, same_or_not}
+use Rattle.x10_world.proofs.Lists.{same_or_not}
 use Rattle.x10_world.proofs.FlightsRising.{rising_push, rising_filter}
 use Rattle.x10_world.proofs.FlightsLookups.{among_push, among_new, among_none, among_without, among_others}
 use Rattle.x10_world.proofs.Exporting.{AreExported, exports_same}
@@ -39,7 +41,7 @@ far_after w v here old new there changed exported home id class h =
   where
     at : (m : machine.Place) → w.net.places home ≡ Some m → (home ≡ here) ⊎ (home ≢ here) → (n : machine.Place) × (v.net.places home ≡ Some n) × AreExported m n
     at m e (inl same) =
-        let m-is : m ≡ old = some_is m old (sym e ∙ ap w.net.places same ∙ there) in
+        let m-is : m ≡ old = same_Some m old (sym e ∙ ap w.net.places same ∙ there) in
         (new, ap v.net.places same ∙ ap (λ f. f here) changed ∙ entry_same w.net.places here (Some new), subst (λ k. AreExported k new) (sym m-is) exported)
     at m e (inr ne) = (m, ap (λ f. f home) changed ∙ entry_other w.net.places here home (Some new) ne ∙ e, exports_same m m refl)
 
@@ -122,7 +124,7 @@ module _ (program : Module) (places : ℕ) (w v : World) (old new : Finish → �
 
       each : (n : ℕ) (flight : Flight) → flight_of (posted_to flights to bytes) n ≡ Some flight → (n ≡ flights.posted) ⊎ (n ≢ flights.posted) → FliesAsMessage program places v new n flight ⊎ FliesAsReport places v new n flight
       each n flight e (inl at) =
-          let is : one ≡ flight = some_is one flight (sym found ∙ ap (flight_among (flights.flying ++ one ∷ [])) (sym at) ∙ e) in
+          let is : one ≡ flight = same_Some one flight (sym found ∙ ap (flight_among (flights.flying ++ one ∷ [])) (sym at) ∙ e) in
           subst (λ k. FliesAsMessage program places v new k flight ⊎ FliesAsReport places v new k flight) (sym at)
           (subst (λ x. FliesAsMessage program places v new flights.posted x ⊎ FliesAsReport places v new flights.posted x) is new-one)
       each n flight e (inr ne) = either_on n flight (same n ne) (told n ne) (h.each n flight (sym (among_push flights.flying one n (λ x. ne (sym x))) ∙ e))

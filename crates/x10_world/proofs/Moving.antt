@@ -8,6 +8,7 @@ use Rattle.x10_model.specs.Places.{Setting, Finish, Effect, Waits, Works, Begins
 use Rattle.x10_model.specs.Moves.{Moves}
 use Rattle.x10_model.specs.Totals.{IsDoneAt, Did, totals_after, is_reported, reported}
 use Rattle.x10_model.specs.Worlds.{World, Allows, Quiet, Ideal, Steps, sent}
+use Rattle.x10_model.proofs.Lists.{none_some, set_off}
 use Rattle.x10_heap.specs.Words.{export_as}
 use Rattle.x10_finish.specs.Detection.{Told, told_of}
 use Rattle.x10_finish.specs.Ledgers.{totals_of}
@@ -37,7 +38,7 @@ use Rattle.x10_world.proofs.FlightsLookups.{among_none}
 use Rattle.x10_world.proofs.Flying.{far_after}
 use Rattle.x10_place.proofs.Knowing.{IsKnown, far_grows}
 use Rattle.x10_world.proofs.LinkingMoves.{answered_after_move}
-use Rattle.x10_world.proofs.Lists.{none_some, same_or_not, below, set_here, set_off, set_length, set_either}
+use Rattle.x10_world.proofs.Lists.{same_or_not, below, set_here, set_length, set_either}
 use Rattle.x10_world.proofs.Posting.{named_in, goes_to, message_posted, retold, none_reported, one_reported}
 
 -- ---- what a home may conclude

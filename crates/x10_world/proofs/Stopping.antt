@@ -6,13 +6,14 @@ use Rattle.x10_model.specs.Modules.{Module}
 use Rattle.x10_model.specs.Places as machine
 use Rattle.x10_model.specs.Places.{Finish}
 use Rattle.x10_model.specs.Worlds.{World}
+use Rattle.x10_model.proofs.Lists.{none_some, set_off}
 use Rattle.x10_finish.specs.Detection.{Told}
 use Rattle.x10_finish.specs.Watching.{IsWatched}
 use Rattle.x10_place.specs.StandsFor.{PlaceState, Far, StandsFor}
 use Rattle.x10_world.specs.Flights.{FlightsState, with_room}
 use Rattle.x10_world.specs.Links.{AreAnswered}
 use Rattle.x10_world.specs.StandsForWorld.{totals_at, kept_at, counts_in, far_in, Flies, AllStandFor}
-use Rattle.x10_world.proofs.Lists.{none_some, same_or_not, set_here, set_off, set_length, set_either}
+use Rattle.x10_world.proofs.Lists.{same_or_not, set_here, set_length, set_either}
 
 stopped_stands : (far : Far) (p : PlaceState) (m : machine.Place) (b : Bool) → StandsFor far p m → StandsFor far (record p { stopped = b }) m
 stopped_stands far p m b s = record { assigned = s.assigned; none = s.none; keys = s.keys; some = s.some; site = s.site; heap = s.heap; exports = s.exports; opened = s.opened; lines = s.lines; tallied = s.tallied; booked = s.booked }
