@@ -5,8 +5,9 @@ use Rattle.std.proofs.lemmas.Option.{same_Some}
 use Rattle.x10_model.specs.Maps.{with_entry, with_pair}
 use Rattle.x10_model.specs.Totals.{Totals, Entry, Cut, zeros, entry_of, larger, sends_to, begins_one, ends_one, receives_from, is_last}
 use Rattle.x10_model.proofs.Lists.{none_some}
+use Rattle.x10_model.proofs.Maps.{at_key, off_key}
 use Rattle.x10_finish.specs.Detection.{Told, Counting, Event, PutsOut, Begins, Ends, Arrives, TakesIn, start, told_of, taken, after, IsAtWork, IsAble, AreAble, after_all, IsEarlierOf, in_flight, is_kept, is_nothing, IsBelow, IsCutOf, entry_or, entry_in, IsStill, AreStill, Lacks, IsToldNow, IsCounted}
-pub use Rattle.x10_finish.proofs.Entries.{entry_same, entry_other, at_entry, at_pair, below_itself, below_same, larger_second, larger_first}
+pub use Rattle.x10_finish.proofs.Entries.{at_entry, at_pair, below_itself, below_same, larger_second, larger_first}
 
 -- ---- a place that sends more
 
@@ -82,7 +83,7 @@ one_more f k j = at_entry (λ v. f j ≤ v) f k j (f k + 1) (λ same. (let e = a
 sent_after : (totals : ℕ → Totals) (p q a b : ℕ) → ((a ≡ p) × (b ≡ q) → ⊥) → (with_entry totals p (sends_to (totals p) q) a).sent b ≡ (totals a).sent b
 sent_after totals p q a b apart =
     at_entry (λ u. u.sent b ≡ (totals a).sent b) totals p a (sends_to (totals p) q)
-    (λ same. entry_other (totals p).sent q b ((totals p).sent q + 1) (λ s. apart (same, s)) ∙ ap (λ x. (totals x).sent b) (sym same)) (λ other. refl)
+    (λ same. off_key (totals p).sent q b ((totals p).sent q + 1) (λ s. apart (same, s)) ∙ ap (λ x. (totals x).sent b) (sym same)) (λ other. refl)
 
 sent_here : (totals : ℕ → Totals) (p q a b : ℕ) → a ≡ p → b ≡ q → (with_entry totals p (sends_to (totals p) q) a).sent b ≡ (totals a).sent b + 1
 sent_here totals p q a b ea eb =
@@ -129,7 +130,7 @@ arrived_sent totals p q a b = at_entry (λ u. u.sent b ≡ (totals a).sent b) to
 arrived_apart : (totals : ℕ → Totals) (p q a b : ℕ) → ((a ≡ p) × (b ≡ q) → ⊥) → (with_entry totals q (receives_from (totals q) p) b).received a ≡ (totals b).received a
 arrived_apart totals p q a b apart =
     at_entry (λ u. u.received a ≡ (totals b).received a) totals q b (receives_from (totals q) p)
-    (λ same. entry_other (totals q).received p a ((totals q).received p + 1) (λ s. apart (s, same)) ∙ ap (λ x. (totals x).received a) (sym same)) (λ other. refl)
+    (λ same. off_key (totals q).received p a ((totals q).received p + 1) (λ s. apart (s, same)) ∙ ap (λ x. (totals x).received a) (sym same)) (λ other. refl)
 
 arrived_here : (totals : ℕ → Totals) (p q a b : ℕ) → a ≡ p → b ≡ q → (with_entry totals q (receives_from (totals q) p) b).received a ≡ (totals b).received a + 1
 arrived_here totals p q a b ea eb =
@@ -203,7 +204,7 @@ taken_last places home s number t there i p (inr (n, u, h, at, now)) = elim (cas
       inl (at_entry (λ v. v ≡ entry_of (s.totals p)) s.kept t.place p (larger (s.kept t.place) t.entry)
       (λ e. larger_second (s.kept t.place) t.entry (subst (IsBelow (s.kept t.place)) (ap (λ x. entry_of (s.totals x)) place_is ∙ sym entry_is) (i.earlier t.place (s.kept t.place) is_kept)) ∙ entry_is)
       (λ apart. absurd (apart (sym place_is)))))
-  | inr other ↦ inr (n, u, entry_other s.told number n None other ∙ h, at, now)
+  | inr other ↦ inr (n, u, off_key s.told number n None other ∙ h, at, now)
 ]
 
 takes_in : (places home : ℕ) (s : Counting) (number : ℕ) (t : Told) → s.told number ≡ Some t → IsCounted places home s → IsCounted places home (after home s (TakesIn number))
@@ -274,7 +275,7 @@ still_with : (totals : ℕ → Totals) (p : ℕ) (t : Totals) (cut : ℕ → Opt
 still_with totals p t cut e there now still r f h =
     at_entry (IsStill f) totals p r t
     (λ same. subst (λ x. IsStill x t) (same_Some e f (sym there ∙ subst (λ x. cut x ≡ Some f) same h)) now)
-    (λ apart. still r f (entry_other cut p r None apart ∙ h))
+    (λ apart. still r f (off_key cut p r None apart ∙ h))
 
 lacks_with : (places : ℕ) (totals : ℕ → Totals) (p : ℕ) (t : Totals) (cut : ℕ → Option Entry) (e : Entry) → cut p ≡ Some e → e ≡ entry_of (totals p) → ((r q : ℕ) → (totals r).sent q ≤ (with_entry totals p t r).sent q)
     → Lacks places totals (with_entry cut p None) → Lacks places (with_entry totals p t) cut
@@ -338,7 +339,7 @@ ended_last places home s p n i lives none unused =
           (i.earlier r e) (i.earlier r f) (i.in_line r e f);
       cuts = λ cut is. ended_cuts places home s p n i lives none cut is (cut p) refl;
       last = λ r. at_entry (λ u. WorksWith home r u ⊎ HasTold told s.kept r u) s.totals p r t
-          (λ same. inr (inr (n, told_of p (s.totals p), entry_same s.told n (Some (told_of p (s.totals p))), sym same, refl)))
+          (λ same. inr (inr (n, told_of p (s.totals p), at_key s.told n (Some (told_of p (s.totals p))), sym same, refl)))
           (λ apart. elim (i.last r) [ inl work ↦ inl work | inr told_now ↦ inr (told_on s.told s.kept n (told_of p (s.totals p)) r (s.totals r) unused told_now) ]);
     }
 

@@ -1,16 +1,17 @@
 -- Books of a place: after each move there is one for each finish that a stay has open.
 use Rattle.std.proofs.Common.{◌≡◌, ◌⊎◌, ℕ, zero, suc, ◌+◌, ◌<◌, ◌≤◌, [], ◌∷◌, Option, Some, None, refl, sym, ap, subst, ◌∙◌, inl, inr, arith}
 use Rattle.std.proofs.lemmas.Option.{same_Some}
+use Rattle.std.proofs.lemmas.Bool.{cases_eq}
 use Rattle.x10_model.specs.Maps.{with_entry}
 use Rattle.x10_model.specs.Places as machine
 use Rattle.x10_model.specs.Places.{Stay, Effect, Waits, Works, Begins, Spawns, Shifts, Opens, Closes, Ends}
 use Rattle.x10_model.specs.Totals.{Cut, zeros}
 use Rattle.x10_model.proofs.Lists.{none_some}
+use Rattle.x10_model.proofs.Maps.{at_key, off_key}
 use Rattle.x10_finish.specs.Nesting.{nth}
 use Rattle.x10_finish.specs.Stays.{MovesStay}
 use Rattle.x10_place.specs.Stays.{StoreState, books_in, HasBook}
 use Rattle.x10_place.specs.StandsFor.{first_number, AreBooked}
-use Rattle.x10_place.proofs.Maps.{at_key, off_key, same_or_not}
 use Rattle.x10_place.proofs.Recounting.{KeepsBooks}
 
 -- books and numbers as functions; other functions with the same values do as well
@@ -29,9 +30,9 @@ booked_as id opened opened' stays stays' books books' h same e b = record {
 
 -- a stay at the key, or one that was there before
 found : (stays : ℕ → Option Stay) (key k : ℕ) (o : Option Stay) (s : Stay) → with_entry stays key o k ≡ Some s → ((k ≡ key) × (o ≡ Some s)) ⊎ ((k ≡ key → ⊥) × (stays k ≡ Some s))
-found stays key k o s e = elim (same_or_not k key) [
+found stays key k o s e = elim (cases_eq k key) [
   | inl same ↦ inl (same, sym (at_key stays key o) ∙ ap (with_entry stays key o) (sym same) ∙ e)
-  | inr ne ↦ inr (ne, sym (off_key stays key o k ne) ∙ e)
+  | inr ne ↦ inr (ne, sym (off_key stays key k o ne) ∙ e)
 ]
 
 -- ---- one stay changes
@@ -77,7 +78,7 @@ module _ (id opened : ℕ) (stays : ℕ → Option Stay) (books : ℕ → Option
     pushed books' number next e b = record {
       booked = λ k i n u is f. elim (origin k i n u is f) [
         | inl c ↦ ((λ p. zeros), b n ∙ ap (with_entry books number (Some (λ p. zeros))) c.1.1 ∙ at_key books number (Some (λ p. zeros)))
-        | inr c ↦ let d = h.booked k c.0 n c.1 c.2 c.3 in (d.0, b n ∙ off_key books number (Some (λ p. zeros)) n (older k c.0 n c.1 c.2 c.3) ∙ d.1)
+        | inr c ↦ let d = h.booked k c.0 n c.1 c.2 c.3 in (d.0, b n ∙ off_key books number n (Some (λ p. zeros)) (older k c.0 n c.1 c.2 c.3) ∙ d.1)
       ];
       numbered = λ k i n u is f. elim (origin k i n u is f) [
         | inl c ↦ (let le = h.first in let n_is = c.1.1 in (omega (arith, le, n_is, next), omega (arith, n_is, next)))
@@ -93,9 +94,9 @@ module _ (id opened : ℕ) (stays : ℕ → Option Stay) (books : ℕ → Option
           | inr d ↦ (let a = h.apart k l c.0 d.0 n c.1 d.1 c.2 d.2 c.3 d.3 in (a.0, together k l i j c.0 d.0 c.4 d.4 a.0 a.1))
         ]
       ];
-      unopened = λ n le. b n ∙ off_key books number (Some (λ p. zeros)) n (λ q. absurd (omega (arith, le, q, next))) ∙ h.unopened n (omega (arith, le));
+      unopened = λ n le. b n ∙ off_key books number n (Some (λ p. zeros)) (λ q. absurd (omega (arith, le, q, next))) ∙ h.unopened n (omega (arith, le));
       first = (let le = h.first in omega (arith, le));
-      root = λ z. let c = h.root z in (c.0, b 0 ∙ off_key books number (Some (λ p. zeros)) 0 (λ q. none_some (books number) c.0 (h.unopened number (omega (arith, next))) (ap books (sym q) ∙ c.1)) ∙ c.1);
+      root = λ z. let c = h.root z in (c.0, b 0 ∙ off_key books number 0 (Some (λ p. zeros)) (λ q. none_some (books number) c.0 (h.unopened number (omega (arith, next))) (ap books (sym q) ∙ c.1)) ∙ c.1);
     }
       where
         -- where a finish was before: nowhere, or one position further out in the stay that changed, or where it is
@@ -124,15 +125,15 @@ module _ (id opened : ℕ) (stays : ℕ → Option Stay) (books : ℕ → Option
     -- with the innermost one closed
     popped : (books' : ℕ → Option Cut) (number : ℕ) → s.finishes ≡ number ∷ t.finishes → ((k : ℕ) → books' k ≡ with_entry books number None k) → AreBooked id (with_entry stays key (Some t)) opened books'
     popped books' number e b = record {
-      booked = λ k i n u is f. let o = origin k i n u is f in let d = h.booked k o.0 n o.1 o.2 o.3 in (d.0, b n ∙ off_key books number None n (left k i n u is f) ∙ d.1);
+      booked = λ k i n u is f. let o = origin k i n u is f in let d = h.booked k o.0 n o.1 o.2 o.3 in (d.0, b n ∙ off_key books number n None (left k i n u is f) ∙ d.1);
       numbered = λ k i n u is f. let o = origin k i n u is f in h.numbered k o.0 n o.1 o.2 o.3;
       apart = λ k l i j n u v is iv f g. (let c = origin k i n u is f in let d = origin l j n v iv g in let a = h.apart k l c.0 d.0 n c.1 d.1 c.2 d.2 c.3 d.3 in (a.0, together k l i j c.0 d.0 c.4 d.4 a.0 a.1));
-      unopened = λ n le. b n ∙ elim (same_or_not n number) [
+      unopened = λ n le. b n ∙ elim (cases_eq n number) [
         | inl q ↦ ap (with_entry books number None) q ∙ at_key books number None
-        | inr ne ↦ off_key books number None n ne ∙ h.unopened n le
+        | inr ne ↦ off_key books number n None ne ∙ h.unopened n le
       ];
       first = h.first;
-      root = λ z. let c = h.root z in (c.0, b 0 ∙ off_key books number None 0 (λ q. absurd (let le = (h.numbered key 0 number s there (ap (λ ns. nth ns 0) e)).0 in low z (subst (λ n. first_number id ≤ n) (sym q) le))) ∙ c.1);
+      root = λ z. let c = h.root z in (c.0, b 0 ∙ off_key books number 0 None (λ q. absurd (let le = (h.numbered key 0 number s there (ap (λ ns. nth ns 0) e)).0 in low z (subst (λ n. first_number id ≤ n) (sym q) le))) ∙ c.1);
     }
       where
         low : id ≡ 0 → first_number id ≤ 0 → ⊥

@@ -6,6 +6,7 @@ use Rattle.std.specs.Int.{int_rem_euclid}
 use Rattle.std.specs.List.{slice_range}
 use Rattle.std.proofs.Math.ListN.{length-set}
 use Rattle.std.proofs.lemmas.Option.{slice_get_past, slice_get_within, same_Some}
+use Rattle.std.proofs.lemmas.Bool.{cases_eq}
 use Rattle.x10_kinds.specs.declared.kind.Kind.{Kind}
 use Rattle.x10_kinds.specs.declared.kind.Kind.TheVariants as kind
 use Rattle.x10_code.specs.declared.op.Op.{Op}
@@ -24,7 +25,7 @@ use Rattle.x10_model.specs.Moves.{Situation, Does, HoldsFrom, writes_or_goes, jo
 use Rattle.x10_model.specs.Assignments.{State, Edges, IsKind, KindsFit, onward, onward_or, gives, Permits, Reaches}
 use Rattle.x10_heap.specs.Heaps.{HeapState, ObjectState, with_object, with_rail, with_text, with_field}
 use Rattle.x10_heap.specs.Words.{Context, IsWordOf, AreWordsOf, HoldsObject, rail_cell, HoldsHeap}
-use Rattle.x10_heap.proofs.Growing.{Grows, grows_not, IsWritten, written_last, written_at, last_kept, words_kept, holds_object, holds_rail, holds_texts, same_or_not}
+use Rattle.x10_heap.proofs.Growing.{Grows, grows_not, IsWritten, written_last, written_at, last_kept, words_kept, holds_object, holds_rail, holds_texts}
 use Rattle.x10_place.specs.declared.frame.CallFrame.{CallFrame}
 use Rattle.x10_place.specs.declared.route.Route.TheVariants as route
 use Rattle.x10_place.specs.declared.route.Local.TheVariants as local
@@ -43,7 +44,7 @@ use Rattle.x10_place.proofs.Objects.{ObjectAt, object_at, word_in, words_set}
 
 -- an object that is written keeps its class
 object_grows : (xs ys : List ObjectState) (n : ℕ) (new old : ObjectState) → IsWritten xs n new ys → slice_get xs n ≡ Some old → new.class ≡ old.class → (k : ℕ) (o : ObjectState) → slice_get xs k ≡ Some o → (q : ObjectState) × (slice_get ys k ≡ Some q) × (q.class ≡ o.class)
-object_grows xs ys n new old h at same k o e = elim (same_or_not k n) [
+object_grows xs ys n new old h at same k o e = elim (cases_eq k n) [
   | inl here ↦
       (let is : o ≡ old = same_Some o old (sym e ∙ ap (λ j. slice_get xs j) here ∙ at) in
       (new, ap (λ j. slice_get ys j) here ∙ h.at, same ∙ ap (λ (q : ObjectState). q.class) (sym is)))
@@ -51,7 +52,7 @@ object_grows xs ys n new old h at same k o e = elim (same_or_not k n) [
 ]
 
 rail_grows : (xs ys : List (List ℕ)) (n : ℕ) (new : List ℕ) → IsWritten xs n new ys → (k : ℕ) (bytes : List ℕ) → slice_get xs k ≡ Some bytes → (others : List ℕ) × (slice_get ys k ≡ Some others)
-rail_grows xs ys n new h k bytes e = elim (same_or_not k n) [
+rail_grows xs ys n new h k bytes e = elim (cases_eq k n) [
   | inl here ↦ (new, ap (λ j. slice_get ys j) here ∙ h.at)
   | inr off ↦ (bytes, h.others k off ∙ e)
 ]

@@ -10,6 +10,7 @@ use Rattle.x10_model.specs.Places as machine
 use Rattle.x10_model.specs.Places.{Finish, Stay}
 use Rattle.x10_model.specs.Totals.{Totals, nothing, zeros}
 use Rattle.x10_model.specs.Worlds.{same_finish}
+use Rattle.x10_model.proofs.Maps.{at_key, off_key}
 use Rattle.x10_finish.specs.Nesting.{nth}
 use Rattle.x10_finish.proofs.Tallied.{lives_tallied}
 use Rattle.x10_place.specs.declared.route.Route.{Route}
@@ -18,7 +19,6 @@ use Rattle.x10_place.specs.declared.stay.Outcome.TheVariants as outcome
 use Rattle.x10_place.specs.Routes.{route_of}
 use Rattle.x10_place.specs.Stays.{StayState, StoreState, Location, totals_in, books_in, finish_at, changed_at, HasBook, Recounts, OpensFinish, ClosesFinish, Steps}
 use Rattle.x10_place.specs.StandsFor.{Far, PlaceState, store_of, location_of, StandsFor, IsRegistered}
-use Rattle.x10_place.proofs.Maps.{at_key, off_key}
 use Rattle.x10_place.proofs.Recounting.{IsSameCount, same_count, heap_alone, totals_same, books_same, if_false}
 
 -- the stay has the same finishes open and inherited the same, and the place counts the same
@@ -53,7 +53,7 @@ opened_registered at s t a b h made = record {
     open_at (suc i) n e =
         let o = h.are_open i n e in
         let lt = o.1 in
-        ((o.0.0, r.books_are n ∙ off_key (books_in s) s.opened (Some (λ p. zeros)) n (λ q. absurd (omega (arith, q, lt))) ∙ o.0.1), (let more = r.opened_is in omega (arith, lt, more)))
+        ((o.0.0, r.books_are n ∙ off_key (books_in s) s.opened n (Some (λ p. zeros)) (λ q. absurd (omega (arith, q, lt))) ∙ o.0.1), (let more = r.opened_is in omega (arith, lt, more)))
 
     once_at : (i j n : ℕ) → nth (s.opened ∷ a.finishes) i ≡ Some n → nth (s.opened ∷ a.finishes) j ≡ Some n → i ≡ j
     once_at zero zero n e f = refl
@@ -66,7 +66,7 @@ closed_registered at s t a b h made = record {
   here = r.here ∙ h.here;
   places = r.places_are ∙ h.places;
   live = subst (λ n. 0 < n) (sym (ap (λ (u : Totals). u.live) (r.totals_are b.inherited ∙ if_false (same_finish b.inherited (finish_at s.here made.number)) nothing (totals_in s b.inherited) other ∙ ap (totals_in s) inherited))) h.live;
-  are_open = λ i n e. (let o = h.are_open (suc i) n (further i n e) in ((o.0.0, r.books_are n ∙ off_key (books_in s) made.number None n (left i n e) ∙ o.0.1), subst (λ k. n < k) (sym r.opened_is) o.1));
+  are_open = λ i n e. (let o = h.are_open (suc i) n (further i n e) in ((o.0.0, r.books_are n ∙ off_key (books_in s) made.number n None (left i n e) ∙ o.0.1), subst (λ k. n < k) (sym r.opened_is) o.1));
   once = λ i j n e f. (let q = h.once (suc i) (suc j) n (further i n e) (further j n f) in omega (arith, q));
 }
   where

@@ -2,7 +2,7 @@
 -- its values.
 use Rattle.std.proofs.Common.{◌≡◌, ℕ, ℤ, ◌+◌, ◌*◌, ◌<◌, ◌^◌, Bool, true, false, List, [], ◌∷◌, ◌++◌, length, map, Option, Some, None, refl, sym, ap, ap₂, subst, ◌∙◌, inl, inr, arith}
 use Rattle.std.specs.Prelude.{◌==◌, ◌%◌, pos, negsuc, nat_lt, IsTrue, if◌then◌else◌, slice_get, slice_set}
-use Rattle.std.proofs.lemmas.Bool.{eqb-true, eq-eqb, ltb-true}
+use Rattle.std.proofs.lemmas.Bool.{eqb-true, eq-eqb, ltb-true, cases_eq}
 use Rattle.std.proofs.lemmas.Nat.{mod_below}
 use Rattle.std.proofs.lemmas.Option.{same_Some}
 use Rattle.x10_kinds.specs.declared.kind.Kind.TheVariants as kind
@@ -22,7 +22,7 @@ use Rattle.x10_model.specs.Assignments.{State, Edges, IsKind, IsPlaced, onward, 
 use Rattle.x10_heap.specs.declared.export.Export.{Export}
 use Rattle.x10_heap.specs.Heaps.{HeapState, ObjectState, with_export}
 use Rattle.x10_heap.specs.Words.{Context, IsWordOf, HoldsHeap, export_as, has_class, is_named}
-use Rattle.x10_heap.proofs.Growing.{Grows, grows_not, written_last, last_kept, holds_texts, same_or_not}
+use Rattle.x10_heap.proofs.Growing.{Grows, grows_not, written_last, last_kept, holds_texts}
 use Rattle.x10_place.specs.declared.frame.CallFrame.{CallFrame}
 use Rattle.x10_place.specs.declared.route.Route.TheVariants as route
 use Rattle.x10_place.specs.declared.route.Site.{Site}
@@ -190,7 +190,7 @@ module _ (setting : Setting) (here : ℕ) (far : Far) (m : machine.Place) (key :
       word_is = subst (λ p. IsReference p (id_of (reference_word here (length heap.exports)))) (sym (home_is here (length heap.exports) low)) (subst (λ q. IsReference here q) (sym (id_is here (length heap.exports) low)) reference)
 
       all_named : (k : ℕ) (q : Export) → slice_get new.exports k ≡ Some q → (o : ObjectState) × (slice_get heap.objects q.object ≡ Some o) × (o.class ≡ q.class)
-      all_named k q at = elim (same_or_not k (length heap.exports)) [
+      all_named k q at = elim (cases_eq k (length heap.exports)) [
         | inl same_id ↦
             (let is : export ≡ q = same_Some export q (sym (written_last heap.exports export).at ∙ ap (λ n. slice_get new.exports n) (sym same_id) ∙ at) in
             subst (λ (r : Export). (o : ObjectState) × (slice_get heap.objects r.object ≡ Some o) × (o.class ≡ r.class)) is (made.object, made.is_object, refl))

@@ -10,12 +10,12 @@ use Rattle.x10_model.specs.Places.{Finish, root}
 use Rattle.x10_model.specs.Worlds.{same_finish}
 use Rattle.x10_model.specs.Totals.{Totals, Cut, nothing, zeros, begins_one, first_totals, IsDoneAt}
 use Rattle.x10_model.proofs.Lists.{none_some}
+use Rattle.x10_model.proofs.Maps.{at_key, off_key}
 use Rattle.x10_finish.specs.Books.{Kept, finish_of, kept_of}
 use Rattle.x10_heap.specs.Heaps.{empty}
 use Rattle.x10_place.specs.StandsFor.{first_number}
 use Rattle.x10_place.specs.Opening.{IsNewStore}
 use Rattle.x10_place.specs.Stays.{StoreState, book_at, books_of, cut_of, books_in, totals_in, kept_in, finish_at, changed_at, IsBookOf, AreBooks, IsDoneHere, Recounts}
-use Rattle.x10_place.proofs.Maps.{at_key, off_key}
 
 -- a book is found under its own number alone
 at_is_same : (k n : ℕ) → is_at (nat_cmp k) n ≡ (n == k)
@@ -106,7 +106,7 @@ new_at_zero places s t u blank opens begins = record {
   places_is = begins.places_are ∙ opens.places_are ∙ blank.places_are;
   totals = λ f. begins.totals_are f ∙ main_counted f (same_finish f root) (totals_in t f) (opens.totals_are f ∙ blank.totals f);
   kept = λ n. ap kept_in (books n) ∙ root_kept (n == 0) (books_in s n) (none n);
-  unopened = λ n le. books n ∙ off_key (books_in s) 0 (Some (λ p. zeros)) n (λ e. absurd (let one = opened in omega (arith, le, e, one))) ∙ none n;
+  unopened = λ n le. books n ∙ off_key (books_in s) 0 n (Some (λ p. zeros)) (λ e. absurd (let one = opened in omega (arith, le, e, one))) ∙ none n;
   root = λ e. (λ p. zeros, books 0 ∙ at_key (books_in s) 0 (Some (λ p. zeros)));
 }
   where

@@ -2,7 +2,7 @@
 use Rattle.std.proofs.Common.{◌≡◌, ◌≢◌, ℕ, ◌+◌, ◌<◌, ◌≤◌, ◌==◌, ◌&&◌, Bool, true, false, List, [], ◌∷◌, ◌++◌, length, Option, Some, None, Ok, refl, sym, ap, subst, ◌∙◌, inl, inr, arith, length-append}
 use Rattle.std.specs.Prelude.{slice_get, nat_lt, if◌then◌else◌}
 use Rattle.std.proofs.lemmas.Bool.{eqb-true, eqb-false, ne_eqb, lt-ltb, ltb-true}
-use Rattle.std.proofs.lemmas.Option.{same_Some}
+use Rattle.std.proofs.lemmas.Option.{same_Some, slice_get_within}
 use Rattle.x10_model.specs.Structure.{bounds_of}
 use Rattle.x10_model.specs.Places as machine
 use Rattle.x10_model.specs.Places.{Setting, Finish, Message, root}
@@ -21,7 +21,7 @@ use Rattle.x10_world.specs.StandsForWorld.{WorldState, world_of, IsWorld, settin
 use Rattle.x10_world.proofs.LinkingDeliveries.{answered_at_opening}
 use Rattle.x10_world.specs.Opening.{IsOpened, AreOpened}
 use Rattle.x10_world.proofs.BudgetRuns.{budget_at_opening}
-use Rattle.x10_world.proofs.Lists.{below, none_past, at_first, last_or_before}
+use Rattle.x10_world.proofs.Lists.{none_past, at_first, last_or_before}
 
 -- ---- counts
 
@@ -105,7 +105,7 @@ opening_stands c count x certified some program bounds opened quiet = (
             subst (λ m. StandsFor no_exports p m) (chosen (place.setting_of p) key o.stands.0 id (eqb-false id 0 e)) there
 
     each : (id : ℕ) (p : PlaceState) → slice_get x.places id ≡ Some p → (m : machine.Place) × ((opening (setting_of x) key).net.places id ≡ Some m) × StandsFor no_exports p m
-    each id p is = (opening_place (setting_of x) key id, ap (λ b. if b then Some (opening_place (setting_of x) key id) else None) (lt-ltb id (length x.places) (below x.places id p is)), stands id p is)
+    each id p is = (opening_place (setting_of x) key id, ap (λ b. if b then Some (opening_place (setting_of x) key id) else None) (lt-ltb id (length x.places) (slice_get_within x.places id p is)), stands id p is)
 
     none : (id : ℕ) → slice_get x.places id ≡ None → (opening (setting_of x) key).net.places id ≡ None
     none id is = ap (λ b. if b then Some (opening_place (setting_of x) key id) else None) (not_below (nat_lt id (length x.places)) refl)

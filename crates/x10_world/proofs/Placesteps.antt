@@ -1,7 +1,7 @@
 -- A step of one place of a list.
 use Rattle.std.proofs.Common.{◌≡◌, ◌≢◌, ℕ, ◌≤◌, true, false, List, length, Some, Result, Ok, Err, refl, sym, ap, subst, ◌∙◌}
 use Rattle.std.specs.Prelude.{IfOk, IfErr, slice_get, slice_set}
-use Rattle.std.proofs.lemmas.Option.{same_Some}
+use Rattle.std.proofs.lemmas.Option.{same_Some, slice_get_past}
 use Rattle.slab.specs.Slab.{get}
 use Rattle.x10_kinds.specs.declared.stop.Stop.{Stop}
 use Rattle.x10_kinds.specs.declared.stop.Stop.TheVariants as stop
@@ -11,11 +11,10 @@ use Rattle.x10_place.specs.declared.place.Stepped.TheVariants as stepped
 use Rattle.x10_place.specs.Stays.{StayState}
 use Rattle.x10_place.specs.StandsFor.{PlaceState, LeadsAll, Keeps, IsIdleAt, IsHindered}
 use Rattle.x10_world.specs.StandsForWorld.{IsStepped, StepsOne}
-use Rattle.x10_world.proofs.Lists.{past_none}
 
 -- no such place
 pub none_there : (old : List PlaceState) (id key : ℕ) → length old ≤ id → StepsOne old old id key (Ok stepped.Idle)
-none_there old id key le = record { gone = λ e. (refl, refl); there = λ p e. absurd (none_some (slice_get old id) p (past_none old id le) e) }
+none_there old id key le = record { gone = λ e. (refl, refl); there = λ p e. absurd (none_some (slice_get old id) p (slice_get_past old id le) e) }
 
 refused_not : (answer : Stepped) (why : Stop) → Ok answer ≡ Err why → ⊥
 refused_not answer why e = absurd cc

@@ -1,7 +1,8 @@
 -- Steps of one activity at a stretch are runs of each world of the machine that the world stands for.
 use Rattle.std.proofs.Common.{◌≡◌, ◌≢◌, ◌⊎◌, ◌↔◌, ℕ, ◌+◌, ◌^◌, ◌<◌, ◌≤◌, true, false, List, [], length, replicate, Option, Some, None, Result, Ok, Err, refl, sym, ap, subst, ◌∙◌, inl, inr, arith}
 use Rattle.std.specs.Prelude.{⊤, slice_get, slice_set}
-use Rattle.std.proofs.lemmas.Option.{same_Some}
+use Rattle.std.proofs.lemmas.Option.{same_Some, slice_get_past}
+use Rattle.std.proofs.lemmas.List.{length-set}
 use Rattle.x10_kinds.specs.declared.stop.Stop.{Stop}
 use Rattle.x10_kinds.specs.declared.stop.Stop.TheVariants as stop
 use Rattle.x10_model.specs.Modules.{Module}
@@ -22,7 +23,7 @@ use Rattle.x10_world.specs.Flights.{FlightsState, with_room}
 use Rattle.x10_world.specs.Prompt.{MayEnd, WorksIn}
 use Rattle.x10_world.specs.StandsForWorld.{WorldState, world_of, BelongTo, IsWorld, setting_in, far_in, AllStandFor, StandsForWorld, with_posted, with_sent, GoesBelow, IsRunOn, RunsOne, MovesOn, MovesOnce, at_rest, moves_on, IsIdleNow, BeganLast, IsRoomless}
 use Rattle.x10_world.specs.Handling.{Stretches}
-use Rattle.x10_world.proofs.Lists.{past_none, set_here, set_again, set_length, replicate_more}
+use Rattle.x10_world.proofs.Lists.{set_here, set_again, replicate_more}
 use Rattle.x10_world.proofs.BudgetRuns.{budget_bounds}
 use Rattle.x10_world.proofs.Moving.{step_leads}
 use Rattle.x10_place.proofs.Striding.{stopped_hindered}
@@ -52,7 +53,7 @@ module _ (program : Module) (bounds : List ℕ) (places : List PlaceState) (flig
   stride_makes q r out v kept stride stand =
       let made = step_leads program bounds (slice_set places here q) flights v here key q r (stepped.Moved out) bounds-are (belong_set program bounds places here p q is kept belong) stand (set_here places here q p is) stride.leads in (
         made.0,
-        subst (λ n. MovesOnce (record { program = program; places = n }) v here key made.0) (set_length places here q) (record { steps = made.1; goes = made.2.0 }),
+        subst (λ n. MovesOnce (record { program = program; places = n }) v here key made.0) (length-set places here q) (record { steps = made.1; goes = made.2.0 }),
         subst (λ ps. AllStandFor program bounds ps (with_sent flights out) made.0) (set_again places here q r) made.3,
       )
 
@@ -268,7 +269,7 @@ run_waits y place key number X belong still (inl idle) w stand works may = at_pl
 
 -- no such place
 pub no_run : (old : List PlaceState) (id key most : ℕ) → length old ≤ id → RunsOne old old id key most 0 (Ok no_sent)
-no_run old id key most le = record { gone = λ e. (refl, refl, refl); there = λ p e. absurd (none_some (slice_get old id) p (past_none old id le) e) }
+no_run old id key most le = record { gone = λ e. (refl, refl, refl); there = λ p e. absurd (none_some (slice_get old id) p (slice_get_past old id le) e) }
 
 -- the place has made its steps
 pub one_run : (old : List PlaceState) (id key most n : ℕ) (result : Result Sent Stop) (p q : PlaceState) → slice_get old id ≡ Some p → IsRunOn p q key most n result → RunsOne old (slice_set old id q) id key most n result

@@ -1,7 +1,7 @@
 -- A step waits at the end of a finish only where something lives that the finish governs, or a message flies.
 use Rattle.std.proofs.Common.{◌≡◌, ℕ, true, false, List, [], ◌∷◌, length, Option, Some, None, refl, sym, ap, subst, ◌∙◌, inl, inr}
 use Rattle.std.specs.Prelude.{slice_get}
-use Rattle.std.proofs.lemmas.Option.{same_Some}
+use Rattle.std.proofs.lemmas.Option.{same_Some, slice_get_within}
 use Rattle.x10_code.specs.declared.op.Op.{Op}
 use Rattle.x10_code.specs.declared.op.Op.TheVariants as op
 use Rattle.x10_code.specs.declared.instr.Instr.{Instr}
@@ -19,7 +19,6 @@ use Rattle.x10_place.specs.StandsFor.{PlaceState, store_of, IsIdleAt, nobody, aw
 use Rattle.x10_world.specs.Flights.{FlightsState, flight_among}
 use Rattle.x10_world.specs.Prompt.{MayEnd, WorksIn}
 use Rattle.x10_world.specs.StandsForWorld.{BelongTo, setting_in, counts_in, AllStandFor, EndedIsDoneHere}
-use Rattle.x10_world.proofs.Lists.{below}
 use Rattle.x10_model.proofs.NotWrong.{situation}
 use Rattle.x10_model.proofs.Lists.{none_some}
 use Rattle.x10_world.proofs.Moving.{done_by}
@@ -39,7 +38,7 @@ ended_is_done_here program bounds places flights w here key number p belong stan
     let at = at_its_end w here key number (w.net.places here) refl works works.is_there in
     let belongs = belong here p is in
     done_by places stand.told here number p is belongs.id_is belongs.places_are
-    (ended_is_done (length places) w (counts_in places stand.told) (finish_at here number) stand.watched at (below places here p is) may.none_flies (λ n. none_told program bounds places flights w (finish_at here number) n stand empty) may.ended)
+    (ended_is_done (length places) w (counts_in places stand.told) (finish_at here number) stand.watched at (slice_get_within places here p is) may.none_flies (λ n. none_told program bounds places flights w (finish_at here number) n stand empty) may.ended)
 
 -- ---- what is idle
 
