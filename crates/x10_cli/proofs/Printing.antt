@@ -4,6 +4,7 @@ use Rattle.std.specs.Prelude.{slice_get, take}
 use Rattle.std.proofs.lemmas.List.{append-nil}
 use Rattle.std.specs.Io.KnownBytes.{Appends, Keeps}
 use Rattle.std.proofs.KnownBytes.{Appends-nil, Appends-trans, Appends-kept}
+use Rattle.std.proofs.lemmas.Option.{same_Some}
 use Rattle.x10_model.specs.declared.event.Event.{Event}
 use Rattle.x10_model.specs.Places as machine
 use Rattle.x10_model.specs.Worlds.{World, Ideal, Run, WithinBounds, opening}
@@ -23,18 +24,15 @@ use Rattle.x10_cli.specs.declared.task.Verb.TheVariants as verb
 use Rattle.x10_cli.specs.Answers.{HasRun, Prints, Traces}
 use Rattle.x10_cli.specs.Lines.{numbered, place_lines, all_lines, bound_line, bound_lines}
 
-some_is : {X : Type 0} (x y : X) → Some x ≡ Some y → x ≡ y
-some_is x y e = cc
-
 -- one item more of a list
 lines_more : (place n : ℕ) (lines : List Line) (line : Line) → slice_get lines n ≡ Some line → place_lines place (map line_as (take (suc n) lines)) ≡ place_lines place (map line_as (take n lines)) ++ numbered place (line_as line)
 lines_more place n [] line e = absurd cc
-lines_more place zero (l ∷ ls) line e = ap (λ x. numbered place (line_as x) ++ []) (some_is l line e) ∙ append-nil (numbered place (line_as line))
+lines_more place zero (l ∷ ls) line e = ap (λ x. numbered place (line_as x) ++ []) (same_Some l line e) ∙ append-nil (numbered place (line_as line))
 lines_more place (suc n) (l ∷ ls) line e = ap (λ bs. numbered place (line_as l) ++ bs) (lines_more place n ls line e) ∙ sym (append_assoc (numbered place (line_as l)) (place_lines place (map line_as (take n ls))) (numbered place (line_as line)))
 
 outputs_more : (from n : ℕ) (outputs : List (List machine.Line)) (lines : List machine.Line) → slice_get outputs n ≡ Some lines → all_lines from (take (suc n) outputs) ≡ all_lines from (take n outputs) ++ place_lines (from + n) lines
 outputs_more from n [] lines e = absurd cc
-outputs_more from zero (l ∷ ls) lines e = append-nil (place_lines from l) ∙ ap (λ x. place_lines from x) (some_is l lines e) ∙ ap (λ k. place_lines k lines) (omega arith)
+outputs_more from zero (l ∷ ls) lines e = append-nil (place_lines from l) ∙ ap (λ x. place_lines from x) (same_Some l lines e) ∙ ap (λ k. place_lines k lines) (omega arith)
 outputs_more from (suc n) (l ∷ ls) lines e =
     ap (λ bs. place_lines from l ++ bs) (outputs_more (from + 1) n ls lines e)
     ∙ sym (append_assoc (place_lines from l) (all_lines (from + 1) (take n ls)) (place_lines (from + 1 + n) lines))
@@ -42,7 +40,7 @@ outputs_more from (suc n) (l ∷ ls) lines e =
 
 bounds_more : (from n : ℕ) (bounds : List ℕ) (bound : ℕ) → slice_get bounds n ≡ Some bound → bound_lines from (take (suc n) bounds) ≡ bound_lines from (take n bounds) ++ bound_line (from + n) bound
 bounds_more from n [] bound e = absurd cc
-bounds_more from zero (b ∷ bs) bound e = append-nil (bound_line from b) ∙ ap (λ x. bound_line from x) (some_is b bound e) ∙ ap (λ k. bound_line k bound) (omega arith)
+bounds_more from zero (b ∷ bs) bound e = append-nil (bound_line from b) ∙ ap (λ x. bound_line from x) (same_Some b bound e) ∙ ap (λ k. bound_line k bound) (omega arith)
 bounds_more from (suc n) (b ∷ bs) bound e =
     ap (λ xs. bound_line from b ++ xs) (bounds_more (from + 1) n bs bound e)
     ∙ sym (append_assoc (bound_line from b) (bound_lines (from + 1) (take n bs)) (bound_line (from + 1 + n) bound))
@@ -60,7 +58,7 @@ bound_more a b c n m bounds bound e is before one =
 
 lines_there : (places : List PlaceState) (n : ℕ) (p : PlaceState) → slice_get places n ≡ Some p → slice_get (lines_at places) n ≡ Some (map line_as p.lines)
 lines_there [] n p e = absurd cc
-lines_there (q ∷ qs) zero p e = ap (λ (x : PlaceState). Some (map line_as x.lines)) (some_is q p e)
+lines_there (q ∷ qs) zero p e = ap (λ (x : PlaceState). Some (map line_as x.lines)) (same_Some q p e)
 lines_there (q ∷ qs) (suc n) p e = lines_there qs n p e
 
 pub output_more : (a b c : Option (List ℕ)) (n m : ℕ) (places : List PlaceState) (p : PlaceState) (lines : List Line) → m ≡ suc n → slice_get places n ≡ Some p → lines ≡ p.lines → Appends a b (all_lines 0 (take n (lines_at places))) → Appends b c (place_lines n (map line_as lines)) → Appends a c (all_lines 0 (take m (lines_at places)))

@@ -1,24 +1,20 @@
 -- What an escaped text is made of.
 use Rattle.std.proofs.Common.{◌≡◌, ◌≢◌, ℕ, zero, suc, ◌<◌, ◌≤◌, Bool, true, false, ◌&&◌, List, [], ◌∷◌, ◌++◌, length, get_or, flat_map, inl, inr, refl, sym, arith, append-nil}
-use Rattle.std.proofs.lemmas.Bool.{and_parts, cases_lt, cases_eq}
+use Rattle.std.proofs.lemmas.Bool.{and_parts, and_from, cases_lt, cases_eq}
 use Rattle.std.proofs.lemmas.Str.{inside_one}
 use Rattle.std.specs.Char.{encode_utf8}
 use Rattle.x10_draw.specs.Escapes.{escape, is_content, are_content}
 
-both : (a b : Bool) → a ≡ true → b ≡ true → (a && b) ≡ true
-both true b p q = q
-both false b p q = p
-
 joined : (xs ys : List ℕ) → are_content xs ≡ true → are_content ys ≡ true → are_content (xs ++ ys) ≡ true
 joined [] ys p q = q
-joined (x ∷ xs) ys p q = let parts = and_parts _ _ p in both _ _ parts.0 (joined xs ys parts.1 q)
+joined (x ∷ xs) ys p q = let parts = and_parts _ _ p in and_from _ _ parts.0 (joined xs ys parts.1 q)
 
 high_byte : (b : ℕ) → 128 ≤ b → is_content b ≡ true
 high_byte b h = grind (arith)
 
 high_bytes : (xs : List ℕ) → ((k : ℕ) → k < length xs → 128 ≤ get_or xs k 0) → are_content xs ≡ true
 high_bytes [] h = refl
-high_bytes (x ∷ xs) h = both _ _ (high_byte x (h 0 (omega arith))) (high_bytes xs (λ k below. h (suc k) (omega arith)))
+high_bytes (x ∷ xs) h = and_from _ _ (high_byte x (h 0 (omega arith))) (high_bytes xs (λ k below. h (suc k) (omega arith)))
 
 high_char : (c : ℕ) → 128 ≤ c → are_content (encode_utf8 c) ≡ true
 high_char c big = high_bytes (encode_utf8 c) (λ k below. elim (cases_lt (get_or (encode_utf8 c) k 0) 128) [

@@ -7,9 +7,10 @@ use Rattle.x10_model.specs.Places.{Finish, Stay, Message, Spawn, Shift, Back, in
 use Rattle.x10_model.specs.Worlds.{Post, Flying, Taken}
 use Rattle.x10_finish.specs.Nesting.{Stays}
 use Rattle.x10_finish.specs.Chains.{Name, IsAmong, IsBegunBy, IsChain, AreLinked, Waits, Carries, AreCarried}
-use Rattle.x10_finish.proofs.Counting.{at_entry, entry_same, entry_other}
-use Rattle.x10_finish.proofs.Nesting.{at_stay, pair_same, pair_other, no_stay}
+use Rattle.x10_finish.proofs.Counting.{at_entry}
+use Rattle.x10_finish.proofs.Nesting.{at_pair, pair_same, pair_other, no_stay}
 use Rattle.x10_model.proofs.Events.{flying_is}
+use Rattle.x10_model.proofs.Maps.{at_key, off_key}
 
 -- ---- names
 
@@ -84,7 +85,7 @@ linked_changes stays begun chains unders belongs here key s t rest l there first
     | inr other ↦ chain_apart stays (unders a) (chains a) here key (Some t) (λ m. other (sym (l.owner a here key lt m))) (l.chained a lt)
   ];
   owner = l.owner;
-  known = λ p k u h. at_stay (λ o. o ≡ Some u → (belongs p k < begun) × IsAmong (p, k) (chains (belongs p k))) stays here key p k (Some t)
+  known = λ p k u h. at_pair (λ o. o ≡ Some u → (belongs p k < begun) × IsAmong (p, k) (chains (belongs p k))) stays here key p k (Some t)
       (λ ep ek is. l.known p k s (ap (λ x. stays x k) ep ∙ ap (stays here) ek ∙ there)) (λ other is. l.known p k u is) h;
 }
 
@@ -93,7 +94,7 @@ pub linked_spawns : (stays : Stays) (begun : ℕ) (chains : ℕ → List Name) (
     → AreLinked stays (begun + 1) (with_entry chains begun []) (with_entry unders begun under) belongs
 linked_spawns stays begun chains unders belongs under l = record {
   chained = λ a lt. at_entry (λ (xs : List Name). IsChain stays (with_entry unders begun under a) xs) chains begun a [] (λ e. tt)
-      (λ other. subst (λ f. IsChain stays f (chains a)) (sym (entry_other unders begun a under other)) (l.chained a (let ne = other in omega arith)));
+      (λ other. subst (λ f. IsChain stays f (chains a)) (sym (off_key unders begun a under other)) (l.chained a (let ne = other in omega arith)));
   owner = λ a p k lt. at_entry (λ (xs : List Name). IsAmong (p, k) xs → belongs p k ≡ a) chains begun a [] (λ e m. absurd m) (λ other m. l.owner a p k (let ne = other in omega arith) m);
   known = λ p k s h. (let both = l.known p k s h in
       (omega (arith, both.0), at_entry (λ (xs : List Name). IsAmong (p, k) xs) chains begun (belongs p k) [] (λ e. absurd (let lt = both.0 in omega (arith, lt, e))) (λ other. both.1)));
@@ -102,9 +103,9 @@ linked_spawns stays begun chains unders belongs under l = record {
 enters_known : (stays : Stays) (begun : ℕ) (chains : ℕ → List Name) (unders : ℕ → Finish) (belongs : ℕ → ℕ → ℕ) (here key a : ℕ) (u : Stay) → AreLinked stays begun chains unders belongs → a < begun → (p k : ℕ) (s : Stay) → with_pair stays here key (Some u) p k ≡ Some s
     → (with_pair belongs here key a p k < begun) × IsAmong (p, k) (with_entry chains a ((here, key) ∷ chains a) (with_pair belongs here key a p k))
 enters_known stays begun chains unders belongs here key a u l lt p k s h =
-    at_stay (λ o. o ≡ Some s → (with_pair belongs here key a p k < begun) × IsAmong (p, k) (with_entry chains a ((here, key) ∷ chains a) (with_pair belongs here key a p k))) stays here key p k (Some u)
-    (λ ep ek is. (let at : with_pair belongs here key a p k ≡ a = at_stay (λ v. v ≡ a) belongs here key p k a (λ x y. refl) (λ other. absurd (other (ep, ek))) in
-    (omega (arith, at, lt), subst (λ x. IsAmong (p, k) (with_entry chains a ((here, key) ∷ chains a) x)) (sym at) (subst (IsAmong (p, k)) (sym (entry_same chains a ((here, key) ∷ chains a))) (inl (sym (same_name p k here key ep ek)))))))
+    at_pair (λ o. o ≡ Some s → (with_pair belongs here key a p k < begun) × IsAmong (p, k) (with_entry chains a ((here, key) ∷ chains a) (with_pair belongs here key a p k))) stays here key p k (Some u)
+    (λ ep ek is. (let at : with_pair belongs here key a p k ≡ a = at_pair (λ v. v ≡ a) belongs here key p k a (λ x y. refl) (λ other. absurd (other (ep, ek))) in
+    (omega (arith, at, lt), subst (λ x. IsAmong (p, k) (with_entry chains a ((here, key) ∷ chains a) x)) (sym at) (subst (IsAmong (p, k)) (sym (at_key chains a ((here, key) ∷ chains a))) (inl (sym (same_name p k here key ep ek)))))))
     (λ other is. (let both = l.known p k s is in
     let at : with_pair belongs here key a p k ≡ belongs p k = pair_other belongs here key p k a other in (
       omega (arith, at, both.0),
@@ -124,10 +125,10 @@ linked_enters stays begun chains unders belongs here key a u l free lt by =
           (λ other. chain_apart stays (unders b) (chains b) here key (Some u) (fresh b lb) (l.chained b lb));
       owner = λ b p k lb. at_entry (λ (xs : List Name). IsAmong (p, k) xs → with_pair belongs here key a p k ≡ b) chains a b ((here, key) ∷ chains a)
           (λ e m. elim m [
-            | inl is ↦ (let parts = name_parts here key p k is in at_stay (λ v. v ≡ b) belongs here key p k a (λ ep ek. sym e) (λ other. absurd (other (sym parts.0, sym parts.1))))
-            | inr was ↦ at_stay (λ v. v ≡ b) belongs here key p k a (λ ep ek. sym e) (λ other. l.owner a p k lt was ∙ sym e)
+            | inl is ↦ (let parts = name_parts here key p k is in at_pair (λ v. v ≡ b) belongs here key p k a (λ ep ek. sym e) (λ other. absurd (other (sym parts.0, sym parts.1))))
+            | inr was ↦ at_pair (λ v. v ≡ b) belongs here key p k a (λ ep ek. sym e) (λ other. l.owner a p k lt was ∙ sym e)
           ])
-          (λ apart m. at_stay (λ v. v ≡ b) belongs here key p k a (λ ep ek. absurd (fresh b lb (subst (λ (x : Name). IsAmong x (chains b)) (same_name p k here key ep ek) m))) (λ other. l.owner b p k lb m));
+          (λ apart m. at_pair (λ v. v ≡ b) belongs here key p k a (λ ep ek. absurd (fresh b lb (subst (λ (x : Name). IsAmong x (chains b)) (same_name p k here key ep ek) m))) (λ other. l.owner b p k lb m));
       known = λ p k s h. enters_known stays begun chains unders belongs here key a u l lt p k s h;
     }
 
@@ -144,7 +145,7 @@ linked_ends stays begun chains unders belongs here key s rest l there first =
           (λ other. chain_apart stays (unders b) (chains b) here key None (λ m. other (sym (l.owner b here key lb m))) (l.chained b lb));
       owner = λ b p k lb. at_entry (λ (xs : List Name). IsAmong (p, k) xs → belongs p k ≡ b) chains a b rest
           (λ e m. l.owner a p k lt (subst (IsAmong (p, k)) (sym first) (inr m)) ∙ sym e) (λ other m. l.owner b p k lb m);
-      known = λ p k u h. at_stay (λ o. o ≡ Some u → (belongs p k < begun) × IsAmong (p, k) (with_entry chains a rest (belongs p k))) stays here key p k None (λ ep ek is. no_stay u is)
+      known = λ p k u h. at_pair (λ o. o ≡ Some u → (belongs p k < begun) × IsAmong (p, k) (with_entry chains a rest (belongs p k))) stays here key p k None (λ ep ek is. no_stay u is)
           (λ other is. (let both = l.known p k u is in (
             both.0,
             at_entry (IsAmong (p, k)) chains a (belongs p k) rest
@@ -192,7 +193,7 @@ pub carried_chain : (stays : Stays) (begun : ℕ) (chains : ℕ → List Name) (
     → AreCarried stays begun (with_entry chains a chain) unders carries posts
 carried_chain stays begun chains unders carries posts a chain c none = record {
   begun_one = c.begun_one;
-  says = λ m message flies. subst (λ xs. Carries stays xs (unders (carries m)) message) (sym (entry_other chains a (carries m) chain (none m message flies))) (c.says m message flies);
+  says = λ m message flies. subst (λ xs. Carries stays xs (unders (carries m)) message) (sym (off_key chains a (carries m) chain (none m message flies))) (c.says m message flies);
   single = c.single;
 }
 
@@ -203,13 +204,13 @@ carried_begun stays begun chains unders carries posts chain under c =
     let apart : (m : ℕ) (message : Message) → posts m ≡ Flying message → carries m ≡ begun → ⊥ = λ m message flies e. (let lt = c.begun_one m message flies in omega (arith, lt, e)) in
     record {
       begun_one = λ m message flies. (let lt = c.begun_one m message flies in omega (arith, lt));
-      says = λ m message flies. subst (λ xs. Carries stays xs (with_entry unders begun under (carries m)) message) (sym (entry_other chains begun (carries m) chain (apart m message flies)))
-          (subst (λ f. Carries stays (chains (carries m)) f message) (sym (entry_other unders begun (carries m) under (apart m message flies))) (c.says m message flies));
+      says = λ m message flies. subst (λ xs. Carries stays xs (with_entry unders begun under (carries m)) message) (sym (off_key chains begun (carries m) chain (apart m message flies)))
+          (subst (λ f. Carries stays (chains (carries m)) f message) (sym (off_key unders begun (carries m) under (apart m message flies))) (c.says m message flies));
       single = c.single;
     }
 
 at_number : {V : Type 0} (f : ℕ → V) (k j : ℕ) (v : V) → j ≡ k → with_entry f k v j ≡ v
-at_number f k j v e = ap (with_entry f k v) e ∙ entry_same f k v
+at_number f k j v e = ap (with_entry f k v) e ∙ at_key f k v
 
 head_is : (x y : Name) (xs ys : List Name) → x ∷ xs ≡ y ∷ ys → x ≡ y
 head_is x y xs ys e = cc
@@ -220,20 +221,20 @@ pub carried_new : (stays : Stays) (begun : ℕ) (chains : ℕ → List Name) (un
 carried_new stays begun chains unders carries posts number a message c none lt says = record {
   begun_one = λ m other flies. elim (cases_eq m number) [
     | inl e ↦ subst (λ x. x < begun) (sym (at_number carries number m a e)) lt
-    | inr apart ↦ subst (λ x. x < begun) (sym (entry_other carries number m a apart)) (c.begun_one m other (sym (entry_other posts number m (Flying message) apart) ∙ flies))
+    | inr apart ↦ subst (λ x. x < begun) (sym (off_key carries number m a apart)) (c.begun_one m other (sym (off_key posts number m (Flying message) apart) ∙ flies))
   ];
   says = λ m other flies. elim (cases_eq m number) [
     | inl e ↦ subst (λ x. Carries stays (chains x) (unders x) other) (sym (at_number carries number m a e)) (subst (Carries stays (chains a) (unders a)) (flying_is message other (sym (at_number posts number m (Flying message) e) ∙ flies)) says)
-    | inr apart ↦ subst (λ x. Carries stays (chains x) (unders x) other) (sym (entry_other carries number m a apart)) (c.says m other (sym (entry_other posts number m (Flying message) apart) ∙ flies))
+    | inr apart ↦ subst (λ x. Carries stays (chains x) (unders x) other) (sym (off_key carries number m a apart)) (c.says m other (sym (off_key posts number m (Flying message) apart) ∙ flies))
   ];
   single = λ m n other another flies too same. elim (cases_eq m number) [
     | inl e ↦ elim (cases_eq n number) [
       | inl f ↦ e ∙ sym f
-      | inr nf ↦ absurd (none n another (sym (entry_other posts number n (Flying message) nf) ∙ too) (sym (entry_other carries number n a nf) ∙ sym same ∙ at_number carries number m a e))
+      | inr nf ↦ absurd (none n another (sym (off_key posts number n (Flying message) nf) ∙ too) (sym (off_key carries number n a nf) ∙ sym same ∙ at_number carries number m a e))
     ]
     | inr ne ↦ elim (cases_eq n number) [
-      | inl f ↦ absurd (none m other (sym (entry_other posts number m (Flying message) ne) ∙ flies) (sym (entry_other carries number m a ne) ∙ same ∙ at_number carries number n a f))
-      | inr nf ↦ c.single m n other another (sym (entry_other posts number m (Flying message) ne) ∙ flies) (sym (entry_other posts number n (Flying message) nf) ∙ too) (sym (entry_other carries number m a ne) ∙ same ∙ entry_other carries number n a nf)
+      | inl f ↦ absurd (none m other (sym (off_key posts number m (Flying message) ne) ∙ flies) (sym (off_key carries number m a ne) ∙ same ∙ at_number carries number n a f))
+      | inr nf ↦ c.single m n other another (sym (off_key posts number m (Flying message) ne) ∙ flies) (sym (off_key posts number n (Flying message) nf) ∙ too) (sym (off_key carries number m a ne) ∙ same ∙ off_key carries number n a nf)
     ]
   ];
 }
@@ -241,7 +242,7 @@ carried_new stays begun chains unders carries posts number a message c none lt s
 taken_apart : (posts : ℕ → Post) (number m : ℕ) (message : Message) → with_entry posts number Taken m ≡ Flying message → (m ≡ number → ⊥) × (posts m ≡ Flying message)
 taken_apart posts number m message flies = elim (cases_eq m number) [
   | inl e ↦ absurd (let x = sym (at_number posts number m Taken e) ∙ flies in cc)
-  | inr apart ↦ (apart, sym (entry_other posts number m Taken apart) ∙ flies)
+  | inr apart ↦ (apart, sym (off_key posts number m Taken apart) ∙ flies)
 ]
 
 -- a message is taken in

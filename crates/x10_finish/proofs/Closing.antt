@@ -16,7 +16,7 @@ use Rattle.x10_finish.specs.Nesting.{stays_in, Stays, stays_of, opened_of, nth, 
 use Rattle.x10_finish.specs.Chains.{Name, IsAmong, IsBegunBy, IsChain}
 use Rattle.x10_finish.specs.Closing.{chains_of, unders_of, IsSound, QuietIsIdeal, IsAtItsEnd, EndedIsQuiet}
 use Rattle.x10_finish.proofs.Stays.{stays_change}
-use Rattle.x10_finish.proofs.Nesting.{at_stay, pair_same, pair_other, no_stay, nothing_inside}
+use Rattle.x10_finish.proofs.Nesting.{at_pair, pair_same, pair_other, no_stay, nothing_inside}
 use Rattle.x10_finish.proofs.Chains.{chain_inherits}
 use Rattle.x10_finish.proofs.Sound.{sound_as, there_in, after_waits, after_works, after_opens, after_closes, after_spawns, after_shifts, after_begins, after_ends, net_with, after_enters, after_resumes, unused_finish}
 
@@ -109,7 +109,7 @@ opening_row setting key p k lt = elim (cases_eq p 0) [
 ]
 
 pub main_is : (setting : Setting) (key p k : ℕ) (s : Stay) → with_pair no_stays 0 key (Some (first_stay setting)) p k ≡ Some s → (p ≡ 0) × (k ≡ key) × (s ≡ first_stay setting)
-main_is setting key p k s h = at_stay (λ o. o ≡ Some s → (p ≡ 0) × (k ≡ key) × (s ≡ first_stay setting)) no_stays 0 key p k (Some (first_stay setting)) (λ ep ek is. (ep, ek, sym (same_Some (first_stay setting) s is))) (λ other is. no_stay s is) h
+main_is setting key p k s h = at_pair (λ o. o ≡ Some s → (p ≡ 0) × (k ≡ key) × (s ≡ first_stay setting)) no_stays 0 key p k (Some (first_stay setting)) (λ ep ek is. (ep, ek, sym (same_Some (first_stay setting) s is))) (λ other is. no_stay s is) h
 
 no_finish : {A : Type 0} (setting : Setting) (s : Stay) (i n : ℕ) → s ≡ first_stay setting → nth s.finishes i ≡ Some n → A
 no_finish setting s i n is h = no_stay n (sym (ap (λ (x : Stay). nth x.finishes i) is) ∙ h)

@@ -9,6 +9,7 @@ use Rattle.x10_model.specs.Moves.{resumed}
 use Rattle.x10_model.specs.Deliveries.{first_of}
 use Rattle.x10_model.specs.Totals.{Totals, Happening, Did, Took, totals_after, nothing, begins_one, ends_one, sends_to, receives_from}
 use Rattle.x10_model.specs.Worlds.{same_finish, Post, Unused, Flying, Taken, Net, sent, posts_after, enclosing_after, net_after, opening}
+use Rattle.x10_model.proofs.Maps.{at_key, off_key}
 use Rattle.x10_finish.specs.Detection as detection
 use Rattle.x10_finish.specs.Detection.{Counting, Event, IsAtWork, IsAble, AreAble, start, after, after_all, IsCounted}
 use Rattle.x10_finish.specs.Stays.{IsWayBack, MovesStay}
@@ -16,7 +17,7 @@ use Rattle.x10_finish.specs.Nesting.{stays_in, Stays, stays_of}
 use Rattle.x10_finish.specs.Telling.{HowMany, Inherits, IsBetween, FliesBetween, Tells, IsInRange, counted_as, GoesTo, FollowsOn, MovesAreCounted, DeliveriesAreCounted, OpeningIsCounted}
 use Rattle.x10_finish.proofs.Stays.{stays_change}
 use Rattle.x10_finish.proofs.Ledgers.{same_is}
-use Rattle.x10_finish.proofs.Counting.{at_entry, entry_same, entry_other, counted_at_start, counted_after}
+use Rattle.x10_finish.proofs.Counting.{at_entry, counted_at_start, counted_after}
 use Rattle.x10_finish.proofs.Nesting.{no_stay}
 use Rattle.x10_finish.proofs.Sound.{map_entry, entry_self, overwritten, stays_after, there_in, free_after}
 use Rattle.x10_finish.proofs.Closing.{no_stays, first_stay, opening_row}
@@ -95,8 +96,8 @@ counted_out places net f g s here key number to old new stay t message happening
       able = (lh, lt, works_under (stays_of net) net.posts f s here key stay stay.finishes tells there refl (sym inner ∙ sym fg));
       tells = tells_of v (with_pair (stays_of net) here key (Some t)) f (after f.home s (detection.PutsOut here to)) (λ q. (s.totals q).live) (with_pair s.flying here to (s.flying here to + 1)) stays_now (live_kept s here (sends_to (s.totals here) to) refl) refl live
           (fly_new net.posts f number here to message s.flying unused (is f (sym fg)) (λ p q h. (let o = one f p q h in (o.0, o.1))) tells.flying);
-      here_is = entry_same s.totals here (sends_to (s.totals here) to);
-      others = λ p apart. entry_other s.totals here p (sends_to (s.totals here) to) apart;
+      here_is = at_key s.totals here (sends_to (s.totals here) to);
+      others = λ p apart. off_key s.totals here p (sends_to (s.totals here) to) apart;
     }))
     (λ b. tells_of v (with_pair (stays_of net) here key (Some t)) f s (λ q. (s.totals q).live) s.flying stays_now refl refl live (fly_other net.posts f number message s.flying unused (λ p q h. apart_by f g b (sym (one f p q h).2)) tells.flying))
 
@@ -111,7 +112,7 @@ counted_begins places net f g s here key other old new stay t u happening tells 
     let stays1 = with_pair (stays_of net) here key (Some t) in
     let first : stays_of between ≡ stays1 = stays_after net here key old mid (Some t) e refl in
     let stays_now : stays_of v ≡ with_pair stays1 here other (Some u) =
-    ap (λ (g : ℕ → Option machine.Place). λ p. stays_in (g p)) (sym (overwritten net.places here (Some mid) (Some new))) ∙ stays_after between here other mid new (Some u) (entry_same net.places here (Some mid)) stays ∙ ap (λ x. with_pair x here other (Some u)) first in
+    ap (λ (g : ℕ → Option machine.Place). λ p. stays_in (g p)) (sym (overwritten net.places here (Some mid) (Some new))) ∙ stays_after between here other mid new (Some u) (at_key net.places here (Some mid)) stays ∙ ap (λ x. with_pair x here other (Some u)) first in
     let open_key = free_after (stays_of net) here key other stay t there (ap (λ o. stays_in o other) e ∙ free) in
     let live = live_same (stays_of net) f here key stay t (λ q. (s.totals q).live) there same tells.live in
     follows_by places f s (detection.Begins here) here happening (begins_one (s.totals here)) v (same_finish f g) totals
@@ -119,8 +120,8 @@ counted_begins places net f g s here key other old new stay t u happening tells 
       able = works_under (stays_of net) net.posts f s here key stay stay.finishes tells there refl (sym inner ∙ sym fg);
       tells = tells_of v (with_pair stays1 here other (Some u)) f (after f.home s (detection.Begins here)) (with_entry (λ q. (s.totals q).live) here ((s.totals here).live + 1)) s.flying stays_now (live_at s here (begins_one (s.totals here))) refl
           (live_new stays1 f here other u (λ q. (s.totals q).live) open_key (under ∙ sym fg) live) tells.flying;
-      here_is = entry_same s.totals here (begins_one (s.totals here));
-      others = λ p apart. entry_other s.totals here p (begins_one (s.totals here)) apart;
+      here_is = at_key s.totals here (begins_one (s.totals here));
+      others = λ p apart. off_key s.totals here p (begins_one (s.totals here)) apart;
     }))
     (λ b. tells_of v (with_pair stays1 here other (Some u)) f s (λ q. (s.totals q).live) s.flying stays_now refl refl (live_new_other stays1 f here other u (λ q. (s.totals q).live) open_key (λ is. apart_by f g b (sym is ∙ under)) live) tells.flying)
 
@@ -136,8 +137,8 @@ counted_ends places net f g s here key report old new stay happening posts tells
       able = (many_some (Inherits (stays_of net) f here) (s.totals here).live key (tells.live here) (stay, there, sym under ∙ sym fg), unused);
       tells = tells_of v (with_pair (stays_of net) here key None) f (after f.home s (detection.Ends here report)) (with_entry (λ q. (s.totals q).live) here ((s.totals here).live - 1)) s.flying stays_now (live_at s here (ends_one (s.totals here))) refl
           (live_gone (stays_of net) f here key stay (λ q. (s.totals q).live) there (sym under ∙ sym fg) tells.live) fly;
-      here_is = entry_same s.totals here (ends_one (s.totals here));
-      others = λ p apart. entry_other s.totals here p (ends_one (s.totals here)) apart;
+      here_is = at_key s.totals here (ends_one (s.totals here));
+      others = λ p apart. off_key s.totals here p (ends_one (s.totals here)) apart;
     }))
     (λ b. tells_of v (with_pair (stays_of net) here key None) f s (λ q. (s.totals q).live) s.flying stays_now refl refl (live_gone_other (stays_of net) f here key stay (λ q. (s.totals q).live) there (λ is. apart_by f g b (sym is ∙ sym under)) tells.live) fly)
 
@@ -201,8 +202,8 @@ counted_arrives places net f g s here key number from old new u message happenin
       tells = tells_of v (with_pair (stays_of net) here key (Some u)) f (after f.home s (detection.Arrives from here)) (with_entry (λ q. (s.totals q).live) here ((s.totals here).live + 1)) (with_pair s.flying from here (s.flying from here - 1)) stays_now
           (live_at s here (receives_from (s.totals here) from)) refl (live_new (stays_of net) f here key u (λ q. (s.totals q).live) open_key (under ∙ sym fg) tells.live)
           (fly_taken net.posts f number from here message s.flying flying goes (λ p q h. (let o = one f p q h in (o.0, o.1))) tells.flying);
-      here_is = entry_same s.totals here (receives_from (s.totals here) from);
-      others = λ p apart. entry_other s.totals here p (receives_from (s.totals here) from) apart;
+      here_is = at_key s.totals here (receives_from (s.totals here) from);
+      others = λ p apart. off_key s.totals here p (receives_from (s.totals here) from) apart;
     }))
     (λ b. tells_of v (with_pair (stays_of net) here key (Some u)) f s (λ q. (s.totals q).live) s.flying stays_now refl refl (live_new_other (stays_of net) f here key u (λ q. (s.totals q).live) open_key (λ same. apart_by f g b (sym same ∙ under)) tells.live)
     (fly_taken_other net.posts f number message s.flying flying (λ p q h. apart_by f g b (sym (one f p q h).2)) tells.flying))

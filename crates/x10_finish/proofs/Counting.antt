@@ -4,8 +4,10 @@ use Rattle.std.proofs.lemmas.Bool.{eqb-true, ne_eqb, eq-eqb, cases_eq}
 use Rattle.std.proofs.lemmas.Option.{same_Some}
 use Rattle.x10_model.specs.Maps.{with_entry, with_pair}
 use Rattle.x10_model.specs.Totals.{Totals, Entry, Cut, zeros, entry_of, larger, sends_to, begins_one, ends_one, receives_from, is_last}
+use Rattle.x10_model.proofs.Lists.{none_some}
+use Rattle.x10_model.proofs.Maps.{at_key, off_key}
 use Rattle.x10_finish.specs.Detection.{Told, Counting, Event, PutsOut, Begins, Ends, Arrives, TakesIn, start, told_of, taken, after, IsAtWork, IsAble, AreAble, after_all, IsEarlierOf, in_flight, is_kept, is_nothing, IsBelow, IsCutOf, entry_or, entry_in, IsStill, AreStill, Lacks, IsToldNow, IsCounted}
-pub use Rattle.x10_finish.proofs.Entries.{entry_same, entry_other, at_entry, at_pair, none_some, below_itself, below_same, larger_second, larger_first}
+pub use Rattle.x10_finish.proofs.Entries.{at_entry, at_pair, below_itself, below_same, larger_second, larger_first}
 
 -- ---- a place that sends more
 
@@ -24,7 +26,7 @@ still_apart home s cut place p e now (inl lives) still there same =
     let quiet = (still p e there).live in
     let here : (s.totals p).live ≡ (s.totals place).live = ap (λ x. (s.totals x).live) same in
     omega arith
-still_apart home s cut place p e now (inr owner) still there same = none_some (cut home) e now (subst (λ x. cut x ≡ Some e) (same ∙ owner) there)
+still_apart home s cut place p e now (inr owner) still there same = absurd (none_some (cut home) e now (subst (λ x. cut x ≡ Some e) (same ∙ owner) there))
 
 -- totals of a place at work change, and no report
 still_on : (home : ℕ) (s : Counting) (cut : ℕ → Option Entry) (place : ℕ) (t : Totals) → cut home ≡ None → IsAtWork home s place → AreStill s.totals cut → AreStill (with_entry s.totals place t) cut
@@ -81,7 +83,7 @@ one_more f k j = at_entry (λ v. f j ≤ v) f k j (f k + 1) (λ same. (let e = a
 sent_after : (totals : ℕ → Totals) (p q a b : ℕ) → ((a ≡ p) × (b ≡ q) → ⊥) → (with_entry totals p (sends_to (totals p) q) a).sent b ≡ (totals a).sent b
 sent_after totals p q a b apart =
     at_entry (λ u. u.sent b ≡ (totals a).sent b) totals p a (sends_to (totals p) q)
-    (λ same. entry_other (totals p).sent q b ((totals p).sent q + 1) (λ s. apart (same, s)) ∙ ap (λ x. (totals x).sent b) (sym same)) (λ other. refl)
+    (λ same. off_key (totals p).sent q b ((totals p).sent q + 1) (λ s. apart (same, s)) ∙ ap (λ x. (totals x).sent b) (sym same)) (λ other. refl)
 
 sent_here : (totals : ℕ → Totals) (p q a b : ℕ) → a ≡ p → b ≡ q → (with_entry totals p (sends_to (totals p) q) a).sent b ≡ (totals a).sent b + 1
 sent_here totals p q a b ea eb =
@@ -128,7 +130,7 @@ arrived_sent totals p q a b = at_entry (λ u. u.sent b ≡ (totals a).sent b) to
 arrived_apart : (totals : ℕ → Totals) (p q a b : ℕ) → ((a ≡ p) × (b ≡ q) → ⊥) → (with_entry totals q (receives_from (totals q) p) b).received a ≡ (totals b).received a
 arrived_apart totals p q a b apart =
     at_entry (λ u. u.received a ≡ (totals b).received a) totals q b (receives_from (totals q) p)
-    (λ same. entry_other (totals q).received p a ((totals q).received p + 1) (λ s. apart (s, same)) ∙ ap (λ x. (totals x).received a) (sym same)) (λ other. refl)
+    (λ same. off_key (totals q).received p a ((totals q).received p + 1) (λ s. apart (s, same)) ∙ ap (λ x. (totals x).received a) (sym same)) (λ other. refl)
 
 arrived_here : (totals : ℕ → Totals) (p q a b : ℕ) → a ≡ p → b ≡ q → (with_entry totals q (receives_from (totals q) p) b).received a ≡ (totals b).received a + 1
 arrived_here totals p q a b ea eb =
@@ -151,7 +153,7 @@ lacks_now places totals after cut p q e lp lq there still less same =
 at_receiver : (places : ℕ) (totals : ℕ → Totals) (t : Totals) (cut : ℕ → Option Entry) (p q : ℕ) → p < places → q < places → AreStill totals cut → (totals q).received p < (totals p).sent q → ((a b : ℕ) → (with_entry totals q t a).sent b ≡ (totals a).sent b)
     → (o : Option Entry) → cut q ≡ o → AreStill (with_entry totals q t) cut ⊎ Lacks places (with_entry totals q t) cut
 at_receiver places totals t cut p q lp lq still less same None e =
-    inl (λ r f there. at_entry (IsStill f) totals q r t (λ at. none_some (cut q) f e (subst (λ x. cut x ≡ Some f) at there)) (λ apart. still r f there))
+    inl (λ r f there. at_entry (IsStill f) totals q r t (λ at. absurd (none_some (cut q) f e (subst (λ x. cut x ≡ Some f) at there))) (λ apart. still r f there))
 at_receiver places totals t cut p q lp lq still less same (Some f) e = inr (lacks_now places totals (with_entry totals q t) cut p q f lp lq e still less (sym (same p q)))
 
 arrives : (places home : ℕ) (s : Counting) (p q : ℕ) → IsCounted places home s → p < places → q < places → 0 < s.flying p q → IsCounted places home (after home s (Arrives p q))
@@ -202,7 +204,7 @@ taken_last places home s number t there i p (inr (n, u, h, at, now)) = elim (cas
       inl (at_entry (λ v. v ≡ entry_of (s.totals p)) s.kept t.place p (larger (s.kept t.place) t.entry)
       (λ e. larger_second (s.kept t.place) t.entry (subst (IsBelow (s.kept t.place)) (ap (λ x. entry_of (s.totals x)) place_is ∙ sym entry_is) (i.earlier t.place (s.kept t.place) is_kept)) ∙ entry_is)
       (λ apart. absurd (apart (sym place_is)))))
-  | inr other ↦ inr (n, u, entry_other s.told number n None other ∙ h, at, now)
+  | inr other ↦ inr (n, u, off_key s.told number n None other ∙ h, at, now)
 ]
 
 takes_in : (places home : ℕ) (s : Counting) (number : ℕ) (t : Told) → s.told number ≡ Some t → IsCounted places home s → IsCounted places home (after home s (TakesIn number))
@@ -273,7 +275,7 @@ still_with : (totals : ℕ → Totals) (p : ℕ) (t : Totals) (cut : ℕ → Opt
 still_with totals p t cut e there now still r f h =
     at_entry (IsStill f) totals p r t
     (λ same. subst (λ x. IsStill x t) (same_Some e f (sym there ∙ subst (λ x. cut x ≡ Some f) same h)) now)
-    (λ apart. still r f (entry_other cut p r None apart ∙ h))
+    (λ apart. still r f (off_key cut p r None apart ∙ h))
 
 lacks_with : (places : ℕ) (totals : ℕ → Totals) (p : ℕ) (t : Totals) (cut : ℕ → Option Entry) (e : Entry) → cut p ≡ Some e → e ≡ entry_of (totals p) → ((r q : ℕ) → (totals r).sent q ≤ (with_entry totals p t r).sent q)
     → Lacks places totals (with_entry cut p None) → Lacks places (with_entry totals p t) cut
@@ -298,7 +300,7 @@ ended_cuts : (places home : ℕ) (s : Counting) (p n : ℕ) → IsCounted places
     → AreStill (with_entry s.totals p (ends_one (s.totals p))) cut ⊎ Lacks places (with_entry s.totals p (ends_one (s.totals p))) cut
 ended_cuts places home s p n i lives none cut is None at =
     let t = ends_one (s.totals p) in
-    elim (i.cuts cut (cut_before home s.told s.kept n p (s.totals p) cut is (λ e h. none_some (cut p) e at h))) [
+    elim (i.cuts cut (cut_before home s.told s.kept n p (s.totals p) cut is (λ e h. absurd (none_some (cut p) e at h)))) [
       | inl still ↦ inl (still_on home s cut p t is.now (inl lives) still)
       | inr l ↦ inr (lacks_on places s.totals (with_entry s.totals p t) cut (more_on s.totals p t (λ q. omega arith)) l)
     ]
@@ -318,7 +320,7 @@ ended_cuts places home s p n i lives none cut is (Some e) at =
 told_on : (told : ℕ → Option Told) (kept : Cut) (n : ℕ) (u : Told) (r : ℕ) (t : Totals) → told n ≡ None → HasTold told kept r t → HasTold (with_entry told n (Some u)) kept r t
 told_on told kept n u r t unused (inl same) = inl same
 told_on told kept n u r t unused (inr (m, v, h, at, now)) =
-    inr (m, v, at_entry (λ o. o ≡ Some v) told n m (Some u) (λ same. none_some (told n) v unused (subst (λ x. told x ≡ Some v) same h)) (λ apart. h), at, now)
+    inr (m, v, at_entry (λ o. o ≡ Some v) told n m (Some u) (λ same. absurd (none_some (told n) v unused (subst (λ x. told x ≡ Some v) same h))) (λ apart. h), at, now)
 
 ended_last : (places home : ℕ) (s : Counting) (p n : ℕ) → IsCounted places home s → 0 < (s.totals p).live → (s.totals p).live - 1 ≡ 0 → s.told n ≡ None
     → IsCounted places home (record s { totals = with_entry s.totals p (ends_one (s.totals p)); told = with_entry s.told n (Some (told_of p (s.totals p))) })
@@ -337,7 +339,7 @@ ended_last places home s p n i lives none unused =
           (i.earlier r e) (i.earlier r f) (i.in_line r e f);
       cuts = λ cut is. ended_cuts places home s p n i lives none cut is (cut p) refl;
       last = λ r. at_entry (λ u. WorksWith home r u ⊎ HasTold told s.kept r u) s.totals p r t
-          (λ same. inr (inr (n, told_of p (s.totals p), entry_same s.told n (Some (told_of p (s.totals p))), sym same, refl)))
+          (λ same. inr (inr (n, told_of p (s.totals p), at_key s.told n (Some (told_of p (s.totals p))), sym same, refl)))
           (λ apart. elim (i.last r) [ inl work ↦ inl work | inr told_now ↦ inr (told_on s.told s.kept n (told_of p (s.totals p)) r (s.totals r) unused told_now) ]);
     }
 

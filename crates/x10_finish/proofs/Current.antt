@@ -7,13 +7,13 @@ use Rattle.x10_model.specs.Places.{Setting, Finish, root, Stay, Message, Spawn, 
 use Rattle.x10_model.specs.Deliveries.{Receives}
 use Rattle.x10_model.specs.Totals.{Totals, begins_one, ends_one, sends_to, receives_from, Did, Took, totals_after, is_last, is_reported}
 use Rattle.x10_model.specs.Worlds.{same_finish, Net, Book, net_after, Flying}
+use Rattle.x10_model.proofs.Maps.{at_key}
 use Rattle.x10_finish.specs.Stays.{MovesStay}
 use Rattle.x10_finish.specs.Nesting.{stays_in, opened_in, stays_of, opened_of, nth, IsOpen, IsHeld}
 use Rattle.x10_finish.specs.Closing.{IsSound}
 use Rattle.x10_finish.specs.Watching.{IsCurrent, closes}
 use Rattle.x10_finish.proofs.Ledgers.{same_is}
-use Rattle.x10_finish.proofs.Counting.{entry_same}
-use Rattle.x10_finish.proofs.Nesting.{at_stay, no_stay, grown, innermost_held}
+use Rattle.x10_finish.proofs.Nesting.{at_pair, no_stay, grown, innermost_held}
 use Rattle.x10_finish.proofs.Sound.{there_in, stays_after, opened_after, opened_same, entry_self, overwritten, net_with}
 use Rattle.x10_finish.proofs.Rooted.{HadOpen, open_back, had_same, had_rest, had_none, opened_or_new}
 
@@ -59,7 +59,7 @@ moved_open net here key number old new (Begins other function under) f e m is_op
     let mid = record old { stays = with_entry old.stays key (Some c.0) } in
     let between : Net = record net { places = with_entry net.places here (Some mid) } in
     let again = subst (λ (x : ℕ → Option machine.Place). IsOpen (λ p. stays_in (x p)) f) (sym (overwritten net.places here (Some mid) (Some new))) is_open in
-    let first = open_before between here other mid new (Some c.1) f (entry_same net.places here (Some mid)) c.6 (had_none (stays_of between) here c.1 c.3.finishes) again in
+    let first = open_before between here other mid new (Some c.1) f (at_key net.places here (Some mid)) c.6 (had_none (stays_of between) here c.1 c.3.finishes) again in
     inl (inr (open_before net here key old mid (Some c.0) f e refl (had_same (stays_of net) here key m.stay c.0 (there_in net here key old new (Begins other function under) e m) c.2.finishes_are) first))
 moved_open net here key number old new (Opens n inside) f e m is_open =
     let c = m.changes in
@@ -101,7 +101,7 @@ closed_gone net book here key number n old new i e m (inl (inr (k, j, u, at, h))
     let c = m.changes in
     let there = there_in net here key old new (Closes n) e m in
     let top = ap (λ xs. nth xs 0) c.2 in
-    at_stay (λ o. o ≡ Some u → ⊥) (stays_of net) here key here k (Some c.0)
+    at_pair (λ o. o ≡ Some u → ⊥) (stays_of net) here key here k (Some c.0)
     (λ eh ek is. (let rest : nth c.1 j ≡ Some n = sym (ap (λ xs. nth xs j) (ap (λ (x : Stay). x.finishes) (sym (same_Some c.0 u is)) ∙ c.3.finishes_are)) ∙ h in
     let same = (i.nested.apart here key key 0 (suc j) n m.stay m.stay there there top (ap (λ xs. nth xs (suc j)) c.2 ∙ rest)).1 in
     omega (arith, same)))

@@ -3,25 +3,21 @@ use Rattle.std.proofs.Common.{◌≡◌, ℕ, Option, Some, None, inl, inr, refl
 use Rattle.std.proofs.lemmas.Bool.{ne_eqb, eq-eqb, cases_eq}
 use Rattle.x10_model.specs.Maps.{with_entry, with_pair}
 use Rattle.x10_model.specs.Totals.{Entry, larger}
+use Rattle.x10_model.proofs.Maps.{at_key, off_key}
 use Rattle.x10_finish.specs.Detection.{IsBelow}
 use Rattle.x10_finish.proofs.Balances.{same_entry}
 
 -- ---- maps
 
-pub entry_same : {V : Type 0} (f : ℕ → V) (k : ℕ) (v : V) → with_entry f k v k ≡ v
-entry_same f k v = rw (eq-eqb k k refl) refl
-
-pub entry_other : {V : Type 0} (f : ℕ → V) (k j : ℕ) (v : V) → (j ≡ k → ⊥) → with_entry f k v j ≡ f j
-entry_other f k j v apart = rw (ne_eqb j k apart) refl
-
 -- what holds of the new value and of each other one holds of all
 pub at_entry : {V : Type 0} (P : V → Type 0) (f : ℕ → V) (k j : ℕ) (v : V) → (j ≡ k → P v) → ((j ≡ k → ⊥) → P (f j)) → P (with_entry f k v j)
 at_entry P f k j v here there = elim (cases_eq j k) [
-  | inl same ↦ subst P (sym (subst (λ x. with_entry f k v x ≡ v) (sym same) (entry_same f k v))) (here same)
-  | inr apart ↦ subst P (sym (entry_other f k j v apart)) (there apart)
+  | inl same ↦ subst P (sym (subst (λ x. with_entry f k v x ≡ v) (sym same) (at_key f k v))) (here same)
+  | inr apart ↦ subst P (sym (off_key f k j v apart)) (there apart)
 ]
 
-pub at_pair : (P : ℕ → Type 0) (f : ℕ → ℕ → ℕ) (i j a b v : ℕ) → (a ≡ i → b ≡ j → P v) → (((a ≡ i) × (b ≡ j) → ⊥) → P (f a b)) → P (with_pair f i j v a b)
+-- the same for pairs
+pub at_pair : {V : Type 0} (P : V → Type 0) (f : ℕ → ℕ → V) (i j a b : ℕ) (v : V) → (a ≡ i → b ≡ j → P v) → (((a ≡ i) × (b ≡ j) → ⊥) → P (f a b)) → P (with_pair f i j v a b)
 at_pair P f i j a b v here there = elim (cases_eq a i) [
   | inl ea ↦ elim (cases_eq b j) [
     | inl eb ↦ (let p = eq-eqb a i ea in let q = eq-eqb b j eb in rw (p, q) (here ea eb))
@@ -29,9 +25,6 @@ at_pair P f i j a b v here there = elim (cases_eq a i) [
   ]
   | inr na ↦ (let p = ne_eqb a i na in rw p (there (λ both. na both.0)))
 ]
-
-pub none_some : {V : Type 0} {A : Type 0} (o : Option V) (v : V) → o ≡ None → o ≡ Some v → A
-none_some o v e f = absurd (let x = sym e ∙ f in cc)
 
 -- ---- entries
 

@@ -7,10 +7,11 @@ use Rattle.x10_model.specs.Places.{Finish, Stay, Message}
 use Rattle.x10_model.specs.Worlds.{Post, Flying, Taken, Unused}
 use Rattle.x10_finish.specs.Nesting.{Stays}
 use Rattle.x10_finish.specs.Telling.{HowMany, Inherits, IsBetween, FliesBetween}
-use Rattle.x10_finish.proofs.Counting.{at_entry, entry_same, entry_other}
-use Rattle.x10_finish.proofs.Nesting.{at_stay, pair_same, pair_other, no_stay}
+use Rattle.x10_finish.proofs.Counting.{at_entry}
+use Rattle.x10_finish.proofs.Nesting.{at_pair, pair_same, pair_other, no_stay}
 use Rattle.x10_finish.proofs.HowMany.{many_same, many_more, many_less}
 use Rattle.x10_model.proofs.Events.{flying_is}
+use Rattle.x10_model.proofs.Maps.{at_key, off_key}
 
 -- so many stays inherited the finish at each place; so many messages fly from each place to each
 abbrev pub Live : Stays → Finish → (ℕ → ℕ) → Type 0
@@ -27,8 +28,8 @@ inherits_other stays f here key p k o apart i = (i.0, pair_other stays here key 
 inherited_other : (stays : Stays) (f : Finish) (here key p k : ℕ) (o : Option Stay) → ((p ≡ here) × (k ≡ key) → ⊥) → Inherits (with_pair stays here key o) f p k → Inherits stays f p k
 inherited_other stays f here key p k o apart i = (i.0, sym (pair_other stays here key p k o apart) ∙ i.1, i.2)
 
-at_key : (here key p k : ℕ) (P : ℕ → ℕ → Type 0) → P here key → (((p ≡ here) × (k ≡ key) → ⊥) → P p k) → P p k
-at_key here key p k P there other = elim (cases_eq p here) [
+there_or_apart : (here key p k : ℕ) (P : ℕ → ℕ → Type 0) → P here key → (((p ≡ here) × (k ≡ key) → ⊥) → P p k) → P p k
+there_or_apart here key p k P there other = elim (cases_eq p here) [
   | inl ep ↦ elim (cases_eq k key) [
     | inl ek ↦ subst (λ x. P x k) (sym ep) (subst (P here) (sym ek) there)
     | inr nk ↦ other (λ both. nk both.1)
@@ -41,8 +42,8 @@ live_key : (stays : Stays) (f : Finish) (here key : ℕ) (o : Option Stay) (live
     → Live (with_pair stays here key o) f live
 live_key stays f here key o live on back l p =
     many_same (Inherits stays f p) (Inherits (with_pair stays here key o) f p) (live p) (l p)
-    (λ k. at_key here key p k (λ x y. Inherits stays f x y → Inherits (with_pair stays here key o) f x y) on (λ apart. inherits_other stays f here key p k o apart))
-    (λ k. at_key here key p k (λ x y. Inherits (with_pair stays here key o) f x y → Inherits stays f x y) back (λ apart. inherited_other stays f here key p k o apart))
+    (λ k. there_or_apart here key p k (λ x y. Inherits stays f x y → Inherits (with_pair stays here key o) f x y) on (λ apart. inherits_other stays f here key p k o apart))
+    (λ k. there_or_apart here key p k (λ x y. Inherits (with_pair stays here key o) f x y → Inherits stays f x y) back (λ apart. inherited_other stays f here key p k o apart))
 
 pub live_same : (stays : Stays) (f : Finish) (here key : ℕ) (s t : Stay) (live : ℕ → ℕ) → stays here key ≡ Some s → t.inherited ≡ s.inherited → Live stays f live → Live (with_pair stays here key (Some t)) f live
 live_same stays f here key s t live there same =
@@ -86,10 +87,10 @@ live_gone stays f here key s live there is l p =
 -- ---- one message changes
 
 flies_other : (posts : ℕ → Post) (f : Finish) (p q number m : ℕ) (o : Post) → (m ≡ number → ⊥) → FliesBetween posts f p q m → FliesBetween (with_entry posts number o) f p q m
-flies_other posts f p q number m o apart b = (b.0, entry_other posts number m o apart ∙ b.1, b.2)
+flies_other posts f p q number m o apart b = (b.0, off_key posts number m o apart ∙ b.1, b.2)
 
 flew_other : (posts : ℕ → Post) (f : Finish) (p q number m : ℕ) (o : Post) → (m ≡ number → ⊥) → FliesBetween (with_entry posts number o) f p q m → FliesBetween posts f p q m
-flew_other posts f p q number m o apart b = (b.0, sym (entry_other posts number m o apart) ∙ b.1, b.2)
+flew_other posts f p q number m o apart b = (b.0, sym (off_key posts number m o apart) ∙ b.1, b.2)
 
 -- neither before nor after does it fly from the one to the other
 flies_same : (posts : ℕ → Post) (f : Finish) (p q number n : ℕ) (o : Post) → (FliesBetween posts f p q number → ⊥) → (FliesBetween (with_entry posts number o) f p q number → ⊥) → HowMany (FliesBetween posts f p q) n → HowMany (FliesBetween (with_entry posts number o) f p q) n
@@ -108,30 +109,30 @@ not_taken m e = absurd cc
 pub fly_other : (posts : ℕ → Post) (f : Finish) (number : ℕ) (message : Message) (flying : ℕ → ℕ → ℕ) → posts number ≡ Unused → ((p q : ℕ) → IsBetween f p q message → ⊥) → Fly posts f flying → Fly (with_entry posts number (Flying message)) f flying
 fly_other posts f number message flying unused apart l p q =
     flies_same posts f p q number (flying p q) (Flying message) (λ b. not_unused b.0 (sym unused ∙ b.1))
-    (λ b. apart p q (subst (IsBetween f p q) (sym (flying_is message b.0 (sym (entry_same posts number (Flying message)) ∙ b.1))) b.2)) (l p q)
+    (λ b. apart p q (subst (IsBetween f p q) (sym (flying_is message b.0 (sym (at_key posts number (Flying message)) ∙ b.1))) b.2)) (l p q)
 
 -- a message flies from one place to another
 pub fly_new : (posts : ℕ → Post) (f : Finish) (number from to : ℕ) (message : Message) (flying : ℕ → ℕ → ℕ) → posts number ≡ Unused → IsBetween f from to message → ((p q : ℕ) → IsBetween f p q message → (p ≡ from) × (q ≡ to)) → Fly posts f flying
     → Fly (with_entry posts number (Flying message)) f (with_pair flying from to (flying from to + 1))
 fly_new posts f number from to message flying unused is one l p q =
-    at_stay (HowMany (FliesBetween (with_entry posts number (Flying message)) f p q)) flying from to p q (flying from to + 1)
+    at_pair (HowMany (FliesBetween (with_entry posts number (Flying message)) f p q)) flying from to p q (flying from to + 1)
     (λ ep eq. subst (λ x. HowMany (FliesBetween (with_entry posts number (Flying message)) f x q) (flying from to + 1)) (sym ep) (subst (λ y. HowMany (FliesBetween (with_entry posts number (Flying message)) f from y) (flying from to + 1)) (sym eq)
-    (many_more (FliesBetween posts f from to) (FliesBetween (with_entry posts number (Flying message)) f from to) (flying from to) number (l from to) (λ b. not_unused b.0 (sym unused ∙ b.1)) (message, entry_same posts number (Flying message), is)
+    (many_more (FliesBetween posts f from to) (FliesBetween (with_entry posts number (Flying message)) f from to) (flying from to) number (l from to) (λ b. not_unused b.0 (sym unused ∙ b.1)) (message, at_key posts number (Flying message), is)
     (λ m apart. flies_other posts f from to number m (Flying message) apart) (λ m apart. flew_other posts f from to number m (Flying message) apart))))
     (λ other. flies_same posts f p q number (flying p q) (Flying message) (λ b. not_unused b.0 (sym unused ∙ b.1))
-    (λ b. other (one p q (subst (IsBetween f p q) (sym (flying_is message b.0 (sym (entry_same posts number (Flying message)) ∙ b.1))) b.2))) (l p q))
+    (λ b. other (one p q (subst (IsBetween f p q) (sym (flying_is message b.0 (sym (at_key posts number (Flying message)) ∙ b.1))) b.2))) (l p q))
 
 -- a message is taken in that was under no such finish
 pub fly_taken_other : (posts : ℕ → Post) (f : Finish) (number : ℕ) (message : Message) (flying : ℕ → ℕ → ℕ) → posts number ≡ Flying message → ((p q : ℕ) → IsBetween f p q message → ⊥) → Fly posts f flying → Fly (with_entry posts number Taken) f flying
 fly_taken_other posts f number message flying was apart l p q =
-    flies_same posts f p q number (flying p q) Taken (λ b. apart p q (subst (IsBetween f p q) (sym (flying_is message b.0 (sym was ∙ b.1))) b.2)) (λ b. not_taken b.0 (sym (entry_same posts number Taken) ∙ b.1)) (l p q)
+    flies_same posts f p q number (flying p q) Taken (λ b. apart p q (subst (IsBetween f p q) (sym (flying_is message b.0 (sym was ∙ b.1))) b.2)) (λ b. not_taken b.0 (sym (at_key posts number Taken) ∙ b.1)) (l p q)
 
 -- a message from one place to another is taken in
 pub fly_taken : (posts : ℕ → Post) (f : Finish) (number from to : ℕ) (message : Message) (flying : ℕ → ℕ → ℕ) → posts number ≡ Flying message → IsBetween f from to message → ((p q : ℕ) → IsBetween f p q message → (p ≡ from) × (q ≡ to)) → Fly posts f flying
     → Fly (with_entry posts number Taken) f (with_pair flying from to (flying from to - 1))
 fly_taken posts f number from to message flying was is one l p q =
-    at_stay (HowMany (FliesBetween (with_entry posts number Taken) f p q)) flying from to p q (flying from to - 1)
+    at_pair (HowMany (FliesBetween (with_entry posts number Taken) f p q)) flying from to p q (flying from to - 1)
     (λ ep eq. subst (λ x. HowMany (FliesBetween (with_entry posts number Taken) f x q) (flying from to - 1)) (sym ep) (subst (λ y. HowMany (FliesBetween (with_entry posts number Taken) f from y) (flying from to - 1)) (sym eq)
-    (many_less (FliesBetween posts f from to) (FliesBetween (with_entry posts number Taken) f from to) (flying from to) number (l from to) (message, was, is) (λ b. not_taken b.0 (sym (entry_same posts number Taken) ∙ b.1))
+    (many_less (FliesBetween posts f from to) (FliesBetween (with_entry posts number Taken) f from to) (flying from to) number (l from to) (message, was, is) (λ b. not_taken b.0 (sym (at_key posts number Taken) ∙ b.1))
     (λ m apart. flies_other posts f from to number m Taken apart) (λ m apart. flew_other posts f from to number m Taken apart))))
-    (λ other. flies_same posts f p q number (flying p q) Taken (λ b. other (one p q (subst (IsBetween f p q) (sym (flying_is message b.0 (sym was ∙ b.1))) b.2))) (λ b. not_taken b.0 (sym (entry_same posts number Taken) ∙ b.1)) (l p q))
+    (λ other. flies_same posts f p q number (flying p q) Taken (λ b. other (one p q (subst (IsBetween f p q) (sym (flying_is message b.0 (sym was ∙ b.1))) b.2))) (λ b. not_taken b.0 (sym (at_key posts number Taken) ∙ b.1)) (l p q))

@@ -1,5 +1,6 @@
 -- Stays are at places and messages go from place to place, in every world.
 use Rattle.std.proofs.Common.{◌≡◌, ℕ, ◌<◌, Option, Some, None, refl, sym, ◌∙◌, subst}
+use Rattle.std.proofs.lemmas.Option.{same_Some}
 use Rattle.x10_model.specs.Maps.{with_entry}
 use Rattle.x10_model.specs.Places as machine
 use Rattle.x10_model.specs.Places.{Setting, Finish, Origin, Stay, Message, Spawn, Shift, Back, receiver, Effect, Waits, Works, Begins, Spawns, Shifts, Opens, Closes, Ends}
@@ -22,15 +23,12 @@ stays_range places net here new range lh p k s h =
 abbrev IsFrom : ℕ → ℕ → Message → Type 0
 IsFrom places here message = (f : Finish) (p q : ℕ) → IsBetween f p q message → (p ≡ here) × (q ≡ receiver message)
 
-one : (x y : Message) → Some x ≡ Some y → x ≡ y
-one x y e = cc
-
 taken_flies : (x : Message) → Taken ≡ Flying x → ⊥
 taken_flies x e = absurd cc
 
 from_back : (here places : ℕ) (origin : Option Origin) (back : Option Message) (message : Message) → IsWayBack here origin back → back ≡ Some message → IsFrom places here message
 from_back here places None back message way e = no_stay message (sym way ∙ e)
-from_back here places (Some origin) back message way e = subst (IsFrom places here) (one (Back here origin.place origin.key way.0) message (sym way.1 ∙ e)) (λ f p q b. absurd b)
+from_back here places (Some origin) back message way e = subst (IsFrom places here) (same_Some (Back here origin.place origin.key way.0) message (sym way.1 ∙ e)) (λ f p q b. absurd b)
 
 from_here : (here : ℕ) (old new : machine.Place) (key : ℕ) (effect : Effect) (places : ℕ) → MovesStay here old key new effect → (message : Message) → sent effect ≡ Some message → IsFrom places here message
 from_here here old new key (Waits n) places m message e = no_stay message e
@@ -38,8 +36,8 @@ from_here here old new key Works places m message e = no_stay message e
 from_here here old new key (Begins other function under) places m message e = no_stay message e
 from_here here old new key (Opens n inside) places m message e = no_stay message e
 from_here here old new key (Closes n) places m message e = no_stay message e
-from_here here old new key (Spawns x function under) places m message e = subst (IsFrom places here) (sym m.changes.5 ∙ one x message e) (λ f p q b. (sym b.0, sym b.1))
-from_here here old new key (Shifts x under) places m message e = subst (IsFrom places here) (sym m.changes.6 ∙ one x message e) (λ f p q b. (sym b.0, sym b.1))
+from_here here old new key (Spawns x function under) places m message e = subst (IsFrom places here) (sym m.changes.5 ∙ same_Some x message e) (λ f p q b. (sym b.0, sym b.1))
+from_here here old new key (Shifts x under) places m message e = subst (IsFrom places here) (sym m.changes.6 ∙ same_Some x message e) (λ f p q b. (sym b.0, sym b.1))
 from_here here old new key (Ends under back) places m message e = from_back here places m.stay.back back message m.changes.2 e
 
 posts_range : (places : ℕ) (posts : ℕ → Post) (number here : ℕ) (o : Option Message) → ((m p q : ℕ) (message : Message) (f : Finish) → posts m ≡ Flying message → IsBetween f p q message → (p < places) × (q < places)) → here < places → GoesTo places o

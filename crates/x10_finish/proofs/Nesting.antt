@@ -5,26 +5,19 @@ use Rattle.std.proofs.lemmas.Option.{same_Some}
 use Rattle.x10_model.specs.Maps.{with_entry, with_pair}
 use Rattle.x10_model.specs.Places.{Finish, root, Stay, Message, innermost_of, innermost}
 use Rattle.x10_model.specs.Worlds.{same_finish, Post, Flying, Taken, with_enclosing, IsUnder, IsWithin, itself, enclosed}
+use Rattle.x10_model.proofs.Maps.{at_key}
 use Rattle.x10_finish.specs.Nesting.{Stays, nth, outside, IsOpen, IsHeld, IsUsed, by_stay, by_post, IsNested}
 use Rattle.x10_finish.proofs.Ledgers.{same_is}
-use Rattle.x10_finish.proofs.Counting.{at_entry, entry_same}
+use Rattle.x10_finish.proofs.Counting.{at_entry}
+pub use Rattle.x10_finish.proofs.Entries.{at_pair}
 
 -- ---- maps of stays
 
-pub at_stay : {V : Type 0} (P : V → Type 0) (f : ℕ → ℕ → V) (i j a b : ℕ) (v : V) → (a ≡ i → b ≡ j → P v) → (((a ≡ i) × (b ≡ j) → ⊥) → P (f a b)) → P (with_pair f i j v a b)
-at_stay P f i j a b v here there = elim (cases_eq a i) [
-  | inl ea ↦ elim (cases_eq b j) [
-    | inl eb ↦ (let p = eq-eqb a i ea in let q = eq-eqb b j eb in rw (p, q) (here ea eb))
-    | inr nb ↦ (let q = ne_eqb b j nb in rw (eq-eqb a i ea, q) (there (λ both. nb both.1)))
-  ]
-  | inr na ↦ (let p = ne_eqb a i na in rw p (there (λ both. na both.0)))
-]
-
 pub pair_same : {V : Type 0} (f : ℕ → ℕ → V) (i j : ℕ) (v : V) → with_pair f i j v i j ≡ v
-pair_same f i j v = at_stay (λ w. w ≡ v) f i j i j v (λ a b. refl) (λ other. absurd (other (refl, refl)))
+pair_same f i j v = at_pair (λ w. w ≡ v) f i j i j v (λ a b. refl) (λ other. absurd (other (refl, refl)))
 
 pub pair_other : {V : Type 0} (f : ℕ → ℕ → V) (i j a b : ℕ) (v : V) → ((a ≡ i) × (b ≡ j) → ⊥) → with_pair f i j v a b ≡ f a b
-pair_other f i j a b v apart = at_stay (λ w. w ≡ f a b) f i j a b v (λ p q. absurd (apart (p, q))) (λ other. refl)
+pair_other f i j a b v apart = at_pair (λ w. w ≡ f a b) f i j a b v (λ p q. absurd (apart (p, q))) (λ other. refl)
 
 pub no_stay : {V A : Type 0} (v : V) → None ≡ Some v → A
 no_stay v e = absurd cc
@@ -51,13 +44,10 @@ next_outside : (stays : Stays) (posts : ℕ → Post) (p k i : ℕ) (s : Stay) (
 next_outside stays posts p k i s [] there e = inl (by_stay p k s there refl)
 next_outside stays posts p k i s (n ∷ ns) there e = inr (k, i, s, there, nth_outside s.finishes i n ns e)
 
-one_finish : {f g : Finish} → Some f ≡ Some g → f ≡ g
-one_finish e = cc
-
 pub enclosed_inside : (stays : Stays) (opened : ℕ → ℕ) (enclosing : Finish → Option Finish) (posts : ℕ → Post) → IsNested stays opened enclosing posts → (f g : Finish) (k i : ℕ) (s : Stay) → stays f.home k ≡ Some s → nth s.finishes i ≡ Some f.number
     → enclosing f ≡ Some g → IsInside stays posts g
 enclosed_inside stays opened enclosing posts n f g k i s there at e =
-    subst (IsInside stays posts) (one_finish (sym (n.enclosed f.home k i f.number s there at) ∙ e)) (next_outside stays posts f.home k i s (outside s.finishes i) there refl)
+    subst (IsInside stays posts) (same_Some _ _ (sym (n.enclosed f.home k i f.number s there at) ∙ e)) (next_outside stays posts f.home k i s (outside s.finishes i) there refl)
 
 pub used_held : (stays : Stays) (opened : ℕ → ℕ) (enclosing : Finish → Option Finish) (posts : ℕ → Post) → IsNested stays opened enclosing posts → (f : Finish) → IsUsed stays posts f → IsHeld stays f
 used_held stays opened enclosing posts n f (by_stay p k s there same) = subst (IsHeld stays) same (n.inherited p k s there)
@@ -164,11 +154,11 @@ same_stacks stays opened enclosing posts here key s t n e stack same =
       ap (λ xs. nth xs i) (stack ∙ ap (λ (x : Stay). x.finishes) (same_Some s s' (sym e ∙ e'))) ∙ h,
     )) o in
     nested_by stays (with_pair stays here key (Some t)) opened enclosing posts (λ p k. 0) n
-    (λ p k u h. at_stay (λ o. o ≡ Some u → (u.finishes ≡ []) ⊎ Comes stays (λ p k. 0) p k u) stays here key p k (Some t)
+    (λ p k u h. at_pair (λ o. o ≡ Some u → (u.finishes ≡ []) ⊎ Comes stays (λ p k. 0) p k u) stays here key p k (Some t)
     (λ ep ek is. (let t_is = same_Some t u is in inr (comes_same stays (λ p k. 0) p k u s (moved_at stays here key p k s e ep ek) (ap (λ (x : Stay). x.inherited) (sym t_is) ∙ same) (ap (λ (x : Stay). x.finishes) (sym t_is) ∙ stack) refl)))
     (λ other is. inr (comes_same stays (λ p k. 0) p k u u is refl refl refl)) h)
     (λ p k u h. held_on stays (with_pair stays here key (Some t)) u.inherited (on u.inherited)
-    (at_stay (λ o. o ≡ Some u → IsHeld stays u.inherited) stays here key p k (Some t) (λ ep ek is. subst (IsHeld stays) (sym same ∙ ap (λ (x : Stay). x.inherited) (same_Some t u is)) (n.inherited here key s e)) (λ other is. n.inherited p k u is) h))
+    (at_pair (λ o. o ≡ Some u → IsHeld stays u.inherited) stays here key p k (Some t) (λ ep ek is. subst (IsHeld stays) (sym same ∙ ap (λ (x : Stay). x.inherited) (same_Some t u is)) (n.inherited here key s e)) (λ other is. n.inherited p k u is) h))
     (λ number message f flies under. held_on stays (with_pair stays here key (Some t)) f (on f) (n.carried number message f flies under))
 
 -- a stay begins, with no finish of its own
@@ -178,11 +168,11 @@ new_stays stays opened enclosing posts here key u n free empty held =
     let on : (f : Finish) → IsOpen stays f → IsOpen (with_pair stays here key (Some u)) f =
     λ f o. open_on stays here key (Some u) f (λ i s' e' eh h. no_stay s' (sym free ∙ e')) o in
     nested_by stays (with_pair stays here key (Some u)) opened enclosing posts (λ p k. 0) n
-    (λ p k v h. at_stay (λ o. o ≡ Some v → (v.finishes ≡ []) ⊎ Comes stays (λ p k. 0) p k v) stays here key p k (Some u)
+    (λ p k v h. at_pair (λ o. o ≡ Some v → (v.finishes ≡ []) ⊎ Comes stays (λ p k. 0) p k v) stays here key p k (Some u)
     (λ ep ek is. inl (ap (λ (x : Stay). x.finishes) (sym (same_Some u v is)) ∙ empty))
     (λ other is. inr (comes_same stays (λ p k. 0) p k v v is refl refl refl)) h)
     (λ p k v h. held_on stays (with_pair stays here key (Some u)) v.inherited (on v.inherited)
-    (at_stay (λ o. o ≡ Some v → IsHeld stays v.inherited) stays here key p k (Some u) (λ ep ek is. subst (IsHeld stays) (ap (λ (x : Stay). x.inherited) (same_Some u v is)) held) (λ other is. n.inherited p k v is) h))
+    (at_pair (λ o. o ≡ Some v → IsHeld stays v.inherited) stays here key p k (Some u) (λ ep ek is. subst (IsHeld stays) (ap (λ (x : Stay). x.inherited) (same_Some u v is)) held) (λ other is. n.inherited p k v is) h))
     (λ number message f flies under. held_on stays (with_pair stays here key (Some u)) f (on f) (n.carried number message f flies under))
 
 -- a stay ends, with no finish of its own
@@ -192,9 +182,9 @@ ended_stays stays opened enclosing posts here key s n e empty =
     let on : (f : Finish) → IsOpen stays f → IsOpen (with_pair stays here key None) f =
     λ f o. open_on stays here key None f (λ i s' e' eh h. none_at s' i f.number (ap (λ (x : Stay). x.finishes) (same_Some s' s (sym e' ∙ e)) ∙ empty) h) o in
     nested_by stays (with_pair stays here key None) opened enclosing posts (λ p k. 0) n
-    (λ p k v h. at_stay (λ o. o ≡ Some v → (v.finishes ≡ []) ⊎ Comes stays (λ p k. 0) p k v) stays here key p k None (λ ep ek is. no_stay v is) (λ other is. inr (comes_same stays (λ p k. 0) p k v v is refl refl refl)) h)
+    (λ p k v h. at_pair (λ o. o ≡ Some v → (v.finishes ≡ []) ⊎ Comes stays (λ p k. 0) p k v) stays here key p k None (λ ep ek is. no_stay v is) (λ other is. inr (comes_same stays (λ p k. 0) p k v v is refl refl refl)) h)
     (λ p k v h. held_on stays (with_pair stays here key None) v.inherited (on v.inherited)
-    (at_stay (λ o. o ≡ Some v → IsHeld stays v.inherited) stays here key p k None (λ ep ek is. no_stay v is) (λ other is. n.inherited p k v is) h))
+    (at_pair (λ o. o ≡ Some v → IsHeld stays v.inherited) stays here key p k None (λ ep ek is. no_stay v is) (λ other is. n.inherited p k v is) h))
     (λ number message f flies under. held_on stays (with_pair stays here key None) f (on f) (n.carried number message f flies under))
 
 -- what is used stays open where its stay closes another one
@@ -219,12 +209,12 @@ closed_stays stays opened enclosing posts here key number rest s t n e whole sta
     let on : (f : Finish) → IsUsed stays posts f → IsOpen stays f → IsOpen (with_pair stays here key (Some t)) f =
     λ f used o. open_on stays here key (Some t) f (λ i s' e' eh h. still_open stays posts here key number rest s t f s' i (sym e' ∙ e) whole stack eh used quiet h) o in
     nested_by stays (with_pair stays here key (Some t)) opened enclosing posts d n
-    (λ p k u h. at_stay (λ o. o ≡ Some u → (u.finishes ≡ []) ⊎ Comes stays d p k u) stays here key p k (Some t)
+    (λ p k u h. at_pair (λ o. o ≡ Some u → (u.finishes ≡ []) ⊎ Comes stays d p k u) stays here key p k (Some t)
     (λ ep ek is. (let t_is = same_Some t u is in
     inr (comes_popped stays d p k u s number rest (moved_at stays here key p k s e ep ek) (ap (λ (x : Stay). x.inherited) (sym t_is) ∙ same) whole (ap (λ (x : Stay). x.finishes) (sym t_is) ∙ stack)
     (ap (λ x. d x k) ep ∙ ap (d here) ek ∙ pair_same (λ p k. 0) here key 1))))
     (λ other is. inr (comes_same stays d p k u u is refl refl (pair_other (λ p k. 0) here key p k 1 other))) h)
-    (λ p k u h. at_stay (λ o. o ≡ Some u → IsHeld (with_pair stays here key (Some t)) u.inherited) stays here key p k (Some t)
+    (λ p k u h. at_pair (λ o. o ≡ Some u → IsHeld (with_pair stays here key (Some t)) u.inherited) stays here key p k (Some t)
     (λ ep ek is. (let inherits : s.inherited ≡ u.inherited = sym same ∙ ap (λ (x : Stay). x.inherited) (same_Some t u is) in
     held_on stays (with_pair stays here key (Some t)) u.inherited (on u.inherited (by_stay here key s e inherits)) (subst (IsHeld stays) inherits (n.inherited here key s e))))
     (λ other is. held_on stays (with_pair stays here key (Some t)) u.inherited (on u.inherited (by_stay p k u is refl)) (n.inherited p k u is)) h)
@@ -276,7 +266,7 @@ pub opened_stays : (stays : Stays) (opened : ℕ → ℕ) (enclosing : Finish �
 opened_stays stays opened enclosing posts here key number s t n e count stack same =
     let d : ℕ → ℕ → ℕ = with_pair (λ p k. 0) here key 1 in
     let cases : (p k i m : ℕ) (u : Stay) → with_pair stays here key (Some t) p k ≡ Some u → nth u.finishes i ≡ Some m → WasThere stays d p k i m u ⊎ IsFirst here key number s p k i m u =
-    λ p k i m u h at. at_stay (λ o. o ≡ Some u → WasThere stays d p k i m u ⊎ IsFirst here key number s p k i m u) stays here key p k (Some t)
+    λ p k i m u h at. at_pair (λ o. o ≡ Some u → WasThere stays d p k i m u ⊎ IsFirst here key number s p k i m u) stays here key p k (Some t)
     (λ ep ek is. (let t_is = same_Some t u is in pushed stays here key number p k m s u i (moved_at stays here key p k s e ep ek) ep ek (ap (λ (x : Stay). x.finishes) (sym t_is) ∙ stack) (ap (λ (x : Stay). x.inherited) (sym t_is) ∙ same) at))
     (λ other is. inl (u, i, is, at, refl, refl, add_none i ∙ ap (λ x. x + i) (sym (pair_other (λ p k. 0) here key p k 1 other)))) h in
     let on : (f : Finish) → IsOpen stays f → IsOpen (with_pair stays here key (Some t)) f =
@@ -290,7 +280,7 @@ opened_stays stays opened enclosing posts here key number s t n e count stack sa
     record {
       numbered = λ p k i m u h at. elim (cases p k i m u h at) [
         | inl w ↦ (let lt = n.numbered p k w.1 m w.0 w.2 w.3 in let le = grown opened here p in omega (arith, lt, le))
-        | inr f ↦ (let here_now = ap (with_entry opened here (opened here + 1)) f.0 ∙ entry_same opened here (opened here + 1) in let is = f.3 ∙ count in omega (arith, here_now, is))
+        | inr f ↦ (let here_now = ap (with_entry opened here (opened here + 1)) f.0 ∙ at_key opened here (opened here + 1) in let is = f.3 ∙ count in omega (arith, here_now, is))
       ];
       apart = λ p k l i j m u v h g at bt. elim (cases p k i m u h at) [
         | inl w ↦ elim (cases p l j m v g bt) [
@@ -315,7 +305,7 @@ opened_stays stays opened enclosing posts here key number s t n e count stack sa
       root_outer = encloses_other enclosing here number (innermost here s) root (λ is. not_new opened here number 0 0 (ap (λ (x : Finish). x.home) is) (ap (λ (x : Finish). x.number) is) count n.root_opened) ∙ n.root_outer;
       root_opened = (let le = grown opened here 0 in let lt = n.root_opened in omega (arith, le, lt));
       inherited = λ p k u h. held_on stays (with_pair stays here key (Some t)) u.inherited (on u.inherited)
-          (at_stay (λ o. o ≡ Some u → IsHeld stays u.inherited) stays here key p k (Some t) (λ ep ek is. subst (IsHeld stays) (sym same ∙ ap (λ (x : Stay). x.inherited) (same_Some t u is)) (n.inherited here key s e)) (λ other is. n.inherited p k u is) h);
+          (at_pair (λ o. o ≡ Some u → IsHeld stays u.inherited) stays here key p k (Some t) (λ ep ek is. subst (IsHeld stays) (sym same ∙ ap (λ (x : Stay). x.inherited) (same_Some t u is)) (n.inherited here key s e)) (λ other is. n.inherited p k u is) h);
       carried = λ m message f flies under. held_on stays (with_pair stays here key (Some t)) f (on f) (n.carried m message f flies under);
     }
 

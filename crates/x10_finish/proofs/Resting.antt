@@ -2,8 +2,9 @@
 use Rattle.std.proofs.Common.{◌≡◌, ℕ, ◌<◌, ◌==◌, if◌then◌else◌, Option, Some, None, ◌⊎◌, inl, inr, refl, sym, ◌∙◌, ap, subst, arith}
 use Rattle.std.proofs.lemmas.Bool.{ne_eqb, eq-eqb, cases_eq}
 use Rattle.x10_model.specs.Totals.{Totals, Entry, Cut, entry_of, seen_from}
+use Rattle.x10_model.proofs.Maps.{at_key, off_key}
 use Rattle.x10_finish.specs.Detection.{Counting, start, after_all, IsAtWork, IsAtRest, IsDone, IsEarlierOf, is_kept, entry_or, entry_in, AreStill, Lacks, IsToldNow, IsCounted, DoneIsAtRest, AtRestIsDone}
-use Rattle.x10_finish.proofs.Counting.{entry_same, entry_other, counted_at_start, counted_after_all}
+use Rattle.x10_finish.proofs.Counting.{counted_at_start, counted_after_all}
 
 -- of each other place what is kept
 abbrev kept_cut : ℕ → Cut → ℕ → Option Entry
@@ -24,13 +25,13 @@ cut_is home kept p e h = elim (cases_eq p home) [
 entry_or_home : (home : ℕ) (totals : ℕ → Totals) (kept : Cut) (p : ℕ) → p ≡ home → seen_from home (entry_of (totals home)) kept p ≡ entry_in totals (kept_cut home kept) p
 entry_or_home home totals kept p same =
     subst (λ x. seen_from home (entry_of (totals home)) kept x ≡ entry_in totals (kept_cut home kept) x) (sym same)
-    (entry_same kept home (entry_of (totals home)) ∙ ap (entry_or (entry_of (totals home))) (sym (cut_home home kept)))
+    (at_key kept home (entry_of (totals home)) ∙ ap (entry_or (entry_of (totals home))) (sym (cut_home home kept)))
 
 -- the home looks at the cut
 looks : (home : ℕ) (totals : ℕ → Totals) (kept : Cut) (p : ℕ) → seen_from home (entry_of (totals home)) kept p ≡ entry_in totals (kept_cut home kept) p
 looks home totals kept p = elim (cases_eq p home) [
   | inl same ↦ entry_or_home home totals kept p same
-  | inr apart ↦ entry_other kept home p (entry_of (totals home)) apart ∙ ap (entry_or (entry_of (totals p))) (sym (cut_other home kept p apart))
+  | inr apart ↦ off_key kept home p (entry_of (totals home)) apart ∙ ap (entry_or (entry_of (totals p))) (sym (cut_other home kept p apart))
 ]
 
 -- what a still cut shows are the totals now
@@ -58,7 +59,7 @@ lacks_nothing : (places home : ℕ) (s : Counting) → IsDone places home s → 
 lacks_nothing places home s done l =
     let other = cut_is home s.kept l.to l.entry l.is_there in
     let sent = ap (λ (e : Entry). e.sent l.to) (looks home s.totals s.kept l.from) in
-    let received = ap (λ (e : Entry). e.received l.from) (entry_other s.kept home l.to (entry_of (s.totals home)) other.0 ∙ other.1) in
+    let received = ap (λ (e : Entry). e.received l.from) (off_key s.kept home l.to (entry_of (s.totals home)) other.0 ∙ other.1) in
     let same = done.1 l.from l.to l.from_place l.to_place in
     let equal : (entry_in s.totals (kept_cut home s.kept) l.from).sent l.to ≡ l.entry.received l.from = sym sent ∙ same ∙ received in
     omega (arith, l.less, equal)
@@ -78,8 +79,8 @@ kept_now home s p quiet none apart (inr (inr (n, t, h, at, now))) = absurd (let 
 -- where nothing is at work and no report flies, the last word of each place is kept
 told_all : (places home : ℕ) (s : Counting) → IsCounted places home s → IsAtRest places s → ((n : ℕ) → s.told n ≡ None) → (p : ℕ) → p < places → seen_from home (entry_of (s.totals home)) s.kept p ≡ entry_of (s.totals p)
 told_all places home s i rest none p lp = elim (cases_eq p home) [
-  | inl same ↦ subst (λ x. seen_from home (entry_of (s.totals home)) s.kept x ≡ entry_of (s.totals x)) (sym same) (entry_same s.kept home (entry_of (s.totals home)))
-  | inr apart ↦ entry_other s.kept home p (entry_of (s.totals home)) apart ∙ kept_now home s p (rest.live p lp) none apart (i.last p)
+  | inl same ↦ subst (λ x. seen_from home (entry_of (s.totals home)) s.kept x ≡ entry_of (s.totals x)) (sym same) (at_key s.kept home (entry_of (s.totals home)))
+  | inr apart ↦ off_key s.kept home p (entry_of (s.totals home)) apart ∙ kept_now home s p (rest.live p lp) none apart (i.last p)
 ]
 
 pub concludes : (places home : ℕ) (s : Counting) → home < places → IsCounted places home s → IsAtRest places s → ((n : ℕ) → s.told n ≡ None) → IsDone places home s

@@ -9,13 +9,13 @@ use Rattle.x10_model.specs.Places.{Setting, Finish, root, Stay, Message, Spawn, 
 use Rattle.x10_model.specs.Deliveries.{Receives}
 use Rattle.x10_model.specs.Worlds as worlds
 use Rattle.x10_model.specs.Worlds.{Post, Net, Book, World, net_after, same_finish, with_enclosing, IsWithin, itself, enclosed, IsQuiet, IsOver, Quiet, Steps, Delivers, Happens, steps, delivers, idle, Run, done, WithinBounds, opening}
+use Rattle.x10_model.proofs.Maps.{at_key}
 use Rattle.x10_finish.specs.Stays.{Rewrites, MovesStay}
 use Rattle.x10_finish.specs.Nesting.{stays_in, opened_in, Stays, stays_of, opened_of, nth, IsOpen, IsHeld, IsUsed, IsNested}
 use Rattle.x10_finish.specs.Closing.{unders_of, IsSound, IsRooted, RootIsOver}
 use Rattle.x10_finish.proofs.Stays.{stays_change}
 use Rattle.x10_finish.proofs.Ledgers.{same_is}
-use Rattle.x10_finish.proofs.Counting.{entry_same}
-use Rattle.x10_finish.proofs.Nesting.{at_stay, no_stay, IsInside, enclosed_inside, used_held, grown, encloses_other, encloses_new, innermost_held}
+use Rattle.x10_finish.proofs.Nesting.{at_pair, no_stay, IsInside, enclosed_inside, used_held, grown, encloses_other, encloses_new, innermost_held}
 use Rattle.x10_finish.proofs.Sound.{there_in, stays_after, opened_after, opened_same, entry_self, net_with, unused_finish, overwritten}
 use Rattle.x10_finish.proofs.Closing.{sound_happens, sound_opening, lives_used, main_is, opening_row}
 
@@ -43,7 +43,7 @@ HadOpen stays here o = (t : Stay) → o ≡ Some t → (i : ℕ) (f : Finish) �
 
 pub open_back : (stays : Stays) (here key : ℕ) (o : Option Stay) (f : Finish) → HadOpen stays here o → IsOpen (with_pair stays here key o) f → IsOpen stays f
 open_back stays here key o f had (k, i, s, e, h) =
-    at_stay (λ x. x ≡ Some s → IsOpen stays f) stays here key f.home k o (λ eh ek is. had s is i f h eh) (λ other is. (k, i, s, is, h)) e
+    at_pair (λ x. x ≡ Some s → IsOpen stays f) stays here key f.home k o (λ eh ek is. had s is i f h eh) (λ other is. (k, i, s, is, h)) e
 
 rooted_back : (stays stays' : Stays) (opened opened' : ℕ → ℕ) (enclosing : Finish → Option Finish) → IsRooted stays opened enclosing → ((f : Finish) → IsOpen stays' f → IsOpen stays f) → ((p : ℕ) → opened p ≤ opened' p) → IsRooted stays' opened' enclosing
 rooted_back stays stays' opened opened' enclosing r back more = record {
@@ -94,7 +94,7 @@ only_more enclosing opened here inside only f g e =
     only_if (same_finish f (record { home = here; number = opened here })) (enclosing f) inside g (f.number < with_entry opened here (opened here + 1) f.home)
     (λ t. (let is = same_is f (record { home = here; number = opened here }) t in
     let n = ap (λ (x : Finish). x.number) is in
-    let now = ap (λ (x : Finish). with_entry opened here (opened here + 1) x.home) is ∙ entry_same opened here (opened here + 1) in
+    let now = ap (λ (x : Finish). with_entry opened here (opened here + 1) x.home) is ∙ at_key opened here (opened here + 1) in
     omega (arith, n, now)))
     (λ was. (let lt = only f g was in let le = grown opened here f.home in omega (arith, lt, le))) e
 
@@ -102,7 +102,7 @@ only_more enclosing opened here inside only f g e =
 pub opened_or_new : (stays : Stays) (opened : ℕ → ℕ) (here key : ℕ) (s t : Stay) (f : Finish) → stays here key ≡ Some s → t.finishes ≡ opened here ∷ s.finishes → IsOpen (with_pair stays here key (Some t)) f
     → (f ≡ record { home = here; number = opened here }) ⊎ IsOpen stays f
 opened_or_new stays opened here key s t f there stack (k, i, u, e, h) =
-    at_stay (λ x. x ≡ Some u → (f ≡ record { home = here; number = opened here }) ⊎ IsOpen stays f) stays here key f.home k (Some t)
+    at_pair (λ x. x ≡ Some u → (f ≡ record { home = here; number = opened here }) ⊎ IsOpen stays f) stays here key f.home k (Some t)
     (λ eh ek is. top_or_rest stays here key (opened here) s u f i there (ap (λ (x : Stay). x.finishes) (sym (same_Some t u is)) ∙ stack) h eh) (λ other is. inr (k, i, u, is, h)) e
 
 rooted_opens : (stays : Stays) (opened : ℕ → ℕ) (enclosing : Finish → Option Finish) (here key : ℕ) (inside : Finish) (s t : Stay) → IsRooted stays opened enclosing → stays here key ≡ Some s → t.finishes ≡ opened here ∷ s.finishes → IsHeld stays inside
@@ -143,7 +143,7 @@ moved_rooted net book here key number old new (Begins other function under) i r 
     let first = rooted_changes net here key old mid (Some c.0) r e (record { stays = refl; opened_is = refl }) (had_same (stays_of net) here key m.stay c.0 there c.2.finishes_are) in
     let between : Net = record net { places = with_entry net.places here (Some mid) } in
     subst (λ (f : ℕ → Option places.Place). IsRooted (λ p. stays_in (f p)) (λ p. opened_in (f p)) net.enclosing) (overwritten net.places here (Some mid) (Some new))
-    (rooted_changes between here other mid new (Some c.1) first (entry_same net.places here (Some mid)) (record { stays = c.6; opened_is = c.7 }) (had_none (stays_of between) here c.1 c.3.finishes))
+    (rooted_changes between here other mid new (Some c.1) first (at_key net.places here (Some mid)) (record { stays = c.6; opened_is = c.7 }) (had_none (stays_of between) here c.1 c.3.finishes))
 moved_rooted net book here key number old new (Opens n inside) i r e m =
     let c = m.changes in
     let there = there_in net here key old new (Opens n inside) e m in

@@ -7,13 +7,14 @@ use Rattle.x10_model.specs.Places as places
 use Rattle.x10_model.specs.Places.{Setting, Finish, Origin, Stay, Message, Spawn, Shift, Back, innermost, innermost_of, Effect, Waits, Works, Begins, Spawns, Shifts, Opens, Closes, Ends}
 use Rattle.x10_model.specs.Copies.{Snapshot}
 use Rattle.x10_model.specs.Worlds.{Flying, Taken, Net, Activity, Book, net_after, book_after, counted, started, left, entered, rest_of, IsUnder, IsQuiet}
+use Rattle.x10_model.proofs.Maps.{at_key, off_key}
 use Rattle.x10_finish.specs.Stays.{GoesOn, IsNew, Rewrites, IsWayBack, MovesStay}
 use Rattle.x10_finish.specs.Nesting.{stays_in, opened_in, Stays, stays_of, opened_of, IsHeld, IsUsed, by_stay, by_post, IsNested}
 use Rattle.x10_finish.specs.Chains as chains
 use Rattle.x10_finish.specs.Chains.{Name, IsAmong, IsBegunBy, IsChain, AreLinked, Carries, AreCarried}
 use Rattle.x10_finish.specs.Closing.{chains_of, unders_of, IsSound}
-use Rattle.x10_finish.proofs.Counting.{at_entry, entry_same, entry_other}
-use Rattle.x10_finish.proofs.Nesting.{at_stay, pair_same, pair_other, no_stay, same_stacks, new_stays, ended_stays, closed_stays, opened_stays, posted, taken_in, innermost_held}
+use Rattle.x10_finish.proofs.Counting.{at_entry}
+use Rattle.x10_finish.proofs.Nesting.{at_pair, pair_same, pair_other, no_stay, same_stacks, new_stays, ended_stays, closed_stays, opened_stays, posted, taken_in, innermost_held}
 use Rattle.x10_finish.proofs.Chains.{ready_first, linked_changes, linked_spawns, linked_enters, linked_ends, IsUncarried, carried_changes, carried_fresh, carried_chain, carried_begun, carried_new, carried_taken, taken_uncarried, ready_uncarried}
 
 -- ---- maps
@@ -163,7 +164,7 @@ after_spawns net book here key number function to under message graph old new s 
     (linked_spawns stays book.begun (chains_of book) (unders_of book) book.belongs under both.0)
     (carried_new stays (book.begun + 1) (with_entry (chains_of book) a []) (with_entry (unders_of book) a under) book.carries net.posts number a (Spawn here to under function graph) more
     (λ m x flies same. (let lt = i.carried.begun_one m x flies in omega (arith, lt, same))) (omega arith)
-    (entry_same (chains_of book) a [], entry_same (unders_of book) a under)))
+    (at_key (chains_of book) a [], at_key (unders_of book) a under)))
 
 pub after_shifts : (net : Net) (book : Book) (here key number function to : ℕ) (under : Finish) (message : Message) (graph : Snapshot) (old new : places.Place) (s t : Stay) → IsSound net book → net.places here ≡ Some old → stays_of net here key ≡ Some s → s.away ≡ false
     → GoesOn s s.finishes true t → under ≡ innermost here s → message ≡ Shift here to key under function graph → Rewrites old key (Some t) old.opened new
@@ -186,11 +187,11 @@ after_shifts net book here key number function to under message graph old new s 
     (first.1, t, first.2, pair_same (stays_of net) here key (Some t), g.away_is, under_is ∙ sym (same_innermost here s t true g))))
 
 pub overwritten : {V : Type 0} (f : ℕ → V) (k : ℕ) (v w : V) → with_entry (with_entry f k v) k w ≡ with_entry f k w
-overwritten f k v w = fun_ext (λ j. at_entry (λ x. x ≡ with_entry f k w j) (with_entry f k v) k j w (λ same. sym (ap (with_entry f k w) same ∙ entry_same f k w)) (λ apart. entry_other f k j v apart ∙ sym (entry_other f k j w apart)))
+overwritten f k v w = fun_ext (λ j. at_entry (λ x. x ≡ with_entry f k w j) (with_entry f k v) k j w (λ same. sym (ap (with_entry f k w) same ∙ at_key f k w)) (λ apart. off_key f k j v apart ∙ sym (off_key f k j w apart)))
 
 pub free_after : (stays : Stays) (here key other : ℕ) (s t : Stay) → stays here key ≡ Some s → stays here other ≡ None → with_pair stays here key (Some t) here other ≡ None
 free_after stays here key other s t there free =
-    at_stay (λ o. o ≡ None) stays here key here other (Some t) (λ a b. no_stay s (sym free ∙ ap (stays here) b ∙ there)) (λ apart. free)
+    at_pair (λ o. o ≡ None) stays here key here other (Some t) (λ a b. no_stay s (sym free ∙ ap (stays here) b ∙ there)) (λ apart. free)
 
 pub after_begins : (net : Net) (book : Book) (here key number other function : ℕ) (under : Finish) (old new : places.Place) (s t u : Stay) → IsSound net book → net.places here ≡ Some old → stays_of net here key ≡ Some s → s.away ≡ false → GoesOn s s.finishes false t → IsNew under None u
     → under ≡ innermost here s → old.stays other ≡ None → new.stays ≡ with_entry (with_entry old.stays key (Some t)) other (Some u) → new.opened ≡ old.opened
@@ -206,14 +207,14 @@ after_begins net book here key number other function under old new s t u i e the
     let open_key = free_after (stays_of net) here key other s t there (ap (λ o. stays_in o other) e ∙ free) in
     let linked = linked_spawns stays book.begun (chains_of book) (unders_of book) book.belongs under both.0 in
     let carried = carried_begun stays book.begun (chains_of book) (unders_of book) book.carries net.posts [] under both.1 in
-    let by : IsBegunBy stays (unders a) u (chain a) = subst (IsBegunBy stays (unders a) u) (sym (entry_same (chains_of book) a [])) (begins.back_is, begins.inherited ∙ sym (entry_same (unders_of book) a under)) in
+    let by : IsBegunBy stays (unders a) u (chain a) = subst (IsBegunBy stays (unders a) u) (sym (at_key (chains_of book) a [])) (begins.back_is, begins.inherited ∙ sym (at_key (unders_of book) a under)) in
     sound_as (net_after net here new (Begins other function under) number) (book_after book (book.belongs here key) here (Begins other function under) number)
     (with_pair stays here other (Some u)) (opened_of net) (with_entry chain a ((here, other) ∷ chain a)) unders
     (fun_ext (λ p. stays_row net here p new (with_pair stays here other (Some u))
     (stays_are ∙ ap (λ (f : ℕ → Option Stay). with_entry (with_entry f key (Some t)) other (Some u)) (sym (ap stays_in e)) ∙ ap (λ (f : ℕ → Option Stay). with_entry f other (Some u)) (sym (row_same (stays_of net) here key (Some t))) ∙ sym (row_same stays here other (Some u)))
     (λ apart. sym (row_other (stays_of net) here key p (Some t) apart) ∙ sym (row_other stays here other p (Some u) apart))))
     (opened_same net here old new e opened_is)
-    (chains_started book (book.belongs here key) function under ((here, other) ∷ []) ∙ sym (overwritten (chains_of book) a [] ((here, other) ∷ chain a) ∙ ap (λ (xs : List Name). with_entry (chains_of book) a ((here, other) ∷ xs)) (entry_same (chains_of book) a [])))
+    (chains_started book (book.belongs here key) function under ((here, other) ∷ []) ∙ sym (overwritten (chains_of book) a [] ((here, other) ∷ chain a) ∙ ap (λ (xs : List Name). with_entry (chains_of book) a ((here, other) ∷ xs)) (at_key (chains_of book) a [])))
     (unders_started book (book.belongs here key) function under ((here, other) ∷ []))
     (new_stays stays (opened_of net) net.enclosing net.posts here other u nested open_key begins.finishes (subst (IsHeld stays) (same_innermost here s t false g ∙ sym under_is ∙ sym begins.inherited) held))
     (linked_enters stays (book.begun + 1) chain unders book.belongs here other a u linked open_key (omega arith) by)
@@ -275,7 +276,7 @@ after_ends net book here key number under old new s (Some origin) back i e there
     (stays_after net here key old new None e r.stays) (opened_same net here old new e r.opened_is) (chains_left book a (here, key) first.1 first.2) (unders_left book a)
     (posted stays (opened_of net) net.enclosing net.posts number message parts.0 (λ f is. absurd is)) parts.1
     (carried_new stays book.begun (with_entry (chains_of book) a first.1) (unders_of book) book.carries net.posts number a message parts.2 parts.3 first.0
-    (subst (λ xs. chains.Waits stays xs origin.place origin.key (λ x. Unit {0})) (sym (entry_same (chains_of book) a first.1)) (waiting_below (stays_of net) (unders_of book a) here key s first.1 origin c there origin_is))))
+    (subst (λ xs. chains.Waits stays xs origin.place origin.key (λ x. Unit {0})) (sym (at_key (chains_of book) a first.1)) (waiting_below (stays_of net) (unders_of book a) here key s first.1 origin c there origin_is))))
 
 -- ---- a message that is taken in
 

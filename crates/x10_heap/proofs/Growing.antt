@@ -1,7 +1,7 @@
 -- Heaps that grow: what words and cells stand for is kept.
 use Rattle.std.proofs.Common.{◌≡◌, ◌⊎◌, ℕ, zero, suc, ◌+◌, ◌*◌, ◌<◌, ◌≤◌, ◌^◌, ◌==◌, Bool, true, false, List, [], ◌∷◌, ◌++◌, length, Option, Some, None, refl, sym, ap, subst, ◌∙◌, inl, inr, arith}
 use Rattle.std.specs.Prelude.{◌/◌, ◌%◌, IsTrue, if◌then◌else◌, slice_get, slice_set}
-use Rattle.std.proofs.lemmas.Bool.{eqb-true, eq-eqb, cases_Bool}
+use Rattle.std.proofs.lemmas.Bool.{eqb-true, eq-eqb, cases_Bool, cases_eq}
 use Rattle.x10_kinds.specs.declared.kind.Kind.{Kind}
 use Rattle.x10_kinds.specs.declared.kind.Kind.TheVariants as kind
 use Rattle.x10_model.specs.Maps.{with_entry}
@@ -40,9 +40,6 @@ written_at (z ∷ xs) zero x y e = record { at = refl; others = λ k ne. past k 
     past zero ne = absurd (ne refl)
     past (suc k) ne = refl
 written_at (z ∷ xs) (suc n) x y e = written_below z xs (slice_set xs n x) x n (written_at xs n x y e)
-
-pub same_or_not : (m n : ℕ) → (m ≡ n) ⊎ (m ≡ n → ⊥)
-same_or_not m n = elim (cases_Bool (m == n)) [ inl e ↦ inl (eqb-true m n e) | inr e ↦ inr (λ s. absurd (let f = eq-eqb m n s in cc)) ]
 
 -- what is there stays there, where only what wasn't is written
 pub last_kept : {A : Type 0} (xs : List A) (x : A) (n : ℕ) (y : A) → slice_get xs n ≡ Some y → slice_get (xs ++ x ∷ []) n ≡ Some y
@@ -143,7 +140,7 @@ module _ (x y : Context) (grows : Grows x y) where
   pub holds_object : (cells : Cells) (number : ℕ) (o : ObjectState) (kinds : List Kind) (values : List Value) → HoldsHeap x cells → IsWritten x.heap.objects number o y.heap.objects → slice_get x.classes o.class ≡ Some kinds → AreWordsOf y kinds o.fields values
       → y.heap.rails ≡ x.heap.rails → length y.heap.objects ≤ 2 ^ 32 → length y.heap.texts ≤ 2 ^ 32 → HoldsHeap y (with_entry cells (2 * number) (Some (Fields o.class values)))
   holds_object cells number o kinds values h written known words rails few texts = record {
-    objects = λ n. at n (same_or_not n number);
+    objects = λ n. at n (cases_eq n number);
     rails = λ n. off_entry cells (2 * number) (Fields o.class values) (2 * n + 1) (λ e. omega (arith, e)) ∙ h.rails n ∙ ap (λ xs. rail_cell (slice_get xs n)) (sym rails);
     few_objects = few;
     few_texts = texts;
@@ -166,7 +163,7 @@ module _ (x y : Context) (grows : Grows x y) where
   holds_rail cells number bytes h written objects few texts = record {
     objects = λ n. subst (λ cell. HoldsObject y (slice_get y.heap.objects n) cell) (sym (off_entry cells (2 * number + 1) (Bytes bytes) (2 * n) (λ e. omega (arith, e))))
         (same_object (slice_get x.heap.objects n) (slice_get y.heap.objects n) (cells (2 * n)) (ap (λ xs. slice_get xs n) objects) (h.objects n));
-    rails = λ n. at n (same_or_not n number);
+    rails = λ n. at n (cases_eq n number);
     few_objects = subst (λ xs. length xs ≤ 2 ^ 32) (sym objects) h.few_objects;
     few_texts = texts;
     few_rails = few;

@@ -5,6 +5,7 @@ use Rattle.std.specs.Prelude.{slice_get, slice_set, int_lt, nat_lt}
 use Rattle.std.specs.Ordering.{int_eq}
 use Rattle.std.specs.Int.{int_rem_euclid}
 use Rattle.std.proofs.lemmas.Option.{slice_get_within}
+use Rattle.std.proofs.lemmas.Bool.{cases_eq}
 use Rattle.x10_kinds.specs.declared.kind.Kind.{Kind}
 use Rattle.x10_code.specs.declared.op.Op.{Op}
 use Rattle.x10_code.specs.declared.op.Op.TheVariants as op
@@ -23,7 +24,7 @@ use Rattle.x10_model.specs.Moves.{Situation, Holds, Passes, GivesBack, SendsBack
 use Rattle.x10_model.specs.Wrong.{Want, Anything, AnInt, APlace, AText, ARail, AnObject, AReference, AnIntOrText, AnObjectOrNull, APlaceOrReference, Meets, asked, IsTarget, IsDetached, IsFieldOwner, IsWrongAt, operand, argument, result_dropped, new_field, no_field, put_field, away, no_export, result, finish_open, no_call, no_finish}
 use Rattle.x10_model.specs.Laws.{IsSent, HasRoom}
 use Rattle.x10_model.proofs.NotWrong.{Met}
-use Rattle.x10_model.proofs.Decided.{and_then, same_or_not, get_below, met_or_not, slots_or_not, kinds_or_not, kind_or_not, gives_or_not}
+use Rattle.x10_model.proofs.Decided.{and_then, get_below, met_or_not, slots_or_not, kinds_or_not, kind_or_not, gives_or_not}
 use Rattle.x10_model.proofs.Lists.{same_some, none_some}
 
 -- the operation can be done in the situation
@@ -242,13 +243,13 @@ put_value s r class fields v (Some old) e h c hv f = put_class s r class fields 
 
 open_export : (s : Situation) (id class : ℕ) (found : Option Export) → s.instr.op ≡ op.Gopen → Holds s s.instr.b (Ref s.here id class) → slice_get s.place.exports id ≡ found → Result op.Gopen s
 open_export s id class None e h f = inr (no_export id class e h (λ object g. none_some (slice_get s.place.exports id) (record { class = class; object = object }) f g))
-open_export s id class (Some x) e h f = elim (same_or_not x.class class) [
+open_export s id class (Some x) e h f = elim (cases_eq x.class class) [
   | inl same ↦ inl (on s (put s (Object x.object)), Works, (id, class, x.object, h, f ∙ ap (λ k. Some (record { class = k; object = x.object })) same, (refl, refl)))
   | inr never ↦ inr (no_export id class e h (λ object g. never (ap (λ (y : Export). y.class) (same_some (slice_get s.place.exports id) x (record { class = class; object = object }) f g))))
 ]
 
 opens : (s : Situation) (home id class : ℕ) → s.instr.op ≡ op.Gopen → Holds s s.instr.b (Ref home id class) → Result op.Gopen s
-opens s home id class e h = elim (same_or_not home s.here) [
+opens s home id class e h = elim (cases_eq home s.here) [
   | inl same ↦ open_export s id class (slice_get s.place.exports id) e (subst (λ p. Holds s s.instr.b (Ref p id class)) same h) refl
   | inr never ↦ inr (away home id class e h never)
 ]

@@ -20,14 +20,14 @@ use Rattle.x10_model.specs.Moves.{new_stay}
 use Rattle.x10_model.specs.Deliveries.{FitsClasses, IsExported, NamesExports, FitsPlace, FitsFunctionAt, FitsResultAt, WaitsFor, Begins, Receives}
 use Rattle.x10_model.specs.Wrong.{IsMisfit, graph_of, not_here, graph, torn, spawn, shift, back}
 use Rattle.x10_model.specs.Laws.{HasRoomFor, ArrivedIsTakenOrMisfit}
-use Rattle.x10_model.proofs.Decided.{same_or_not, below_or_not, both_or_not, flag_or_not}
+use Rattle.x10_model.proofs.Decided.{below_or_not, both_or_not, flag_or_not}
 use Rattle.x10_model.proofs.Choices.{OrNot, same_as, some_or_not, every_in, pairwise_or_not}
 use Rattle.x10_model.proofs.Reaching.{whole_or_not}
 
 -- ---- kinds
 
 node_or_not : (s : Snapshot) (k class : ℕ) → OrNot (IsNodeOf s k class)
-node_or_not s k class = some_or_not (slice_get s.nodes k) (λ node. node.class ≡ class) (λ node. same_or_not node.class class)
+node_or_not s k class = some_or_not (slice_get s.nodes k) (λ node. node.class ≡ class) (λ node. cases_eq node.class class)
 
 kind_or_not : (s : Snapshot) (v : Value) (k : Kind) → OrNot (IsOfKindIn s v k)
 kind_or_not s (Int z) kind.Int = inl tt
@@ -37,7 +37,7 @@ kind_or_not s (Rail r) kind.Rail = below_or_not r (length s.rails)
 kind_or_not s (Object r) (kind.Obj c) = node_or_not s r c
 kind_or_not s (Object r) (kind.Opt c) = node_or_not s r c
 kind_or_not s Null (kind.Opt c) = inl tt
-kind_or_not s (Ref home id class) (kind.GRef c) = same_or_not class c
+kind_or_not s (Ref home id class) (kind.GRef c) = cases_eq class c
 kind_or_not s _ _ = inr (λ h. h)
 
 slot_or_not : (s : Snapshot) (at : ℕ) (v : Value) (slot : Slot) → OrNot (FitsSlotAt (IsOfKindIn s) at v slot)
@@ -63,10 +63,10 @@ class_is e class object same = ap (λ (x : Export). x.class) same
 named_or_not : (exports : List Export) (id class : ℕ) → OrNot ((object : ℕ) × (slice_get exports id ≡ Some (record { class = class; object = object })))
 named_or_not exports id class =
     same_as (λ h. (h.0.object, h.1 ∙ export_is h.0 class h.2)) (λ h. (record { class = class; object = h.0 }, h.1, refl))
-    (some_or_not (slice_get exports id) (λ (e : Export). e.class ≡ class) (λ e. same_or_not e.class class))
+    (some_or_not (slice_get exports id) (λ (e : Export). e.class ≡ class) (λ e. cases_eq e.class class))
 
 exported_or_not : (here : ℕ) (exports : List Export) (v : Value) → OrNot (IsExported here exports v)
-exported_or_not here exports (Ref home id class) = elim (same_or_not home here) [
+exported_or_not here exports (Ref home id class) = elim (cases_eq home here) [
   | inr n ↦ inl (λ e. absurd (n e))
   | inl e ↦ same_as (λ h same. h) (λ f. f e) (named_or_not exports id class)
 ]
@@ -119,7 +119,7 @@ value_is : (p q : ℕ) → Some (Place p) ≡ Some (Place q) → p ≡ q
 value_is p q e = cc
 
 holds_or_not : (o : Option Value) (q : ℕ) → OrNot (o ≡ Some (Place q))
-holds_or_not (Some (Place p)) q = same_as (ap (λ n. Some (Place n))) (value_is p q) (same_or_not p q)
+holds_or_not (Some (Place p)) q = same_as (ap (λ n. Some (Place n))) (value_is p q) (cases_eq p q)
 holds_or_not _ q = inr (λ e. absurd cc)
 
 abbrev IsAnswered : Setting → ℕ → Snapshot → Instr → Type 0

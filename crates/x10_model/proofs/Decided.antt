@@ -1,7 +1,7 @@
 -- What can be decided of registers and values.
 use Rattle.std.proofs.Common.{◌≡◌, ◌⊎◌, ℕ, zero, suc, ◌+◌, ◌<◌, Bool, true, false, List, [], ◌∷◌, length, Option, Some, None, refl, ap, subst, inl, inr, arith}
 use Rattle.std.specs.Prelude.{IsTrue, slice_get}
-use Rattle.std.proofs.lemmas.Bool.{cases_lt}
+use Rattle.std.proofs.lemmas.Bool.{cases_lt, cases_eq}
 use Rattle.x10_kinds.specs.declared.kind.Kind.{Kind}
 use Rattle.x10_kinds.specs.declared.kind.Kind.TheVariants as kind
 use Rattle.x10_model.specs.Maps.{Pairwise}
@@ -17,9 +17,6 @@ use Rattle.x10_model.proofs.Lists.{same_some, none_some}
 pub and_then : {A B C : Type 0} → A ⊎ C → (A → B ⊎ C) → B ⊎ C
 and_then (inl a) f = f a
 and_then (inr c) f = inr c
-
-pub same_or_not : (m n : ℕ) → (m ≡ n) ⊎ (m ≡ n → ⊥)
-same_or_not m n = elim (cases_lt m n) [ inl lt ↦ inr (λ e. omega arith) | inr le ↦ elim (cases_lt n m) [ inl lt ↦ inr (λ e. omega arith) | inr ge ↦ inl (omega arith) ] ]
 
 pub below_or_not : (m n : ℕ) → (m < n) ⊎ (m < n → ⊥)
 below_or_not m n = elim (cases_lt m n) [ inl lt ↦ inl lt | inr le ↦ inr (λ lt. omega arith) ]
@@ -53,7 +50,7 @@ class_is d c xs ys e = cc
 class_cell : (o : Option Cell) (c : ℕ) → ((fields : List Value) × (o ≡ Some (Fields c fields))) ⊎ ((fields : List Value) × (o ≡ Some (Fields c fields)) → ⊥)
 class_cell None c = inr (λ h. none_some None (Fields c h.0) refl h.1)
 class_cell (Some (Bytes bytes)) c = inr (λ h. absurd (let e = same_Some (Bytes bytes) (Fields c h.0) h.1 in cc))
-class_cell (Some (Fields d fields)) c = elim (same_or_not d c) [
+class_cell (Some (Fields d fields)) c = elim (cases_eq d c) [
   | inl e ↦ inl (fields, ap (λ k. Some (Fields k fields)) e)
   | inr n ↦ inr (λ h. n (class_is d c fields h.0 (same_Some (Fields d fields) (Fields c h.0) h.1)))
 ]
@@ -102,11 +99,11 @@ of_kind_or_not cells (Rail r) kind.Rail = rail_cell (cells r)
 of_kind_or_not cells (Object r) (kind.Obj c) = class_cell (cells r) c
 of_kind_or_not cells (Object r) (kind.Opt c) = class_cell (cells r) c
 of_kind_or_not cells Null (kind.Opt c) = inl tt
-of_kind_or_not cells (Ref home id class) (kind.GRef c) = same_or_not class c
+of_kind_or_not cells (Ref home id class) (kind.GRef c) = cases_eq class c
 of_kind_or_not cells _ _ = inr (λ h. h)
 
 home_or_not : (at : ℕ) (v : Value) → HasHome at v ⊎ (HasHome at v → ⊥)
-home_or_not at (Ref home id class) = same_or_not home at
+home_or_not at (Ref home id class) = cases_eq home at
 home_or_not at _ = inr (λ h. h)
 
 pub flag_or_not : (at : ℕ) (v : Value) (flag : Bool) → (IsTrue flag → HasHome at v) ⊎ ((IsTrue flag → HasHome at v) → ⊥)

@@ -1,4 +1,5 @@
 pub mod Lists
+pub mod Maps
 pub mod Bounds
 pub mod Finishes
 pub mod NotWrong

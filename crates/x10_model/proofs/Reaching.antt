@@ -2,10 +2,11 @@
 use Rattle.std.proofs.Common.{◌≡◌, ◌⊎◌, ℕ, zero, suc, ◌<◌, ◌≤◌, List, length, Some, refl, sym, ap, subst, inl, inr, arith}
 use Rattle.std.specs.Prelude.{slice_get}
 use Rattle.std.proofs.lemmas.Option.{slice_get_within}
+use Rattle.std.proofs.lemmas.Bool.{cases_eq}
 use Rattle.x10_model.specs.Maps.{IsIn}
 use Rattle.x10_model.specs.Values.{Value, Rail, Object}
 use Rattle.x10_model.specs.Copies.{Node, Snapshot, IsReached, root, field, IsInside, IsWhole}
-use Rattle.x10_model.proofs.Decided.{same_or_not, below_or_not, both_or_not}
+use Rattle.x10_model.proofs.Decided.{below_or_not, both_or_not}
 use Rattle.x10_model.proofs.Choices.{OrNot, same_as, either_or_not, some_or_not, member_or_not, every_in, Picked, picked_or_none, every_below, some_below, below, in_below}
 
 object_number : (j k : ℕ) → Object j ≡ Object k → j ≡ k
@@ -15,11 +16,11 @@ rail_number : (j k : ℕ) → Rail j ≡ Rail k → j ≡ k
 rail_number j k e = cc
 
 object_or_not : (k : ℕ) (v : Value) → OrNot (v ≡ Object k)
-object_or_not k (Object j) = same_as (ap Object) (object_number j k) (same_or_not j k)
+object_or_not k (Object j) = same_as (ap Object) (object_number j k) (cases_eq j k)
 object_or_not k _ = inr (λ e. absurd cc)
 
 rail_or_not : (i : ℕ) (v : Value) → OrNot (v ≡ Rail i)
-rail_or_not i (Rail j) = same_as (ap Rail) (rail_number j i) (same_or_not j i)
+rail_or_not i (Rail j) = same_as (ap Rail) (rail_number j i) (cases_eq j i)
 rail_or_not i _ = inr (λ e. absurd cc)
 
 -- node j has the value in a field
@@ -46,7 +47,7 @@ next_or_not : (s : Snapshot) (left : List ℕ) (k : ℕ) → OrNot (IsNext s lef
 next_or_not s left k =
     either_or_not (member_or_not (Object k) (object_or_not k) s.roots)
     (some_below (λ j. (IsIn j left → ⊥) × HasField s j (Object k)) (length s.nodes)
-    (λ j lt. both_or_not (not_or_not (member_or_not j (λ i. same_or_not i j) left)) (field_or_not s j (Object k) (object_or_not k))))
+    (λ j lt. both_or_not (not_or_not (member_or_not j (λ i. cases_eq i j) left)) (field_or_not s j (Object k) (object_or_not k))))
 
 -- each node is reached or left over
 abbrev AreSorted : Snapshot → List ℕ → Type 0

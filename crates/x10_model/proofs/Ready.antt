@@ -1,7 +1,7 @@
 -- A ready activity moves or goes wrong, wherever it stands; and a message that is taken in fits.
 use Rattle.std.proofs.Common.{◌≡◌, ◌⊎◌, ℕ, ◌+◌, ◌≤◌, false, length, Option, Some, None, refl, ap, subst, ◌∙◌, inl, inr, arith}
 use Rattle.std.specs.Prelude.{slice_get}
-use Rattle.std.proofs.lemmas.Bool.{cases_lt}
+use Rattle.std.proofs.lemmas.Bool.{cases_lt, cases_eq}
 use Rattle.x10_code.specs.declared.instr.Instr.{Instr}
 use Rattle.x10_code.specs.declared.operands.Operand.{Operand}
 use Rattle.x10_code.specs.declared.operands.Operand.TheVariants as operand
@@ -15,7 +15,7 @@ use Rattle.x10_model.specs.Moves.{Situation, Moves}
 use Rattle.x10_model.specs.Deliveries.{WaitsFor, Receives}
 use Rattle.x10_model.specs.Wrong.{out_of_range, IsWrong, no_instruction, wrong_at, IsMisfit, not_here, graph, torn, spawn, shift, back}
 use Rattle.x10_model.specs.Laws.{HasRoomAt}
-use Rattle.x10_model.proofs.Decided.{same_or_not, below_or_not, both_or_not}
+use Rattle.x10_model.proofs.Decided.{below_or_not, both_or_not}
 use Rattle.x10_model.proofs.Able.{step}
 
 -- ---- what an instruction names is there, or not
@@ -25,9 +25,9 @@ result_or_not f None n = inl tt
 result_or_not f (Some slot) n = below_or_not n f.registers
 
 first_or_not : (count n : ℕ) → (count ≡ 0 → n ≡ 0) ⊎ ((count ≡ 0 → n ≡ 0) → ⊥)
-first_or_not count n = elim (same_or_not n 0) [
+first_or_not count n = elim (cases_eq n 0) [
   | inl e ↦ inl (λ c. e)
-  | inr n-not ↦ elim (same_or_not count 0) [ inl e ↦ inr (λ h. n-not (h e)) | inr c-not ↦ inl (λ e. absurd (c-not e)) ]
+  | inr n-not ↦ elim (cases_eq count 0) [ inl e ↦ inr (λ h. n-not (h e)) | inr c-not ↦ inl (λ e. absurd (c-not e)) ]
 ]
 
 at_most_or_not : (m n : ℕ) → (m ≤ n) ⊎ (m ≤ n → ⊥)

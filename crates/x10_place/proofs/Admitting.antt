@@ -1,6 +1,7 @@
 -- A message that begins an activity is taken in by each place of the machine that a place stands for.
 use Rattle.std.proofs.Common.{◌≡◌, ℕ, ◌+◌, ◌<◌, ◌^◌, Bool, length, Some, None, refl, sym, ap, ap₂, subst, ◌∙◌, arith}
 use Rattle.std.specs.Prelude.{map}
+use Rattle.std.proofs.lemmas.Option.{same_Some}
 use Rattle.slab.specs.Slab.{Slab}
 use Rattle.x10_heap.specs.Words.{Context}
 use Rattle.x10_heap.proofs.Growing.{Grows}
@@ -33,7 +34,6 @@ use Rattle.x10_place.specs.StandsFor.{Far, context_of, PlaceState, place_of, pla
 use Rattle.x10_place.proofs.Booking.{without, booked_as}
 use Rattle.x10_place.proofs.Fitting.{arrived_grows, homes_named, values_fit, entered_stands}
 use Rattle.x10_place.proofs.Growing.{exports_kept}
-use Rattle.x10_place.proofs.Maps.{some_is}
 use Rattle.x10_place.proofs.Placing.{open_first}
 use Rattle.x10_place.proofs.Rebuilt.{admitted}
 
@@ -147,7 +147,7 @@ module _ (far : Far) (p : PlaceState) (m : machine.Place) (stands : StandsFor fa
       let few = h.few in
       admitted far p m stands slab t h.key h.child child h.added grows child_stands message next (λ le. omega (arith, few, le)) receives refl taken.holds exports
       (stands.opened ∙ sym c.opened_is) (stands.lines ∙ sym (ap (λ ls. map line_as ls) c.lines)) (record { here = c.here; places = c.places_are; totals = totals; kept = c.books_are })
-      (booked_as p.id p.opened t.opened next.stays next.stays (books_of p.books) (books_of t.books) (without p.id p.opened m.stays (books_of p.books) stands.booked h.key (Some child) (λ u e. ap (λ (z : Stay). z.finishes) (sym (some_is child u e)))) refl c.opened_is c.books_are)
+      (booked_as p.id p.opened t.opened next.stays next.stays (books_of p.books) (books_of t.books) (without p.id p.opened m.stays (books_of p.books) stands.booked h.key (Some child) (λ u e. ap (λ (z : Stay). z.finishes) (sym (same_Some child u e)))) refl c.opened_is c.books_are)
 
 -- ---- by the frame that brings it
 
@@ -191,4 +191,4 @@ module _ (v : Certified) (old new : Slab StayState) (s t : StoreState) (stopped 
         message = machine.Shift from to waiting (record { home = home; number = number }) function (snapshot_of g)
 
         run : IsOfLaunch s.places shifted
-        run = record { under = (fits.body.1.home, fits.body.1.number); back = λ o e. subst (λ (q : Origin). (q.place < s.places) × (q.key < 2 ^ 32)) (some_is (record { place = from; key = waiting }) o e) (fits.from, fits.body.0) }
+        run = record { under = (fits.body.1.home, fits.body.1.number); back = λ o e. subst (λ (q : Origin). (q.place < s.places) × (q.key < 2 ^ 32)) (same_Some (record { place = from; key = waiting }) o e) (fits.from, fits.body.0) }

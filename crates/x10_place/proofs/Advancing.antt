@@ -1,5 +1,6 @@
 -- What a step of the stay with a key does to a place, by what becomes of the stay.
 use Rattle.std.proofs.Common.{◌≡◌, ◌≢◌, ℕ, Bool, true, false, List, ◌∷◌, Option, Some, None, Ok, Err, refl, sym, ap, ap₂, subst, ◌∙◌}
+use Rattle.std.proofs.lemmas.Option.{same_Some}
 use Rattle.slab.specs.Slab.{Slab, get, Updates, with_value}
 use Rattle.x10_kinds.specs.declared.stop.Stop.{Stop}
 use Rattle.x10_kinds.specs.declared.stop.Stop.TheVariants as stop
@@ -7,6 +8,7 @@ use Rattle.x10_code.specs.declared.op.Op.TheVariants as op
 use Rattle.x10_code.specs.declared.instr.Instr.{Instr}
 use Rattle.x10_model.specs.Modules.{Module, FitsImage}
 use Rattle.x10_model.specs.Ranges.{instr_at, instr_in}
+use Rattle.x10_model.proofs.Lists.{none_some}
 use Rattle.x10_verify.specs.Certified.{Certified}
 use Rattle.x10_place.specs.declared.place.Stepped.TheVariants as stepped
 use Rattle.x10_place.specs.declared.route.Route.{Route}
@@ -21,7 +23,6 @@ use Rattle.x10_place.specs.StandsFor.{PlaceState, place_of, plain, location_of, 
 use Rattle.x10_place.specs.declared.sent.Sent.{Sent}
 use Rattle.x10_place.specs.Messages.{no_sent}
 use Rattle.x10_place.specs.Stretches.{still, IsUntouched, IsForPlace, IsMade, IsAdvanced}
-use Rattle.x10_place.proofs.Maps.{some_is, none_some}
 use Rattle.x10_place.proofs.Fetching.{IsRefetched, fetched_within}
 use Rattle.x10_place.proofs.Placing.{IsChecked, is_close_finish}
 use Rattle.x10_place.proofs.Reading.{working_reads}
@@ -63,10 +64,10 @@ module _ (v : Certified) (old : Slab StayState) (s : StoreState) (key : ℕ) (st
   advanced_away a e is = record {
     idle = λ stopped h. (refl, untouched old s);
     only = λ stopped f. away a e is;
-    some = λ stopped b there ready. absurd (let same = some_is a b (sym e ∙ there) in let f : true ≡ false = sym is ∙ ap (λ (c : StayState). c.away) same ∙ ready in cc);
+    some = λ stopped b there ready. absurd (let same = same_Some a b (sym e ∙ there) in let f : true ≡ false = sym is ∙ ap (λ (c : StayState). c.away) same ∙ ready in cc);
     refused = λ stopped. tt;
     same = tt;
-    full = λ stopped limit over. absurd (let same = some_is a over.stay (sym e ∙ over.is_there) in let f : true ≡ false = sym is ∙ ap (λ (c : StayState). c.away) same ∙ over.is_ready in cc);
+    full = λ stopped limit over. absurd (let same = same_Some a over.stay (sym e ∙ over.is_there) in let f : true ≡ false = sym is ∙ ap (λ (c : StayState). c.away) same ∙ over.is_ready in cc);
     standing = standing;
     here = refl;
     places = refl;
@@ -75,7 +76,7 @@ module _ (v : Certified) (old : Slab StayState) (s : StoreState) (key : ℕ) (st
   module _ (a : StayState) (e : get old key ≡ Some a) (ready : a.away ≡ false) (i : Instr) (fetched : IsFetchedFor v.program a.top i) where
     -- the instruction at which the stay stands
     instr_is : (j : Instr) → instr_at v.program a.top.function a.top.pc ≡ Some j → j ≡ i
-    instr_is j at = some_is j i (sym at ∙ subst (λ o. instr_in o a.top.pc ≡ Some i) (sym fetched.is_function) fetched.is_instr)
+    instr_is j at = same_Some j i (sym at ∙ subst (λ o. instr_in o a.top.pc ≡ Some i) (sym fetched.is_function) fetched.is_instr)
 
     -- where a step would find nothing to do, the stay waits at the end of a finish
     pub record IsWaiting : Type 0 where
@@ -87,9 +88,9 @@ module _ (v : Certified) (old : Slab StayState) (s : StoreState) (key : ℕ) (st
 
     idle_waits : (stopped : Bool) → IsIdleAt (place stopped) key → IsWaiting
     idle_waits stopped (nobody none) = absurd (none_some (get old key) a none e)
-    idle_waits stopped (away b is gone) = absurd (let same = some_is b a (sym is ∙ e) in let f : true ≡ false = sym gone ∙ subst (λ (c : StayState). c.away ≡ false) (sym same) ready in cc)
+    idle_waits stopped (away b is gone) = absurd (let same = same_Some b a (sym is ∙ e) in let f : true ≡ false = sym gone ∙ subst (λ (c : StayState). c.away ≡ false) (sym same) ready in cc)
     idle_waits stopped (waits b number outer is fine innermost not_done) =
-        let same = some_is b a (sym is ∙ e) in
+        let same = same_Some b a (sym is ∙ e) in
         let at = subst (λ (c : StayState). instr_at v.program c.top.function c.top.pc ≡ Some fine.0) same fine.1 in
         record { is_fine = subst (λ (j : Instr). j.op ≡ op.Fine) (instr_is fine.0 at) fine.2; number = number; outer = outer; innermost = subst (λ (c : StayState). c.finishes ≡ number ∷ outer) same innermost; not_done = not_done }
 
@@ -106,7 +107,7 @@ module _ (v : Certified) (old : Slab StayState) (s : StoreState) (key : ℕ) (st
     -- a stay that would make too many of something, by its own instruction
     overfills : (stopped : Bool) (limit : ℕ) → IsOverfull (place stopped) key limit → Overfills (route_of i.op) (place stopped) a i limit
     overfills stopped limit over =
-        let same = some_is over.stay a (sym over.is_there ∙ e) in
+        let same = same_Some over.stay a (sym over.is_there ∙ e) in
         let at = subst (λ (c : StayState). instr_at v.program c.top.function c.top.pc ≡ Some over.instr) same over.instr_is in
         subst (λ (j : Instr). Overfills (route_of j.op) (place stopped) a j limit) (instr_is over.instr at) (subst (λ c. Overfills (route_of over.instr.op) (place stopped) c over.instr limit) same over.overfills)
 

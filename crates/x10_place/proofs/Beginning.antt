@@ -1,6 +1,7 @@
 -- An activity that begins at a place: the stay that begins it goes on, and what may refuse it.
 use Rattle.std.proofs.Common.{◌≡◌, ℕ, ◌<◌, true, false, inl, inr, Some, refl, sym, ap, subst, ◌∙◌, arith}
 use Rattle.std.specs.Prelude.{IsSome}
+use Rattle.std.proofs.lemmas.Option.{same_Some}
 use Rattle.slab.specs.Slab.{Slab, get, Updates, with_value}
 use Rattle.slab.proofs.SlabLemmas.{Updates-with_value}
 use Rattle.x10_code.specs.declared.op.Op.{Op}
@@ -10,7 +11,6 @@ use Rattle.x10_place.specs.Parting.{DepartsBy}
 use Rattle.x10_place.specs.declared.frame.CallFrame.{CallFrame}
 use Rattle.x10_place.specs.StandsFor.{place_of, OverfillsBegin}
 use Rattle.x10_place.specs.Stays.{StayState, StoreState, GoesNext, totals_in, innermost_at}
-use Rattle.x10_place.proofs.Maps.{some_is}
 
 abbrev pub stepped_on : StayState → CallFrame → StayState
 stepped_on a f = record a { top = f }
@@ -19,7 +19,7 @@ stepped_on a f = record a { top = f }
 pub went_on : (slab : Slab StayState) (key : ℕ) (a b : StayState) (f : CallFrame) → get slab key ≡ Some a → GoesNext a.top f → get slab key ≡ Some b
     → (c : StayState) × GoesNext b.top c.top × (c ≡ record b { top = c.top }) × Updates slab (with_value slab key (stepped_on a f)) key (Some c)
 went_on slab key a b f there next e =
-    let same : a ≡ b = some_is a b (sym there ∙ e) in
+    let same : a ≡ b = same_Some a b (sym there ∙ e) in
     (stepped_on a f, subst (λ (x : StayState). GoesNext x.top f) same next, ap (λ x. stepped_on x f) same, Updates-with_value slab key (stepped_on a f) (subst (λ o. IsSome o) (sym there) refl))
 
 -- there is a key for one activity more, and room under its finish
@@ -27,7 +27,7 @@ pub has_room : (verified : Certified) (slab : Slab StayState) (s : StoreState) (
     → get slab key ≡ Some b → OverfillsBegin (place_of verified slab s false) b limit → ⊥
 has_room verified slab s key limit vacant live a b is few there counted less e (inl (ten, many)) = absurd (omega (arith, is, few, many))
 has_room verified slab s key limit vacant live a b is few there counted less e (inr (six, fits, full)) =
-    let same : a ≡ b = some_is a b (sym there ∙ e) in
+    let same : a ≡ b = same_Some a b (sym there ∙ e) in
     let at : live ≡ (totals_in s (innermost_at s.here b)).live = counted ∙ ap (λ x. (totals_in s (innermost_at s.here x)).live) same in
     less (omega (arith, at, full))
 
@@ -37,7 +37,7 @@ has_room verified slab s key limit vacant live a b is few there counted less e (
 pub parts_away : (slab : Slab StayState) (key : ℕ) (a b : StayState) (o : Op) → o ≡ op.At → get slab key ≡ Some a → get slab key ≡ Some b → (c : StayState) × DepartsBy o b c × Updates slab (with_value slab key (record a { away = true })) key (Some c)
 parts_away slab key a b o is there e = (
   record a { away = true },
-  subst (λ q. DepartsBy q b (record a { away = true })) (sym is) (ap (λ (x : StayState). let y : StayState = record x { away = true } in y) (some_is a b (sym there ∙ e))),
+  subst (λ q. DepartsBy q b (record a { away = true })) (sym is) (ap (λ (x : StayState). let y : StayState = record x { away = true } in y) (same_Some a b (sym there ∙ e))),
   Updates-with_value slab key (record a { away = true }) (subst (λ q. IsSome q) (sym there) refl),
 )
 

@@ -1,14 +1,17 @@
 -- Books of a place: after each move there is one for each finish that a stay has open.
 use Rattle.std.proofs.Common.{◌≡◌, ◌⊎◌, ℕ, zero, suc, ◌+◌, ◌<◌, ◌≤◌, [], ◌∷◌, Option, Some, None, refl, sym, ap, subst, ◌∙◌, inl, inr, arith}
+use Rattle.std.proofs.lemmas.Option.{same_Some}
+use Rattle.std.proofs.lemmas.Bool.{cases_eq}
 use Rattle.x10_model.specs.Maps.{with_entry}
 use Rattle.x10_model.specs.Places as machine
 use Rattle.x10_model.specs.Places.{Stay, Effect, Waits, Works, Begins, Spawns, Shifts, Opens, Closes, Ends}
 use Rattle.x10_model.specs.Totals.{Cut, zeros}
+use Rattle.x10_model.proofs.Lists.{none_some}
+use Rattle.x10_model.proofs.Maps.{at_key, off_key}
 use Rattle.x10_finish.specs.Nesting.{nth}
 use Rattle.x10_finish.specs.Stays.{MovesStay}
 use Rattle.x10_place.specs.Stays.{StoreState, books_in, HasBook}
 use Rattle.x10_place.specs.StandsFor.{first_number, AreBooked}
-use Rattle.x10_place.proofs.Maps.{some_is, none_some, at_key, off_key, same_or_not}
 use Rattle.x10_place.proofs.Recounting.{KeepsBooks}
 
 -- books and numbers as functions; other functions with the same values do as well
@@ -27,9 +30,9 @@ booked_as id opened opened' stays stays' books books' h same e b = record {
 
 -- a stay at the key, or one that was there before
 found : (stays : ℕ → Option Stay) (key k : ℕ) (o : Option Stay) (s : Stay) → with_entry stays key o k ≡ Some s → ((k ≡ key) × (o ≡ Some s)) ⊎ ((k ≡ key → ⊥) × (stays k ≡ Some s))
-found stays key k o s e = elim (same_or_not k key) [
+found stays key k o s e = elim (cases_eq k key) [
   | inl same ↦ inl (same, sym (at_key stays key o) ∙ ap (with_entry stays key o) (sym same) ∙ e)
-  | inr ne ↦ inr (ne, sym (off_key stays key o k ne) ∙ e)
+  | inr ne ↦ inr (ne, sym (off_key stays key k o ne) ∙ e)
 ]
 
 -- ---- one stay changes
@@ -66,7 +69,7 @@ module _ (id opened : ℕ) (stays : ℕ → Option Stay) (books : ℕ → Option
       where
         was : (k i n : ℕ) (u : Stay) → with_entry stays key (Some t) k ≡ Some u → nth u.finishes i ≡ Some n → (w : Stay) × (stays k ≡ Some w) × (nth w.finishes i ≡ Some n)
         was k i n u is f = elim (found stays key k (Some t) u is) [
-          | inl c ↦ (s, ap stays c.0 ∙ there, subst (λ ns. nth ns i ≡ Some n) (ap (λ (z : Stay). z.finishes) (sym (some_is t u c.1)) ∙ e) f)
+          | inl c ↦ (s, ap stays c.0 ∙ there, subst (λ ns. nth ns i ≡ Some n) (ap (λ (z : Stay). z.finishes) (sym (same_Some t u c.1)) ∙ e) f)
           | inr c ↦ (u, c.1, f)
         ]
 
@@ -75,7 +78,7 @@ module _ (id opened : ℕ) (stays : ℕ → Option Stay) (books : ℕ → Option
     pushed books' number next e b = record {
       booked = λ k i n u is f. elim (origin k i n u is f) [
         | inl c ↦ ((λ p. zeros), b n ∙ ap (with_entry books number (Some (λ p. zeros))) c.1.1 ∙ at_key books number (Some (λ p. zeros)))
-        | inr c ↦ let d = h.booked k c.0 n c.1 c.2 c.3 in (d.0, b n ∙ off_key books number (Some (λ p. zeros)) n (older k c.0 n c.1 c.2 c.3) ∙ d.1)
+        | inr c ↦ let d = h.booked k c.0 n c.1 c.2 c.3 in (d.0, b n ∙ off_key books number n (Some (λ p. zeros)) (older k c.0 n c.1 c.2 c.3) ∙ d.1)
       ];
       numbered = λ k i n u is f. elim (origin k i n u is f) [
         | inl c ↦ (let le = h.first in let n_is = c.1.1 in (omega (arith, le, n_is, next), omega (arith, n_is, next)))
@@ -91,9 +94,9 @@ module _ (id opened : ℕ) (stays : ℕ → Option Stay) (books : ℕ → Option
           | inr d ↦ (let a = h.apart k l c.0 d.0 n c.1 d.1 c.2 d.2 c.3 d.3 in (a.0, together k l i j c.0 d.0 c.4 d.4 a.0 a.1))
         ]
       ];
-      unopened = λ n le. b n ∙ off_key books number (Some (λ p. zeros)) n (λ q. absurd (omega (arith, le, q, next))) ∙ h.unopened n (omega (arith, le));
+      unopened = λ n le. b n ∙ off_key books number n (Some (λ p. zeros)) (λ q. absurd (omega (arith, le, q, next))) ∙ h.unopened n (omega (arith, le));
       first = (let le = h.first in omega (arith, le));
-      root = λ z. let c = h.root z in (c.0, b 0 ∙ off_key books number (Some (λ p. zeros)) 0 (λ q. none_some (books number) c.0 (h.unopened number (omega (arith, next))) (ap books (sym q) ∙ c.1)) ∙ c.1);
+      root = λ z. let c = h.root z in (c.0, b 0 ∙ off_key books number 0 (Some (λ p. zeros)) (λ q. none_some (books number) c.0 (h.unopened number (omega (arith, next))) (ap books (sym q) ∙ c.1)) ∙ c.1);
     }
       where
         -- where a finish was before: nowhere, or one position further out in the stay that changed, or where it is
@@ -101,12 +104,12 @@ module _ (id opened : ℕ) (stays : ℕ → Option Stay) (books : ℕ → Option
         Origin k i n u = ((k ≡ key) × ((i ≡ 0) × (n ≡ number))) ⊎ ((j : ℕ) × (w : Stay) × (stays k ≡ Some w) × (nth w.finishes j ≡ Some n) × (((k ≡ key) × (i ≡ suc j)) ⊎ ((k ≡ key → ⊥) × (i ≡ j))))
 
         on_top : (k i n : ℕ) (u : Stay) → k ≡ key → nth (number ∷ s.finishes) i ≡ Some n → Origin k i n u
-        on_top k zero n u at f = inl (at, (refl, sym (some_is number n f)))
+        on_top k zero n u at f = inl (at, (refl, sym (same_Some number n f)))
         on_top k (suc i) n u at f = inr (i, s, ap stays at ∙ there, f, inl (at, refl))
 
         origin : (k i n : ℕ) (u : Stay) → with_entry stays key (Some t) k ≡ Some u → nth u.finishes i ≡ Some n → Origin k i n u
         origin k i n u is f = elim (found stays key k (Some t) u is) [
-          | inl c ↦ on_top k i n u c.0 (subst (λ ns. nth ns i ≡ Some n) (ap (λ (z : Stay). z.finishes) (sym (some_is t u c.1)) ∙ e) f)
+          | inl c ↦ on_top k i n u c.0 (subst (λ ns. nth ns i ≡ Some n) (ap (λ (z : Stay). z.finishes) (sym (same_Some t u c.1)) ∙ e) f)
           | inr c ↦ inr (i, u, c.1, f, inr (c.0, refl))
         ]
 
@@ -122,15 +125,15 @@ module _ (id opened : ℕ) (stays : ℕ → Option Stay) (books : ℕ → Option
     -- with the innermost one closed
     popped : (books' : ℕ → Option Cut) (number : ℕ) → s.finishes ≡ number ∷ t.finishes → ((k : ℕ) → books' k ≡ with_entry books number None k) → AreBooked id (with_entry stays key (Some t)) opened books'
     popped books' number e b = record {
-      booked = λ k i n u is f. let o = origin k i n u is f in let d = h.booked k o.0 n o.1 o.2 o.3 in (d.0, b n ∙ off_key books number None n (left k i n u is f) ∙ d.1);
+      booked = λ k i n u is f. let o = origin k i n u is f in let d = h.booked k o.0 n o.1 o.2 o.3 in (d.0, b n ∙ off_key books number n None (left k i n u is f) ∙ d.1);
       numbered = λ k i n u is f. let o = origin k i n u is f in h.numbered k o.0 n o.1 o.2 o.3;
       apart = λ k l i j n u v is iv f g. (let c = origin k i n u is f in let d = origin l j n v iv g in let a = h.apart k l c.0 d.0 n c.1 d.1 c.2 d.2 c.3 d.3 in (a.0, together k l i j c.0 d.0 c.4 d.4 a.0 a.1));
-      unopened = λ n le. b n ∙ elim (same_or_not n number) [
+      unopened = λ n le. b n ∙ elim (cases_eq n number) [
         | inl q ↦ ap (with_entry books number None) q ∙ at_key books number None
-        | inr ne ↦ off_key books number None n ne ∙ h.unopened n le
+        | inr ne ↦ off_key books number n None ne ∙ h.unopened n le
       ];
       first = h.first;
-      root = λ z. let c = h.root z in (c.0, b 0 ∙ off_key books number None 0 (λ q. absurd (let le = (h.numbered key 0 number s there (ap (λ ns. nth ns 0) e)).0 in low z (subst (λ n. first_number id ≤ n) (sym q) le))) ∙ c.1);
+      root = λ z. let c = h.root z in (c.0, b 0 ∙ off_key books number 0 None (λ q. absurd (let le = (h.numbered key 0 number s there (ap (λ ns. nth ns 0) e)).0 in low z (subst (λ n. first_number id ≤ n) (sym q) le))) ∙ c.1);
     }
       where
         low : id ≡ 0 → first_number id ≤ 0 → ⊥
@@ -141,7 +144,7 @@ module _ (id opened : ℕ) (stays : ℕ → Option Stay) (books : ℕ → Option
 
         origin : (k i n : ℕ) (u : Stay) → with_entry stays key (Some t) k ≡ Some u → nth u.finishes i ≡ Some n → Origin k i n u
         origin k i n u is f = elim (found stays key k (Some t) u is) [
-          | inl c ↦ (suc i, s, ap stays c.0 ∙ there, subst (λ ns. nth ns (suc i) ≡ Some n) (sym e) (subst (λ ns. nth ns i ≡ Some n) (ap (λ (z : Stay). z.finishes) (sym (some_is t u c.1))) f), inl (c.0, refl))
+          | inl c ↦ (suc i, s, ap stays c.0 ∙ there, subst (λ ns. nth ns (suc i) ≡ Some n) (sym e) (subst (λ ns. nth ns i ≡ Some n) (ap (λ (z : Stay). z.finishes) (sym (same_Some t u c.1))) f), inl (c.0, refl))
           | inr c ↦ (i, u, c.1, f, inr (c.0, refl))
         ]
 
@@ -179,7 +182,7 @@ moved_booked here key old new Works s t h m k =
 moved_booked here key old new (Begins other function under) s t h m k =
     let first = same here s.opened old.stays (books_in s) h key m.stay m.changes.0 m.is_there m.changes.2.finishes_are in
     booked_as here s.opened t.opened (with_entry (with_entry old.stays key (Some m.changes.0)) other (Some m.changes.1)) new.stays (books_in s) (books_in t)
-    (without here s.opened (with_entry old.stays key (Some m.changes.0)) (books_in s) first other (Some m.changes.1) (λ u e. ap (λ (z : Stay). z.finishes) (sym (some_is m.changes.1 u e)) ∙ m.changes.3.finishes)) m.changes.6 k.0 k.1
+    (without here s.opened (with_entry old.stays key (Some m.changes.0)) (books_in s) first other (Some m.changes.1) (λ u e. ap (λ (z : Stay). z.finishes) (sym (same_Some m.changes.1 u e)) ∙ m.changes.3.finishes)) m.changes.6 k.0 k.1
 moved_booked here key old new (Spawns message function under) s t h m k =
     booked_as here s.opened t.opened (with_entry old.stays key (Some m.changes.0)) new.stays (books_in s) (books_in t) (same here s.opened old.stays (books_in s) h key m.stay m.changes.0 m.is_there m.changes.3.finishes_are) m.changes.6.stays k.0 k.1
 moved_booked here key old new (Shifts message under) s t h m k =

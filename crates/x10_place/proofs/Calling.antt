@@ -2,7 +2,7 @@
 use Rattle.std.proofs.Common.{◌≡◌, ℕ, ◌+◌, ◌<◌, ◌≤◌, List, length, get_or, set, drop, replicate, Some, refl, sym, ap, subst, ◌∙◌, inl, inr, arith, get_or-set_same, get_or-set_other}
 use Rattle.std.specs.Prelude.{slice_index, slice_set}
 use Rattle.std.specs.List.{refill}
-use Rattle.std.proofs.lemmas.Bool.{cases_lt}
+use Rattle.std.proofs.lemmas.Bool.{cases_lt, cases_eq}
 use Rattle.std.proofs.lemmas.List.{take_at}
 use Rattle.std.proofs.Math.ListN.{length-set}
 use Rattle.x10_code.specs.declared.instr.Instr.{Instr}
@@ -11,7 +11,6 @@ use Rattle.x10_model.specs.Ranges.{function_at}
 use Rattle.x10_image.specs.Parts.{Signature, signature_of}
 use Rattle.x10_place.specs.declared.frame.CallFrame.{CallFrame}
 use Rattle.x10_place.specs.Frames.{word_at, IsEntered}
-use Rattle.x10_place.proofs.Maps.{same_or_not}
 
 -- so many registers, of which those below n have the words of the caller's from b on
 pub record ArgumentsTo (from : List ℕ) (i : Instr) (registers : ℕ) (words : List ℕ) (n : ℕ) : Type 0 where
@@ -28,7 +27,7 @@ refilled xs ws e = take_at ws (drop (length ws) xs) (length xs) e
 arguments_set : (from : List ℕ) (i : Instr) (registers n w : ℕ) (xs : List ℕ) → ArgumentsTo from i registers xs n → n < length xs → w ≡ word_at from (i.b + n) → ArgumentsTo from i registers (slice_set xs n w) (n + 1)
 arguments_set from i registers n w xs before lt e = record {
   count = simp length-set before.count;
-  same = λ r less. elim (same_or_not r n) [
+  same = λ r less. elim (cases_eq r n) [
     | inl at ↦ subst (λ q. get_or (set xs n w) q 0 ≡ word_at from (i.b + q)) (sym at) (get_or-set_same xs n w 0 lt ∙ e)
     | inr off ↦ get_or-set_other xs n r w 0 off ∙ before.same r (below r n less off)
   ];

@@ -2,6 +2,7 @@
 use Rattle.std.proofs.Common.{◌≡◌, ℕ, zero, suc, ◌+◌, ◌<◌, ◌≤◌, ◌^◌, List, [], ◌∷◌, length, replicate, Option, Some, None, refl, sym, ap, ap₂, subst, ◌∙◌, arith}
 use Rattle.std.specs.Prelude.{IsTrue, slice_get, slice_index}
 use Rattle.std.specs.List.{AllByRecursion}
+use Rattle.std.proofs.lemmas.Option.{same_Some}
 use Rattle.x10_kinds.specs.declared.kind.Kind.{Kind}
 use Rattle.x10_kinds.specs.declared.kind.Kind.TheVariants as kind
 use Rattle.x10_kinds.specs.declared.homes.Term.{Term}
@@ -28,7 +29,6 @@ use Rattle.x10_place.specs.Homes.{AreHomes, place_in, place_at}
 use Rattle.x10_place.specs.Frames.{IsFetchedFor, IsEntered}
 use Rattle.x10_place.specs.Stays.{StayState, IsPlaced, Calls, IsBegun, innermost_at}
 use Rattle.x10_place.specs.StandsFor.{Far, context, Assigned, HoldRegisters, StandsForFrame, IsOfRun, StandsForStay}
-use Rattle.x10_place.proofs.Maps.{some_is}
 use Rattle.x10_place.proofs.Words.{of_kind, reads, words_weaken}
 use Rattle.x10_place.proofs.Homes.{homes_weaken, homes_entry}
 use Rattle.x10_place.proofs.Framed.{has_state, point_of, in_range, small}
@@ -37,7 +37,7 @@ use Rattle.x10_place.proofs.Local.{situated}
 -- ---- homes
 
 ref_home : (cells : Cells) (v : Value) (c here : ℕ) → IsOfKind cells v (kind.GRef c) → place_of v ≡ Some here → HasHome here v
-ref_home cells (Ref home id class) c here of e = some_is home here e
+ref_home cells (Ref home id class) c here of e = same_Some home here e
 ref_home cells (Int z) c here of e = absurd of
 ref_home cells (Place p) c here of e = absurd of
 ref_home cells (Text t) c here of e = absurd of
@@ -85,7 +85,7 @@ pub record PassesWords (x : Context) (cells : Cells) (there : ℕ) (sit : Situat
   pub words_are : (k : ℕ) (want : Kind) → parameter_kind (slice_get slots k) ≡ Some want → (v : Value) × (slice_get vs k ≡ Some v) × IsWordOf x want (slice_index words (r + k)) v
 
 kind_is : (slot : Slot) (want : Kind) → parameter_kind (Some slot) ≡ Some want → slot.kind ≡ want
-kind_is slot want e = some_is slot.kind want e
+kind_is slot want e = same_Some slot.kind want e
 
 module _ (classes : ℕ) (x : Context) (cells : Cells) (holds : HoldsHeap x cells) (sit : Situation) (s : State) (words : List ℕ) (typed : HoldRegisters x s sit.stay.top.registers words) (homes : AreHomes x.here s.homes sit.stay.top.registers) (to : Term) (there : ℕ) (stands : IsTermOf x sit.stay.top.registers to there) where
   passes_words : (r : ℕ) (slots : List Slot) → r + length slots ≤ 64 → AllByRecursion (FitsSlot classes) slots → SlotsFit s to r slots → (vs : List Value) × PassesWords x cells there sit words r slots vs
@@ -146,7 +146,7 @@ module _ (setting : Setting) (here : ℕ) (far : Far) (m : machine.Place) (key :
       typed : HoldRegisters x (entry_state callee) (slice_get vs) f.registers.items
       typed r want k =
           let v = passed.words_are r want k in
-          let same : e.callee ≡ callee = some_is e.callee callee (sym e.is_callee ∙ is) in
+          let same : e.callee ≡ callee = same_Some e.callee callee (sym e.is_callee ∙ is) in
           let lt : r < length e.callee.parameters = subst (λ (g : Function). r < length g.parameters) (sym same) (slot_below callee.parameters r want k) in
           (v.0, v.1, subst (λ w. IsWordOf x want w v.0) (sym (e.arguments r lt)) v.2)
 

@@ -1,6 +1,7 @@
 -- A result that comes back is taken in by each place of the machine that a place stands for.
 use Rattle.std.proofs.Common.{◌≡◌, ℕ, ◌+◌, ◌<◌, ◌^◌, Bool, false, List, [], ◌∷◌, length, Option, Some, None, refl, sym, ap, ap₂, subst, ◌∙◌, arith}
 use Rattle.std.specs.Prelude.{map, slice_set}
+use Rattle.std.proofs.lemmas.Option.{same_Some}
 use Rattle.slab.specs.Slab.{Slab}
 use Rattle.x10_kinds.specs.declared.kind.Kind.TheVariants as kind
 use Rattle.x10_kinds.specs.declared.homes.Term.TheVariants as term
@@ -48,7 +49,6 @@ use Rattle.x10_place.proofs.Fitting.{arrived_grows, homes_named, values_fit}
 use Rattle.x10_place.proofs.Framed.{point_of, in_range, small, count, rule, frame_after}
 use Rattle.x10_place.proofs.Growing.{frame_kept, callers_kept, exports_kept}
 use Rattle.x10_place.proofs.Homes.{homes_written, slot_like}
-use Rattle.x10_place.proofs.Maps.{some_is}
 use Rattle.x10_place.proofs.Placing.{IsChecked, inside_next, inside_with, fetched_inside, open_onward}
 use Rattle.x10_place.proofs.Rebuilt.{admitted}
 use Rattle.x10_place.proofs.Words.{reads, words_written}
@@ -191,7 +191,7 @@ module _ (far : Far) (p : PlaceState) (m : machine.Place) (stands : StandsFor fa
   top_back =
       let at = permits p.program stands.assigned y taken.cells h.stay.top found.0.top top h.call h.waits.fetched h.waits.is_at in
       let call = at.1 in
-      let same_callee : call.0 ≡ h.callee = some_is call.0 h.callee (sym call.3.0 ∙ h.callee_is) in
+      let same_callee : call.0 ≡ h.callee = same_Some call.0 h.callee (sym call.3.0 ∙ h.callee_is) in
       let given = subst (λ (g : Function). GivesResult (point_of p.program top.function h.stay.top h.call) top.state (term.Reg h.call.c) g.result call.1) same_callee call.4 in
       let reached = at.2 (h.stay.top.pc + 1, call.1) (subst (λ (o : Edges). IsIn (h.stay.top.pc + 1, call.1) o) (sym call.5) (0, refl)) in
       frame_back p.program stands.assigned y taken.cells h.stay.top found.0.top top h.call h.waits.fetched h.waits.is_at from h.callee.result h.roots taken.values call.1 h.next.top held (ap result_of h.callee_is) given reached taken.words fit h.goes.goes

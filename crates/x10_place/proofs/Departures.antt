@@ -20,6 +20,7 @@ use Rattle.x10_model.specs.Frames as frames
 use Rattle.x10_model.specs.Assignments.{State, Reaches, Edges, Permits, CallsWell, IsKind}
 use Rattle.x10_model.specs.Totals.{Totals, Did, sends_to, is_reported}
 use Rattle.x10_model.specs.Worlds.{sent}
+use Rattle.x10_model.proofs.Lists.{none_some}
 use Rattle.x10_heap.specs.Words.{Context, AreWordsOf, HoldsHeap}
 use Rattle.x10_heap.proofs.Growing.{Grows, grows_not}
 use Rattle.x10_frame.specs.declared.head.Head.{Head}
@@ -36,7 +37,6 @@ use Rattle.x10_place.specs.Messages.{IsMessageSent, PutsOut}
 use Rattle.x10_place.specs.Stays.{StayState, StoreState, totals_in, books_in, innermost_at, changed_at, Recounts, GoesNext}
 use Rattle.x10_place.specs.StandsFor.{Far, context, context_of, PlaceState, store_of, with_stays, line_as, StandsForStay, StandForCallers, IsOfRun, HoldsExports, StandsFor, setting_of, IsCountedBy, Leads, LeadsAll}
 use Rattle.std.proofs.lemmas.Bool.{cases_lt}
-use Rattle.x10_place.proofs.Maps.{none_some}
 use Rattle.x10_place.proofs.Words.{reads}
 use Rattle.x10_place.proofs.Framed.{point_of, in_range, small, count, rule}
 use Rattle.x10_place.proofs.Local.{situated}

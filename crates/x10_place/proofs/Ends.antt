@@ -1,6 +1,7 @@
 -- The ends of functions, and what is printed: the program's steps are the machine's.
 use Rattle.std.proofs.Common.{◌≡◌, ℕ, ◌+◌, ◌<◌, ◌≤◌, List, [], ◌∷◌, ◌++◌, length, Option, Some, None, refl, sym, ap, subst, ◌∙◌, arith}
 use Rattle.std.specs.Prelude.{slice_set, string_bytes, IfSome}
+use Rattle.std.proofs.lemmas.Option.{same_Some}
 use Rattle.x10_kinds.specs.declared.kind.Kind.TheVariants as kind
 use Rattle.x10_kinds.specs.declared.homes.Term.TheVariants as term
 use Rattle.x10_code.specs.declared.op.Op.TheVariants as op
@@ -25,7 +26,6 @@ use Rattle.x10_place.specs.declared.line.Line.{Line}
 use Rattle.x10_place.specs.declared.line.Line.TheVariants as line
 use Rattle.x10_place.specs.Stays.{StayState, IsPlaced, GoesNext, Resumes, GoesOn, IsPrinted}
 use Rattle.x10_place.specs.StandsFor.{Far, context, line_as, Assigned, HoldRegisters, StandsForFrame, StandForCallers, IsOfRun, StandsForStay}
-use Rattle.x10_place.proofs.Maps.{some_is}
 use Rattle.x10_place.proofs.Words.{reads, reads_int, words_written}
 use Rattle.x10_place.proofs.Homes.{homes_written, result_like}
 use Rattle.x10_place.proofs.Framed.{FrameAfter, point_of, in_range, small, count, rule, frame_after}
@@ -91,7 +91,7 @@ module _ (program : Module) (assigned : Assigned program) (x : Context) (cells :
 
 slot_of : (classes : ℕ) (o : Option Slot) (slot : Slot) → o ≡ Some slot → IfSome o (FitsSlot classes) → FitsSlot classes slot
 slot_of classes None slot e h = absurd cc
-slot_of classes (Some t) slot e h = subst (λ u. FitsSlot classes u) (some_is t slot e) h
+slot_of classes (Some t) slot e h = subst (λ u. FitsSlot classes u) (same_Some t slot e) h
 
 pub result_register : (program : Module) (function : Function) (i : Instr) (slot : Slot) → i.op ≡ op.Ret → IsThere program function i (form_of i.op).a i.a → function.result ≡ Some slot → i.a < function.registers
 result_register program function i slot e there is =
@@ -150,7 +150,7 @@ module _ (setting : Setting) (here : ℕ) (far : Far) (m : machine.Place) (key :
       let at = rule setting.program assigned x r.caller c stands r.call r.fetched in
       let call = subst (λ q. Permits q (point_of setting.program stands.function r.caller r.call) stands.state at.0) r.op_is at.1 in
       let callee : function_at setting.program r.call.x ≡ Some function = ap (λ n. function_at setting.program n) r.callee_is ∙ h.top.is_function in
-      let same-callee : call.0 ≡ function = some_is call.0 function (sym call.2.0 ∙ callee) in
+      let same-callee : call.0 ≡ function = same_Some call.0 function (sym call.2.0 ∙ callee) in
       let t = call.1 in
       let gives : GivesResult (point_of setting.program stands.function r.caller r.call) stands.state term.Here function.result t = subst (λ (g : Function). GivesResult (point_of setting.program stands.function r.caller r.call) stands.state term.Here g.result t) same-callee call.3 in
       let reached = at.2 (r.caller.pc + 1, t) (subst (λ (o : Edges). IsIn (r.caller.pc + 1, t) o) (sym call.4) (0, refl)) in
@@ -195,7 +195,7 @@ module _ (setting : Setting) (here : ℕ) (far : Far) (m : machine.Place) (key :
       (Int z, reads_int x h.top.state s.top.registers a.top.registers.items i.a h.top.words known ∙ ap (λ n. Some (Int n)) (sym is), refl)
   printed (line.Text t) (text, is) =
       let v = reads x h.top.state s.top.registers a.top.registers.items i.a kind.Text h.top.words (text_known setting.program assigned x refl m.cells holds few a.top s.top h.top i fetched text) in
-      (Text (string_bytes t), v.1 ∙ ap Some (v.2.2 ∙ ap Text (some_is v.2.0 (string_bytes t) (sym v.2.1 ∙ is))), refl)
+      (Text (string_bytes t), v.1 ∙ ap Some (v.2.2 ∙ ap Text (same_Some v.2.0 (string_bytes t) (sym v.2.1 ∙ is))), refl)
 
   pub print_moves : (b : StayState) (out : Edges) (l : Line) → IsPrinted setting.program heap a.top i.a l → Permits op.Print (point_of setting.program function a.top i) h.top.state out
       → ((edge : ℕ × State) → IsIn edge out → Reaches (assigned a.top.function function h.top.is_function).0 edge) → GoesNext a.top b.top

@@ -2,6 +2,7 @@
 use Rattle.std.proofs.Common.{◌≡◌, ℕ, suc, ◌<◌, ◌≤◌, false, List, [], ◌∷◌, length, map, Some, None, refl, sym, ap, subst, ◌∙◌, inl, inr, arith}
 use Rattle.std.specs.Prelude.{reverse}
 use Rattle.std.proofs.lemmas.List.{length-map}
+use Rattle.std.proofs.lemmas.Option.{same_Some}
 use Rattle.slab.specs.Slab.{Slab, get, Updates}
 use Rattle.x10_image.specs.Parts.{Signature}
 use Rattle.x10_heap.specs.Heaps.{HeapState}
@@ -20,7 +21,6 @@ use Rattle.x10_place.specs.declared.frame.CallFrame.{CallFrame}
 use Rattle.x10_place.specs.declared.launching.Launch.{Launch}
 use Rattle.x10_place.specs.Arrivals.{IsOpenHere, Settles, IsUnsettled, IsEntrance, IsEnteredWith, Launches, FitsLaunch, IsLaunchRefused}
 use Rattle.x10_place.specs.Stays.{StayState, StoreState, finish_as, origin_as}
-use Rattle.x10_place.proofs.Maps.{some_is}
 
 -- ---- lists
 
@@ -45,7 +45,7 @@ taken_beside q s new f roots e h = subst (λ (u : StoreState). (m : Module) (her
 
 module _ (program : Module) (s : StoreState) (f : Frame) (l : Launch) (fits : FitsLaunch program s f l) (sig : Signature) (entrance : IsEntrance program l sig) where
   same_callee : entrance.callee ≡ fits.callee
-  same_callee = some_is entrance.callee fits.callee (sym entrance.begins.0 ∙ fits.begins.0)
+  same_callee = same_Some entrance.callee fits.callee (sym entrance.begins.0 ∙ fits.begins.0)
 
   -- the function has registers for what comes
   pub roots_few : (t : StoreState) (roots : List ℕ) (n count : ℕ) → Settles s (graph_of f) l roots t → n ≡ sig.registers → n ≤ count → length roots ≤ count

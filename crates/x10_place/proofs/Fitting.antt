@@ -1,6 +1,7 @@
 -- Values that arrive: they stand in a heap that grew, and fit the function that takes them.
 use Rattle.std.proofs.Common.{◌≡◌, ℕ, zero, suc, ◌<◌, ◌≤◌, List, [], ◌∷◌, ◌++◌, length, map, Some, refl, sym, ap, subst, ◌∙◌, arith}
 use Rattle.std.specs.Prelude.{slice_get, slice_index}
+use Rattle.std.proofs.lemmas.Option.{same_Some}
 use Rattle.x10_kinds.specs.declared.kind.Kind.{Kind}
 use Rattle.x10_heap.specs.Heaps.{HeapState}
 use Rattle.x10_heap.specs.Words.{Context, IsWordOf, AreWordsOf, HoldsHeap}
@@ -23,7 +24,6 @@ use Rattle.x10_place.specs.StandsFor.{Assigned, HoldRegisters, StandsForFrame}
 use Rattle.x10_place.proofs.Calls.{no_turns}
 use Rattle.x10_place.proofs.Framed.{has_state}
 use Rattle.x10_place.proofs.Homes.{homes_weaken, homes_entry}
-use Rattle.x10_place.proofs.Maps.{some_is}
 use Rattle.x10_place.proofs.Words.{of_kind, words_weaken}
 
 -- ---- the heap
@@ -82,7 +82,7 @@ module _ (program : Module) (assigned : Assigned program) (y : Context) where
   word_of [] words vs r want w e = absurd cc
   word_of (s ∷ slots) [] vs r want w e = absurd w
   word_of (s ∷ slots) (word ∷ words) [] r want w e = absurd w
-  word_of (s ∷ slots) (word ∷ words) (v ∷ vs) zero want w e = (v, refl, subst (λ k. IsWordOf y k word v) (some_is s.kind want e) w.0, omega arith)
+  word_of (s ∷ slots) (word ∷ words) (v ∷ vs) zero want w e = (v, refl, subst (λ k. IsWordOf y k word v) (same_Some s.kind want e) w.0, omega arith)
   word_of (s ∷ slots) (word ∷ words) (v ∷ vs) (suc r) want w e = let u = word_of slots words vs r want w.1 e in let lt = u.3 in (u.0, u.1, u.2, omega (arith, lt))
 
   -- its frame, at its first instruction

@@ -1,19 +1,21 @@
 -- A frame that stands for a call frame: the verifier's rule at its instruction, and frames after it.
 use Rattle.std.proofs.Common.{◌≡◌, ℕ, ◌<◌, ◌≤◌, List, length, get_or, set, Some, sym, ap, subst, ◌∙◌, inl, inr, arith, get_or-set_same, get_or-set_other}
 use Rattle.std.specs.Prelude.{slice_get, slice_index, slice_set}
+use Rattle.std.proofs.lemmas.Option.{same_Some}
+use Rattle.std.proofs.lemmas.Bool.{cases_eq}
 use Rattle.x10_code.specs.declared.instr.Instr.{Instr}
 use Rattle.x10_model.specs.Maps.{with_entry, IsIn}
 use Rattle.x10_model.specs.Modules.{Module, Function}
 use Rattle.x10_model.specs.Ranges.{function_at, IsInRange}
 use Rattle.x10_model.specs.Places as machine
 use Rattle.x10_model.specs.Assignments.{State, Point, Edges, Permits, Reaches}
+use Rattle.x10_model.proofs.Maps.{at_key, off_key}
 use Rattle.x10_place.specs.declared.frame.CallFrame.{CallFrame}
 use Rattle.x10_heap.specs.Heaps.{HeapState}
 use Rattle.x10_heap.specs.Words.{Context}
 use Rattle.x10_place.specs.Homes.{AreHomes}
 use Rattle.x10_place.specs.Frames.{Becomes, space_of, HasSizes, IsFetchedFor}
 use Rattle.x10_place.specs.StandsFor.{Assigned, HoldRegisters, StandsForFrame}
-use Rattle.x10_place.proofs.Maps.{some_is, at_key, off_key, same_or_not}
 use Rattle.x10_place.proofs.Words.{words_weaken}
 use Rattle.x10_place.proofs.Homes.{homes_weaken}
 
@@ -41,14 +43,14 @@ point_of program function f i = record { program = program; function = function;
 
 -- the turns of a loop are written
 pub slots_written : (cl : ℕ → ℕ) (l : List ℕ) (a n : ℕ) → a < 8 → length l ≡ 8 → ((slot : ℕ) → slot < 8 → cl slot ≡ slice_index l slot) → (slot : ℕ) → slot < 8 → with_entry cl a n slot ≡ slice_index (slice_set l a n) slot
-slots_written cl l a n lt eight same slot less = elim (same_or_not slot a) [
+slots_written cl l a n lt eight same slot less = elim (cases_eq slot a) [
   | inl at ↦ ap (λ q. with_entry cl a n q) at ∙ at_key cl a n ∙ sym (get_or-set_same l a n 0 (omega (arith, lt, eight))) ∙ ap (λ q. get_or (set l a n) q 0) (sym at)
-  | inr off ↦ off_key cl a n slot off ∙ same slot less ∙ sym (get_or-set_other l a slot n 0 off)
+  | inr off ↦ off_key cl a slot n off ∙ same slot less ∙ sym (get_or-set_other l a slot n 0 off)
 ]
 
 module _ (program : Module) (assigned : Assigned program) (x : Context) (f : CallFrame) (c : machine.CallFrame) (h : StandsForFrame program assigned x f c) (i : Instr) (fetched : IsFetchedFor program f i) where
   same_function : fetched.function ≡ h.function
-  same_function = some_is fetched.function h.function (sym fetched.is_function ∙ h.is_function)
+  same_function = same_Some fetched.function h.function (sym fetched.is_function ∙ h.is_function)
 
   pub is_instr : slice_get h.function.code f.pc ≡ Some i
   is_instr = subst (λ (g : Function). slice_get g.code f.pc ≡ Some i) same_function fetched.is_instr
@@ -66,7 +68,7 @@ module _ (program : Module) (assigned : Assigned program) (x : Context) (f : Cal
   pub rule : (out : Edges) × Permits i.op (point_of program h.function f i) h.state out × ((edge : ℕ × State) → IsIn edge out → Reaches (assigned f.function h.function h.is_function).0 edge)
   rule =
       let p = (assigned f.function h.function h.is_function).1.consistent.permitted f.pc h.state h.is_state in
-      let same : p.0 ≡ i = some_is p.0 i (sym p.2 ∙ is_instr) in
+      let same : p.0 ≡ i = same_Some p.0 i (sym p.2 ∙ is_instr) in
       (p.1, subst (λ (j : Instr). Permits j.op (point_of program h.function f j) h.state p.1) same p.3, p.4)
 
   -- a frame at an instruction that follows

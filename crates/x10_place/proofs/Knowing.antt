@@ -1,6 +1,7 @@
 -- What other places export is known, and what a step puts out goes to a place of the run.
 use Rattle.std.proofs.Common.{◌≡◌, ℕ, ◌<◌, true, Option, Some, None, refl, sym, ap, subst, ◌∙◌}
 use Rattle.std.specs.Prelude.{IsTrue}
+use Rattle.std.proofs.lemmas.Option.{same_Some}
 use Rattle.x10_model.specs.Modules.{Module}
 use Rattle.x10_model.specs.Places as machine
 use Rattle.x10_model.specs.Places.{Message, Effect, receiver}
@@ -16,7 +17,6 @@ use Rattle.x10_place.specs.declared.sent.Sent.{Sent}
 use Rattle.x10_place.specs.Messages.{SendsMessage, SendsReport, PutsOut}
 use Rattle.x10_place.specs.Stays.{StoreState}
 use Rattle.x10_place.specs.StandsFor.{Far, PlaceState, context_of, store_of, StandsFor, IsStanding, LeadsAll}
-use Rattle.x10_place.proofs.Maps.{some_is}
 use Rattle.x10_place.proofs.Growing.{stay_kept}
 
 -- each export that is known the one way is known the other way too
@@ -57,9 +57,9 @@ far_grows far near p m known h =
 
 -- the receiver of a message is that of its frame
 pub receiver_is : (f : Frame) (message : Message) → message_of f ≡ Some message → receiver message ≡ to_of f
-receiver_is (frames.Spawn from to home number function graph) message e = ap receiver (some_is message (machine.Spawn from to (record { home = home; number = number }) function (snapshot_of graph)) (sym e))
-receiver_is (frames.Shift from to waiting home number function graph) message e = ap receiver (some_is message (machine.Shift from to waiting (record { home = home; number = number }) function (snapshot_of graph)) (sym e))
-receiver_is (frames.Back from to waiting graph) message e = ap receiver (some_is message (machine.Back from to waiting (snapshot_of graph)) (sym e))
+receiver_is (frames.Spawn from to home number function graph) message e = ap receiver (same_Some message (machine.Spawn from to (record { home = home; number = number }) function (snapshot_of graph)) (sym e))
+receiver_is (frames.Shift from to waiting home number function graph) message e = ap receiver (same_Some message (machine.Shift from to waiting (record { home = home; number = number }) function (snapshot_of graph)) (sym e))
+receiver_is (frames.Back from to waiting graph) message e = ap receiver (same_Some message (machine.Back from to waiting (snapshot_of graph)) (sym e))
 receiver_is (frames.Report from to number sent received) message e = absurd cc
 
 -- each frame of a step, if there is one, goes to a place of the run
@@ -70,13 +70,13 @@ pub record AreWithin (places : ℕ) (out : Sent) : Type 0 where
 message_within : (program : Module) (x : Context) (q : Option Outgoing) (sent : Option Message) (o : Outgoing) → SendsMessage program x q sent → q ≡ Some o → o.to < x.places
 message_within program x None sent o h e = absurd cc
 message_within program x (Some r) sent o h e =
-    let to : o.to ≡ to_of h.2.carries.frame = ap (λ (y : Outgoing). y.to) (sym (some_is r o e)) ∙ h.2.to_is ∙ receiver_is h.2.carries.frame h.0 h.2.carries.message_is in
+    let to : o.to ≡ to_of h.2.carries.frame = ap (λ (y : Outgoing). y.to) (sym (same_Some r o e)) ∙ h.2.to_is ∙ receiver_is h.2.carries.frame h.0 h.2.carries.message_is in
     subst (λ n. n < x.places) (sym to) h.2.carries.fits.to
 
 report_within : (s : StoreState) (effect : Effect) (q : Option Outgoing) (o : Outgoing) → SendsReport s effect q → q ≡ Some o → o.to < s.places
 report_within s effect None o h e = absurd cc
 report_within s effect (Some r) o h e =
-    let to : o.to ≡ h.0.home = ap (λ (y : Outgoing). y.to) (sym (some_is r o e)) ∙ h.2.to_is in
+    let to : o.to ≡ h.0.home = ap (λ (y : Outgoing). y.to) (sym (same_Some r o e)) ∙ h.2.to_is in
     subst (λ n. n < s.places) (sym to) h.2.carries.fits.to
 
 pub put_within : (program : Module) (x : Context) (s : StoreState) (effect : Effect) (out : Sent) → x.places ≡ s.places → PutsOut program x s effect out → AreWithin s.places out

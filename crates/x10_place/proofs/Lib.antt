@@ -1,4 +1,3 @@
-pub mod Maps
 pub mod Words
 pub mod Homes
 pub mod Numbers

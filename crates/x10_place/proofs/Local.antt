@@ -39,9 +39,8 @@ use Rattle.x10_place.specs.StandsFor.{Far, context, Assigned, HoldRegisters, Sta
 use Rattle.std.proofs.Math.ListN.{length-set}
 use Rattle.std.proofs.Math.Nat.{mod-eq_of_lt}
 use Rattle.std.proofs.lemmas.Bool.{eqb-true, eq-eqb}
-use Rattle.std.proofs.lemmas.Option.{slice_get-map}
+use Rattle.std.proofs.lemmas.Option.{slice_get-map, same_Some}
 use Rattle.x10_model.proofs.Decided.{get_below}
-use Rattle.x10_place.proofs.Maps.{some_is}
 use Rattle.x10_place.proofs.Words.{Reads, reads, reads_int, words_written}
 use Rattle.x10_place.proofs.Objects.{ObjectAt, object_at, word_in}
 use Rattle.x10_place.proofs.Homes.{homes_written, homes_joined, move_like}
@@ -167,7 +166,7 @@ module _ (setting : Setting) (here : ℕ) (far : Far) (m : machine.Place) (key :
   number_frame : (g : CallFrame) (kept : HeapState) (z : ℤ) (v : Value) (out : Edges) → g.function ≡ f.function → ((edge : ℕ × State) → IsIn edge out → Reaches states edge) → out ≡ onward point (gives point h.state kind.Int None)
       → i.a < length f.registers.items → Some (Int z) ≡ Some v → Writes (space_of f heap) i z (space_of g kept) → StandsForFrame setting.program assigned x g (writes s.top i.a v)
   number_frame g kept z v out same edges e lt is w =
-      subst (λ u. StandsForFrame setting.program assigned x g (writes s.top i.a u)) (some_is (Int z) v is)
+      subst (λ u. StandsForFrame setting.program assigned x g (writes s.top i.a u)) (same_Some (Int z) v is)
       (writes_number g z w.0 w.1 lt (after_of f g kept heap (f.pc + 1) (slice_set f.registers.items i.a w.0) f.loops same w.2) (edge_next out (gives point h.state kind.Int None) edges e))
 
   -- an operation that gives a number or goes to x
@@ -305,9 +304,9 @@ module _ (setting : Setting) (here : ℕ) (far : Far) (m : machine.Place) (key :
         → out ≡ onward point (gives point h.state k None) → Moved op.Get g
     gets class kinds k e (v, is, some) classes known c to =
         let o : ObjectAt x m.cells class kinds (word_at f.registers.items i.b) v = object_at x m.cells class kinds (word_at f.registers.items i.b) v held some classes in
-        let same-object : o.object ≡ c.object = some_is o.object c.object (sym o.is_there ∙ c.is_object) in
+        let same-object : o.object ≡ c.object = same_Some o.object c.object (sym o.is_there ∙ c.is_object) in
         let field = word_in x kinds o.object.fields o.values i.c k o.words known in
-        let same-word : field.0 ≡ c.word = some_is field.0 c.word (sym field.2 ∙ subst (λ (q : ObjectState). slice_get q.fields i.c ≡ Some c.word) (sym same-object) c.is_field) in (
+        let same-word : field.0 ≡ c.word = same_Some field.0 c.word (sym field.2 ∙ subst (λ (q : ObjectState). slice_get q.fields i.c ≡ Some c.word) (sym same-object) c.is_field) in (
           writes s.top i.a field.1,
           (o.reference, class, o.values, field.1, is ∙ ap Some o.value_is, o.cell_is, field.3, (refl, refl)),
           writes_word g k field.1 c.word (subst (λ w. IsWordOf x k w field.1) same-word field.4) (room op.Get e (λ a. a)) (went (f.pc + 1) (slice_set f.registers.items i.a c.word) f.loops c.becomes) (edge_next out (gives point h.state k None) edges to),
@@ -328,10 +327,10 @@ module _ (setting : Setting) (here : ℕ) (far : Far) (m : machine.Place) (key :
         → out ≡ onward point (gives point h.state (kind.Obj class) None) → Moved op.Gopen g
     opens class e (v, is, (home, small_id, named, value_is)) known acts to =
         let word = word_at f.registers.items i.b in
-        let at_home : home_of word ≡ here = same_some (home_of word) here (sym (ap place_in is ∙ ap place_of value_is) ∙ h.homes (term.Reg i.b) term.Here (register_few op.Gopen e (λ b. b)) tt known) in
+        let at_home : home_of word ≡ here = same_Some (home_of word) here (sym (ap place_in is ∙ ap place_of value_is) ∙ h.homes (term.Reg i.b) term.Here (register_few op.Gopen e (λ b. b)) tt known) in
         let here_named : IsTrue (has_class (slice_get heap.exports (id_of word)) class) = chosen (home_of word == here) (has_class (slice_get heap.exports (id_of word)) class) (far (home_of word) (id_of word) class) (eq-eqb (home_of word) here at_home) named in
         let found = named_export (slice_get heap.exports (id_of word)) class here_named in
-        let same_export : found.0 ≡ acts.0 = some_is found.0 acts.0 (sym found.1 ∙ acts.1) in
+        let same_export : found.0 ≡ acts.0 = same_Some found.0 acts.0 (sym found.1 ∙ acts.1) in
         let object = exported.named (id_of word) found.0 found.1 in
         let reference = 2 * found.0.object in
         let there_is : slice_get m.exports (id_of word) ≡ Some (record { class = class; object = reference }) =
@@ -343,9 +342,6 @@ module _ (setting : Setting) (here : ℕ) (far : Far) (m : machine.Place) (key :
               (room op.Gopen e (λ a. a)) (went (f.pc + 1) (slice_set f.registers.items i.a (acts.0.object + 1)) f.loops acts.2) (edge_next out (gives point h.state (kind.Obj class) None) edges to),
         )
       where
-        same_some : (a b : ℕ) → Some a ≡ Some b → a ≡ b
-        same_some a b e = some_is a b e
-
         chosen : (b p q : Bool) → b ≡ true → IsTrue (if b then p else q) → IsTrue p
         chosen true p q e n = n
         chosen false p q e n = absurd cc

@@ -5,7 +5,8 @@ use Rattle.std.specs.Prelude.{ℤ, pos, nat_le, slice_get, slice_index, slice_se
 use Rattle.std.specs.Int.{int_rem_euclid}
 use Rattle.std.specs.List.{slice_range}
 use Rattle.std.proofs.Math.ListN.{length-set}
-use Rattle.std.proofs.lemmas.Option.{slice_get_past, slice_get_within}
+use Rattle.std.proofs.lemmas.Option.{slice_get_past, slice_get_within, same_Some}
+use Rattle.std.proofs.lemmas.Bool.{cases_eq}
 use Rattle.x10_kinds.specs.declared.kind.Kind.{Kind}
 use Rattle.x10_kinds.specs.declared.kind.Kind.TheVariants as kind
 use Rattle.x10_code.specs.declared.op.Op.{Op}
@@ -24,7 +25,7 @@ use Rattle.x10_model.specs.Moves.{Situation, Does, HoldsFrom, writes_or_goes, jo
 use Rattle.x10_model.specs.Assignments.{State, Edges, IsKind, KindsFit, onward, onward_or, gives, Permits, Reaches}
 use Rattle.x10_heap.specs.Heaps.{HeapState, ObjectState, with_object, with_rail, with_text, with_field}
 use Rattle.x10_heap.specs.Words.{Context, IsWordOf, AreWordsOf, HoldsObject, rail_cell, HoldsHeap}
-use Rattle.x10_heap.proofs.Growing.{Grows, grows_not, IsWritten, written_last, written_at, last_kept, words_kept, holds_object, holds_rail, holds_texts, same_or_not}
+use Rattle.x10_heap.proofs.Growing.{Grows, grows_not, IsWritten, written_last, written_at, last_kept, words_kept, holds_object, holds_rail, holds_texts}
 use Rattle.x10_place.specs.declared.frame.CallFrame.{CallFrame}
 use Rattle.x10_place.specs.declared.route.Route.TheVariants as route
 use Rattle.x10_place.specs.declared.route.Local.TheVariants as local
@@ -33,7 +34,6 @@ use Rattle.x10_place.specs.declared.route.Make.TheVariants as make
 use Rattle.x10_place.specs.Frames.{space_of, Becomes, IsFetchedFor, Acts, SetsField, SetsByte, byte_set, Makes, MakesText, Joins, MakesObject, MakesRail, rail_in, object_in, int_at, word_at}
 use Rattle.x10_place.specs.Routes.{route_of}
 use Rattle.x10_place.specs.StandsFor.{Far, context, Assigned, HoldRegisters, StandsForFrame, HoldsExports}
-use Rattle.x10_place.proofs.Maps.{some_is}
 use Rattle.x10_place.proofs.Words.{Reads, reads, reads_int, of_kind}
 use Rattle.x10_place.proofs.Framed.{FrameAfter, after_of, in_range, count}
 use Rattle.x10_place.proofs.Growing.{frame_kept, exports_kept}
@@ -44,15 +44,15 @@ use Rattle.x10_place.proofs.Objects.{ObjectAt, object_at, word_in, words_set}
 
 -- an object that is written keeps its class
 object_grows : (xs ys : List ObjectState) (n : ℕ) (new old : ObjectState) → IsWritten xs n new ys → slice_get xs n ≡ Some old → new.class ≡ old.class → (k : ℕ) (o : ObjectState) → slice_get xs k ≡ Some o → (q : ObjectState) × (slice_get ys k ≡ Some q) × (q.class ≡ o.class)
-object_grows xs ys n new old h at same k o e = elim (same_or_not k n) [
+object_grows xs ys n new old h at same k o e = elim (cases_eq k n) [
   | inl here ↦
-      (let is : o ≡ old = some_is o old (sym e ∙ ap (λ j. slice_get xs j) here ∙ at) in
+      (let is : o ≡ old = same_Some o old (sym e ∙ ap (λ j. slice_get xs j) here ∙ at) in
       (new, ap (λ j. slice_get ys j) here ∙ h.at, same ∙ ap (λ (q : ObjectState). q.class) (sym is)))
   | inr off ↦ (o, h.others k off ∙ e, refl)
 ]
 
 rail_grows : (xs ys : List (List ℕ)) (n : ℕ) (new : List ℕ) → IsWritten xs n new ys → (k : ℕ) (bytes : List ℕ) → slice_get xs k ≡ Some bytes → (others : List ℕ) × (slice_get ys k ≡ Some others)
-rail_grows xs ys n new h k bytes e = elim (same_or_not k n) [
+rail_grows xs ys n new h k bytes e = elim (cases_eq k n) [
   | inl here ↦ (new, ap (λ j. slice_get ys j) here ∙ h.at)
   | inr off ↦ (bytes, h.others k off ∙ e)
 ]
@@ -215,7 +215,7 @@ module _ (setting : Setting) (here : ℕ) (far : Far) (m : machine.Place) (key :
         → SetsField (space_of f heap) i (space_of g kept) → out ≡ onward (point setting here far m key s assigned heap f h i fetched) h.state → Result op.Put g kept
     field_set class kinds k e (v, v_is, some) known field (u, u_is, fits) sets to =
         let o : ObjectAt x m.cells class kinds (word_at f.registers.items i.a) v = object_at x m.cells class kinds (word_at f.registers.items i.a) v held some known in
-        let same_object : o.object ≡ sets.object = some_is o.object sets.object (sym o.is_there ∙ sets.is_object) in
+        let same_object : o.object ≡ sets.object = same_Some o.object sets.object (sym o.is_there ∙ sets.is_object) in
         let number = object_in f.registers.items i.a in
         let word = word_at f.registers.items i.b in
         let old = word_in x kinds o.object.fields o.values i.c k o.words field in
@@ -301,7 +301,7 @@ module _ (setting : Setting) (here : ℕ) (far : Far) (m : machine.Place) (key :
     byte_sets : (byte : Option ℕ) (bytes : List ℕ) → rail_in heap f.registers.items i.a ≡ Some bytes → byte_at bytes (int_at f.registers.items i.b) ≡ byte → Reads x s.top.registers f.registers.items i.a kind.Rail → IsKind h.state i.b kind.Int → IsKind h.state i.c kind.Int
         → SetsByte byte bytes (space_of f heap) i (space_of g kept) → out ≡ onward_or (point setting here far m key s assigned heap f h i fetched) h.state h.state → Result op.Rset g kept
     byte_sets None bytes rail none (v, v_is, (old, there_is, value_is)) kb kc sets to =
-        let rail_is = some_is old bytes (sym there_is ∙ rail) in
+        let rail_is = same_Some old bytes (sym there_is ∙ rail) in
         jumps op.Rset h.state (
           2 * word_at f.registers.items i.a + 1,
           bytes,
@@ -377,11 +377,11 @@ module _ (setting : Setting) (here : ℕ) (far : Far) (m : machine.Place) (key :
     make_moves make.JoinedText op.Tcat e r permits makes =
         let t = reads x h.state s.top.registers f.registers.items i.b kind.Text h.words permits.0 in
         let u = reads x h.state s.top.registers f.registers.items i.c kind.Text h.words permits.1 in
-        let same_t : t.2.0 ≡ makes.0 = some_is t.2.0 makes.0 (sym t.2.1 ∙ makes.2) in
-        let same_u : u.2.0 ≡ makes.1 = some_is u.2.0 makes.1 (sym u.2.1 ∙ makes.3) in
+        let same_t : t.2.0 ≡ makes.0 = same_Some t.2.0 makes.0 (sym t.2.1 ∙ makes.2) in
+        let same_u : u.2.0 ≡ makes.1 = same_Some u.2.0 makes.1 (sym u.2.1 ∙ makes.3) in
         joined (nat_le (length makes.0 + length makes.1) MOST_BYTES) makes.0 makes.1 e refl (t.1 ∙ ap Some (t.2.2 ∙ ap Text same_t)) (u.1 ∙ ap Some (u.2.2 ∙ ap Text same_u)) makes.4 permits.2
     make_moves make.Object op.New e r permits makes =
-        let same_kinds : makes.0 ≡ permits.0 = some_is makes.0 permits.0 (sym makes.1 ∙ permits.1) in
+        let same_kinds : makes.0 ≡ permits.0 = same_Some makes.0 permits.0 (sym makes.1 ∙ permits.1) in
         object_made permits.0 e permits.1 permits.2 (fields_fit permits.0 e permits.1) (subst (λ ks. MakesObject (space_of f heap) i (length ks) (space_of g kept)) same_kinds makes.2) permits.3
     make_moves make.Rail op.Rail e r permits makes = rail_made (rail_length (int_at f.registers.items i.b)) e refl permits.0 makes permits.1
     make_moves k o e r permits makes = absurd cc

@@ -1,19 +1,18 @@
 -- Objects and rails that words name, in cells that stand for the heap.
 use Rattle.std.proofs.Common.{◌≡◌, ℕ, zero, suc, ◌-◌, ◌*◌, ◌<◌, List, [], ◌∷◌, Some, refl, sym, ap, subst, ◌∙◌, arith}
 use Rattle.std.specs.Prelude.{slice_get, slice_set}
-use Rattle.std.proofs.lemmas.Option.{slice_get_within}
+use Rattle.std.proofs.lemmas.Option.{slice_get_within, same_Some}
 use Rattle.x10_kinds.specs.declared.kind.Kind.{Kind}
 use Rattle.x10_model.specs.Values.{Value, Object, Fields, Cells}
 use Rattle.x10_heap.specs.Heaps.{ObjectState, HasField}
 use Rattle.x10_heap.specs.Words.{Context, IsWordOf, IsObjectWord, AreWordsOf, IsObjectCell, HoldsObject, HoldsHeap}
-use Rattle.x10_place.proofs.Maps.{some_is}
 
 -- the word and the value of a field
 pub word_in : (x : Context) (ks : List Kind) (ws : List ℕ) (vs : List Value) (n : ℕ) (k : Kind) → AreWordsOf x ks ws vs → slice_get ks n ≡ Some k → (w : ℕ) × (v : Value) × (slice_get ws n ≡ Some w) × (slice_get vs n ≡ Some v) × IsWordOf x k w v
 word_in x [] ws vs n k h e = absurd cc
 word_in x (j ∷ ks) [] vs n k h e = absurd h
 word_in x (j ∷ ks) (w ∷ ws) [] n k h e = absurd h
-word_in x (j ∷ ks) (w ∷ ws) (v ∷ vs) zero k h e = (w, v, refl, refl, subst (λ q. IsWordOf x q w v) (some_is j k e) h.0)
+word_in x (j ∷ ks) (w ∷ ws) (v ∷ vs) zero k h e = (w, v, refl, refl, subst (λ q. IsWordOf x q w v) (same_Some j k e) h.0)
 word_in x (j ∷ ks) (w ∷ ws) (v ∷ vs) (suc n) k h e = word_in x ks ws vs n k h.1 e
 
 -- one field is written, with its value
@@ -21,7 +20,7 @@ pub words_set : (x : Context) (ks : List Kind) (ws : List ℕ) (vs : List Value)
 words_set x [] ws vs n k w v h e new = absurd cc
 words_set x (j ∷ ks) [] vs n k w v h e new = absurd h
 words_set x (j ∷ ks) (a ∷ ws) [] n k w v h e new = absurd h
-words_set x (j ∷ ks) (a ∷ ws) (b ∷ vs) zero k w v h e new = (subst (λ q. IsWordOf x q w v) (sym (some_is j k e)) new, h.1)
+words_set x (j ∷ ks) (a ∷ ws) (b ∷ vs) zero k w v h e new = (subst (λ q. IsWordOf x q w v) (sym (same_Some j k e)) new, h.1)
 words_set x (j ∷ ks) (a ∷ ws) (b ∷ vs) (suc n) k w v h e new = (h.0, words_set x ks ws vs n k w v h.1 e new)
 
 -- an object that a word names, in the heap and in the cells
@@ -41,7 +40,7 @@ pub object_at : (x : Context) (cells : Cells) (class : ℕ) (kinds : List Kind) 
 object_at x cells class kinds word v holds h known =
     let cell : IsObjectCell x h.object (cells (2 * h.number)) = subst (λ o. HoldsObject x o (cells (2 * h.number))) h.is_there (holds.objects h.number) in
     let number : h.number ≡ word - 1 = omega (arith, h.word_is) in
-    let same : cell.kinds ≡ kinds = some_is cell.kinds kinds (sym cell.kinds_are ∙ ap (λ c. slice_get x.classes c) h.class_is ∙ known) in
+    let same : cell.kinds ≡ kinds = same_Some cell.kinds kinds (sym cell.kinds_are ∙ ap (λ c. slice_get x.classes c) h.class_is ∙ known) in
     record {
       object = h.object;
       is_there = subst (λ n. slice_get x.heap.objects n ≡ Some h.object) number h.is_there;

@@ -1,7 +1,8 @@
 -- Places at the beginning, and which keys are in use.
 use Rattle.std.proofs.Common.{◌≡◌, ℕ, ◌+◌, ◌<◌, ◌≤◌, ◌^◌, ◌==◌, Bool, true, false, cond, List, [], ◌∷◌, length, map, Option, Some, None, refl, sym, ap, ap₂, subst, ◌∙◌, inl, inr, arith}
 use Rattle.std.specs.Prelude.{◌&&◌, if◌then◌else◌, IsSome, slice_get, slice_index, slice_index_or}
-use Rattle.std.proofs.lemmas.Bool.{ne_eqb}
+use Rattle.std.proofs.lemmas.Bool.{ne_eqb, cases_eq}
+use Rattle.std.proofs.lemmas.Option.{same_Some}
 use Rattle.slab.specs.Slab.{Slab, get}
 use Rattle.x10_kinds.specs.declared.kind.Kind.{Kind}
 use Rattle.x10_model.specs.Modules.{Module, Function, FitsImage}
@@ -15,6 +16,8 @@ use Rattle.x10_model.specs.Moves.{new_stay}
 use Rattle.x10_model.specs.Worlds.{same_finish, first_place, empty_place}
 use Rattle.x10_finish.proofs.Tallied.{none_tallied, begun_tallied}
 use Rattle.x10_model.specs.Assignments.{State, IsBelow, parameter_kind, entry_state}
+use Rattle.x10_model.proofs.Lists.{none_some}
+use Rattle.x10_model.proofs.Maps.{at_key, off_key}
 use Rattle.x10_verify.specs.Certified.{Certified}
 use Rattle.x10_verify.proofs.Wholes.{function_fits}
 use Rattle.x10_heap.specs.Heaps.{HeapState, empty}
@@ -22,7 +25,6 @@ use Rattle.x10_heap.specs.Words.{Context, HoldsHeap}
 use Rattle.x10_place.specs.Stays.{StayState, StoreState, totals_in, books_in, AreCalling, open_in, IsPlaced}
 use Rattle.x10_place.specs.StandsFor.{IsWithinPlaces, Far, PlaceState, place_of, plain, store_of, first_number, context_of, Assigned, HoldRegisters, line_as, StandsForStay, HoldsExports, StandsFor, IsStanding, setting_of}
 use Rattle.x10_place.specs.Opening.{IsMain, HoldsOnly, opening_place, IsNewStore, Opens}
-use Rattle.x10_place.proofs.Maps.{some_is, at_key, off_key, same_or_not, none_some}
 use Rattle.x10_place.proofs.Homes.{homes_weaken, homes_entry}
 use Rattle.x10_place.proofs.Calls.{no_turns}
 use Rattle.x10_place.proofs.Booking.{without, booked_first}
@@ -119,15 +121,15 @@ module _ (far : Far) (p : PlaceState) where
   first_stands key a few zero_is fresh main only = record {
     assigned = fresh.assigned;
     keys = λ k le. only.others k (λ same. absurd (omega (arith, few, le, same)));
-    none = λ k e. elim (same_or_not k key) [
+    none = λ k e. elim (cases_eq k key) [
       | inl same ↦ absurd (none_some (get p.stays k) a e (subst (λ q. get p.stays q ≡ Some a) (sym same) only.here))
-      | inr ne ↦ off_key (λ (q : ℕ). None) key (Some first) k ne
+      | inr ne ↦ off_key (λ (q : ℕ). None) key k (Some first) ne
     ];
-    some = λ k b e. elim (same_or_not k key) [
+    some = λ k b e. elim (cases_eq k key) [
       | inl same ↦ (
         first,
         subst (λ q. with_entry (λ (n : ℕ). None) key (Some first) q ≡ Some first) (sym same) (at_key (λ (n : ℕ). None) key (Some first)),
-        subst (λ x. StandsForStay p.program fresh.assigned (context_of far p) x first) (some_is a b (sym (subst (λ q. get p.stays q ≡ Some a) (sym same) only.here) ∙ e))
+        subst (λ x. StandsForStay p.program fresh.assigned (context_of far p) x first) (same_Some a b (sym (subst (λ q. get p.stays q ≡ Some a) (sym same) only.here) ∙ e))
             (main_stands p.program fresh.assigned (context_of far p) (λ r. None) a fresh.fits main zero_is (let lt = fresh.site.within in omega (arith, lt))),
       )
       | inr ne ↦ absurd (none_some (get p.stays k) b (only.others k ne) e)
@@ -138,7 +140,7 @@ module _ (far : Far) (p : PlaceState) where
     opened = sym (fresh.store.opened ∙ ap first_number zero_is);
     lines = sym (ap (λ ls. map line_as ls) fresh.store.lines);
     tallied = begun_tallied (λ k. None) root key first (λ f. nothing) (totals_in (store_of p)) (none_tallied (λ f. nothing) (λ f. refl)) refl refl (λ f. main_lives p.id f (totals_in (store_of p) f) zero_is (fresh.store.totals f));
-    booked = without p.id p.opened (λ k. None) (books_in (store_of p)) (booked_first p.id p.opened (books_in (store_of p)) fresh.store.opened fresh.store.unopened fresh.store.root) key (Some first) (λ t e. ap (λ (s : Stay). s.finishes) (sym (some_is first t e)));
+    booked = without p.id p.opened (λ k. None) (books_in (store_of p)) (booked_first p.id p.opened (books_in (store_of p)) fresh.store.opened fresh.store.unopened fresh.store.root) key (Some first) (λ t e. ap (λ (s : Stay). s.finishes) (sym (same_Some first t e)));
   }
     where
       first : Stay

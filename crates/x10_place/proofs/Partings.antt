@@ -1,6 +1,7 @@
 -- Steps that are for the place to make: what each of them does is a move of each place of the machine.
 use Rattle.std.proofs.Common.{◌≡◌, ℕ, Bool, false, Option, Some, Result, Ok, Err, IfOk, IfErr, refl, sym, ap, ap₂, subst, ◌∙◌, inl, inr}
 use Rattle.std.specs.Prelude.{OnOk}
+use Rattle.std.proofs.lemmas.Option.{same_Some}
 use Rattle.slab.specs.Slab.{Slab, get, Updates}
 use Rattle.x10_kinds.specs.declared.stop.Stop.{Stop}
 use Rattle.x10_kinds.specs.declared.stop.Stop.TheVariants as stop
@@ -21,7 +22,6 @@ use Rattle.x10_place.specs.Stays.{StayState, StoreState, Steps}
 use Rattle.x10_place.specs.declared.stay.Outcome.TheVariants as outcome
 use Rattle.x10_place.specs.StandsFor.{PlaceState, place_of, location_of, plain, LeadsAll, Overfills, OverfillsBegin, OverfillsSend, IsOverfull, IsHindered}
 use Rattle.x10_place.specs.Stretches.{BeginsAt, RefusesBegin, IsForPlace, IsMade}
-use Rattle.x10_place.proofs.Maps.{some_is}
 use Rattle.x10_place.proofs.Placing.{IsChecked, is_return}
 use Rattle.x10_place.proofs.Steps.{begin_leads}
 use Rattle.x10_place.proofs.Departures.{depart_leads}
@@ -36,7 +36,7 @@ module _ (v : Certified) (old : Slab StayState) (s : StoreState) (key : ℕ) (i 
   place stopped = place_of v old s stopped
 
   ready_too : (a : StayState) → get old key ≡ Some a → a.away ≡ false
-  ready_too a e = subst (λ (b : StayState). b.away ≡ false) (some_is h.stay a (sym h.is_there ∙ e)) h.ready
+  ready_too a e = subst (λ (b : StayState). b.away ≡ false) (same_Some h.stay a (sym h.is_there ∙ e)) h.ready
 
   -- ---- what they do
 
@@ -126,9 +126,9 @@ module _ (v : Certified) (old : Slab StayState) (s : StoreState) (key : ℕ) (i 
   -- what would be one too many
   pub overfills_there : (limit : ℕ) → IsOverfull (place false) key limit → Overfills (route_of i.op) (place false) h.stay i limit
   overfills_there limit over =
-      let same = some_is over.stay h.stay (sym over.is_there ∙ h.is_there) in
+      let same = same_Some over.stay h.stay (sym over.is_there ∙ h.is_there) in
       let at = subst (λ (c : StayState). instr_at v.program c.top.function c.top.pc ≡ Some over.instr) same over.instr_is in
-      let instr = some_is over.instr i (sym at ∙ instr_is) in
+      let instr = same_Some over.instr i (sym at ∙ instr_is) in
       subst (λ (j : Instr). Overfills (route_of j.op) (place false) h.stay j limit) instr (subst (λ c. Overfills (route_of over.instr.op) (place false) c over.instr limit) same over.overfills)
 
   pub begin_over : i.op ≡ op.Async → (limit : ℕ) → IsOverfull (place false) key limit → OverfillsBegin (place false) h.stay limit
@@ -143,7 +143,7 @@ module _ (v : Certified) (old : Slab StayState) (s : StoreState) (key : ℕ) (i 
   pub begin_hindered : i.op ≡ op.Async → (why : Stop) → RefusesBegin v old s key why → IsHindered (place false) key why
   begin_hindered e why (inl memory) = inl memory
   begin_hindered e why (inr (limit, is, a, there, over)) =
-      let same = some_is a h.stay (sym there ∙ h.is_there) in
+      let same = same_Some a h.stay (sym there ∙ h.is_there) in
       inr (
         limit,
         is,
@@ -195,10 +195,10 @@ module _ (v : Certified) (old : Slab StayState) (s : StoreState) (key : ℕ) (ch
   -- the instruction that was fetched
   pub fetched_is : (a : StayState) (f pc : ℕ) (j : Instr) → get old key ≡ Some a → f ≡ a.top.function → pc ≡ a.top.pc → instr_at v.program f pc ≡ Some j → h.0 ≡ j
   fetched_is a f pc j there function_is pc_is at =
-      let same : h.1.stay ≡ a = some_is h.1.stay a (sym h.1.is_there ∙ there) in
+      let same : h.1.stay ≡ a = same_Some h.1.stay a (sym h.1.is_there ∙ there) in
       let here : instr_at v.program h.1.stay.top.function h.1.stay.top.pc ≡ Some h.0 = instr_is v old s key h.0 checks h.1 in
       let seen : instr_at v.program a.top.function a.top.pc ≡ Some j = ap₂ (λ n k. instr_at v.program n k) (sym function_is) (sym pc_is) ∙ at in
-      some_is h.0 j (sym here ∙ ap (λ (c : StayState). instr_at v.program c.top.function c.top.pc) same ∙ seen)
+      same_Some h.0 j (sym here ∙ ap (λ (c : StayState). instr_at v.program c.top.function c.top.pc) same ∙ seen)
 
   -- an instruction that is for the place, but begins and sends nothing, is a RET
   pub is_end : (j : Instr) → h.0 ≡ j → (route_of j.op ≡ route.Begin → ⊥) → (route_of j.op ≡ route.Send → ⊥) → j.op ≡ op.Ret

@@ -3,13 +3,13 @@ use Rattle.std.proofs.Common.{◌≡◌, ℕ, zero, suc, ◌+◌, ◌-◌, ◌<�
 use Rattle.std.proofs.Math.ListN.{length-set}
 use Rattle.std.specs.Prelude.{slice_get, slice_index, slice_set}
 use Rattle.std.specs.List.{slice_range, AllByRecursion}
+use Rattle.std.proofs.lemmas.Option.{same_Some}
 use Rattle.x10_model.specs.Modules.{Module, FitsImage, FitsSlot}
 use Rattle.x10_heap.specs.Heaps.{HeapState}
 use Rattle.x10_copy.specs.Names.{AreSound}
 use Rattle.x10_copy.specs.Graphs.{IsSoundHeap}
 use Rattle.x10_copy.specs.Laws.{StandingIsSound}
 use Rattle.x10_place.specs.Stays.{StoreState}
-use Rattle.x10_place.proofs.Maps.{some_is}
 use Rattle.x10_model.specs.declared.slot.Slot.{Slot}
 use Rattle.x10_model.specs.Moves.{as_list}
 use Rattle.x10_model.specs.Values.{Value, Cells}
@@ -50,7 +50,7 @@ given_words x cells (Some slot) None words r there given = absurd given
 pub set_taken : {X : Type 0} (xs ys : List X) (i : ℕ) (x : X) → i < length ys → slice_get xs i ≡ Some x → take i ys ≡ take i xs → take (i + 1) (slice_set ys i x) ≡ take (i + 1) xs
 set_taken xs [] i x lt e h = absurd (omega (arith, lt))
 set_taken [] (y ∷ ys) i x lt e h = absurd cc
-set_taken (z ∷ xs) (y ∷ ys) zero x lt e h = ap (λ q. q ∷ []) (sym (some_is z x e))
+set_taken (z ∷ xs) (y ∷ ys) zero x lt e h = ap (λ q. q ∷ []) (sym (same_Some z x e))
 set_taken (z ∷ xs) (y ∷ ys) (suc i) x lt e h =
     let heads : y ≡ z = cc in
     let tails : take i ys ≡ take i xs = cc in

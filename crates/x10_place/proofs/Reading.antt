@@ -2,7 +2,7 @@
 use Rattle.std.proofs.Common.{◌≡◌, ℕ, ◌<◌, ◌≤◌, ◌==◌, Bool, true, false, List, length, Option, Some, None, refl, sym, ap, subst, ◌∙◌, arith}
 use Rattle.std.specs.Prelude.{IsTrue, if◌then◌else◌, slice_get}
 use Rattle.std.proofs.lemmas.Bool.{eq-eqb}
-use Rattle.std.proofs.lemmas.Option.{slice_get_within}
+use Rattle.std.proofs.lemmas.Option.{slice_get_within, same_Some}
 use Rattle.x10_kinds.specs.declared.kind.Kind.{Kind}
 use Rattle.x10_kinds.specs.declared.kind.Kind.TheVariants as kind
 use Rattle.x10_code.specs.declared.op.Op.{Op}
@@ -38,7 +38,6 @@ use Rattle.x10_place.specs.Homes.{place_in}
 use Rattle.x10_finish.specs.Nesting.{nth}
 use Rattle.x10_place.specs.Stays.{StayState, StoreState, Location, HasFinish, ReadsStore}
 use Rattle.x10_place.specs.StandsFor.{context, Assigned, StandsForFrame, IsTyped, IsTypedFrame, IsWorking}
-use Rattle.x10_place.proofs.Maps.{some_is}
 use Rattle.x10_place.proofs.Words.{reads}
 use Rattle.x10_place.proofs.Framed.{point_of, is_instr, in_range, small, rule}
 use Rattle.x10_place.proofs.Placing.{IsChecked, is_close_finish, some_open}
@@ -64,7 +63,7 @@ module _ (program : Module) (assigned : Assigned program) (x : Context) (same_cl
   export_there r class small k known =
       let t = reads x h.state c.registers f.registers.items r (kind.GRef class) h.words k in
       let word = word_at f.registers.items r in
-      let home : home_of word ≡ x.here = some_is (home_of word) x.here (sym (ap place_in t.1 ∙ ap place_of t.2.3) ∙ h.homes (term.Reg r) term.Here small tt known) in
+      let home : home_of word ≡ x.here = same_Some (home_of word) x.here (sym (ap place_in t.1 ∙ ap place_of t.2.3) ∙ h.homes (term.Reg r) term.Here small tt known) in
       there (slice_get x.heap.exports (id_of word)) refl (chosen (home_of word == x.here) (has_class (slice_get x.heap.exports (id_of word)) class) (x.far (home_of word) (id_of word) class) (eq-eqb (home_of word) x.here home) t.2.2)
     where
       chosen : (b p q : Bool) → b ≡ true → IsTrue (if b then p else q) → IsTrue p
@@ -77,15 +76,15 @@ module _ (program : Module) (assigned : Assigned program) (x : Context) (same_cl
 
   -- where a PRINT prints a text, its register is known to hold one
   pub text_known : PrintsText program f.function f.pc → IsKind h.state i.a kind.Text
-  text_known text = there text.function (some_is text.function h.function (sym text.is_function ∙ h.is_function)) text.instr text.is_instr text.text
+  text_known text = there text.function (same_Some text.function h.function (sym text.is_function ∙ h.is_function)) text.instr text.is_instr text.text
     where
       there : (g : Function) → g ≡ h.function → (j : Instr) → slice_get g.code f.pc ≡ Some j → ((d : HasAssignment program g) → (t : State) × (d.0 f.pc ≡ Some t) × (t.kinds j.a ≡ Some kind.Text)) → IsKind h.state i.a kind.Text
       there g e j j_is all =
           let at = subst (λ (q : Function). slice_get q.code f.pc ≡ Some j) e j_is in
-          let same_instr : j ≡ i = some_is j i (sym at ∙ is_instr program assigned x f c h i fetched) in
+          let same_instr : j ≡ i = same_Some j i (sym at ∙ is_instr program assigned x f c h i fetched) in
           let least = assigned f.function h.function h.is_function in
           let found = (subst (λ (q : Function). (d : HasAssignment program q) → (t : State) × (d.0 f.pc ≡ Some t) × (t.kinds j.a ≡ Some kind.Text)) e all) (least.0, least.1.consistent) in
-          let same_state : found.0 ≡ h.state = some_is found.0 h.state (sym found.1 ∙ h.is_state) in
+          let same_state : found.0 ≡ h.state = same_Some found.0 h.state (sym found.1 ∙ h.is_state) in
           (kind.Text, subst (λ (t : State). t.kinds i.a ≡ Some kind.Text) same_state (subst (λ (q : Instr). found.0.kinds q.a ≡ Some kind.Text) same_instr found.2), refl)
 
   pub prints_there : PrintsText program f.function f.pc → word_at f.registers.items i.a < length x.heap.texts

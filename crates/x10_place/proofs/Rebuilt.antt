@@ -1,6 +1,7 @@
 -- A place that takes a message in: what it stands for then, if each stay stands.
 use Rattle.std.proofs.Common.{◌≡◌, ℕ, ◌≤◌, ◌^◌, Option, Some, None, refl, sym, subst, ◌∙◌, inl, inr}
 use Rattle.std.specs.Prelude.{map}
+use Rattle.std.proofs.lemmas.Bool.{cases_eq}
 use Rattle.slab.specs.Slab.{Slab, get, Updates}
 use Rattle.x10_heap.specs.Words.{Context, HoldsHeap}
 use Rattle.x10_heap.proofs.Growing.{Grows}
@@ -9,12 +10,12 @@ use Rattle.x10_model.specs.Modules.{Module}
 use Rattle.x10_model.specs.Places as machine
 use Rattle.x10_model.specs.Places.{Message, Stay}
 use Rattle.x10_model.specs.Deliveries.{Receives}
+use Rattle.x10_model.proofs.Maps.{at_key, off_key}
 use Rattle.x10_finish.proofs.Tallied.{received_tallied}
 use Rattle.x10_place.specs.Receiving.{Admits, IsCountedIn}
 use Rattle.x10_place.specs.Stays.{StayState, StoreState, totals_in, books_of}
 use Rattle.x10_place.specs.StandsFor.{Far, context, context_of, PlaceState, store_of, with_stays, line_as, Assigned, StandsForStay, HoldsExports, StandsFor, AreBooked, setting_of}
 use Rattle.x10_place.proofs.Growing.{stay_kept}
-use Rattle.x10_place.proofs.Maps.{at_key, off_key, same_or_not}
 
 -- a stay of the program, or none, stands for what the machine has under the same key
 abbrev pub Keyed : (program : Module) → Assigned program → Context → Option StayState → Option Stay → Type 0
@@ -43,16 +44,16 @@ module _ (far : Far) (p : PlaceState) (m : machine.Place) (h : StandsFor far p m
   -- the stay under a key is another one, and stands
   module _ (key : ℕ) (a : StayState) (s : Stay) (up : Updates p.stays slab key (Some a)) (grows : Grows (context_of far p) after) (stands : StandsForStay p.program h.assigned after a s) where
     keyed_now : (k : ℕ) → Keyed p.program h.assigned after (get slab k) (with_entry m.stays key (Some s) k)
-    keyed_now k = elim (same_or_not k key) [
+    keyed_now k = elim (cases_eq k key) [
       | inl e ↦ subst (λ q. Keyed p.program h.assigned after (get slab q) (with_entry m.stays key (Some s) q)) (sym e)
           (subst (λ o. Keyed p.program h.assigned after o (with_entry m.stays key (Some s) key)) (sym up.changed)
           (subst (λ o. Keyed p.program h.assigned after (Some a) o) (sym (at_key m.stays key (Some s))) (s, refl, stands)))
       | inr ne ↦ subst (λ o. Keyed p.program h.assigned after o (with_entry m.stays key (Some s) k)) (sym (up.others k ne))
-          (subst (λ o. Keyed p.program h.assigned after (get p.stays k) o) (sym (off_key m.stays key (Some s) k ne)) (keyed_kept (context_of far p) after grows p.program h.assigned (get p.stays k) (m.stays k) (keyed_of k (get p.stays k) refl)))
+          (subst (λ o. Keyed p.program h.assigned after (get p.stays k) o) (sym (off_key m.stays key k (Some s) ne)) (keyed_kept (context_of far p) after grows p.program h.assigned (get p.stays k) (m.stays k) (keyed_of k (get p.stays k) refl)))
     ]
 
     none_above : (2 ^ 32 ≤ key → ⊥) → (k : ℕ) → 2 ^ 32 ≤ k → get slab k ≡ None
-    none_above low k le = elim (same_or_not k key) [
+    none_above low k le = elim (cases_eq k key) [
       | inl e ↦ absurd (low (subst (λ n. 2 ^ 32 ≤ n) e le))
       | inr ne ↦ up.others k ne ∙ h.keys k le
     ]

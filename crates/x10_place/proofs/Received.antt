@@ -1,5 +1,6 @@
 -- What a place does with bytes: it stands as before, or takes them in and stands for what the machine's place is then.
 use Rattle.std.proofs.Common.{◌≡◌, ℕ, Bool, true, false, List, Option, Result, Ok, Err, OnOk, OnErr, IfErr, refl, sym, ap, subst, ◌∙◌, inl, inr, arith}
+use Rattle.std.proofs.lemmas.Bool.{cases_eq}
 use Rattle.slab.specs.Slab.{Slab}
 use Rattle.x10_model.specs.Frames as frames
 use Rattle.x10_model.specs.Frames.{Frame, FitsFrame, spelling}
@@ -20,13 +21,12 @@ use Rattle.x10_place.specs.Receiving.{merged_in, TakesMessage, TakesReport, Take
 use Rattle.x10_place.specs.Stays.{StayState, StoreState, books_of, HasBook}
 use Rattle.x10_place.specs.StandsFor.{Far, PlaceState, place_of, context_of, AreBooked, StandsFor, IsStanding}
 use Rattle.x10_place.specs.Stretches.{IsUntouched}
-use Rattle.x10_place.proofs.Maps.{same_or_not}
 
 -- ---- a report
 
 -- each book is there still
 book_kept : (p : PlaceState) (to : ℕ) (r : Report) (q : PlaceState) → TakesReport p to r q → (n : ℕ) → HasBook (books_of p.books) n → HasBook (books_of q.books) n
-book_kept p to r q h n has = elim (same_or_not n r.number) [
+book_kept p to r q h n has = elim (cases_eq n r.number) [
   | inl e ↦ (merged has.0 r, ap (books_of q.books) e ∙ h.this ∙ ap (merged_in r) (sym (ap (books_of p.books) e) ∙ has.1))
   | inr ne ↦ (has.0, h.others n ne ∙ has.1)
 ]

@@ -1,18 +1,18 @@
 -- What moves change of what a place counts and keeps of finishes.
 use Rattle.std.proofs.Common.{◌≡◌, ℕ, ◌+◌, ◌≤◌, ◌==◌, Bool, true, false, Option, Some, None, refl, sym, ap, ap₂, subst, ◌∙◌, inl, inr, arith}
 use Rattle.std.specs.Prelude.{if◌then◌else◌}
-use Rattle.std.proofs.lemmas.Bool.{eqb-true, eq-eqb}
+use Rattle.std.proofs.lemmas.Bool.{eqb-true, eq-eqb, cases_eq}
 use Rattle.x10_model.specs.Maps.{with_entry}
 use Rattle.x10_model.specs.Modules.{Module}
 use Rattle.x10_model.specs.Places.{Finish, Message, Effect, Waits, Works, Begins, Spawns, Shifts, Opens, Closes, Ends, receiver}
 use Rattle.x10_model.specs.Totals.{Totals, nothing, zeros, begins_one, ends_one, sends_to, Did, is_reported}
 use Rattle.x10_model.specs.Worlds.{same_finish, sent}
+use Rattle.x10_model.proofs.Maps.{at_key, off_key}
 use Rattle.x10_heap.specs.Words.{Context}
 use Rattle.x10_finish.specs.Watching.{closes}
 use Rattle.x10_place.specs.Stays.{StoreState, totals_in, books_in, finish_at, kept_in, changed_at, IsDoneHere, Recounts}
 use Rattle.x10_place.specs.Messages.{PutsOut, no_sent}
 use Rattle.x10_place.specs.StandsFor.{IsCountedBy}
-use Rattle.x10_place.proofs.Maps.{at_key, off_key, same_or_not}
 
 -- a number that was not given yet has no book
 abbrev pub Unopened : StoreState → Type 0
@@ -55,10 +55,10 @@ opens_count s t inside unopened h = record {
   here = h.here;
   places = h.places_are;
   totals = λ f c. h.totals_are f;
-  kept = λ n c. ap kept_in (h.books_are n) ∙ elim (same_or_not n s.opened) [
+  kept = λ n c. ap kept_in (h.books_are n) ∙ elim (cases_eq n s.opened) [
     | inl e ↦ subst (λ k. kept_in (with_entry (books_in s) s.opened (Some (λ p. zeros)) k) ≡ kept_in (books_in s k)) (sym e)
         (ap kept_in (at_key (books_in s) s.opened (Some (λ p. zeros))) ∙ sym (ap kept_in (unopened s.opened (omega arith))))
-    | inr ne ↦ ap kept_in (off_key (books_in s) s.opened (Some (λ p. zeros)) n ne)
+    | inr ne ↦ ap kept_in (off_key (books_in s) s.opened n (Some (λ p. zeros)) ne)
   ];
   done = λ n e. absurd cc;
 }
@@ -83,7 +83,7 @@ closes_count s t number done h = record {
   here = h.here;
   places = h.places_are;
   totals = λ f c. h.totals_are f ∙ if_false (same_finish f (finish_at s.here number)) nothing (totals_in s f) c;
-  kept = λ n c. ap kept_in (h.books_are n ∙ off_key (books_in s) number None n (other_number s.here n number c));
+  kept = λ n c. ap kept_in (h.books_are n ∙ off_key (books_in s) number n None (other_number s.here n number c));
   done = λ n e. let same : number ≡ n = cc in subst (λ k. IsDoneHere s k × (totals_in t (finish_at s.here k) ≡ nothing)) same
       (done, h.totals_are (finish_at s.here number) ∙ if_true (same_finish (finish_at s.here number) (finish_at s.here number)) nothing (totals_in s (finish_at s.here number)) (itself_closed s.here number));
 }

@@ -2,6 +2,7 @@
 use Rattle.std.proofs.Common.{◌≡◌, ℕ, zero, suc, ◌+◌, ◌<◌, Bool, true, false, Some, None, ◌∷◌, ◌==◌, refl, sym, ap, ap₂, subst, ◌∙◌, arith}
 use Rattle.std.specs.Prelude.{if◌then◌else◌}
 use Rattle.std.proofs.lemmas.Bool.{eqb-true}
+use Rattle.std.proofs.lemmas.Option.{same_Some}
 use Rattle.slab.specs.Slab.{get}
 use Rattle.x10_code.specs.declared.instr.Instr.{Instr}
 use Rattle.x10_model.specs.Maps.{with_entry}
@@ -9,6 +10,7 @@ use Rattle.x10_model.specs.Places as machine
 use Rattle.x10_model.specs.Places.{Finish, Stay}
 use Rattle.x10_model.specs.Totals.{Totals, nothing, zeros}
 use Rattle.x10_model.specs.Worlds.{same_finish}
+use Rattle.x10_model.proofs.Maps.{at_key, off_key}
 use Rattle.x10_finish.specs.Nesting.{nth}
 use Rattle.x10_finish.proofs.Tallied.{lives_tallied}
 use Rattle.x10_place.specs.declared.route.Route.{Route}
@@ -17,7 +19,6 @@ use Rattle.x10_place.specs.declared.stay.Outcome.TheVariants as outcome
 use Rattle.x10_place.specs.Routes.{route_of}
 use Rattle.x10_place.specs.Stays.{StayState, StoreState, Location, totals_in, books_in, finish_at, changed_at, HasBook, Recounts, OpensFinish, ClosesFinish, Steps}
 use Rattle.x10_place.specs.StandsFor.{Far, PlaceState, store_of, location_of, StandsFor, IsRegistered}
-use Rattle.x10_place.proofs.Maps.{some_is, at_key, off_key}
 use Rattle.x10_place.proofs.Recounting.{IsSameCount, same_count, heap_alone, totals_same, books_same, if_false}
 
 -- the stay has the same finishes open and inherited the same, and the place counts the same
@@ -47,25 +48,25 @@ opened_registered at s t a b h made = record {
 
     open_at : (i n : ℕ) → nth (s.opened ∷ a.finishes) i ≡ Some n → HasBook (books_in t) n × (n < t.opened)
     open_at zero n e =
-        let is = some_is s.opened n e in
+        let is = same_Some s.opened n e in
         (((λ p. zeros), r.books_are n ∙ ap (with_entry (books_in s) s.opened (Some (λ p. zeros))) (sym is) ∙ at_key (books_in s) s.opened (Some (λ p. zeros))), (let o = r.opened_is in omega (arith, is, o)))
     open_at (suc i) n e =
         let o = h.are_open i n e in
         let lt = o.1 in
-        ((o.0.0, r.books_are n ∙ off_key (books_in s) s.opened (Some (λ p. zeros)) n (λ q. absurd (omega (arith, q, lt))) ∙ o.0.1), (let more = r.opened_is in omega (arith, lt, more)))
+        ((o.0.0, r.books_are n ∙ off_key (books_in s) s.opened n (Some (λ p. zeros)) (λ q. absurd (omega (arith, q, lt))) ∙ o.0.1), (let more = r.opened_is in omega (arith, lt, more)))
 
     once_at : (i j n : ℕ) → nth (s.opened ∷ a.finishes) i ≡ Some n → nth (s.opened ∷ a.finishes) j ≡ Some n → i ≡ j
     once_at zero zero n e f = refl
     once_at (suc i) (suc j) n e f = ap suc (h.once i j n e f)
-    once_at zero (suc j) n e f = absurd (let is = some_is s.opened n e in let lt = (h.are_open j n f).1 in omega (arith, is, lt))
-    once_at (suc i) zero n e f = absurd (let is = some_is s.opened n f in let lt = (h.are_open i n e).1 in omega (arith, is, lt))
+    once_at zero (suc j) n e f = absurd (let is = same_Some s.opened n e in let lt = (h.are_open j n f).1 in omega (arith, is, lt))
+    once_at (suc i) zero n e f = absurd (let is = same_Some s.opened n f in let lt = (h.are_open i n e).1 in omega (arith, is, lt))
 
 closed_registered : (at : Location) (s t : StoreState) (a b : StayState) → IsRegistered at s a → ClosesFinish a s b t → IsRegistered at t b
 closed_registered at s t a b h made = record {
   here = r.here ∙ h.here;
   places = r.places_are ∙ h.places;
   live = subst (λ n. 0 < n) (sym (ap (λ (u : Totals). u.live) (r.totals_are b.inherited ∙ if_false (same_finish b.inherited (finish_at s.here made.number)) nothing (totals_in s b.inherited) other ∙ ap (totals_in s) inherited))) h.live;
-  are_open = λ i n e. (let o = h.are_open (suc i) n (further i n e) in ((o.0.0, r.books_are n ∙ off_key (books_in s) made.number None n (left i n e) ∙ o.0.1), subst (λ k. n < k) (sym r.opened_is) o.1));
+  are_open = λ i n e. (let o = h.are_open (suc i) n (further i n e) in ((o.0.0, r.books_are n ∙ off_key (books_in s) made.number n None (left i n e) ∙ o.0.1), subst (λ k. n < k) (sym r.opened_is) o.1));
   once = λ i j n e f. (let q = h.once (suc i) (suc j) n (further i n e) (further j n f) in omega (arith, q));
 }
   where

@@ -1,6 +1,7 @@
 -- A function ends, and its caller goes on.
 use Rattle.std.proofs.Common.{◌≡◌, ◌≢◌, ℕ, ◌+◌, ◌<◌, ◌^◌, true, false, List, [], ◌∷◌, ◌++◌, length, Option, Some, None, sym, ap, subst, ◌∙◌, arith}
 use Rattle.std.specs.Prelude.{is_some}
+use Rattle.std.proofs.lemmas.Option.{same_Some}
 use Rattle.x10_code.specs.declared.op.Op.TheVariants as op
 use Rattle.x10_code.specs.declared.instr.Instr.{Instr}
 use Rattle.x10_code.specs.Table.{form_of}
@@ -13,12 +14,11 @@ use Rattle.x10_place.specs.declared.frame.CallFrame.{CallFrame}
 use Rattle.x10_place.specs.Frames.{word_at, IsFetchedFor}
 use Rattle.x10_place.specs.Stays.{StayState, IsCalling, GoesNext, GoesNextWith, GoesOn, Resumes}
 use Rattle.x10_place.proofs.Fetching.{IsRefetched, value_at}
-use Rattle.x10_place.proofs.Maps.{some_is}
 
 -- ---- the caller's call
 
 pub call_named : (program : Module) (caller : CallFrame) (callee : ℕ) (call : Instr) → IsCalling program caller callee → instr_at program caller.function caller.pc ≡ Some call → (call.op ≡ op.Call) × (call.x ≡ callee)
-call_named program caller callee call calling e = subst (λ (i : Instr). (i.op ≡ op.Call) × (i.x ≡ callee)) (some_is calling.call call (sym calling.call_is ∙ e)) (calling.op_is, calling.callee_is)
+call_named program caller callee call calling e = subst (λ (i : Instr). (i.op ≡ op.Call) × (i.x ≡ callee)) (same_Some calling.call call (sym calling.call_is ∙ e)) (calling.op_is, calling.callee_is)
 
 pub goes_on : (i : Instr) → i.op ≡ op.Call → i.op ≢ op.Ret
 goes_on i e f = absurd cc

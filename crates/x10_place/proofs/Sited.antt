@@ -2,8 +2,9 @@
 -- its values.
 use Rattle.std.proofs.Common.{◌≡◌, ℕ, ℤ, ◌+◌, ◌*◌, ◌<◌, ◌^◌, Bool, true, false, List, [], ◌∷◌, ◌++◌, length, map, Option, Some, None, refl, sym, ap, ap₂, subst, ◌∙◌, inl, inr, arith}
 use Rattle.std.specs.Prelude.{◌==◌, ◌%◌, pos, negsuc, nat_lt, IsTrue, if◌then◌else◌, slice_get, slice_set}
-use Rattle.std.proofs.lemmas.Bool.{eqb-true, eq-eqb, ltb-true}
+use Rattle.std.proofs.lemmas.Bool.{eqb-true, eq-eqb, ltb-true, cases_eq}
 use Rattle.std.proofs.lemmas.Nat.{mod_below}
+use Rattle.std.proofs.lemmas.Option.{same_Some}
 use Rattle.x10_kinds.specs.declared.kind.Kind.TheVariants as kind
 use Rattle.x10_kinds.specs.declared.homes.Term.TheVariants as term
 use Rattle.x10_kinds.specs.Equations.{joined}
@@ -21,7 +22,7 @@ use Rattle.x10_model.specs.Assignments.{State, Edges, IsKind, IsPlaced, onward, 
 use Rattle.x10_heap.specs.declared.export.Export.{Export}
 use Rattle.x10_heap.specs.Heaps.{HeapState, ObjectState, with_export}
 use Rattle.x10_heap.specs.Words.{Context, IsWordOf, HoldsHeap, export_as, has_class, is_named}
-use Rattle.x10_heap.proofs.Growing.{Grows, grows_not, written_last, last_kept, holds_texts, same_or_not}
+use Rattle.x10_heap.proofs.Growing.{Grows, grows_not, written_last, last_kept, holds_texts}
 use Rattle.x10_place.specs.declared.frame.CallFrame.{CallFrame}
 use Rattle.x10_place.specs.declared.route.Route.TheVariants as route
 use Rattle.x10_place.specs.declared.route.Site.{Site}
@@ -30,7 +31,6 @@ use Rattle.x10_place.specs.Homes.{place_in}
 use Rattle.x10_place.specs.Frames.{space_of, Becomes, Writes, IsFetchedFor, Puts, ActsAt, ExportsObject, numbered, reference_word, home_of, id_of, is_at, object_in, int_at, word_at}
 use Rattle.x10_place.specs.Routes.{route_of}
 use Rattle.x10_place.specs.StandsFor.{Far, context, Assigned, StandsForFrame, HoldsExports, IsWithinPlaces}
-use Rattle.x10_place.proofs.Maps.{some_is}
 use Rattle.x10_place.proofs.Words.{Reads, reads, reads_int, of_kind}
 use Rattle.x10_place.proofs.Framed.{FrameAfter, after_of}
 use Rattle.x10_place.proofs.Growing.{frame_kept}
@@ -53,7 +53,7 @@ below : (places : ℕ) (z : ℤ) (n : ℕ) → numbered places z ≡ Some n → 
 below places (pos m) n e = chosen (nat_lt m places) m n refl e
   where
     chosen : (b : Bool) (m n : ℕ) → nat_lt m places ≡ b → (if b then Some m else None) ≡ Some n → n < places
-    chosen true m n lt e = subst (λ k. k < places) (some_is m n e) (ltb-true m places lt)
+    chosen true m n lt e = subst (λ k. k < places) (same_Some m n e) (ltb-true m places lt)
     chosen false m n lt e = absurd cc
 below places (negsuc m) n e = absurd cc
 
@@ -190,9 +190,9 @@ module _ (setting : Setting) (here : ℕ) (far : Far) (m : machine.Place) (key :
       word_is = subst (λ p. IsReference p (id_of (reference_word here (length heap.exports)))) (sym (home_is here (length heap.exports) low)) (subst (λ q. IsReference here q) (sym (id_is here (length heap.exports) low)) reference)
 
       all_named : (k : ℕ) (q : Export) → slice_get new.exports k ≡ Some q → (o : ObjectState) × (slice_get heap.objects q.object ≡ Some o) × (o.class ≡ q.class)
-      all_named k q at = elim (same_or_not k (length heap.exports)) [
+      all_named k q at = elim (cases_eq k (length heap.exports)) [
         | inl same_id ↦
-            (let is : export ≡ q = some_is export q (sym (written_last heap.exports export).at ∙ ap (λ n. slice_get new.exports n) (sym same_id) ∙ at) in
+            (let is : export ≡ q = same_Some export q (sym (written_last heap.exports export).at ∙ ap (λ n. slice_get new.exports n) (sym same_id) ∙ at) in
             subst (λ (r : Export). (o : ObjectState) × (slice_get heap.objects r.object ≡ Some o) × (o.class ≡ r.class)) is (made.object, made.is_object, refl))
         | inr off ↦ exported.named k q (sym ((written_last heap.exports export).others k off) ∙ at)
       ]
@@ -220,7 +220,7 @@ module _ (setting : Setting) (here : ℕ) (far : Far) (m : machine.Place) (key :
         let read = reads x h.state s.top.registers f.registers.items i.b (kind.Obj permits.0) h.words permits.1 in
         let some = read.2 in
         let number_is : some.number ≡ object_in f.registers.items i.b = omega (arith, some.word_is) in
-        let same_object : some.object ≡ made.object = some_is some.object made.object (sym (subst (λ n. slice_get heap.objects n ≡ Some some.object) number_is some.is_there) ∙ made.is_object) in
+        let same_object : some.object ≡ made.object = same_Some some.object made.object (sym (subst (λ n. slice_get heap.objects n ≡ Some some.object) number_is some.is_there) ∙ made.is_object) in
         let class_is : made.object.class ≡ permits.0 = ap (λ (q : ObjectState). q.class) (sym same_object) ∙ some.class_is in
         let cell : IsOfKind m.cells (Object (2 * some.number)) (kind.Obj permits.0) = subst (λ v. IsOfKind m.cells v (kind.Obj permits.0)) some.value_is (of_kind x m.cells (kind.Obj permits.0) (word_at f.registers.items i.b) read.0 held some) in
         exports_object permits.0 made class_is e cell.0 (read.1 ∙ ap Some (some.value_is ∙ ap (λ n. Object (2 * n)) number_is))

@@ -1,6 +1,7 @@
 -- A step of a place is a move of each place of the machine that it stands for.
 use Rattle.std.proofs.Common.{◌≡◌, ℕ, ◌≤◌, ◌^◌, false, Option, Some, None, refl, sym, ap, ap₂, subst, ◌∙◌, inl, inr, arith}
 use Rattle.std.specs.Prelude.{map, slice_get}
+use Rattle.std.proofs.lemmas.Bool.{cases_eq}
 use Rattle.slab.specs.Slab.{Slab, get, Updates}
 use Rattle.x10_code.specs.declared.instr.Instr.{Instr}
 use Rattle.x10_model.specs.Maps.{with_entry}
@@ -10,6 +11,8 @@ use Rattle.x10_model.specs.Places as machine
 use Rattle.x10_model.specs.Places.{Setting, Finish, Stay, innermost, innermost_of, Effect, Waits, Begins, with_stay, next}
 use Rattle.x10_model.specs.Moves.{Does, Moves}
 use Rattle.x10_model.specs.Assignments.{Permits}
+use Rattle.x10_model.proofs.Lists.{none_some}
+use Rattle.x10_model.proofs.Maps.{at_key, off_key}
 use Rattle.x10_finish.proofs.Stays.{stays_change}
 use Rattle.x10_finish.proofs.Tallied.{moved_tallied}
 use Rattle.x10_heap.specs.Words.{Context, HoldsHeap}
@@ -24,7 +27,6 @@ use Rattle.x10_place.specs.Stays.{StayState, StoreState, totals_in, innermost_at
 use Rattle.x10_place.specs.StandsFor.{Far, context, context_of, PlaceState, store_of, with_stays, line_as, Assigned, StandsForStay, StandForCallers, IsOfRun, HoldsExports, StandsFor, setting_of, location_of, IsCountedBy, Leads, LeadsAll}
 use Rattle.x10_place.specs.Messages.{no_sent}
 use Rattle.x10_place.specs.Stretches.{BeginsAt}
-use Rattle.x10_place.proofs.Maps.{none_some, at_key, off_key, same_or_not}
 use Rattle.x10_place.proofs.Framed.{point_of, is_instr, in_range, rule}
 use Rattle.x10_place.proofs.Growing.{stay_kept}
 use Rattle.x10_place.proofs.Local.{situated}
@@ -90,11 +92,11 @@ module _ (far : Far) (p : PlaceState) (m : machine.Place) (h : StandsFor far p m
 
     -- the stays under the keys after one of them changed
     pub keyed_one : (key : ℕ) (a : Option StayState) (s : Option Stay) (stays : ℕ → Option Stay) → stays ≡ m.stays → Grows (context_of far p) after → Updates p.stays slab key a → Keyed p.program h.assigned after a s → (k : ℕ) → Keyed p.program h.assigned after (get slab k) (with_entry stays key s k)
-    keyed_one key a s stays same grows up one k = elim (same_or_not k key) [
+    keyed_one key a s stays same grows up one k = elim (cases_eq k key) [
       | inl e ↦ subst (λ q. Keyed p.program h.assigned after (get slab q) (with_entry stays key s q)) (sym e)
           (subst (λ o. Keyed p.program h.assigned after o (with_entry stays key s key)) (sym up.changed) (subst (λ o. Keyed p.program h.assigned after a o) (sym (at_key stays key s)) one))
       | inr ne ↦ subst (λ o. Keyed p.program h.assigned after o (with_entry stays key s k)) (sym (up.others k ne))
-          (subst (λ o. Keyed p.program h.assigned after (get p.stays k) o) (sym (off_key stays key s k ne ∙ ap (λ (f : ℕ → Option Stay). f k) same)) (keyed_kept (context_of far p) after grows p.program h.assigned (get p.stays k) (m.stays k) (keyed k)))
+          (subst (λ o. Keyed p.program h.assigned after (get p.stays k) o) (sym (off_key stays key k s ne ∙ ap (λ (f : ℕ → Option Stay). f k) same)) (keyed_kept (context_of far p) after grows p.program h.assigned (get p.stays k) (m.stays k) (keyed k)))
     ]
 
 -- ---- moves
@@ -202,15 +204,15 @@ module _ (far : Far) (p : PlaceState) (m : machine.Place) (stands : StandsFor fa
 
       keyed_two : (s to child : Stay) → Keyed p.program stands.assigned later (Some begins.next) (Some to) → Keyed p.program stands.assigned later (Some begins.child) (Some child) → (k : ℕ)
           → Keyed p.program stands.assigned later (get slab k) (with_entry (with_entry m.stays key (Some to)) begins.other (Some child) k)
-      keyed_two s to child first second k = elim (same_or_not k begins.other) [
+      keyed_two s to child first second k = elim (cases_eq k begins.other) [
         | inl e ↦ subst (λ q. Keyed p.program stands.assigned later (get slab q) (with_entry (with_entry m.stays key (Some to)) begins.other (Some child) q)) (sym e)
             (subst (λ o. Keyed p.program stands.assigned later o (with_entry (with_entry m.stays key (Some to)) begins.other (Some child) begins.other)) (sym begins.now_child)
             (subst (λ o. Keyed p.program stands.assigned later (Some begins.child) o) (sym (at_key (with_entry m.stays key (Some to)) begins.other (Some child))) second))
-        | inr ne ↦ subst (λ o. Keyed p.program stands.assigned later (get slab k) o) (sym (off_key (with_entry m.stays key (Some to)) begins.other (Some child) k ne)) (elim (same_or_not k key) [
+        | inr ne ↦ subst (λ o. Keyed p.program stands.assigned later (get slab k) o) (sym (off_key (with_entry m.stays key (Some to)) begins.other k (Some child) ne)) (elim (cases_eq k key) [
           | inl e ↦ subst (λ q. Keyed p.program stands.assigned later (get slab q) (with_entry m.stays key (Some to) q)) (sym e)
               (subst (λ o. Keyed p.program stands.assigned later o (with_entry m.stays key (Some to) key)) (sym begins.now_next) (subst (λ o. Keyed p.program stands.assigned later (Some begins.next) o) (sym (at_key m.stays key (Some to))) first))
           | inr off ↦ subst (λ o. Keyed p.program stands.assigned later o (with_entry m.stays key (Some to) k)) (sym (begins.others k off ne))
-              (subst (λ o. Keyed p.program stands.assigned later (get p.stays k) o) (sym (off_key m.stays key (Some to) k off)) (keyed_on (get p.stays k) (m.stays k) (keyed far p m stands k)))
+              (subst (λ o. Keyed p.program stands.assigned later (get p.stays k) o) (sym (off_key m.stays key k (Some to) off)) (keyed_on (get p.stays k) (m.stays k) (keyed far p m stands k)))
         ])
       ]
 

@@ -4,16 +4,18 @@ use Rattle.std.proofs.lemmas.Bool.{eqb-true}
 use Rattle.std.specs.Ordering.{nat_cmp}
 use Rattle.std.specs.Result.{is_err}
 use Rattle.std.specs.BTreeMap.{is_at}
+use Rattle.std.proofs.lemmas.Option.{same_Some}
 use Rattle.x10_model.specs.Maps.{with_entry}
 use Rattle.x10_model.specs.Places.{Finish, root}
 use Rattle.x10_model.specs.Worlds.{same_finish}
 use Rattle.x10_model.specs.Totals.{Totals, Cut, nothing, zeros, begins_one, first_totals, IsDoneAt}
+use Rattle.x10_model.proofs.Lists.{none_some}
+use Rattle.x10_model.proofs.Maps.{at_key, off_key}
 use Rattle.x10_finish.specs.Books.{Kept, finish_of, kept_of}
 use Rattle.x10_heap.specs.Heaps.{empty}
 use Rattle.x10_place.specs.StandsFor.{first_number}
 use Rattle.x10_place.specs.Opening.{IsNewStore}
 use Rattle.x10_place.specs.Stays.{StoreState, book_at, books_of, cut_of, books_in, totals_in, kept_in, finish_at, changed_at, IsBookOf, AreBooks, IsDoneHere, Recounts}
-use Rattle.x10_place.proofs.Maps.{some_is, none_some, at_key, off_key}
 
 -- a book is found under its own number alone
 at_is_same : (k n : ℕ) → is_at (nat_cmp k) n ≡ (n == k)
@@ -25,7 +27,7 @@ Writes old k o new = (n : ℕ) → book_at new n ≡ cond (is_at (nat_cmp k) n) 
 
 -- a book is entered
 entered_then : (here places n : ℕ) (t : Bool) (w b : Kept) (o : Option Kept) → (t ≡ true → IsBookOf here places n w) → (o ≡ Some b → IsBookOf here places n b) → cond t (Some w) o ≡ Some b → IsBookOf here places n b
-entered_then here places n true w b o h g e = subst (IsBookOf here places n) (some_is w b e) (h refl)
+entered_then here places n true w b o h g e = subst (IsBookOf here places n) (same_Some w b e) (h refl)
 entered_then here places n false w b o h g e = g e
 
 pub entered_book : (here places k : ℕ) (old new : List (ℕ × Kept)) (w : Kept) → Writes old k (Some w) new → IsBookOf here places k w → AreBooks here places old → AreBooks here places new
@@ -104,7 +106,7 @@ new_at_zero places s t u blank opens begins = record {
   places_is = begins.places_are ∙ opens.places_are ∙ blank.places_are;
   totals = λ f. begins.totals_are f ∙ main_counted f (same_finish f root) (totals_in t f) (opens.totals_are f ∙ blank.totals f);
   kept = λ n. ap kept_in (books n) ∙ root_kept (n == 0) (books_in s n) (none n);
-  unopened = λ n le. books n ∙ off_key (books_in s) 0 (Some (λ p. zeros)) n (λ e. absurd (let one = opened in omega (arith, le, e, one))) ∙ none n;
+  unopened = λ n le. books n ∙ off_key (books_in s) 0 n (Some (λ p. zeros)) (λ e. absurd (let one = opened in omega (arith, le, e, one))) ∙ none n;
   root = λ e. (λ p. zeros, books 0 ∙ at_key (books_in s) 0 (Some (λ p. zeros)));
 }
   where

@@ -6,6 +6,7 @@ use Rattle.x10_code.specs.declared.instr.Instr.{Instr}
 use Rattle.x10_kinds.specs.declared.stop.Stop.{Stop}
 use Rattle.x10_model.specs.Ranges.{instr_in}
 use Rattle.x10_model.specs.Places as machine
+use Rattle.x10_model.proofs.Lists.{none_some}
 use Rattle.x10_heap.specs.Heaps.{HeapState}
 use Rattle.x10_verify.specs.Certified.{Certified}
 use Rattle.x10_place.specs.Frames as frames
@@ -24,7 +25,6 @@ use Rattle.x10_place.specs.declared.stay.Outcome.TheVariants as outcome
 use Rattle.x10_place.specs.Stays.{StayState, StoreState, Location, OverfillsBy, Refuses}
 use Rattle.x10_place.specs.StandsFor.{location_of, Far, IsWorking, Overfills, IsOverfull, IsOverloaded, IsStepLimit, IsHindered, PlaceState, place_of, plain, store_of, with_stays, StandsFor, IsStanding, LeadsAll}
 use Rattle.x10_place.specs.Stretches.{IsStep, Stretch, still, further, IsStride, Strides, at_once, onward, StridesTo, nowhere, finally}
-use Rattle.x10_place.proofs.Maps.{none_some}
 use Rattle.x10_place.proofs.Placing.{IsChecked}
 use Rattle.x10_place.proofs.Registering.{registered_at}
 use Rattle.x10_place.proofs.Stretching.{working_after}

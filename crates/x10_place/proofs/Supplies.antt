@@ -1,5 +1,6 @@
 -- What the place's own steps ask for: it follows from that the place stands for one of the machine.
 use Rattle.std.proofs.Common.{◌≡◌, ℕ, ◌+◌, ◌<◌, ◌≤◌, ◌^◌, true, false, [], length, Some, None, Result, Ok, Err, IfErr, IsErrAnd, refl, sym, ap, ap₂, subst, ◌∙◌, inl, inr, arith}
+use Rattle.std.proofs.lemmas.Option.{same_Some}
 use Rattle.slab.specs.Slab.{Slab, get, Updates}
 use Rattle.x10_kinds.specs.declared.kind.Kind.TheVariants as kind
 use Rattle.x10_kinds.specs.declared.homes.Term.TheVariants as term
@@ -34,7 +35,6 @@ use Rattle.x10_place.specs.Sending.{slots_of, slots_of_call, slots_of_end, words
 use Rattle.x10_place.specs.Stays.{StayState, StoreState, totals_in, books_in, innermost_at, changed_at, Recounts, Steps}
 use Rattle.x10_place.specs.StandsFor.{Far, PlaceState, place_of, context_of, location_of, setting_of, StandsForStay, StandsFor, IsHindered}
 use Rattle.x10_place.specs.Stretches.{IsForPlace}
-use Rattle.x10_place.proofs.Maps.{some_is}
 use Rattle.x10_place.proofs.Words.{reads}
 use Rattle.x10_place.proofs.Framed.{point_of, in_range, small, count, rule}
 use Rattle.x10_place.proofs.Calls.{IsTermOf, passed_to}
@@ -70,7 +70,7 @@ module _ (v : Certified) (old : Slab StayState) (s : StoreState) (key : ℕ) (i 
   sh = (stands.some key a h.is_there).2
 
   pub stay_is : (b : StayState) → get old key ≡ Some b → h.stay ≡ b
-  stay_is b e = some_is h.stay b (sym h.is_there ∙ e)
+  stay_is b e = same_Some h.stay b (sym h.is_there ∙ e)
 
   -- ---- what is sent
 

@@ -2,6 +2,8 @@
 use Rattle.std.proofs.Common.{◌≡◌, ℕ, ◌*◌, ◌<◌, List, length, get_or, set, Option, Some, refl, sym, ap, subst, ◌∙◌, inl, inr, get_or-set_same, get_or-set_other}
 use Rattle.std.specs.Prelude.{slice_index, slice_set}
 use Rattle.std.specs.Int.{w64, cast_signed}
+use Rattle.std.proofs.lemmas.Option.{same_Some}
+use Rattle.std.proofs.lemmas.Bool.{cases_eq}
 use Rattle.x10_kinds.specs.declared.kind.Kind.{Kind}
 use Rattle.x10_kinds.specs.declared.kind.Kind.TheVariants as kind
 use Rattle.x10_kinds.specs.declared.homes.Term.{Term}
@@ -9,9 +11,9 @@ use Rattle.x10_kinds.specs.Kinds.{Fits}
 use Rattle.x10_model.specs.Maps.{with_entry}
 use Rattle.x10_model.specs.Values.{Value, Int, Fields, Cells, IsObjectOf, IsOfKind}
 use Rattle.x10_model.specs.Assignments.{State, IsKind, IsBelow, set as set_kind}
+use Rattle.x10_model.proofs.Maps.{at_key, off_key}
 use Rattle.x10_heap.specs.Words.{Context, IsObjectWord, IsWordOf, HoldsObject, rail_cell, HoldsHeap}
 use Rattle.x10_place.specs.StandsFor.{HoldRegisters}
-use Rattle.x10_place.proofs.Maps.{some_is, at_key, off_key, same_or_not}
 
 -- ---- kinds
 
@@ -80,13 +82,13 @@ words_weaken x s t registers words below typed r kind e = reads x s registers wo
 -- a value and its word are written to a register
 pub words_written : (x : Context) (s : State) (registers : ℕ → Option Value) (words : List ℕ) (a : ℕ) (k : Kind) (like : Option Term) (v : Value) (word : ℕ) → a < length words → HoldRegisters x s registers words → IsWordOf x k word v
     → HoldRegisters x (set_kind s a k like) (with_entry registers a (Some v)) (slice_set words a word)
-words_written x s registers words a k like v word lt typed word-is r kind e = elim (same_or_not r a) [
+words_written x s registers words a k like v word lt typed word-is r kind e = elim (cases_eq r a) [
   | inl at ↦
-      (let k-is : k ≡ kind = some_is k kind (sym (at_key s.kinds a (Some k)) ∙ subst (λ q. with_entry s.kinds a (Some k) q ≡ Some kind) at e) in
+      (let k-is : k ≡ kind = same_Some k kind (sym (at_key s.kinds a (Some k)) ∙ subst (λ q. with_entry s.kinds a (Some k) q ≡ Some kind) at e) in
       let held : with_entry registers a (Some v) r ≡ Some v = subst (λ q. with_entry registers a (Some v) q ≡ Some v) (sym at) (at_key registers a (Some v)) in
       let got : get_or (set words a word) r 0 ≡ word = subst (λ q. get_or (set words a word) q 0 ≡ word) (sym at) (get_or-set_same words a word 0 lt) in
       (v, held, subst (λ w. IsWordOf x kind w v) (sym got) (subst (λ w. IsWordOf x w word v) k-is word-is)))
   | inr off ↦
-      (let h = typed r kind (sym (off_key s.kinds a (Some k) r off) ∙ e) in
-      (h.0, off_key registers a (Some v) r off ∙ h.1, subst (λ w. IsWordOf x kind w h.0) (sym (get_or-set_other words a r word 0 off)) h.2))
+      (let h = typed r kind (sym (off_key s.kinds a r (Some k) off) ∙ e) in
+      (h.0, off_key registers a r (Some v) off ∙ h.1, subst (λ w. IsWordOf x kind w h.0) (sym (get_or-set_other words a r word 0 off)) h.2))
 ]

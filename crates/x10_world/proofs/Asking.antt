@@ -2,6 +2,7 @@
 use Rattle.std.proofs.Common.{◌≡◌, ◌⊎◌, ◌↔◌, ℕ, Bool, List, [], Option, Some, None, refl, sym, ap, subst, ◌∙◌, inl, inr, arith}
 use Rattle.std.specs.Borrow.{Bor}
 use Rattle.std.specs.Prelude.{IsTrue, MatchOption, IfSome, length, slice_get}
+use Rattle.std.proofs.lemmas.Option.{slice_get_within, slice_get-get_or}
 use Rattle.x10_model.specs.Modules.{Module}
 use Rattle.x10_model.specs.Places.{root}
 use Rattle.x10_model.specs.Worlds.{World, IsOver}
@@ -12,7 +13,7 @@ use Rattle.x10_place.specs.StandsFor.{PlaceState, store_of}
 use Rattle.x10_world.specs.Flights.{Flight, flight_of, flight_among}
 use Rattle.x10_world.specs.StandsForWorld.{WorldState, BelongsTo, BelongTo, counts_in, StandsForWorld}
 use Rattle.x10_world.specs.Queries.{IsFlyingTo, IsReportTo}
-use Rattle.x10_world.proofs.Lists.{below, at_index, at_first}
+use Rattle.x10_world.proofs.Lists.{at_first}
 use Rattle.x10_world.proofs.Moving.{done_in, done_by}
 
 -- where no frame flies, no message does
@@ -23,11 +24,11 @@ still_flies x w stand still number = ap (λ fs. flight_among fs number) still
 pub over_is : (x z : WorldState) (program : Module) (bounds : List ℕ) (p : PlaceState) (b : Bool) → x ≡ z → BelongTo program bounds (length x.places) x.places → slice_get x.places 0 ≡ Some p → IsTrue b ↔ ((p.id ≡ 0) × IsDoneHere (store_of p) 0)
     → (w : World) → StandsForWorld z w → (IsTrue b → IsOver w) × (IsOver w → z.flights.flying ≡ [] → IsTrue b)
 over_is x z program bounds p b seen belong is closed w stands = (
-  (λ t. done_is_over (length x.places) w (counts_in x.places stand.told) stand.watched (below x.places 0 p is) (done_in x.places stand.told 0 0 p is belongs.id_is belongs.places_are (closed.0 t).1)),
+  (λ t. done_is_over (length x.places) w (counts_in x.places stand.told) stand.watched (slice_get_within x.places 0 p is) (done_in x.places stand.told 0 0 p is belongs.id_is belongs.places_are (closed.0 t).1)),
   (λ over still. closed.1 (
     belongs.id_is,
     done_by x.places stand.told 0 0 p is belongs.id_is belongs.places_are
-        (over_is_done (length x.places) w (counts_in x.places stand.told) stand.watched over (nothing still) (λ n. (stand.flies.none n (still_flies x w stand (quiet still) n)).1 root) (below x.places 0 p is)),
+        (over_is_done (length x.places) w (counts_in x.places stand.told) stand.watched over (nothing still) (λ n. (stand.flies.none n (still_flies x w stand (quiet still) n)).1 root) (slice_get_within x.places 0 p is)),
   )),
 )
   where
@@ -47,7 +48,7 @@ over_is x z program bounds p b seen belong is closed w stands = (
 pub frame_is : (x : WorldState) (w : World) (number to : ℕ) (flight : Flight) → StandsForWorld x w → flight_of x.flights number ≡ Some flight → flight.to ≡ to → IsFlyingTo w number to ⊎ IsReportTo w number to
 frame_is x w number to flight stand is goes = elim (stand.flies.each number flight is) [
   | inl m ↦ inl (m.message, m.flying, sym m.to_is ∙ goes)
-  | inr r ↦ inr (let at = at_index x.places flight.to (at_first x.places (let less = r.carries.fits.to in omega (arith, less))).0 r.carries.fits.to in let old = stand.some flight.to _ at in subst (λ n. IsReportTo w number n) goes (r.unused, (old.0, old.1)))
+  | inr r ↦ inr (let at = slice_get-get_or x.places flight.to (at_first x.places (let less = r.carries.fits.to in omega (arith, less))).0 r.carries.fits.to in let old = stand.some flight.to _ at in subst (λ n. IsReportTo w number n) goes (r.unused, (old.0, old.1)))
 ]
 
 pub frames_are : (x z : WorldState) (number : ℕ) (o : Option (ℕ × Bor (List ℕ))) → x ≡ z → MatchOption o (flight_of x.flights number ≡ None) (λ f. flight_of x.flights number ≡ Some (record { number = number; to = f.0; bytes = f.1.now }))

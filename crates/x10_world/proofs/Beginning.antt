@@ -2,11 +2,13 @@
 use Rattle.std.proofs.Common.{◌≡◌, ◌≢◌, ℕ, ◌+◌, ◌<◌, ◌≤◌, ◌==◌, ◌&&◌, Bool, true, false, List, [], ◌∷◌, ◌++◌, length, Option, Some, None, Ok, refl, sym, ap, subst, ◌∙◌, inl, inr, arith, length-append}
 use Rattle.std.specs.Prelude.{slice_get, nat_lt, if◌then◌else◌}
 use Rattle.std.proofs.lemmas.Bool.{eqb-true, eqb-false, ne_eqb, lt-ltb, ltb-true}
+use Rattle.std.proofs.lemmas.Option.{same_Some, slice_get_within}
 use Rattle.x10_model.specs.Structure.{bounds_of}
 use Rattle.x10_model.specs.Places as machine
 use Rattle.x10_model.specs.Places.{Setting, Finish, Message, root}
 use Rattle.x10_model.specs.Totals.{nothing, zeros, first_totals}
 use Rattle.x10_model.specs.Worlds.{Unused, Flying, same_finish, first_place, empty_place, opening}
+use Rattle.x10_model.proofs.Lists.{none_some}
 use Rattle.x10_finish.specs.Watching.{AreFirst}
 use Rattle.x10_finish.proofs.Watching.{opening_is_watched}
 use Rattle.x10_verify.specs.Certified.{Certified, IsCertified}
@@ -19,7 +21,7 @@ use Rattle.x10_world.specs.StandsForWorld.{WorldState, world_of, IsWorld, settin
 use Rattle.x10_world.proofs.LinkingDeliveries.{answered_at_opening}
 use Rattle.x10_world.specs.Opening.{IsOpened, AreOpened}
 use Rattle.x10_world.proofs.BudgetRuns.{budget_at_opening}
-use Rattle.x10_world.proofs.Lists.{some_is, none_some, below, none_past, at_first, last_or_before}
+use Rattle.x10_world.proofs.Lists.{none_past, at_first, last_or_before}
 
 -- ---- counts
 
@@ -93,7 +95,7 @@ opening_stands c count x certified some program bounds opened quiet = (
         at_key : (b : Bool) → (id == 0) ≡ b → StandsFor no_exports p (opening_place (place.setting_of p) key id)
         at_key true e =
             let zero_is = eqb-true id 0 e in
-            let same = some_is first.0 p (sym first.1 ∙ ap (λ i. slice_get x.places i) (sym zero_is) ∙ is) in
+            let same = same_Some first.0 p (sym first.1 ∙ ap (λ i. slice_get x.places i) (sym zero_is) ∙ is) in
             let zero = opened.each 0 first.0 first.1 in
             let there = subst (λ i. StandsFor no_exports first.0 (opening_place (place.setting_of first.0) key i)) zero.is_new.store.here (zero.stands.1 no_exports) in
             subst (λ i. StandsFor no_exports p (opening_place (place.setting_of p) key i)) (sym zero_is) (subst (λ q. StandsFor no_exports q (opening_place (place.setting_of q) key 0)) same there)
@@ -103,7 +105,7 @@ opening_stands c count x certified some program bounds opened quiet = (
             subst (λ m. StandsFor no_exports p m) (chosen (place.setting_of p) key o.stands.0 id (eqb-false id 0 e)) there
 
     each : (id : ℕ) (p : PlaceState) → slice_get x.places id ≡ Some p → (m : machine.Place) × ((opening (setting_of x) key).net.places id ≡ Some m) × StandsFor no_exports p m
-    each id p is = (opening_place (setting_of x) key id, ap (λ b. if b then Some (opening_place (setting_of x) key id) else None) (lt-ltb id (length x.places) (below x.places id p is)), stands id p is)
+    each id p is = (opening_place (setting_of x) key id, ap (λ b. if b then Some (opening_place (setting_of x) key id) else None) (lt-ltb id (length x.places) (slice_get_within x.places id p is)), stands id p is)
 
     none : (id : ℕ) → slice_get x.places id ≡ None → (opening (setting_of x) key).net.places id ≡ None
     none id is = ap (λ b. if b then Some (opening_place (setting_of x) key id) else None) (not_below (nat_lt id (length x.places)) refl)

@@ -6,6 +6,8 @@ use Rattle.x10_code.specs.declared.instr.Instr.{Instr}
 use Rattle.x10_model.specs.Modules.{Module, Function}
 use Rattle.x10_model.specs.Ranges.{function_at}
 use Rattle.x10_model.specs.Structure.{BoundFault, BoundCause, Nesting, Jump, LoopSlot, CallOrder, cost, is_call, calls_earlier, bound_of, nesting_fault, jump_fault, slot_fault, order_fault, unless, checked_bound, with_bound, bounds_from, bounds_of}
+use Rattle.x10_model.proofs.Bounds.{unless_ok, with_ok}
+use Rattle.x10_model.proofs.Lists.{append_get}
 use Rattle.x10_image.specs.Parts.{code_in, code_at}
 use Rattle.x10_bounds.specs.Potential.{IsStructured, potential, PotentialFalls}
 use Rattle.x10_bounds.proofs.Failing.{none_fails}
@@ -19,14 +21,6 @@ pub record HasBound (bounds : List ℕ) (f : ℕ) (function : Function) : Type 0
   pub structured : IsStructured function.loops function.code
   pub ordered : order_fault f function.code ≡ None
   pub bound : slice_get bounds f ≡ Some (bound_of (take f bounds) function.code)
-
-unless_ok : {A : Type 0} (o : Option ℕ) (cause : BoundCause) (f : ℕ) (r : Result A BoundFault) (x : A) → unless o cause f r ≡ Ok x → (o ≡ None) × (r ≡ Ok x)
-unless_ok None cause f r x e = (refl, e)
-unless_ok (Some pc) cause f r x e = absurd cc
-
-append_get : (xs : List ℕ) (y : ℕ) (ys : List ℕ) → slice_get (xs ++ y ∷ ys) (length xs) ≡ Some y
-append_get [] y ys = refl
-append_get (x ∷ xs) y ys = append_get xs y ys
 
 has_bound : (earlier rest bounds : List ℕ) (function : Function) (bound : ℕ) → bounds ≡ earlier ++ bound ∷ rest → checked_bound (length earlier) earlier function ≡ Ok bound → HasBound bounds (length earlier) function
 has_bound earlier rest bounds function bound is e =
@@ -43,10 +37,6 @@ has_bound earlier rest bounds function bound is e =
     }
 
 -- ---- each function of a module
-
-with_ok : (earlier : List ℕ) (r : Result ℕ BoundFault) (others : List ℕ → Result (List ℕ) BoundFault) (bounds : List ℕ) → with_bound earlier r others ≡ Ok bounds → (bound : ℕ) × (r ≡ Ok bound) × (others (earlier ++ bound ∷ []) ≡ Ok bounds)
-with_ok earlier (Ok bound) others bounds e = (bound, refl, e)
-with_ok earlier (Err fault) others bounds e = absurd cc
 
 -- the bounds begin with those so far
 begin_with : (fs : List Function) (earlier bounds : List ℕ) → bounds_from earlier fs ≡ Ok bounds → (rest : List ℕ) × (bounds ≡ earlier ++ rest)

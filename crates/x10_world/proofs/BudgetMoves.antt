@@ -7,10 +7,10 @@ use Rattle.x10_model.specs.Modules.{Module}
 use Rattle.x10_model.specs.Places as places
 use Rattle.x10_model.specs.Places.{Setting, Finish, Stay, Message, Effect, Waits, Works, Begins, Spawns, Shifts, Opens, Closes, Ends}
 use Rattle.x10_model.specs.Worlds.{World, Net, Activity, Book, counted, left, started, enclosing_after}
+use Rattle.x10_model.proofs.Maps.{at_key}
 use Rattle.x10_finish.specs.Nesting.{stays_in, Stays, stays_of}
 use Rattle.x10_finish.specs.Chains.{Name, IsAmong, IsChain}
 use Rattle.x10_finish.specs.Closing.{chains_of, unders_of, IsSound}
-use Rattle.x10_finish.proofs.Counting.{entry_same}
 use Rattle.x10_finish.proofs.Sound.{entry_self, map_entry, stays_after, chains_counted, chains_started, chains_left, first_in, overwritten}
 use Rattle.x10_world.specs.Budget.{left_of, left_of_any, left_of_all, left_for, IsWithinBudget, world_after, BudgetAfterMove}
 use Rattle.x10_world.proofs.Budgets.{functions_of, steps_of, spent_in, IsWithinOf, Fits, fits_of, within_as, fits_less, fits_begun, fits_put, within_index, left_apart, left_first, spent_other, spent_apart, spent_own, kept_of, free_apart}
@@ -158,7 +158,7 @@ two_stays net here key other old new t u e stays =
     let middle : places.Place = places.with_stay old key (Some t) in
     let between : Net = record net { places = with_entry net.places here (Some middle) } in
     let stays_at : (ℕ → Option places.Place) → Stays = λ f p. stays_in (f p) in
-    ap stays_at (sym (overwritten net.places here (Some middle) (Some new))) ∙ stays_after between here other middle new (Some u) (entry_same net.places here (Some middle)) stays
+    ap stays_at (sym (overwritten net.places here (Some middle) (Some new))) ∙ stays_after between here other middle new (Some u) (at_key net.places here (Some middle)) stays
     ∙ ap (λ x. with_pair x here other (Some u)) (stays_after net here key old middle (Some t) e refl)
 
 -- an activity begins here
@@ -205,7 +205,7 @@ spawns_within program bounds w here key number function under message old new s 
     within_as program bounds (world_after w here key new (Spawns message function under) number) stays (with_entry (functions_of w.book) a function) (with_entry steps a 0) (with_entry (chains_of w.book) a [])
     (stays_after w.net here key old new (Some t) e k.stays) (functions_started w.book (w.book.belongs here key) function under []) (steps_started w.book (w.book.belongs here key) function under []) (chains_started w.book (w.book.belongs here key) function under [])
     (fits_put bounds (a + 1) (with_entry (functions_of w.book) a function) spent w.book.carries w.net.posts number a message
-    (subst (λ f. IsWithinOf bounds f (spent a + left_for bounds message)) (sym (entry_same (functions_of w.book) a function)) (within_index bounds function _ (omega (arith, own, carries))))
+    (subst (λ f. IsWithinOf bounds f (spent a + left_for bounds message)) (sym (at_key (functions_of w.book) a function)) (within_index bounds function _ (omega (arith, own, carries))))
     (fits_begun bounds a function (functions_of w.book) (spent_in program bounds stays steps (chains_of w.book)) spent w.book.carries w.net.posts i.carried.begun_one no_more (within_index bounds function _ (omega (arith, own))) m.fits))
   where
     a : ℕ

@@ -10,9 +10,9 @@ use Rattle.x10_model.specs.Places.{Setting, Finish, root, Origin, Stay}
 use Rattle.x10_model.specs.Moves.{new_stay}
 use Rattle.x10_model.specs.Worlds as worlds
 use Rattle.x10_model.specs.Worlds.{World, WithinBounds, first_place, opening, Rule, Quiet, Happens, steps, delivers, idle, Run, done}
+use Rattle.x10_model.proofs.Maps.{at_key}
 use Rattle.x10_finish.specs.Nesting.{stays_in}
 use Rattle.x10_finish.specs.Closing.{IsSound}
-use Rattle.x10_finish.proofs.Counting.{entry_same}
 use Rattle.x10_finish.proofs.Closing.{sound_opening, sound_happens}
 use Rattle.x10_image.specs.Parts.{code_in, code_at}
 use Rattle.x10_bounds.specs.Potential.{potential}
@@ -38,7 +38,7 @@ main_within setting key bounds false bounds_are bound e = omega arith
 main_within setting key bounds true bounds_are bound e =
     let main : Stay = new_stay setting.program.entry [] root None in
     let none : ℕ → Option Stay = λ k. None in
-    subst (λ o. left_of_any setting.program bounds o ≤ bound) (sym (entry_same none key (Some main))) (new_within setting.program bounds setting.program.entry [] root None (function_at setting.program setting.program.entry) bounds_are refl bound e)
+    subst (λ o. left_of_any setting.program bounds o ≤ bound) (sym (at_key none key (Some main))) (new_within setting.program bounds setting.program.entry [] root None (function_at setting.program setting.program.entry) bounds_are refl bound e)
 
 pub budget_at_opening : BudgetAtOpening
 budget_at_opening setting key bounds bounds_are = record {

@@ -7,10 +7,10 @@ use Rattle.x10_model.specs.Modules.{Module}
 use Rattle.x10_model.specs.Places.{Stay, Message}
 use Rattle.x10_model.specs.Worlds.{Post, Flying, Taken, Net, Activity, Book, World}
 use Rattle.x10_model.proofs.Events.{flying_is}
+use Rattle.x10_model.proofs.Maps.{at_key, off_key}
 use Rattle.x10_finish.specs.Nesting.{Stays, stays_of}
 use Rattle.x10_finish.specs.Chains.{Name, IsAmong}
 use Rattle.x10_finish.specs.Closing.{chains_of, IsSound}
-use Rattle.x10_finish.proofs.Counting.{entry_same, entry_other}
 use Rattle.x10_finish.proofs.Nesting.{pair_same, pair_other, no_stay}
 use Rattle.x10_finish.proofs.Chains.{IsUncarried}
 use Rattle.x10_finish.proofs.Sound.{entry_self, map_entry}
@@ -70,10 +70,10 @@ pub fits_begun : (bounds : List ℕ) (begun function : ℕ) (functions spent les
     → Fits bounds begun functions spent carries posts → Fits bounds (begun + 1) (with_entry functions begun function) less carries posts
 fits_begun bounds begun function functions spent less carries posts known le within f = record {
   stays = λ a lt. elim (cases_eq a begun) [
-    | inl e ↦ subst (λ x. IsWithinOf bounds (with_entry functions begun function x) (less x)) (sym e) (subst (λ x. IsWithinOf bounds x (less begun)) (sym (entry_same functions begun function)) within)
-    | inr apart ↦ subst (λ x. IsWithinOf bounds x (less a)) (sym (entry_other functions begun a function apart)) (kept.stays a (let ne = apart in omega (arith, lt)))
+    | inl e ↦ subst (λ x. IsWithinOf bounds (with_entry functions begun function x) (less x)) (sym e) (subst (λ x. IsWithinOf bounds x (less begun)) (sym (at_key functions begun function)) within)
+    | inr apart ↦ subst (λ x. IsWithinOf bounds x (less a)) (sym (off_key functions begun a function apart)) (kept.stays a (let ne = apart in omega (arith, lt)))
   ];
-  carried = λ number message flies. subst (λ x. IsWithinOf bounds x (less (carries number) + left_for bounds message)) (sym (entry_other functions begun (carries number) function (λ e. (let lt = known number message flies in absurd (omega (arith, lt, e))))))
+  carried = λ number message flies. subst (λ x. IsWithinOf bounds x (less (carries number) + left_for bounds message)) (sym (off_key functions begun (carries number) function (λ e. (let lt = known number message flies in absurd (omega (arith, lt, e))))))
       (kept.carried number message flies);
 }
   where
@@ -87,16 +87,16 @@ fits_put bounds begun functions spent carries posts number a message within f = 
   stays = f.stays;
   carried = λ m x flies. elim (cases_eq m number) [
     | inl e ↦
-        let is : message ≡ x = flying_is message x (sym (ap (with_entry posts number (Flying message)) e ∙ entry_same posts number (Flying message)) ∙ flies) in
-        subst (λ b. IsWithinOf bounds (functions b) (spent b + left_for bounds x)) (sym (ap (with_entry carries number a) e ∙ entry_same carries number a)) (subst (λ y. IsWithinOf bounds (functions a) (spent a + left_for bounds y)) is within)
-    | inr apart ↦ subst (λ b. IsWithinOf bounds (functions b) (spent b + left_for bounds x)) (sym (entry_other carries number m a apart)) (f.carried m x (sym (entry_other posts number m (Flying message) apart) ∙ flies))
+        let is : message ≡ x = flying_is message x (sym (ap (with_entry posts number (Flying message)) e ∙ at_key posts number (Flying message)) ∙ flies) in
+        subst (λ b. IsWithinOf bounds (functions b) (spent b + left_for bounds x)) (sym (ap (with_entry carries number a) e ∙ at_key carries number a)) (subst (λ y. IsWithinOf bounds (functions a) (spent a + left_for bounds y)) is within)
+    | inr apart ↦ subst (λ b. IsWithinOf bounds (functions b) (spent b + left_for bounds x)) (sym (off_key carries number m a apart)) (f.carried m x (sym (off_key posts number m (Flying message) apart) ∙ flies))
   ];
 }
 
 taken_apart : (posts : ℕ → Post) (number m : ℕ) (message : Message) → with_entry posts number Taken m ≡ Flying message → (m ≡ number → ⊥) × (posts m ≡ Flying message)
 taken_apart posts number m message flies = elim (cases_eq m number) [
-  | inl e ↦ absurd (let x = sym (ap (with_entry posts number Taken) e ∙ entry_same posts number Taken) ∙ flies in cc)
-  | inr apart ↦ (apart, sym (entry_other posts number m Taken apart) ∙ flies)
+  | inl e ↦ absurd (let x = sym (ap (with_entry posts number Taken) e ∙ at_key posts number Taken) ∙ flies in cc)
+  | inr apart ↦ (apart, sym (off_key posts number m Taken apart) ∙ flies)
 ]
 
 -- a message is taken in, and its activity has what it carried for it
@@ -139,7 +139,7 @@ left_first program bounds stays here key o rest apart =
 -- what an activity has taken, where the steps and stays of another one change
 pub spent_other : (program : Module) (bounds : List ℕ) (stays : Stays) (steps : ℕ → ℕ) (chains : ℕ → List Name) (a b n : ℕ) (xs : List Name) → (b ≡ a → ⊥) → spent_in program bounds stays (with_entry steps a n) (with_entry chains a xs) b ≡ spent_in program bounds stays steps chains b
 spent_other program bounds stays steps chains a b n xs apart =
-    ap (λ k. k + left_of_all program bounds stays (with_entry chains a xs b)) (entry_other steps a b n apart) ∙ ap (λ c. steps b + left_of_all program bounds stays c) (entry_other chains a b xs apart)
+    ap (λ k. k + left_of_all program bounds stays (with_entry chains a xs b)) (off_key steps a b n apart) ∙ ap (λ c. steps b + left_of_all program bounds stays c) (off_key chains a b xs apart)
 
 pub spent_apart : (program : Module) (bounds : List ℕ) (stays : Stays) (steps : ℕ → ℕ) (chains : ℕ → List Name) (a b here key n : ℕ) (o : Option Stay) (xs : List Name) → (b ≡ a → ⊥) → (IsAmong (here, key) (chains b) → ⊥)
     → spent_in program bounds (with_pair stays here key o) (with_entry steps a n) (with_entry chains a xs) b ≡ spent_in program bounds stays steps chains b
@@ -149,7 +149,7 @@ spent_apart program bounds stays steps chains a b here key n o xs apart fresh =
 -- and where its own change
 pub spent_own : (program : Module) (bounds : List ℕ) (stays : Stays) (steps : ℕ → ℕ) (chains : ℕ → List Name) (a n : ℕ) (xs : List Name) → spent_in program bounds stays (with_entry steps a n) (with_entry chains a xs) a ≡ n + left_of_all program bounds stays xs
 spent_own program bounds stays steps chains a n xs =
-    ap (λ k. k + left_of_all program bounds stays (with_entry chains a xs a)) (entry_same steps a n) ∙ ap (λ c. n + left_of_all program bounds stays c) (entry_same chains a xs)
+    ap (λ k. k + left_of_all program bounds stays (with_entry chains a xs a)) (at_key steps a n) ∙ ap (λ c. n + left_of_all program bounds stays c) (at_key chains a xs)
 
 -- ---- the book
 

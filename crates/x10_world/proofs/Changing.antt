@@ -1,10 +1,11 @@
 -- One place of a list has changed.
 use Rattle.std.proofs.Common.{◌≡◌, ◌≢◌, ℕ, ◌≤◌, true, List, length, Option, Some, None, refl, sym, ap, subst, ◌∙◌, inl, inr, arith}
 use Rattle.std.specs.Prelude.{slice_get, slice_set}
+use Rattle.std.proofs.lemmas.List.{length-set}
 use Rattle.x10_model.specs.Modules.{Module}
 use Rattle.x10_place.specs.StandsFor.{PlaceState, Keeps}
 use Rattle.x10_world.specs.StandsForWorld.{BelongsTo, BelongTo, NoneStopped}
-use Rattle.x10_world.proofs.Lists.{set_length, set_either}
+use Rattle.x10_world.proofs.Lists.{set_either}
 
 -- one place of the list has changed, as said, if it is there
 pub record ChangesOne (Q : PlaceState → PlaceState → Type 0) (old new : List PlaceState) (id : ℕ) : Type 0 where
@@ -16,7 +17,7 @@ belongs_still program bounds count id p q k b = record { program_is = k.program 
 
 -- the places keep their module, their number and how many they are
 pub belong_set : (program : Module) (bounds : List ℕ) (places : List PlaceState) (here : ℕ) (p q : PlaceState) → slice_get places here ≡ Some p → Keeps p q → BelongTo program bounds (length places) places → BelongTo program bounds (length (slice_set places here q)) (slice_set places here q)
-belong_set program bounds places here p q is k belong = subst (λ n. BelongTo program bounds n (slice_set places here q)) (sym (set_length places here q)) each
+belong_set program bounds places here p q is k belong = subst (λ n. BelongTo program bounds n (slice_set places here q)) (sym (length-set places here q)) each
   where
     each : BelongTo program bounds (length places) (slice_set places here q)
     each id r e = elim (set_either places here id q r p is e) [
@@ -50,7 +51,7 @@ length_after Q old new here one = at_place (slice_get old here) refl
   where
     at_place : (o : Option PlaceState) → slice_get old here ≡ o → length new ≡ length old
     at_place None none = ap (λ ps. length ps) (one.gone none)
-    at_place (Some p) is = let t = one.there p is in ap (λ ps. length ps) t.1 ∙ set_length old here t.0
+    at_place (Some p) is = let t = one.there p is in ap (λ ps. length ps) t.1 ∙ length-set old here t.0
 
 pub few_after : (Q : PlaceState → PlaceState → Type 0) (old new : List PlaceState) (here : ℕ) → ChangesOne Q old new here → length old ≤ 64 → length new ≤ 64
 few_after Q old new here one few = (let same = length_after Q old new here one in omega (arith, same, few))

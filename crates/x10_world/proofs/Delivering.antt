@@ -1,7 +1,9 @@
 -- A frame in flight that its receiver takes in is a delivery of the world's message, or a report, which changes no world.
 use Rattle.std.proofs.Common.{◌≡◌, ◌≢◌, ◌⊎◌, ℕ, true, false, if◌then◌else◌, List, length, Option, Some, None, Ok, refl, sym, ap, subst, ◌∙◌, inl, inr, arith}
 use Rattle.std.specs.Prelude.{IsTrue, slice_get, slice_set}
-use Rattle.std.proofs.lemmas.Bool.{cases_Bool}
+use Rattle.std.proofs.lemmas.Bool.{cases_Bool, cases_eq}
+use Rattle.std.proofs.lemmas.Option.{same_Some, slice_get_within}
+use Rattle.std.proofs.lemmas.List.{length-set}
 use Rattle.x10_model.specs.declared.event.Event.TheVariants.{Deliver}
 use Rattle.x10_model.specs.Maps.{with_entry}
 use Rattle.x10_model.specs.Modules.{Module}
@@ -15,11 +17,12 @@ use Rattle.x10_model.specs.Deliveries.{Receives}
 use Rattle.x10_model.specs.Totals.{Cut, Report, Took, totals_after, merged, reported}
 use Rattle.x10_model.specs.Worlds.{World, Flying, Taken, same_finish, book_with, Ideal, Happens, delivers, idle, not_flying, Delivers}
 use Rattle.x10_model.specs.Wrong as wrong
+use Rattle.x10_model.proofs.Lists.{none_some, set_off}
+use Rattle.x10_model.proofs.Maps.{at_key, off_key}
 use Rattle.x10_copy.specs.References.{AreNamedElsewhere}
 use Rattle.x10_finish.specs.Detection.{Told, taken}
 use Rattle.x10_finish.specs.Nesting.{stays_in, stays_of, IsHeld}
 use Rattle.x10_finish.specs.Watching.{IsWatched, IsDelivered, IsSame, IsTakenIn}
-use Rattle.x10_finish.proofs.Counting.{entry_same, entry_other}
 use Rattle.x10_finish.proofs.Watching.{deliveries_are_watched, reports_are_watched}
 use Rattle.x10_place.specs.Messages.{report_frame}
 use Rattle.x10_place.specs.Receiving.{Admits, TakesMessage, TakesReport, TakesFrame, IsTaken, merged_in}
@@ -35,16 +38,16 @@ use Rattle.x10_world.proofs.Exporting.{delivery_exports}
 use Rattle.x10_world.proofs.Flying.{far_after, references_on, flies_fewer}
 use Rattle.x10_place.proofs.Knowing.{IsKnown, far_grows}
 use Rattle.x10_world.proofs.LinkingDeliveries.{answered_after_delivery}
-use Rattle.x10_world.proofs.Lists.{none_some, some_is, same_or_not, below, set_here, set_off, set_length, set_either}
+use Rattle.x10_world.proofs.Lists.{set_here, set_either}
 use Rattle.x10_world.proofs.Posting.{same_self, not_due, due_at}
 
 -- ---- what a frame brings
 
 -- the frame of a message brings that message
 takes_message : (p q : PlaceState) (f : Frame) (message : Message) → message_of f ≡ Some message → TakesFrame p f q → TakesMessage p message q
-takes_message p q (frames.Spawn from to home number function graph) message e t = subst (λ m. TakesMessage p m q) (some_is t.0 message (sym t.1 ∙ e)) t.2
-takes_message p q (frames.Shift from to waiting home number function graph) message e t = subst (λ m. TakesMessage p m q) (some_is t.0 message (sym t.1 ∙ e)) t.2
-takes_message p q (frames.Back from to waiting graph) message e t = subst (λ m. TakesMessage p m q) (some_is t.0 message (sym t.1 ∙ e)) t.2
+takes_message p q (frames.Spawn from to home number function graph) message e t = subst (λ m. TakesMessage p m q) (same_Some t.0 message (sym t.1 ∙ e)) t.2
+takes_message p q (frames.Shift from to waiting home number function graph) message e t = subst (λ m. TakesMessage p m q) (same_Some t.0 message (sym t.1 ∙ e)) t.2
+takes_message p q (frames.Back from to waiting graph) message e t = subst (λ m. TakesMessage p m q) (same_Some t.0 message (sym t.1 ∙ e)) t.2
 takes_message p q (frames.Report from to number sent received) message e t = absurd cc
 
 -- ---- a finish that is held has a book at its home
@@ -63,7 +66,7 @@ some_merged r o cut e = ap (merged_in r) e
 
 module _ (p : PlaceState) (to : ℕ) (r : Report) (q : PlaceState) (t : TakesReport p to r q) where
   book_still : (n : ℕ) → HasBook (books_of p.books) n → HasBook (books_of q.books) n
-  book_still n h = elim (same_or_not n r.number) [
+  book_still n h = elim (cases_eq n r.number) [
     | inl same ↦ (merged h.0 r, ap (books_of q.books) same ∙ t.this ∙ some_merged r (books_of p.books r.number) h.0 (ap (books_of p.books) (sym same) ∙ h.1))
     | inr ne ↦ (h.0, t.others n ne ∙ h.1)
   ]
@@ -112,14 +115,14 @@ module _ (program : Module) (bounds : List ℕ) (places : List PlaceState) (flig
   module _ (told : Finish → ℕ → Option Told) (v : World) (m new : machine.Place) (there : w.net.places here ≡ Some m) (changed : v.net.places ≡ with_entry w.net.places here (Some new)) (known : IsKnown (far_in w) (far_in v)) (stands : StandsFor (far_in v) q new) where
     some_after : (id : ℕ) (r : PlaceState) → slice_get (slice_set places here q) id ≡ Some r → (o : machine.Place) × (v.net.places id ≡ Some o) × StandsFor (far_in v) r o
     some_after id r e = elim (set_either places here id q r p is e) [
-      | inl at ↦ (new, ap v.net.places at.0 ∙ ap (λ f. f here) changed ∙ entry_same w.net.places here (Some new), subst (λ t. StandsFor (far_in v) t new) at.1 stands)
-      | inr off ↦ let old = stand.some id r off.1 in (old.0, ap (λ f. f id) changed ∙ entry_other w.net.places here id (Some new) off.0 ∙ old.1, far_grows (far_in w) (far_in v) r old.0 known old.2)
+      | inl at ↦ (new, ap v.net.places at.0 ∙ ap (λ f. f here) changed ∙ at_key w.net.places here (Some new), subst (λ t. StandsFor (far_in v) t new) at.1 stands)
+      | inr off ↦ let old = stand.some id r off.1 in (old.0, ap (λ f. f id) changed ∙ off_key w.net.places here id (Some new) off.0 ∙ old.1, far_grows (far_in w) (far_in v) r old.0 known old.2)
     ]
 
     none_after : (id : ℕ) → slice_get (slice_set places here q) id ≡ None → v.net.places id ≡ None
-    none_after id e = elim (same_or_not id here) [
+    none_after id e = elim (cases_eq id here) [
       | inl same ↦ absurd (none_some (slice_get (slice_set places here q) id) q e (ap (λ i. slice_get (slice_set places here q) i) same ∙ set_here places here q p is))
-      | inr ne ↦ ap (λ f. f id) changed ∙ entry_other w.net.places here id (Some new) ne ∙ stand.none id (sym (set_off places here id q ne) ∙ e)
+      | inr ne ↦ ap (λ f. f id) changed ∙ off_key w.net.places here id (Some new) ne ∙ stand.none id (sym (set_off places here id q ne) ∙ e)
     ]
 
   -- ---- a message
@@ -152,7 +155,7 @@ module _ (program : Module) (bounds : List ℕ) (places : List PlaceState) (flig
     delivered f = record {
       here_is = ap (λ o. totals_at o f) (set_here places here q p is) ∙ a.counted.totals f ∙ sym (ap (λ o. totals_after f (totals_at o f) (Took h.message)) is);
       others = λ r ne. ap (λ o. totals_at o f) (set_off places here r q ne);
-      kept = elim (same_or_not f.home here) [
+      kept = elim (cases_eq f.home here) [
         | inl same ↦ kept_here f same
         | inr ne ↦ ap (λ o. kept_at o f.number) (set_off places here f.home q ne)
       ];
@@ -160,13 +163,13 @@ module _ (program : Module) (bounds : List ℕ) (places : List PlaceState) (flig
     }
 
     watched : IsWatched (length places) after (counts_in (slice_set places here q) stand.told)
-    watched = deliveries_are_watched (setting_in program places) w after (counts_in places stand.told) (counts_in (slice_set places here q) stand.told) number delivery stand.watched (below places here p is) delivered
+    watched = deliveries_are_watched (setting_in program places) w after (counts_in places stand.told) (counts_in (slice_set places here q) stand.told) number delivery stand.watched (slice_get_within places here p is) delivered
 
     gone : (message : Message) → after.net.posts number ≡ Flying message → ⊥
-    gone message e = (let t : Taken ≡ Flying message = sym (entry_same w.net.posts number Taken) ∙ e in absurd cc)
+    gone message e = (let t : Taken ≡ Flying message = sym (at_key w.net.posts number Taken) ∙ e in absurd cc)
 
     flies_after : Flies program (length places) (taken_from flights number) after stand.told
-    flies_after = flies_fewer program (length places) w after stand.told stand.told known flights number flight flies (λ n ne. entry_other w.net.posts number n Taken ne) (λ n ne f. refl) gone h.untold stand.flies
+    flies_after = flies_fewer program (length places) w after stand.told stand.told known flights number flight flies (λ n ne. off_key w.net.posts number n Taken ne) (λ n ne f. refl) gone h.untold stand.flies
 
     message_leads : LeadsOn
     message_leads = (
@@ -177,10 +180,10 @@ module _ (program : Module) (bounds : List ℕ) (places : List PlaceState) (flig
         some = some_after stand.told after m a.new there refl known (far_grows (far_in w) (far_in after) q a.new known a.stands);
         none = none_after stand.told after m a.new there refl known (far_grows (far_in w) (far_in after) q a.new known a.stands);
         told = stand.told;
-        watched = subst (λ n. IsWatched n after (counts_in (slice_set places here q) stand.told)) (sym (set_length places here q)) watched;
-        answered = subst (λ n. AreAnswered (record { program = program; places = n }) after.net) (sym (set_length places here q)) (answered_after_delivery (setting_in program places) w after number stand.watched.sound stand.answered delivery);
+        watched = subst (λ n. IsWatched n after (counts_in (slice_set places here q) stand.told)) (sym (length-set places here q)) watched;
+        answered = subst (λ n. AreAnswered (record { program = program; places = n }) after.net) (sym (length-set places here q)) (answered_after_delivery (setting_in program places) w after number stand.watched.sound stand.answered delivery);
         budget = budget_after_delivery (setting_in program places) bounds w after number bounds-are stand.watched.sound stand.budget delivery;
-        flies = subst (λ n. Flies program n (taken_from flights number) after stand.told) (sym (set_length places here q)) flies_after;
+        flies = subst (λ n. Flies program n (taken_from flights number) after stand.told) (sym (length-set places here q)) flies_after;
       },
     )
 
@@ -194,7 +197,7 @@ module _ (program : Module) (bounds : List ℕ) (places : List PlaceState) (flig
     told_then f = if same_finish f of then with_entry (stand.told f) number None else stand.told f
 
     totals_same : (f : Finish) (r : ℕ) → totals_at (slice_get (slice_set places here q) r) f ≡ totals_at (slice_get places r) f
-    totals_same f r = elim (same_or_not r here) [
+    totals_same f r = elim (cases_eq r here) [
       | inl same ↦ ap (λ i. totals_at (slice_get (slice_set places here q) i) f) same ∙ ap (λ o. totals_at o f) (set_here places here q p is) ∙ ap (λ x. totals_at (Some x) f) t.rest ∙ sym (ap (λ o. totals_at o f) (ap (slice_get places) same ∙ is))
       | inr ne ↦ ap (λ o. totals_at o f) (set_off places here r q ne)
     ]
@@ -214,7 +217,7 @@ module _ (program : Module) (bounds : List ℕ) (places : List PlaceState) (flig
         }
 
     kept_others : (g : Finish) → same_finish g of ≡ false → kept_at (slice_get (slice_set places here q) g.home) g.number ≡ kept_at (slice_get places g.home) g.number
-    kept_others g apart = elim (same_or_not g.home here) [
+    kept_others g apart = elim (cases_eq g.home here) [
       | inl same ↦
           let ne : g.number ≢ h.report.number = λ e. (let f : true ≡ false = sym (same_self g of (λ i. record { home = same i; number = e i })) ∙ apart in absurd cc) in
           ap (λ i. kept_at (slice_get (slice_set places here q) i) g.number) same ∙ ap (λ o. kept_at o g.number) (set_here places here q p is) ∙ ap kept_in (t.others g.number ne)
@@ -233,13 +236,13 @@ module _ (program : Module) (bounds : List ℕ) (places : List PlaceState) (flig
 
     told_off : (n : ℕ) → n ≢ number → (f : Finish) → told_then f n ≡ stand.told f n
     told_off n ne f = elim (cases_Bool (same_finish f of)) [
-      | inl so ↦ ap (λ g. g n) (due_at (same_finish f of) (with_entry (stand.told f) number None) (stand.told f) so) ∙ entry_other (stand.told f) number n None ne
+      | inl so ↦ ap (λ g. g n) (due_at (same_finish f of) (with_entry (stand.told f) number None) (stand.told f) so) ∙ off_key (stand.told f) number n None ne
       | inr not-so ↦ ap (λ g. g n) (not_due (same_finish f of) (with_entry (stand.told f) number None) (stand.told f) not-so)
     ]
 
     told_none : (f : Finish) → told_then f number ≡ None
     told_none f = elim (cases_Bool (same_finish f of)) [
-      | inl so ↦ ap (λ g. g number) (due_at (same_finish f of) (with_entry (stand.told f) number None) (stand.told f) so) ∙ entry_same (stand.told f) number None
+      | inl so ↦ ap (λ g. g number) (due_at (same_finish f of) (with_entry (stand.told f) number None) (stand.told f) so) ∙ at_key (stand.told f) number None
       | inr not-so ↦ ap (λ g. g number) (not_due (same_finish f of) (with_entry (stand.told f) number None) (stand.told f) not-so) ∙ h.others f not-so
     ]
 
@@ -253,7 +256,7 @@ module _ (program : Module) (bounds : List ℕ) (places : List PlaceState) (flig
     ]
 
     none_too : (id : ℕ) → slice_get (slice_set places here q) id ≡ None → w.net.places id ≡ None
-    none_too id e = elim (same_or_not id here) [
+    none_too id e = elim (cases_eq id here) [
       | inl at ↦ absurd (none_some (slice_get (slice_set places here q) id) q e (ap (λ i. slice_get (slice_set places here q) i) at ∙ set_here places here q p is))
       | inr ne ↦ stand.none id (sym (set_off places here id q ne) ∙ e)
     ]
@@ -267,10 +270,10 @@ module _ (program : Module) (bounds : List ℕ) (places : List PlaceState) (flig
         some = some_too;
         none = none_too;
         told = told_then;
-        watched = subst (λ n. IsWatched n w (counts_in (slice_set places here q) told_then)) (sym (set_length places here q)) watched_too;
-        answered = subst (λ n. AreAnswered (record { program = program; places = n }) w.net) (sym (set_length places here q)) stand.answered;
+        watched = subst (λ n. IsWatched n w (counts_in (slice_set places here q) told_then)) (sym (length-set places here q)) watched_too;
+        answered = subst (λ n. AreAnswered (record { program = program; places = n }) w.net) (sym (length-set places here q)) stand.answered;
         budget = stand.budget;
-        flies = subst (λ n. Flies program n (taken_from flights number) w told_then) (sym (set_length places here q)) flies_too;
+        flies = subst (λ n. Flies program n (taken_from flights number) w told_then) (sym (length-set places here q)) flies_too;
       },
     )
 

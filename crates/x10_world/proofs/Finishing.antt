@@ -1,21 +1,22 @@
 -- The ending of a run of the program is that of a run of the machine.
 use Rattle.std.proofs.Common.{◌≡◌, ℕ, ◌<◌, zero, suc, List, [], ◌∷◌, length, map, Option, Some, None, refl, sym, ap, subst, ◌∙◌}
 use Rattle.std.specs.Prelude.{IsTrue, IfSome, slice_get, take}
+use Rattle.std.proofs.lemmas.Option.{same_Some}
 use Rattle.x10_model.specs.declared.event.Event.{Event}
 use Rattle.x10_model.specs.Places as machine
 use Rattle.x10_model.specs.Places.{Setting}
 use Rattle.x10_model.specs.Worlds.{World, Ideal, Run, WithinBounds, IsOver, opening}
+use Rattle.x10_model.proofs.Lists.{none_some}
 use Rattle.x10_verify.specs.Certified.{Certified}
 use Rattle.x10_place.specs.StandsFor.{PlaceState, line_as}
 use Rattle.x10_world.specs.declared.ending.Ending.{Ending}
 use Rattle.x10_world.specs.Opening.{IsOpenedWorld, IsForbidden}
 use Rattle.x10_world.specs.Endings.{IsEndingOf, AreLinesOf, lines_at}
 use Rattle.x10_world.specs.StandsForWorld.{WorldState, KeepsSetting, setting_of, StandsForWorld, Course, Runs}
-use Rattle.x10_world.proofs.Lists.{some_is, none_some}
 
 get_map : {X Y : Type 0} (f : X → Y) (xs : List X) (i : ℕ) (x : X) → slice_get xs i ≡ Some x → slice_get (map f xs) i ≡ Some (f x)
 get_map f [] i x e = absurd cc
-get_map f (y ∷ ys) zero x e = ap (λ z. Some (f z)) (some_is y x e)
+get_map f (y ∷ ys) zero x e = ap (λ z. Some (f z)) (same_Some y x e)
 get_map f (y ∷ ys) (suc i) x e = get_map f ys i x e
 
 pub map_length : {X Y : Type 0} (f : X → Y) (xs : List X) → length (map f xs) ≡ length xs
@@ -30,7 +31,7 @@ lines_are y w stand id m there = go (slice_get y.places id) refl
     go None none = absurd (none_some (w.net.places id) m (stand.none id none) there)
     go (Some p) is =
         let old = stand.some id p is in
-        let same = some_is old.0 m (sym old.1 ∙ there) in
+        let same = same_Some old.0 m (sym old.1 ∙ there) in
         get_map (λ q. map line_as q.lines) y.places id p is ∙ ap Some (sym old.2.lines ∙ ap (λ (n : machine.Place). n.lines) same)
 
 pub ending_is : (c : Certified) (count : ℕ) (events : List Event) (x y : WorldState) (outputs : List (List machine.Line)) (e : Ending) → IsOpenedWorld c count x

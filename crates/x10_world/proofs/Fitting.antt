@@ -2,6 +2,7 @@
 -- is there, its graph fits, and its finish is open.
 use Rattle.std.proofs.Common.{◌≡◌, ℕ, List, [], ◌∷◌, Option, Some, None, refl, sym, ap, subst, ◌∙◌, eqb-true}
 use Rattle.std.specs.Prelude.{IsTrue, slice_get, slice_index}
+use Rattle.std.proofs.lemmas.Option.{same_Some}
 use Rattle.slab.specs.Slab.{get}
 use Rattle.x10_kinds.specs.declared.kind.Kind.{Kind}
 use Rattle.x10_kinds.specs.declared.kind.Kind.TheVariants as kind
@@ -20,6 +21,7 @@ use Rattle.x10_model.specs.Places.{Finish, Stay, Message, Spawn, Shift, Back, re
 use Rattle.x10_model.specs.Deliveries.{FitsClasses, IsExported, FitsPlace, FitsFunctionAt, FitsResultAt}
 use Rattle.x10_model.specs.Worlds.{World, IsUnder}
 use Rattle.x10_model.specs.Wrong as wrong
+use Rattle.x10_model.proofs.Lists.{none_some}
 use Rattle.x10_heap.specs.Words.{Context, IsWordOf}
 use Rattle.x10_copy.specs.References.{OfReference, OfReferences}
 use Rattle.x10_copy.specs.Arrived.{FitsArrival}
@@ -32,7 +34,6 @@ use Rattle.x10_place.specs.Receiving.{IsAwaited}
 use Rattle.x10_place.specs.Sending.{slots_of}
 use Rattle.x10_world.specs.Links.{WaitsAt, FitsReceiver}
 use Rattle.x10_world.specs.StandsForWorld.{is_export, exported_at, far_in}
-use Rattle.x10_world.proofs.Lists.{none_some, some_is}
 
 -- ---- a register that an at reads
 
@@ -52,7 +53,7 @@ same_place a b e = cc
 place_word : (program : Module) (assigned : Assigned program) (x : Context) (f : CallFrame) (c : machine.CallFrame) (call : Instr) (to : ℕ) → StandsForFrame program assigned x f c → instr_at program f.function f.pc ≡ Some call → call.op ≡ op.At
     → c.registers call.c ≡ Some (Place to) → slice_index f.registers.items call.c ≡ to
 place_word program assigned x f c call to h call-is at holds =
-    sym (same_place to word (some_is (Place to) (Place word) (sym holds ∙ value.1 ∙ ap Some value.2.1)))
+    sym (same_place to word (same_Some (Place to) (Place word) (sym holds ∙ value.1 ∙ ap Some value.2.1)))
   where
     word : ℕ
     word = slice_index f.registers.items call.c
@@ -64,7 +65,7 @@ place_word program assigned x f c call to h call-is at holds =
     asks =
         let permitted = (assigned f.function h.function h.is_function).1.consistent.permitted f.pc h.state h.is_state in
         let found : slice_get h.function.code f.pc ≡ Some call = sym (ap (λ g. instr_in g f.pc) h.is_function) ∙ call-is in
-        let same : permitted.0 ≡ call = some_is permitted.0 call (sym permitted.2 ∙ found) in
+        let same : permitted.0 ≡ call = same_Some permitted.0 call (sym permitted.2 ∙ found) in
         (subst (λ o. Permits o (point call) h.state permitted.1) at (subst (λ (i : Instr). Permits i.op (point i) h.state permitted.1) same permitted.3)).2
 
     value : (v : Value) × (c.registers call.c ≡ Some v) × IsWordOf x kind.Place word v
@@ -116,7 +117,7 @@ module _ (w : World) (p : PlaceState) (m : machine.Place) (there : w.net.places 
   function_fits : (to function : ℕ) (s : Snapshot) (known callee : Function) → to ≡ p.id → FitsClasses p.program s → OfReferences (λ home id class. IsTrue (far_in w home id class)) s → FitsFunctionAt (setting_of p) to function s known
       → function_at p.program function ≡ Some callee → FitsArrival p.program p.id p.id p.heap callee.parameters s
   function_fits to function s known callee to-is classes named fits callee-is =
-      let same : known ≡ callee = some_is known callee (sym fits.callee_is ∙ callee-is) in
+      let same : known ≡ callee = same_Some known callee (sym fits.callee_is ∙ callee-is) in
       arrives s p.id callee.parameters classes named (subst (λ (f : Function). FitSlots (IsOfKindIn s) p.id s.roots f.parameters) same (subst (λ h. FitSlots (IsOfKindIn s) h s.roots known.parameters) to-is fits.arguments))
 
   pub spawn_fits : (from to function : ℕ) (under : Finish) (s : Snapshot) (callee : Function) → IsFor w p (Spawn from to under function s) → function_at p.program function ≡ Some callee → FitsArrival p.program p.id p.id p.heap callee.parameters s
@@ -137,7 +138,7 @@ module _ (w : World) (p : PlaceState) (m : machine.Place) (there : w.net.places 
     its_call : (a : StayState) → get p.stays waiting ≡ Some a → instr_at p.program a.top.function a.top.pc ≡ Some waits.call
     its_call a e =
         let found = old.some waiting a e in
-        let same : found.0 ≡ waits.stay = some_is found.0 waits.stay (sym found.1 ∙ its_stay) in
+        let same : found.0 ≡ waits.stay = same_Some found.0 waits.stay (sym found.1 ∙ its_stay) in
         let function-is : a.top.function ≡ waits.stay.top.function = sym found.2.top.function_is ∙ ap (λ (t : Stay). t.top.function) same in
         let pc-is : a.top.pc ≡ waits.stay.top.pc = sym found.2.top.pc_is ∙ ap (λ (t : Stay). t.top.pc) same in
         ap (λ f. instr_at p.program f a.top.pc) function-is ∙ ap (λ k. instr_at p.program waits.stay.top.function k) pc-is ∙ waits.call_is
@@ -149,7 +150,7 @@ module _ (w : World) (p : PlaceState) (m : machine.Place) (there : w.net.places 
     awaited_by None e = absurd (none_some (m.stays waiting) waits.stay (old.none waiting e) its_stay)
     awaited_by (Some a) e =
         let found = old.some waiting a e in
-        let same : found.0 ≡ waits.stay = some_is found.0 waits.stay (sym found.1 ∙ its_stay) in
+        let same : found.0 ≡ waits.stay = same_Some found.0 waits.stay (sym found.1 ∙ its_stay) in
         record {
           stay = a;
           is_there = e;
@@ -169,7 +170,7 @@ module _ (w : World) (p : PlaceState) (m : machine.Place) (there : w.net.places 
     -- whoever waits for it, the result fits
     pub back_fits : (slots : List Slot) → IsAwaited p waiting from slots → FitsArrival p.program p.id from p.heap slots s
     back_fits slots a =
-        let call-is : a.call ≡ waits.call = some_is a.call waits.call (sym a.call_is ∙ its_call a.stay a.is_there) in
-        let callee-is : a.callee ≡ h.fits.1 = some_is a.callee h.fits.1 (sym a.callee_is ∙ ap (λ (i : Instr). function_at p.program i.x) call-is ∙ its_callee) in
+        let call-is : a.call ≡ waits.call = same_Some a.call waits.call (sym a.call_is ∙ its_call a.stay a.is_there) in
+        let callee-is : a.callee ≡ h.fits.1 = same_Some a.callee h.fits.1 (sym a.callee_is ∙ ap (λ (i : Instr). function_at p.program i.x) call-is ∙ its_callee) in
         let slots-are : slots ≡ slots_of h.fits.1.result = a.slots_are ∙ ap (λ (f : Function). slots_of f.result) callee-is in
         subst (λ l. FitsArrival p.program p.id from p.heap l s) (sym slots-are) (arrives s from (slots_of h.fits.1.result) h.classes h.named (result_slots s from h.fits.1.result s.roots h.fits.4))

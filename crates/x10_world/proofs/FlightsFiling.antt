@@ -3,19 +3,17 @@ use Rattle.std.proofs.Common.{◌≡◌, ℕ, ◌+◌, ◌-◌, ◌<◌, ◌≤�
 use Rattle.std.proofs.lemmas.Bool.{cond-true, cond-false, cond_both, eq-eqb, ne_eqb, cases_eq, cases_lt, cases_Bool, false_from_ne_true}
 use Rattle.std.proofs.lemmas.List.{get_or-set_same, get_or-set_other, length-set, get_or_past}
 use Rattle.std.proofs.lemmas.List.Elements.{All-push, All-filter, All-head, All-tail}
+use Rattle.std.proofs.lemmas.Option.{same_Some}
 use Rattle.x10_world.specs.Flights.{Flight, flight_among, flies_to, without, RisingBy, Tabled, Queued, nothing, numbers_at, spare_at, Has, AreFiled}
 use Rattle.x10_world.proofs.FlightsRising.{rising_top, rising_push, rising_filter}
 use Rattle.x10_world.proofs.FlightsQueues.{Has-append, Has-push, Has-filter}
 use Rattle.x10_world.proofs.FlightsLookups.{flies_pushed, flies_without}
 
-some_same : {f g : Flight} → Some f ≡ Some g → f ≡ g
-some_same e = cc
-
 -- what flies has what all that fly have
 pub among_all : (P : Flight → Type 0) (fs : List Flight) (n : ℕ) (f : Flight) → All P fs → flight_among fs n ≡ Some f → P f
 among_all P [] n f h e = absurd (cc)
 among_all P (g ∷ fs) n f h e = elim (cases_Bool (g.number == n)) [
-  | inl t ↦ subst P (some_same (sym (cond-true (g.number == n) (Some g) (flight_among fs n) t) ∙ e)) (All-head P g fs h)
+  | inl t ↦ subst P (same_Some g f (sym (cond-true (g.number == n) (Some g) (flight_among fs n) t) ∙ e)) (All-head P g fs h)
   | inr u ↦ among_all P fs n f (All-tail P g fs h) (sym (cond-false (g.number == n) (Some g) (flight_among fs n) u) ∙ e)
 ]
 

@@ -1,6 +1,8 @@
 -- Frames in flight, as some are posted and taken: they are still the messages that fly, and reports.
 use Rattle.std.proofs.Common.{◌≡◌, ◌≢◌, ◌⊎◌, ℕ, ◌≤◌, List, [], ◌∷◌, ◌++◌, Option, Some, None, refl, sym, ap, subst, ◌∙◌, inl, inr, arith}
 use Rattle.std.specs.Prelude.{IsTrue, slice_get}
+use Rattle.std.proofs.lemmas.Option.{same_Some}
+use Rattle.std.proofs.lemmas.Bool.{cases_eq}
 use Rattle.x10_model.specs.Maps.{with_entry}
 use Rattle.x10_model.specs.Modules.{Module}
 use Rattle.x10_model.specs.Values.{Value, Int, Place, Text, Rail, Object, Null, Ref}
@@ -9,12 +11,12 @@ use Rattle.x10_model.specs.Places as machine
 use Rattle.x10_model.specs.Places.{Finish, Message, receiver}
 use Rattle.x10_model.specs.Worlds.{World, Unused, Flying}
 use Rattle.x10_model.specs.Wrong.{graph_of}
+use Rattle.x10_model.proofs.Lists.{none_some}
+use Rattle.x10_model.proofs.Maps.{at_key, off_key}
 use Rattle.x10_copy.specs.References.{OfReference, OfReferences}
 use Rattle.x10_finish.specs.Detection.{Told}
-use Rattle.x10_finish.proofs.Counting.{entry_same, entry_other}
 use Rattle.x10_world.specs.Flights.{Flight, FlightsState, flight_among, flight_of, posted_to, taken_from, without}
 use Rattle.x10_world.specs.StandsForWorld.{is_export, exported_at, far_in, FliesAsMessage, FliesAsReport, Flies}
-use Rattle.x10_world.proofs.Lists.{none_some, some_is, same_or_not}
 use Rattle.x10_world.proofs.FlightsRising.{rising_push, rising_filter}
 use Rattle.x10_world.proofs.FlightsLookups.{among_push, among_new, among_none, among_without, among_others}
 use Rattle.x10_world.proofs.Exporting.{AreExported, exports_same}
@@ -35,13 +37,13 @@ exported_on (Some m) places home id class keeps h =
 -- where one place changes and keeps its exports, all are known still
 pub far_after : (w v : World) (here : ℕ) (old new : machine.Place) → w.net.places here ≡ Some old → v.net.places ≡ with_entry w.net.places here (Some new) → AreExported old new → IsKnown (far_in w) (far_in v)
 far_after w v here old new there changed exported home id class h =
-    exported_on (w.net.places home) v.net.places home id class (λ m e. at m e (same_or_not home here)) h
+    exported_on (w.net.places home) v.net.places home id class (λ m e. at m e (cases_eq home here)) h
   where
     at : (m : machine.Place) → w.net.places home ≡ Some m → (home ≡ here) ⊎ (home ≢ here) → (n : machine.Place) × (v.net.places home ≡ Some n) × AreExported m n
     at m e (inl same) =
-        let m-is : m ≡ old = some_is m old (sym e ∙ ap w.net.places same ∙ there) in
-        (new, ap v.net.places same ∙ ap (λ f. f here) changed ∙ entry_same w.net.places here (Some new), subst (λ k. AreExported k new) (sym m-is) exported)
-    at m e (inr ne) = (m, ap (λ f. f home) changed ∙ entry_other w.net.places here home (Some new) ne ∙ e, exports_same m m refl)
+        let m-is : m ≡ old = same_Some m old (sym e ∙ ap w.net.places same ∙ there) in
+        (new, ap v.net.places same ∙ ap (λ f. f here) changed ∙ at_key w.net.places here (Some new), subst (λ k. AreExported k new) (sym m-is) exported)
+    at m e (inr ne) = (m, ap (λ f. f home) changed ∙ off_key w.net.places here home (Some new) ne ∙ e, exports_same m m refl)
 
 -- ---- references
 
@@ -109,8 +111,8 @@ module _ (program : Module) (places : ℕ) (w v : World) (old new : Finish → �
       → Flies program places (posted_to flights to bytes) v new
   flies_more flights to bytes same told h new-one = record {
     rising = rising_push (λ (f : Flight). f.number) 0 flights.flying flights.posted one (omega arith) refl h.rising;
-    each = λ n flight e. each n flight e (same_or_not n flights.posted);
-    none = λ n e. none n e (same_or_not n flights.posted);
+    each = λ n flight e. each n flight e (cases_eq n flights.posted);
+    none = λ n e. none n e (cases_eq n flights.posted);
     unused = λ n le. let ne : n ≢ flights.posted = λ e. omega (arith, le, e) in same n ne ∙ h.unused n (omega (arith, le));
   }
     where
@@ -122,7 +124,7 @@ module _ (program : Module) (places : ℕ) (w v : World) (old new : Finish → �
 
       each : (n : ℕ) (flight : Flight) → flight_of (posted_to flights to bytes) n ≡ Some flight → (n ≡ flights.posted) ⊎ (n ≢ flights.posted) → FliesAsMessage program places v new n flight ⊎ FliesAsReport places v new n flight
       each n flight e (inl at) =
-          let is : one ≡ flight = some_is one flight (sym found ∙ ap (flight_among (flights.flying ++ one ∷ [])) (sym at) ∙ e) in
+          let is : one ≡ flight = same_Some one flight (sym found ∙ ap (flight_among (flights.flying ++ one ∷ [])) (sym at) ∙ e) in
           subst (λ k. FliesAsMessage program places v new k flight ⊎ FliesAsReport places v new k flight) (sym at)
           (subst (λ x. FliesAsMessage program places v new flights.posted x ⊎ FliesAsReport places v new flights.posted x) is new-one)
       each n flight e (inr ne) = either_on n flight (same n ne) (told n ne) (h.each n flight (sym (among_push flights.flying one n (λ x. ne (sym x))) ∙ e))
@@ -136,9 +138,9 @@ module _ (program : Module) (places : ℕ) (w v : World) (old new : Finish → �
       → ((message : Message) → v.net.posts number ≡ Flying message → ⊥) → ((f : Finish) → new f number ≡ None) → Flies program places flights w old → Flies program places (taken_from flights number) v new
   flies_fewer flights number flight is same told gone none-told h = record {
     rising = rising_filter (λ (f : Flight). f.number) _ 0 flights.flying flights.posted h.rising;
-    each = λ n f e. each n f e (same_or_not n number);
-    none = λ n e. none n e (same_or_not n number);
-    unused = λ n le. unused n le (same_or_not n number);
+    each = λ n f e. each n f e (cases_eq n number);
+    none = λ n e. none n e (cases_eq n number);
+    unused = λ n le. unused n le (cases_eq n number);
   }
     where
       each : (n : ℕ) (f : Flight) → flight_of (taken_from flights number) n ≡ Some f → (n ≡ number) ⊎ (n ≢ number) → FliesAsMessage program places v new n f ⊎ FliesAsReport places v new n f

@@ -1,6 +1,8 @@
 -- What an event does to places and frames in flight is an event of each world of the machine for which they stand.
 use Rattle.std.proofs.Common.{◌≡◌, ◌≢◌, ◌⊎◌, ℕ, ◌<◌, Bool, true, false, List, [], length, Option, Some, None, Result, Ok, Err, refl, sym, ap, subst, ◌∙◌, inl, inr}
 use Rattle.std.specs.Prelude.{IfNone, IfSome, slice_get, slice_set}
+use Rattle.std.proofs.lemmas.Option.{same_Some}
+use Rattle.std.proofs.lemmas.List.{length-set}
 use Rattle.slab.specs.Slab.{get}
 use Rattle.x10_kinds.specs.declared.stop.Stop.{Stop}
 use Rattle.x10_kinds.specs.declared.stop.Stop.TheVariants as stop
@@ -11,6 +13,7 @@ use Rattle.x10_model.specs.declared.event.Event.TheVariants.{Step, Deliver}
 use Rattle.x10_model.specs.Places as machine
 use Rattle.x10_model.specs.Places.{Message, Waits, Effect, receiver}
 use Rattle.x10_model.specs.Worlds.{World, Ideal, Happens, Steps, steps, idle, no_place, no_stay, is_away, not_flying}
+use Rattle.x10_model.proofs.Lists.{none_some, set_same}
 use Rattle.x10_verify.specs.Certified.{Certified}
 use Rattle.x10_copy.specs.declared.refusal.Refusal.{Refusal}
 use Rattle.x10_copy.specs.declared.refusal.Refusal.TheVariants as refusal
@@ -29,7 +32,7 @@ use Rattle.x10_world.specs.Prompt.{MayEnd, IsPrompt}
 use Rattle.x10_world.specs.StandsForWorld.{BelongTo, IsWorld, setting_in, far_in, AllStandFor, with_posted, after_step, GoesBelow, IsMade, IsStepped, StepsOne, IsRoomless, IsDeliveryLimit, stop_for_refusal}
 use Rattle.x10_world.specs.Handling.{Handles}
 use Rattle.x10_place.proofs.Knowing.{receiver_is, put_within}
-use Rattle.x10_world.proofs.Lists.{none_some, some_is, set_here, set_same, set_length}
+use Rattle.x10_world.proofs.Lists.{set_here}
 use Rattle.x10_world.proofs.Changing.{ChangesOne, belong_after, none_stopped_after, length_after, few_after}
 use Rattle.x10_world.proofs.Moving.{step_leads}
 use Rattle.x10_world.proofs.Delivering.{delivery_leads}
@@ -275,7 +278,7 @@ module _ (c : Certified) (places : List PlaceState) (flights : FlightsState) (nu
   changes : (Q : PlaceState → PlaceState → Type 0) → Q p q → ChangesOne Q places (slice_set places flight.to q) flight.to
   changes Q h = record {
     gone = λ e. absurd (none_some (slice_get places flight.to) p e there);
-    there = λ r e. (q, refl, subst (λ x. Q x q) (some_is p r (sym there ∙ e)) h);
+    there = λ r e. (q, refl, subst (λ x. Q x q) (same_Some p r (sym there ∙ e)) h);
   }
 
   still_on : false ≢ true
@@ -284,10 +287,10 @@ module _ (c : Certified) (places : List PlaceState) (flights : FlightsState) (nu
   -- its receiver took it in
   pub handles_taken : IsTaken p flight.bytes q → q.stopped ≢ true → Handles c places flights (Deliver number) (Ok (happening.Taken flight.to)) (slice_set places flight.to q) (taken_from flights number)
   handles_taken taken goes = record {
-    count = set_length places flight.to q;
+    count = length-set places flight.to q;
     world = record {
       belong = belong_after c.program c.bounds places (slice_set places flight.to q) flight.to world.belong (changes Keeps kept);
-      places_are = world.places_are ∙ sym (set_length places flight.to q);
+      places_are = world.places_are ∙ sym (length-set places flight.to q);
       none_stopped = λ off. none_stopped_after places (slice_set places flight.to q) flight.to (world.none_stopped still_on) (changes (λ x y. y.stopped ≢ true) goes);
       few = few_after Keeps places (slice_set places flight.to q) flight.to (changes Keeps kept) world.few;
       world = (makes world.world world.stands).0;
@@ -312,10 +315,10 @@ module _ (c : Certified) (places : List PlaceState) (flights : FlightsState) (nu
   -- its receiver refused it
   pub handles_refusal : (why : Refusal) → q ≡ record p { stopped = stops why } → IsRefusedBytes p flight.bytes why → Handles c places flights (Deliver number) (Err (stop_for_refusal why)) (slice_set places flight.to q) flights
   handles_refusal why left refused = record {
-    count = set_length places flight.to q;
+    count = length-set places flight.to q;
     world = record {
       belong = belong_after c.program c.bounds places (slice_set places flight.to q) flight.to world.belong (changes Keeps kept);
-      places_are = world.places_are ∙ sym (set_length places flight.to q);
+      places_are = world.places_are ∙ sym (length-set places flight.to q);
       none_stopped = λ off. absurd (off refl);
       few = few_after Keeps places (slice_set places flight.to q) flight.to (changes Keeps kept) world.few;
       world = world.world;

@@ -17,9 +17,9 @@ use Rattle.x10_model.specs.Deliveries.{FitsResultAt}
 use Rattle.x10_model.specs.Worlds.{Post, Flying, Taken, Net, posts_after}
 use Rattle.x10_model.proofs.Decided.{get_below}
 use Rattle.x10_model.proofs.Events.{flying_is}
+use Rattle.x10_model.proofs.Maps.{at_key, off_key}
 use Rattle.x10_finish.specs.Nesting.{Stays, stays_of}
-use Rattle.x10_finish.proofs.Counting.{entry_same, entry_other}
-use Rattle.x10_finish.proofs.Nesting.{at_stay, pair_other}
+use Rattle.x10_finish.proofs.Nesting.{at_pair, pair_other}
 use Rattle.x10_world.specs.Links.{first_function_of, first_function, WaitsAt, FitsReceiver, AreAnswered}
 
 -- ---- the first function
@@ -92,7 +92,7 @@ pub stays_on : (program : Module) (stays : Stays) (here key : ℕ) (o : Option S
     → StaysAnswered program stays → StaysAnswered program (with_pair stays here key o)
 stays_on program stays here key o none own all p k s x there back =
     waits_on program stays here key x.place x.key p (first_function s) o none
-    (at_stay (λ y. y ≡ Some s → WaitsAt program stays x.place x.key p (first_function s)) stays here key p k o
+    (at_pair (λ y. y ≡ Some s → WaitsAt program stays x.place x.key p (first_function s)) stays here key p k o
     (λ ep ek is. subst (λ q. WaitsAt program stays x.place x.key q (first_function s)) (sym ep) (own s x is back)) (λ apart is. all p k s x is back) there)
 
 -- where the stay is not away
@@ -113,14 +113,14 @@ FitsIfAny setting stays (Some message) = FitsReceiver setting stays message
 pub posts_sent : (setting : Setting) (stays : Stays) (posts : ℕ → Post) (number : ℕ) (sent : Option Message) → FitsIfAny setting stays sent → PostsFit setting stays posts → PostsFit setting stays (posts_after posts number sent)
 posts_sent setting stays posts number None fits all m other flies = all m other flies
 posts_sent setting stays posts number (Some message) fits all m other flies = elim (cases_eq m number) [
-  | inl e ↦ subst (FitsReceiver setting stays) (flying_is message other (sym (ap (with_entry posts number (Flying message)) e ∙ entry_same posts number (Flying message)) ∙ flies)) fits
-  | inr apart ↦ all m other (sym (entry_other posts number m (Flying message) apart) ∙ flies)
+  | inl e ↦ subst (FitsReceiver setting stays) (flying_is message other (sym (ap (with_entry posts number (Flying message)) e ∙ at_key posts number (Flying message)) ∙ flies)) fits
+  | inr apart ↦ all m other (sym (off_key posts number m (Flying message) apart) ∙ flies)
 ]
 
 pub taken_apart : (posts : ℕ → Post) (number m : ℕ) (message : Message) → with_entry posts number Taken m ≡ Flying message → (m ≡ number → ⊥) × (posts m ≡ Flying message)
 taken_apart posts number m message flies = elim (cases_eq m number) [
-  | inl e ↦ absurd (let x = sym (ap (with_entry posts number Taken) e ∙ entry_same posts number Taken) ∙ flies in cc)
-  | inr apart ↦ (apart, sym (entry_other posts number m Taken apart) ∙ flies)
+  | inl e ↦ absurd (let x = sym (ap (with_entry posts number Taken) e ∙ at_key posts number Taken) ∙ flies in cc)
+  | inr apart ↦ (apart, sym (off_key posts number m Taken apart) ∙ flies)
 ]
 
 -- ---- kinds of what is captured

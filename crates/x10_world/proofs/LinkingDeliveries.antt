@@ -14,7 +14,7 @@ use Rattle.x10_finish.specs.Nesting.{stays_in, Stays, stays_of}
 use Rattle.x10_finish.specs.Chains.{Name, IsAmong, IsChain, Carries}
 use Rattle.x10_finish.specs.Closing.{chains_of, unders_of, IsSound}
 use Rattle.x10_finish.proofs.Counting.{at_entry}
-use Rattle.x10_finish.proofs.Nesting.{at_stay, no_stay}
+use Rattle.x10_finish.proofs.Nesting.{at_pair, no_stay}
 use Rattle.x10_finish.proofs.Sound.{stays_after, net_with}
 use Rattle.x10_world.specs.Links.{first_function, WaitsAt, AreAnswered, AnsweredAtOpening, AnsweredAfterDelivery}
 use Rattle.x10_world.proofs.Linking.{same_first, answered_as, waits_apart, IsAwaitedAt, fits_apart, posts_on, stays_on, free_not_waiting, taken_apart}
@@ -103,7 +103,7 @@ resumes_answered : (setting : Setting) (net : Net) (book : Book) (here key numbe
     → stays_of net here key ≡ Some s → chains_of book (book.carries number) ≡ (here, key) ∷ rest → new.stays ≡ with_entry old.stays key (Some t) → t.back ≡ s.back → first_function t ≡ first_function s → AreAnswered setting (net_with net here new number)
 resumes_answered setting net book here key number message old new s t rest i answered e flies there first stays_are back_is function_is =
     answered_as setting (net_with net here new number) (with_pair (stays_of net) here key (Some t)) (stays_after net here key old new (Some t) e stays_are)
-    (λ p k u x is back. at_stay (λ y. y ≡ Some u → WaitsAt setting.program (with_pair (stays_of net) here key (Some t)) x.place x.key p (first_function u)) (stays_of net) here key p k (Some t)
+    (λ p k u x is back. at_pair (λ y. y ≡ Some u → WaitsAt setting.program (with_pair (stays_of net) here key (Some t)) x.place x.key p (first_function u)) (stays_of net) here key p k (Some t)
     (λ ep ek same. own p k u x ep ek (same_Some t u same) back) (λ apart same. kept p k u x same back) is)
     (λ m other flies_too. (let was = taken_apart net.posts number m other flies_too in
     fits_apart setting (stays_of net) here key (Some t) other (others_apart net book here key number m message other rest i flies first was.0 was.1) (answered.posts m other was.1)))

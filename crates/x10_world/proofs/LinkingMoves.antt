@@ -15,8 +15,8 @@ use Rattle.x10_model.specs.Places.{Setting, Finish, CallFrame, Origin, Stay, Mes
 use Rattle.x10_model.specs.Moves.{Situation, Passes, GivesBack, SendsBack, Returns, LeavesFinish, ContinuesAt, new_stay, resumed, entry_frame, is_zero, quotient, remainder, joined_text, rail_length, byte_at, byte_value, place_number, MakesRail, SetsByte, writes_or_goes, next_or_goes, Does}
 use Rattle.x10_model.specs.Deliveries.{FitsFunctionAt}
 use Rattle.x10_model.specs.Worlds.{Net, sent, net_after}
+use Rattle.x10_model.proofs.Maps.{at_key}
 use Rattle.x10_finish.specs.Nesting.{stays_in, Stays, stays_of}
-use Rattle.x10_finish.proofs.Counting.{entry_same}
 use Rattle.x10_finish.proofs.Nesting.{pair_same, no_stay}
 use Rattle.x10_finish.proofs.Sound.{entry_self, stays_after, overwritten, free_after}
 use Rattle.x10_world.specs.Links.{first_function_of, first_function, WaitsAt, AreAnswered, AnsweredAfterMove}
@@ -83,7 +83,7 @@ after_two net number other function under s o new t u at stays kept free alone =
     stays_are : (λ p. stays_in (with_entry net.places s.here (Some new) p)) ≡ with_pair (stays_of between) s.here other (Some u)
     stays_are =
         let stays_at : (ℕ → Option places.Place) → Stays = λ f p. stays_in (f p) in
-        ap stays_at (sym (overwritten net.places s.here (Some middle) (Some new))) ∙ stays_after between s.here other middle new (Some u) (entry_same net.places s.here (Some middle)) stays
+        ap stays_at (sym (overwritten net.places s.here (Some middle) (Some new))) ∙ stays_after between s.here other middle new (Some u) (at_key net.places s.here (Some middle)) stays
 
     open_key : stays_of between s.here other ≡ None
     open_key =

@@ -1,6 +1,9 @@
 -- A step of one place of a list is a move of each world for which the places and the frames in flight stand.
 use Rattle.std.proofs.Common.{◌≡◌, ℕ, ◌<◌, false, List, length, Option, Some, None, Ok, refl, sym, ap, subst, ◌∙◌, inl, inr, arith}
 use Rattle.std.specs.Prelude.{slice_get, slice_set, map}
+use Rattle.std.proofs.lemmas.Bool.{cases_eq}
+use Rattle.std.proofs.lemmas.Option.{slice_get_within}
+use Rattle.std.proofs.lemmas.List.{length-set}
 use Rattle.x10_model.specs.Modules.{Module}
 use Rattle.x10_model.specs.Structure.{bounds_of}
 use Rattle.x10_model.specs.Places as machine
@@ -8,13 +11,14 @@ use Rattle.x10_model.specs.Places.{Setting, Finish, Effect, Waits, Works, Begins
 use Rattle.x10_model.specs.Moves.{Moves}
 use Rattle.x10_model.specs.Totals.{IsDoneAt, Did, totals_after, is_reported, reported}
 use Rattle.x10_model.specs.Worlds.{World, Allows, Quiet, Ideal, Steps, sent}
+use Rattle.x10_model.proofs.Lists.{none_some, set_off}
+use Rattle.x10_model.proofs.Maps.{at_key, off_key}
 use Rattle.x10_heap.specs.Words.{export_as}
 use Rattle.x10_finish.specs.Detection.{Told, told_of}
 use Rattle.x10_finish.specs.Ledgers.{totals_of}
 use Rattle.x10_finish.specs.Nesting.{stays_of, nth, IsHeld}
 use Rattle.x10_finish.specs.Stays.{MovesStay}
 use Rattle.x10_finish.specs.Watching.{WorldCounts, counting_of, IsWatched, closes, IsMoved, ClosesDone, world_after}
-use Rattle.x10_finish.proofs.Counting.{entry_same, entry_other}
 use Rattle.x10_finish.proofs.Sound.{there_in}
 use Rattle.x10_finish.proofs.Stays.{stays_change}
 use Rattle.x10_finish.proofs.Telling.{done_is_quiet}
@@ -37,7 +41,7 @@ use Rattle.x10_world.proofs.FlightsLookups.{among_none}
 use Rattle.x10_world.proofs.Flying.{far_after}
 use Rattle.x10_place.proofs.Knowing.{IsKnown, far_grows}
 use Rattle.x10_world.proofs.LinkingMoves.{answered_after_move}
-use Rattle.x10_world.proofs.Lists.{none_some, same_or_not, below, set_here, set_off, set_length, set_either}
+use Rattle.x10_world.proofs.Lists.{set_here, set_either}
 use Rattle.x10_world.proofs.Posting.{named_in, goes_to, message_posted, retold, none_reported, one_reported}
 
 -- ---- what a home may conclude
@@ -80,7 +84,7 @@ module _ (places : List PlaceState) (told : Finish → ℕ → Option Told) (rep
   moved f other = record {
     here_is = ap (λ o. totals_at o f) (set_here places here q p is) ∙ c.totals f (open_here f other) ∙ sym (ap (λ o. totals_after f (totals_at o f) (Did effect)) is);
     others = λ r ne. ap (λ o. totals_at o f) (set_off places here r q ne);
-    kept = elim (same_or_not f.home here) [
+    kept = elim (cases_eq f.home here) [
       | inl same ↦ kept_here f other same
       | inr ne ↦ ap (λ o. kept_at o f.number) (set_off places here f.home q ne)
     ];
@@ -155,7 +159,7 @@ module _ (program : Module) (bounds : List ℕ) (places : List PlaceState) (flig
         o (store_of p) f r (sym (due_is f) ∙ due) belongs.places_are (told_same f o r) flies_first
 
     watched : IsWatched (length places) after (counts_in (slice_set places here q) told_then)
-    watched = (moves_are_watched (setting_in program places) w (counts_in places stand.told) (counts_in (slice_set places here q) told_then) here key flights.posted report m new effect stand.watched there moves (stand.flies.unused flights.posted (omega arith)) (below places here p is)
+    watched = (moves_are_watched (setting_in program places) w (counts_in places stand.told) (counts_in (slice_set places here q) told_then) here key flights.posted report m new effect stand.watched there moves (stand.flies.unused flights.posted (omega arith)) (slice_get_within places here p is)
         (goes_to (length places) p (far_in w) p.program out.message (sent effect) belongs.places_are puts.message)
         (λ f. (flies_first.none report (among_none 0 (with_posted flights out.message).flying report report flies_first.rising (omega arith))).1 f)
         (moved places stand.told report here p q effect is belongs.id_is c) (closes_done places stand.told here p q effect is belongs.id_is belongs.places_are c)).1
@@ -164,21 +168,21 @@ module _ (program : Module) (bounds : List ℕ) (places : List PlaceState) (flig
     allowed =
         let stay = stays_change (setting_in program places) here key m new effect moves in
         allowed_ideal w here key m new effect stand.watched.sound there stay
-        (quiet_allowed (length places) w (counts_in places stand.told) here key m new effect stand.watched there stay (below places here p is) (closes_done places stand.told here p q effect is belongs.id_is belongs.places_are c))
+        (quiet_allowed (length places) w (counts_in places stand.told) here key m new effect stand.watched there stay (slice_get_within places here p is) (closes_done places stand.told here p q effect is belongs.id_is belongs.places_are c))
 
     abbrev steps_on : Steps Ideal (setting_in program places) w here key after
     steps_on = record { old = m; new = new; effect = effect; number = flights.posted; place_is = there; moves = moves; allowed = allowed; unused = stand.flies.unused flights.posted (omega arith); net_is = refl; book_is = refl }
 
     some_after : (id : ℕ) (r : PlaceState) → slice_get (slice_set places here q) id ≡ Some r → (o : machine.Place) × (after.net.places id ≡ Some o) × StandsFor (far_in after) r o
     some_after id r e = elim (set_either places here id q r p is e) [
-      | inl at ↦ (new, ap after.net.places at.0 ∙ entry_same w.net.places here (Some new), subst (λ t. StandsFor (far_in after) t new) at.1 (far_grows (far_in w) (far_in after) q new known stands))
-      | inr off ↦ let old = stand.some id r off.1 in (old.0, entry_other w.net.places here id (Some new) off.0 ∙ old.1, far_grows (far_in w) (far_in after) r old.0 known old.2)
+      | inl at ↦ (new, ap after.net.places at.0 ∙ at_key w.net.places here (Some new), subst (λ t. StandsFor (far_in after) t new) at.1 (far_grows (far_in w) (far_in after) q new known stands))
+      | inr off ↦ let old = stand.some id r off.1 in (old.0, off_key w.net.places here id (Some new) off.0 ∙ old.1, far_grows (far_in w) (far_in after) r old.0 known old.2)
     ]
 
     none_after : (id : ℕ) → slice_get (slice_set places here q) id ≡ None → after.net.places id ≡ None
-    none_after id e = elim (same_or_not id here) [
+    none_after id e = elim (cases_eq id here) [
       | inl same ↦ absurd (none_some (slice_get (slice_set places here q) id) q e (ap (λ i. slice_get (slice_set places here q) i) same ∙ set_here places here q p is))
-      | inr ne ↦ entry_other w.net.places here id (Some new) ne ∙ stand.none id (sym (set_off places here id q ne) ∙ e)
+      | inr ne ↦ off_key w.net.places here id (Some new) ne ∙ stand.none id (sym (set_off places here id q ne) ∙ e)
     ]
 
     stand_after : AllStandFor program bounds (slice_set places here q) (with_sent flights out) after
@@ -186,10 +190,10 @@ module _ (program : Module) (bounds : List ℕ) (places : List PlaceState) (flig
       some = some_after;
       none = none_after;
       told = told_then;
-      watched = subst (λ n. IsWatched n after (counts_in (slice_set places here q) told_then)) (sym (set_length places here q)) watched;
-      answered = subst (λ n. AreAnswered (record { program = program; places = n }) after.net) (sym (set_length places here q)) (answered_after_move (setting_in program places) w.net here key flights.posted m new effect stand.answered there moves);
+      watched = subst (λ n. IsWatched n after (counts_in (slice_set places here q) told_then)) (sym (length-set places here q)) watched;
+      answered = subst (λ n. AreAnswered (record { program = program; places = n }) after.net) (sym (length-set places here q)) (answered_after_move (setting_in program places) w.net here key flights.posted m new effect stand.answered there moves);
       budget = budget_after_move (setting_in program places) bounds w here key flights.posted m new effect bounds-are stand.watched.sound stand.budget there moves;
-      flies = subst (λ n. Flies program n (with_sent flights out) after told_then) (sym (set_length places here q)) (flies_with out.report puts.report);
+      flies = subst (λ n. Flies program n (with_sent flights out) after told_then) (sym (length-set places here q)) (flies_with out.report puts.report);
     }
 
   waits_put : (effect : Effect) (number : ℕ) → effect ≡ Waits number → PutsOut p.program (context_of (far_in w) p) (store_of p) effect no_sent

@@ -1,19 +1,20 @@
 -- A step of one place of a list.
 use Rattle.std.proofs.Common.{◌≡◌, ◌≢◌, ℕ, ◌≤◌, true, false, List, length, Some, Result, Ok, Err, refl, sym, ap, subst, ◌∙◌}
 use Rattle.std.specs.Prelude.{IfOk, IfErr, slice_get, slice_set}
+use Rattle.std.proofs.lemmas.Option.{same_Some, slice_get_past}
 use Rattle.slab.specs.Slab.{get}
 use Rattle.x10_kinds.specs.declared.stop.Stop.{Stop}
 use Rattle.x10_kinds.specs.declared.stop.Stop.TheVariants as stop
+use Rattle.x10_model.proofs.Lists.{none_some}
 use Rattle.x10_place.specs.declared.place.Stepped.{Stepped}
 use Rattle.x10_place.specs.declared.place.Stepped.TheVariants as stepped
 use Rattle.x10_place.specs.Stays.{StayState}
 use Rattle.x10_place.specs.StandsFor.{PlaceState, LeadsAll, Keeps, IsIdleAt, IsHindered}
 use Rattle.x10_world.specs.StandsForWorld.{IsStepped, StepsOne}
-use Rattle.x10_world.proofs.Lists.{none_some, some_is, past_none}
 
 -- no such place
 pub none_there : (old : List PlaceState) (id key : ℕ) → length old ≤ id → StepsOne old old id key (Ok stepped.Idle)
-none_there old id key le = record { gone = λ e. (refl, refl); there = λ p e. absurd (none_some (slice_get old id) p (past_none old id le) e) }
+none_there old id key le = record { gone = λ e. (refl, refl); there = λ p e. absurd (none_some (slice_get old id) p (slice_get_past old id le) e) }
 
 refused_not : (answer : Stepped) (why : Stop) → Ok answer ≡ Err why → ⊥
 refused_not answer why e = absurd cc
@@ -42,5 +43,5 @@ stepped_is p q key (Err why) a = record { kept = a.kept; made = tt; hindered = a
 pub one_there : (old : List PlaceState) (id key : ℕ) (p q : PlaceState) (result : Result Stepped Stop) → slice_get old id ≡ Some p → Answered p q key result → StepsOne old (slice_set old id q) id key result
 one_there old id key p q result is answered = record {
   gone = λ e. absurd (none_some (slice_get old id) p e is);
-  there = λ r e. (q, refl, subst (λ x. IsStepped x q key result) (some_is p r (sym is ∙ e)) (stepped_is p q key result answered));
+  there = λ r e. (q, refl, subst (λ x. IsStepped x q key result) (same_Some p r (sym is ∙ e)) (stepped_is p q key result answered));
 }

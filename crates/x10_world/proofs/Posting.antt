@@ -10,11 +10,11 @@ use Rattle.x10_model.specs.Places.{Finish, Message, Effect, Waits, Works, Begins
 use Rattle.x10_model.specs.Totals.{Totals, Did, is_reported, reported}
 use Rattle.x10_model.specs.Worlds.{World, Flying, posts_after, same_finish}
 use Rattle.x10_model.specs.Wrong.{graph_of}
+use Rattle.x10_model.proofs.Maps.{at_key, off_key}
 use Rattle.x10_heap.specs.Words.{export_as, has_class, is_named}
 use Rattle.x10_copy.proofs.Telling.{named_tells}
 use Rattle.x10_finish.specs.Detection.{Told}
 use Rattle.x10_finish.specs.Telling.{GoesTo}
-use Rattle.x10_finish.proofs.Counting.{entry_same, entry_other}
 use Rattle.x10_finish.proofs.Ledgers.{same_is}
 use Rattle.x10_place.specs.declared.sent.Outgoing.{Outgoing}
 use Rattle.x10_place.specs.Messages.{Carries, CarriesReport, SendsMessage, IsReportSent}
@@ -56,9 +56,9 @@ pub message_posted : (program : Module) (places : ℕ) (flights : FlightsState) 
 message_posted program places flights w v p told None sent known named places-are program-is posts sends h =
     flies_on program places w v told told known flights (λ n. ap (λ f. f n) posts ∙ ap (λ o. posts_after w.net.posts flights.posted o n) sends) (λ n f. refl) h
 message_posted program places flights w v p told (Some o) sent known named places-are program-is posts sends h =
-    flies_more program places w v told told known flights o.to o.bytes.items (λ n ne. at n ∙ entry_other w.net.posts flights.posted n (Flying message) ne) (λ n ne f. refl) h (inl (record {
+    flies_more program places w v told told known flights o.to o.bytes.items (λ n ne. at n ∙ off_key w.net.posts flights.posted n (Flying message) ne) (λ n ne f. refl) h (inl (record {
       message = message;
-      flying = at flights.posted ∙ entry_same w.net.posts flights.posted (Flying message);
+      flying = at flights.posted ∙ at_key w.net.posts flights.posted (Flying message);
       to_is = sends.2.to_is;
       carries = subst (λ m. Carries m places o.bytes.items message) program-is (subst (λ n. Carries p.program n o.bytes.items message) places-are sends.2.carries);
       named = references_on (λ home id class. IsTrue (is_named (context_of (far_in w) p) home id class)) (λ home id class. IsTrue (far_in v home id class)) (λ home id class x. known home id class (named home id class x)) (graph_of message) sends.2.named;
@@ -86,7 +86,7 @@ due_at true x y e = refl
 due_at false x y e = absurd cc
 
 due_off : (b : Bool) (told : ℕ → Option Told) (number n : ℕ) (t : Told) → n ≢ number → (if b then with_entry told number (Some t) else told) n ≡ told n
-due_off true told number n t ne = entry_other told number n (Some t) ne
+due_off true told number n t ne = off_key told number n (Some t) ne
 due_off false told number n t ne = refl
 
 both_left : (a b : Bool) → (a && b) ≡ true → a ≡ true
@@ -126,7 +126,7 @@ module _ (program : Module) (places : ℕ) (flights : FlightsState) (v : World) 
         report = r.report;
         unused = h.unused flights.posted (omega arith);
         carries = subst (λ k. CarriesReport places o.bytes.items k r.report) (sym r.to_is) (subst (λ n. CarriesReport n o.bytes.items f.home r.report) places-are r.carries);
-        told_is = ap (λ g. then_told g flights.posted) same ∙ ap (λ g. g flights.posted) (due_at (due f) (with_entry (told f) flights.posted (Some (is f))) (told f) d) ∙ entry_same (told f) flights.posted (Some (is f)) ∙ ap (λ t. Some t) is-it;
+        told_is = ap (λ g. then_told g flights.posted) same ∙ ap (λ g. g flights.posted) (due_at (due f) (with_entry (told f) flights.posted (Some (is f))) (told f) d) ∙ at_key (told f) flights.posted (Some (is f)) ∙ ap (λ t. Some t) is-it;
         others = λ g ne. others g ne (cases_Bool (due g));
       }))
     where

@@ -2,6 +2,7 @@
 -- there.
 use Rattle.std.proofs.Common.{◌≡◌, ◌⊎◌, ℕ, ◌<◌, ◌≤◌, ◌^◌, List, length, Option, Some, None, Ok, refl, sym, ap, subst, ◌∙◌, inl, inr, arith}
 use Rattle.std.specs.Prelude.{slice_get}
+use Rattle.std.proofs.lemmas.Option.{same_Some}
 use Rattle.x10_model.specs.declared.slot.Slot.{Slot}
 use Rattle.x10_model.specs.Modules.{Module}
 use Rattle.x10_model.specs.Places as machine
@@ -15,6 +16,7 @@ use Rattle.x10_model.specs.Deliveries.{FitsClasses}
 use Rattle.x10_model.specs.Worlds.{World}
 use Rattle.x10_model.specs.Wrong as wrong
 use Rattle.x10_model.proofs.FrameLaws.{frame_again}
+use Rattle.x10_model.proofs.Lists.{none_some}
 use Rattle.x10_frame.specs.Heads.{graph_of}
 use Rattle.x10_frame.specs.Faults.{named, IsFault}
 use Rattle.x10_heap.specs.Heaps.{HeapState}
@@ -33,7 +35,6 @@ use Rattle.x10_world.specs.Links.{AreAnswered}
 use Rattle.x10_world.specs.StandsForWorld.{BelongsTo, BelongTo, far_in, FliesAsMessage, FliesAsReport, AllStandFor, IsDeliveryLimit, NoneIsRefused}
 use Rattle.x10_world.proofs.Delivering.{held_book}
 use Rattle.x10_world.proofs.Fitting.{IsFor, spawn_fits, shift_fits, awaited, back_fits}
-use Rattle.x10_world.proofs.Lists.{none_some, some_is}
 
 -- for want of memory or at a limit
 abbrev IsForRoom : Refusal → Type 0
@@ -109,7 +110,7 @@ module _ (w : World) (p : PlaceState) (m : machine.Place) (there : w.net.places 
   message_right : (f : Frame) (message : Message) → message_of f ≡ Some message → IsFor w p message → IsRight p f
   message_right (frames.Spawn from to home number function g) message e i =
       let under : Finish = record { home = home; number = number } in
-      let h = subst (IsFor w p) (sym (some_is (machine.Spawn from to under function (snapshot_of g)) message e)) i in
+      let h = subst (IsFor w p) (sym (same_Some (machine.Spawn from to under function (snapshot_of g)) message e)) i in
       record {
         to_is = h.to_is;
         seated = λ why lacks. lacks.1 (seat_at p.id h.fits.0.parameters) (h.fits.0, h.fits.1.callee_is, h.fits.2, refl);
@@ -119,7 +120,7 @@ module _ (w : World) (p : PlaceState) (m : machine.Place) (there : w.net.places 
       }
   message_right (frames.Shift from to waiting home number function g) message e i =
       let under : Finish = record { home = home; number = number } in
-      let h = subst (IsFor w p) (sym (some_is (machine.Shift from to waiting under function (snapshot_of g)) message e)) i in
+      let h = subst (IsFor w p) (sym (same_Some (machine.Shift from to waiting under function (snapshot_of g)) message e)) i in
       record {
         to_is = h.to_is;
         seated = λ why lacks. lacks.1 (seat_at p.id h.fits.0.parameters) (h.fits.0, h.fits.1.callee_is, refl);
@@ -128,7 +129,7 @@ module _ (w : World) (p : PlaceState) (m : machine.Place) (there : w.net.places 
         not_unopened = λ u. u;
       }
   message_right (frames.Back from to waiting g) message e i =
-      let h = subst (IsFor w p) (sym (some_is (machine.Back from to waiting (snapshot_of g)) message e)) i in
+      let h = subst (IsFor w p) (sym (same_Some (machine.Back from to waiting (snapshot_of g)) message e)) i in
       record {
         to_is = h.to_is;
         seated = λ why lacks. lacks.1 (seat_at from (slots_of h.fits.1.result)) (slots_of h.fits.1.result, awaited w p m there old from to waiting (snapshot_of g) h, refl);

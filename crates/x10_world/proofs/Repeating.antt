@@ -1,12 +1,15 @@
 -- Steps of one activity at a stretch are runs of each world of the machine that the world stands for.
 use Rattle.std.proofs.Common.{◌≡◌, ◌≢◌, ◌⊎◌, ◌↔◌, ℕ, ◌+◌, ◌^◌, ◌<◌, ◌≤◌, true, false, List, [], length, replicate, Option, Some, None, Result, Ok, Err, refl, sym, ap, subst, ◌∙◌, inl, inr, arith}
 use Rattle.std.specs.Prelude.{⊤, slice_get, slice_set}
+use Rattle.std.proofs.lemmas.Option.{same_Some, slice_get_past}
+use Rattle.std.proofs.lemmas.List.{length-set}
 use Rattle.x10_kinds.specs.declared.stop.Stop.{Stop}
 use Rattle.x10_kinds.specs.declared.stop.Stop.TheVariants as stop
 use Rattle.x10_model.specs.Modules.{Module}
 use Rattle.x10_model.specs.Structure.{bounds_of}
 use Rattle.x10_model.specs.declared.event.Event.TheVariants.{Step}
 use Rattle.x10_model.specs.Worlds.{World, Ideal, steps, Run, done, WithinBounds}
+use Rattle.x10_model.proofs.Lists.{none_some, set_same}
 use Rattle.x10_place.specs.declared.place.Stepped.TheVariants as stepped
 use Rattle.x10_place.specs.declared.sent.Outgoing.{Outgoing}
 use Rattle.x10_place.specs.declared.sent.Sent.{Sent}
@@ -20,7 +23,7 @@ use Rattle.x10_world.specs.Flights.{FlightsState, with_room}
 use Rattle.x10_world.specs.Prompt.{MayEnd, WorksIn}
 use Rattle.x10_world.specs.StandsForWorld.{WorldState, world_of, BelongTo, IsWorld, setting_in, far_in, AllStandFor, StandsForWorld, with_posted, with_sent, GoesBelow, IsRunOn, RunsOne, MovesOn, MovesOnce, at_rest, moves_on, IsIdleNow, BeganLast, IsRoomless}
 use Rattle.x10_world.specs.Handling.{Stretches}
-use Rattle.x10_world.proofs.Lists.{none_some, some_is, past_none, set_here, set_same, set_again, set_length, replicate_more}
+use Rattle.x10_world.proofs.Lists.{set_here, set_again, replicate_more}
 use Rattle.x10_world.proofs.BudgetRuns.{budget_bounds}
 use Rattle.x10_world.proofs.Moving.{step_leads}
 use Rattle.x10_place.proofs.Striding.{stopped_hindered}
@@ -50,7 +53,7 @@ module _ (program : Module) (bounds : List ℕ) (places : List PlaceState) (flig
   stride_makes q r out v kept stride stand =
       let made = step_leads program bounds (slice_set places here q) flights v here key q r (stepped.Moved out) bounds-are (belong_set program bounds places here p q is kept belong) stand (set_here places here q p is) stride.leads in (
         made.0,
-        subst (λ n. MovesOnce (record { program = program; places = n }) v here key made.0) (set_length places here q) (record { steps = made.1; goes = made.2.0 }),
+        subst (λ n. MovesOnce (record { program = program; places = n }) v here key made.0) (length-set places here q) (record { steps = made.1; goes = made.2.0 }),
         subst (λ ps. AllStandFor program bounds ps (with_sent flights out) made.0) (set_again places here q r) made.3,
       )
 
@@ -191,7 +194,7 @@ module _ (c : Certified) (places new : List PlaceState) (flights : FlightsState)
           let t = one.there p there in
           let at : slice_get new id ≡ Some t.0 = ap (λ ps. slice_get ps id) t.1 ∙ set_here places id t.0 p there in
           elim (t.2.all less) [
-            | inl idle ↦ inl (λ q e. subst (λ (r : PlaceState). IsIdleAt r key) (some_is t.0 q (sym at ∙ e)) idle)
+            | inl idle ↦ inl (λ q e. subst (λ (r : PlaceState). IsIdleAt r key) (same_Some t.0 q (sym at ∙ e)) idle)
             | inr last ↦ elim last [
               | inl begins ↦ inr (inl (record { old = p; new = t.0; old_is = there; new_is = at; begins = begins }))
               | inr sends ↦ inr (inr (subst (λ (g : FlightsState). flights.posted < g.posted) (sym same) (posted_more roomy out sends)))
@@ -266,13 +269,13 @@ run_waits y place key number X belong still (inl idle) w stand works may = at_pl
 
 -- no such place
 pub no_run : (old : List PlaceState) (id key most : ℕ) → length old ≤ id → RunsOne old old id key most 0 (Ok no_sent)
-no_run old id key most le = record { gone = λ e. (refl, refl, refl); there = λ p e. absurd (none_some (slice_get old id) p (past_none old id le) e) }
+no_run old id key most le = record { gone = λ e. (refl, refl, refl); there = λ p e. absurd (none_some (slice_get old id) p (slice_get_past old id le) e) }
 
 -- the place has made its steps
 pub one_run : (old : List PlaceState) (id key most n : ℕ) (result : Result Sent Stop) (p q : PlaceState) → slice_get old id ≡ Some p → IsRunOn p q key most n result → RunsOne old (slice_set old id q) id key most n result
 one_run old id key most n result p q is run = record {
   gone = λ e. absurd (none_some (slice_get old id) p e is);
-  there = λ r e. (q, refl, subst (λ x. IsRunOn x q key most n result) (some_is p r (sym is ∙ e)) run);
+  there = λ r e. (q, refl, subst (λ x. IsRunOn x q key most n result) (same_Some p r (sym is ∙ e)) run);
 }
 
 -- why there was no room

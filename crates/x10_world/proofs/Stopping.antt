@@ -2,17 +2,20 @@
 use Rattle.std.proofs.Common.{◌≡◌, ℕ, Bool, true, List, length, Option, Some, refl, sym, ap, subst, ◌∙◌, inl, inr}
 use Rattle.std.specs.Prelude.{slice_get, slice_set}
 use Rattle.std.proofs.Math.Path.{fun_ext}
+use Rattle.std.proofs.lemmas.Bool.{cases_eq}
+use Rattle.std.proofs.lemmas.List.{length-set}
 use Rattle.x10_model.specs.Modules.{Module}
 use Rattle.x10_model.specs.Places as machine
 use Rattle.x10_model.specs.Places.{Finish}
 use Rattle.x10_model.specs.Worlds.{World}
+use Rattle.x10_model.proofs.Lists.{none_some, set_off}
 use Rattle.x10_finish.specs.Detection.{Told}
 use Rattle.x10_finish.specs.Watching.{IsWatched}
 use Rattle.x10_place.specs.StandsFor.{PlaceState, Far, StandsFor}
 use Rattle.x10_world.specs.Flights.{FlightsState, with_room}
 use Rattle.x10_world.specs.Links.{AreAnswered}
 use Rattle.x10_world.specs.StandsForWorld.{totals_at, kept_at, counts_in, far_in, Flies, AllStandFor}
-use Rattle.x10_world.proofs.Lists.{none_some, same_or_not, set_here, set_off, set_length, set_either}
+use Rattle.x10_world.proofs.Lists.{set_here, set_either}
 
 stopped_stands : (far : Far) (p : PlaceState) (m : machine.Place) (b : Bool) → StandsFor far p m → StandsFor far (record p { stopped = b }) m
 stopped_stands far p m b s = record { assigned = s.assigned; none = s.none; keys = s.keys; some = s.some; site = s.site; heap = s.heap; exports = s.exports; opened = s.opened; lines = s.lines; tallied = s.tallied; booked = s.booked }
@@ -23,7 +26,7 @@ module _ (places : List PlaceState) (here : ℕ) (p : PlaceState) (is : slice_ge
   after_stop = slice_set places here (record p { stopped = true })
 
   stopped_same : {X : Type 0} (part : Option PlaceState → X) → part (Some (record p { stopped = true })) ≡ part (Some p) → (id : ℕ) → part (slice_get after_stop id) ≡ part (slice_get places id)
-  stopped_same part same id = elim (same_or_not id here) [
+  stopped_same part same id = elim (cases_eq id here) [
     | inl e ↦ ap (λ i. part (slice_get after_stop i)) e ∙ ap part (set_here places here (record p { stopped = true }) p is) ∙ same ∙ sym (ap part (ap (slice_get places) e ∙ is))
     | inr ne ↦ ap part (set_off places here id (record p { stopped = true }) ne)
   ]
@@ -38,7 +41,7 @@ module _ (places : List PlaceState) (here : ℕ) (p : PlaceState) (is : slice_ge
 pub stand_stopped : (program : Module) (bounds : List ℕ) (places : List PlaceState) (flights : FlightsState) (here : ℕ) (p : PlaceState) (w : World) → slice_get places here ≡ Some p → AllStandFor program bounds places flights w → AllStandFor program bounds (slice_set places here (record p { stopped = true })) flights w
 stand_stopped program bounds places flights here p w is stand = record {
   some = some;
-  none = λ id e. elim (same_or_not id here) [
+  none = λ id e. elim (cases_eq id here) [
     | inl same ↦ absurd (none_some (slice_get (after_stop places here p is) id) (record p { stopped = true }) e (ap (λ i. slice_get (after_stop places here p is) i) same ∙ set_here places here (record p { stopped = true }) p is))
     | inr ne ↦ stand.none id (sym (set_off places here id (record p { stopped = true }) ne) ∙ e)
   ];
@@ -50,7 +53,7 @@ stand_stopped program bounds places flights here p w is stand = record {
 }
   where
     long : length (slice_set places here (record p { stopped = true })) ≡ length places
-    long = set_length places here (record p { stopped = true })
+    long = length-set places here (record p { stopped = true })
 
     some : (id : ℕ) (r : PlaceState) → slice_get (slice_set places here (record p { stopped = true })) id ≡ Some r → (m : machine.Place) × (w.net.places id ≡ Some m) × StandsFor (far_in w) r m
     some id r e = elim (set_either places here id (record p { stopped = true }) r p is e) [

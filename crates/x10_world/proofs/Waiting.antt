@@ -1,6 +1,7 @@
 -- A step waits at the end of a finish only where something lives that the finish governs, or a message flies.
 use Rattle.std.proofs.Common.{◌≡◌, ℕ, true, false, List, [], ◌∷◌, length, Option, Some, None, refl, sym, ap, subst, ◌∙◌, inl, inr}
 use Rattle.std.specs.Prelude.{slice_get}
+use Rattle.std.proofs.lemmas.Option.{same_Some, slice_get_within}
 use Rattle.x10_code.specs.declared.op.Op.{Op}
 use Rattle.x10_code.specs.declared.op.Op.TheVariants as op
 use Rattle.x10_code.specs.declared.instr.Instr.{Instr}
@@ -18,8 +19,8 @@ use Rattle.x10_place.specs.StandsFor.{PlaceState, store_of, IsIdleAt, nobody, aw
 use Rattle.x10_world.specs.Flights.{FlightsState, flight_among}
 use Rattle.x10_world.specs.Prompt.{MayEnd, WorksIn}
 use Rattle.x10_world.specs.StandsForWorld.{BelongTo, setting_in, counts_in, AllStandFor, EndedIsDoneHere}
-use Rattle.x10_world.proofs.Lists.{none_some, some_is, below}
 use Rattle.x10_model.proofs.NotWrong.{situation}
+use Rattle.x10_model.proofs.Lists.{none_some}
 use Rattle.x10_world.proofs.Moving.{done_by}
 
 -- ---- where a finish may end, its home lets it
@@ -37,7 +38,7 @@ ended_is_done_here program bounds places flights w here key number p belong stan
     let at = at_its_end w here key number (w.net.places here) refl works works.is_there in
     let belongs = belong here p is in
     done_by places stand.told here number p is belongs.id_is belongs.places_are
-    (ended_is_done (length places) w (counts_in places stand.told) (finish_at here number) stand.watched at (below places here p is) may.none_flies (λ n. none_told program bounds places flights w (finish_at here number) n stand empty) may.ended)
+    (ended_is_done (length places) w (counts_in places stand.told) (finish_at here number) stand.watched at (slice_get_within places here p is) may.none_flies (λ n. none_told program bounds places flights w (finish_at here number) n stand empty) may.ended)
 
 -- ---- what is idle
 
@@ -60,11 +61,11 @@ idle_works program bounds places flights w here key number p belong stand empty 
 idle_works program bounds places flights w here key number p belong stand empty is (away a there on) works may =
     let old = stand.some here p is in
     let s = old.2.some key a there in
-    ready_away s.0 works.stay a (some_is s.0 works.stay (sym s.1 ∙ same_stay places program bounds flights w here key p works.stay stand is works.is_there)) s.2.away on works.is_ready
+    ready_away s.0 works.stay a (same_Some s.0 works.stay (sym s.1 ∙ same_stay places program bounds flights w here key p works.stay stand is works.is_there)) s.2.away on works.is_ready
 idle_works program bounds places flights w here key number p belong stand empty is (waits a n outer there fine innermost not) works may =
     let old = stand.some here p is in
     let s = old.2.some key a there in
-    let same = some_is s.0 works.stay (sym s.1 ∙ same_stay places program bounds flights w here key p works.stay stand is works.is_there) in
+    let same = same_Some s.0 works.stay (sym s.1 ∙ same_stay places program bounds flights w here key p works.stay stand is works.is_there) in
     let number-is : number ≡ n = first_is number n works.outer outer (sym works.innermost_is ∙ ap (λ (x : Stay). x.finishes) (sym same) ∙ s.2.finishes ∙ innermost) in
     not (subst (λ k. IsDoneHere (store_of p) k) number-is (ended_is_done_here program bounds places flights w here key number p belong stand empty is works may))
 
@@ -83,7 +84,7 @@ move_op : (setting : Setting) (here key : ℕ) (old new : machine.Place) (effect
 move_op setting here key old new effect m program f pc o same function-is pc-is (i, there, op-is) =
     let own : instr_at setting.program m.stay.top.function m.stay.top.pc ≡ Some m.instr = subst (λ (g : Option Function). instr_in g m.stay.top.pc ≡ Some m.instr) (sym m.function_is) m.instr_is in
     let at : instr_at program f pc ≡ Some m.instr = subst (λ g. instr_at g f pc ≡ Some m.instr) same (subst (λ g. instr_at setting.program g pc ≡ Some m.instr) function-is (subst (λ k. instr_at setting.program m.stay.top.function k ≡ Some m.instr) pc-is own)) in
-    ap (λ (j : Instr). j.op) (some_is m.instr i (sym at ∙ there)) ∙ op-is
+    ap (λ (j : Instr). j.op) (same_Some m.instr i (sym at ∙ there)) ∙ op-is
 
 move_waits : (setting : Setting) (here key number : ℕ) (old new : machine.Place) (effect : Effect) (m : Moves setting here old key new effect) → m.instr.op ≡ op.Fine → effect ≡ Waits number → (outer : List ℕ) × (m.stay.finishes ≡ number ∷ outer)
 move_waits setting here key number old new effect m fine e = waits_innermost (situation m) new number (subst (λ o. Does o (situation m) new (Waits number)) fine (subst (λ f. Does m.instr.op (situation m) new f) e m.does))
@@ -101,11 +102,11 @@ idle_prompt program bounds places flights w here key number p m new effect belon
 
     works : IsIdleAt p key → WorksIn w here key number
     works (nobody none) = absurd (let old = stand.some here p is in none_some (old.0.stays key) moves.stay (old.2.none key none) old_key)
-    works (away a at on) = absurd (let old = stand.some here p is in let s = old.2.some key a at in ready_away s.0 moves.stay a (some_is s.0 moves.stay (sym s.1 ∙ old_key)) s.2.away on moves.is_ready)
+    works (away a at on) = absurd (let old = stand.some here p is in let s = old.2.some key a at in ready_away s.0 moves.stay a (same_Some s.0 moves.stay (sym s.1 ∙ old_key)) s.2.away on moves.is_ready)
     works (waits a n outer at fine innermost not) =
         let old = stand.some here p is in
         let s = old.2.some key a at in
-        let same = some_is s.0 moves.stay (sym s.1 ∙ old_key) in
+        let same = same_Some s.0 moves.stay (sym s.1 ∙ old_key) in
         let own = move_waits (setting_in program places) here key number m new effect moves
         (move_op (setting_in program places) here key m new effect moves p.program a.top.function a.top.pc op.Fine (sym (belong here p is).program_is) (sym (ap (λ (t : Stay). t.top.function) same) ∙ s.2.top.function_is) (sym (ap (λ (t : Stay). t.top.pc) same) ∙ s.2.top.pc_is) fine) e in
         record { stay = moves.stay; outer = own.0; is_there = at_key; is_ready = moves.is_ready; innermost_is = own.1 }
