@@ -9,7 +9,7 @@ const SEVEN: &str = "places 1\nint 7\nfunc 1 0 none\nINTK 0 0\nPRINT 0\nRET 0\ne
 #[test]
 fn want_of_memory(rt: HostRuntime) {
     match assemble(rt.alloc(), SEVEN) {
-        Ok(bytes) => assert_eq!(rt; bytes.as_slice(), x10_samples::SEVEN.as_slice()),
+        Ok(bytes) => assert!(rt; bytes.as_slice() == x10_samples::SEVEN.as_slice()),
         Err(fault) => assert!(rt; fault.line == 0 && fault.cause == AsmCause::Memory),
     }
 }
@@ -17,6 +17,6 @@ fn want_of_memory(rt: HostRuntime) {
 #[test]
 fn a_listing_is_assembled(rt: HostRuntime) -> Result<(), Fail> {
     let bytes = assemble(rt.alloc(), WHOLE)?;
-    assert_eq!(rt; bytes.as_slice(), image(&rt)?.as_slice());
+    assert!(rt; bytes.as_slice() == image(&rt)?.as_slice());
     Ok(())
 }

@@ -120,25 +120,22 @@ fn operands_in_order(rt: HostRuntime) {
 #[test]
 fn no_operation(rt: HostRuntime) {
     for code in [0x00, 0x26, 0x27, 0x2f, 0x30, 0xff] {
-        assert_eq!(rt; op_with_code(code), None);
+        assert!(rt; op_with_code(code).is_none());
         let bytes = [code, 1, 1, 1, 1, 1, 1, 1];
-        assert_eq!(rt; decode(&bytes), Err(CodeFault::UnknownOp), "{code}");
+        assert!(rt; decode(&bytes) == Err(CodeFault::UnknownOp), "{code}");
     }
     for text in ["", "add", "ADDS", "AD", "ATAX"] {
-        assert_eq!(rt; op_named(text), None, "{text}");
+        assert!(rt; op_named(text).is_none(), "{text}");
     }
 }
 
 #[test]
 fn forms(rt: HostRuntime) {
     let ata = form(Op::Ata);
-    assert_eq!(rt; ata.a, Operand::Unused);
-    assert_eq!(rt; ata.b, Operand::Arguments);
-    assert_eq!(rt; ata.c, Operand::Register);
-    assert_eq!(rt; ata.x, Operand::Function);
-    assert_eq!(rt; form(Op::Loop).x, Operand::Count);
-    assert_eq!(rt; form(Op::Get).c, Operand::Field);
-    assert_eq!(rt; form(Op::Ret).a, Operand::Result);
+    assert!(rt; ata.a == Operand::Unused && ata.b == Operand::Arguments);
+    assert!(rt; ata.c == Operand::Register && ata.x == Operand::Function);
+    assert!(rt; form(Op::Loop).x == Operand::Count);
+    assert!(rt; form(Op::Get).c == Operand::Field && form(Op::Ret).a == Operand::Result);
 }
 
 #[test]

@@ -39,25 +39,35 @@ fn take(rt: &impl Abort, book: &mut Book, report: &Report) {
     book.merge(report);
 }
 
-/// Whether the book balances after each of some reports, in an order.
-fn balances(rt: &impl Abort, alloc: Global, order: &[usize]) -> Result<Vec<bool>, Fail> {
+/// Whether a book balances, and whether its finish is done.
+fn answers(book: &Book, tally: &Tally) -> (bool, bool) {
+    (book.balanced(tally), book.done(tally))
+}
+
+/// What the home has counted where it has sent one activity to each of two places.
+fn sender(alloc: Global) -> Result<Tally, Stop> {
     let mut tally = Tally::new(alloc, 0, 3);
     tally.spawned(FINISH, 1)?;
     tally.spawned(FINISH, 2)?;
+    Ok(tally)
+}
+
+/// Whether the book balances after each of some reports, in an order.
+fn balances(rt: &impl Abort, alloc: Global, order: &[usize]) -> Result<Vec<bool>, Fail> {
+    let tally = sender(alloc)?;
     let mut book = Book::open(alloc, FINISH, 3)?;
-    assert!(rt; !book.balanced(&tally));
+    assert!(rt; answers(&book, &tally) == (false, false));
     let reports = reports(alloc)?;
-    let mut answers = Vec::new(alloc);
+    let mut after = Vec::new(alloc);
     for i in order {
         assert!(rt; *i < 3);
         take(rt, &mut book, &reports[*i]);
-        let balanced = book.balanced(&tally);
-        assert_eq!(rt; book.balanced(&tally), balanced);
-        assert_eq!(rt; book.done(&tally), balanced);
-        answers.push(balanced)?;
+        let (balanced, done) = answers(&book, &tally);
+        assert!(rt; done == balanced && answers(&book, &tally) == (balanced, done));
+        after.push(balanced)?;
     }
     book.close();
-    Ok(answers)
+    Ok(after)
 }
 
 #[test]
@@ -72,7 +82,7 @@ fn reports_in_every_order(rt: HostRuntime) -> Result<(), Fail> {
         ([2, 1, 0], [false, true, true]),
     ] {
         let answers = balances(&rt, alloc, &order)?;
-        assert_eq!(rt; answers.as_slice(), want.as_slice());
+        assert!(rt; answers.as_slice() == want.as_slice());
     }
     Ok(())
 }
@@ -80,7 +90,7 @@ fn reports_in_every_order(rt: HostRuntime) -> Result<(), Fail> {
 #[test]
 fn without_the_first_report(rt: HostRuntime) -> Result<(), Fail> {
     let answers = balances(&rt, rt.alloc(), &[1, 2])?;
-    assert_eq!(rt; answers.as_slice(), [false, true].as_slice());
+    assert!(rt; answers.as_slice() == [false, true].as_slice());
     Ok(())
 }
 
@@ -123,11 +133,6 @@ fn last_to_end_reports(rt: HostRuntime) -> Result<(), Fail> {
     Ok(())
 }
 
-/// Whether a book balances, and whether its finish is done.
-fn answers(book: &Book, tally: &Tally) -> (bool, bool) {
-    (book.balanced(tally), book.done(tally))
-}
-
 /// The home of the finish, with a book for it.
 fn home(alloc: Global) -> Result<(Tally, Book), Stop> {
     Ok((Tally::new(alloc, 0, 3), Book::open(alloc, FINISH, 3)?))
@@ -146,6 +151,19 @@ fn home_reports_nothing(rt: HostRuntime) -> Result<(), Fail> {
     Ok(())
 }
 
+/// Finishes that a place has met, in no order.
+const MET: &[Finish] = &[
+    Finish { home: 3, number: 0 },
+    Finish { home: 0, number: 7 },
+    Finish { home: 1, number: 2 },
+    Finish { home: 0, number: 6 },
+    Finish { home: 1, number: 3 },
+    Finish {
+        home: 2,
+        number: 4_294_967_295,
+    },
+];
+
 /// How many live under a finish, and how many numbers are kept of what was sent and received.
 fn counted(tally: &Tally, finish: Finish) -> (u32, usize, usize) {
     (
@@ -158,18 +176,17 @@ fn counted(tally: &Tally, finish: Finish) -> (u32, usize, usize) {
 #[test]
 fn finishes_are_counted_apart(rt: HostRuntime) -> Result<(), Fail> {
     let mut tally = Tally::new(rt.alloc(), 1, 4);
-    let finishes = [(3, 0), (0, 7), (1, 2), (0, 6), (1, 3), (2, 4_294_967_295)];
-    for (home, number) in finishes {
-        let finish = Finish { home, number };
-        tally.meet(finish)?;
-        assert_eq!(rt; counted(&tally, finish), (0, 4, 4));
+    for finish in MET {
+        tally.meet(*finish)?;
+        assert!(rt; counted(&tally, *finish) == (0, 4, 4));
     }
-    tally.began(Finish { home: 1, number: 2 })?;
-    for (home, number) in finishes {
-        let live = u32::from(home == 1 && number == 2);
-        assert_eq!(rt; counted(&tally, Finish { home, number }), (live, 4, 4));
+    let begun = Finish { home: 1, number: 2 };
+    tally.began(begun)?;
+    for finish in MET {
+        let live = u32::from(*finish == begun);
+        assert!(rt; counted(&tally, *finish) == (live, 4, 4));
     }
-    assert_eq!(rt; counted(&tally, Finish { home: 0, number: 8 }), (0, 0, 0));
+    assert!(rt; counted(&tally, Finish { home: 0, number: 8 }) == (0, 0, 0));
     Ok(())
 }
 

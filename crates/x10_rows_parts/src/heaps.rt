@@ -133,22 +133,32 @@ fn went(rt: &impl Abort, answer: Result<u32, Stop>) -> usize {
     usize::from(answer.is_ok())
 }
 
+/// How many parts each heap call adds, of an object, a rail and a text: each one or none.
+fn added(rt: &impl Abort, heap: &mut Heap) -> (usize, usize, usize) {
+    (
+        went(rt, heap.new_object(1, &[5; 9])),
+        went(rt, heap.new_rail(9)),
+        went(rt, heap.new_text("a text")),
+    )
+}
+
+/// Whether a text is joined with itself, where there is one.
+fn joins(rt: &impl Abort, heap: &mut Heap) -> bool {
+    heap.texts() > 0 && join(rt, heap, 0, 0).is_ok()
+}
+
 /// Every answer is right, or it is that a growth was refused and nothing has changed: to be run with each allocation
 /// failing in turn.
 #[test]
 fn memory_refused(rt: HostRuntime) {
     let mut heap = Heap::new(rt.alloc());
-    let objects = went(&rt, heap.new_object(1, &[5; 9]));
-    let rails = went(&rt, heap.new_rail(9));
-    let texts = went(&rt, heap.new_text("a text"));
+    let (objects, rails, texts) = added(&rt, &mut heap);
     assert!(rt; heap.objects() == objects && heap.rails() == rails);
     assert!(rt; heap.texts() == texts && heap.exports() == 0);
     if heap.objects() > 0 {
         let exports = went(&rt, heap.export(0));
-        assert_eq!(rt; heap.exports(), exports);
+        assert!(rt; heap.exports() == exports);
     }
-    if heap.texts() > 0 {
-        let joined = heap.join(0, 0).is_ok();
-        assert_eq!(rt; heap.texts(), if joined { 2 } else { 1 });
-    }
+    let more = usize::from(joins(&rt, &mut heap));
+    assert!(rt; heap.texts() == texts.saturating_add(more));
 }

@@ -112,6 +112,6 @@ fn every_line_is_listed(rt: HostRuntime) -> Result<(), Fail> {
     let image = image(&rt)?;
     let view = ImageView::read(rt.alloc(), &image)?;
     let text = list(rt.alloc(), &view)?;
-    assert_eq!(rt; text.as_str(), WHOLE);
+    assert!(rt; text.as_str() == WHOLE);
     Ok(())
 }

@@ -1,5 +1,6 @@
 //! Many activities at one place under ten thousand random events, beside a plain count of what each of them does.
 use crate::places::{opened, program};
+use std::alloc::{AllocError, Global};
 use std::process::Abort;
 use std::test::*;
 use x10_asm::assemble;
@@ -189,14 +190,11 @@ impl Plain {
     }
 }
 
-#[test]
-fn ten_thousand_events(rt: HostRuntime) -> Result<(), Fail> {
-    let bytes = assemble(rt.alloc(), BRANCHES)?;
-    let verified = program(rt.alloc(), &bytes)?;
-    let mut place = opened(rt.alloc(), &verified, 0, 1)?;
+/// The count at the beginning: main alone, with room for 2,000 keys.
+fn counted(alloc: Global) -> Result<Plain, AllocError> {
     let mut plain = Plain {
-        activities: Vec::new(rt.alloc()),
-        live: Vec::new(rt.alloc()),
+        activities: Vec::new(alloc),
+        live: Vec::new(alloc),
         lines: 0,
     };
     for _ in 0..2_000u32 {
@@ -204,25 +202,60 @@ fn ten_thousand_events(rt: HostRuntime) -> Result<(), Fail> {
     }
     plain.live.push(0)?;
     plain.begin(0, Activity::new(Kind::Main, 0));
+    Ok(plain)
+}
+
+/// Ten thousand steps of keys by chance.
+fn random_steps(rt: &impl Abort, plain: &mut Plain, place: &mut Place) -> Result<(), Fail> {
     let mut seed = 1;
     for _ in 0..10_000u32 {
         let most = random(&mut seed) % 64;
         let key = random(&mut seed) % (most + 1);
-        plain.step(&rt, &mut place, key)?;
+        plain.step(rt, place, key)?;
     }
+    Ok(())
+}
+
+/// Whether a key is in use.
+fn is_used(place: &Place, key: usize) -> bool {
+    place.at(key).is_some()
+}
+
+/// A step of each key that is in use.
+fn one_round(rt: &impl Abort, plain: &mut Plain, place: &mut Place) -> Result<(), Fail> {
+    for key in 0..2_000usize {
+        if is_used(place, key) {
+            plain.step(rt, place, key)?;
+        }
+    }
+    Ok(())
+}
+
+/// The run ends after at most 1,000 rounds.
+fn goes_to_its_end(rt: &impl Abort, plain: &mut Plain, place: &mut Place) -> Result<(), Fail> {
+    for _ in 0..1_000u32 {
+        one_round(rt, plain, place)?;
+    }
+    assert!(rt; place.closed() && plain.lines == 1_203);
+    Ok(())
+}
+
+/// The random steps, which don't end the run, and then the rest of it.
+fn goes(alloc: Global, rt: &impl Abort, place: &mut Place) -> Result<(), Fail> {
+    let mut plain = counted(alloc)?;
+    random_steps(rt, &mut plain, place)?;
     assert!(rt;
         plain.lines > 500 && !place.closed(),
         "{} lines",
         plain.lines
     );
-    for _ in 0..1_000u32 {
-        for key in 0..2_000usize {
-            if place.at(key).is_some() {
-                plain.step(&rt, &mut place, key)?;
-            }
-        }
-    }
-    assert!(rt; place.closed());
-    assert!(rt; plain.lines == 1_203);
-    Ok(())
+    goes_to_its_end(rt, &mut plain, place)
+}
+
+#[test]
+fn ten_thousand_events(rt: HostRuntime) -> Result<(), Fail> {
+    let bytes = assemble(rt.alloc(), BRANCHES)?;
+    let verified = program(rt.alloc(), &bytes)?;
+    let mut place = opened(rt.alloc(), &verified, 0, 1)?;
+    goes(rt.alloc(), &rt, &mut place)
 }
