@@ -24,6 +24,7 @@ pub mod GraphLaws
 pub mod FrameLaws
 pub mod Loops
 pub mod Moving
+pub mod Ways
 pub mod RelayMoves
 pub mod Relayed
 pub mod Refusals

@@ -6,7 +6,7 @@ use Rattle.x10_kinds.specs.declared.stop.Stop.{Stop}
 use Rattle.x10_kinds.specs.declared.stop.Stop.TheVariants as stop
 use Rattle.x10_code.specs.declared.op.Op.TheVariants as op
 use Rattle.x10_code.specs.declared.instr.Instr.{Instr}
-use Rattle.x10_model.specs.Modules.{Module, FitsImage}
+use Rattle.x10_model.specs.Modules.{Module}
 use Rattle.x10_model.specs.Ranges.{instr_at, instr_in}
 use Rattle.x10_model.proofs.Lists.{none_some}
 use Rattle.x10_verify.specs.Certified.{Certified}
@@ -16,14 +16,13 @@ use Rattle.x10_place.specs.declared.route.Route.TheVariants as route
 use Rattle.x10_place.specs.declared.stay.Outcome.{Outcome}
 use Rattle.x10_place.specs.declared.stay.Outcome.TheVariants as outcome
 use Rattle.x10_place.specs.declared.stay.Spot.{Spot}
-use Rattle.x10_place.specs.Frames.{IsFetchedFor}
+use Rattle.x10_place.specs.Frames.{IsInside, IsFetchedFor}
 use Rattle.x10_place.specs.Routes.{route_of}
 use Rattle.x10_place.specs.Stays.{StayState, StoreState, IsDoneHere, ClosesFinish, location, ReadsStore, OverfillsBy, Refuses, Steps}
 use Rattle.x10_place.specs.StandsFor.{PlaceState, place_of, plain, location_of, IsStanding, LeadsAll, IsIdleAt, nobody, away, waits, IsOverfull, IsHindered, Overfills}
 use Rattle.x10_place.specs.declared.sent.Sent.{Sent}
 use Rattle.x10_place.specs.Messages.{no_sent}
 use Rattle.x10_place.specs.Stretches.{still, IsUntouched, IsForPlace, IsMade, IsAdvanced}
-use Rattle.x10_place.proofs.Fetching.{IsRefetched, fetched_within}
 use Rattle.x10_place.proofs.Placing.{IsChecked, is_close_finish}
 use Rattle.x10_place.proofs.Reading.{working_reads}
 use Rattle.x10_place.proofs.Registering.{registered_after}
@@ -269,9 +268,9 @@ pub steps_as : (program : Module) (spot : Spot) (s : StoreState) (a : StayState)
 steps_as program spot s a i o p b t here places same steps =
     subst (λ at. Steps (route_of i.op) at a s i p b t) (ap₂ (λ h k. location program (record { here = h; places = k })) here places) (subst (λ q. Steps (route_of i.op) (location program spot) a s i q b t) same steps)
 
--- the instruction of a stay, as it was fetched
-pub fetched_at : (v : Certified) (old : Slab StayState) (s : StoreState) (key : ℕ) (a : StayState) (f pc : ℕ) (i : Instr) → IsStanding (place_of v old s false) → FitsImage v.program → get old key ≡ Some a → a.away ≡ false → IsRefetched v.program a.top.function a.top.pc f pc i → IsFetchedFor v.program a.top i
-fetched_at v old s key a f pc i standing fits e ready r = fetched_within v.program a.top.function a.top.pc _ f pc i fits (working_at (place_of v old s false) key a standing e ready).typed.stands.placed.top r
+-- a stay that can move stands at an instruction
+pub inside_at : (v : Certified) (old : Slab StayState) (s : StoreState) (key : ℕ) (a : StayState) → IsStanding (place_of v old s false) → get old key ≡ Some a → a.away ≡ false → IsInside v.program a.top
+inside_at v old s key a standing e ready = (working_at (place_of v old s false) key a standing e ready).typed.stands.placed.top
 
 -- what it reads is there
 pub reads_at : (v : Certified) (old : Slab StayState) (s : StoreState) (key : ℕ) (a : StayState) (spot : Spot) (i : Instr) → IsStanding (place_of v old s false) → IsChecked v.program → get old key ≡ Some a → a.away ≡ false → IsFetchedFor v.program a.top i → spot.here ≡ s.here → spot.places ≡ s.places

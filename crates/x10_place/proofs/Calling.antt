@@ -20,7 +20,8 @@ pub record ArgumentsTo (from : List ℕ) (i : Instr) (registers : ℕ) (words : 
 pub arguments_begin : (from : List ℕ) (i : Instr) (words : List ℕ) → ArgumentsTo from i (length words) words 0
 arguments_begin from i words = record { count = refl; same = λ r lt. absurd (omega (arith, lt)) }
 
-refilled : (xs ws : List ℕ) → length ws ≡ length xs → refill (length xs) xs ws ≡ ws
+-- a slice that comes back with as many words is what the list holds then
+pub refilled : (xs ws : List ℕ) → length ws ≡ length xs → refill (length xs) xs ws ≡ ws
 refilled xs ws e = take_at ws (drop (length ws) xs) (length xs) e
 
 -- one argument more

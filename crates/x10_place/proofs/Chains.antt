@@ -1,8 +1,9 @@
 -- Callers: each stands at a call of the function of the next one.
-use Rattle.std.proofs.Common.{◌≡◌, ℕ, List, [], ◌∷◌, ◌++◌, refl, sym, subst}
+use Rattle.std.proofs.Common.{◌≡◌, ℕ, List, [], ◌∷◌, ◌++◌, Box, refl, sym, ap, ◌∙◌, subst}
+use Rattle.std.proofs.lemmas.List.{map-append}
 use Rattle.x10_model.specs.Modules.{Module}
 use Rattle.x10_place.specs.declared.frame.CallFrame.{CallFrame}
-use Rattle.x10_place.specs.Stays.{StayState, IsCalling, AreCalling, IsPlaced, next_function}
+use Rattle.x10_place.specs.Stays.{StayState, frames_of, IsCalling, AreCalling, IsPlaced, next_function}
 
 last_next : (fs : List CallFrame) (f : CallFrame) (top : ℕ) → next_function (fs ++ f ∷ []) top ≡ next_function fs f.function
 last_next [] f top = refl
@@ -23,3 +24,7 @@ chain_more program (g ∷ gs) f top h calling = (subst (λ n. IsCalling program 
 -- the last caller of a stay
 pub caller_is : (program : Module) (a : StayState) (fs : List CallFrame) (f : CallFrame) → IsPlaced program a → a.callers ≡ fs ++ f ∷ [] → IsCalling program f a.top.function × AreCalling program fs f.function
 caller_is program a fs f placed e = chain_last program fs f a.top.function (subst (λ gs. AreCalling program gs a.top.function) e placed.callers)
+
+-- the frames in boxes, where one box more stands last
+pub frames_with : {Z : Type 0} (all boxes : List (Box CallFrame Z)) (b : Box CallFrame Z) → all ≡ boxes ++ b ∷ [] → frames_of all ≡ frames_of boxes ++ b.value ∷ []
+frames_with all boxes b e = ap frames_of e ∙ map-append (λ b. b.value) boxes (b ∷ [])

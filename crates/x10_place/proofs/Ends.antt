@@ -147,21 +147,21 @@ module _ (setting : Setting) (here : ℕ) (far : Far) (m : machine.Place) (key :
   resumes_stay b placed r result (c ∷ cs) is callers given word =
       let same = last_same b.callers callers.0 r.caller callers.1 (sym r.callers ∙ callers.2) in
       let stands : StandsForFrame setting.program assigned x r.caller c = subst (λ f. StandsForFrame setting.program assigned x f c) (sym same.1) callers.3 in
-      let at = rule setting.program assigned x r.caller c stands r.call r.fetched in
-      let call = subst (λ q. Permits q (point_of setting.program stands.function r.caller r.call) stands.state at.0) r.op_is at.1 in
-      let callee : function_at setting.program r.call.x ≡ Some function = ap (λ n. function_at setting.program n) r.callee_is ∙ h.top.is_function in
+      let at = rule setting.program assigned x r.caller c stands r.back.call r.back.fetched in
+      let call = subst (λ q. Permits q (point_of setting.program stands.function r.caller r.back.call) stands.state at.0) r.back.op_is at.1 in
+      let callee : function_at setting.program r.back.call.x ≡ Some function = ap (λ n. function_at setting.program n) r.back.callee_is ∙ h.top.is_function in
       let same-callee : call.0 ≡ function = same_Some call.0 function (sym call.2.0 ∙ callee) in
       let t = call.1 in
-      let gives : GivesResult (point_of setting.program stands.function r.caller r.call) stands.state term.Here function.result t = subst (λ (g : Function). GivesResult (point_of setting.program stands.function r.caller r.call) stands.state term.Here g.result t) same-callee call.3 in
+      let gives : GivesResult (point_of setting.program stands.function r.caller r.back.call) stands.state term.Here function.result t = subst (λ (g : Function). GivesResult (point_of setting.program stands.function r.caller r.back.call) stands.state term.Here g.result t) same-callee call.3 in
       let reached = at.2 (r.caller.pc + 1, t) (subst (λ (o : Edges). IsIn (r.caller.pc + 1, t) o) (sym call.4) (0, refl)) in
-      let goes = subst (λ o. GoesOn o r.caller r.call a.top i b.top) (ap result_of h.top.is_function) r.goes in
-      let call-is : instr_at setting.program c.function c.pc ≡ Some r.call =
-      ap (λ n. instr_at setting.program n c.pc) stands.function_is ∙ ap (λ n. instr_at setting.program r.caller.function n) stands.pc_is ∙ subst (λ o. instr_in o r.caller.pc ≡ Some r.call) (sym r.fetched.is_function) r.fetched.is_instr in (
-        record s { top = resumed c r.call.a result; callers = cs },
-        (result, given, subst (λ ks. Returns sit ks result (with_stay m key (Some (record s { top = resumed c r.call.a result; callers = cs }))) Works) (sym is) (r.call, call-is, r.op_is, refl, refl)),
+      let goes = subst (λ o. GoesOn o r.caller r.back.call a.top i b.top) (ap result_of h.top.is_function) r.back.goes in
+      let call-is : instr_at setting.program c.function c.pc ≡ Some r.back.call =
+      ap (λ n. instr_at setting.program n c.pc) stands.function_is ∙ ap (λ n. instr_at setting.program r.caller.function n) stands.pc_is ∙ subst (λ o. instr_in o r.caller.pc ≡ Some r.back.call) (sym r.back.fetched.is_function) r.back.fetched.is_instr in (
+        record s { top = resumed c r.back.call.a result; callers = cs },
+        (result, given, subst (λ ks. Returns sit ks result (with_stay m key (Some (record s { top = resumed c r.back.call.a result; callers = cs }))) Works) (sym is) (r.back.call, call-is, r.back.op_is, refl, refl)),
         record {
           placed = placed;
-          top = goes_after setting.program assigned x m.cells r.caller c stands r.call r.fetched r.op_is function.result result (word_at a.top.registers.items i.a) t a.top b.top i (ap result_of callee) gives reached word refl goes;
+          top = goes_after setting.program assigned x m.cells r.caller c stands r.back.call r.back.fetched r.back.op_is function.result result (word_at a.top.registers.items i.a) t a.top b.top i (ap result_of callee) gives reached word refl goes;
           callers = subst (λ fs. StandForCallers setting.program assigned x fs cs) (sym same.0) callers.4;
           finishes = h.finishes ∙ ap (λ (y : StayState). y.finishes) (sym r.rest);
           inherited = h.inherited ∙ ap (λ (y : StayState). y.inherited) (sym r.rest);

@@ -19,7 +19,8 @@ use Rattle.x10_copy.specs.Arrived.{word_in, FitsArrival, IsBrought}
 use Rattle.x10_copy.specs.Taken.{IsTakenIn}
 use Rattle.x10_place.specs.declared.frame.CallFrame.{CallFrame}
 use Rattle.x10_place.specs.declared.launching.Launch.{Launch}
-use Rattle.x10_place.specs.Arrivals.{IsOpenHere, Settles, IsUnsettled, IsEntrance, IsEnteredWith, Launches, FitsLaunch, IsLaunchRefused}
+use Rattle.x10_place.specs.Arrivals.{IsOpenHere, Settles, IsUnsettled, IsEntrance, Launches, FitsLaunch, IsLaunchRefused}
+use Rattle.x10_place.specs.Frames.{IsEnteredWith}
 use Rattle.x10_place.specs.Stays.{StayState, StoreState, finish_as, origin_as}
 
 -- ---- lists

@@ -19,7 +19,7 @@ use Rattle.x10_copy.specs.Captured.{kinds_of}
 use Rattle.x10_copy.specs.Arrived.{arrived, HaveHomes}
 use Rattle.x10_copy.specs.Taken.{with_heap}
 use Rattle.x10_place.specs.declared.frame.CallFrame.{CallFrame}
-use Rattle.x10_place.specs.Arrivals.{IsEnteredWith}
+use Rattle.x10_place.specs.Frames.{IsEnteredWith}
 use Rattle.x10_place.specs.StandsFor.{Assigned, HoldRegisters, StandsForFrame}
 use Rattle.x10_place.proofs.Calls.{no_turns}
 use Rattle.x10_place.proofs.Framed.{has_state}

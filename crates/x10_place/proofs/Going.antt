@@ -277,7 +277,5 @@ frame_typed program f g heap new i l typed fetched r same acts =
     record { assigned = typed.assigned; places = typed.places; here = typed.here; site = typed.site; named = done.exported.named; far = typed.far; frame = done.top; stands = done.stands; cells = done.cells; holds = done.holds }
 
 -- the top frame of a stay
-pub typed_top : (at : Location) (v a : StayState) (r s : StoreState) → v ≡ a → r ≡ s → IsTyped at s.heap a → IsTypedFrame at.program r.heap v.top
-typed_top at v a r s seen same typed =
-    let t : IsTyped at r.heap v = subst (λ q. IsTyped at q.heap v) (sym same) (subst (λ x. IsTyped at s.heap x) (sym seen) typed) in
-    record { assigned = t.assigned; places = at.places; here = at.here; site = t.site; named = t.named; far = t.far; frame = t.stay.top; stands = t.stands.top; cells = t.cells; holds = t.holds }
+pub typed_top : (at : Location) (a : StayState) (s : StoreState) → IsTyped at s.heap a → IsTypedFrame at.program s.heap a.top
+typed_top at a s t = record { assigned = t.assigned; places = at.places; here = at.here; site = t.site; named = t.named; far = t.far; frame = t.stay.top; stands = t.stands.top; cells = t.cells; holds = t.holds }

@@ -1,5 +1,5 @@
 -- Steps that are for the place to make: what each of them does is a move of each place of the machine.
-use Rattle.std.proofs.Common.{◌≡◌, ℕ, Bool, false, Option, Some, Result, Ok, Err, IfOk, IfErr, refl, sym, ap, ap₂, subst, ◌∙◌, inl, inr}
+use Rattle.std.proofs.Common.{◌≡◌, ℕ, Bool, false, Option, Some, Result, Ok, Err, IfOk, IfErr, refl, sym, ap, subst, ◌∙◌, inl, inr}
 use Rattle.std.specs.Prelude.{OnOk}
 use Rattle.std.proofs.lemmas.Option.{same_Some}
 use Rattle.slab.specs.Slab.{Slab, get, Updates}
@@ -14,6 +14,7 @@ use Rattle.x10_place.specs.declared.place.Stepped.TheVariants as stepped
 use Rattle.x10_place.specs.declared.route.Route.{Route}
 use Rattle.x10_place.specs.declared.route.Route.TheVariants as route
 use Rattle.x10_place.specs.declared.sent.Sent.{Sent}
+use Rattle.x10_place.specs.Frames.{IsFetchedFor}
 use Rattle.x10_place.specs.Routes.{route_of}
 use Rattle.x10_place.specs.Messages.{no_sent}
 use Rattle.x10_place.specs.Sending.{IsSending, slots_sent, words_sent}
@@ -193,11 +194,11 @@ module _ (v : Certified) (old : Slab StayState) (s : StoreState) (key : ℕ) (ch
   end_full e = end_over v old s key h.0 checks h.1 e
 
   -- the instruction that was fetched
-  pub fetched_is : (a : StayState) (f pc : ℕ) (j : Instr) → get old key ≡ Some a → f ≡ a.top.function → pc ≡ a.top.pc → instr_at v.program f pc ≡ Some j → h.0 ≡ j
-  fetched_is a f pc j there function_is pc_is at =
+  pub fetched_is : (a : StayState) (j : Instr) → get old key ≡ Some a → IsFetchedFor v.program a.top j → h.0 ≡ j
+  fetched_is a j there fetched =
       let same : h.1.stay ≡ a = same_Some h.1.stay a (sym h.1.is_there ∙ there) in
       let here : instr_at v.program h.1.stay.top.function h.1.stay.top.pc ≡ Some h.0 = instr_is v old s key h.0 checks h.1 in
-      let seen : instr_at v.program a.top.function a.top.pc ≡ Some j = ap₂ (λ n k. instr_at v.program n k) (sym function_is) (sym pc_is) ∙ at in
+      let seen : instr_at v.program a.top.function a.top.pc ≡ Some j = ap (λ o. instr_in o a.top.pc) fetched.is_function ∙ fetched.is_instr in
       same_Some h.0 j (sym here ∙ ap (λ (c : StayState). instr_at v.program c.top.function c.top.pc) same ∙ seen)
 
   -- an instruction that is for the place, but begins and sends nothing, is a RET

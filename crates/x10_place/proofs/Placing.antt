@@ -204,10 +204,10 @@ resumed_inside (Some slot) program caller f top call i fetched next h = record {
 resumed_placed : (program : Module) (checks : IsChecked program) (a b : StayState) (i : Instr) → IsPlaced program a → IsFetchedFor program a.top i → i.op ≡ op.Ret → Resumes program a i b → IsPlaced program b
 resumed_placed program checks a b i placed fetched is h =
     let chain = chain_last program b.callers h.caller a.top.function (subst (λ fs. AreCalling program fs a.top.function) h.callers placed.callers) in
-    let at = resumed_inside (result_of (function_at program a.top.function)) program h.caller b.top a.top h.call i h.fetched (h.fetched.next (goes_on h.call h.op_is)) h.goes in
+    let at = resumed_inside (result_of (function_at program a.top.function)) program h.caller b.top a.top h.back.call i h.back.fetched (h.back.fetched.next (goes_on h.back.call h.back.op_is)) h.back.goes in
     let none = open_none program checks a.top i fetched is in
     let opened = ap (open_in program) h.callers ∙ open_more program b.callers h.caller in
-    let same = open_onward program checks h.caller h.call h.fetched b.top at.function_is at.pc_is (λ e. absurd (let f = sym h.op_is ∙ e in cc)) (λ e. absurd (let f = sym h.op_is ∙ e in cc)) in
+    let same = open_onward program checks h.caller h.back.call h.back.fetched b.top at.function_is at.pc_is (λ e. absurd (let f = sym h.back.op_is ∙ e in cc)) (λ e. absurd (let f = sym h.back.op_is ∙ e in cc)) in
     record {
       top = at.inside;
       callers = subst (λ n. AreCalling program b.callers n) (sym at.function_is) chain.1;

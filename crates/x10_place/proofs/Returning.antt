@@ -12,8 +12,8 @@ use Rattle.x10_image.specs.Parts.{Signature, signature_of, code_in, code_at}
 use Rattle.x10_verify.proofs.Wholes.{function_fits}
 use Rattle.x10_place.specs.declared.frame.CallFrame.{CallFrame}
 use Rattle.x10_place.specs.Frames.{word_at, IsFetchedFor}
-use Rattle.x10_place.specs.Stays.{StayState, IsCalling, GoesNext, GoesNextWith, GoesOn, Resumes}
-use Rattle.x10_place.proofs.Fetching.{IsRefetched, value_at}
+use Rattle.x10_place.specs.Stays.{StayState, IsCalling, GoesNext, GoesNextWith, GoesOn, GoesBack, Resumes}
+use Rattle.x10_place.proofs.Fetching.{IsRefetched, value_at, fetched_within}
 
 -- ---- the caller's call
 
@@ -53,48 +53,37 @@ result_there program caller top f pc call (Some slot) calling r is some =
     let lt : call.a < function.registers = subst (λ q. IsResultRegister function q call.a) (ap (λ n. result_of (function_at program n)) named.1 ∙ is) there in
     omega (arith, lt, calling.inside.registers)
 
-goes_with : (o p : Option Slot) (caller : CallFrame) (call : Instr) (top : CallFrame) (i : Instr) (f : CallFrame) → o ≡ p → is_some p ≡ true → GoesNextWith caller call.a (word_at top.registers.items i.a) f → GoesOn o caller call top i f
-goes_with o None caller call top i f e some h = absurd cc
-goes_with o (Some slot) caller call top i f e some h = subst (λ q. GoesOn q caller call top i f) (sym e) h
+pub goes_with : (o : Option Slot) (caller : CallFrame) (call : Instr) (top : CallFrame) (i : Instr) (f : CallFrame) → is_some o ≡ true → GoesNextWith caller call.a (word_at top.registers.items i.a) f → GoesOn o caller call top i f
+goes_with None caller call top i f some h = absurd cc
+goes_with (Some slot) caller call top i f some h = h
 
-goes_without : (o p : Option Slot) (caller : CallFrame) (call : Instr) (top : CallFrame) (i : Instr) (f : CallFrame) → o ≡ p → is_some p ≡ false → GoesNext caller f → GoesOn o caller call top i f
-goes_without o None caller call top i f e some h = subst (λ q. GoesOn q caller call top i f) (sym e) h
-goes_without o (Some slot) caller call top i f e some h = absurd cc
+pub goes_without : (o : Option Slot) (caller : CallFrame) (call : Instr) (top : CallFrame) (i : Instr) (f : CallFrame) → is_some o ≡ false → GoesNext caller f → GoesOn o caller call top i f
+goes_without None caller call top i f some h = h
+goes_without (Some slot) caller call top i f some h = absurd cc
 
 -- ---- both together
+
+pub goes_back : (program : Module) (caller top f : CallFrame) (i call : Instr) (n pc : ℕ) (o : Option Slot) → FitsImage program → IsCalling program caller top.function → IsRefetched program caller.function caller.pc n pc call
+    → result_of (function_at program top.function) ≡ o → GoesOn o caller call top i f → GoesBack program top i caller f
+goes_back program caller top f i call n pc o fits calling refetched result goes =
+    let named = call_named program caller top.function call calling (value_at program caller.function caller.pc n pc call refetched) in
+    record {
+      call = call;
+      fetched = fetched_within program caller.function caller.pc (length caller.registers.items) n pc call fits calling.inside refetched;
+      op_is = named.0;
+      callee_is = named.1;
+      goes = subst (λ q. GoesOn q caller call top i f) (sym result) goes;
+    }
 
 abbrev pub stay_with : StayState → CallFrame → List CallFrame → StayState
 stay_with a top callers = record a { top = top; callers = callers }
 
-pub rest_is : (a : StayState) (fs : List CallFrame) (f g : CallFrame) → f ≡ g → stay_with a f fs ≡ stay_with a g fs
-rest_is a fs f g e = ap (λ h. stay_with a h fs) e
-
-pub returned_with : (program : Module) (a : StayState) (i : Instr) (b : StayState) (caller g : CallFrame) (call : Instr) (o : Option Slot) (w : ℕ) → a.callers ≡ b.callers ++ caller ∷ [] → IsFetchedFor program caller call
-    → (call.op ≡ op.Call) × (call.x ≡ a.top.function) → result_of (function_at program a.top.function) ≡ o → is_some o ≡ true → w ≡ word_at a.top.registers.items i.a
-    → GoesNextWith caller call.a w g → b ≡ record a { top = g; callers = b.callers } → Resumes program a i b
-returned_with program a i b caller g call o w callers fetched named result some word becomes top = record {
-  caller = caller;
-  call = call;
-  callers = callers;
-  fetched = fetched;
-  op_is = named.0;
-  callee_is = named.1;
-  rest = top ∙ ap (λ g. record a { top = g; callers = b.callers }) (sym (ap (λ (x : StayState). x.top) top));
-  goes = goes_with (result_of (function_at program a.top.function)) o caller call a.top i b.top result some
-      (subst (λ f. GoesNextWith caller call.a (word_at a.top.registers.items i.a) f) (sym (ap (λ (x : StayState). x.top) top))
-      (subst (λ n. GoesNextWith caller call.a n g) word becomes));
-}
-
-pub returned_without : (program : Module) (a : StayState) (i : Instr) (b : StayState) (caller g : CallFrame) (call : Instr) (o : Option Slot) → a.callers ≡ b.callers ++ caller ∷ [] → IsFetchedFor program caller call
-    → (call.op ≡ op.Call) × (call.x ≡ a.top.function) → result_of (function_at program a.top.function) ≡ o → is_some o ≡ false
-    → GoesNext caller g → b ≡ record a { top = g; callers = b.callers } → Resumes program a i b
-returned_without program a i b caller g call o callers fetched named result some becomes top = record {
-  caller = caller;
-  call = call;
-  callers = callers;
-  fetched = fetched;
-  op_is = named.0;
-  callee_is = named.1;
-  rest = top ∙ ap (λ g. record a { top = g; callers = b.callers }) (sym (ap (λ (x : StayState). x.top) top));
-  goes = goes_without (result_of (function_at program a.top.function)) o caller call a.top i b.top result some (subst (λ f. GoesNext caller f) (sym (ap (λ (x : StayState). x.top) top)) becomes);
-}
+pub resumes : (program : Module) (a : StayState) (i : Instr) (b : StayState) (caller f : CallFrame) → a.callers ≡ b.callers ++ caller ∷ [] → GoesBack program a.top i caller f → b ≡ stay_with a f b.callers → Resumes program a i b
+resumes program a i b caller f callers back is =
+    let top : b.top ≡ f = ap (λ (x : StayState). x.top) is in
+    record {
+      caller = caller;
+      callers = callers;
+      back = subst (GoesBack program a.top i caller) (sym top) back;
+      rest = is ∙ ap (λ g. stay_with a g b.callers) (sym top);
+    }

@@ -1,7 +1,8 @@
 -- Steps of one stay at a stretch.
-use Rattle.std.proofs.Common.{◌≡◌, ℕ, ◌+◌, false, refl, sym, ap, subst, ◌∙◌, arith}
+use Rattle.std.proofs.Common.{◌≡◌, ℕ, ◌+◌, false, Option, Some, IfSome, refl, sym, ap, subst, ◌∙◌, arith}
 use Rattle.x10_kinds.specs.declared.stop.Stop.{Stop}
 use Rattle.x10_code.specs.declared.instr.Instr.{Instr}
+use Rattle.x10_model.specs.Modules.{Module}
 use Rattle.x10_heap.specs.Heaps.{HeapState}
 use Rattle.x10_place.specs.declared.frame.CallFrame.{CallFrame}
 use Rattle.x10_place.specs.declared.route.Route.{Route}
@@ -13,7 +14,7 @@ use Rattle.x10_place.specs.declared.stay.Pause.TheVariants as pause
 use Rattle.x10_place.specs.Frames.{Workspace, space_of, with_space, IsFetchedFor}
 use Rattle.x10_place.specs.Routes.{route_of}
 use Rattle.x10_place.specs.Stays.{StayState, StoreState, Location, IsPlaced, Refuses, Steps}
-use Rattle.x10_place.specs.Stretches.{IsLocalStep, Locally, none, more, Stretch, still, further, IsStopped, IsStep, Paused}
+use Rattle.x10_place.specs.Stretches.{IsLocalStep, Locally, none, more, Stretch, still, further, Stretched, IsStopped, IsStep, Paused}
 use Rattle.x10_place.specs.StandsFor.{IsWorking}
 use Rattle.x10_place.proofs.Going.{typed_after}
 use Rattle.x10_place.proofs.Placing.{IsChecked}
@@ -67,11 +68,6 @@ module _ (at : Location) (checks : IsChecked at.program) (a : StayState) (s : St
   local_steps n w (none) = record { stretch = still; stands = working }
   local_steps n w (more k v u far step) = local_step k v w (local_steps k v far) step
 
--- so many steps lead to a stay that can make further ones
-pub record Stretched (at : Location) (a : StayState) (s : StoreState) (n : ℕ) (b : StayState) (t : StoreState) : Type 0 where
-  pub stretch : Stretch at a s n b t
-  pub working : IsWorking at t b
-
 pub stretched : (at : Location) (v a : StayState) (r s : StoreState) (g : CallFrame) (heap : HeapState) (n : ℕ) → IsChecked at.program → v ≡ a → r ≡ s → IsWorking at s a → Locally at.program v.top.function (space_of v.top r.heap) n (space_of g heap)
     → g ≡ with_space v.top (space_of g heap) → Stretched at a s n (record v { top = g }) (record r { heap = heap })
 stretched at v a r s g heap n checks seen same working ran kept =
@@ -83,6 +79,10 @@ stretched at v a r s g heap n checks seen same working ran kept =
           (subst (λ x. Stretch at x r n (record v { top = g }) (record r { heap = heap })) seen (subst (λ b. Stretch at v r n b (record r { heap = heap })) back made.stretch));
       working = subst (λ b. IsWorking at (record r { heap = heap }) b) back made.stands;
     }
+
+-- the instruction at which a stretch has ended
+pub fetched_there : (program : Module) (f : CallFrame) (o : Option Instr) (i : Instr) → IfSome o (λ j. IsFetchedFor program f j) → o ≡ Some i → IsFetchedFor program f i
+fetched_there program f o i h e = subst (λ p. IfSome p (λ j. IsFetchedFor program f j)) e h
 
 -- ---- one stretch after another
 

@@ -1,5 +1,5 @@
 -- What comes in at a place: what it does to the stays, and to what the place keeps.
-use Rattle.std.specs.Prelude.{◌≡◌, ℕ, ◌<◌, ◌≤◌, ◌^◌, ◌⊎◌, Bool, true, false, List, [], ◌∷◌, Some, None, length, replicate}
+use Rattle.std.specs.Prelude.{◌≡◌, ℕ, ◌<◌, ◌≤◌, ◌^◌, ◌⊎◌, Bool, true, false, List, [], ◌∷◌, Some, None, length}
 use Rattle.slab.specs.Slab.{Slab, get, Updates}
 use Rattle.x10_code.specs.declared.op.Op.TheVariants as op
 use Rattle.x10_code.specs.declared.instr.Instr.{Instr}
@@ -27,7 +27,7 @@ use Rattle.x10_copy.specs.Arrived.{FitsArrival, IsMisfit, Passes, IsBrought, IsA
 use Rattle.x10_copy.specs.Taken.{IsTakenIn}
 use Rattle.x10_place.specs.declared.frame.CallFrame.{CallFrame}
 use Rattle.x10_place.specs.declared.launching.Launch.{Launch}
-use Rattle.x10_place.specs.Frames.{word_at, IsFetchedFor}
+use Rattle.x10_place.specs.Frames.{word_at, IsFetchedFor, IsEnteredWith}
 use Rattle.x10_place.specs.Stays.{StayState, StoreState, GoesNext, GoesNextWith, Recounts, HasBook, totals_in, books_in, changed_at, finish_as, origin_as}
 use Rattle.x10_place.specs.Receiving.{merged_in, TakesFrame, IsShut}
 use Rattle.x10_place.specs.Sending.{slots_of}
@@ -95,14 +95,6 @@ pub record IsEntrance (program : Module) (l : Launch) (s : Signature) : Type 0 w
   pub signature_is : s ≡ signature_of callee
   pub few : length s.parameters ≤ 16
   pub room : length s.parameters ≤ s.registers
-
--- a frame at the first instruction of a function, with so many registers, of which the first ones have these words
-pub record IsEnteredWith (function count : ℕ) (words : List ℕ) (f : CallFrame) : Type 0 where
-  pub function_is : f.function ≡ function
-  pub pc_is : f.pc ≡ 0
-  pub registers : length f.registers.items ≡ count
-  pub arguments : (r : ℕ) → r < length words → word_at f.registers.items r ≡ word_at words r
-  pub loops_are : f.loops ≡ replicate 8 0
 
 -- the stay that begins with these words
 pub record IsLaunched (l : Launch) (callee : Function) (words : List ℕ) (c : StayState) : Type 0 where

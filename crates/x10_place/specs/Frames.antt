@@ -401,3 +401,11 @@ pub record IsEntered (program : Module) (words : List ℕ) (i : Instr) (f : Call
   pub registers : callee.registers ≤ length f.registers.items
   pub arguments : (r : ℕ) → r < length callee.parameters → word_at f.registers.items r ≡ word_at words (i.b + r)
   pub loops_are : f.loops ≡ replicate 8 0
+
+-- a frame at the first instruction of a function, with so many registers, of which the first ones have these words
+pub record IsEnteredWith (function count : ℕ) (words : List ℕ) (f : CallFrame) : Type 0 where
+  pub function_is : f.function ≡ function
+  pub pc_is : f.pc ≡ 0
+  pub registers : length f.registers.items ≡ count
+  pub arguments : (r : ℕ) → r < length words → word_at f.registers.items r ≡ word_at words r
+  pub loops_are : f.loops ≡ replicate 8 0

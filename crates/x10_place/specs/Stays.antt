@@ -1,5 +1,5 @@
 -- Stays of activities at a place: what they are, and what a step does to one and to what the place keeps.
-use Rattle.std.specs.Prelude.{◌≡◌, ℕ, ◌+◌, ◌<◌, ◌⊎◌, Bool, false, List, [], ◌∷◌, ◌++◌, length, Option, Some, None, slice_get, slice_set, string_bytes}
+use Rattle.std.specs.Prelude.{◌≡◌, ℕ, ◌+◌, ◌<◌, ◌⊎◌, Bool, false, List, [], ◌∷◌, ◌++◌, length, map, Option, Some, None, slice_get, slice_set, string_bytes, Box}
 use Rattle.std.specs.BTreeMap.{is_at}
 use Rattle.std.specs.Map.{lookup}
 use Rattle.std.specs.Ordering.{nat_cmp}
@@ -44,6 +44,10 @@ pub record StayState : Type 0 where
   pub inherited : Finish
   pub away : Bool
   pub back : Option Origin
+
+-- the frames that boxes hold
+abbrev pub frames_of : {Z : Type 0} → List (Box CallFrame Z) → List CallFrame
+frames_of bs = map (λ b. b.value) bs
 
 -- What a place keeps for all its stays: the heap, the lines of output, how many finishes it opened; which place it is, of
 -- how many; what it has counted of each finish; and of each finish that it opened and that is open, by its number, what
@@ -198,15 +202,19 @@ abbrev pub GoesOn : Option Slot → CallFrame → Instr → CallFrame → Instr 
 GoesOn None caller call top i f = GoesNext caller f
 GoesOn (Some slot) caller call top i f = GoesNextWith caller call.a (word_at top.registers.items i.a) f
 
+-- the frame, which stands at its call of the function that ends, goes on
+pub record GoesBack (program : Module) (top : CallFrame) (i : Instr) (caller f : CallFrame) : Type 0 where
+  pub call : Instr
+  pub fetched : IsFetchedFor program caller call
+  pub op_is : call.op ≡ op.Call
+  pub callee_is : call.x ≡ top.function
+  pub goes : GoesOn (result_of (function_at program top.function)) caller call top i f
+
 -- a called function ends
 pub record Resumes (program : Module) (a : StayState) (i : Instr) (b : StayState) : Type 0 where
   pub caller : CallFrame
-  pub call : Instr
   pub callers : a.callers ≡ b.callers ++ caller ∷ []
-  pub fetched : IsFetchedFor program caller call
-  pub op_is : call.op ≡ op.Call
-  pub callee_is : call.x ≡ a.top.function
-  pub goes : GoesOn (result_of (function_at program a.top.function)) caller call a.top i b.top
+  pub back : GoesBack program a.top i caller b.top
   pub rest : b ≡ record a { top = b.top; callers = b.callers }
 
 -- a function ends: its caller goes on, or there is none, and the place ends the stay

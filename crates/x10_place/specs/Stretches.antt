@@ -20,7 +20,7 @@ use Rattle.x10_place.specs.declared.stay.Pause.TheVariants as pause
 use Rattle.x10_place.specs.Messages.{no_sent}
 use Rattle.x10_place.specs.Frames.{Workspace, IsFetched, IsFetchedFor, Acts}
 use Rattle.x10_place.specs.Stays.{StayState, StoreState, Location, IsPlaced, GoesNext, IsBegun, innermost_at, totals_in, books_in, changed_at, Recounts, Steps, Refuses}
-use Rattle.x10_place.specs.StandsFor.{PlaceState, place_of, location_of, plain, Keeps, IsStanding, LeadsAll, IsIdleAt, IsOverfull, IsHindered, OverfillsBegin}
+use Rattle.x10_place.specs.StandsFor.{PlaceState, place_of, location_of, plain, Keeps, IsWorking, IsStanding, LeadsAll, IsIdleAt, IsOverfull, IsHindered, OverfillsBegin}
 use Rattle.x10_place.specs.Routes.{route_of}
 
 -- ---- of one frame
@@ -51,6 +51,11 @@ pub record IsStep (at : Location) (a : StayState) (s : StoreState) (o : Outcome)
 pub data Stretch (at : Location) (a : StayState) (s : StoreState) : ℕ → StayState → StoreState → Type 0 where
   still : Stretch at a s 0 a s
   further : (n : ℕ) (b c : StayState) (t u : StoreState) → Stretch at a s n b t → IsStep at b t outcome.Goes c u → Stretch at a s (n + 1) c u
+
+-- so many steps lead to a stay that can make further ones
+pub record Stretched (at : Location) (a : StayState) (s : StoreState) (n : ℕ) (b : StayState) (t : StoreState) : Type 0 where
+  pub stretch : Stretch at a s n b t
+  pub working : IsWorking at t b
 
 -- the stay stands at an instruction whose step is refused
 pub record IsStopped (at : Location) (a : StayState) (s : StoreState) (why : Stop) : Type 0 where

@@ -120,12 +120,13 @@ pub(crate) fn depart(
     let stay = &stays[key];
     let here = store.spot().here;
     let under = stay.innermost(here);
-    let to = stay.top.word(instr.c) as u16;
+    let top = stay.frame();
+    let to = top.word(instr.c) as u16;
     if store.sent(under, to) == u32::MAX {
         return Err(Stop::Limit(SENT));
     }
     let head = head_of(instr.op, here, to, key, under, instr.x as u16);
-    let bytes = arguments(alloc, verified, store, &stay.top, instr, &head)?;
+    let bytes = arguments(alloc, verified, store, top, instr, &head)?;
     store.spawned(under, to)?;
     part(stays, key, instr.op);
     Ok(Sent {

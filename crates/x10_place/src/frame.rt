@@ -1,13 +1,14 @@
 //! Call frames: a function that is being executed, and what an instruction does to it.
-ghost use Rattle.std.specs.Prelude.{◌≡◌, ◌≢◌, ◌+◌, ◌<◌, ◌≤◌, ◌^◌, ℕ, OnErr, IfOk, Some, length, slice_index};
+ghost use Rattle.std.specs.Prelude.{◌≡◌, ◌≢◌, ◌+◌, ◌<◌, ◌≤◌, ◌^◌, ℕ, OnErr, IfOk, IfNone, IfSome, Some, [], length, replicate, slice_index};
 ghost use Rattle.std.specs.Int.{w64, cast_signed};
+ghost use Rattle.x10_code.specs.declared.op.Op.TheVariants as op;
 ghost use Rattle.x10_model.specs.Moves as machine;
 ghost use Rattle.x10_model.specs.Values.{Int};
 ghost use Rattle.x10_place.specs.declared.route.Local.TheVariants as local;
-ghost use Rattle.x10_place.specs.Frames.{IsInside, IsFetchedFor, int_at, workspace, space_of, with_space, as_value, given, tried, Acts, AsksNumber, Asks, ReadsNumber, ReadsPartial, Reads, Passes, IsEntered};
+ghost use Rattle.x10_place.specs.Frames.{IsInside, IsFetchedFor, int_at, workspace, space_of, with_space, as_value, given, tried, Acts, AsksNumber, Asks, ReadsNumber, ReadsPartial, Reads, Passes, IsEntered, IsEnteredWith};
 ghost use Rattle.x10_place.specs.Routes.{route_of};
 ghost use Rattle.x10_place.specs.StandsFor.{IsTypedFrame};
-ghost use Rattle.x10_place.specs.Stays.{GoesNext, GoesNextWith};
+ghost use Rattle.x10_place.specs.Stays.{IsCalling, GoesNext, GoesNextWith, GoesBack};
 ghost use Rattle.x10_place.specs.Stretches.{Locally};
 
 use crate::heap::{
@@ -30,6 +31,24 @@ pub struct CallFrame {
     pub(crate) pc: u16,
     pub(crate) registers: SmallVec<u64, 8>,
     pub(crate) loops: [u32; 8],
+}
+
+/// A frame at the first instruction of a function, with so many registers, which are 0.
+pub(crate) fn first_frame(
+    alloc: Global,
+    function: u16,
+    registers: usize,
+) -> Result<Box<CallFrame>, AllocError>
+    ensures { IfOk result (λ frame. IsEnteredWith function registers [] frame.value) }
+{
+    let registers = SmallVec::from_elem(alloc, 0, registers)?;
+    let frame = CallFrame {
+        function,
+        pc: 0,
+        registers,
+        loops: [0; 8],
+    };
+    Ok(Box::new(alloc, frame)?)
 }
 
 /// The number in a register.
@@ -258,15 +277,23 @@ impl CallFrame {
     }
 
     /// Operations of this frame alone, one after another: as many as come before one that isn't, and at most so many. How
-    /// many there were.
-    #[inline(never)]
-    pub(crate) fn stretch(&mut self, heap: &mut Heap, verified: &Verified, most: u64) -> u64
+    /// many there were, and the instruction at which the frame stands then, where it isn't of this frame alone.
+    #[inline(always)]
+    pub(crate) fn stretch(
+        &mut self,
+        heap: &mut Heap,
+        verified: &Verified,
+        most: u64,
+    ) -> (u64, Option<Instr>)
         requires inside { IsInside verified.now.program self.old }
         requires typed { IsTypedFrame verified.now.program heap.old self.old }
-        ensures ran { Locally verified.now.program self.old.function (space_of self.old heap.old) result (space_of self.new heap.new) }
+        ensures ran { Locally verified.now.program self.old.function (space_of self.old heap.old) result.0 (space_of self.new heap.new) }
         ensures inside { IsInside verified.now.program self.new }
         ensures kept { self.new ≡ with_space self.old (space_of self.new heap.new) }
-        ensures few { result ≤ most }
+        ensures few { result.0 ≤ most }
+        ensures all { IfNone result.1 (result.0 ≡ most) }
+        ensures fewer { IfSome result.1 (λ _. result.0 < most) }
+        ensures next { IfSome result.1 (IsFetchedFor verified.now.program self.new) }
     {
         verified.certificate();
         let function = usize::from(self.function);
@@ -278,12 +305,22 @@ impl CallFrame {
             let instr = verified.fetch_from(code, function, usize::from(pc));
             let Route::Local(local) = classify(instr.op) else {
                 self.pc = pc;
-                return done;
+                return (done, Some(instr));
             };
             pc = act(registers, loops, heap, verified, local, pc, instr);
         }
         self.pc = pc;
-        most
+        (most, None)
+    }
+
+    /// Stands at the first instruction of a function, with no loop open. Its registers are as they were.
+    #[inline(always)]
+    pub(crate) fn begin(&mut self, function: u16)
+        ensures { self.new ≡ record self.old { function = function; pc = 0; loops = replicate 8 0 } }
+    {
+        self.function = function;
+        self.pc = 0;
+        self.loops = [0; 8];
     }
 
     /// The frame of the function that an instruction calls, or begins an activity with, at its first instruction, with the
@@ -295,30 +332,39 @@ impl CallFrame {
         verified: &Verified,
         store: &mut Store,
         instr: Instr,
-    ) -> Result<CallFrame, AllocError>
+    ) -> Result<Box<CallFrame>, AllocError>
         requires fetched { IsFetchedFor verified.now.program self.now instr }
         requires op { Passes instr.op }
-        ensures entered { IfOk result (IsEntered verified.now.program self.now.registers.items instr) }
+        ensures entered { IfOk result (λ frame. IsEntered verified.now.program self.now.registers.items instr frame.value) }
         ensures kept { store.new ≡ store.old }
     {
         verified.certificate();
         let signature = verified.image().signature(instr.x as usize);
-        let mut registers = store.registers(alloc, usize::from(signature.registers()))?;
+        let mut frame = store.frame(alloc, usize::from(signature.registers()))?;
+        let callee = &mut *frame;
+        callee.begin(instr.x as u16);
         let first = usize::from(instr.b);
         for i in 0..signature.parameters() {
-            registers[i] = self.registers[first + i];
+            callee.registers[i] = self.registers[first + i];
         }
-        Ok(CallFrame {
-            function: instr.x as u16,
-            pc: 0,
-            registers,
-            loops: [0; 8],
-        })
+        Ok(frame)
     }
-
-    /// The registers of a frame that ended.
+    /// Goes on after the call at which the frame stands, with the result of the function that ended, if it gives one.
     #[inline(always)]
-    pub(crate) fn into_registers(self) -> SmallVec<u64, 8> {
-        self.registers
+    pub(crate) fn resume(&mut self, verified: &Verified, ended: &CallFrame, instr: Instr)
+        requires calling { IsCalling verified.now.program self.old ended.now.function }
+        requires inside { IsInside verified.now.program ended.now }
+        requires fetched { IsFetchedFor verified.now.program ended.now instr }
+        requires op { instr.op ≡ op.Ret }
+        ensures { GoesBack verified.now.program ended.now instr self.old self.new }
+    {
+        verified.certificate();
+        let call = verified.fetch(usize::from(self.function), usize::from(self.pc));
+        let signature = verified.image().signature(usize::from(ended.function));
+        if signature.result().is_some() {
+            self.put(call.a, ended.word(instr.a));
+        } else {
+            self.next();
+        }
     }
 }

@@ -8,7 +8,8 @@ ghost use Rattle.x10_frame.specs.Heads.{graph_of};
 ghost use Rattle.x10_copy.specs.Arrived.{FitsArrival};
 ghost use Rattle.x10_copy.specs.Taken.{IsTakenIn};
 ghost use Rattle.x10_copy.specs.declared.refusal.Refusal.TheVariants as refusal;
-ghost use Rattle.x10_place.specs.Arrivals.{Settles, IsUnsettled, MayBegin, IsEntrance, IsEnteredWith, Launches, IsLaunchRefused};
+ghost use Rattle.x10_place.specs.Arrivals.{Settles, IsUnsettled, MayBegin, IsEntrance, Launches, IsLaunchRefused};
+ghost use Rattle.x10_place.specs.Frames.{IsEnteredWith};
 ghost use Rattle.x10_place.specs.Stretches.{IsUntouched};
 
 use crate::frame::CallFrame;
@@ -17,7 +18,6 @@ use crate::starting::{KEYS, MOST_KEYS};
 use crate::stay::{Origin, Stay};
 use crate::store::Store;
 use slab::Slab;
-use smallvec::SmallVec;
 use std::alloc::Global;
 use x10_copy::{Refusal, Roots, bring, check, refusal_of};
 use x10_finish::Finish;
@@ -61,18 +61,13 @@ fn put_words(registers: &mut [u64], words: &[u64])
     registers[..words.len()].copy_from_slice(words);
 }
 
-/// The frame of a function at its first instruction, with these words in its first registers.
-fn entered(function: u16, mut registers: SmallVec<u64, 8>, words: &Roots) -> CallFrame
-    requires { length words.now.items ≤ length registers.items }
-    ensures { IsEnteredWith function (length registers.items) words.now.items result }
+/// The frame stands at the first instruction of a function, with these words in its first registers.
+fn enter(frame: &mut CallFrame, function: u16, words: &Roots)
+    requires { length words.now.items ≤ length frame.old.registers.items }
+    ensures { IsEnteredWith function (length frame.old.registers.items) words.now.items frame.new }
 {
-    put_words(registers.as_mut_slice(), words.as_slice());
-    CallFrame {
-        function,
-        pc: 0,
-        registers,
-        loops: [0; 8],
-    }
+    frame.begin(function);
+    put_words(frame.registers.as_mut_slice(), words.as_slice());
 }
 
 /// What the frame brings comes into the heap, and the activity is counted. Where either is refused, nothing has changed.
@@ -122,10 +117,11 @@ pub(crate) fn launch_with(
         return Err(Refusal::Limit(KEYS));
     }
     stays.reserve(1)?;
-    let registers = store.registers(alloc, usize::from(signature.registers()))?;
+    let mut top = store.frame(alloc, usize::from(signature.registers()))?;
     let roots = settle(alloc, view, store, &launch)?;
+    enter(&mut top, launch.function, &roots);
     stays.insert_reserved(Stay {
-        top: entered(launch.function, registers, &roots),
+        top,
         callers: Vec::new(alloc),
         finishes: Vec::new(alloc),
         inherited: launch.under,

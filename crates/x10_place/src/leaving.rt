@@ -26,11 +26,14 @@ use x10_frame::{Head, write_counts};
 use x10_kinds::Stop;
 use x10_verify::Verified;
 
-/// Takes a stay away.
-fn remove(stays: &mut Slab<Stay>, key: usize)
-    ensures { Updates stays.old stays.new key None }
+/// Takes a stay away, and keeps its call frame for another one.
+fn remove(stays: &mut Slab<Stay>, store: &mut Store, key: usize)
+    ensures gone { Updates stays.old stays.new key None }
+    ensures kept { store.new ≡ store.old }
 {
-    stays.try_remove(key);
+    if let Some(stay) = stays.try_remove(key) {
+        store.keep(stay.into_frame());
+    }
 }
 
 /// The frame that takes the result of a function back to the stay that waits for it.
@@ -124,12 +127,12 @@ pub(crate) fn leave(
     verified.certificate();
     let stay = &stays[key];
     let message = match stay.back {
-        Some(origin) => Some(result(alloc, verified, store, &stay.top, instr, origin)?),
+        Some(origin) => Some(result(alloc, verified, store, stay.frame(), instr, origin)?),
         None => None,
     };
     let inherited = stay.inherited;
     let report = report(alloc, store, inherited)?;
     store.end(inherited);
-    remove(stays, key);
+    remove(stays, store, key);
     Ok(Sent { message, report })
 }

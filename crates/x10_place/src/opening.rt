@@ -4,10 +4,9 @@ ghost use Rattle.slab.specs.Slab.{get};
 ghost use Rattle.x10_place.specs.Opening.{IsMain, HoldsOnly};
 ghost use Rattle.x10_place.specs.Stays.{StayState};
 
-use crate::frame::CallFrame;
+use crate::frame::first_frame;
 use crate::stay::Stay;
 use slab::Slab;
-use smallvec::SmallVec;
 use std::alloc::{AllocError, Global};
 use x10_finish::Finish;
 use x10_verify::Verified;
@@ -24,12 +23,7 @@ fn main(alloc: Global, verified: &Verified) -> Result<Stay, AllocError>
             .registers(),
     );
     Ok(Stay {
-        top: CallFrame {
-            function,
-            pc: 0,
-            registers: SmallVec::from_elem(alloc, 0, registers)?,
-            loops: [0; 8],
-        },
+        top: first_frame(alloc, function, registers)?,
         callers: Vec::new(alloc),
         finishes: Vec::new(alloc),
         inherited: Finish { home: 0, number: 0 },

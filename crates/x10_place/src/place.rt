@@ -229,7 +229,8 @@ impl<'a> Place<'a> {
         ensures op { IfSome result (λ at. IsOperation self.now.program at.0 at.1 at.2) }
     {
         let stay = self.stays.get(key)?;
-        let (function, pc) = (stay.top.function, stay.top.pc);
+        let top = stay.frame();
+        let (function, pc) = (top.function, top.pc);
         let instr = self.verified.fetch(usize::from(function), usize::from(pc));
         Some((function, pc, instr.op))
     }

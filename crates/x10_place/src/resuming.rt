@@ -27,15 +27,14 @@ fn awaited(verified: &Verified, stay: &Stay, from: u16) -> Option<Instr>
     ensures some { IfSome result (IsWaitingFor verified.now.program stay.now from) }
     ensures none { result ≡ None → (call : instr.Instr) → IsAwaiting verified.now.program stay.now from call → ⊥ }
 {
-    verified.certificate();
     if !stay.away {
         return None;
     }
-    let call = verified.fetch(usize::from(stay.top.function), usize::from(stay.top.pc));
+    let call = stay.instr(verified);
     if call.op != Op::At {
         return None;
     }
-    if stay.top.word(call.c) != u64::from(from) {
+    if stay.frame().word(call.c) != u64::from(from) {
         return None;
     }
     Some(call)

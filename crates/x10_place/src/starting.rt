@@ -61,8 +61,7 @@ pub(crate) fn begin(
     if store.live(under) == u32::MAX {
         return Err(Stop::Limit(LIVE));
     }
-    verified.certificate();
-    let instr = verified.fetch(usize::from(stay.top.function), usize::from(stay.top.pc));
+    let instr = stay.instr(verified);
     let Ok(child) = stay.child(alloc, verified, store, instr, under) else {
         return Err(Stop::Memory);
     };

@@ -1,15 +1,16 @@
 //! The stay of an activity at this place, and one step of it.
-ghost use Rattle.std.specs.Prelude.{◌≡◌, ◌+◌, ◌<◌, ◌≤◌, ◌^◌, ◌⊎◌, ℕ, Err, OnErr, OnOk, IfErr, IfOk, length};
+ghost use Rattle.std.specs.Prelude.{◌≡◌, ◌+◌, ◌<◌, ◌≤◌, ◌^◌, ◌⊎◌, ℕ, Err, OnErr, OnOk, IfErr, IfOk, length, IfNone, IfSome};
 ghost use Rattle.x10_code.specs.declared.op.Op.TheVariants as op;
 ghost use Rattle.x10_kinds.specs.declared.stop.Stop.TheVariants as stop;
 ghost use Rattle.x10_code.specs.declared.instr.Instr.{Instr};
 ghost use Rattle.x10_verify.specs.Printing.{PrintsText};
-ghost use Rattle.x10_place.specs.Frames.{IsFetchedFor, word_at};
+ghost use Rattle.x10_place.specs.Frames.{IsInside, IsFetchedFor, word_at};
 ghost use Rattle.x10_place.specs.Routes.{route_of};
 ghost use Rattle.x10_heap.specs.Heaps.{IsFull};
-ghost use Rattle.x10_place.specs.StandsFor.{IsWorking};
+ghost use Rattle.x10_place.specs.StandsFor.{IsTypedFrame, IsWorking};
+ghost use Rattle.x10_place.specs.declared.stay.Spot.{Spot};
 ghost use Rattle.x10_place.specs.Stays.{location, finish_as, innermost_at, IsBegun, IsPlaced, Calls, Returns, IsPrinted, Prints, OpensFinish, LeavesFinish, HasFinish, ReadsStore, OverfillsBy, Refuses, Steps};
-ghost use Rattle.x10_place.specs.Stretches.{Paused};
+ghost use Rattle.x10_place.specs.Stretches.{Stretched, Paused};
 
 use crate::frame::CallFrame;
 use crate::line::Line;
@@ -42,8 +43,8 @@ pub struct Origin {
 /// result goes.
 #[derive(Drop)]
 pub struct Stay {
-    pub(crate) top: CallFrame,
-    pub(crate) callers: Vec<CallFrame>,
+    pub(crate) top: Box<CallFrame>,
+    pub(crate) callers: Vec<Box<CallFrame>>,
     pub(crate) finishes: Vec<u32>,
     pub(crate) inherited: Finish,
     pub(crate) away: bool,
@@ -52,11 +53,11 @@ pub struct Stay {
 
 impl Model for Stay {
     ghost use Rattle.std.specs.Prelude.{reverse};
-    ghost use Rattle.x10_place.specs.Stays.{StayState, finish_as, origin_as};
+    ghost use Rattle.x10_place.specs.Stays.{StayState, finish_as, origin_as, frames_of};
 
     ghost Value = { StayState };
 
-    ghost view = { λ a. record { top = a.top; callers = a.callers.items; finishes = reverse a.finishes.items; inherited = finish_as a.inherited; away = a.away; back = origin_as a.back } };
+    ghost view = { λ a. record { top = a.top.value; callers = frames_of a.callers.items; finishes = reverse a.finishes.items; inherited = finish_as a.inherited; away = a.away; back = origin_as a.back } };
 }
 
 /// What becomes of a stay by a step.
@@ -105,17 +106,35 @@ impl Stay {
         let Some(mut caller) = self.callers.pop() else {
             return Outcome::ForPlace;
         };
-        verified.certificate();
-        let call = verified.fetch(usize::from(caller.function), usize::from(caller.pc));
-        let signature = verified.image().signature(usize::from(self.top.function));
-        if signature.result().is_some() {
-            caller.put(call.a, self.top.word(instr.a));
-        } else {
-            caller.next();
-        }
+        caller.resume(verified, &self.top, instr);
         let ended = std::mem::replace(&mut self.top, caller);
-        store.keep(ended.into_registers());
+        store.keep(ended);
         Outcome::Goes
+    }
+
+    /// The call frame of the function that it executes.
+    #[inline(always)]
+    pub(crate) fn frame(&self) -> &CallFrame
+        ensures { result.now ≡ self.now.top }
+    {
+        &self.top
+    }
+
+    /// The instruction at which the stay stands.
+    #[inline(always)]
+    pub(crate) fn instr(&self, verified: &Verified) -> Instr
+        requires { IsInside verified.now.program self.now.top }
+        ensures { IsFetchedFor verified.now.program self.now.top result }
+    {
+        verified.certificate();
+        let top = self.frame();
+        verified.fetch(usize::from(top.function), usize::from(top.pc))
+    }
+
+    /// The call frame of a stay that ended.
+    #[inline(always)]
+    pub(crate) fn into_frame(self) -> Box<CallFrame> {
+        self.top
     }
 
     /// The innermost finish that is open here, or the one that the stay inherited.
@@ -205,8 +224,9 @@ impl Stay {
         requires text { PrintsText verified.now.program self.now.top.function self.now.top.pc → word_at self.now.top.registers.items register < length heap.now.texts }
         ensures { IfOk result (IsPrinted verified.now.program heap.now self.now.top register) }
     {
-        let word = self.top.word(register);
-        if !verified.prints_text(usize::from(self.top.function), usize::from(self.top.pc)) {
+        let top = self.frame();
+        let word = top.word(register);
+        if !verified.prints_text(usize::from(top.function), usize::from(top.pc)) {
             return Ok(Line::Int(word.cast_signed()));
         }
         heap.fits();
@@ -301,6 +321,22 @@ pub(crate) enum Pause {
 }
 
 impl Stay {
+    /// Operations of the top frame alone: as many as come before one that isn't, and at most so many. How many there were,
+    /// and the instruction at which the stay stands then, where it isn't of the frame alone.
+    #[inline(always)]
+    fn stretch(&mut self, verified: &Verified, store: &mut Store, most: u64) -> (u64, Option<Instr>)
+        requires inside { IsInside verified.now.program self.old.top }
+        requires typed { IsTypedFrame verified.now.program store.old.heap self.old.top }
+        ensures ran { (spot : Spot) → IsWorking (location verified.now.program spot) store.old self.old → Stretched (location verified.now.program spot) self.old store.old result.0 self.new store.new }
+        ensures few { result.0 ≤ most }
+        ensures all { IfNone result.1 (result.0 ≡ most) }
+        ensures fewer { IfSome result.1 (λ _. result.0 < most) }
+        ensures next { IfSome result.1 (λ i. IsFetchedFor verified.now.program self.new.top i) }
+    {
+        verified.certificate();
+        self.top.stretch(&mut store.heap, verified, most)
+    }
+
     /// Operations of the top frame alone, and then a step of any kind, but at most so many in all: how many steps were
     /// made.
     fn stride(
@@ -320,11 +356,10 @@ impl Stay {
         ensures less { result.1 ≡ Pause.ForPlace → result.0 < most }
     {
         verified.certificate();
-        let done = self.top.stretch(&mut store.heap, verified, most);
-        if done == most {
+        let (done, next) = self.stretch(verified, store, most);
+        let Some(instr) = next else {
             return (done, Pause::Goes);
-        }
-        let instr = verified.fetch(usize::from(self.top.function), usize::from(self.top.pc));
+        };
         match self.step(alloc, verified, spot, store, instr) {
             Ok(Outcome::Goes) => (done + 1, Pause::Goes),
             Ok(Outcome::Waits) => (done, Pause::Waits),

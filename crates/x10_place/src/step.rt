@@ -35,8 +35,7 @@ fn by_place(
     ensures full { (limit : ℕ) → IsOverfull (place_of verified.now stays.old store.old false) key limit → result ≡ Err (stop.Limit limit) }
 {
     verified.certificate();
-    let top = &stays[key].top;
-    let instr = verified.fetch(usize::from(top.function), usize::from(top.pc));
+    let instr = stays[key].instr(verified);
     match classify(instr.op) {
         Route::Begin => begin(alloc, verified, stays, store, key),
         Route::Send => depart(alloc, verified, stays, store, key, instr),
@@ -65,7 +64,7 @@ pub(crate) fn step_in(
     if stay.away {
         return Ok(Stepped::Idle);
     }
-    let instr = verified.fetch(usize::from(stay.top.function), usize::from(stay.top.pc));
+    let instr = stay.instr(verified);
     match stay.step(alloc, verified, spot, store, instr) {
         Ok(Outcome::Goes) => Ok(Stepped::Moved(no_sent())),
         Ok(Outcome::Waits) => Ok(Stepped::Idle),

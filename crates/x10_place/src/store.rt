@@ -11,9 +11,9 @@ ghost use Rattle.x10_place.specs.Stays.{finish_as, finish_at, totals_in, books_i
 ghost use Rattle.x10_place.specs.Receiving.{report_of};
 ghost use Rattle.x10_place.specs.Arrivals.{Merges, IsOpenHere, Comes, IsKeptOut};
 
+use crate::frame::{CallFrame, first_frame};
 use crate::line::Line;
 use crate::stay::Spot;
-use smallvec::SmallVec;
 use std::alloc::{AllocError, Global};
 use std::collections::BTreeMap;
 use std::marker::Model;
@@ -27,7 +27,7 @@ const FINISHES: u8 = 5;
 
 /// What a place keeps for all its stays: the heap, the lines of output, and how many finishes it opened; what it has
 /// counted of each finish, and a book of each that it opened and that is open; which parts of the heap the last message took
-/// along; and the registers of frames that ended, for those to come.
+/// along; and the call frames of functions that ended, for those to come.
 #[derive(Drop)]
 pub(crate) struct Store {
     alloc: Global,
@@ -37,7 +37,7 @@ pub(crate) struct Store {
     tally: Tally,
     books: BTreeMap<u32, Book>,
     pub(crate) marks: Marks,
-    spare: Vec<SmallVec<u64, 8>>,
+    spare: Vec<Box<CallFrame>>,
 }
 
 impl Model for Store {
@@ -95,33 +95,34 @@ impl Store {
         Ok(())
     }
 
-    /// At least so many registers, of any words: those of a frame that ended, if there are some.
+    /// A call frame with at least so many registers, of any words, wherever it stands: that of a function that ended, if
+    /// there is one.
     #[inline(always)]
-    pub(crate) fn registers(
+    pub(crate) fn frame(
         &mut self,
         alloc: Global,
         count: usize,
-    ) -> Result<SmallVec<u64, 8>, AllocError>
-        ensures count { IfOk result (λ registers. count ≤ length registers.items) }
+    ) -> Result<Box<CallFrame>, AllocError>
+        ensures count { IfOk result (λ frame. count ≤ length frame.value.registers.items) }
         ensures kept { self.new ≡ self.old }
     {
         self.spare.reserve(1)?;
-        let Some(mut registers) = self.spare.pop() else {
-            return SmallVec::from_elem(alloc, 0, count);
+        let Some(mut frame) = self.spare.pop() else {
+            return first_frame(alloc, 0, count);
         };
-        if registers.len() < count {
-            registers.resize(count, 0)?;
+        if frame.registers.len() < count {
+            frame.registers.resize(count, 0)?;
         }
-        Ok(registers)
+        Ok(frame)
     }
 
-    /// Takes the registers of a frame that ended. Takes no memory: where there is no room for them, they go.
+    /// Takes the call frame of a function that ended. Takes no memory: where there is no room for it, it goes.
     #[inline(always)]
-    pub(crate) fn keep(&mut self, registers: SmallVec<u64, 8>)
+    pub(crate) fn keep(&mut self, frame: Box<CallFrame>)
         ensures { self.new ≡ self.old }
     {
         if self.spare.len() < self.spare.capacity() {
-            self.spare.push_reserved(registers);
+            self.spare.push_reserved(frame);
         }
     }
 }

@@ -1,11 +1,11 @@
 -- What the bounds of a module say of each of its functions: its potential falls, and its calls cost what they can take.
-use Rattle.std.proofs.Common.{◌≡◌, ℕ, zero, suc, ◌+◌, ◌<◌, true, List, [], ◌∷◌, ◌++◌, length, take, Option, Some, None, Result, Ok, Err, refl, sym, ap, subst, ◌∙◌, arith, append_assoc, append-nil, length-append, take_at}
+use Rattle.std.proofs.Common.{◌≡◌, ℕ, zero, suc, ◌+◌, ◌<◌, true, List, [], ◌∷◌, ◌++◌, length, take, Some, None, Ok, refl, sym, ap, subst, ◌∙◌, arith, append_assoc, append-nil, length-append, take_at}
 use Rattle.std.specs.Prelude.{slice_get, slice_index, nat_lt, if◌then◌else◌}
 use Rattle.std.proofs.lemmas.Bool.{ltb-true}
 use Rattle.x10_code.specs.declared.instr.Instr.{Instr}
 use Rattle.x10_model.specs.Modules.{Module, Function}
 use Rattle.x10_model.specs.Ranges.{function_at}
-use Rattle.x10_model.specs.Structure.{BoundFault, BoundCause, Nesting, Jump, LoopSlot, CallOrder, cost, is_call, calls_earlier, bound_of, nesting_fault, jump_fault, slot_fault, order_fault, unless, checked_bound, with_bound, bounds_from, bounds_of}
+use Rattle.x10_model.specs.Structure.{Nesting, Jump, LoopSlot, CallOrder, cost, is_call, calls_earlier, bound_of, nesting_fault, jump_fault, slot_fault, order_fault, checked_bound, bounds_from, bounds_of}
 use Rattle.x10_model.proofs.Bounds.{unless_ok, with_ok}
 use Rattle.x10_model.proofs.Lists.{append_get}
 use Rattle.x10_image.specs.Parts.{code_in, code_at}

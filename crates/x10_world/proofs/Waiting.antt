@@ -1,25 +1,24 @@
 -- A step waits at the end of a finish only where something lives that the finish governs, or a message flies.
-use Rattle.std.proofs.Common.{◌≡◌, ℕ, true, false, List, [], ◌∷◌, length, Option, Some, None, refl, sym, ap, subst, ◌∙◌, inl, inr}
+use Rattle.std.proofs.Common.{◌≡◌, ℕ, true, false, List, [], ◌∷◌, length, Option, Some, None, refl, sym, ap, subst, ◌∙◌}
 use Rattle.std.specs.Prelude.{slice_get}
 use Rattle.std.proofs.lemmas.Option.{same_Some, slice_get_within}
 use Rattle.x10_code.specs.declared.op.Op.{Op}
-use Rattle.x10_code.specs.declared.op.Op.TheVariants as op
-use Rattle.x10_code.specs.declared.instr.Instr.{Instr}
-use Rattle.x10_model.specs.Modules.{Module, Function}
-use Rattle.x10_model.specs.Ranges.{instr_in, instr_at}
+use Rattle.x10_model.specs.Modules.{Module}
 use Rattle.x10_model.specs.Places as machine
 use Rattle.x10_model.specs.Places.{Setting, Finish, Stay, Effect, Waits, Closes}
-use Rattle.x10_model.specs.Moves.{Situation, Does, Moves}
+use Rattle.x10_model.specs.Moves.{Situation, Moves}
 use Rattle.x10_model.specs.Worlds.{World}
 use Rattle.x10_finish.specs.Closing.{IsAtItsEnd}
 use Rattle.x10_finish.specs.Nesting.{stays_in, stays_of}
 use Rattle.x10_finish.proofs.Watching.{ended_is_done}
 use Rattle.x10_place.specs.Stays.{StayState, IsDoneHere, finish_at}
-use Rattle.x10_place.specs.StandsFor.{PlaceState, store_of, IsIdleAt, nobody, away, waits, IsOperation}
+use Rattle.x10_place.specs.StandsFor.{PlaceState, store_of, IsIdleAt, nobody, away, waits}
 use Rattle.x10_world.specs.Flights.{FlightsState, flight_among}
 use Rattle.x10_world.specs.Prompt.{MayEnd, WorksIn}
 use Rattle.x10_world.specs.StandsForWorld.{BelongTo, setting_in, counts_in, AllStandFor, EndedIsDoneHere}
 use Rattle.x10_model.proofs.NotWrong.{situation}
+use Rattle.x10_model.proofs.Ways as ways
+use Rattle.x10_model.proofs.Ways.{Way, way_of}
 use Rattle.x10_model.proofs.Lists.{none_some}
 use Rattle.x10_world.proofs.Moving.{done_by}
 
@@ -71,42 +70,19 @@ idle_works program bounds places flights w here key number p belong stand empty 
 
 -- ---- a move that waits
 
-waits_is : (m n : ℕ) → Waits m ≡ Waits n → n ≡ m
-waits_is m n e = cc
+-- such a move waits for the innermost finish
+waits_innermost : (s : Situation) (o : Op) (new : machine.Place) (number : ℕ) → Way s o new (Waits number) → (outer : List ℕ) × (s.stay.finishes ≡ number ∷ outer)
+waits_innermost s o new number (ways.waits n finishes innermost) = (finishes, innermost)
 
--- the move at the end of a finish waits for the innermost one
-waits_innermost : (s : Situation) (new : machine.Place) (number : ℕ) → Does op.Fine s new (Waits number) → (outer : List ℕ) × (s.stay.finishes ≡ number ∷ outer)
-waits_innermost s new number (n, finishes, innermost, inl waited) = (finishes, subst (λ k. s.stay.finishes ≡ k ∷ finishes) (waits_is number n waited.1) innermost)
-waits_innermost s new number (n, finishes, innermost, inr closed) = absurd (let e = closed.1 in cc)
-
--- the move's instruction is the one at which the place's activity stands
-move_op : (setting : Setting) (here key : ℕ) (old new : machine.Place) (effect : Effect) (m : Moves setting here old key new effect) (program : Module) (f pc : ℕ) (o : Op) → setting.program ≡ program → m.stay.top.function ≡ f → m.stay.top.pc ≡ pc → IsOperation program f pc o → m.instr.op ≡ o
-move_op setting here key old new effect m program f pc o same function-is pc-is (i, there, op-is) =
-    let own : instr_at setting.program m.stay.top.function m.stay.top.pc ≡ Some m.instr = subst (λ (g : Option Function). instr_in g m.stay.top.pc ≡ Some m.instr) (sym m.function_is) m.instr_is in
-    let at : instr_at program f pc ≡ Some m.instr = subst (λ g. instr_at g f pc ≡ Some m.instr) same (subst (λ g. instr_at setting.program g pc ≡ Some m.instr) function-is (subst (λ k. instr_at setting.program m.stay.top.function k ≡ Some m.instr) pc-is own)) in
-    ap (λ (j : Instr). j.op) (same_Some m.instr i (sym at ∙ there)) ∙ op-is
-
-move_waits : (setting : Setting) (here key number : ℕ) (old new : machine.Place) (effect : Effect) (m : Moves setting here old key new effect) → m.instr.op ≡ op.Fine → effect ≡ Waits number → (outer : List ℕ) × (m.stay.finishes ≡ number ∷ outer)
-move_waits setting here key number old new effect m fine e = waits_innermost (situation m) new number (subst (λ o. Does o (situation m) new (Waits number)) fine (subst (λ f. Does m.instr.op (situation m) new f) e m.does))
+move_waits : (setting : Setting) (here key number : ℕ) (old new : machine.Place) (effect : Effect) (m : Moves setting here old key new effect) → effect ≡ Waits number → (outer : List ℕ) × (m.stay.finishes ≡ number ∷ outer)
+move_waits setting here key number old new effect m e = waits_innermost (situation m) m.instr.op new number (subst (Way (situation m) m.instr.op new) e (way_of m.instr.op (situation m) new effect m.does))
 
 -- a place's step that finds nothing to do is such a wait
 pub idle_prompt : (program : Module) (bounds : List ℕ) (places : List PlaceState) (flights : FlightsState) (w : World) (here key number : ℕ) (p : PlaceState) (m new : machine.Place) (effect : Effect) → BelongTo program bounds (length places) places → AllStandFor program bounds places flights w → flights.flying ≡ [] → slice_get places here ≡ Some p
     → IsIdleAt p key → w.net.places here ≡ Some m → Moves (setting_in program places) here m key new effect → effect ≡ Waits number → MayEnd w (finish_at here number) → ⊥
-idle_prompt program bounds places flights w here key number p m new effect belong stand empty is idle there moves e may = idle_works program bounds places flights w here key number p belong stand empty is idle (works idle) may
+idle_prompt program bounds places flights w here key number p m new effect belong stand empty is idle there moves e may = idle_works program bounds places flights w here key number p belong stand empty is idle works may
   where
-    at_key : stays_of w.net here key ≡ Some moves.stay
-    at_key = ap (λ o. stays_in o key) there ∙ moves.is_there
-
-    old_key : (stand.some here p is).0.stays key ≡ Some moves.stay
-    old_key = same_stay places program bounds flights w here key p moves.stay stand is at_key
-
-    works : IsIdleAt p key → WorksIn w here key number
-    works (nobody none) = absurd (let old = stand.some here p is in none_some (old.0.stays key) moves.stay (old.2.none key none) old_key)
-    works (away a at on) = absurd (let old = stand.some here p is in let s = old.2.some key a at in ready_away s.0 moves.stay a (same_Some s.0 moves.stay (sym s.1 ∙ old_key)) s.2.away on moves.is_ready)
-    works (waits a n outer at fine innermost not) =
-        let old = stand.some here p is in
-        let s = old.2.some key a at in
-        let same = same_Some s.0 moves.stay (sym s.1 ∙ old_key) in
-        let own = move_waits (setting_in program places) here key number m new effect moves
-        (move_op (setting_in program places) here key m new effect moves p.program a.top.function a.top.pc op.Fine (sym (belong here p is).program_is) (sym (ap (λ (t : Stay). t.top.function) same) ∙ s.2.top.function_is) (sym (ap (λ (t : Stay). t.top.pc) same) ∙ s.2.top.pc_is) fine) e in
-        record { stay = moves.stay; outer = own.0; is_there = at_key; is_ready = moves.is_ready; innermost_is = own.1 }
+    works : WorksIn w here key number
+    works =
+        let own = move_waits (setting_in program places) here key number m new effect moves e in
+        record { stay = moves.stay; outer = own.0; is_there = ap (λ o. stays_in o key) there ∙ moves.is_there; is_ready = moves.is_ready; innermost_is = own.1 }

@@ -1,7 +1,9 @@
-use Rattle.std.proofs.Common.{◌∙◌, rules}
+use Rattle.std.proofs.Common.{◌≤◌, length, sym, ap, subst, ◌∙◌, rules}
 use Rattle.x10_frame.specs.Heads.{graph_of}
+use Rattle.x10_place.specs.declared.frame.CallFrame.{CallFrame}
+use Rattle.x10_place.specs.Frames.{IsEnteredWith}
 use Rattle.x10_place.specs.Arrivals.{IsOpenHere, FitsLaunch, IsUnsettled, Settles, IsLaunchRefused}
-use Rattle.x10_place.specs.Stays.{finish_as}
+use Rattle.x10_place.specs.Stays.{finish_as, frames_of}
 use Rattle.x10_place.proofs.Entering.{roots_few, taken_beside, unsettled_refused, launches}
 use Rattle.x10_place.proofs.launching.launch_with.Goals as goal
 
@@ -13,17 +15,19 @@ returns-in_err-roots-clause-refused c =
     let refused : IsLaunchRefused c.args.verified.now.program c.args.stays.now c.args.store.now c.args.view.now c.args.launch c.in_err-roots.field-0.0 = unsettled_refused c.args.verified.now.program c.args.store.now c.args.view.now c.args.launch fits c.in_ok-signature.signature c.in_ok-signature.ensures.ok c.args.stays.now c.in_err-roots.field-0.0 is_open why in
     search rules
 
-pub entered-requires : goal.entered-requires
-entered-requires c =
+pub enter-requires : goal.enter-requires
+enter-requires c =
     let fits : FitsLaunch c.args.verified.now.program c.args.store.now c.args.view.now c.args.launch = search rules in
     let settles : Settles c.args.store.now _ c.args.launch c.in_ok-roots.roots.items c.settle.new.store = search rules in
-    roots_few c.args.verified.now.program c.args.store.now c.args.view.now c.args.launch fits c.in_ok-signature.signature c.in_ok-signature.ensures.ok c.settle.new.store c.in_ok-roots.roots.items c.from.result _ settles (c.from.ensures ∙ c.registers.ensures.value) c.in_ok-registers.ensures.count
+    subst (λ (f : CallFrame). length c.in_ok-roots.roots.items ≤ length f.registers.items) (sym c.deref_mut.ensures.value)
+    (roots_few c.args.verified.now.program c.args.store.now c.args.view.now c.args.launch fits c.in_ok-signature.signature c.in_ok-signature.ensures.ok c.settle.new.store c.in_ok-roots.roots.items c.from.result _ settles (c.from.ensures ∙ c.registers.ensures.value) c.in_ok-top.ensures.count)
 
 pub returns-clause-ok : goal.returns-clause-ok
 returns-clause-ok c =
     let fits : FitsLaunch c.args.verified.now.program c.args.store.now c.args.view.now c.args.launch = search rules in
     let is_open : IsOpenHere c.args.store.now (finish_as c.args.launch.under) = search rules in
     let settles : Settles c.args.store.now _ c.args.launch c.in_ok-roots.roots.items c.settle.new.store = search rules in
-    launches c.args.verified.now.program c.args.store.now c.args.view.now c.args.launch fits c.in_ok-signature.signature c.in_ok-signature.ensures.ok c.args.stays.now c.insert_reserved.new.self c.settle.new.store c.in_ok-roots.roots.items c.from.result c.insert_reserved.result _ c.entered.result c.new.result.items c.new-2.result.items
-    is_open settles (taken_beside c.registers-2.new.self c.args.store.now c.settle.new.store.heap c.args.view.now c.in_ok-roots.roots.items (search rules) c.in_ok-roots.ensures.taken)
-    (c.from.ensures ∙ c.registers.ensures.value) c.in_ok-registers.ensures.count (search rules) (search rules) c.entered.ensures c.new.ensures.items c.new-2.ensures.items (search rules)
+    let entered = subst (λ (f : CallFrame). IsEnteredWith c.args.launch.function (length f.registers.items) c.in_ok-roots.roots.items c.enter.new.frame) c.deref_mut.ensures.value c.enter.ensures in
+    launches c.args.verified.now.program c.args.store.now c.args.view.now c.args.launch fits c.in_ok-signature.signature c.in_ok-signature.ensures.ok c.args.stays.now c.insert_reserved.new.self c.settle.new.store c.in_ok-roots.roots.items c.from.result c.insert_reserved.result _ c.enter.new.frame (frames_of c.new.result.items) c.new-2.result.items
+    is_open settles (taken_beside c.frame.new.self c.args.store.now c.settle.new.store.heap c.args.view.now c.in_ok-roots.roots.items (search rules) c.in_ok-roots.ensures.taken)
+    (c.from.ensures ∙ c.registers.ensures.value) c.in_ok-top.ensures.count (search rules) (search rules) entered (ap frames_of c.new.ensures.items) c.new-2.ensures.items (search rules)

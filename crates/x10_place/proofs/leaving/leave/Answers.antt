@@ -1,5 +1,6 @@
 use Rattle.std.proofs.Common.{sym, ap, subst, false, ◌∙◌}
 use Rattle.x10_copy.specs.Captured.{kinds_of, Refuses}
+use Rattle.x10_place.specs.declared.frame.CallFrame.{CallFrame}
 use Rattle.x10_place.specs.Sending.{StandForSome, slots_of_end, words_from}
 use Rattle.x10_place.specs.StandsFor.{place_of, IsHindered}
 use Rattle.x10_place.specs.Stays.{StayState, finish_as, origin_as}
@@ -10,14 +11,14 @@ use Rattle.x10_place.proofs.leaving.leave.Goals as goal
 
 pub result-requires-clause-standing : goal.result-requires-clause-standing
 result-requires-clause-standing c =
-    subst (λ (q : StayState). StandForSome c.args.verified.now.program c.args.store.now (slots_of_end c.args.verified.now.program q.top) (words_from q.top c.args.instr.a (slots_of_end c.args.verified.now.program q.top))) (sym c.stay.view_is)
+    subst (λ (f : CallFrame). StandForSome c.args.verified.now.program c.args.store.now (slots_of_end c.args.verified.now.program f) (words_from f c.args.instr.a (slots_of_end c.args.verified.now.program f))) (sym c.frame.ensures)
     (result_of_it c.args.verified.now c.args.stays.now c.args.store.now c.args.key c.args.instr (checked c.args.verified.now c.certificate.ensures) c.requires.place c.index-stay.result.now c.index-stay.ensures c.requires.op)
 
 pub returns-in_err-result-in-Some-clause-refused : goal.returns-in_err-result-in-Some-clause-refused
 returns-in_err-result-in-Some-clause-refused c =
     err_gives c.from_residual.result c.in_err-result-in-Some.field-0.0 (IsHindered (place_of c.args.verified.now c.args.stays.now c.args.store.now false) c.args.key) c.from_residual.ensures.1
     (result_refused c.args.verified.now c.args.stays.now c.args.store.now c.args.key c.args.instr (checked c.args.verified.now c.certificate.ensures) c.requires.place c.index-stay.result.now c.index-stay.ensures c.requires.op (record { place = c.in-Some.origin.place; key = c.in-Some.origin.key }) c.in_err-result-in-Some.field-0.0 (ap (λ (q : StayState). q.back) (sym c.stay.view_is) ∙ ap origin_as c.in-Some.is)
-    (subst (λ (q : StayState). Refuses c.args.verified.now.program.classes c.args.store.now.heap (kinds_of (slots_of_end c.args.verified.now.program q.top)) (words_from q.top c.args.instr.a (slots_of_end c.args.verified.now.program q.top)) c.in_err-result-in-Some.field-0.0) c.stay.view_is c.in_err-result-in-Some.ensures.err))
+    (subst (λ (f : CallFrame). Refuses c.args.verified.now.program.classes c.args.store.now.heap (kinds_of (slots_of_end c.args.verified.now.program f)) (words_from f c.args.instr.a (slots_of_end c.args.verified.now.program f)) c.in_err-result-in-Some.field-0.0) c.frame.ensures c.in_err-result-in-Some.ensures.err))
 
 pub report-requires-clause-live : goal.report-requires-clause-live
 report-requires-clause-live c =

@@ -1,7 +1,6 @@
-use Rattle.std.proofs.Common.{◌≡◌, sym, ap, subst, ◌∙◌}
+use Rattle.std.proofs.Common.{◌≡◌, sym, subst, ◌∙◌}
 use Rattle.x10_code.specs.declared.instr.Instr.{Instr}
 use Rattle.x10_code.specs.declared.op.Op.TheVariants as op
-use Rattle.x10_place.specs.Stays.{StayState}
 use Rattle.x10_place.proofs.Placing.{checked, is_begin, is_return}
 use Rattle.x10_place.proofs.Partings.{begun_ok, departed_ok, left_ok, begin_refused, begin_full, end_full, fetched_is}
 use Rattle.x10_place.proofs.step.by_place.Goals as goal
@@ -11,21 +10,21 @@ returns-in-Begin-clause-ok c = begun_ok c.args.verified.now c.args.stays.now c.a
 
 pub returns-in-Begin-clause-refused : goal.returns-in-Begin-clause-refused
 returns-in-Begin-clause-refused c =
-    let same = fetched_is c.args.verified.now c.args.stays.now c.args.store.now c.args.key (checked c.args.verified.now c.certificate.ensures) c.requires c.index.result.now c.from.result c.from-2.result c.fetch-instr.result c.index.ensures (c.from.ensures ∙ ap (λ (a : StayState). a.top.function) c.behind-stays.view_is) (c.from-2.ensures ∙ ap (λ (a : StayState). a.top.pc) c.behind-stays.view_is) c.fetch-instr.ensures.value in
-    begin_refused c.args.verified.now c.args.stays.now c.args.store.now c.args.key (checked c.args.verified.now c.certificate.ensures) c.requires c.begin.result (subst (λ (i : Instr). i.op ≡ op.Async) (sym same) (is_begin c.fetch-instr.result.op (sym c.classify.ensures ∙ c.in-Begin.is))) c.begin.ensures.refused
+    let same = fetched_is c.args.verified.now c.args.stays.now c.args.store.now c.args.key (checked c.args.verified.now c.certificate.ensures) c.requires c.index.result.now c.instr-instr.result c.index.ensures c.instr-instr.ensures in
+    begin_refused c.args.verified.now c.args.stays.now c.args.store.now c.args.key (checked c.args.verified.now c.certificate.ensures) c.requires c.begin.result (subst (λ (i : Instr). i.op ≡ op.Async) (sym same) (is_begin c.instr-instr.result.op (sym c.classify.ensures ∙ c.in-Begin.is))) c.begin.ensures.refused
 
 pub returns-in-Begin-clause-full : goal.returns-in-Begin-clause-full
 returns-in-Begin-clause-full c = λ limit over.
-    let same = fetched_is c.args.verified.now c.args.stays.now c.args.store.now c.args.key (checked c.args.verified.now c.certificate.ensures) c.requires c.index.result.now c.from.result c.from-2.result c.fetch-instr.result c.index.ensures (c.from.ensures ∙ ap (λ (a : StayState). a.top.function) c.behind-stays.view_is) (c.from-2.ensures ∙ ap (λ (a : StayState). a.top.pc) c.behind-stays.view_is) c.fetch-instr.ensures.value in
-    c.begin.ensures.full limit c.requires.1.stay c.requires.1.is_there (begin_full c.args.verified.now c.args.stays.now c.args.store.now c.args.key (checked c.args.verified.now c.certificate.ensures) c.requires (subst (λ (i : Instr). i.op ≡ op.Async) (sym same) (is_begin c.fetch-instr.result.op (sym c.classify.ensures ∙ c.in-Begin.is))) limit over)
+    let same = fetched_is c.args.verified.now c.args.stays.now c.args.store.now c.args.key (checked c.args.verified.now c.certificate.ensures) c.requires c.index.result.now c.instr-instr.result c.index.ensures c.instr-instr.ensures in
+    c.begin.ensures.full limit c.requires.1.stay c.requires.1.is_there (begin_full c.args.verified.now c.args.stays.now c.args.store.now c.args.key (checked c.args.verified.now c.certificate.ensures) c.requires (subst (λ (i : Instr). i.op ≡ op.Async) (sym same) (is_begin c.instr-instr.result.op (sym c.classify.ensures ∙ c.in-Begin.is))) limit over)
 
 pub returns-in-Send-clause-ok : goal.returns-in-Send-clause-ok
 returns-in-Send-clause-ok c = departed_ok c.args.verified.now c.args.stays.now c.args.store.now c.args.key (checked c.args.verified.now c.certificate.ensures) c.requires c.depart.new.stays c.depart.new.store c.depart.result c.depart.ensures.ok
 
 pub returns-in-Return : goal.returns-in-Return
 returns-in-Return c =
-    let same = fetched_is c.args.verified.now c.args.stays.now c.args.store.now c.args.key (checked c.args.verified.now c.certificate.ensures) c.requires c.index.result.now c.from.result c.from-2.result c.fetch-instr.result c.index.ensures (c.from.ensures ∙ ap (λ (a : StayState). a.top.function) c.behind-stays.view_is) (c.from-2.ensures ∙ ap (λ (a : StayState). a.top.pc) c.behind-stays.view_is) c.fetch-instr.ensures.value in
-    let ret = is_return c.fetch-instr.result.op (sym c.classify.ensures ∙ c.in-Return.is) in
+    let same = fetched_is c.args.verified.now c.args.stays.now c.args.store.now c.args.key (checked c.args.verified.now c.certificate.ensures) c.requires c.index.result.now c.instr-instr.result c.index.ensures c.instr-instr.ensures in
+    let ret = is_return c.instr-instr.result.op (sym c.classify.ensures ∙ c.in-Return.is) in
     record {
       ok = left_ok c.args.verified.now c.args.stays.now c.args.store.now c.args.key (checked c.args.verified.now c.certificate.ensures) c.requires c.leave.new.stays c.leave.new.store c.leave.result c.leave.ensures.ok;
       err = c.leave.ensures.err;

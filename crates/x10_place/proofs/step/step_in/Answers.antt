@@ -3,62 +3,44 @@ use Rattle.slab.specs.Slab.{Slab, with_value}
 use Rattle.x10_place.specs.declared.place.Stepped.TheVariants as stepped
 use Rattle.x10_place.specs.Stretches.{IsAdvanced}
 use Rattle.x10_place.specs.declared.stay.Outcome.TheVariants as outcome
-use Rattle.x10_place.specs.Frames.{IsFetchedFor}
 use Rattle.x10_place.specs.Stays.{StayState}
 use Rattle.x10_place.specs.StandsFor.{plain}
-use Rattle.x10_place.proofs.Advancing.{steps_as, fetched_at, reads_at, advanced_away, for_place, advanced_goes, advanced_left, advanced_placed, hindered_placed, advanced_refused}
+use Rattle.x10_place.proofs.Advancing.{steps_as, inside_at, reads_at, advanced_away, for_place, advanced_goes, advanced_left, advanced_placed, hindered_placed, advanced_refused}
 use Rattle.x10_place.proofs.Keeping.{written}
 use Rattle.x10_place.proofs.Placing.{checked}
 use Rattle.x10_place.proofs.Striding.{with_same}
 use Rattle.x10_place.proofs.step.step_in.Goals as goal
 
-pub step-requires-clause-fetched : goal.step-requires-clause-fetched
-step-requires-clause-fetched c =
-    let fetched : IsFetchedFor c.args.verified.now.program c.in-Some.stay.now.top c.fetch-instr.result = fetched_at c.args.verified.now c.args.stays.now c.args.store.now c.args.key c.in-Some.stay.now c.from.result c.from-2.result c.fetch-instr.result c.requires c.certificate.ensures.fits (sym c.in-Some.ensures.value) (ap (λ (a : StayState). a.away) (sym c.stay.view_is) ∙ c.if-stay.false)
-    (record { function_is = c.from.ensures ∙ ap (λ (a : StayState). a.top.function) c.stay.view_is; pc_is = c.from-2.ensures ∙ ap (λ (a : StayState). a.top.pc) c.stay.view_is; value = c.fetch-instr.ensures.value; in_range = c.fetch-instr.ensures.in_range; follows = c.fetch-instr.ensures.follows }) in
-    fetched
+pub instr-instr-requires : goal.instr-instr-requires
+instr-instr-requires c = inside_at c.args.verified.now c.args.stays.now c.args.store.now c.args.key c.in-Some.stay.now c.requires (sym c.in-Some.ensures.value) (ap (λ (a : StayState). a.away) (sym c.stay.view_is) ∙ c.if-stay.false)
 
 pub step-requires-clause-reads : goal.step-requires-clause-reads
 step-requires-clause-reads c =
-    let fetched : IsFetchedFor c.args.verified.now.program c.in-Some.stay.now.top c.fetch-instr.result = fetched_at c.args.verified.now c.args.stays.now c.args.store.now c.args.key c.in-Some.stay.now c.from.result c.from-2.result c.fetch-instr.result c.requires c.certificate.ensures.fits (sym c.in-Some.ensures.value) (ap (λ (a : StayState). a.away) (sym c.stay.view_is) ∙ c.if-stay.false)
-    (record { function_is = c.from.ensures ∙ ap (λ (a : StayState). a.top.function) c.stay.view_is; pc_is = c.from-2.ensures ∙ ap (λ (a : StayState). a.top.pc) c.stay.view_is; value = c.fetch-instr.ensures.value; in_range = c.fetch-instr.ensures.in_range; follows = c.fetch-instr.ensures.follows }) in
-    reads_at c.args.verified.now c.args.stays.now c.args.store.now c.args.key c.in-Some.stay.now c.spot-spot.result c.fetch-instr.result c.requires (checked c.args.verified.now c.certificate.ensures) (sym c.in-Some.ensures.value) (ap (λ (a : StayState). a.away) (sym c.stay.view_is) ∙ c.if-stay.false) fetched c.spot-spot.ensures.here c.spot-spot.ensures.places
+    reads_at c.args.verified.now c.args.stays.now c.args.store.now c.args.key c.in-Some.stay.now c.spot-spot.result c.instr-instr.result c.requires (checked c.args.verified.now c.certificate.ensures) (sym c.in-Some.ensures.value) (ap (λ (a : StayState). a.away) (sym c.stay.view_is) ∙ c.if-stay.false) c.instr-instr.ensures c.spot-spot.ensures.here c.spot-spot.ensures.places
 
 pub by_place-requires : goal.by_place-requires
 by_place-requires c =
-    let fetched : IsFetchedFor c.args.verified.now.program c.in-Some.stay.now.top c.fetch-instr.result = fetched_at c.args.verified.now c.args.stays.now c.args.store.now c.args.key c.in-Some.stay.now c.from.result c.from-2.result c.fetch-instr.result c.requires c.certificate.ensures.fits (sym c.in-Some.ensures.value) (ap (λ (a : StayState). a.away) (sym c.stay.view_is) ∙ c.if-stay.false)
-    (record { function_is = c.from.ensures ∙ ap (λ (a : StayState). a.top.function) c.stay.view_is; pc_is = c.from-2.ensures ∙ ap (λ (a : StayState). a.top.pc) c.stay.view_is; value = c.fetch-instr.ensures.value; in_range = c.fetch-instr.ensures.in_range; follows = c.fetch-instr.ensures.follows }) in
-    for_place c.args.verified.now c.args.stays.now c.args.store.now c.args.key c.requires (checked c.args.verified.now c.certificate.ensures) c.in-Some.stay.now (sym c.in-Some.ensures.value) (ap (λ (a : StayState). a.away) (sym c.stay.view_is) ∙ c.if-stay.false) c.fetch-instr.result fetched c.step.new.self c.step.new.store (steps_as c.args.verified.now.program c.spot-spot.result c.args.store.now c.in-Some.stay.now c.fetch-instr.result c.in-Ok-ForPlace.field-0 outcome.ForPlace c.step.new.self c.step.new.store c.spot-spot.ensures.here c.spot-spot.ensures.places c.in-Ok-ForPlace.field-0-is c.in-Ok-ForPlace.ensures.ok)
+    for_place c.args.verified.now c.args.stays.now c.args.store.now c.args.key c.requires (checked c.args.verified.now c.certificate.ensures) c.in-Some.stay.now (sym c.in-Some.ensures.value) (ap (λ (a : StayState). a.away) (sym c.stay.view_is) ∙ c.if-stay.false) c.instr-instr.result c.instr-instr.ensures c.step.new.self c.step.new.store (steps_as c.args.verified.now.program c.spot-spot.result c.args.store.now c.in-Some.stay.now c.instr-instr.result c.in-Ok-ForPlace.field-0 outcome.ForPlace c.step.new.self c.step.new.store c.spot-spot.ensures.here c.spot-spot.ensures.places c.in-Ok-ForPlace.field-0-is c.in-Ok-ForPlace.ensures.ok)
 
 pub returns-in-Ok-Goes : goal.returns-in-Ok-Goes
 returns-in-Ok-Goes c =
-    let fetched : IsFetchedFor c.args.verified.now.program c.in-Some.stay.now.top c.fetch-instr.result = fetched_at c.args.verified.now c.args.stays.now c.args.store.now c.args.key c.in-Some.stay.now c.from.result c.from-2.result c.fetch-instr.result c.requires c.certificate.ensures.fits (sym c.in-Some.ensures.value) (ap (λ (a : StayState). a.away) (sym c.stay.view_is) ∙ c.if-stay.false)
-    (record { function_is = c.from.ensures ∙ ap (λ (a : StayState). a.top.function) c.stay.view_is; pc_is = c.from-2.ensures ∙ ap (λ (a : StayState). a.top.pc) c.stay.view_is; value = c.fetch-instr.ensures.value; in_range = c.fetch-instr.ensures.in_range; follows = c.fetch-instr.ensures.follows }) in
-    subst (λ o. IsAdvanced c.args.verified.now c.args.stays.now c.args.store.now c.args.key (Ok (stepped.Moved o)) (with_value c.args.stays.now c.args.key c.step.new.self) c.step.new.store) (sym c.no_sent.ensures) (advanced_goes c.args.verified.now c.args.stays.now c.args.store.now c.args.key c.requires (checked c.args.verified.now c.certificate.ensures) c.in-Some.stay.now (sym c.in-Some.ensures.value) (ap (λ (a : StayState). a.away) (sym c.stay.view_is) ∙ c.if-stay.false) c.fetch-instr.result fetched (with_value c.args.stays.now c.args.key c.step.new.self) c.step.new.self c.step.new.store (steps_as c.args.verified.now.program c.spot-spot.result c.args.store.now c.in-Some.stay.now c.fetch-instr.result c.in-Ok-Goes.field-0 outcome.Goes c.step.new.self c.step.new.store c.spot-spot.ensures.here c.spot-spot.ensures.places c.in-Ok-Goes.field-0-is c.in-Ok-Goes.ensures.ok) (written c.args.stays.now c.args.key c.in-Some.stay.now c.step.new.self (sym c.in-Some.ensures.value)) (λ limit over. absurd (let f = c.in-Ok-Goes.ensures.full limit over in cc)))
+    subst (λ o. IsAdvanced c.args.verified.now c.args.stays.now c.args.store.now c.args.key (Ok (stepped.Moved o)) (with_value c.args.stays.now c.args.key c.step.new.self) c.step.new.store) (sym c.no_sent.ensures) (advanced_goes c.args.verified.now c.args.stays.now c.args.store.now c.args.key c.requires (checked c.args.verified.now c.certificate.ensures) c.in-Some.stay.now (sym c.in-Some.ensures.value) (ap (λ (a : StayState). a.away) (sym c.stay.view_is) ∙ c.if-stay.false) c.instr-instr.result c.instr-instr.ensures (with_value c.args.stays.now c.args.key c.step.new.self) c.step.new.self c.step.new.store (steps_as c.args.verified.now.program c.spot-spot.result c.args.store.now c.in-Some.stay.now c.instr-instr.result c.in-Ok-Goes.field-0 outcome.Goes c.step.new.self c.step.new.store c.spot-spot.ensures.here c.spot-spot.ensures.places c.in-Ok-Goes.field-0-is c.in-Ok-Goes.ensures.ok) (written c.args.stays.now c.args.key c.in-Some.stay.now c.step.new.self (sym c.in-Some.ensures.value)) (λ limit over. absurd (let f = c.in-Ok-Goes.ensures.full limit over in cc)))
 
 pub returns-in-Ok-Waits : goal.returns-in-Ok-Waits
 returns-in-Ok-Waits c =
-    let fetched : IsFetchedFor c.args.verified.now.program c.in-Some.stay.now.top c.fetch-instr.result = fetched_at c.args.verified.now c.args.stays.now c.args.store.now c.args.key c.in-Some.stay.now c.from.result c.from-2.result c.fetch-instr.result c.requires c.certificate.ensures.fits (sym c.in-Some.ensures.value) (ap (λ (a : StayState). a.away) (sym c.stay.view_is) ∙ c.if-stay.false)
-    (record { function_is = c.from.ensures ∙ ap (λ (a : StayState). a.top.function) c.stay.view_is; pc_is = c.from-2.ensures ∙ ap (λ (a : StayState). a.top.pc) c.stay.view_is; value = c.fetch-instr.ensures.value; in_range = c.fetch-instr.ensures.in_range; follows = c.fetch-instr.ensures.follows }) in
-    advanced_left c.args.verified.now c.args.stays.now c.args.store.now c.args.key c.requires (checked c.args.verified.now c.certificate.ensures) c.in-Some.stay.now (sym c.in-Some.ensures.value) (ap (λ (a : StayState). a.away) (sym c.stay.view_is) ∙ c.if-stay.false) c.fetch-instr.result fetched c.step.new.self c.step.new.store (steps_as c.args.verified.now.program c.spot-spot.result c.args.store.now c.in-Some.stay.now c.fetch-instr.result c.in-Ok-Waits.field-0 outcome.Waits c.step.new.self c.step.new.store c.spot-spot.ensures.here c.spot-spot.ensures.places c.in-Ok-Waits.field-0-is c.in-Ok-Waits.ensures.ok) (λ limit over. absurd (let f = c.in-Ok-Waits.ensures.full limit over in cc))
+    advanced_left c.args.verified.now c.args.stays.now c.args.store.now c.args.key c.requires (checked c.args.verified.now c.certificate.ensures) c.in-Some.stay.now (sym c.in-Some.ensures.value) (ap (λ (a : StayState). a.away) (sym c.stay.view_is) ∙ c.if-stay.false) c.instr-instr.result c.instr-instr.ensures c.step.new.self c.step.new.store (steps_as c.args.verified.now.program c.spot-spot.result c.args.store.now c.in-Some.stay.now c.instr-instr.result c.in-Ok-Waits.field-0 outcome.Waits c.step.new.self c.step.new.store c.spot-spot.ensures.here c.spot-spot.ensures.places c.in-Ok-Waits.field-0-is c.in-Ok-Waits.ensures.ok) (λ limit over. absurd (let f = c.in-Ok-Waits.ensures.full limit over in cc))
 
 pub returns-in-Ok : goal.returns-in-Ok
 returns-in-Ok c =
-    let fetched : IsFetchedFor c.args.verified.now.program c.in-Some.stay.now.top c.fetch-instr.result = fetched_at c.args.verified.now c.args.stays.now c.args.store.now c.args.key c.in-Some.stay.now c.from.result c.from-2.result c.fetch-instr.result c.requires c.certificate.ensures.fits (sym c.in-Some.ensures.value) (ap (λ (a : StayState). a.away) (sym c.stay.view_is) ∙ c.if-stay.false)
-    (record { function_is = c.from.ensures ∙ ap (λ (a : StayState). a.top.function) c.stay.view_is; pc_is = c.from-2.ensures ∙ ap (λ (a : StayState). a.top.pc) c.stay.view_is; value = c.fetch-instr.ensures.value; in_range = c.fetch-instr.ensures.in_range; follows = c.fetch-instr.ensures.follows }) in
-    advanced_placed c.args.verified.now c.args.stays.now c.args.store.now c.args.key c.requires (checked c.args.verified.now c.certificate.ensures) c.in-Some.stay.now (sym c.in-Some.ensures.value) (ap (λ (a : StayState). a.away) (sym c.stay.view_is) ∙ c.if-stay.false) c.fetch-instr.result fetched c.step.new.self c.step.new.store (steps_as c.args.verified.now.program c.spot-spot.result c.args.store.now c.in-Some.stay.now c.fetch-instr.result c.in-Ok-ForPlace.field-0 outcome.ForPlace c.step.new.self c.step.new.store c.spot-spot.ensures.here c.spot-spot.ensures.places c.in-Ok-ForPlace.field-0-is c.in-Ok-ForPlace.ensures.ok) c.by_place.new.stays c.by_place.new.store c.in-Ok.sent c.in-Ok.ensures.ok (λ limit over. absurd (let f = c.in-Ok.ensures.full limit over in cc))
+    advanced_placed c.args.verified.now c.args.stays.now c.args.store.now c.args.key c.requires (checked c.args.verified.now c.certificate.ensures) c.in-Some.stay.now (sym c.in-Some.ensures.value) (ap (λ (a : StayState). a.away) (sym c.stay.view_is) ∙ c.if-stay.false) c.instr-instr.result c.instr-instr.ensures c.step.new.self c.step.new.store (steps_as c.args.verified.now.program c.spot-spot.result c.args.store.now c.in-Some.stay.now c.instr-instr.result c.in-Ok-ForPlace.field-0 outcome.ForPlace c.step.new.self c.step.new.store c.spot-spot.ensures.here c.spot-spot.ensures.places c.in-Ok-ForPlace.field-0-is c.in-Ok-ForPlace.ensures.ok) c.by_place.new.stays c.by_place.new.store c.in-Ok.sent c.in-Ok.ensures.ok (λ limit over. absurd (let f = c.in-Ok.ensures.full limit over in cc))
 
 pub returns-in-Err-by_place : goal.returns-in-Err-by_place
 returns-in-Err-by_place c =
-    let fetched : IsFetchedFor c.args.verified.now.program c.in-Some.stay.now.top c.fetch-instr.result = fetched_at c.args.verified.now c.args.stays.now c.args.store.now c.args.key c.in-Some.stay.now c.from.result c.from-2.result c.fetch-instr.result c.requires c.certificate.ensures.fits (sym c.in-Some.ensures.value) (ap (λ (a : StayState). a.away) (sym c.stay.view_is) ∙ c.if-stay.false)
-    (record { function_is = c.from.ensures ∙ ap (λ (a : StayState). a.top.function) c.stay.view_is; pc_is = c.from-2.ensures ∙ ap (λ (a : StayState). a.top.pc) c.stay.view_is; value = c.fetch-instr.ensures.value; in_range = c.fetch-instr.ensures.in_range; follows = c.fetch-instr.ensures.follows }) in
-    hindered_placed c.args.verified.now c.args.stays.now c.args.store.now c.args.key c.requires (checked c.args.verified.now c.certificate.ensures) c.in-Some.stay.now (sym c.in-Some.ensures.value) (ap (λ (a : StayState). a.away) (sym c.stay.view_is) ∙ c.if-stay.false) c.fetch-instr.result fetched c.step.new.self c.step.new.store (steps_as c.args.verified.now.program c.spot-spot.result c.args.store.now c.in-Some.stay.now c.fetch-instr.result c.in-Ok-ForPlace.field-0 outcome.ForPlace c.step.new.self c.step.new.store c.spot-spot.ensures.here c.spot-spot.ensures.places c.in-Ok-ForPlace.field-0-is c.in-Ok-ForPlace.ensures.ok) c.by_place.new.stays c.by_place.new.store c.in-Err-by_place.why c.in-Err-by_place.ensures.err c.in-Err-by_place.ensures.refused (λ limit over. let f = c.in-Err-by_place.ensures.full limit over in cc)
+    hindered_placed c.args.verified.now c.args.stays.now c.args.store.now c.args.key c.requires (checked c.args.verified.now c.certificate.ensures) c.in-Some.stay.now (sym c.in-Some.ensures.value) (ap (λ (a : StayState). a.away) (sym c.stay.view_is) ∙ c.if-stay.false) c.instr-instr.result c.instr-instr.ensures c.step.new.self c.step.new.store (steps_as c.args.verified.now.program c.spot-spot.result c.args.store.now c.in-Some.stay.now c.instr-instr.result c.in-Ok-ForPlace.field-0 outcome.ForPlace c.step.new.self c.step.new.store c.spot-spot.ensures.here c.spot-spot.ensures.places c.in-Ok-ForPlace.field-0-is c.in-Ok-ForPlace.ensures.ok) c.by_place.new.stays c.by_place.new.store c.in-Err-by_place.why c.in-Err-by_place.ensures.err c.in-Err-by_place.ensures.refused (λ limit over. let f = c.in-Err-by_place.ensures.full limit over in cc)
 
 pub returns-in-Err : goal.returns-in-Err
 returns-in-Err c =
-    let fetched : IsFetchedFor c.args.verified.now.program c.in-Some.stay.now.top c.fetch-instr.result = fetched_at c.args.verified.now c.args.stays.now c.args.store.now c.args.key c.in-Some.stay.now c.from.result c.from-2.result c.fetch-instr.result c.requires c.certificate.ensures.fits (sym c.in-Some.ensures.value) (ap (λ (a : StayState). a.away) (sym c.stay.view_is) ∙ c.if-stay.false)
-    (record { function_is = c.from.ensures ∙ ap (λ (a : StayState). a.top.function) c.stay.view_is; pc_is = c.from-2.ensures ∙ ap (λ (a : StayState). a.top.pc) c.stay.view_is; value = c.fetch-instr.ensures.value; in_range = c.fetch-instr.ensures.in_range; follows = c.fetch-instr.ensures.follows }) in
-    advanced_refused c.args.verified.now c.args.stays.now c.args.store.now c.args.key c.requires (checked c.args.verified.now c.certificate.ensures) c.in-Some.stay.now (sym c.in-Some.ensures.value) (ap (λ (a : StayState). a.away) (sym c.stay.view_is) ∙ c.if-stay.false) c.fetch-instr.result fetched (with_value c.args.stays.now c.args.key c.step.new.self) c.step.new.store c.in-Err.why (ap plain (ap (with_value c.args.stays.now c.args.key) c.in-Err.ensures.err.0 ∙ with_same c.args.stays.now c.args.key c.in-Some.stay.now (sym c.in-Some.ensures.value))) c.in-Err.ensures.err.1 c.in-Err.ensures.err.2 (λ limit over. let f = c.in-Err.ensures.full limit over in cc)
+    advanced_refused c.args.verified.now c.args.stays.now c.args.store.now c.args.key c.requires (checked c.args.verified.now c.certificate.ensures) c.in-Some.stay.now (sym c.in-Some.ensures.value) (ap (λ (a : StayState). a.away) (sym c.stay.view_is) ∙ c.if-stay.false) c.instr-instr.result c.instr-instr.ensures (with_value c.args.stays.now c.args.key c.step.new.self) c.step.new.store c.in-Err.why (ap plain (ap (with_value c.args.stays.now c.args.key) c.in-Err.ensures.err.0 ∙ with_same c.args.stays.now c.args.key c.in-Some.stay.now (sym c.in-Some.ensures.value))) c.in-Err.ensures.err.1 c.in-Err.ensures.err.2 (λ limit over. let f = c.in-Err.ensures.full limit over in cc)
 
 pub returns-then-stay : goal.returns-then-stay
 returns-then-stay c =

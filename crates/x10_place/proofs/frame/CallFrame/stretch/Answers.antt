@@ -1,7 +1,8 @@
-use Rattle.std.proofs.Common.{List, ℕ, length, sym, subst, refl, ◌∙◌}
+use Rattle.std.proofs.Common.{◌≡◌, List, ℕ, length, sym, subst, refl, ◌∙◌, rules}
 use Rattle.x10_place.specs.Frames.{workspace, space_of, with_space, IsWithin, IsFetched}
 use Rattle.x10_place.specs.StandsFor.{IsTypedFrame}
 use Rattle.x10_place.specs.Stretches.{Locally, none, more}
+use Rattle.x10_place.proofs.Calling.{refilled}
 use Rattle.x10_place.proofs.Fetching.{function_within, fetched_within, next_small, local_next, local_asks, local_within}
 use Rattle.x10_place.proofs.Going.{frame_typed}
 use Rattle.x10_place.proofs.Reading.{frame_reads}
@@ -51,3 +52,11 @@ loop-done-preserved c =
       frame_typed c.args.verified.now.program (with_space c.args.self.now before) (with_space c.args.self.now after) c.loop-done.heap c.act-pc.new.heap c.fetch_from-instr.result c.in-Local.local c.loop-done.invariant.1 fetched route_is refl c.act-pc.ensures,
       more c.loop-done.done before after c.loop-done.invariant.2 (record { instr = c.fetch_from-instr.result; fetched = fetched; local = c.in-Local.local; route_is = route_is; acts = c.act-pc.ensures }),
     )
+
+pub returns-in_default-clause-next : goal.returns-in_default-clause-next
+returns-in_default-clause-next c =
+    let fetched : IsFetched c.args.verified.now.program c.args.self.now.function c.loop-done.pc (length c.loop-done.registers) c.fetch_from-instr.result =
+    fetched_within c.args.verified.now.program c.args.self.now.function c.loop-done.pc (length c.loop-done.registers) c.from-function.result c.from.result c.fetch_from-instr.result c.certificate.ensures.fits c.loop-done.invariant.0
+    (record { function_is = c.from-function.ensures; pc_is = c.from.ensures; value = c.fetch_from-instr.ensures.value; in_range = c.fetch_from-instr.ensures.in_range; follows = c.fetch_from-instr.ensures.follows }) in
+    let same : length c.loop-done.registers ≡ length c.args.self.now.registers.items = search rules in
+    subst (λ (ws : List ℕ). IsFetched c.args.verified.now.program c.args.self.now.function c.loop-done.pc (length ws) c.fetch_from-instr.result) (sym (refilled c.args.self.now.registers.items c.loop-done.registers same)) fetched
