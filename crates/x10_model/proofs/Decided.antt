@@ -10,7 +10,7 @@ use Rattle.x10_model.specs.Values.{Value, Int, Place, Text, Rail, Object, Null, 
 use Rattle.x10_model.specs.Signatures.{HasHome, FitsSlotAt}
 use Rattle.x10_model.specs.Moves.{Situation, Holds, HoldsFrom, GivesBack}
 use Rattle.x10_model.specs.Wrong.{Want, Anything, AnInt, APlace, AText, ARail, AnObject, AReference, AnIntOrText, AnObjectOrNull, APlaceOrReference, Meets}
-use Rattle.x10_model.proofs.NotWrong.{Met}
+use Rattle.x10_model.proofs.Found.{Met}
 use Rattle.std.proofs.lemmas.Option.{same_Some}
 use Rattle.x10_model.proofs.Lists.{same_some, none_some}
 

@@ -2,6 +2,8 @@ pub mod Lists
 pub mod Maps
 pub mod Bounds
 pub mod Finishes
+pub mod Found
+pub mod Operations
 pub mod NotWrong
 pub mod Decided
 pub mod Choices

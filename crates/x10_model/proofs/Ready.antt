@@ -16,7 +16,7 @@ use Rattle.x10_model.specs.Deliveries.{WaitsFor, Receives}
 use Rattle.x10_model.specs.Wrong.{out_of_range, IsWrong, no_instruction, wrong_at, IsMisfit, not_here, graph, torn, spawn, shift, back}
 use Rattle.x10_model.specs.Laws.{HasRoomAt}
 use Rattle.x10_model.proofs.Decided.{below_or_not, both_or_not}
-use Rattle.x10_model.proofs.Able.{step}
+use Rattle.x10_model.proofs.Operations.{step}
 
 -- ---- what an instruction names is there, or not
 

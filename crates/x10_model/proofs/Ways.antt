@@ -1,6 +1,6 @@
 -- How the move of each operation goes: on in its function, or in one of the ways that a few operations have.
 use Rattle.std.proofs.Common.{◌≡◌, ◌≢◌, ℕ, ◌+◌, ◌-◌, ◌<◌, Bool, true, false, List, [], ◌∷◌, ◌++◌, Option, Some, None, refl, sym, ap, subst, ◌∙◌, inl, inr, append-nil}
-use Rattle.std.specs.Prelude.{ℤ, ◌==◌, nat_lt, if◌then◌else◌}
+use Rattle.std.specs.Prelude.{ℤ, nat_lt, if◌then◌else◌}
 use Rattle.std.proofs.lemmas.Bool.{ltb-true}
 use Rattle.x10_code.specs.declared.op.Op.{Op}
 use Rattle.x10_code.specs.declared.op.Op.TheVariants as op
@@ -14,7 +14,7 @@ use Rattle.x10_model.specs.Values.{Value, Place}
 use Rattle.x10_model.specs.Copies.{Snapshot, Captures}
 use Rattle.x10_model.specs.Places as places
 use Rattle.x10_model.specs.Places.{CallFrame, Stay, Export, Message, Spawn, Shift, innermost, Effect, Waits, Works, Begins, Spawns, Shifts, Opens, Closes, Ends, with_stay, goes, next}
-use Rattle.x10_model.specs.Moves.{Situation, Holds, Passes, GivesBack, SendsBack, Returns, LeavesFinish, ContinuesAt, Continues, new_stay, resumed, entry_frame, is_zero, quotient, remainder, joined_text, rail_length, byte_at, byte_value, place_number, MakesRail, SetsByte, writes_or_goes, next_or_goes, Does}
+use Rattle.x10_model.specs.Moves.{Situation, Holds, Passes, GivesBack, SendsBack, Returns, LeavesFinish, ContinuesAt, Continues, new_stay, resumed, entry_frame, MakesRail, SetsByte, writes_or_goes, next_or_goes}
 
 -- ---- on in its function
 
@@ -80,106 +80,57 @@ pub data Way (s : Situation) : Op → places.Place → Effect → Type 0 where
 -- ---- how operations go
 
 -- a way leads to what its place and its effect are
-to : {s : Situation} {o : Op} {place new : places.Place} {made effect : Effect} → new ≡ place → effect ≡ made → Way s o place made → Way s o new effect
+pub to : {s : Situation} {o : Op} {place new : places.Place} {made effect : Effect} → new ≡ place → effect ≡ made → Way s o place made → Way s o new effect
 to {s} {o} {place} {new} {made} {effect} is effect_is way = subst (λ p. Way s o p effect) (sym is) (subst (λ e. Way s o place e) (sym effect_is) way)
 
 -- on in the function, with some exports more
-exporting : {s : Situation} {o : Op} {base : places.Place} {top : CallFrame} {new : places.Place} {effect : Effect} (more : List Export) → base.stays ≡ s.place.stays → base.opened ≡ s.place.opened → base.exports ≡ s.place.exports ++ more → Onward s o top
+pub exporting : {s : Situation} {o : Op} {base : places.Place} {top : CallFrame} {new : places.Place} {effect : Effect} (more : List Export) → base.stays ≡ s.place.stays → base.opened ≡ s.place.opened → base.exports ≡ s.place.exports ++ more → Onward s o top
     → ContinuesAt s base top new effect → Way s o new effect
 exporting {base} {top} more stays opened exports onward d = to d.0 d.1 (goes_onward base top (record { stays = stays; opened = opened; more = more; exports = exports; onward = onward }))
 
 -- with the heap or the lines changed alone
-changing : {s : Situation} {o : Op} {base : places.Place} {top : CallFrame} {new : places.Place} {effect : Effect} → base.stays ≡ s.place.stays → base.opened ≡ s.place.opened → base.exports ≡ s.place.exports → Onward s o top → ContinuesAt s base top new effect → Way s o new effect
+pub changing : {s : Situation} {o : Op} {base : places.Place} {top : CallFrame} {new : places.Place} {effect : Effect} → base.stays ≡ s.place.stays → base.opened ≡ s.place.opened → base.exports ≡ s.place.exports → Onward s o top → ContinuesAt s base top new effect → Way s o new effect
 changing {s} stays opened exports onward d = exporting [] stays opened (exports ∙ sym (append-nil s.place.exports)) onward d
 
 -- at a place that is otherwise as it was
-on : {s : Situation} {o : Op} {top : CallFrame} {new : places.Place} {effect : Effect} → Onward s o top → Continues s top new effect → Way s o new effect
-on onward d = changing refl refl refl onward d
+pub goes_on : {s : Situation} {o : Op} {top : CallFrame} {new : places.Place} {effect : Effect} → Onward s o top → Continues s top new effect → Way s o new effect
+goes_on onward d = changing refl refl refl onward d
 
 -- to the next instruction with a value, or to x
-written : {s : Situation} {o : Op} (v : Option Value) → turns o ≡ false → is_target (form_of o).x ≡ true → Onward s o (writes_or_goes s v)
+pub written : {s : Situation} {o : Op} (v : Option Value) → turns o ≡ false → is_target (form_of o).x ≡ true → Onward s o (writes_or_goes s v)
 written None plain target = jumps plain target
 written (Some v) plain target = passes plain
 
 -- to the next instruction, or to x
-went : {s : Situation} {o : Op} (b : Bool) → turns o ≡ false → is_target (form_of o).x ≡ true → Onward s o (next_or_goes s b)
+pub went : {s : Situation} {o : Op} (b : Bool) → turns o ≡ false → is_target (form_of o).x ≡ true → Onward s o (next_or_goes s b)
 went true plain target = passes plain
 went false plain target = jumps plain target
 
 -- to x, or to the next instruction
-jumped : {s : Situation} {o : Op} (b : Bool) → turns o ≡ false → is_target (form_of o).x ≡ true → Onward s o (if b then goes s.stay.top s.instr.x else next s.stay.top)
+pub jumped : {s : Situation} {o : Op} (b : Bool) → turns o ≡ false → is_target (form_of o).x ≡ true → Onward s o (if b then goes s.stay.top s.instr.x else next s.stay.top)
 jumped true plain target = jumps plain target
 jumped false plain target = passes plain
 
 -- as a loop turns or ends
-turned : {s : Situation} (b : Bool) → nat_lt 0 (s.stay.top.loops s.instr.a - 1) ≡ b
+pub turned : {s : Situation} (b : Bool) → nat_lt 0 (s.stay.top.loops s.instr.a - 1) ≡ b
     → Onward s op.Endl (record s.stay.top { pc = if b then s.instr.x else s.stay.top.pc + 1; loops = with_entry s.stay.top.loops s.instr.a (s.stay.top.loops s.instr.a - 1) })
 turned {s} true more = turns_loop (ltb-true 0 (s.stay.top.loops s.instr.a - 1) more)
 turned false more = ends_loop
 
 -- a rail is made where there is such a length
-made : (s : Situation) (n : Option ℕ) (new : places.Place) (effect : Effect) → MakesRail s n new effect → Way s op.Rail new effect
-made s None new effect d = on (jumps refl refl) d
+pub made : (s : Situation) (n : Option ℕ) (new : places.Place) (effect : Effect) → MakesRail s n new effect → Way s op.Rail new effect
+made s None new effect d = goes_on (jumps refl refl) d
 made s (Some n) new effect d = changing refl refl refl (passes refl) d.2
 
 -- a byte is set where there is one
-set : (s : Situation) (reference : ℕ) (bytes : List ℕ) (z w : ℤ) (byte : Option ℕ) (new : places.Place) (effect : Effect) → SetsByte s reference bytes z w byte new effect → Way s op.Rset new effect
-set s reference bytes z w None new effect d = on (jumps refl refl) d
+pub set : (s : Situation) (reference : ℕ) (bytes : List ℕ) (z w : ℤ) (byte : Option ℕ) (new : places.Place) (effect : Effect) → SetsByte s reference bytes z w byte new effect → Way s op.Rset new effect
+set s reference bytes z w None new effect d = goes_on (jumps refl refl) d
 set s reference bytes z w (Some byte) new effect d = changing refl refl refl (passes refl) d
 
-returned : (s : Situation) (callers : List CallFrame) (result : Option Value) (new : places.Place) (effect : Effect) → s.stay.callers ≡ callers → GivesBack s s.function.result result → Returns s callers result new effect → Way s op.Ret new effect
+pub returned : (s : Situation) (callers : List CallFrame) (result : Option Value) (new : places.Place) (effect : Effect) → s.stay.callers ≡ callers → GivesBack s s.function.result result → Returns s callers result new effect → Way s op.Ret new effect
 returned s [] result new effect alone gives d = to d.3 d.4 (ends result d.0 gives alone d.1 d.2)
 returned s (caller ∷ callers) result new effect is gives d = to d.3 d.4 (returns result caller callers d.0 gives is d.1 d.2)
 
-left : (s : Situation) (number : ℕ) (finishes : List ℕ) (new : places.Place) (effect : Effect) → s.stay.finishes ≡ number ∷ finishes → LeavesFinish s number finishes new effect → Way s op.Fine new effect
+pub left : (s : Situation) (number : ℕ) (finishes : List ℕ) (new : places.Place) (effect : Effect) → s.stay.finishes ≡ number ∷ finishes → LeavesFinish s number finishes new effect → Way s op.Fine new effect
 left s number finishes new effect is (inl waited) = to waited.0 waited.1 (waits number finishes is)
 left s number finishes new effect is (inr closed) = to closed.0 closed.1 (closes number finishes is)
-
--- ---- the operations
-
-pub way_of : (o : Op) (s : Situation) (new : places.Place) (effect : Effect) → Does o s new effect → Way s o new effect
-way_of op.Intk s new effect d = on (passes refl) d.2
-way_of op.Add s new effect d = on (passes refl) d.4
-way_of op.Sub s new effect d = on (passes refl) d.4
-way_of op.Mul s new effect d = on (passes refl) d.4
-way_of op.Div s new effect d = on (written (quotient d.0 d.1) refl refl) d.4
-way_of op.Rem s new effect d = on (written (remainder d.0 d.1) refl refl) d.4
-way_of op.Lt s new effect d = on (passes refl) d.4
-way_of op.Eq s new effect d = on (passes refl) d.4
-way_of op.Move s new effect d = on (passes refl) d.2
-way_of op.Jmp s new effect d = on (jumps refl refl) d
-way_of op.Jz s new effect d = on (jumped (is_zero d.0) refl refl) d.2
-way_of op.Loop s new effect d = on begins_loop d
-way_of op.Endl s new effect d = on (turned _ refl) d
-way_of op.Call s new effect d = to d.3 d.4 (calls d.0 d.1 d.2)
-way_of op.Ret s new effect d = returned s s.stay.callers d.0 new effect refl d.1 d.2
-way_of op.Textk s new effect d = on (passes refl) d.2
-way_of op.Tlen s new effect d = on (passes refl) d.2
-way_of op.Tcat s new effect d = on (written (joined_text d.0 d.1) refl refl) d.4
-way_of op.New s new effect d = changing refl refl refl (passes refl) d.7
-way_of op.Get s new effect d = on (passes refl) d.7
-way_of op.Put s new effect d = changing refl refl refl (passes refl) d.13
-way_of op.Null s new effect d = on (passes refl) d
-way_of op.Ifobj s new effect (inl some) = on (passes refl) some.2
-way_of op.Ifobj s new effect (inr none) = on (jumps refl refl) none.1
-way_of op.Rail s new effect d = made s (rail_length d.0) new effect d.2
-way_of op.Rget s new effect d = on (written (byte_value (byte_at d.1 d.2)) refl refl) d.6
-way_of op.Rset s new effect d = set s d.0 d.1 d.2 d.3 (byte_at d.1 d.2) new effect d.8
-way_of op.Rlen s new effect d = on (passes refl) d.4
-way_of op.Here s new effect d = on (passes refl) d
-way_of op.Placek s new effect d = on (passes refl) d
-way_of op.Placen s new effect d = on (written (place_number s.setting.places d.0) refl refl) d.2
-way_of op.Placei s new effect d = on (passes refl) d.2
-way_of op.Nextp s new effect d = on (passes refl) d.2
-way_of op.Count s new effect d = on (passes refl) d
-way_of op.Home s new effect d = on (passes refl) d.4
-way_of op.Gnew s new effect d = exporting _ refl refl refl (passes refl) d.5
-way_of op.Gopen s new effect d = on (passes refl) d.5
-way_of op.Ifhere s new effect d = on (went (d.1 == s.here) refl refl) d.4
-way_of op.Ifsame s new effect d = on (went (d.2 == d.3) refl refl) d.8
-way_of op.Async s new effect d = to d.6 d.7 (begins d.0 d.1 d.2 d.3 d.4 d.5)
-way_of op.At s new effect d = to d.7 d.8 (shifts d.0 d.1 d.2 d.3 d.4 d.5 d.6)
-way_of op.Ata s new effect d = to d.8 d.9 (spawns d.0 d.1 d.2 d.3 d.4 d.5 d.6 d.7)
-way_of op.Finb s new effect d = to d.0 d.1 opens
-way_of op.Fine s new effect d = left s d.0 d.1 new effect d.2 d.3
-way_of op.Print s new effect d = changing refl refl refl (passes refl) d.4
