@@ -8,7 +8,8 @@ use Rattle.x10_model.specs.Places.{CallFrame, Origin, Stay, Message, Effect}
 use Rattle.x10_model.specs.Moves.{Situation, SendsBack}
 use Rattle.x10_model.proofs.NotWrong.{situation}
 use Rattle.x10_model.proofs.Ways as ways
-use Rattle.x10_model.proofs.Ways.{Way, way_of}
+use Rattle.x10_model.proofs.Operations.{way_of}
+use Rattle.x10_model.proofs.Ways.{Way}
 use Rattle.x10_finish.specs.Stays.{GoesOn, IsWayBack, Changes, StaysChange}
 
 -- a stay that is ready goes on with other call frames and finishes

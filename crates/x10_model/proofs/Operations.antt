@@ -1,6 +1,7 @@
--- The operations one by one: what their moves found, that they can be done or go wrong, and how they go on.
-use Rattle.std.proofs.Common.{◌≡◌, ℕ, ◌<◌, List, [], ◌∷◌, length, Option, Some, None, refl, sym, ap, subst, ◌∙◌, inl, inr, pos, ◌+◌, ◌+ℤ◌, ◌-ℤ◌, ◌*ℤ◌, ◌-◌, ◌%◌, true, ◌==◌, ◌++◌}
-use Rattle.std.specs.Prelude.{slice_get, int_lt, nat_lt, ◌==◌, if◌then◌else◌}
+-- The lists of operations that proofs go by: what their moves found, that they can be done or go wrong, and how they go on.
+-- The last line of a list is checked for each operation that isn't named above it, so that a new one like ADD needs none.
+use Rattle.std.proofs.Common.{◌≡◌, ℕ, ◌<◌, List, [], ◌∷◌, length, Option, Some, None, refl, sym, ap, subst, ◌∙◌, inl, inr, pos, ◌+◌, ◌-◌, ◌%◌, true, ◌==◌, ◌++◌}
+use Rattle.std.specs.Prelude.{slice_get, nat_lt, ◌==◌, if◌then◌else◌}
 use Rattle.x10_kinds.specs.declared.kind.Kind.{Kind}
 use Rattle.x10_code.specs.declared.op.Op.{Op}
 use Rattle.x10_code.specs.declared.op.Op.TheVariants as op
@@ -11,11 +12,10 @@ use Rattle.x10_model.specs.Values.{Value, Int, Place, Text, Rail, Object, Null, 
 use Rattle.x10_model.specs.Signatures.{AreOfKinds}
 use Rattle.x10_model.specs.Places as places
 use Rattle.x10_model.specs.Places.{Setting, Stay, CallFrame, Effect, Origin, Export, Message, Spawn, Shift, Back, innermost, Waits, Works, Begins, Spawns, Shifts, Opens, Closes, Ends, with_stay, goes, next, writes}
-use Rattle.x10_model.specs.Moves.{Situation, Passes, Does, entry_frame, new_stay, writes_or_goes, next_or_goes, is_zero, wrapped, quotient, remainder, truth, joined_text, rail_length, byte_at, byte_value, place_number, with_line, with_cell}
+use Rattle.x10_model.specs.Moves.{Situation, Passes, Does, entry_frame, new_stay, writes_or_goes, next_or_goes, is_zero, quotient, remainder, joined_text, rail_length, byte_at, byte_value, place_number, with_line, with_cell}
 use Rattle.x10_model.specs.Wrong.{AnIntOrText, asked, IsTarget, IsDetached, IsFieldOwner, new_field, result, Anything, AnObjectOrNull}
 use Rattle.x10_model.proofs.Lists.{none_some}
 use Rattle.std.specs.Bool.{if◌then◌else◌}
-use Rattle.std.specs.Ordering.{int_eq}
 use Rattle.x10_model.specs.Laws.{HasRoom}
 use Rattle.x10_model.proofs.Decided.{and_then, get_below, kinds_or_not, gives_or_not}
 use Rattle.x10_model.proofs.Found.{AllMet, placed, printed, Passed, passed_at, held_place, held_object, same_object, below_some}
@@ -24,39 +24,57 @@ use Rattle.x10_model.proofs.Ways.{Way, passes, jumps, begins_loop, calls, begins
 
 -- ---- a move found what its operation asks for
 
--- a move found in the registers what its operation asks for
+-- in the registers, beside arguments and results
 pub asked_met : (o : Op) (s : Situation) (new : places.Place) (effect : Effect) → Does o s new effect → AllMet s (asked o s.instr)
+-- numbers
+asked_met op.Intk s new effect d = tt
+-- control
 asked_met op.Move s new effect d = ((d.0, d.1, tt), tt)
-asked_met op.Add s new effect d = ((Int d.0, d.2, tt), ((Int d.1, d.3, tt), tt))
-asked_met op.Sub s new effect d = ((Int d.0, d.2, tt), ((Int d.1, d.3, tt), tt))
-asked_met op.Mul s new effect d = ((Int d.0, d.2, tt), ((Int d.1, d.3, tt), tt))
-asked_met op.Div s new effect d = ((Int d.0, d.2, tt), ((Int d.1, d.3, tt), tt))
-asked_met op.Rem s new effect d = ((Int d.0, d.2, tt), ((Int d.1, d.3, tt), tt))
-asked_met op.Lt s new effect d = ((Int d.0, d.2, tt), ((Int d.1, d.3, tt), tt))
-asked_met op.Eq s new effect d = ((Int d.0, d.2, tt), ((Int d.1, d.3, tt), tt))
+asked_met op.Jmp s new effect d = tt
 asked_met op.Jz s new effect d = ((Int d.0, d.1, tt), tt)
+asked_met op.Loop s new effect d = tt
+asked_met op.Endl s new effect d = tt
+asked_met op.Call s new effect d = tt
+asked_met op.Ret s new effect d = tt
+-- text
+asked_met op.Textk s new effect d = tt
 asked_met op.Tlen s new effect d = ((Text d.0, d.1, tt), tt)
 asked_met op.Tcat s new effect d = ((Text d.0, d.2, tt), ((Text d.1, d.3, tt), tt))
+-- objects
+asked_met op.New s new effect d = tt
 asked_met op.Get s new effect d = ((Object d.0, d.4, (d.1, (d.2, d.5))), tt)
 asked_met op.Put s new effect d = ((Object d.0, d.6, (d.1, (d.2, d.7))), ((d.3, d.8, tt), tt))
+asked_met op.Null s new effect d = tt
 asked_met op.Ifobj s new effect d = elim d [ inl h ↦ ((Object h.0, h.1, tt), tt) | inr h ↦ ((Null, h.0, tt), tt) ]
+-- rails
 asked_met op.Rail s new effect d = ((Int d.0, d.1, tt), tt)
 asked_met op.Rget s new effect d = ((Rail d.0, d.3, (d.1, d.4)), ((Int d.2, d.5, tt), tt))
 asked_met op.Rset s new effect d = ((Rail d.0, d.4, (d.1, d.5)), ((Int d.2, d.6, tt), ((Int d.3, d.7, tt), tt)))
 asked_met op.Rlen s new effect d = ((Rail d.0, d.2, (d.1, d.3)), tt)
+-- places
+asked_met op.Here s new effect d = tt
+asked_met op.Placek s new effect d = tt
 asked_met op.Placen s new effect d = ((Int d.0, d.1, tt), tt)
 asked_met op.Placei s new effect d = ((Place d.0, d.1, tt), tt)
 asked_met op.Nextp s new effect d = ((Place d.0, d.1, tt), tt)
+asked_met op.Count s new effect d = tt
 asked_met op.Home s new effect d = ((Ref d.0 d.1 d.2, d.3, tt), tt)
 asked_met op.Gnew s new effect d = ((Object d.0, d.3, (d.1, (d.2, d.4))), tt)
 asked_met op.Gopen s new effect d = ((Ref s.here d.0 d.1, d.3, tt), tt)
 asked_met op.Ifhere s new effect d = ((d.0, d.2, placed s.place.cells d.0 d.1 d.3), tt)
 asked_met op.Ifsame s new effect d = ((d.0, d.4, placed s.place.cells d.0 d.2 d.6), ((d.1, d.5, placed s.place.cells d.1 d.3 d.7), tt))
+-- activities
+asked_met op.Async s new effect d = tt
 asked_met op.At s new effect d = ((Place d.2, d.4, tt), tt)
 asked_met op.Ata s new effect d = ((Place d.2, d.4, tt), tt)
+asked_met op.Finb s new effect d = tt
+asked_met op.Fine s new effect d = tt
+-- output
 asked_met op.Print s new effect d = ((d.0, d.2, printed s.place.cells d.0 d.1 d.3), tt)
-asked_met _ s new effect d = tt
+-- two numbers
+asked_met _ s new effect d = ((Int d.0, d.2, tt), ((Int d.1, d.3, tt), tt))
 
+-- arguments that fit the function
 pub arguments_fit : (o : Op) (s : Situation) (new : places.Place) (effect : Effect) (at : ℕ) → Does o s new effect → IsTarget s o at → Passed s at
 arguments_fit op.Call s new effect at d e = passed_at s at d.0 d.1 (subst (λ p. Passes s p d.0 d.1) (sym e) d.2)
 arguments_fit op.Async s new effect at d e = passed_at s at d.0 d.1 (subst (λ p. Passes s p d.0 d.1) (sym e) d.3)
@@ -64,6 +82,7 @@ arguments_fit op.At s new effect at d e = passed_at s at d.0 d.1 (subst (λ p. P
 arguments_fit op.Ata s new effect at d e = passed_at s at d.0 d.1 (subst (λ p. Passes s p d.0 d.1) (held_place s s.instr.c d.2 at d.4 e) d.5)
 arguments_fit _ s new effect at d e = absurd e
 
+-- a function that gives nothing back, where an activity begins with it
 pub no_result_dropped : (o : Op) (s : Situation) (new : places.Place) (effect : Effect) (slot : Slot) → Does o s new effect → IsDetached o → result_of (function_at s.setting.program s.instr.x) ≡ Some slot → ⊥
 no_result_dropped op.Async s new effect slot d h e = none_some (result_of (function_at s.setting.program s.instr.x)) slot (ap result_of d.3.callee_is ∙ d.4) e
 no_result_dropped op.Ata s new effect slot d h e = none_some (result_of (function_at s.setting.program s.instr.x)) slot (ap result_of d.5.callee_is ∙ d.6) e
@@ -82,29 +101,46 @@ field_found _ s new effect r c fields d h e none = h
 -- ---- an operation can be done, or it goes wrong
 
 pub step : (o : Op) (s : Situation) → s.instr.op ≡ o → IsInRange s.setting.program s.function s.instr → HasRoom s → Result o s
+-- numbers
 step op.Intk s e range room = let z = get_below s.setting.program.ints s.instr.x (x_there op.Intk s e range) in inl (on s (put s (Int z.0)), Works, (z.0, z.1, (refl, refl)))
-step op.Textk s e range room = let z = get_below s.setting.program.texts s.instr.x (x_there op.Textk s e range) in inl (on s (put s (Text z.0)), Works, (z.0, z.1, (refl, refl)))
+-- control
 step op.Move s e range room = and_then (ask op.Move s e s.instr.b Anything (0, refl)) (λ h. inl (on s (put s h.0), Works, (h.0, h.1, (refl, refl))))
-step op.Add s e range room = and_then (ask_int op.Add s e s.instr.b (0, refl)) (λ x. and_then (ask_int op.Add s e s.instr.c (1, refl)) (λ y.
-    inl (on s (put s (wrapped (x.0 +ℤ y.0))), Works, (x.0, y.0, x.1, y.1, (refl, refl)))))
-step op.Sub s e range room = and_then (ask_int op.Sub s e s.instr.b (0, refl)) (λ x. and_then (ask_int op.Sub s e s.instr.c (1, refl)) (λ y.
-    inl (on s (put s (wrapped (x.0 -ℤ y.0))), Works, (x.0, y.0, x.1, y.1, (refl, refl)))))
-step op.Mul s e range room = and_then (ask_int op.Mul s e s.instr.b (0, refl)) (λ x. and_then (ask_int op.Mul s e s.instr.c (1, refl)) (λ y.
-    inl (on s (put s (wrapped (x.0 *ℤ y.0))), Works, (x.0, y.0, x.1, y.1, (refl, refl)))))
-step op.Div s e range room = and_then (ask_int op.Div s e s.instr.b (0, refl)) (λ x. and_then (ask_int op.Div s e s.instr.c (1, refl)) (λ y.
-    inl (on s (writes_or_goes s (quotient x.0 y.0)), Works, (x.0, y.0, x.1, y.1, (refl, refl)))))
-step op.Rem s e range room = and_then (ask_int op.Rem s e s.instr.b (0, refl)) (λ x. and_then (ask_int op.Rem s e s.instr.c (1, refl)) (λ y.
-    inl (on s (writes_or_goes s (remainder x.0 y.0)), Works, (x.0, y.0, x.1, y.1, (refl, refl)))))
-step op.Lt s e range room = and_then (ask_int op.Lt s e s.instr.b (0, refl)) (λ x. and_then (ask_int op.Lt s e s.instr.c (1, refl)) (λ y.
-    inl (on s (put s (truth (int_lt x.0 y.0))), Works, (x.0, y.0, x.1, y.1, (refl, refl)))))
-step op.Eq s e range room = and_then (ask_int op.Eq s e s.instr.b (0, refl)) (λ x. and_then (ask_int op.Eq s e s.instr.c (1, refl)) (λ y.
-    inl (on s (put s (truth (int_eq x.0 y.0))), Works, (x.0, y.0, x.1, y.1, (refl, refl)))))
 step op.Jmp s e range room = inl (on s (goes s.stay.top s.instr.x), Works, (refl, refl))
 step op.Jz s e range room = and_then (ask_int op.Jz s e s.instr.a (0, refl)) (λ z. inl (on s (if is_zero z.0 then goes s.stay.top s.instr.x else next s.stay.top), Works, (z.0, z.1, (refl, refl))))
 step op.Loop s e range room = inl (on s (record s.stay.top { pc = s.stay.top.pc + 1; loops = with_entry s.stay.top.loops s.instr.a s.instr.x }), Works, (refl, refl))
 step op.Endl s e range room = inl (on s (let left = s.stay.top.loops s.instr.a - 1 in record s.stay.top { pc = if nat_lt 0 left then s.instr.x else s.stay.top.pc + 1; loops = with_entry s.stay.top.loops s.instr.a left }), Works, (refl, refl))
-step op.Print s e range room = and_then (ask op.Print s e s.instr.a AnIntOrText (0, refl)) (λ h.
-    let line = is_line s.place.cells h.0 h.2 in inl (on_at s (with_line s.place line.0) (next s.stay.top), Works, (h.0, line.0, h.1, line.1, (refl, refl))))
+step op.Call s e range room = and_then (called op.Call s s.here e (x_there op.Call s e range) refl) (λ h.
+    inl (with_stay s.place s.key (Some (record s.stay { top = entry_frame s.instr.x h.1; callers = s.stay.top ∷ s.stay.callers })), Works, (h.0, h.1, h.2, refl, refl)))
+step op.Ret s e range room = elim (gives_or_not s s.function.result) [
+  | inl g ↦ and_then (returns_to s room g.0 s.stay.callers e g.1 refl) (λ r. inl (r.0, r.1, (g.0, g.1, r.2)))
+  | inr never ↦ inr (result e never)
+]
+-- text
+step op.Textk s e range room = let z = get_below s.setting.program.texts s.instr.x (x_there op.Textk s e range) in inl (on s (put s (Text z.0)), Works, (z.0, z.1, (refl, refl)))
+step op.Tlen s e range room = and_then (ask_text op.Tlen s e s.instr.b (0, refl)) (λ t. inl (on s (put s (Int (pos (length t.0)))), Works, (t.0, t.1, (refl, refl))))
+step op.Tcat s e range room = and_then (ask_text op.Tcat s e s.instr.b (0, refl)) (λ t. and_then (ask_text op.Tcat s e s.instr.c (1, refl)) (λ u.
+    inl (on s (writes_or_goes s (joined_text t.0 u.0)), Works, (t.0, u.0, t.1, u.1, (refl, refl)))))
+-- objects
+step op.New s e range room = let kinds = get_below s.setting.program.classes s.instr.x (x_there op.New s e range) in elim (kinds_or_not s s.instr.b kinds.0) [
+  | inl h ↦ inl (on_at s (with_cell s.place room.reference.0 (Fields s.instr.x h.0)) (put s (Object room.reference.0)), Works, (kinds.0, h.0, room.reference.0, kinds.1, h.1, h.2, room.reference.1, (refl, refl)))
+  | inr never ↦ inr (new_field e (λ vs held fit. never vs held (subst (λ (g : Option (List Kind)). AreOfKinds (IsOfKind s.place.cells) vs (fields_of g)) kinds.1 fit)))
+]
+step op.Get s e range room = and_then (ask_object op.Get s e s.instr.b (0, refl)) (λ h. get_field s h.0 h.1 h.2 (slice_get h.2 s.instr.c) e h.3 h.4 refl)
+step op.Put s e range room = and_then (ask_object op.Put s e s.instr.a (0, refl)) (λ h. and_then (ask op.Put s e s.instr.b Anything (1, refl)) (λ v.
+    put_value s h.0 h.1 h.2 v.0 (slice_get h.2 s.instr.c) e h.3 h.4 v.1 refl))
+step op.Null s e range room = inl (on s (put s Null), Works, (refl, refl))
+step op.Ifobj s e range room = and_then (ask op.Ifobj s e s.instr.b AnObjectOrNull (0, refl)) (λ h. elim (is_object_or_null s.place.cells h.0 h.2) [
+  | inl r ↦ inl (on s (put s (Object r.0)), Works, inl (r.0, holds s s.instr.b h.0 (Object r.0) h.1 r.1, (refl, refl)))
+  | inr null ↦ inl (on s (goes s.stay.top s.instr.x), Works, inr (holds s s.instr.b h.0 Null h.1 null, (refl, refl)))
+])
+-- rails
+step op.Rail s e range room = and_then (ask_int op.Rail s e s.instr.b (0, refl)) (λ z. let m = makes_rail s room (rail_length z.0) in inl (m.0, m.1, (z.0, z.1, m.2)))
+step op.Rget s e range room = and_then (ask_rail op.Rget s e s.instr.b (0, refl)) (λ r. and_then (ask_int op.Rget s e s.instr.c (1, refl)) (λ z.
+    inl (on s (writes_or_goes s (byte_value (byte_at r.1 z.0))), Works, (r.0, r.1, z.0, r.2, r.3, z.1, (refl, refl)))))
+step op.Rset s e range room = and_then (ask_rail op.Rset s e s.instr.a (0, refl)) (λ r. and_then (ask_int op.Rset s e s.instr.b (1, refl)) (λ z. and_then (ask_int op.Rset s e s.instr.c (2, refl)) (λ w.
+    let m = sets_byte s r.0 r.1 z.0 w.0 (byte_at r.1 z.0) in inl (m.0, m.1, (r.0, r.1, z.0, w.0, r.2, r.3, z.1, w.1, m.2)))))
+step op.Rlen s e range room = and_then (ask_rail op.Rlen s e s.instr.b (0, refl)) (λ r. inl (on s (put s (Int (pos (length r.1)))), Works, (r.0, r.1, r.2, r.3, (refl, refl))))
+-- places
 step op.Here s e range room = inl (on s (put s (Place s.here)), Works, (refl, refl))
 step op.Placek s e range room = inl (on s (put s (Place s.instr.x)), Works, (refl, refl))
 step op.Placen s e range room = and_then (ask_int op.Placen s e s.instr.b (0, refl)) (λ z. inl (on s (writes_or_goes s (place_number s.setting.places z.0)), Works, (z.0, z.1, (refl, refl))))
@@ -118,33 +154,7 @@ step op.Gopen s e range room = and_then (ask_ref op.Gopen s e s.instr.b (0, refl
 step op.Ifhere s e range room = and_then (ask_placed op.Ifhere s e s.instr.a (0, refl)) (λ h. inl (on s (next_or_goes s (h.1 == s.here)), Works, (h.0, h.1, h.2, h.3, (refl, refl))))
 step op.Ifsame s e range room = and_then (ask_placed op.Ifsame s e s.instr.a (0, refl)) (λ h. and_then (ask_placed op.Ifsame s e s.instr.b (1, refl)) (λ k.
     inl (on s (next_or_goes s (h.1 == k.1)), Works, (h.0, k.0, h.1, k.1, h.2, k.2, h.3, k.3, (refl, refl)))))
-step op.New s e range room = let kinds = get_below s.setting.program.classes s.instr.x (x_there op.New s e range) in elim (kinds_or_not s s.instr.b kinds.0) [
-  | inl h ↦ inl (on_at s (with_cell s.place room.reference.0 (Fields s.instr.x h.0)) (put s (Object room.reference.0)), Works, (kinds.0, h.0, room.reference.0, kinds.1, h.1, h.2, room.reference.1, (refl, refl)))
-  | inr never ↦ inr (new_field e (λ vs held fit. never vs held (subst (λ (g : Option (List Kind)). AreOfKinds (IsOfKind s.place.cells) vs (fields_of g)) kinds.1 fit)))
-]
-step op.Get s e range room = and_then (ask_object op.Get s e s.instr.b (0, refl)) (λ h. get_field s h.0 h.1 h.2 (slice_get h.2 s.instr.c) e h.3 h.4 refl)
-step op.Put s e range room = and_then (ask_object op.Put s e s.instr.a (0, refl)) (λ h. and_then (ask op.Put s e s.instr.b Anything (1, refl)) (λ v.
-    put_value s h.0 h.1 h.2 v.0 (slice_get h.2 s.instr.c) e h.3 h.4 v.1 refl))
-step op.Null s e range room = inl (on s (put s Null), Works, (refl, refl))
-step op.Ifobj s e range room = and_then (ask op.Ifobj s e s.instr.b AnObjectOrNull (0, refl)) (λ h. elim (is_object_or_null s.place.cells h.0 h.2) [
-  | inl r ↦ inl (on s (put s (Object r.0)), Works, inl (r.0, holds s s.instr.b h.0 (Object r.0) h.1 r.1, (refl, refl)))
-  | inr null ↦ inl (on s (goes s.stay.top s.instr.x), Works, inr (holds s s.instr.b h.0 Null h.1 null, (refl, refl)))
-])
-step op.Rail s e range room = and_then (ask_int op.Rail s e s.instr.b (0, refl)) (λ z. let m = makes_rail s room (rail_length z.0) in inl (m.0, m.1, (z.0, z.1, m.2)))
-step op.Rget s e range room = and_then (ask_rail op.Rget s e s.instr.b (0, refl)) (λ r. and_then (ask_int op.Rget s e s.instr.c (1, refl)) (λ z.
-    inl (on s (writes_or_goes s (byte_value (byte_at r.1 z.0))), Works, (r.0, r.1, z.0, r.2, r.3, z.1, (refl, refl)))))
-step op.Rset s e range room = and_then (ask_rail op.Rset s e s.instr.a (0, refl)) (λ r. and_then (ask_int op.Rset s e s.instr.b (1, refl)) (λ z. and_then (ask_int op.Rset s e s.instr.c (2, refl)) (λ w.
-    let m = sets_byte s r.0 r.1 z.0 w.0 (byte_at r.1 z.0) in inl (m.0, m.1, (r.0, r.1, z.0, w.0, r.2, r.3, z.1, w.1, m.2)))))
-step op.Rlen s e range room = and_then (ask_rail op.Rlen s e s.instr.b (0, refl)) (λ r. inl (on s (put s (Int (pos (length r.1)))), Works, (r.0, r.1, r.2, r.3, (refl, refl))))
-step op.Tlen s e range room = and_then (ask_text op.Tlen s e s.instr.b (0, refl)) (λ t. inl (on s (put s (Int (pos (length t.0)))), Works, (t.0, t.1, (refl, refl))))
-step op.Tcat s e range room = and_then (ask_text op.Tcat s e s.instr.b (0, refl)) (λ t. and_then (ask_text op.Tcat s e s.instr.c (1, refl)) (λ u.
-    inl (on s (writes_or_goes s (joined_text t.0 u.0)), Works, (t.0, u.0, t.1, u.1, (refl, refl)))))
-step op.Call s e range room = and_then (called op.Call s s.here e (x_there op.Call s e range) refl) (λ h.
-    inl (with_stay s.place s.key (Some (record s.stay { top = entry_frame s.instr.x h.1; callers = s.stay.top ∷ s.stay.callers })), Works, (h.0, h.1, h.2, refl, refl)))
-step op.Ret s e range room = elim (gives_or_not s s.function.result) [
-  | inl g ↦ and_then (returns_to s room g.0 s.stay.callers e g.1 refl) (λ r. inl (r.0, r.1, (g.0, g.1, r.2)))
-  | inr never ↦ inr (result e never)
-]
+-- activities
 step op.Async s e range room = and_then (called op.Async s s.here e (x_there op.Async s e range) refl) (λ h. and_then (detached op.Async s h.0 e tt h.2.callee_is) (λ none.
     inl (
       with_stay (with_stay s.place s.key (Some (record s.stay { top = next s.stay.top }))) room.key.0 (Some (new_stay s.instr.x h.1 (innermost s.here s.stay) None)),
@@ -167,18 +177,20 @@ step op.Ata s e range room = and_then (ask_place op.Ata s e s.instr.c (0, refl))
     ))))
 step op.Finb s e range room = inl (with_stay (record s.place { opened = s.place.opened + 1 }) s.key (Some (record s.stay { top = next s.stay.top; finishes = s.place.opened ∷ s.stay.finishes })), Opens s.place.opened (innermost s.here s.stay), (refl, refl))
 step op.Fine s e range room = leaves s s.stay.finishes e refl
+-- output
+step op.Print s e range room = and_then (ask op.Print s e s.instr.a AnIntOrText (0, refl)) (λ h.
+    let line = is_line s.place.cells h.0 h.2 in inl (on_at s (with_line s.place line.0) (next s.stay.top), Works, (h.0, line.0, h.1, line.1, (refl, refl))))
+-- two numbers
+step o s e range room = and_then (ask_int o s e s.instr.b (0, refl)) (λ x. and_then (ask_int o s e s.instr.c (1, refl)) (λ y. inl (_, Works, (x.0, y.0, x.1, y.1, (refl, refl)))))
 
 -- ---- how an operation goes on
 
 pub way_of : (o : Op) (s : Situation) (new : places.Place) (effect : Effect) → Does o s new effect → Way s o new effect
+-- numbers
 way_of op.Intk s new effect d = goes_on (passes refl) d.2
-way_of op.Add s new effect d = goes_on (passes refl) d.4
-way_of op.Sub s new effect d = goes_on (passes refl) d.4
-way_of op.Mul s new effect d = goes_on (passes refl) d.4
 way_of op.Div s new effect d = goes_on (written (quotient d.0 d.1) refl refl) d.4
 way_of op.Rem s new effect d = goes_on (written (remainder d.0 d.1) refl refl) d.4
-way_of op.Lt s new effect d = goes_on (passes refl) d.4
-way_of op.Eq s new effect d = goes_on (passes refl) d.4
+-- control
 way_of op.Move s new effect d = goes_on (passes refl) d.2
 way_of op.Jmp s new effect d = goes_on (jumps refl refl) d
 way_of op.Jz s new effect d = goes_on (jumped (is_zero d.0) refl refl) d.2
@@ -186,19 +198,23 @@ way_of op.Loop s new effect d = goes_on begins_loop d
 way_of op.Endl s new effect d = goes_on (turned _ refl) d
 way_of op.Call s new effect d = to d.3 d.4 (calls d.0 d.1 d.2)
 way_of op.Ret s new effect d = returned s s.stay.callers d.0 new effect refl d.1 d.2
+-- text
 way_of op.Textk s new effect d = goes_on (passes refl) d.2
 way_of op.Tlen s new effect d = goes_on (passes refl) d.2
 way_of op.Tcat s new effect d = goes_on (written (joined_text d.0 d.1) refl refl) d.4
+-- objects
 way_of op.New s new effect d = changing refl refl refl (passes refl) d.7
 way_of op.Get s new effect d = goes_on (passes refl) d.7
 way_of op.Put s new effect d = changing refl refl refl (passes refl) d.13
 way_of op.Null s new effect d = goes_on (passes refl) d
 way_of op.Ifobj s new effect (inl some) = goes_on (passes refl) some.2
 way_of op.Ifobj s new effect (inr none) = goes_on (jumps refl refl) none.1
+-- rails
 way_of op.Rail s new effect d = made s (rail_length d.0) new effect d.2
 way_of op.Rget s new effect d = goes_on (written (byte_value (byte_at d.1 d.2)) refl refl) d.6
 way_of op.Rset s new effect d = set s d.0 d.1 d.2 d.3 (byte_at d.1 d.2) new effect d.8
 way_of op.Rlen s new effect d = goes_on (passes refl) d.4
+-- places
 way_of op.Here s new effect d = goes_on (passes refl) d
 way_of op.Placek s new effect d = goes_on (passes refl) d
 way_of op.Placen s new effect d = goes_on (written (place_number s.setting.places d.0) refl refl) d.2
@@ -210,9 +226,13 @@ way_of op.Gnew s new effect d = exporting _ refl refl refl (passes refl) d.5
 way_of op.Gopen s new effect d = goes_on (passes refl) d.5
 way_of op.Ifhere s new effect d = goes_on (went (d.1 == s.here) refl refl) d.4
 way_of op.Ifsame s new effect d = goes_on (went (d.2 == d.3) refl refl) d.8
+-- activities
 way_of op.Async s new effect d = to d.6 d.7 (begins d.0 d.1 d.2 d.3 d.4 d.5)
 way_of op.At s new effect d = to d.7 d.8 (shifts d.0 d.1 d.2 d.3 d.4 d.5 d.6)
 way_of op.Ata s new effect d = to d.8 d.9 (spawns d.0 d.1 d.2 d.3 d.4 d.5 d.6 d.7)
 way_of op.Finb s new effect d = to d.0 d.1 opens
 way_of op.Fine s new effect d = left s d.0 d.1 new effect d.2 d.3
+-- output
 way_of op.Print s new effect d = changing refl refl refl (passes refl) d.4
+-- two numbers to a number
+way_of _ s new effect d = goes_on (passes refl) d.4

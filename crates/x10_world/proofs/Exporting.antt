@@ -8,7 +8,8 @@ use Rattle.x10_model.specs.Moves.{Situation, Moves}
 use Rattle.x10_model.specs.Deliveries.{Receives}
 use Rattle.x10_model.proofs.NotWrong.{situation}
 use Rattle.x10_model.proofs.Ways as ways
-use Rattle.x10_model.proofs.Ways.{Way, way_of}
+use Rattle.x10_model.proofs.Operations.{way_of}
+use Rattle.x10_model.proofs.Ways.{Way}
 
 -- each export is there still
 abbrev pub AreExported : places.Place → places.Place → Type 0

@@ -18,7 +18,8 @@ use Rattle.x10_model.specs.Worlds.{Net, sent, net_after}
 use Rattle.x10_model.proofs.Maps.{at_key}
 use Rattle.x10_model.proofs.NotWrong.{situation}
 use Rattle.x10_model.proofs.Ways as ways
-use Rattle.x10_model.proofs.Ways.{same_function, Way, way_of}
+use Rattle.x10_model.proofs.Operations.{way_of}
+use Rattle.x10_model.proofs.Ways.{same_function, Way}
 use Rattle.x10_finish.specs.Nesting.{stays_in, Stays, stays_of}
 use Rattle.x10_finish.proofs.Nesting.{pair_same, no_stay}
 use Rattle.x10_finish.proofs.Sound.{entry_self, stays_after, overwritten, free_after}

@@ -13,7 +13,8 @@ use Rattle.x10_model.specs.Moves.{Situation, SendsBack, new_stay, resumed, entry
 use Rattle.x10_model.specs.Values.{Value}
 use Rattle.x10_model.proofs.NotWrong.{situation}
 use Rattle.x10_model.proofs.Ways as ways
-use Rattle.x10_model.proofs.Ways.{turns, no_loop, no_end, Onward, Way, way_of}
+use Rattle.x10_model.proofs.Operations.{way_of}
+use Rattle.x10_model.proofs.Ways.{turns, no_loop, no_end, Onward, Way}
 use Rattle.x10_image.specs.Parts.{code_in, code_at}
 use Rattle.x10_bounds.specs.Potential.{PotentialFalls}
 use Rattle.x10_world.specs.Budget.{left_in, left_after, left_of, left_of_any, left_for}

@@ -18,7 +18,8 @@ use Rattle.x10_world.specs.Prompt.{MayEnd, WorksIn}
 use Rattle.x10_world.specs.StandsForWorld.{BelongTo, setting_in, counts_in, AllStandFor, EndedIsDoneHere}
 use Rattle.x10_model.proofs.NotWrong.{situation}
 use Rattle.x10_model.proofs.Ways as ways
-use Rattle.x10_model.proofs.Ways.{Way, way_of}
+use Rattle.x10_model.proofs.Operations.{way_of}
+use Rattle.x10_model.proofs.Ways.{Way}
 use Rattle.x10_model.proofs.Lists.{none_some}
 use Rattle.x10_world.proofs.Moving.{done_by}
 
