@@ -8,6 +8,8 @@ use Rattle.x10_code.specs.declared.op.Op.TheVariants as op
 use Rattle.x10_code.specs.declared.instr.Instr.{Instr}
 use Rattle.x10_code.specs.declared.operands.Operand.{Operand}
 use Rattle.x10_code.specs.declared.operands.Operand.TheVariants as operand
+use Rattle.x10_code.specs.declared.operands.Operand.TheVariants.{Unused, Register, Arguments, Slot, Count, Field, Int, Text, Place, Class, Target}
+use Rattle.x10_code.specs.declared.operands.Form.{Form}
 use Rattle.x10_code.specs.Table.{form_of}
 use Rattle.x10_model.specs.Modules.{Module, Function, FitsFunction, FitsImage}
 use Rattle.x10_model.specs.Structure.{is_target}
@@ -17,18 +19,20 @@ use Rattle.std.proofs.lemmas.Option.{slice_get_within}
 use Rattle.x10_verify.proofs.Wholes.{function_fits}
 use Rattle.x10_place.specs.declared.route.Local.{Local}
 use Rattle.x10_place.specs.declared.route.Local.TheVariants as local
+use Rattle.x10_place.specs.declared.route.Route.{Route}
 use Rattle.x10_place.specs.declared.route.Route.TheVariants as route
-use Rattle.x10_place.specs.declared.route.Partial.TheVariants as partial
 use Rattle.x10_place.specs.declared.route.Make.{Make}
 use Rattle.x10_place.specs.declared.route.Make.TheVariants as make
 use Rattle.x10_place.specs.declared.route.Site.{Site}
 use Rattle.x10_place.specs.declared.route.Site.TheVariants as site
+use Rattle.x10_place.specs.declared.route.Number.{Number}
 use Rattle.x10_place.specs.declared.route.Number.TheVariants as number
 use Rattle.x10_heap.specs.Heaps.{HeapState}
 use Rattle.x10_model.specs.declared.limits.TheConstants.{MOST_BYTES}
 use Rattle.x10_model.specs.Moves.{is_zero, byte_at, rail_length}
-use Rattle.x10_place.specs.Frames.{Workspace, Becomes, HasSizes, IsWithin, IsFetched, Takes, CopiesUnless, SetsByte, Acts, Asks, Makes, Joins, MakesRail, AsksMake, Puts, ActsAt, AsksAt, ExportsObject, numbered, is_at, are_same, word_at, int_at, turns_left}
+use Rattle.x10_place.specs.Frames.{Workspace, Becomes, HasSizes, IsWithin, IsFetched, Takes, CopiesUnless, SetsByte, Acts, AsksNumber, Asks, Makes, Joins, MakesRail, AsksMake, Puts, ActsAt, AsksAt, ExportsObject, numbered, is_at, are_same, word_at, int_at, turns_left}
 use Rattle.x10_place.specs.Routes.{route_of}
+use Rattle.x10_place.proofs.Forms.{number_form, local_form, make_form, site_form, form_by, count_by, counted, form_is}
 
 pub sizes : (classes : ℕ) (f : Function) → FitsFunction classes f → HasSizes classes f
 sizes classes f fits = record { parameters = fits.parameters; registers = fits.registers; room = fits.room; loops = fits.loops; slots = fits.slots; result = fits.result; length = fits.length }
@@ -73,11 +77,21 @@ pub local_no_return : (o : Op) (l : Local) → route_of o ≡ route.Local l → 
 local_no_return o l e f = absurd (let g : route.Return ≡ route.Local l = ap route_of (sym f) ∙ e in cc)
 
 module _ (program : Module) (index at count : ℕ) (i : Instr) (h : IsFetched program index at count i) where
-  abbrev Named : Op → Type 0
-  Named o = IsThere program h.function i (form_of o).a i.a × IsThere program h.function i (form_of o).b i.b × IsThere program h.function i (form_of o).c i.c × IsThere program h.function i (form_of o).x i.x
+  abbrev Named : Form → Type 0
+  Named f = IsThere program h.function i f.a i.a × IsThere program h.function i f.b i.b × IsThere program h.function i f.c i.c × IsThere program h.function i f.x i.x
 
-  named : (o : Op) → i.op ≡ o → Named o
-  named o e = let r = h.in_range in subst Named e (r.a, r.b, r.c, r.x)
+  named : (r : Route) → route_of i.op ≡ r → Named (form_by r (form_of i.op))
+  named r e = subst Named (form_is i.op r e) (h.in_range.a, h.in_range.b, h.in_range.c, h.in_range.x)
+
+  -- a register, a slot and a target
+  there : {r : ℕ} → r < h.function.registers → r < count
+  there lt = omega (arith, lt, h.registers)
+
+  slot : i.a < h.function.loops → i.a < 8
+  slot lt = omega (arith, lt, h.sizes.loops)
+
+  target : i.x < length h.function.code → i.x < 2 ^ 16
+  target lt = omega (arith, lt, h.sizes.length.1)
 
   pub local_next : (l : Local) → route_of i.op ≡ route.Local l → at + 1 < length h.function.code
   local_next l e = h.next (local_no_return i.op l e)
@@ -85,40 +99,33 @@ module _ (program : Module) (index at count : ℕ) (i : Instr) (h : IsFetched pr
   pub next_small : at + 1 < length h.function.code → at + 1 < 2 ^ 16
   next_small lt = omega (arith, lt, h.sizes.length.1)
 
-  asks_at : (k l : Local) → route.Local k ≡ route.Local l → Asks k program count i → Asks l program count i
-  asks_at k l e asked = subst (λ q. Asks q program count i) (let same : k ≡ l = cc in same) asked
+  number_asks : (k : Number) → Named (number_form k) → AsksNumber k program count i
+  number_asks number.Constant n = (there n.0, n.3)
+  number_asks number.RailLength n = (there n.0, there n.1)
+  number_asks number.TextLength n = (there n.0, there n.1)
+  number_asks number.PlaceNumber n = (there n.0, there n.1)
+  number_asks _ n = (there n.0, there n.1, there n.2)
 
-  asks_by : (o : Op) (l : Local) → Named o → route_of o ≡ route.Local l → Asks l program count i
-  asks_by op.Intk l n r = asks_at (local.Number number.Constant) l r ((omega (arith, n.0, h.registers), n.3))
-  asks_by op.Add l n r = asks_at (local.Number number.Sum) l r ((omega (arith, n.0, h.registers), omega (arith, n.1, h.registers), omega (arith, n.2, h.registers)))
-  asks_by op.Sub l n r = asks_at (local.Number number.Difference) l r ((omega (arith, n.0, h.registers), omega (arith, n.1, h.registers), omega (arith, n.2, h.registers)))
-  asks_by op.Mul l n r = asks_at (local.Number number.Product) l r ((omega (arith, n.0, h.registers), omega (arith, n.1, h.registers), omega (arith, n.2, h.registers)))
-  asks_by op.Lt l n r = asks_at (local.Number number.Less) l r ((omega (arith, n.0, h.registers), omega (arith, n.1, h.registers), omega (arith, n.2, h.registers)))
-  asks_by op.Eq l n r = asks_at (local.Number number.Equal) l r ((omega (arith, n.0, h.registers), omega (arith, n.1, h.registers), omega (arith, n.2, h.registers)))
-  asks_by op.Tlen l n r = asks_at (local.Number number.TextLength) l r ((omega (arith, n.0, h.registers), omega (arith, n.1, h.registers)))
-  asks_by op.Rlen l n r = asks_at (local.Number number.RailLength) l r ((omega (arith, n.0, h.registers), omega (arith, n.1, h.registers)))
-  asks_by op.Rget l n r = asks_at (local.Partial partial.Byte) l r ((omega (arith, n.0, h.registers), omega (arith, n.1, h.registers), omega (arith, n.2, h.registers), omega (arith, n.3, h.sizes.length.1)))
-  asks_by op.Null l n r = asks_at local.Null l r (omega (arith, n.0, h.registers))
-  asks_by op.Ifobj l n r = asks_at local.NotNull l r ((omega (arith, n.0, h.registers), omega (arith, n.1, h.registers), omega (arith, n.3, h.sizes.length.1)))
-  asks_by op.Get l n r = asks_at local.GetField l r ((omega (arith, n.0, h.registers), omega (arith, n.1, h.registers)))
-  asks_by op.Put l n r = asks_at local.SetField l r ((omega (arith, n.0, h.registers), omega (arith, n.1, h.registers)))
-  asks_by op.Rset l n r = asks_at local.SetByte l r ((omega (arith, n.0, h.registers), omega (arith, n.1, h.registers), omega (arith, n.2, h.registers), omega (arith, n.3, h.sizes.length.1)))
-  asks_by op.Placei l n r = asks_at (local.Number number.PlaceNumber) l r ((omega (arith, n.0, h.registers), omega (arith, n.1, h.registers)))
-  asks_by op.Placek l n r = asks_at local.Place l r (omega (arith, n.0, h.registers))
-  asks_by op.Home l n r = asks_at local.Home l r ((omega (arith, n.0, h.registers), omega (arith, n.1, h.registers)))
-  asks_by op.Gopen l n r = asks_at local.Open l r ((omega (arith, n.0, h.registers), omega (arith, n.1, h.registers)))
-  asks_by op.Ifsame l n r = asks_at local.SamePlace l r ((omega (arith, n.0, h.registers), omega (arith, n.1, h.registers), omega (arith, n.3, h.sizes.length.1)))
-  asks_by op.Div l n r = asks_at (local.Partial partial.Quotient) l r ((omega (arith, n.0, h.registers), omega (arith, n.1, h.registers), omega (arith, n.2, h.registers), omega (arith, n.3, h.sizes.length.1)))
-  asks_by op.Rem l n r = asks_at (local.Partial partial.Remainder) l r ((omega (arith, n.0, h.registers), omega (arith, n.1, h.registers), omega (arith, n.2, h.registers), omega (arith, n.3, h.sizes.length.1)))
-  asks_by op.Move l n r = asks_at local.Copy l r ((omega (arith, n.0, h.registers), omega (arith, n.1, h.registers)))
-  asks_by op.Jmp l n r = asks_at local.Jump l r (omega (arith, n.3, h.sizes.length.1))
-  asks_by op.Jz l n r = asks_at local.JumpIfZero l r ((omega (arith, n.0, h.registers), omega (arith, n.3, h.sizes.length.1)))
-  asks_by op.Loop l n r = asks_at local.Loop l r (omega (arith, n.0, h.sizes.loops))
-  asks_by op.Endl l n r = asks_at local.EndLoop l r ((omega (arith, n.0, h.sizes.loops), omega (arith, n.3, h.sizes.length.1)))
-  asks_by _ l n r = absurd cc
+  asks_of : (l : Local) → Named (local_form l) → Asks l program count i
+  asks_of (local.Number k) n = number_asks k n
+  asks_of (local.Partial d) n = (there n.0, there n.1, there n.2, target n.3)
+  asks_of local.Copy n = (there n.0, there n.1)
+  asks_of local.Null n = there n.0
+  asks_of local.NotNull n = (there n.0, there n.1, target n.3)
+  asks_of local.GetField n = (there n.0, there n.1)
+  asks_of local.SetField n = (there n.0, there n.1)
+  asks_of local.SetByte n = (there n.0, there n.1, there n.2, target n.3)
+  asks_of local.Place n = there n.0
+  asks_of local.Home n = (there n.0, there n.1)
+  asks_of local.Open n = (there n.0, there n.1)
+  asks_of local.SamePlace n = (there n.0, there n.1, target n.3)
+  asks_of local.Jump n = target n.3
+  asks_of local.JumpIfZero n = (there n.0, target n.3)
+  asks_of local.Loop n = slot n.0
+  asks_of local.EndLoop n = (slot n.0, target n.3)
 
   pub local_asks : (l : Local) → route_of i.op ≡ route.Local l → Asks l program count i
-  local_asks l r = asks_by i.op l (named i.op refl) r
+  local_asks l r = asks_of l (named (route.Local l) r)
 
   -- ---- operations that make something
 
@@ -128,26 +135,21 @@ module _ (program : Module) (index at count : ℕ) (i : Instr) (h : IsFetched pr
   pub make_next : (k : Make) → route_of i.op ≡ route.Make k → at + 1 < length h.function.code
   make_next k e = h.next (make_no_return k e)
 
-  made_at : (j k : Make) → route.Make j ≡ route.Make k → AsksMake j program count i → AsksMake k program count i
-  made_at j k e asked = subst (λ q. AsksMake q program count i) (let same : j ≡ k = cc in same) asked
-
   -- the registers from b on have a field each
-  fields_there : i.op ≡ op.New → (kinds : List Kind) → slice_get program.classes i.x ≡ Some kinds → i.b + length kinds ≤ count
-  fields_there e kinds known =
-      let range = subst (λ q. IsThere program h.function i (form_of q).b i.b) e h.in_range.b in
-      let named_by : AreArgumentRegisters h.function (argument_count program i op.New) i.b = subst (λ q. AreArgumentRegisters h.function (argument_count program i q) i.b) e range in
-      let counted : i.b + length kinds ≤ h.function.registers = subst (λ o. i.b + length (fields_of o) ≤ h.function.registers) known named_by.1 in
-      omega (arith, counted, h.registers)
+  fields_there : route_of i.op ≡ route.Make make.Object → AreArgumentRegisters h.function (argument_count program i i.op) i.b → (kinds : List Kind) → slice_get program.classes i.x ≡ Some kinds → i.b + length kinds ≤ count
+  fields_there r named_by kinds known =
+      let same : argument_count program i i.op ≡ length kinds = counted program i i.op ∙ ap (λ q. count_by q program i (argument_count program i i.op)) r ∙ ap (λ o. length (fields_of o)) known in
+      let lt : i.b + length kinds ≤ h.function.registers = subst (λ n. i.b + n ≤ h.function.registers) same named_by.1 in
+      omega (arith, lt, h.registers)
 
-  made_by : (o : Op) (k : Make) → i.op ≡ o → Named o → route_of o ≡ route.Make k → AsksMake k program count i
-  made_by op.Textk k e n r = made_at make.Text k r ((omega (arith, n.0, h.registers), n.3))
-  made_by op.Tcat k e n r = made_at make.JoinedText k r ((omega (arith, n.0, h.registers), omega (arith, n.1, h.registers), omega (arith, n.2, h.registers), omega (arith, n.3, h.sizes.length.1)))
-  made_by op.New k e n r = made_at make.Object k r ((omega (arith, n.0, h.registers), fields_there e, n.3))
-  made_by op.Rail k e n r = made_at make.Rail k r ((omega (arith, n.0, h.registers), omega (arith, n.1, h.registers), omega (arith, n.3, h.sizes.length.1)))
-  made_by _ k e n r = absurd cc
+  made_of : (k : Make) → route_of i.op ≡ route.Make k → Named (make_form k) → AsksMake k program count i
+  made_of make.Text r n = (there n.0, n.3)
+  made_of make.JoinedText r n = (there n.0, there n.1, there n.2, target n.3)
+  made_of make.Object r n = (there n.0, fields_there r n.1, n.3)
+  made_of make.Rail r n = (there n.0, there n.1, target n.3)
 
   pub make_asks : (k : Make) → route_of i.op ≡ route.Make k → AsksMake k program count i
-  make_asks k r = made_by i.op k refl (named i.op refl) r
+  make_asks k r = made_of k r (named (route.Make k) r)
 
   -- ---- operations that go by the place
 
@@ -157,27 +159,19 @@ module _ (program : Module) (index at count : ℕ) (i : Instr) (h : IsFetched pr
   pub site_next : (k : Site) → route_of i.op ≡ route.Site k → at + 1 < length h.function.code
   site_next k e = h.next (site_no_return k e)
 
-  site_at : (j k : Site) → route.Site j ≡ route.Site k → AsksAt j count i → AsksAt k count i
-  site_at j k e asked = subst (λ q. AsksAt q count i) (let same : j ≡ k = cc in same) asked
-
-  site_by : (o : Op) (k : Site) → Named o → route_of o ≡ route.Site k → AsksAt k count i
-  site_by op.Here k n r = site_at site.Here k r (omega (arith, n.0, h.registers))
-  site_by op.Count k n r = site_at site.Count k r (omega (arith, n.0, h.registers))
-  site_by op.Nextp k n r = site_at site.Next k r ((omega (arith, n.0, h.registers), omega (arith, n.1, h.registers)))
-  site_by op.Placen k n r = site_at site.Numbered k r ((omega (arith, n.0, h.registers), omega (arith, n.1, h.registers), omega (arith, n.3, h.sizes.length.1)))
-  site_by op.Ifhere k n r = site_at site.IsHere k r ((omega (arith, n.0, h.registers), omega (arith, n.3, h.sizes.length.1)))
-  site_by _ k n r = absurd cc
+  site_of : (k : Site) → Named (site_form k) → AsksAt k count i
+  site_of site.Here n = there n.0
+  site_of site.Count n = there n.0
+  site_of site.Next n = (there n.0, there n.1)
+  site_of site.Numbered n = (there n.0, there n.1, target n.3)
+  site_of site.IsHere n = (there n.0, target n.3)
 
   pub site_asks : (k : Site) → route_of i.op ≡ route.Site k → AsksAt k count i
-  site_asks k r = site_by i.op k (named i.op refl) r
+  site_asks k r = site_of k (named (route.Site k) r)
 
   -- a global reference is made
-  export_by : (o : Op) → Named o → route_of o ≡ route.Export → (i.a < count) × (i.b < count)
-  export_by op.Gnew n r = (omega (arith, n.0, h.registers), omega (arith, n.1, h.registers))
-  export_by _ n r = absurd cc
-
   pub export_asks : route_of i.op ≡ route.Export → (i.a < count) × (i.b < count)
-  export_asks r = export_by i.op (named i.op refl) r
+  export_asks r = let n = named route.Export r in (there n.0, there n.1)
 
   pub export_next : route_of i.op ≡ route.Export → at + 1 < length h.function.code
   export_next e = h.next (λ f. absurd (let g : route.Return ≡ route.Export = ap route_of (sym f) ∙ e in cc))
@@ -196,77 +190,48 @@ module _ (i : Instr) (P : ℕ → Type 0) (jump : is_target (form_of i.op).x ≡
   Targets local.EndLoop = P i.x
   Targets _ = Unit {0}
 
-  targets_at : (k l : Local) → route.Local k ≡ route.Local l → Targets k → Targets l
-  targets_at k l e target = subst Targets (let same : k ≡ l = cc in same) target
+  -- where the route settles the form
+  jump_by : (r : Route) → route_of i.op ≡ r → is_target (form_by r (form_of i.op)).x ≡ true → P i.x
+  jump_by r e is = jump (ap (λ f. is_target f.x) (form_is i.op r e) ∙ is)
 
-  targets_by : (o : Op) (l : Local) → (is_target (form_of o).x ≡ true → P i.x) → route_of o ≡ route.Local l → Targets l
-  targets_by op.Intk l n r = targets_at (local.Number number.Constant) l r tt
-  targets_by op.Add l n r = targets_at (local.Number number.Sum) l r tt
-  targets_by op.Sub l n r = targets_at (local.Number number.Difference) l r tt
-  targets_by op.Mul l n r = targets_at (local.Number number.Product) l r tt
-  targets_by op.Lt l n r = targets_at (local.Number number.Less) l r tt
-  targets_by op.Eq l n r = targets_at (local.Number number.Equal) l r tt
-  targets_by op.Tlen l n r = targets_at (local.Number number.TextLength) l r tt
-  targets_by op.Rlen l n r = targets_at (local.Number number.RailLength) l r tt
-  targets_by op.Placei l n r = targets_at (local.Number number.PlaceNumber) l r tt
-  targets_by op.Placek l n r = targets_at local.Place l r tt
-  targets_by op.Home l n r = targets_at local.Home l r tt
-  targets_by op.Gopen l n r = targets_at local.Open l r tt
-  targets_by op.Ifsame l n r = targets_at local.SamePlace l r (n refl)
-  targets_by op.Div l n r = targets_at (local.Partial partial.Quotient) l r (n refl)
-  targets_by op.Rem l n r = targets_at (local.Partial partial.Remainder) l r (n refl)
-  targets_by op.Rget l n r = targets_at (local.Partial partial.Byte) l r (n refl)
-  targets_by op.Null l n r = targets_at local.Null l r tt
-  targets_by op.Ifobj l n r = targets_at local.NotNull l r (n refl)
-  targets_by op.Get l n r = targets_at local.GetField l r tt
-  targets_by op.Put l n r = targets_at local.SetField l r tt
-  targets_by op.Rset l n r = targets_at local.SetByte l r (n refl)
-  targets_by op.Move l n r = targets_at local.Copy l r tt
-  targets_by op.Jmp l n r = targets_at local.Jump l r (n refl)
-  targets_by op.Jz l n r = targets_at local.JumpIfZero l r (n refl)
-  targets_by op.Loop l n r = targets_at local.Loop l r tt
-  targets_by op.Endl l n r = targets_at local.EndLoop l r (n refl)
-  targets_by _ l n r = absurd cc
+  targets_of : (l : Local) → (is_target (local_form l).x ≡ true → P i.x) → Targets l
+  targets_of (local.Partial d) to = to refl
+  targets_of local.NotNull to = to refl
+  targets_of local.SetByte to = to refl
+  targets_of local.SamePlace to = to refl
+  targets_of local.Jump to = to refl
+  targets_of local.JumpIfZero to = to refl
+  targets_of local.EndLoop to = to refl
+  targets_of _ to = tt
 
   pub local_targets : (l : Local) → route_of i.op ≡ route.Local l → Targets l
-  local_targets l r = targets_by i.op l jump r
+  local_targets l r = targets_of l (jump_by (route.Local l) r)
 
   abbrev pub MakeTargets : Make → Type 0
   MakeTargets make.JoinedText = P i.x
   MakeTargets make.Rail = P i.x
   MakeTargets _ = Unit {0}
 
-  make_targets_at : (j k : Make) → route.Make j ≡ route.Make k → MakeTargets j → MakeTargets k
-  make_targets_at j k e target = subst MakeTargets (let same : j ≡ k = cc in same) target
-
-  make_targets_by : (o : Op) (k : Make) → (is_target (form_of o).x ≡ true → P i.x) → route_of o ≡ route.Make k → MakeTargets k
-  make_targets_by op.Textk k n r = make_targets_at make.Text k r tt
-  make_targets_by op.Tcat k n r = make_targets_at make.JoinedText k r (n refl)
-  make_targets_by op.New k n r = make_targets_at make.Object k r tt
-  make_targets_by op.Rail k n r = make_targets_at make.Rail k r (n refl)
-  make_targets_by _ k n r = absurd cc
+  make_targets_of : (k : Make) → (is_target (make_form k).x ≡ true → P i.x) → MakeTargets k
+  make_targets_of make.JoinedText to = to refl
+  make_targets_of make.Rail to = to refl
+  make_targets_of _ to = tt
 
   pub make_targets : (k : Make) → route_of i.op ≡ route.Make k → MakeTargets k
-  make_targets k r = make_targets_by i.op k jump r
+  make_targets k r = make_targets_of k (jump_by (route.Make k) r)
 
   abbrev pub SiteTargets : Site → Type 0
   SiteTargets site.Numbered = P i.x
   SiteTargets site.IsHere = P i.x
   SiteTargets _ = Unit {0}
 
-  site_targets_at : (j k : Site) → route.Site j ≡ route.Site k → SiteTargets j → SiteTargets k
-  site_targets_at j k e target = subst SiteTargets (let same : j ≡ k = cc in same) target
-
-  site_targets_by : (o : Op) (k : Site) → (is_target (form_of o).x ≡ true → P i.x) → route_of o ≡ route.Site k → SiteTargets k
-  site_targets_by op.Here k n r = site_targets_at site.Here k r tt
-  site_targets_by op.Count k n r = site_targets_at site.Count k r tt
-  site_targets_by op.Nextp k n r = site_targets_at site.Next k r tt
-  site_targets_by op.Placen k n r = site_targets_at site.Numbered k r (n refl)
-  site_targets_by op.Ifhere k n r = site_targets_at site.IsHere k r (n refl)
-  site_targets_by _ k n r = absurd cc
+  site_targets_of : (k : Site) → (is_target (site_form k).x ≡ true → P i.x) → SiteTargets k
+  site_targets_of site.Numbered to = to refl
+  site_targets_of site.IsHere to = to refl
+  site_targets_of _ to = tt
 
   pub site_targets : (k : Site) → route_of i.op ≡ route.Site k → SiteTargets k
-  site_targets k r = site_targets_by i.op k jump r
+  site_targets k r = site_targets_of k (jump_by (route.Site k) r)
 
   -- the frame lands where P holds, with as many registers
   abbrev pub Lands : Workspace → Workspace → Type 0

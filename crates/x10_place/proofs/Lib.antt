@@ -1,6 +1,8 @@
 pub mod Words
 pub mod Homes
 pub mod Numbers
+pub mod Forms
+pub mod HeapKept
 pub mod Fetching
 pub mod Filling
 pub mod Fitting

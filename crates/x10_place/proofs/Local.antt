@@ -13,13 +13,13 @@ use Rattle.x10_code.specs.declared.op.Op.TheVariants as op
 use Rattle.x10_code.specs.declared.instr.Instr.{Instr}
 use Rattle.x10_code.specs.Table.{form_of}
 use Rattle.x10_model.specs.Maps.{with_entry, IsIn}
-use Rattle.x10_model.specs.Modules.{Module, Function}
+use Rattle.x10_model.specs.Modules.{Function}
 use Rattle.x10_model.specs.Ranges.{IsThere}
 use Rattle.x10_model.specs.Values.{Value, Int, Place, Object, Null, Ref, Bytes, Cells}
 use Rattle.x10_model.specs.Places as machine
 use Rattle.x10_model.specs.Places.{Setting, Stay, Works, with_stay, goes, next, writes}
 use Rattle.x10_model.specs.Moves.{Situation, Does, is_zero, place_of, writes_or_goes, next_or_goes, byte_at, byte_value}
-use Rattle.x10_model.specs.Assignments.{State, Point, Edges, onward, onward_or, gives, like_if, IsKind, IsPlaced, Permits, Reaches}
+use Rattle.x10_model.specs.Assignments.{State, Point, Edges, onward, onward_or, gives, like_if, IsKind, IsPlaced, AreInts, Permits, Reaches}
 use Rattle.x10_heap.specs.declared.export.Export.{Export}
 use Rattle.x10_heap.specs.Heaps.{HeapState, ObjectState}
 use Rattle.x10_heap.specs.Words.{Context, IsWordOf, rail_cell, HoldsHeap, export_as, has_class}
@@ -41,6 +41,8 @@ use Rattle.std.proofs.Math.Nat.{mod-eq_of_lt}
 use Rattle.std.proofs.lemmas.Bool.{eqb-true, eq-eqb}
 use Rattle.std.proofs.lemmas.Option.{slice_get-map, same_Some}
 use Rattle.x10_model.proofs.Decided.{get_below}
+use Rattle.x10_place.proofs.Forms.{of_two, number_by}
+use Rattle.x10_place.proofs.HeapKept.{Keeps, heap_kept}
 use Rattle.x10_place.proofs.Words.{Reads, reads, reads_int, words_written}
 use Rattle.x10_place.proofs.Objects.{ObjectAt, object_at, word_in}
 use Rattle.x10_place.proofs.Homes.{homes_written, homes_joined, move_like}
@@ -57,38 +59,6 @@ first_of_two point t u = (0, refl)
 
 second_of_two : (point : Point) (t u : State) → IsIn (point.instr.x, u) (onward_or point t u)
 second_of_two point t u = (1, refl)
-
--- the operations that leave the heap as it is
-abbrev Keeps : Local → Type 0
-Keeps local.SetField = ⊥
-Keeps local.SetByte = ⊥
-Keeps _ = Unit {0}
-
-heap_kept : (l : Local) (program : Module) (w : Workspace) (i : Instr) (v : Workspace) → Keeps l → Acts l program w i v → v.heap ≡ w.heap
-heap_kept (local.Number n) program w i v keeps acts = acts.2.2.heap_is
-heap_kept (local.Partial d) program w i v keeps acts = taken acts.0 acts.2
-  where
-    taken : (z : Option ℤ) → Takes w i z v → v.heap ≡ w.heap
-    taken None t = t.heap_is
-    taken (Some z) t = t.2.heap_is
-heap_kept local.Copy program w i v keeps acts = acts.heap_is
-heap_kept local.Null program w i v keeps acts = acts.heap_is
-heap_kept local.NotNull program w i v keeps acts = copied (word_at w.words i.b == 0) acts
-  where
-    copied : (b : Bool) → CopiesUnless b w i v → v.heap ≡ w.heap
-    copied true c = c.heap_is
-    copied false c = c.heap_is
-heap_kept local.GetField program w i v keeps acts = acts.becomes.heap_is
-heap_kept local.SetField program w i v keeps acts = absurd keeps
-heap_kept local.SetByte program w i v keeps acts = absurd keeps
-heap_kept local.Place program w i v keeps acts = acts.heap_is
-heap_kept local.Home program w i v keeps acts = acts.heap_is
-heap_kept local.Open program w i v keeps acts = acts.2.heap_is
-heap_kept local.SamePlace program w i v keeps acts = acts.heap_is
-heap_kept local.Jump program w i v keeps acts = acts.heap_is
-heap_kept local.JumpIfZero program w i v keeps acts = acts.heap_is
-heap_kept local.Loop program w i v keeps acts = acts.heap_is
-heap_kept local.EndLoop program w i v keeps acts = acts.heap_is
 
 module _ (setting : Setting) (here : ℕ) (far : Far) (m : machine.Place) (key : ℕ) (s : Stay) (assigned : Assigned setting.program) (heap : HeapState) (f : CallFrame) (h : StandsForFrame setting.program assigned (context setting here heap far) f s.top) (i : Instr) (fetched : IsFetchedFor setting.program f i) where
   abbrev x : Context
@@ -369,33 +339,77 @@ module _ (setting : Setting) (here : ℕ) (far : Far) (m : machine.Place) (key :
     rail_cell_at : (w : ℕ) (bytes : List ℕ) → slice_get heap.rails w ≡ Some bytes → m.cells (2 * w + 1) ≡ Some (Bytes bytes)
     rail_cell_at w bytes e = held.rails w ∙ ap rail_cell e
 
-    pub local_moves : (o : Op) → i.op ≡ o → (o ≡ op.Put → ⊥) → (o ≡ op.Rset → ⊥) → route_of o ≡ route.Local l → Permits o point h.state out → Done o g kept
-    local_moves op.Intk e np ns r permits =
+    -- ---- a number of two numbers
+
+    abbrev value_in : Option Value → Value
+    value_in (Some v) = v
+    value_in None = Null
+
+    -- what an operation gives, if it gives a number
+    abbrev given_by : Op → Option Value
+    given_by o = given (number_by (route_of o)) setting.program heap f.registers.items i
+
+    abbrev moved_by : Op → machine.Place
+    moved_by o = with_stay m key (Some (record s { top = writes s.top i.a (value_in (given_by o)) }))
+
+    -- the two numbers are in registers b and c
+    abbrev Held : ℤ → ℤ → Type 0
+    Held y z = (s.top.registers i.b ≡ Some (Int y)) × (s.top.registers i.c ≡ Some (Int z))
+
+    -- its route and its form, what it gives, what its rule permits, and that it does so
+    abbrev IsOfTwo : Op → Type 0
+    IsOfTwo o = (route_of o ≡ route.Local (local.Number (number_by (route_of o))))
+        × (IsThere setting.program h.function i (form_of o).a i.a → i.a < h.function.registers)
+        × (given_by o ≡ Some (value_in (given_by o)))
+        × (Permits o point h.state out → AreInts point h.state × (out ≡ onward point (gives point h.state kind.Int None)))
+        × (Held (int_at f.registers.items i.b) (int_at f.registers.items i.c) → Does o (situated setting here m key s h.function i) (moved_by o) Works)
+
+    -- the same of any operation, with nothing said
+    abbrev IsAny : Op → Type 0
+    IsAny o = (o ≡ o) × (IsThere setting.program h.function i (form_of o).a i.a → IsThere setting.program h.function i (form_of o).a i.a)
+        × (o ≡ o) × (Permits o point h.state out → Permits o point h.state out)
+        × (Held (int_at f.registers.items i.b) (int_at f.registers.items i.c) → (y z : ℤ) × (s.top.registers i.b ≡ Some (Int y)) × (s.top.registers i.c ≡ Some (Int z)) × ((o ≡ o) × (o ≡ o)))
+
+    abbrev IsOneOf : Bool → Op → Type 0
+    IsOneOf true o = IsOfTwo o
+    IsOneOf false o = IsAny o
+
+    -- each operation computes to itself, so a new one needs no line here
+    two_of : (o : Op) → IsOneOf (of_two (route_of o)) o
+    two_of op.Call = (refl, (λ a. a), refl, (λ p. p), λ k. (int_at f.registers.items i.b, int_at f.registers.items i.c, k.0, k.1, (refl, refl)))
+    two_of _ = (refl, (λ a. a), refl, (λ p. p), λ k. (int_at f.registers.items i.b, int_at f.registers.items i.c, k.0, k.1, (refl, refl)))
+
+    two_moves : (o : Op) → i.op ≡ o → of_two (route_of o) ≡ true → route_of o ≡ route.Local l → Permits o point h.state out → Done o g kept
+    two_moves o e two r permits =
+        let t : IsOfTwo o = subst (λ b. IsOneOf b o) two (two_of o) in
+        let asked = t.3 permits in
+        sums o (number_by (route_of o)) (value_in (given_by o)) e t.2 t.1 (sym t.0 ∙ r) asked.1 (t.4 (number_of i.b asked.0.0, number_of i.c asked.0.1))
+
+    -- ---- the operations
+
+    moves_by : (b : Bool) (o : Op) → i.op ≡ o → of_two (route_of o) ≡ b → (o ≡ op.Put → ⊥) → (o ≡ op.Rset → ⊥) → route_of o ≡ route.Local l → Permits o point h.state out → Done o g kept
+    moves_by true o e two np ns r permits = two_moves o e two r permits
+    moves_by false op.Intk e two np ns r permits =
         let z = get_below setting.program.ints i.x (there op.Intk e).2 in
         sums op.Intk number.Constant (Int z.0) e (ap as_value z.1) (λ a. a) r permits (z.0, z.1, (refl, refl))
-    local_moves op.Add e np ns r permits = sums op.Add number.Sum _ e refl (λ a. a) r permits.1 (int_at f.registers.items i.b, int_at f.registers.items i.c, number_of i.b permits.0.0, number_of i.c permits.0.1, (refl, refl))
-    local_moves op.Sub e np ns r permits = sums op.Sub number.Difference _ e refl (λ a. a) r permits.1 (int_at f.registers.items i.b, int_at f.registers.items i.c, number_of i.b permits.0.0, number_of i.c permits.0.1, (refl, refl))
-    local_moves op.Mul e np ns r permits = sums op.Mul number.Product _ e refl (λ a. a) r permits.1 (int_at f.registers.items i.b, int_at f.registers.items i.c, number_of i.b permits.0.0, number_of i.c permits.0.1, (refl, refl))
-    local_moves op.Lt e np ns r permits = sums op.Lt number.Less _ e refl (λ a. a) r permits.1 (int_at f.registers.items i.b, int_at f.registers.items i.c, number_of i.b permits.0.0, number_of i.c permits.0.1, (refl, refl))
-    local_moves op.Eq e np ns r permits = sums op.Eq number.Equal _ e refl (λ a. a) r permits.1 (int_at f.registers.items i.b, int_at f.registers.items i.c, number_of i.b permits.0.0, number_of i.c permits.0.1, (refl, refl))
-    local_moves op.Div e np ns r permits = attempts op.Div partial.Quotient _ e refl (λ a. a) r permits.1 (int_at f.registers.items i.b, int_at f.registers.items i.c, number_of i.b permits.0.0, number_of i.c permits.0.1, (refl, refl))
-    local_moves op.Rem e np ns r permits = attempts op.Rem partial.Remainder _ e refl (λ a. a) r permits.1 (int_at f.registers.items i.b, int_at f.registers.items i.c, number_of i.b permits.0.0, number_of i.c permits.0.1, (refl, refl))
-    local_moves op.Tlen e np ns r permits =
+    moves_by false op.Div e two np ns r permits = attempts op.Div partial.Quotient _ e refl (λ a. a) r permits.1 (int_at f.registers.items i.b, int_at f.registers.items i.c, number_of i.b permits.0.0, number_of i.c permits.0.1, (refl, refl))
+    moves_by false op.Rem e two np ns r permits = attempts op.Rem partial.Remainder _ e refl (λ a. a) r permits.1 (int_at f.registers.items i.b, int_at f.registers.items i.c, number_of i.b permits.0.0, number_of i.c permits.0.1, (refl, refl))
+    moves_by false op.Tlen e two np ns r permits =
         let t = reads x h.state s.top.registers f.registers.items i.b kind.Text h.words permits.0 in
         sums op.Tlen number.TextLength (Int (pos (length t.2.0))) e (ap size t.2.1) (λ a. a) r permits.1 (t.2.0, t.1 ∙ ap Some t.2.2, (refl, refl))
-    local_moves op.Rlen e np ns r permits =
+    moves_by false op.Rlen e two np ns r permits =
         let t = reads x h.state s.top.registers f.registers.items i.b kind.Rail h.words permits.0 in
         sums op.Rlen number.RailLength (Int (pos (length t.2.0))) e (ap size t.2.1) (λ a. a) r permits.1
         (2 * word_at f.registers.items i.b + 1, t.2.0, t.1 ∙ ap Some t.2.2, rail_cell_at (word_at f.registers.items i.b) t.2.0 t.2.1, (refl, refl))
-    local_moves op.Rget e np ns r permits =
+    moves_by false op.Rget e two np ns r permits =
         let t = reads x h.state s.top.registers f.registers.items i.b kind.Rail h.words permits.0 in
         let z = int_at f.registers.items i.c in
         attempts op.Rget partial.Byte (byte_value (byte_at t.2.0 z)) e (ap (λ o. byte_in o z) t.2.1) (λ a. a) r permits.2
         (2 * word_at f.registers.items i.b + 1, t.2.0, z, t.1 ∙ ap Some t.2.2, rail_cell_at (word_at f.registers.items i.b) t.2.0 t.2.1, number_of i.c permits.1, (refl, refl))
-    local_moves op.Placei e np ns r permits =
+    moves_by false op.Placei e two np ns r permits =
         let t = reads x h.state s.top.registers f.registers.items i.b kind.Place h.words permits.0 in
         sums op.Placei number.PlaceNumber (Int (pos (word_at f.registers.items i.b))) e refl (λ a. a) r permits.1 (word_at f.registers.items i.b, t.1 ∙ ap Some t.2.1, (refl, refl))
-    local_moves op.Placek e np ns r permits =
+    moves_by false op.Placek e two np ns r permits =
         let lt : i.x < setting.program.least_places = (there op.Placek e).2 in
         unchanged local.Place op.Placek tt r (
           writes s.top i.a (Place i.x),
@@ -403,34 +417,37 @@ module _ (setting : Setting) (here : ℕ) (far : Far) (m : machine.Place) (key :
           writes_like g kind.Place (Some (term.Place i.x)) (Place i.x) i.x (omega (arith, lt, site.enough), refl) (omega (arith, lt, site.enough, site.few), refl) (room op.Placek e (λ a. a))
               (went (f.pc + 1) (slice_set f.registers.items i.a i.x) f.loops (by local.Place r)) (edge_next out (gives point h.state kind.Place (Some (term.Place i.x))) edges permits),
         )
-    local_moves op.Home e np ns r permits = unchanged local.Home op.Home tt r (homes_in permits.0 e (reads x h.state s.top.registers f.registers.items i.b (kind.GRef permits.0) h.words permits.1) (by local.Home r) permits.2)
-    local_moves op.Gopen e np ns r permits =
+    moves_by false op.Home e two np ns r permits = unchanged local.Home op.Home tt r (homes_in permits.0 e (reads x h.state s.top.registers f.registers.items i.b (kind.GRef permits.0) h.words permits.1) (by local.Home r) permits.2)
+    moves_by false op.Gopen e two np ns r permits =
         unchanged local.Open op.Gopen tt r (opens permits.0 e (reads x h.state s.top.registers f.registers.items i.b (kind.GRef permits.0) h.words permits.1) permits.2 (by local.Open r) permits.3)
-    local_moves op.Ifsame e np ns r permits = unchanged local.SamePlace op.Ifsame tt r (compares (are_same f.registers.items i.a i.b) e refl permits.0 permits.1 (by local.SamePlace r) permits.2)
-    local_moves op.Null e np ns r permits = unchanged local.Null op.Null tt r (
+    moves_by false op.Ifsame e two np ns r permits = unchanged local.SamePlace op.Ifsame tt r (compares (are_same f.registers.items i.a i.b) e refl permits.0 permits.1 (by local.SamePlace r) permits.2)
+    moves_by false op.Null e two np ns r permits = unchanged local.Null op.Null tt r (
       writes s.top i.a Null,
       (refl, refl),
       writes_word g (kind.Opt i.x) Null 0 (inl (refl, refl)) (room op.Null e (λ a. a)) (went (f.pc + 1) (slice_set f.registers.items i.a 0) f.loops (by local.Null r)) (edge_next out (gives point h.state (kind.Opt i.x) None) edges permits),
     )
-    local_moves op.Ifobj e np ns r permits =
+    moves_by false op.Ifobj e two np ns r permits =
         unchanged local.NotNull op.Ifobj tt r (copies permits.0 (word_at f.registers.items i.b == 0) e refl (reads x h.state s.top.registers f.registers.items i.b (kind.Opt permits.0) h.words permits.1) (by local.NotNull r) permits.2)
-    local_moves op.Get e np ns r permits =
+    moves_by false op.Get e two np ns r permits =
         unchanged local.GetField op.Get tt r (gets permits.0 permits.1 permits.2 e (reads x h.state s.top.registers f.registers.items i.b (kind.Obj permits.0) h.words permits.3) permits.4 permits.5 (by local.GetField r) permits.6)
-    local_moves op.Put e np ns r permits = absurd (np refl)
-    local_moves op.Rset e np ns r permits = absurd (ns refl)
-    local_moves op.Move e np ns r permits = unchanged local.Copy op.Move tt r
+    moves_by false op.Put e two np ns r permits = absurd (np refl)
+    moves_by false op.Rset e two np ns r permits = absurd (ns refl)
+    moves_by false op.Move e two np ns r permits = unchanged local.Copy op.Move tt r
         (moves_word g out permits.0 edges permits.1 permits.2 (room op.Move e (λ a. a)) (register_few op.Move e (λ b. b)) (went (f.pc + 1) (slice_set f.registers.items i.a (word_at f.registers.items i.b)) f.loops (by local.Copy r)))
-    local_moves op.Jmp e np ns r permits = unchanged local.Jump op.Jmp tt r
+    moves_by false op.Jmp e two np ns r permits = unchanged local.Jump op.Jmp tt r
         (goes s.top i.x, (refl, refl), goes_to g i.x h.state (went i.x f.registers.items f.loops (by local.Jump r)) (edges (i.x, h.state) (subst (λ (o : Edges). IsIn (i.x, h.state) o) (sym permits) (0, refl))) refl)
-    local_moves op.Jz e np ns r permits = unchanged local.JumpIfZero op.Jz tt r (
+    moves_by false op.Jz e two np ns r permits = unchanged local.JumpIfZero op.Jz tt r (
       _,
       (int_at f.registers.items i.a, number_of i.a permits.0, (refl, refl)),
       jumps_if g (is_zero (int_at f.registers.items i.a)) (went _ f.registers.items f.loops (by local.JumpIfZero r)) (edge_first out h.state h.state edges permits.1) (edge_target out h.state h.state edges permits.1),
     )
-    local_moves op.Loop e np ns r permits = unchanged local.Loop op.Loop tt r
+    moves_by false op.Loop e two np ns r permits = unchanged local.Loop op.Loop tt r
         (_, (refl, refl), loops_set g i.x (s.top.pc + 1) (f.pc + 1) (slot_there op.Loop e (λ a. a)) pc_next (went (f.pc + 1) f.registers.items (slice_set f.loops i.a i.x) (by local.Loop r)) (edge_next out h.state edges permits))
-    local_moves op.Endl e np ns r permits =
+    moves_by false op.Endl e two np ns r permits =
         let lt = slot_there op.Endl e (λ a. a) in
         unchanged local.EndLoop op.Endl tt r
         (_, (refl, refl), loop_turns g (s.top.loops i.a - 1) lt (ap (λ n. n - 1) (sym (h.loops i.a lt))) (went _ f.registers.items _ (by local.EndLoop r)) (edge_first out h.state h.state edges permits) (edge_target out h.state h.state edges permits))
-    local_moves _ e np ns r permits = absurd cc
+    moves_by false _ e two np ns r permits = absurd cc
+
+    pub local_moves : (o : Op) → i.op ≡ o → (o ≡ op.Put → ⊥) → (o ≡ op.Rset → ⊥) → route_of o ≡ route.Local l → Permits o point h.state out → Done o g kept
+    local_moves o e np ns r permits = moves_by (of_two (route_of o)) o e refl np ns r permits

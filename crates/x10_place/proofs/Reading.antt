@@ -22,13 +22,6 @@ use Rattle.x10_heap.specs.declared.export.Export.{Export}
 use Rattle.x10_heap.specs.Words.{Context, HoldsHeap, has_class}
 use Rattle.x10_place.specs.declared.frame.CallFrame.{CallFrame}
 use Rattle.x10_place.specs.declared.route.Local.{Local}
-use Rattle.x10_place.specs.declared.route.Local.TheVariants as local
-use Rattle.x10_place.specs.declared.route.Number.TheVariants as number
-use Rattle.x10_place.specs.declared.route.Partial.TheVariants as partial
-use Rattle.x10_place.specs.declared.route.Make.{Make}
-use Rattle.x10_place.specs.declared.route.Make.TheVariants as make
-use Rattle.x10_place.specs.declared.route.Site.{Site}
-use Rattle.x10_place.specs.declared.route.Site.TheVariants as site
 use Rattle.x10_place.specs.declared.route.Route.{Route}
 use Rattle.x10_place.specs.declared.route.Route.TheVariants as route
 use Rattle.x10_place.specs.Frames as frames
@@ -90,83 +83,49 @@ module _ (program : Module) (assigned : Assigned program) (x : Context) (same_cl
   pub prints_there : PrintsText program f.function f.pc → word_at f.registers.items i.a < length x.heap.texts
   prints_there text = text_there i.a (text_known text)
 
-  at : (k l : Local) → route.Local k ≡ route.Local l → frames.Reads k x.heap f.registers.items i → frames.Reads l x.heap f.registers.items i
-  at k l e reads = subst (λ q. frames.Reads q x.heap f.registers.items i) (let same : k ≡ l = cc in same) reads
-
-  made : (j k : Make) → route.Make j ≡ route.Make k → ReadsMake j x.heap f.registers.items i → ReadsMake k x.heap f.registers.items i
-  made j k e reads = subst (λ q. ReadsMake q x.heap f.registers.items i) (let same : j ≡ k = cc in same) reads
-
   register_small : i.op ≡ op.Gopen → i.b < 64
   register_small e =
       let lt : i.b < h.function.registers = subst (λ q. IsThere program h.function i (form_of q).b i.b) e (in_range program assigned x f c h i fetched).b in
       omega (arith, lt, (small program assigned x f c h i fetched).registers.1)
 
-  sited : (j k : Site) → route.Site j ≡ route.Site k → ReadsAt j x.places f.registers.items i → ReadsAt k x.places f.registers.items i
-  sited j k e reads = subst (λ q. ReadsAt q x.places f.registers.items i) (let same : j ≡ k = cc in same) reads
+  -- what a route reads
+  abbrev Read : Route → Type 0
+  Read (route.Local l) = frames.Reads l x.heap f.registers.items i
+  Read (route.Make k) = ReadsMake k x.heap f.registers.items i
+  Read (route.Site k) = ReadsAt k x.places f.registers.items i
+  Read route.Export = NamesObject x.heap f.registers.items i.b
+  Read _ = Unit {0}
 
-  reads_by : (o : Op) → i.op ≡ o → (l : Local) (out : Edges) → Permits o (point_of program h.function f i) h.state out → route_of o ≡ route.Local l → frames.Reads l x.heap f.registers.items i
-  reads_by op.Tlen e l out p r = at (local.Number number.TextLength) l r (text_there i.b p.0)
-  reads_by op.Rlen e l out p r = at (local.Number number.RailLength) l r (rail_there i.b p.0)
-  reads_by op.Rget e l out p r = at (local.Partial partial.Byte) l r (rail_there i.b p.0)
-  reads_by op.Rset e l out p r = at local.SetByte l r (rail_there i.a p.0)
-  reads_by op.Placei e l out p r = at (local.Number number.PlaceNumber) l r (let t = reads x h.state c.registers f.registers.items i.b kind.Place h.words p.0 in let lt = t.2.0 in omega (arith, lt, few))
-  reads_by op.Placek e l out p r = at local.Place l r tt
-  reads_by op.Home e l out p r = at local.Home l r tt
-  reads_by op.Ifsame e l out p r = at local.SamePlace l r tt
-  reads_by op.Gopen e l out p r = at local.Open l r (export_there i.b p.0 (register_small e) p.1 p.2)
-  reads_by op.Get e l out p r = at local.GetField l r (field_at i.b p.0 p.1 i.c p.2 p.3 p.4 p.5)
-  reads_by op.Put e l out p r = at local.SetField l r (field_at i.a p.0 p.1 i.c p.2 p.3 p.4 p.5)
-  reads_by op.Intk e l out p r = at (local.Number number.Constant) l r tt
-  reads_by op.Add e l out p r = at (local.Number number.Sum) l r tt
-  reads_by op.Sub e l out p r = at (local.Number number.Difference) l r tt
-  reads_by op.Mul e l out p r = at (local.Number number.Product) l r tt
-  reads_by op.Lt e l out p r = at (local.Number number.Less) l r tt
-  reads_by op.Eq e l out p r = at (local.Number number.Equal) l r tt
-  reads_by op.Div e l out p r = at (local.Partial partial.Quotient) l r tt
-  reads_by op.Rem e l out p r = at (local.Partial partial.Remainder) l r tt
-  reads_by op.Move e l out p r = at local.Copy l r tt
-  reads_by op.Null e l out p r = at local.Null l r tt
-  reads_by op.Ifobj e l out p r = at local.NotNull l r tt
-  reads_by op.Jmp e l out p r = at local.Jump l r tt
-  reads_by op.Jz e l out p r = at local.JumpIfZero l r tt
-  reads_by op.Loop e l out p r = at local.Loop l r tt
-  reads_by op.Endl e l out p r = at local.EndLoop l r tt
-  reads_by _ e l out p r = absurd cc
+  place_there : (r : ℕ) → IsKind h.state r kind.Place → word_at f.registers.items r < x.places
+  place_there r k = let t = reads x h.state c.registers f.registers.items r kind.Place h.words k in t.2.0
 
-  pub local_reads : (l : Local) → route_of i.op ≡ route.Local l → frames.Reads l x.heap f.registers.items i
-  local_reads l r = let at = rule program assigned x f c h i fetched in reads_by i.op refl l at.0 at.1 r
-
-  makes_by : (o : Op) (k : Make) (out : Edges) → Permits o (point_of program h.function f i) h.state out → route_of o ≡ route.Make k → ReadsMake k x.heap f.registers.items i
-  makes_by op.Tcat k out p r = made make.JoinedText k r (text_there i.b p.0, text_there i.c p.1)
-  makes_by op.Textk k out p r = made make.Text k r tt
-  makes_by op.New k out p r = made make.Object k r tt
-  makes_by op.Rail k out p r = made make.Rail k r tt
-  makes_by _ k out p r = absurd cc
-
-  make_reads : (k : Make) → route_of i.op ≡ route.Make k → ReadsMake k x.heap f.registers.items i
-  make_reads k r = let at = rule program assigned x f c h i fetched in makes_by i.op k at.0 at.1 r
-
-  site_by : (o : Op) (k : Site) (out : Edges) → Permits o (point_of program h.function f i) h.state out → route_of o ≡ route.Site k → ReadsAt k x.places f.registers.items i
-  site_by op.Nextp k out p r = sited site.Next k r (let t = reads x h.state c.registers f.registers.items i.b kind.Place h.words p.0 in t.2.0)
-  site_by op.Here k out p r = sited site.Here k r tt
-  site_by op.Count k out p r = sited site.Count k r tt
-  site_by op.Placen k out p r = sited site.Numbered k r tt
-  site_by op.Ifhere k out p r = sited site.IsHere k r tt
-  site_by _ k out p r = absurd cc
-
-  site_reads : (k : Site) → route_of i.op ≡ route.Site k → ReadsAt k x.places f.registers.items i
-  site_reads k r = let at = rule program assigned x f c h i fetched in site_by i.op k at.0 at.1 r
-
-  export_by : (o : Op) (out : Edges) → Permits o (point_of program h.function f i) h.state out → route_of o ≡ route.Export → NamesObject x.heap f.registers.items i.b
-  export_by op.Gnew out p r =
-      let t = reads x h.state c.registers f.registers.items i.b (kind.Obj p.0) h.words p.1 in
+  object_there : (r class : ℕ) → IsKind h.state r (kind.Obj class) → NamesObject x.heap f.registers.items r
+  object_there r class k =
+      let t = reads x h.state c.registers f.registers.items r (kind.Obj class) h.words k in
       let some = t.2 in
       let lt = slice_get_within x.heap.objects some.number some.object some.is_there in
       record { not_null = omega (arith, some.word_is); there = omega (arith, some.word_is, lt) }
-  export_by _ out p r = absurd cc
 
-  export_reads : route_of i.op ≡ route.Export → NamesObject x.heap f.registers.items i.b
-  export_reads r = let at = rule program assigned x f c h i fetched in export_by i.op at.0 at.1 r
+  -- the last line is checked for each operation that isn't named above it: these read nothing there
+  reads_of : (o : Op) → i.op ≡ o → (out : Edges) → Permits o (point_of program h.function f i) h.state out → Read (route_of o)
+  reads_of op.Tlen e out p = text_there i.b p.0
+  reads_of op.Tcat e out p = (text_there i.b p.0, text_there i.c p.1)
+  reads_of op.Get e out p = field_at i.b p.0 p.1 i.c p.2 p.3 p.4 p.5
+  reads_of op.Put e out p = field_at i.a p.0 p.1 i.c p.2 p.3 p.4 p.5
+  reads_of op.Rget e out p = rail_there i.b p.0
+  reads_of op.Rset e out p = rail_there i.a p.0
+  reads_of op.Rlen e out p = rail_there i.b p.0
+  reads_of op.Placei e out p = let lt = place_there i.b p.0 in omega (arith, lt, few)
+  reads_of op.Nextp e out p = place_there i.b p.0
+  reads_of op.Gnew e out p = object_there i.b p.0 p.1
+  reads_of op.Gopen e out p = export_there i.b p.0 (register_small e) p.1 p.2
+  reads_of _ e out p = tt
+
+  by_route : (r : Route) → route_of i.op ≡ r → Read r
+  by_route r e = let at = rule program assigned x f c h i fetched in subst Read e (reads_of i.op refl at.0 at.1)
+
+  pub local_reads : (l : Local) → route_of i.op ≡ route.Local l → frames.Reads l x.heap f.registers.items i
+  local_reads l r = by_route (route.Local l) r
 
 -- what the step of a stay reads
 module _ (at : Location) (s : StoreState) (a : StayState) (w : IsWorking at s a) (checks : IsChecked at.program) (i : Instr) (fetched : IsFetchedFor at.program a.top i) where
@@ -179,21 +138,21 @@ module _ (at : Location) (s : StoreState) (a : StayState) (w : IsWorking at s a)
   has_finish : i.op ≡ op.Fine → HasFinish a s
   has_finish e = let open_one = some_open at.program checks a i t.stands.placed fetched e in (open_one.0, open_one.1, open_one.2, (w.registered.are_open 0 open_one.0 (ap (λ ns. nth ns 0) open_one.2)).0)
 
-  by_route : (r : Route) → route_of i.op ≡ r → ReadsStore r at a s i
-  by_route (route.Local l) e = local_reads at.program t.assigned x refl t.cells t.holds t.site.few a.top t.stay.top t.stands.top i fetched l e
-  by_route (route.Make k) e = make_reads at.program t.assigned x refl t.cells t.holds t.site.few a.top t.stay.top t.stands.top i fetched k e
-  by_route (route.Site k) e = site_reads at.program t.assigned x refl t.cells t.holds t.site.few a.top t.stay.top t.stands.top i fetched k e
-  by_route route.Export e = export_reads at.program t.assigned x refl t.cells t.holds t.site.few a.top t.stay.top t.stands.top i fetched e
-  by_route route.Print e = prints_there at.program t.assigned x refl t.cells t.holds t.site.few a.top t.stay.top t.stands.top i fetched
-  by_route route.Call e = tt
-  by_route route.Return e = tt
-  by_route route.OpenFinish e = tt
-  by_route route.CloseFinish e = has_finish (is_close_finish i.op e)
-  by_route route.Begin e = tt
-  by_route route.Send e = tt
+  stored : (r : Route) → route_of i.op ≡ r → ReadsStore r at a s i
+  stored (route.Local l) e = by_route at.program t.assigned x refl t.cells t.holds t.site.few a.top t.stay.top t.stands.top i fetched (route.Local l) e
+  stored (route.Make k) e = by_route at.program t.assigned x refl t.cells t.holds t.site.few a.top t.stay.top t.stands.top i fetched (route.Make k) e
+  stored (route.Site k) e = by_route at.program t.assigned x refl t.cells t.holds t.site.few a.top t.stay.top t.stands.top i fetched (route.Site k) e
+  stored route.Export e = by_route at.program t.assigned x refl t.cells t.holds t.site.few a.top t.stay.top t.stands.top i fetched route.Export e
+  stored route.Print e = prints_there at.program t.assigned x refl t.cells t.holds t.site.few a.top t.stay.top t.stands.top i fetched
+  stored route.Call e = tt
+  stored route.Return e = tt
+  stored route.OpenFinish e = tt
+  stored route.CloseFinish e = has_finish (is_close_finish i.op e)
+  stored route.Begin e = tt
+  stored route.Send e = tt
 
   pub working_reads : ReadsStore (route_of i.op) at a s i
-  working_reads = by_route (route_of i.op) refl
+  working_reads = stored (route_of i.op) refl
 
 pub frame_reads : (program : Module) (heap : HeapState) (f : CallFrame) → IsTypedFrame program heap f → (i : Instr) → IsFetchedFor program f i → (l : Local) → route_of i.op ≡ route.Local l → frames.Reads l heap f.registers.items i
 frame_reads program heap f t i fetched l r = local_reads program t.assigned (context (record { program = program; places = t.places }) t.here heap t.far) refl t.cells t.holds t.site.few f t.frame t.stands i fetched l r

@@ -11,7 +11,7 @@ use Rattle.x10_model.specs.Ranges.{function_at, instr_at, result_of, result_for,
 use Rattle.x10_image.specs.Parts.{Signature, signature_of, code_in, code_at}
 use Rattle.x10_verify.proofs.Wholes.{function_fits}
 use Rattle.x10_place.specs.declared.frame.CallFrame.{CallFrame}
-use Rattle.x10_place.specs.Frames.{word_at, IsFetchedFor}
+use Rattle.x10_place.specs.Frames.{word_at}
 use Rattle.x10_place.specs.Stays.{StayState, IsCalling, GoesNext, GoesNextWith, GoesOn, GoesBack, Resumes}
 use Rattle.x10_place.proofs.Fetching.{IsRefetched, value_at, fetched_within}
 
