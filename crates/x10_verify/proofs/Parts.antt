@@ -84,17 +84,12 @@ from_call p s e at h = (h.0, (h.1.there, slots_fit s at p.instr.b h.0.parameters
 
 -- ---- each operation
 
+-- The last line of a list is checked for each operation that isn't named above it, so that a new one like ADD needs none.
+
 -- what an operation's rule permits is what its row allows, with the edges of its effect
 pub permits_parts : (o : Op) (p : Point) (s : State) (out : Edges) → Permits o p s out → (e : Effect) × Allows (rule_for o p.instr) p s e × (out ≡ edges_of o p s e)
 -- numbers
 permits_parts op.Intk p s out h = (Sets kind.Int None, record { a = tt; b = tt; c = tt; settles = refl }, h)
-permits_parts op.Add p s out h = (Sets kind.Int None, record { a = tt; b = h.0.0; c = h.0.1; settles = refl }, h.1)
-permits_parts op.Sub p s out h = (Sets kind.Int None, record { a = tt; b = h.0.0; c = h.0.1; settles = refl }, h.1)
-permits_parts op.Mul p s out h = (Sets kind.Int None, record { a = tt; b = h.0.0; c = h.0.1; settles = refl }, h.1)
-permits_parts op.Div p s out h = (Sets kind.Int None, record { a = tt; b = h.0.0; c = h.0.1; settles = refl }, h.1)
-permits_parts op.Rem p s out h = (Sets kind.Int None, record { a = tt; b = h.0.0; c = h.0.1; settles = refl }, h.1)
-permits_parts op.Lt p s out h = (Sets kind.Int None, record { a = tt; b = h.0.0; c = h.0.1; settles = refl }, h.1)
-permits_parts op.Eq p s out h = (Sets kind.Int None, record { a = tt; b = h.0.0; c = h.0.1; settles = refl }, h.1)
 -- control
 permits_parts op.Move p s out h = (Sets h.0 (like_if (has_place h.0) (term.Reg p.instr.b)), record { a = tt; b = tt; c = tt; settles = (h.0, h.1, refl) }, h.2)
 permits_parts op.Jmp p s out h = (Keeps, record { a = tt; b = tt; c = tt; settles = refl }, h)
@@ -138,18 +133,13 @@ permits_parts op.Finb p s out h = (Keeps, record { a = tt; b = tt; c = tt; settl
 permits_parts op.Fine p s out h = (Keeps, record { a = tt; b = tt; c = tt; settles = refl }, h)
 -- output
 permits_parts op.Print p s out h = (Keeps, record { a = tt; b = tt; c = tt; settles = (h.0, refl) }, h.1)
+-- two numbers to a number
+permits_parts _ p s out h = (Sets kind.Int None, record { a = tt; b = h.0.0; c = h.0.1; settles = refl }, h.1)
 
 -- and the other way round
 pub parts_permit : (o : Op) (p : Point) (s : State) (e : Effect) → Allows (rule_for o p.instr) p s e → Permits o p s (edges_of o p s e)
 -- numbers
 parts_permit op.Intk p s e g = subst (λ x. Permits op.Intk p s (edges_of op.Intk p s x)) (sym g.settles) refl
-parts_permit op.Add p s e g = subst (λ x. Permits op.Add p s (edges_of op.Add p s x)) (sym g.settles) ((g.b, g.c), refl)
-parts_permit op.Sub p s e g = subst (λ x. Permits op.Sub p s (edges_of op.Sub p s x)) (sym g.settles) ((g.b, g.c), refl)
-parts_permit op.Mul p s e g = subst (λ x. Permits op.Mul p s (edges_of op.Mul p s x)) (sym g.settles) ((g.b, g.c), refl)
-parts_permit op.Div p s e g = subst (λ x. Permits op.Div p s (edges_of op.Div p s x)) (sym g.settles) ((g.b, g.c), refl)
-parts_permit op.Rem p s e g = subst (λ x. Permits op.Rem p s (edges_of op.Rem p s x)) (sym g.settles) ((g.b, g.c), refl)
-parts_permit op.Lt p s e g = subst (λ x. Permits op.Lt p s (edges_of op.Lt p s x)) (sym g.settles) ((g.b, g.c), refl)
-parts_permit op.Eq p s e g = subst (λ x. Permits op.Eq p s (edges_of op.Eq p s x)) (sym g.settles) ((g.b, g.c), refl)
 -- control
 parts_permit op.Move p s e g = (g.settles.0, g.settles.1, ap (λ x. edges_of op.Move p s x) g.settles.2)
 parts_permit op.Jmp p s e g = subst (λ x. Permits op.Jmp p s (edges_of op.Jmp p s x)) (sym g.settles) refl
@@ -193,3 +183,5 @@ parts_permit op.Finb p s e g = subst (λ x. Permits op.Finb p s (edges_of op.Fin
 parts_permit op.Fine p s e g = subst (λ x. Permits op.Fine p s (edges_of op.Fine p s x)) (sym g.settles) refl
 -- output
 parts_permit op.Print p s e g = (g.settles.0, ap (λ x. edges_of op.Print p s x) g.settles.1)
+-- two numbers to a number
+parts_permit o p s e g = subst (λ x. Permits o p s (edges_of o p s x)) (sym g.settles) ((g.b, g.c), refl)
