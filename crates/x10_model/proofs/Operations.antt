@@ -1,5 +1,6 @@
 -- The lists of operations that proofs go by: what their moves found, that they can be done or go wrong, and how they go on.
--- The last line of a list is checked for each operation that isn't named above it, so that a new one like ADD needs none.
+-- The last line of a list is checked for each operation that isn't named above it; where that is one that makes a number
+-- of two, a new one of them needs no line.
 use Rattle.std.proofs.Common.{◌≡◌, ℕ, ◌<◌, List, [], ◌∷◌, length, Option, Some, None, refl, sym, ap, subst, ◌∙◌, inl, inr, pos, ◌+◌, ◌-◌, ◌%◌, true, ◌==◌, ◌++◌}
 use Rattle.std.specs.Prelude.{slice_get, nat_lt, ◌==◌, if◌then◌else◌}
 use Rattle.x10_kinds.specs.declared.kind.Kind.{Kind}

@@ -19,8 +19,6 @@ heap_kept (local.Partial d) program w i v keeps acts = taken acts.0 acts.2
     taken : (z : Option ℤ) → Takes w i z v → v.heap ≡ w.heap
     taken None t = t.heap_is
     taken (Some z) t = t.2.heap_is
-heap_kept local.Copy program w i v keeps acts = acts.heap_is
-heap_kept local.Null program w i v keeps acts = acts.heap_is
 heap_kept local.NotNull program w i v keeps acts = copied (word_at w.words i.b == 0) acts
   where
     copied : (b : Bool) → CopiesUnless b w i v → v.heap ≡ w.heap
@@ -29,11 +27,5 @@ heap_kept local.NotNull program w i v keeps acts = copied (word_at w.words i.b =
 heap_kept local.GetField program w i v keeps acts = acts.becomes.heap_is
 heap_kept local.SetField program w i v keeps acts = absurd keeps
 heap_kept local.SetByte program w i v keeps acts = absurd keeps
-heap_kept local.Place program w i v keeps acts = acts.heap_is
-heap_kept local.Home program w i v keeps acts = acts.heap_is
 heap_kept local.Open program w i v keeps acts = acts.2.heap_is
-heap_kept local.SamePlace program w i v keeps acts = acts.heap_is
-heap_kept local.Jump program w i v keeps acts = acts.heap_is
-heap_kept local.JumpIfZero program w i v keeps acts = acts.heap_is
-heap_kept local.Loop program w i v keeps acts = acts.heap_is
-heap_kept local.EndLoop program w i v keeps acts = acts.heap_is
+heap_kept _ program w i v keeps acts = acts.heap_is

@@ -84,7 +84,8 @@ from_call p s e at h = (h.0, (h.1.there, slots_fit s at p.instr.b h.0.parameters
 
 -- ---- each operation
 
--- The last line of a list is checked for each operation that isn't named above it, so that a new one like ADD needs none.
+-- The last line of a list is checked for each operation that isn't named above it: those that make a number of two, of
+-- which a new one needs no line.
 
 -- what an operation's rule permits is what its row allows, with the edges of its effect
 pub permits_parts : (o : Op) (p : Point) (s : State) (out : Edges) → Permits o p s out → (e : Effect) × Allows (rule_for o p.instr) p s e × (out ≡ edges_of o p s e)
