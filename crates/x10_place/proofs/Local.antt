@@ -387,29 +387,30 @@ module _ (setting : Setting) (here : ℕ) (far : Far) (m : machine.Place) (key :
 
     -- ---- the operations
 
-    moves_by : (b : Bool) (o : Op) → i.op ≡ o → of_two (route_of o) ≡ b → (o ≡ op.Put → ⊥) → (o ≡ op.Rset → ⊥) → route_of o ≡ route.Local l → Permits o point h.state out → Done o g kept
-    moves_by true o e two np ns r permits = two_moves o e two r permits
-    moves_by false op.Intk e two np ns r permits =
+    -- the last line is checked for each operation that isn't named above it: those that give a number of two, and those
+    -- that aren't of one frame
+    pub local_moves : (o : Op) → i.op ≡ o → (o ≡ op.Put → ⊥) → (o ≡ op.Rset → ⊥) → route_of o ≡ route.Local l → Permits o point h.state out → Done o g kept
+    local_moves op.Intk e np ns r permits =
         let z = get_below setting.program.ints i.x (there op.Intk e).2 in
         sums op.Intk number.Constant (Int z.0) e (ap as_value z.1) (λ a. a) r permits (z.0, z.1, (refl, refl))
-    moves_by false op.Div e two np ns r permits = attempts op.Div partial.Quotient _ e refl (λ a. a) r permits.1 (int_at f.registers.items i.b, int_at f.registers.items i.c, number_of i.b permits.0.0, number_of i.c permits.0.1, (refl, refl))
-    moves_by false op.Rem e two np ns r permits = attempts op.Rem partial.Remainder _ e refl (λ a. a) r permits.1 (int_at f.registers.items i.b, int_at f.registers.items i.c, number_of i.b permits.0.0, number_of i.c permits.0.1, (refl, refl))
-    moves_by false op.Tlen e two np ns r permits =
+    local_moves op.Div e np ns r permits = attempts op.Div partial.Quotient _ e refl (λ a. a) r permits.1 (int_at f.registers.items i.b, int_at f.registers.items i.c, number_of i.b permits.0.0, number_of i.c permits.0.1, (refl, refl))
+    local_moves op.Rem e np ns r permits = attempts op.Rem partial.Remainder _ e refl (λ a. a) r permits.1 (int_at f.registers.items i.b, int_at f.registers.items i.c, number_of i.b permits.0.0, number_of i.c permits.0.1, (refl, refl))
+    local_moves op.Tlen e np ns r permits =
         let t = reads x h.state s.top.registers f.registers.items i.b kind.Text h.words permits.0 in
         sums op.Tlen number.TextLength (Int (pos (length t.2.0))) e (ap size t.2.1) (λ a. a) r permits.1 (t.2.0, t.1 ∙ ap Some t.2.2, (refl, refl))
-    moves_by false op.Rlen e two np ns r permits =
+    local_moves op.Rlen e np ns r permits =
         let t = reads x h.state s.top.registers f.registers.items i.b kind.Rail h.words permits.0 in
         sums op.Rlen number.RailLength (Int (pos (length t.2.0))) e (ap size t.2.1) (λ a. a) r permits.1
         (2 * word_at f.registers.items i.b + 1, t.2.0, t.1 ∙ ap Some t.2.2, rail_cell_at (word_at f.registers.items i.b) t.2.0 t.2.1, (refl, refl))
-    moves_by false op.Rget e two np ns r permits =
+    local_moves op.Rget e np ns r permits =
         let t = reads x h.state s.top.registers f.registers.items i.b kind.Rail h.words permits.0 in
         let z = int_at f.registers.items i.c in
         attempts op.Rget partial.Byte (byte_value (byte_at t.2.0 z)) e (ap (λ o. byte_in o z) t.2.1) (λ a. a) r permits.2
         (2 * word_at f.registers.items i.b + 1, t.2.0, z, t.1 ∙ ap Some t.2.2, rail_cell_at (word_at f.registers.items i.b) t.2.0 t.2.1, number_of i.c permits.1, (refl, refl))
-    moves_by false op.Placei e two np ns r permits =
+    local_moves op.Placei e np ns r permits =
         let t = reads x h.state s.top.registers f.registers.items i.b kind.Place h.words permits.0 in
         sums op.Placei number.PlaceNumber (Int (pos (word_at f.registers.items i.b))) e refl (λ a. a) r permits.1 (word_at f.registers.items i.b, t.1 ∙ ap Some t.2.1, (refl, refl))
-    moves_by false op.Placek e two np ns r permits =
+    local_moves op.Placek e np ns r permits =
         let lt : i.x < setting.program.least_places = (there op.Placek e).2 in
         unchanged local.Place op.Placek tt r (
           writes s.top i.a (Place i.x),
@@ -417,37 +418,34 @@ module _ (setting : Setting) (here : ℕ) (far : Far) (m : machine.Place) (key :
           writes_like g kind.Place (Some (term.Place i.x)) (Place i.x) i.x (omega (arith, lt, site.enough), refl) (omega (arith, lt, site.enough, site.few), refl) (room op.Placek e (λ a. a))
               (went (f.pc + 1) (slice_set f.registers.items i.a i.x) f.loops (by local.Place r)) (edge_next out (gives point h.state kind.Place (Some (term.Place i.x))) edges permits),
         )
-    moves_by false op.Home e two np ns r permits = unchanged local.Home op.Home tt r (homes_in permits.0 e (reads x h.state s.top.registers f.registers.items i.b (kind.GRef permits.0) h.words permits.1) (by local.Home r) permits.2)
-    moves_by false op.Gopen e two np ns r permits =
+    local_moves op.Home e np ns r permits = unchanged local.Home op.Home tt r (homes_in permits.0 e (reads x h.state s.top.registers f.registers.items i.b (kind.GRef permits.0) h.words permits.1) (by local.Home r) permits.2)
+    local_moves op.Gopen e np ns r permits =
         unchanged local.Open op.Gopen tt r (opens permits.0 e (reads x h.state s.top.registers f.registers.items i.b (kind.GRef permits.0) h.words permits.1) permits.2 (by local.Open r) permits.3)
-    moves_by false op.Ifsame e two np ns r permits = unchanged local.SamePlace op.Ifsame tt r (compares (are_same f.registers.items i.a i.b) e refl permits.0 permits.1 (by local.SamePlace r) permits.2)
-    moves_by false op.Null e two np ns r permits = unchanged local.Null op.Null tt r (
+    local_moves op.Ifsame e np ns r permits = unchanged local.SamePlace op.Ifsame tt r (compares (are_same f.registers.items i.a i.b) e refl permits.0 permits.1 (by local.SamePlace r) permits.2)
+    local_moves op.Null e np ns r permits = unchanged local.Null op.Null tt r (
       writes s.top i.a Null,
       (refl, refl),
       writes_word g (kind.Opt i.x) Null 0 (inl (refl, refl)) (room op.Null e (λ a. a)) (went (f.pc + 1) (slice_set f.registers.items i.a 0) f.loops (by local.Null r)) (edge_next out (gives point h.state (kind.Opt i.x) None) edges permits),
     )
-    moves_by false op.Ifobj e two np ns r permits =
+    local_moves op.Ifobj e np ns r permits =
         unchanged local.NotNull op.Ifobj tt r (copies permits.0 (word_at f.registers.items i.b == 0) e refl (reads x h.state s.top.registers f.registers.items i.b (kind.Opt permits.0) h.words permits.1) (by local.NotNull r) permits.2)
-    moves_by false op.Get e two np ns r permits =
+    local_moves op.Get e np ns r permits =
         unchanged local.GetField op.Get tt r (gets permits.0 permits.1 permits.2 e (reads x h.state s.top.registers f.registers.items i.b (kind.Obj permits.0) h.words permits.3) permits.4 permits.5 (by local.GetField r) permits.6)
-    moves_by false op.Put e two np ns r permits = absurd (np refl)
-    moves_by false op.Rset e two np ns r permits = absurd (ns refl)
-    moves_by false op.Move e two np ns r permits = unchanged local.Copy op.Move tt r
+    local_moves op.Put e np ns r permits = absurd (np refl)
+    local_moves op.Rset e np ns r permits = absurd (ns refl)
+    local_moves op.Move e np ns r permits = unchanged local.Copy op.Move tt r
         (moves_word g out permits.0 edges permits.1 permits.2 (room op.Move e (λ a. a)) (register_few op.Move e (λ b. b)) (went (f.pc + 1) (slice_set f.registers.items i.a (word_at f.registers.items i.b)) f.loops (by local.Copy r)))
-    moves_by false op.Jmp e two np ns r permits = unchanged local.Jump op.Jmp tt r
+    local_moves op.Jmp e np ns r permits = unchanged local.Jump op.Jmp tt r
         (goes s.top i.x, (refl, refl), goes_to g i.x h.state (went i.x f.registers.items f.loops (by local.Jump r)) (edges (i.x, h.state) (subst (λ (o : Edges). IsIn (i.x, h.state) o) (sym permits) (0, refl))) refl)
-    moves_by false op.Jz e two np ns r permits = unchanged local.JumpIfZero op.Jz tt r (
+    local_moves op.Jz e np ns r permits = unchanged local.JumpIfZero op.Jz tt r (
       _,
       (int_at f.registers.items i.a, number_of i.a permits.0, (refl, refl)),
       jumps_if g (is_zero (int_at f.registers.items i.a)) (went _ f.registers.items f.loops (by local.JumpIfZero r)) (edge_first out h.state h.state edges permits.1) (edge_target out h.state h.state edges permits.1),
     )
-    moves_by false op.Loop e two np ns r permits = unchanged local.Loop op.Loop tt r
+    local_moves op.Loop e np ns r permits = unchanged local.Loop op.Loop tt r
         (_, (refl, refl), loops_set g i.x (s.top.pc + 1) (f.pc + 1) (slot_there op.Loop e (λ a. a)) pc_next (went (f.pc + 1) f.registers.items (slice_set f.loops i.a i.x) (by local.Loop r)) (edge_next out h.state edges permits))
-    moves_by false op.Endl e two np ns r permits =
+    local_moves op.Endl e np ns r permits =
         let lt = slot_there op.Endl e (λ a. a) in
         unchanged local.EndLoop op.Endl tt r
         (_, (refl, refl), loop_turns g (s.top.loops i.a - 1) lt (ap (λ n. n - 1) (sym (h.loops i.a lt))) (went _ f.registers.items _ (by local.EndLoop r)) (edge_first out h.state h.state edges permits) (edge_target out h.state h.state edges permits))
-    moves_by false _ e two np ns r permits = absurd cc
-
-    pub local_moves : (o : Op) → i.op ≡ o → (o ≡ op.Put → ⊥) → (o ≡ op.Rset → ⊥) → route_of o ≡ route.Local l → Permits o point h.state out → Done o g kept
-    local_moves o e np ns r permits = moves_by (of_two (route_of o)) o e refl np ns r permits
+    local_moves o e np ns r permits = two_moves o e (let two : of_two (route_of o) ≡ true = cc in two) r permits
