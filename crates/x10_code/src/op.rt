@@ -1,4 +1,4 @@
-/// The operations. The table (`table.rt`) has a row for each, and `docs/INSTRUCTIONS.md` says what each asks and does.
+/// The operations. The table below has a row for each, and `docs/INSTRUCTIONS.md` says what each asks and does.
 #[derive(Clone, Copy, Debug, PartialEq, Eq)]
 pub enum Op {
     /// `r(a) :=` the constant number `x`.
@@ -90,3 +90,61 @@ pub enum Op {
     /// waits until the innermost finish is done, and closes it.
     Fine,
 }
+
+/// The table: every operation by rising code, a row each. A row has the code, the name, the group, and what the
+/// operands a, b, c and x name. All that reads, writes, assembles or lists an instruction goes by these rows.
+///
+/// `table!(each(given))` is `each!` of what is given and the rows.
+macro_rules! table {
+    ($each:ident($($given:tt)*)) => {
+        $each!(
+            ($($given)*)
+            Intk row(0x01, "INTK", Numbers, Register, Unused, Unused, Int);
+            Textk row(0x02, "TEXTK", Texts, Register, Unused, Unused, Text);
+            Move row(0x03, "MOVE", Control, Register, Register, Unused, Unused);
+            Add row(0x04, "ADD", Numbers, Register, Register, Register, Unused);
+            Sub row(0x05, "SUB", Numbers, Register, Register, Register, Unused);
+            Mul row(0x06, "MUL", Numbers, Register, Register, Register, Unused);
+            Div row(0x07, "DIV", Numbers, Register, Register, Register, Target);
+            Rem row(0x08, "REM", Numbers, Register, Register, Register, Target);
+            Lt row(0x09, "LT", Numbers, Register, Register, Register, Unused);
+            Eq row(0x0a, "EQ", Numbers, Register, Register, Register, Unused);
+            Jmp row(0x0b, "JMP", Control, Unused, Unused, Unused, Target);
+            Jz row(0x0c, "JZ", Control, Register, Unused, Unused, Target);
+            Loop row(0x0d, "LOOP", Control, Slot, Unused, Unused, Count);
+            Endl row(0x0e, "ENDL", Control, Slot, Unused, Unused, Target);
+            Print row(0x0f, "PRINT", Output, Register, Unused, Unused, Unused);
+            Here row(0x10, "HERE", Places, Register, Unused, Unused, Unused);
+            Placek row(0x11, "PLACEK", Places, Register, Unused, Unused, Place);
+            Placen row(0x12, "PLACEN", Places, Register, Register, Unused, Target);
+            Placei row(0x13, "PLACEI", Places, Register, Register, Unused, Unused);
+            Nextp row(0x14, "NEXTP", Places, Register, Register, Unused, Unused);
+            Count row(0x15, "COUNT", Places, Register, Unused, Unused, Unused);
+            Home row(0x16, "HOME", Places, Register, Register, Unused, Unused);
+            Gnew row(0x17, "GNEW", Places, Register, Register, Unused, Unused);
+            Gopen row(0x18, "GOPEN", Places, Register, Register, Unused, Unused);
+            Ifhere row(0x19, "IFHERE", Places, Register, Unused, Unused, Target);
+            Ifsame row(0x1a, "IFSAME", Places, Register, Register, Unused, Target);
+            New row(0x1b, "NEW", Objects, Register, Arguments, Unused, Class);
+            Get row(0x1c, "GET", Objects, Register, Register, Field, Unused);
+            Put row(0x1d, "PUT", Objects, Register, Register, Field, Unused);
+            Null row(0x1e, "NULL", Objects, Register, Unused, Unused, Class);
+            Ifobj row(0x1f, "IFOBJ", Objects, Register, Register, Unused, Target);
+            Rail row(0x20, "RAIL", Rails, Register, Register, Unused, Target);
+            Rget row(0x21, "RGET", Rails, Register, Register, Register, Target);
+            Rset row(0x22, "RSET", Rails, Register, Register, Register, Target);
+            Rlen row(0x23, "RLEN", Rails, Register, Register, Unused, Unused);
+            Tlen row(0x24, "TLEN", Texts, Register, Register, Unused, Unused);
+            Tcat row(0x25, "TCAT", Texts, Register, Register, Register, Target);
+            Call row(0x28, "CALL", Control, Result, Arguments, Unused, Function);
+            Ret row(0x29, "RET", Control, Result, Unused, Unused, Unused);
+            Async row(0x2a, "ASYNC", Activities, Unused, Arguments, Unused, Function);
+            At row(0x2b, "AT", Activities, Result, Arguments, Register, Function);
+            Ata row(0x2c, "ATA", Activities, Unused, Arguments, Register, Function);
+            Finb row(0x2d, "FINB", Activities, Unused, Unused, Unused, Unused);
+            Fine row(0x2e, "FINE", Activities, Unused, Unused, Unused, Unused);
+        )
+    };
+}
+
+pub(crate) use table;
