@@ -148,3 +148,12 @@ macro_rules! table {
 }
 
 pub(crate) use table;
+
+macro_rules! all {
+    (() $($variant:ident $row:ident $fields:tt;)*) => {
+        [$(Op::$variant),*]
+    };
+}
+
+/// All operations, by rising code.
+pub(crate) const OPERATIONS: [Op; 44] = table!(all());

@@ -4,7 +4,7 @@ ghost use Rattle.x10_code.specs.Table.{code_of, name_of, group_of, form_of, op_o
 ghost use Rattle.x10_code.specs.Spelling.{op_of};
 
 use crate::groups::Group;
-use crate::op::{Op, table};
+use crate::op::{OPERATIONS, Op, table};
 use crate::operands::{Form, Operand};
 
 macro_rules! code_in {
@@ -45,12 +45,6 @@ macro_rules! form_in {
         match $op {
             $(Op::$variant => Form { a: Operand::$a, b: Operand::$b, c: Operand::$c, x: Operand::$x },)*
         }
-    };
-}
-
-macro_rules! all {
-    (() $($variant:ident $row:ident $fields:tt;)*) => {
-        [$(Op::$variant),*]
     };
 }
 
@@ -102,5 +96,3 @@ fn first_named(text: &str) -> Option<Op>
 {
     OPERATIONS.iter().copied().find(|op| name(*op) == text)
 }
-
-const OPERATIONS: [Op; 44] = table!(all());
