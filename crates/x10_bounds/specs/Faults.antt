@@ -2,7 +2,7 @@
 use Rattle.std.specs.Prelude.{◌≡◌, ℕ, List, [], Option, Some, None, Result, Ok, Err}
 use Rattle.x10_code.specs.declared.instr.Instr.{Instr}
 use Rattle.x10_model.specs.Modules.{Function}
-use Rattle.x10_model.specs.Structure.{Nesting, Jump, LoopSlot, CallOrder, TooLarge}
+use Rattle.x10_model.specs.Structure.{Nesting, Jump, LoopSlot, CallOrder, TooLarge, unless, nesting_fault, jump_fault, slot_fault, order_fault}
 use Rattle.x10_model.specs.Structure as structure
 use Rattle.x10_bounds.specs.declared.fault.BoundFault.{BoundFault}
 use Rattle.x10_bounds.specs.declared.fault.BoundCause.{BoundCause}
@@ -30,3 +30,11 @@ Gives view (Err e) read = IsFaultOrMemory (named e.cause) e read
 -- a function of which only the loop slots and the code matter
 abbrev pub of_code : ℕ → List Instr → Function
 of_code loops code = record { parameters = []; registers = 0; loops = loops; result = None; code = code }
+
+-- what is answered of a function whose rules hold, else its first fault by rules
+abbrev pub ruled : ℕ → ℕ → List Instr → Result ℕ structure.BoundFault → Result ℕ structure.BoundFault
+ruled function loops code answer =
+    unless (nesting_fault code) Nesting function
+    (unless (jump_fault code) Jump function
+    (unless (slot_fault loops code) LoopSlot function
+    (unless (order_fault function code) CallOrder function answer)))

@@ -1,6 +1,6 @@
 //! The rules of structure, each by one pass over a function's instructions.
 
-ghost use Rattle.std.specs.Prelude.{◌≡◌, ◌<◌, ◌≤◌, List, length, Some, slice_get};
+ghost use Rattle.std.specs.Prelude.{◌≡◌, ◌<◌, ◌≤◌, IsTrue, List, length, None, Some, slice_get, true};
 ghost use Rattle.x10_code.specs.declared.instr.Instr.{Instr};
 ghost use Rattle.x10_model.specs.Structure.{Region, around, first_failing};
 ghost use Rattle.x10_model.specs.Structure as structure;
@@ -195,4 +195,37 @@ pub fn order_fault(function: u16, code: &[Instr]) -> Option<u16>
         }
     }
     None
+}
+
+/// Whether each rule holds at an instruction.
+fn holds_at(function: u16, loops: u8, code: &[Instr], spots: &[Spot], pc: usize) -> bool
+    requires within { pc < length code.now }
+    requires spots { AreSpotsTo code.now (length code.now) spots.now }
+    ensures nests { IsTrue result → (i : Instr) → slice_get code.now pc ≡ Some i → true ≡ structure.nests i.op (around code.now pc) }
+    ensures jumps { IsTrue result → (i : Instr) → slice_get code.now pc ≡ Some i → true ≡ structure.jumps_well code.now pc i i.op }
+    ensures slot { IsTrue result → (i : Instr) → slice_get code.now pc ≡ Some i → true ≡ structure.has_slot loops (around code.now pc) i i.op }
+    ensures calls { IsTrue result → (i : Instr) → slice_get code.now pc ≡ Some i → true ≡ structure.calls_earlier function i }
+{
+    nests(code, spots, pc)
+        && jumps_well(code, spots, pc)
+        && has_slot(loops, code, spots, pc)
+        && calls_earlier(function, instr_at(code, pc))
+}
+
+/// Whether each rule holds at each instruction: one pass. Which one fails first, and where, is for the passes above.
+pub fn all_hold(function: u16, loops: u8, code: &[Instr], spots: &[Spot]) -> bool
+    requires some { 1 ≤ length code.now }
+    requires count { length code.now ≤ 4096 }
+    requires spots { AreSpotsTo code.now (length code.now) spots.now }
+    ensures nesting { IsTrue result → structure.nesting_fault code.now ≡ None }
+    ensures jump { IsTrue result → structure.jump_fault code.now ≡ None }
+    ensures slot { IsTrue result → structure.slot_fault loops code.now ≡ None }
+    ensures order { IsTrue result → structure.order_fault function code.now ≡ None }
+{
+    for pc in 0..code.len() {
+        if !holds_at(function, loops, code, spots, pc) {
+            return false;
+        }
+    }
+    ends_well(code, spots)
 }

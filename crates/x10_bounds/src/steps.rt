@@ -1,13 +1,13 @@
 //! The bound of one function.
 
-ghost use Rattle.std.specs.Prelude.{◌≡◌, ◌≤◌, length, None, IsTrue};
+ghost use Rattle.std.specs.Prelude.{◌≡◌, ◌≤◌, ℕ, length, None, Err, IfSome, IsTrue, Result};
 ghost use Rattle.x10_model.specs.Modules.{Function};
 ghost use Rattle.x10_model.specs.Structure as structure;
-ghost use Rattle.x10_bounds.specs.Faults.{Gives, of_code};
+ghost use Rattle.x10_bounds.specs.Faults.{Gives, of_code, ruled};
 ghost use Rattle.x10_bounds.specs.Spots.{AreSpotsTo, capped};
 
 use crate::fault::{BoundCause, BoundFault};
-use crate::rules::{jump_fault, nesting_fault, order_fault, slot_fault};
+use crate::rules::{all_hold, jump_fault, nesting_fault, order_fault, slot_fault};
 use crate::shape::{Shape, classify};
 use crate::spot::{Spot, capped_product, capped_sum, instr_at, spot_at, spots_of};
 use std::alloc::Global;
@@ -43,6 +43,31 @@ fn bound_of(earlier: &[u64], code: &[Instr], spots: &[Spot]) -> u64
     steps
 }
 
+/// The first fault of a function by rules, before its bound is looked at. Most functions have none, which one pass tells.
+fn rule_fault(function: u16, loops: u8, code: &[Instr], spots: &[Spot]) -> Option<BoundFault>
+    requires some { 1 ≤ length code.now }
+    requires count { length code.now ≤ 4096 }
+    requires spots { AreSpotsTo code.now (length code.now) spots.now }
+    ensures none { result ≡ None → (r : Result ℕ structure.BoundFault) → ruled function loops code.now r ≡ r }
+    ensures order { result ≡ None → structure.order_fault function code.now ≡ None }
+    ensures some { IfSome result (λ fault. (r : Result ℕ structure.BoundFault) → Gives (λ b. b) (Err fault) (ruled function loops code.now r)) }
+{
+    if all_hold(function, loops, code, spots) {
+        return None;
+    }
+    if let Some(pc) = nesting_fault(code, spots) {
+        return Some(BoundFault::at(BoundCause::Nesting, function, pc));
+    }
+    if let Some(pc) = jump_fault(code, spots) {
+        return Some(BoundFault::at(BoundCause::Jump, function, pc));
+    }
+    if let Some(pc) = slot_fault(loops, code, spots) {
+        return Some(BoundFault::at(BoundCause::LoopSlot, function, pc));
+    }
+    let pc = order_fault(function, code)?;
+    Some(BoundFault::at(BoundCause::CallOrder, function, pc))
+}
+
 /// The bound of a function, given its number, its loop slots and the bounds of the functions before
 /// it; or its fault. A fixed number of passes over the code, whatever it holds; it takes 16 bytes for
 /// each instruction while it works.
@@ -60,17 +85,8 @@ pub fn checked_bound(
         (structure.checked_bound function earlier.now (of_code loops code.now)) }
 {
     let spots = spots_of(alloc, code)?;
-    if let Some(pc) = nesting_fault(code, &spots) {
-        return Err(BoundFault::at(BoundCause::Nesting, function, pc));
-    }
-    if let Some(pc) = jump_fault(code, &spots) {
-        return Err(BoundFault::at(BoundCause::Jump, function, pc));
-    }
-    if let Some(pc) = slot_fault(loops, code, &spots) {
-        return Err(BoundFault::at(BoundCause::LoopSlot, function, pc));
-    }
-    if let Some(pc) = order_fault(function, code) {
-        return Err(BoundFault::at(BoundCause::CallOrder, function, pc));
+    if let Some(fault) = rule_fault(function, loops, code, &spots) {
+        return Err(fault);
     }
     let bound = bound_of(earlier, code, &spots);
     if bound > GREATEST {

@@ -61,8 +61,28 @@ pub fn meet(a: &Labels, b: &Labels) -> Labels
     labels
 }
 
-/// Whether terms that are equal by the one row are equal by the other too.
+/// Whether terms that are equal by the one row are equal by the other too. Where ways meet most rows are the same, which
+/// takes one pass without branches.
 pub fn contains(labels: &Labels, less: &Labels) -> bool
+    requires { IsCanonical less.now }
+    ensures { IsTrue result ↔ ContainsRow labels.now less.now }
+{
+    is_same(labels, less) || has_each(labels, less)
+}
+
+// Whether two rows have the same labels.
+fn is_same(labels: &Labels, other: &Labels) -> bool
+    ensures { IsTrue result ↔ labels.now ≡ other.now }
+{
+    let mut same = true;
+    for at in 0..TERMS {
+        same &= labels[at] == other[at];
+    }
+    same
+}
+
+// Whether the row has each equation of another, term by term.
+fn has_each(labels: &Labels, less: &Labels) -> bool
     requires { IsCanonical less.now }
     ensures { IsTrue result ↔ ContainsRow labels.now less.now }
 {

@@ -17,7 +17,7 @@ use Rattle.x10_model.specs.Modules.{takes_flag}
 use Rattle.x10_model.specs.Maps.{with_entry}
 use Rattle.x10_model.specs.Assignments.{IsState, holds_place, parameter_kind, homes_here}
 use Rattle.x10_verify.specs.declared.known.Known.{Known}
-use Rattle.x10_verify.specs.Known.{kind_in, state_of, entered, FlagsFit}
+use Rattle.x10_verify.specs.Known.{kind_coded, kind_in, state_of, entered, FlagsFit}
 use Rattle.x10_verify.specs.Knowledge.{SameState}
 use Rattle.x10_verify.proofs.Below.{entry_cases}
 use Rattle.x10_verify.proofs.Rows.{kind_in-set}
@@ -25,30 +25,32 @@ use Rattle.std.proofs.lemmas.Option.{same_Some, slice_get_past}
 
 -- ---- kinds
 
-pub none_in : (n r : ℕ) → kind_in (replicate n None) r ≡ None
+pub none_in : (n r : ℕ) → kind_in (replicate n 0) r ≡ None
+unfolding kind_coded
 none_in zero r = refl
 none_in (suc n) zero = refl
 none_in (suc n) (suc r) = none_in n r
 
 -- the kinds so far
-pub record KindsTo (slots : List Slot) (kinds : List (Option Kind)) (i : ℕ) : Type 0 where
+pub record KindsTo (slots : List Slot) (kinds : List ℕ) (i : ℕ) : Type 0 where
   pub size : length kinds ≡ 64
   pub set : (r : ℕ) → r < i → kind_in kinds r ≡ parameter_kind (slice_get slots r)
   pub unset : (r : ℕ) → i ≤ r → kind_in kinds r ≡ None
 
-pub kinds_begin : (slots : List Slot) (kinds : List (Option Kind)) → length kinds ≡ 64 → ((r : ℕ) → kind_in kinds r ≡ None) → KindsTo slots kinds 0
+pub kinds_begin : (slots : List Slot) (kinds : List ℕ) → length kinds ≡ 64 → ((r : ℕ) → kind_in kinds r ≡ None) → KindsTo slots kinds 0
 kinds_begin slots kinds size none = record { size = size; set = λ r lt. absurd (omega arith); unset = λ r le. none r }
 
 kind_of_slot : (slots : List Slot) (i : ℕ) (slot : Slot) → slice_get slots i ≡ Some slot → parameter_kind (slice_get slots i) ≡ Some slot.kind
 kind_of_slot slots i slot e = ap parameter_kind e
 
-pub kinds_go_on : (slots : List Slot) (kinds : List (Option Kind)) (i : ℕ) (slot : Slot) → KindsTo slots kinds i → i < 64 → slice_get slots i ≡ Some slot → KindsTo slots (set kinds i (Some slot.kind)) (i + 1)
-kinds_go_on slots kinds i slot h lt e = record { size = simp length-set h.size; set = set_all; unset = unset_all }
+pub kinds_go_on : (slots : List Slot) (kinds : List ℕ) (i n : ℕ) (slot : Slot) → KindsTo slots kinds i → i < 64 → slice_get slots i ≡ Some slot → kind_coded n ≡ Some slot.kind
+    → KindsTo slots (set kinds i n) (i + 1)
+kinds_go_on slots kinds i n slot h lt e coded = record { size = simp length-set h.size; set = set_all; unset = unset_all }
   where
-    is : (r : ℕ) → kind_in (set kinds i (Some slot.kind)) r ≡ with_entry (kind_in kinds) i (Some slot.kind) r
-    is r = kind_in-set kinds i (Some slot.kind) (omega (arith, h.size)) r
+    is : (r : ℕ) → kind_in (set kinds i n) r ≡ with_entry (kind_in kinds) i (Some slot.kind) r
+    is r = kind_in-set kinds i n (Some slot.kind) coded (omega (arith, h.size)) r
 
-    set_all : (r : ℕ) → r < i + 1 → kind_in (set kinds i (Some slot.kind)) r ≡ parameter_kind (slice_get slots r)
+    set_all : (r : ℕ) → r < i + 1 → kind_in (set kinds i n) r ≡ parameter_kind (slice_get slots r)
     set_all r less = elim (entry_cases (Option Kind) i r) [
       | inl at ↦ is r ∙ at.1 (kind_in kinds) (Some slot.kind) ∙ sym (ap parameter_kind (subst (λ q. slice_get slots q ≡ Some slot) (sym at.0) e))
       | inr off ↦ is r ∙ off.1 (kind_in kinds) (Some slot.kind) ∙ h.set r (below r (off.0) less)
@@ -57,13 +59,13 @@ kinds_go_on slots kinds i slot h lt e = record { size = simp length-set h.size; 
         below : (r : ℕ) → (r ≡ i → ⊥) → r < i + 1 → r < i
         below r ne l = elim (cases_lt r i) [ inl y ↦ y | inr n ↦ absurd (ne (omega arith)) ]
 
-    unset_all : (r : ℕ) → i + 1 ≤ r → kind_in (set kinds i (Some slot.kind)) r ≡ None
+    unset_all : (r : ℕ) → i + 1 ≤ r → kind_in (set kinds i n) r ≡ None
     unset_all r le = elim (entry_cases (Option Kind) i r) [
       | inl at ↦ (let z = at.0 in absurd (omega arith))
       | inr off ↦ is r ∙ off.1 (kind_in kinds) (Some slot.kind) ∙ h.unset r (omega arith)
     ]
 
-pub kinds_done : (slots : List Slot) (kinds : List (Option Kind)) (i : ℕ) → KindsTo slots kinds i → length slots ≤ i → (r : ℕ) → kind_in kinds r ≡ parameter_kind (slice_get slots r)
+pub kinds_done : (slots : List Slot) (kinds : List ℕ) (i : ℕ) → KindsTo slots kinds i → length slots ≤ i → (r : ℕ) → kind_in kinds r ≡ parameter_kind (slice_get slots r)
 kinds_done slots kinds i h le r = elim (cases_lt r i) [ inl lt ↦ h.set r lt | inr ge ↦ h.unset r ge ∙ sym (ap parameter_kind (slice_get_past slots r (omega arith))) ]
 
 -- ---- homes

@@ -81,6 +81,18 @@ weakened_begins v s changed e = record {
   falls = λ f. absurd (let g = e in cc);
 }
 
+-- a row that is the same is as it was
+pub weakened_equal : (v s : Known) (n : ℕ) → v.kinds ≡ s.kinds → IsWeakened v s n v false
+weakened_equal v s n e = record {
+  kinds = λ r lt. sym (common_same (kind_in v.kinds r) (kind_in s.kinds r) (ap (λ ks. kind_in ks r) (sym e)));
+  rest = λ r le. refl;
+  within = λ x y tx ty h. h;
+  least = λ w is kinds homes. homes;
+  alone = λ h. h;
+  same = λ f. refl;
+  falls = λ f. absurd cc;
+}
+
 below_or_at : (q n : ℕ) → q < n + 1 → (q < n) ⊎ (q ≡ n)
 below_or_at q n lt = elim (cases_lt q n) [ inl less ↦ inl less | inr le ↦ inr (omega arith) ]
 

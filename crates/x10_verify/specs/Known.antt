@@ -1,19 +1,35 @@
 -- What the verifier keeps of a state: a kind, or none, for each of 64 registers, and the equations.
-use Rattle.std.specs.Prelude.{◌≡◌, ℕ, List, Option, Some, None, IsTrue, slice_get}
+use Rattle.std.specs.Prelude.{◌≡◌, ◌==◌, ◌/◌, ◌%◌, ℕ, if◌then◌else◌, List, Option, Some, None, IsTrue, slice_get}
 use Rattle.x10_kinds.specs.declared.kind.Kind.{Kind}
+use Rattle.x10_kinds.specs.declared.kind.Kind.TheVariants as kind
 use Rattle.x10_kinds.specs.Equations.{equations}
 use Rattle.x10_model.specs.declared.slot.Slot.{Slot}
 use Rattle.x10_model.specs.Modules.{takes_flag}
 use Rattle.x10_model.specs.Assignments.{State, parameter_kind, homes_here}
 use Rattle.x10_verify.specs.declared.known.Known.{Known}
 
--- the entry of a row, and none past its end
-abbrev pub at_most : {X : Type 0} → Option (Option X) → Option X
-at_most None = None
-at_most (Some x) = x
+-- the kind of a case, by its number, and a class
+abbrev pub kind_by : ℕ → ℕ → Option Kind
+kind_by case class =
+    if case == 0 then None else
+    if case == 1 then Some kind.Int else
+    if case == 2 then Some kind.Place else
+    if case == 3 then Some kind.Text else
+    if case == 4 then Some kind.Rail else
+    if case == 5 then Some (kind.Obj class) else
+    if case == 6 then Some (kind.Opt class) else Some (kind.GRef class)
 
-abbrev pub kind_in : List (Option Kind) → ℕ → Option Kind
-kind_in kinds r = at_most (slice_get kinds r)
+-- the kind that a number of a row stands for, or none: its case below, its class above
+unfoldable pub kind_coded : ℕ → Option Kind
+kind_coded number = kind_by (number % 65536) (number / 65536)
+
+-- the entry of a row, and none past its end
+abbrev pub coded_if : Option ℕ → Option Kind
+coded_if None = None
+coded_if (Some number) = kind_coded number
+
+abbrev pub kind_in : List ℕ → ℕ → Option Kind
+kind_in kinds r = coded_if (slice_get kinds r)
 
 abbrev pub state_of : Known → State
 state_of k = record { kinds = kind_in k.kinds; homes = equations k.homes }

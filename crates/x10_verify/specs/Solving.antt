@@ -17,7 +17,7 @@ use Rattle.x10_verify.specs.Known.{state_of}
 use Rattle.x10_verify.specs.Effects.{IsKept, IsNarrow}
 use Rattle.x10_verify.specs.Rules.{after, goes_on_of, rule_for}
 use Rattle.x10_verify.specs.Causes.{IsCauseAt, IsFound}
-use Rattle.x10_verify.specs.States.{Arrives, stated, waits}
+use Rattle.x10_verify.specs.States.{Arrives, Receives, stated, waits}
 
 -- the rule of instruction q holds in a state, and what follows knows no more than it is given
 abbrev pub Holds : Module → Function → (ℕ → Option State) → ℕ → State → Type 0
@@ -79,6 +79,11 @@ JumpsIf false i at len known old next new = (next ≡ at + 1) × (new ≡ old)
 abbrev pub Jumps : Instr → ℕ → ℕ → Known → List Entry → Result ℕ FlowCause → List Entry → Type 0
 Jumps i at len known old (Ok next) new = JumpsIf (is_target (form_of i.op).x) i at len known old next new
 Jumps i at len known old (Err cause) new = (is_target (form_of i.op).x ≡ true) × (len ≤ i.x) × (cause ≡ Unset) × (new ≡ old)
+
+-- an entry has received a state with an effect
+abbrev pub ReceivesAfter : Known → ℕ → Effect → Entry → Entry → Type 0
+ReceivesAfter known register effect old new = (changed : Bool) × (t : Known) × IsNarrow (state_of t)
+    × (IsState (state_of known) → SameState (state_of t) (after register (state_of known) effect)) × Receives old t new changed
 
 -- what became of the next instruction
 abbrev pub GoesOnIf : Bool → Instr → ℕ → ℕ → Effect → Known → List Entry → List Entry → Type 0

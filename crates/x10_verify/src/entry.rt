@@ -5,9 +5,10 @@ ghost use Rattle.x10_model.specs.Assignments.{IsState, parameter_kind, homes_her
 ghost use Rattle.x10_verify.specs.Known.{state_of, kind_in, entered, FlagsFit};
 ghost use Rattle.x10_verify.specs.Knowledge.{SameState};
 
+use crate::coded::{Kinds, encode};
 use crate::known::Known;
 use x10_image::SigView;
-use x10_kinds::{Homes, Kind, Term};
+use x10_kinds::{Homes, Term};
 
 /// The parameters are set to their kinds, and those that ask for it have their home here.
 pub(crate) fn entry(signature: &SigView) -> Known
@@ -22,13 +23,13 @@ pub(crate) fn entry(signature: &SigView) -> Known
     }
 }
 
-fn kinds(signature: &SigView) -> [Option<Kind>; 64]
+fn kinds(signature: &SigView) -> Kinds
     requires { length signature.now.parameters ≤ 16 }
     ensures { (r : ℕ) → kind_in result r ≡ parameter_kind (slice_get signature.now.parameters r) }
 {
-    let mut kinds = [None; 64];
+    let mut kinds = [0; 64];
     for i in 0..signature.parameters() {
-        kinds[i] = Some(signature.parameter(i).kind);
+        kinds[i] = encode(Some(signature.parameter(i).kind));
     }
     kinds
 }

@@ -8,6 +8,7 @@ ghost use Rattle.x10_verify.specs.Knowledge.{SameState};
 ghost use Rattle.x10_verify.specs.Rules.{after};
 ghost use Rattle.x10_verify.specs.Causes.{Fitting, IsRefused};
 
+use crate::coded::{Kinds, decode, encode};
 use crate::fault::FlowCause;
 use crate::places::holds_place;
 use crate::table::Effect;
@@ -17,7 +18,7 @@ use x10_kinds::{Homes, Kind, Term, fits};
 /// same. It takes no memory.
 #[derive(Clone, Copy, Debug)]
 pub(crate) struct Known {
-    pub(crate) kinds: [Option<Kind>; 64],
+    pub(crate) kinds: Kinds,
     pub(crate) homes: Homes,
 }
 
@@ -27,7 +28,7 @@ impl Known {
         ensures value { result ≡ kind_in self.now.kinds register }
     {
         if register < 64 {
-            self.kinds[register as usize]
+            decode(self.kinds[register as usize])
         } else {
             None
         }
@@ -70,7 +71,7 @@ impl Known {
         ensures { IsState (state_of self.old) → SameState (state_of self.new) (set (state_of self.old) register kind like) }
     {
         self.relocate(register, like);
-        self.kinds[register as usize] = Some(kind);
+        self.kinds[register as usize] = encode(Some(kind));
     }
 
     // The register stands for the place of a term, or for one that nothing is known of. One that held none is alone already.

@@ -2,6 +2,7 @@
 #![tactic(auto)]
 
 mod calls;
+mod coded;
 mod decide;
 mod entry;
 mod fault;

@@ -6,6 +6,7 @@ ghost use Rattle.x10_verify.specs.Known.{kind_in, state_of};
 ghost use Rattle.x10_verify.specs.Knowledge.{SameState};
 ghost use Rattle.x10_verify.specs.Merging.{IsMet, IsWeakened, common_of, parted, rank_of};
 
+use crate::coded::{encode, is_same_row};
 use crate::known::Known;
 use x10_kinds::{Kind, meet};
 
@@ -26,6 +27,9 @@ impl Known {
     fn weaken_kinds(&mut self, other: &Known) -> bool
         ensures { IsWeakened self.old other.now 64 self.new result }
     {
+        if is_same_row(&self.kinds, &other.kinds) {
+            return false;
+        }
         let mut changed = false;
         for register in 0..64_u8 {
             if self.weaken_register(register, other.kind(register)) {
@@ -49,7 +53,7 @@ impl Known {
         if is_same(common, have) {
             return false;
         }
-        self.kinds[register as usize] = common;
+        self.kinds[register as usize] = encode(common);
         self.homes.write(register, None);
         true
     }

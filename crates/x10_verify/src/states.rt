@@ -1,10 +1,12 @@
 //! The states that are known so far before the instructions of one function.
 ghost use Rattle.std.specs.Prelude.{◌≡◌, ◌<◌, ◌≤◌, ℕ, IfOk, length, slice_get, true};
-ghost use Rattle.x10_verify.specs.Effects.{IsNarrow};
+ghost use Rattle.x10_verify.specs.Effects.{CanApply, IsNarrow};
 ghost use Rattle.x10_verify.specs.Known.{state_of};
+ghost use Rattle.x10_verify.specs.Solving.{ReceivesAfter};
 ghost use Rattle.x10_verify.specs.States.{Arrives, IsFresh, Receives, Takes, state_in, waits};
 
 use crate::known::Known;
+use crate::table::Effect;
 use std::alloc::{AllocError, Global};
 use x10_kinds::Homes;
 
@@ -27,6 +29,25 @@ pub(crate) struct Entry {
 }
 
 impl Entry {
+    /// What is known after an instruction, by its effect on what is known before it: as `receive`, but written where it
+    /// is kept if this is the first way, without another copy.
+    pub(crate) fn receive_after(&mut self, known: &Known, register: u8, effect: Effect)
+        requires { CanApply register effect }
+        ensures { ReceivesAfter known.now register effect self.old self.new }
+    {
+        if self.mark == Mark::Unreached {
+            self.known = *known;
+            self.known.apply(register, effect);
+            self.known.narrow();
+            self.mark = Mark::Waiting;
+            return;
+        }
+        let mut after = *known;
+        after.apply(register, effect);
+        after.narrow();
+        self.receive(&after);
+    }
+
     /// What is known on one way more: kept whole where it is the first, else as far as both ways know it. Tells whether
     /// that changed anything.
     pub(crate) fn receive(&mut self, known: &Known) -> bool
@@ -84,7 +105,7 @@ pub(crate) fn blank(alloc: Global, len: usize) -> Result<Vec<Entry>, AllocError>
         table.push(Entry {
             mark: Mark::Unreached,
             known: Known {
-                kinds: [None; 64],
+                kinds: [0; 64],
                 homes: Homes::new(),
             },
         })?;

@@ -37,7 +37,7 @@ pub(crate) fn step(
     let known = take(table, at);
     let effect = decide(image, slot, instr, &known)?;
     let next = jump(instr, at, len, &known, table)?;
-    go_on(instr, at, len, effect, known, table)?;
+    go_on(instr, at, len, effect, &known, table)?;
     Ok(next)
 }
 
@@ -72,13 +72,13 @@ fn go_on(
     at: usize,
     len: usize,
     effect: Effect,
-    mut known: Known,
+    known: &Known,
     table: &mut Vec<Entry>,
 ) -> Result<(), FlowCause>
     requires at { at < len }
     requires room { len ≤ length table.old.items }
     requires can { CanApply instr.a effect }
-    ensures { GoesOn instr at len effect known table.old.items result table.new.items }
+    ensures { GoesOn instr at len effect known.now table.old.items result table.new.items }
 {
     if !goes_on(instr.op) {
         return Ok(());
@@ -86,8 +86,6 @@ fn go_on(
     if at + 1 >= len {
         return Err(FlowCause::Unset);
     }
-    known.apply(instr.a, effect);
-    known.narrow();
-    arrive(table, at + 1, &known);
+    table[at + 1].receive_after(known, instr.a, effect);
     Ok(())
 }

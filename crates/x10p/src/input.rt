@@ -8,6 +8,10 @@ use x10_image::{ImageFault, ImageView};
 /// How many bytes are read before they are looked at for the first time.
 const FIRST: u64 = 65_536;
 
+/// How many times as many bytes are read before each further look. What was read is looked at from its beginning, so that
+/// the looks together cost little beside the last reading.
+const MORE: u64 = 16;
+
 /// The most bytes of a text's lines that aren't `text` lines: room for the greatest module without its texts, which takes
 /// 50 million, and for comments.
 const BESIDE_TEXTS: u64 = 67_108_864;
@@ -34,7 +38,7 @@ pub fn read(rt: &HostRuntime, verb: Verb, file: &mut File) -> Result<Vec<u8>, Tr
             return Ok(bytes);
         }
         match look_at(rt, verb, &bytes)? {
-            Look::More(most) => goal = goal.saturating_mul(2).min(most),
+            Look::More(most) => goal = goal.saturating_mul(MORE).min(most),
             Look::Enough => return Ok(bytes),
             Look::TooLong => return Err(Trouble::TooLong),
         }

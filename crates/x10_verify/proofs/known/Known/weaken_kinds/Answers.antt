@@ -1,7 +1,10 @@
 use Rattle.std.proofs.Common.{arith}
-use Rattle.x10_verify.proofs.Merging.{weakened_on_same, weakened_on_more}
+use Rattle.x10_verify.proofs.Merging.{weakened_equal, weakened_on_same, weakened_on_more}
 use Rattle.x10_verify.proofs.known.Known.weaken_kinds.Goals.{then-weaken_register, else-weaken_register}
 use Rattle.x10_verify.proofs.known.Known.weaken_kinds.Goals as goal
+
+pub returns-then-is_same_row : goal.returns-then-is_same_row
+returns-then-is_same_row c = weakened_equal c.args.self.now c.args.other.now 64 (c.is_same_row.ensures.0 c.if-is_same_row.true)
 
 pub loop-register-preserved : goal.loop-register-preserved
 loop-register-preserved c = elim c.if-weaken_register.branch [

@@ -12,7 +12,7 @@ returns-clause-changed c = λ is.
     let common = c.common-common.ensures in
     let differ : c.common-common.result ≡ c.kind-have.result → ⊥ = iff_false c.is_same-2.ensures c.if-is_same-2.false in (
       (λ h. differ (cc)),
-      subst (λ k. SameState (state_of (record { kinds = set c.args.self.now.kinds c.args.register c.common-common.result; homes = c.write.new.self })) (parted (state_of c.args.self.now) c.args.register k))
+      subst (λ k. SameState (state_of (record { kinds = set c.args.self.now.kinds c.args.register c.encode.result; homes = c.write.new.self })) (parted (state_of c.args.self.now) c.args.register k))
           (common ∙ ap (λ k. common_of k c.args.other) have)
-          (same_parted c.args.self.now.kinds c.args.self.now.homes c.write.new.self c.args.register c.common-common.result (omega arith) c.write.ensures),
+          (same_parted c.args.self.now.kinds c.args.self.now.homes c.write.new.self c.args.register c.encode.result c.common-common.result c.encode.ensures (omega arith) c.write.ensures),
     )
