@@ -32,6 +32,15 @@ macro_rules! name_in {
     };
 }
 
+macro_rules! named_as {
+    (($name_given:expr) $($variant:ident row($code:literal, $name:literal, $($rest:tt)*);)*) => {
+        match $name_given {
+            $($name => Some(Op::$variant),)*
+            other => first_named(other),
+        }
+    };
+}
+
 macro_rules! group_in {
     (($op:expr) $($variant:ident row($code:literal, $name:literal, $group:ident, $($rest:tt)*);)*) => {
         match $op {
@@ -83,12 +92,19 @@ pub fn form(op: Op) -> Form
     table!(form_in(op))
 }
 
-/// The operation with a name, which is in capitals. It compares the names one by one.
+/// The operation with a name, which is in capitals. Constant time, but where no operation has the name: then it compares
+/// the names one by one.
 pub fn op_named(name: &str) -> Option<Op>
     ensures found { IfSome result (λ o. name.now ≡ name_of o) }
     ensures only { (o : Op) → name.now ≡ name_of o → result ≡ Some o }
 {
-    first_named(name)
+    named(name)
+}
+
+fn named(text: &str) -> Option<Op>
+    ensures { result ≡ op_of_name text.now }
+{
+    table!(named_as(text))
 }
 
 fn first_named(text: &str) -> Option<Op>
