@@ -1,8 +1,9 @@
 -- Operations by their names, and what first words say.
-use Rattle.std.proofs.Common.{◌≡◌, ℕ, Bool, true, false, List, [], ◌∷◌, Option, Some, None, refl, sym, ap, ◌∙◌}
+use Rattle.std.proofs.Common.{◌≡◌, ℕ, Bool, true, false, List, [], ◌∷◌, Option, Some, None, refl, sym, ap, ◌∙◌, inl, inr}
 use Rattle.std.specs.Prelude.{IfSome, if◌then◌else◌, codes}
 use Rattle.std.specs.Str.{bytes_eq}
-use Rattle.std.proofs.lemmas.Bool.{both_ways, false≢true}
+use Rattle.std.proofs.lemmas.Bool.{both_ways, false≢true, cases_Bool, cond-true, cond-false}
+use Rattle.std.proofs.lemmas.Slice.Eq.{bytes_eq-Decides}
 use Rattle.x10_code.specs.declared.op.Op.{Op}
 use Rattle.x10_code.specs.Table.{name_of, op_of_name}
 use Rattle.x10_code.proofs.Operations.{op_of_name-name_of, name_of-op_of_name}
@@ -11,6 +12,7 @@ use Rattle.x10_asm.specs.declared.statement.Statement.TheVariants.{Silent, Place
 use Rattle.x10_asm.specs.Lines.{begins, words}
 use Rattle.x10_asm.specs.Labels.{ends_in_colon}
 use Rattle.x10_asm.specs.Statements.{statement_of, label_or_instruction, instruction_or_unknown, statement_in, first_word}
+use Rattle.x10_asm.specs.Reading.{is_class}
 
 none_named : (word : List ℕ) (r : Option Op) → op_of_name word ≡ r → ((o : Op) → word ≡ name_of o → ◌≡◌ {A = Option Op} None (Some o)) → ◌≡◌ {A = Option Op} None r
 none_named word None e only = refl
@@ -66,3 +68,63 @@ silent e = false≢true (ap is_label e)
 pub line_label_ends : (ws : List (List ℕ)) → statement_in ws ≡ Label → ends_in_colon (first_word ws) ≡ true
 line_label_ends [] e = absurd (silent e)
 line_label_ends (w ∷ ws) e = label_ends w e
+
+-- ---- words told apart by a test
+
+-- a word that passes a test is none that doesn't
+pub not_word : (p : List ℕ → Bool) (word other : List ℕ) → p word ≡ true → p other ≡ false → bytes_eq word other ≡ false
+not_word p word other passes fails = elim (cases_Bool (bytes_eq word other)) [
+  | inl e ↦ absurd (both_ways (p other) fails (ap p (sym ((bytes_eq-Decides word other).0 e)) ∙ passes))
+  | inr ne ↦ ne
+]
+
+-- a word that passes a test which no fixed word passes, and that is no comment's, begins a label or an instruction
+pub no_keyword : (p : List ℕ → Bool) (word : List ℕ) → p word ≡ true → begins 59 word ≡ false
+    → p (codes "places") ≡ false → p (codes "class") ≡ false → p (codes "int") ≡ false → p (codes "text") ≡ false → p (codes "func") ≡ false → p (codes "end") ≡ false → p (codes "entry") ≡ false
+    → statement_of word ≡ label_or_instruction word
+unfolding statement_of
+no_keyword p word passes comment places class int text func end entry =
+    rw (comment, not_word p word (codes "places") passes places, not_word p word (codes "class") passes class, not_word p word (codes "int") passes int, not_word p word (codes "text") passes text,
+      not_word p word (codes "func") passes func, not_word p word (codes "end") passes end, not_word p word (codes "entry") passes entry) refl
+
+pub label_is : (word : List ℕ) → begins 59 word ≡ false → ends_in_colon word ≡ true → statement_of word ≡ Label
+label_is word comment colon = no_keyword ends_in_colon word colon comment refl refl refl refl refl refl refl ∙ cond-true (ends_in_colon word) Label (instruction_or_unknown (op_of_name word)) colon
+
+-- ---- classes, by their first word alone
+
+-- a test that leads to another line
+no_class : (t : Bool) (here there : Statement) → is_class here ≡ false → is_class there ≡ false → is_class (if t then here else there) ≡ false
+no_class true here there e f = e
+no_class false here there e f = f
+
+named_no_class : (r : Option Op) → is_class (instruction_or_unknown r) ≡ false
+named_no_class None = refl
+named_no_class (Some o) = refl
+
+other_no_class : (word : List ℕ) → bytes_eq word (codes "class") ≡ false → is_class (statement_of word) ≡ false
+unfolding statement_of
+other_no_class word ne = rw ne
+    (no_class (begins 59 word) Silent _ refl
+    (no_class (bytes_eq word (codes "places")) Places _ refl
+    (no_class (bytes_eq word (codes "int")) Int _ refl
+    (no_class (bytes_eq word (codes "text")) Text _ refl
+    (no_class (bytes_eq word (codes "func")) Func _ refl
+    (no_class (bytes_eq word (codes "end")) End _ refl
+    (no_class (bytes_eq word (codes "entry")) Entry _ refl
+    (no_class (ends_in_colon word) Label _ refl (named_no_class (op_of_name word))))))))))
+
+class_word : is_class (statement_of (codes "class")) ≡ true
+unfolding statement_of
+class_word = refl
+
+pub class_is : (word : List ℕ) → bytes_eq word (codes "class") ≡ is_class (statement_of word)
+class_is word = elim (cases_Bool (bytes_eq word (codes "class"))) [
+  | inl e ↦ e ∙ sym (ap (λ (w : List ℕ). is_class (statement_of w)) ((bytes_eq-Decides word (codes "class")).0 e) ∙ class_word)
+  | inr ne ↦ ne ∙ sym (other_no_class word ne)
+]
+
+pub class_in : (word : List ℕ) (ws others : List (List ℕ)) → ws ≡ word ∷ others → bytes_eq word (codes "class") ≡ is_class (statement_in ws)
+class_in word ws others e = class_is word ∙ ap (λ (t : List (List ℕ)). is_class (statement_in t)) (sym e)
+
+pub no_class_in : (ws : List (List ℕ)) → ws ≡ [] → is_class (statement_in ws) ≡ false
+no_class_in ws e = ap (λ (t : List (List ℕ)). is_class (statement_in t)) e

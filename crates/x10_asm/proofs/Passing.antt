@@ -62,11 +62,11 @@ passed_all kept classes line texts all p e = sym p.left ∙ ap (read_from classe
 
 -- ---- counting classes
 
-pub counted_more : (texts others : List (List ℕ)) (text : List ℕ) (s : Statement) → texts ≡ text ∷ others → s ≡ statement_in (words text) → is_class s ≡ true → classes_in texts ≡ suc (classes_in others)
-counted_more texts others text s e es k = ap classes_in e ∙ class_counted text others (ap is_class (sym es) ∙ k)
+pub counted_more : (texts others : List (List ℕ)) (text : List ℕ) → texts ≡ text ∷ others → is_class (statement_in (words text)) ≡ true → classes_in texts ≡ suc (classes_in others)
+counted_more texts others text e k = ap classes_in e ∙ class_counted text others k
 
-pub counted_other : (texts others : List (List ℕ)) (text : List ℕ) (s : Statement) → texts ≡ text ∷ others → s ≡ statement_in (words text) → is_class s ≡ false → classes_in texts ≡ classes_in others
-counted_other texts others text s e es k = ap classes_in e ∙ other_passed text others (ap is_class (sym es) ∙ k)
+pub counted_other : (texts others : List (List ℕ)) (text : List ℕ) → texts ≡ text ∷ others → is_class (statement_in (words text)) ≡ false → classes_in texts ≡ classes_in others
+counted_other texts others text e k = ap classes_in e ∙ other_passed text others k
 
 -- ---- the end
 

@@ -1,9 +1,10 @@
 -- Lines and words, found by counting bytes.
-use Rattle.std.proofs.Common.{◌≡◌, ◌≢◌, ℕ, zero, suc, ◌+◌, ◌-◌, ◌≤◌, ◌<◌, Bool, true, false, ◌&&◌, List, [], ◌∷◌, length, take, drop, get_or, refl, sym, ap, subst, ◌∙◌, arith, add-one, inl, inr}
+use Rattle.std.proofs.Common.{◌≡◌, ◌≢◌, ℕ, zero, suc, ◌+◌, ◌-◌, ◌≤◌, ◌<◌, Bool, true, false, ◌&&◌, List, [], ◌∷◌, length, take, drop, get_or, refl, sym, ap, subst, ◌∙◌, arith, add-one, inl, inr, Some, None}
 use Rattle.std.specs.Prelude.{◌==◌, if◌then◌else◌, slice_range}
 use Rattle.std.proofs.Math.Seq.{drop-cons}
 use Rattle.std.proofs.lemmas.List.{drop_all}
-use Rattle.std.proofs.lemmas.Bool.{eqb-true, eqb-false, ne_eqb, eq-eqb, cases_Bool, cases_eq, and_from, and_left, and_right}
+use Rattle.std.proofs.lemmas.Bool.{eqb-true, eqb-false, ne_eqb, eq-eqb, cases_Bool, cases_eq, cases_lt, and_from, and_left, and_right}
+use Rattle.memchr.specs.Find.{IsFirstByte, is_byte}
 use Rattle.x10_asm.specs.Lines.{grown, begins, lines, is_word_end, words, after_spaces, from_space, count_before, without_return}
 
 -- ---- counting
@@ -28,6 +29,34 @@ count_here c bs at lt e = rw (drop-cons bs at 0 lt, eq-eqb (get_or bs at 0) c e)
 
 pub count_end : (c : ℕ) (bs : List ℕ) (at : ℕ) → length bs ≤ at → count_before c (drop at bs) ≡ 0
 count_end c bs at le = rw (drop_all at bs le) refl
+
+before_cons : (c b : ℕ) (bs : List ℕ) (t : Bool) (at : ℕ) → (b == c) ≡ t → ((k : ℕ) → k < count_before c bs → get_or bs k 0 ≢ c) → at < (if t then 0 else suc (count_before c bs)) → get_or (b ∷ bs) at 0 ≢ c
+before_cons c b bs true at e h lt = absurd (omega arith)
+before_cons c b bs false zero e h lt = eqb-false b c e
+before_cons c b bs false (suc at) e h lt = h at (omega arith)
+
+-- the bytes before the first are others
+pub count_others : (c : ℕ) (bs : List ℕ) (at : ℕ) → at < count_before c bs → get_or bs at 0 ≢ c
+count_others c [] at lt = absurd (omega arith)
+count_others c (b ∷ bs) at lt = before_cons c b bs (b == c) at refl (count_others c bs) lt
+
+-- the first of a value, found by a search
+pub count_found : (c : ℕ) (bs : List ℕ) (at : ℕ) → IsFirstByte (is_byte c) bs (Some at) → at ≡ count_before c bs
+count_found c bs at f =
+    let here : get_or bs at 0 ≡ c = eqb-true (get_or bs at 0) c f.1 in
+    elim (cases_lt at (count_before c bs)) [
+      | inl lt ↦ absurd (count_others c bs at lt here)
+      | inr le ↦ elim (cases_lt (count_before c bs) at) [
+        | inl lt ↦ absurd (f.0.before (count_before c bs) (omega arith) lt (eq-eqb (get_or bs (count_before c bs) 0) c (count_there c bs (omega (arith, f.0.high, lt)))))
+        | inr ge ↦ omega arith
+      ]
+    ]
+
+pub count_missed : (c : ℕ) (bs : List ℕ) → IsFirstByte (is_byte c) bs None → length bs ≡ count_before c bs
+count_missed c bs f = elim (cases_lt (count_before c bs) (length bs)) [
+  | inl lt ↦ absurd (f (count_before c bs) (omega arith) lt (eq-eqb (get_or bs (count_before c bs) 0) c (count_there c bs lt)))
+  | inr ge ↦ omega (arith, count-within c bs)
+]
 
 -- ---- spaces
 

@@ -1,5 +1,5 @@
 -- What a line says, by its first word.
-use Rattle.std.specs.Prelude.{ℕ, List, [], ◌∷◌, Option, Some, None, if◌then◌else◌, codes}
+use Rattle.std.specs.Prelude.{ℕ, Bool, false, nat_lt, List, [], ◌∷◌, Option, Some, None, if◌then◌else◌, codes}
 use Rattle.std.specs.Str.{bytes_eq}
 use Rattle.x10_code.specs.declared.op.Op.{Op}
 use Rattle.x10_code.specs.Table.{op_of_name}
@@ -15,6 +15,11 @@ instruction_or_unknown None = Unknown
 -- a label ends in a colon; else it is an instruction's name, or nothing that is known
 abbrev pub label_or_instruction : List ℕ → Statement
 label_or_instruction word = if ends_in_colon word then Label else instruction_or_unknown (op_of_name word)
+
+-- the first byte is below the small letters
+abbrev pub begins_name : List ℕ → Bool
+begins_name [] = false
+begins_name (first ∷ others) = nat_lt first 97
 
 -- the statement that a first word begins; a comment says nothing
 unfoldable pub statement_of : List ℕ → Statement

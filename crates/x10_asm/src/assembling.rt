@@ -5,7 +5,8 @@ ghost use Rattle.x10_model.specs.Modules as model;
 ghost use Rattle.x10_model.specs.Modules.{FitsImage};
 ghost use Rattle.x10_image.specs.Written.{shown};
 ghost use Rattle.x10_asm.specs.declared.fault.AsmCause.TheVariants.{Memory};
-ghost use Rattle.x10_asm.specs.Lines.{lines};
+ghost use Rattle.x10_asm.specs.Lines.{lines, words};
+ghost use Rattle.x10_asm.specs.Statements.{statement_in};
 ghost use Rattle.x10_asm.specs.Reading as reading;
 ghost use Rattle.x10_asm.specs.Reading.{module_of};
 ghost use Rattle.x10_asm.specs.Listing.{listing};
@@ -13,16 +14,19 @@ ghost use Rattle.x10_asm.specs.Sources.{GivesAll, GivesImage, IsImageOf, IsSpell
 
 use crate::fault::{AsmCause, AsmFault};
 use crate::source::{Source, nothing_read};
-use crate::split::next_line;
+use crate::split::{next_line, next_word};
 use crate::stage::is_finished;
-use crate::statement::{Statement, line_of};
 use std::alloc::Global;
 use x10_image::{ImageFault, Module, write};
 
-fn is_class(statement: Statement) -> bool
-    ensures { result ≡ reading.is_class statement }
+/// Whether a line is a class's: by its first word alone.
+fn is_class(line: &str) -> bool
+    ensures { result ≡ reading.is_class (statement_in (words line.now)) }
 {
-    statement == Statement::Class
+    match next_word(line) {
+        Some((word, _)) => word == "class",
+        None => false,
+    }
 }
 
 /// How many lines of a text are classes. One pass.
@@ -32,7 +36,7 @@ pub fn classes_in(text: &str) -> usize
     let mut count = 0;
     let mut rest = text;
     while let Some((line, after)) = next_line(rest) {
-        if is_class(line_of(line).statement) {
+        if is_class(line) {
             count += 1;
         }
         rest = after;

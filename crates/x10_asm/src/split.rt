@@ -5,6 +5,8 @@ ghost use Rattle.std.specs.Option.{option_copied};
 ghost use Rattle.x10_asm.specs.Lines as spec;
 ghost use Rattle.x10_asm.specs.Lines.{lines, words, count_before, from_space};
 
+use memchr::memchr;
+
 /// How many bytes stand before the first of a value.
 fn position_of(bytes: &[u8], byte: u8) -> usize
     ensures at { result ≡ count_before byte bytes.now }
@@ -17,6 +19,18 @@ fn position_of(bytes: &[u8], byte: u8) -> usize
         }
     }
     bytes.len()
+}
+
+/// How many bytes stand before the first line feed.
+fn line_end(bytes: &[u8]) -> usize
+    ensures at { result ≡ count_before 10 bytes.now }
+    ensures within { result ≤ length bytes.now }
+    ensures there { result < length bytes.now → slice_index bytes.now result ≡ 10 }
+{
+    match memchr(b'\n', bytes) {
+        Some(at) => at,
+        None => bytes.len(),
+    }
 }
 
 /// Whether a text begins with a byte.
@@ -82,7 +96,7 @@ pub fn next_line(text: &str) -> Option<(&str, &str)>
     if text.is_empty() {
         return None;
     }
-    let end = position_of(text.as_bytes(), b'\n');
+    let end = line_end(text.as_bytes());
     if end == text.len() {
         return Some((text, ""));
     }

@@ -1,9 +1,10 @@
 //! What a line says, by its first word.
 
-ghost use Rattle.std.specs.Prelude.{◌≡◌, IsUtf8};
+ghost use Rattle.std.specs.Prelude.{◌≡◌, false, IsUtf8};
 ghost use Rattle.x10_code.specs.Table.{op_of_name};
 ghost use Rattle.x10_asm.specs.Lines as spec;
 ghost use Rattle.x10_asm.specs.Lines.{words};
+ghost use Rattle.x10_asm.specs.Labels as labels;
 ghost use Rattle.x10_asm.specs.Statements as statements;
 ghost use Rattle.x10_asm.specs.Statements.{first_word, other_words};
 
@@ -44,26 +45,22 @@ fn named(word: &str) -> Option<Op>
     op_named(word)
 }
 
-fn label_or_instruction(word: &str) -> Statement
-    ensures { result ≡ statements.label_or_instruction word.now }
+fn instruction_or_unknown(word: &str) -> Statement
+    ensures { result ≡ statements.instruction_or_unknown (op_of_name word.now) }
 {
-    if ends_in_colon(word) {
-        return Statement::Label;
-    }
     match named(word) {
         Some(op) => Statement::Instruction(op),
         None => Statement::Unknown,
     }
 }
 
-/// The statement that a first word begins.
+/// The statement that a word begins which is no comment's and no label's, each word compared in turn.
 #[tactic(auto, unfolding(crate::specs::Statements::statement_of))]
-fn statement_of(word: &str) -> Statement
+fn keyword(word: &str) -> Statement
+    requires comment { spec.begins 59 word.now ≡ false }
+    requires label { labels.ends_in_colon word.now ≡ false }
     ensures { result ≡ statements.statement_of word.now }
 {
-    if begins(word, b';') {
-        return Statement::Silent;
-    }
     if word == "places" {
         return Statement::Places;
     }
@@ -85,7 +82,33 @@ fn statement_of(word: &str) -> Statement
     if word == "entry" {
         return Statement::Entry;
     }
-    label_or_instruction(word)
+    instruction_or_unknown(word)
+}
+
+/// Whether a word begins with a byte below the small letters, as the names of operations do and none of the other words
+/// that begin a line.
+fn begins_name(word: &str) -> bool
+    ensures { result ≡ statements.begins_name word.now }
+{
+    let bytes = word.as_bytes();
+    !bytes.is_empty() && bytes[0] < b'a'
+}
+
+/// The statement that a first word begins. Labels and operations, which most lines begin with, are told first.
+#[tactic(auto, unfolding(crate::specs::Statements::statement_of))]
+fn statement_of(word: &str) -> Statement
+    ensures { result ≡ statements.statement_of word.now }
+{
+    if begins(word, b';') {
+        return Statement::Silent;
+    }
+    if ends_in_colon(word) {
+        return Statement::Label;
+    }
+    if begins_name(word) {
+        return instruction_or_unknown(word);
+    }
+    keyword(word)
 }
 
 /// A line: what it says, its first word, and what follows that.
