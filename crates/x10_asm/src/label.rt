@@ -1,11 +1,13 @@
 //! Labels: names of instructions inside a function.
 
-ghost use Rattle.std.specs.Prelude.{List, ◌≡◌, ◌+◌, ◌<◌, ◌≤◌, ◌^◌, true, length, OnOk, IfOk, ◌++◌, ◌∷◌, []};
+ghost use Rattle.std.specs.Prelude.{List, ◌≡◌, ◌+◌, ◌<◌, ◌≤◌, ◌^◌, true, length, OnOk, IfOk, ◌++◌, ◌∷◌, [], slice_index};
+ghost use Rattle.std.specs.Option.{option_map};
 ghost use Rattle.std.specs.List.{list_all};
 ghost use Rattle.x10_asm.specs.Lines.{lines};
 ghost use Rattle.x10_asm.specs.Labels as labels;
 ghost use Rattle.x10_asm.specs.declared.statement.Statement.TheVariants.{Label};
 ghost use Rattle.x10_asm.specs.LabelLines as labelled;
+ghost use Rattle.x10_asm.specs.Tables as tables;
 ghost use Rattle.x10_asm.specs.Tables.{IsTable};
 
 use crate::split::next_line;
@@ -73,23 +75,68 @@ fn counted(index: u32) -> u32
     (index + 1).min(u32::from(MOST_INSTRUCTIONS))
 }
 
-/// Adds a label, unless its name is there.
+/// A byte of a name; behind its end 0.
+fn byte_at(bytes: &[u8], at: usize) -> u64
+    ensures value { result ≡ slice_index bytes.now at }
+    ensures small { result < 256 }
+{
+    if at < bytes.len() {
+        u64::from(bytes[at])
+    } else {
+        0
+    }
+}
+
+/// Four bytes as a number, the first of them the highest.
+fn quad(bytes: &[u8], at: usize) -> u64
+    requires { at ≤ 4 }
+    ensures value { result ≡ tables.quad bytes.now at }
+    ensures small { result < 2 ^ 32 }
+{
+    16_777_216 * byte_at(bytes, at)
+        + 65_536 * byte_at(bytes, at + 1)
+        + 256 * byte_at(bytes, at + 2)
+        + byte_at(bytes, at + 3)
+}
+
+/// The first eight bytes of a name as a number.
+#[tactic(auto, unfolding(crate::specs::Tables::front))]
+fn front(name: &str) -> u64
+    ensures { result ≡ tables.front name.now }
+{
+    let bytes = name.as_bytes();
+    4_294_967_296 * quad(bytes, 0) + quad(bytes, 4)
+}
+
+/// Labels by their names, each with its front before it, since one comparison of numbers mostly tells two names apart.
+pub type Table<'a> = BTreeMap<(u64, &'a str), Definition>;
+
+/// What a name defines.
+pub fn definition_of<'a>(table: &Table<'a>, name: &'a str) -> Option<Definition>
+    ensures { (all : List labels.Label) → IsTable table.now all → result ≡ option_map tables.definition_of (labels.label_of all name.now) }
+{
+    let key = (front(name), name);
+    table.get(&key).copied()
+}
+
+/// Adds a label, unless its name is there: then the first one of that name is put back.
 fn define<'a>(
-    table: &mut BTreeMap<&'a str, Definition>,
+    table: &mut Table<'a>,
     name: &'a str,
     definition: Definition,
 ) -> Result<(), AllocError>
     ensures { OnOk result ((all : List labels.Label) → IsTable table.old all → IsTable table.new (all ++ record { name = name.now; line = definition.line; index = definition.index } ∷ [])) }
 {
-    if !table.contains_key(name) {
-        table.insert(name, definition)?;
+    let front = front(name);
+    if let Some(first) = table.insert((front, name), definition)? {
+        table.insert((front, name), first)?;
     }
     Ok(())
 }
 
 /// Adds the label that a line defines, if it defines one.
 fn define_by<'a>(
-    table: &mut BTreeMap<&'a str, Definition>,
+    table: &mut Table<'a>,
     line: Line<'a>,
     definition: Definition,
 ) -> Result<(), AllocError>
@@ -131,7 +178,7 @@ pub fn labels_of<'a>(
     alloc: Global,
     number: usize,
     text: &'a str,
-) -> Result<BTreeMap<&'a str, Definition>, AllocError>
+) -> Result<Table<'a>, AllocError>
     requires { number + length text.now < 2 ^ 64 }
     ensures { IfOk result (λ m. IsTable m (labelled.labels_from number 0 (lines text.now))) }
 {

@@ -14,13 +14,12 @@ ghost use Rattle.x10_asm.specs.Tables.{IsTable};
 
 use crate::fault::AsmCause;
 use crate::kind::{are_fields, are_slots, fields_of, result_is_known, result_of, slots_of};
-use crate::label::{Definition, label_name};
+use crate::label::{Table, definition_of, label_name};
 use crate::literal::literal;
 use crate::number::{no_more, number_at, one_int, one_number};
 use crate::split::{after_spaces, next_word};
 use crate::stage::{Stage, takes_func, takes_int, takes_text};
 use std::alloc::Global;
-use std::collections::BTreeMap;
 use x10_image::{Function, signature_fits};
 use x10_kinds::Kind;
 use x10_model::limits::{MOST_ENTRIES, MOST_FIELDS, MOST_FUNCTIONS, MOST_PLACES};
@@ -204,10 +203,10 @@ pub fn entry_of(stage: Stage, functions: &[Function], line: &str) -> Result<u16,
 }
 
 /// Whether a label's name is defined by this line, and by none before in the function.
-fn is_defined_at(table: &BTreeMap<&str, Definition>, name: &str, number: usize) -> bool
+fn is_defined_at<'a>(table: &Table<'a>, name: &'a str, number: usize) -> bool
     ensures { (all : List labels.Label) → IsTable table.now all → result ≡ reading.is_defined_at number (labels.label_of all name.now) }
 {
-    match table.get(name) {
+    match definition_of(table, name) {
         Some(definition) => definition.line == number,
         None => false,
     }
@@ -215,11 +214,11 @@ fn is_defined_at(table: &BTreeMap<&str, Definition>, name: &str, number: usize) 
 
 /// A label, by its name.
 #[tactic(auto, unfolding(crate::specs::Reading::label_at))]
-pub fn label_at(
+pub fn label_at<'a>(
     stage: Stage,
-    table: &BTreeMap<&str, Definition>,
+    table: &Table<'a>,
     number: usize,
-    word: &str,
+    word: &'a str,
     line: &str,
 ) -> Result<(), AsmCause>
     requires { labels.ends_in_colon word.now ≡ true }

@@ -11,10 +11,9 @@ ghost use Rattle.x10_asm.specs.Operands.{Last};
 ghost use Rattle.x10_asm.specs.Tables.{IsTable};
 
 use crate::fault::AsmCause;
-use crate::label::Definition;
+use crate::label::{Table, definition_of};
 use crate::number::{no_more, number_at};
 use crate::split::{next_word, stripped};
-use std::collections::BTreeMap;
 use x10_code::{Instr, Op, Operand, form};
 use x10_model::limits::MOST_INSTRUCTIONS;
 
@@ -59,9 +58,9 @@ pub fn last_at(line: &str, operand: Operand) -> Result<(Option<&str>, u32, &str)
 }
 
 /// The index that a label's name stands for, or the number itself.
-fn resolved(
-    table: &BTreeMap<&str, Definition>,
-    name: Option<&str>,
+fn resolved<'a>(
+    table: &Table<'a>,
+    name: Option<&'a str>,
     number: u32,
 ) -> Result<u32, AsmCause>
     ensures { (all : List labels.Label) → IsTable table.now all → result ≡ operands.resolved all (option_copied name.entry) number }
@@ -69,7 +68,7 @@ fn resolved(
     let Some(name) = name else {
         return Ok(number);
     };
-    match table.get(name) {
+    match definition_of(table, name) {
         Some(definition) => Ok(definition.index),
         None => Err(AsmCause::Label),
     }
@@ -78,12 +77,12 @@ fn resolved(
 /// The instruction of an operation and operand words, in a function with these labels and so many
 /// instructions before it.
 #[tactic(auto, unfolding(crate::specs::Operands::instruction_of))]
-pub fn instruction_of(
-    table: &BTreeMap<&str, Definition>,
+pub fn instruction_of<'a>(
+    table: &Table<'a>,
     is_inside: bool,
     count: usize,
     op: Op,
-    line: &str,
+    line: &'a str,
 ) -> Result<Instr, AsmCause>
     ensures { (all : List labels.Label) → IsTable table.now all → result ≡ operands.instruction_of all is_inside count op (words line.now) }
 {

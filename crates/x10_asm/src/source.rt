@@ -12,7 +12,7 @@ ghost use Rattle.x10_asm.specs.Lines as spec;
 ghost use Rattle.x10_asm.specs.Sources.{StandsFor, Takes};
 
 use crate::fault::AsmCause;
-use crate::label::{Definition, labels_of};
+use crate::label::{Table, labels_of};
 use crate::lines::{class_of, end_of, entry_of, func_of, int_of, label_at, places_of, text_of};
 use crate::operand::instruction_of;
 use crate::stage::{Stage, is_inside};
@@ -30,7 +30,7 @@ pub struct Source<'a> {
     pub stage: Stage,
     pub so_far: Module,
     pub function: Function,
-    pub labels: BTreeMap<&'a str, Definition>,
+    pub labels: Table<'a>,
 }
 
 fn no_function(alloc: Global) -> Function
@@ -123,7 +123,7 @@ impl<'a> Source<'a> {
         Ok(())
     }
 
-    fn take_instruction(&mut self, op: Op, line: &str) -> Result<(), AsmCause>
+    fn take_instruction(&mut self, op: Op, line: &'a str) -> Result<(), AsmCause>
         ensures { (s : reading.Source) → StandsFor self.old s → Takes self.new result (reading.with_instruction s (operands.instruction_of s.labels (reading.is_inside s.stage) (length s.function.code) op (words line.now))) }
     {
         let inside = is_inside(self.stage);
@@ -153,7 +153,7 @@ impl<'a> Source<'a> {
         Ok(())
     }
 
-    fn take_label(&self, number: usize, word: &str, line: &str) -> Result<(), AsmCause>
+    fn take_label(&self, number: usize, word: &'a str, line: &str) -> Result<(), AsmCause>
         requires { labels.ends_in_colon word.now ≡ true }
         ensures { (s : reading.Source) → StandsFor self.now s → Takes self.now result (reading.with_nothing s (reading.label_at s.stage s.labels number word.now (words line.now))) }
     {
