@@ -156,9 +156,9 @@ key_updates name key m n w ef en h = λ q. elim (cases_Bool (bytes_eq name q)) [
   | inl e ↦ ap (λ (t : List ℕ). get_by (key_cmp t) n) (sym ((bytes_eq-Decides name q).0 e)) ∙ sym (key_finds name key n ef en) ∙ h.1 ∙ sym (cond-true (bytes_eq name q) w (get_by (key_cmp q) m) e)
   | inr ne ↦
       other_entries (eq_by_cmp pair_cmp) (is_at (pair_cmp key)) m.entries n.entries h.3 (is_at (key_cmp q))
-        ((eq_by_cmp_equiv pair_total).congr (front q, record { ref_ptr = (0, 0); now = q }))
-        (λ k y. second_apart (nat_cmp (front q) k.0) (slice_cmp nat_cmp q k.1.now) (is_eq-slice_cmp q k.1.now
-          ∙ apart name q k.1.now ne (sym (is_eq-slice_cmp name k.1.now) ∙ ap (λ (t : List ℕ). is_eq (slice_cmp nat_cmp t k.1.now)) (sym en) ∙ second_tied (nat_cmp key.0 k.0) (slice_cmp nat_cmp key.1.now k.1.now) y)))
+      ((eq_by_cmp_equiv pair_total).congr (front q, record { ref_ptr = (0, 0); now = q }))
+      (λ k y. second_apart (nat_cmp (front q) k.0) (slice_cmp nat_cmp q k.1.now) (is_eq-slice_cmp q k.1.now
+      ∙ apart name q k.1.now ne (sym (is_eq-slice_cmp name k.1.now) ∙ ap (λ (t : List ℕ). is_eq (slice_cmp nat_cmp t k.1.now)) (sym en) ∙ second_tied (nat_cmp key.0 k.0) (slice_cmp nat_cmp key.1.now k.1.now) y)))
       ∙ sym (cond-false (bytes_eq name q) w (get_by (key_cmp q) m) ne)
 ]
 

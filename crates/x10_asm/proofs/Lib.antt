@@ -1,4 +1,5 @@
 pub mod Items
+pub mod Decimals
 pub mod Escapes
 pub mod Reached
 pub mod Splitting

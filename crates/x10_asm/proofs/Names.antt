@@ -2,7 +2,7 @@
 use Rattle.std.proofs.Common.{◌≡◌, ℕ, Bool, true, false, List, [], ◌∷◌, Option, Some, None, refl, sym, ap, ◌∙◌, inl, inr}
 use Rattle.std.specs.Prelude.{IfSome, if◌then◌else◌, codes}
 use Rattle.std.specs.Str.{bytes_eq}
-use Rattle.std.proofs.lemmas.Bool.{both_ways, false≢true, cases_Bool, cond-true, cond-false}
+use Rattle.std.proofs.lemmas.Bool.{both_ways, false≢true, cases_Bool, cond-true}
 use Rattle.std.proofs.lemmas.Slice.Eq.{bytes_eq-Decides}
 use Rattle.x10_code.specs.declared.op.Op.{Op}
 use Rattle.x10_code.specs.Table.{name_of, op_of_name}
@@ -84,8 +84,16 @@ pub no_keyword : (p : List ℕ → Bool) (word : List ℕ) → p word ≡ true �
     → statement_of word ≡ label_or_instruction word
 unfolding statement_of
 no_keyword p word passes comment places class int text func end entry =
-    rw (comment, not_word p word (codes "places") passes places, not_word p word (codes "class") passes class, not_word p word (codes "int") passes int, not_word p word (codes "text") passes text,
-      not_word p word (codes "func") passes func, not_word p word (codes "end") passes end, not_word p word (codes "entry") passes entry) refl
+    rw (
+      comment,
+      not_word p word (codes "places") passes places,
+      not_word p word (codes "class") passes class,
+      not_word p word (codes "int") passes int,
+      not_word p word (codes "text") passes text,
+      not_word p word (codes "func") passes func,
+      not_word p word (codes "end") passes end,
+      not_word p word (codes "entry") passes entry,
+    ) refl
 
 pub label_is : (word : List ℕ) → begins 59 word ≡ false → ends_in_colon word ≡ true → statement_of word ≡ Label
 label_is word comment colon = no_keyword ends_in_colon word colon comment refl refl refl refl refl refl refl ∙ cond-true (ends_in_colon word) Label (instruction_or_unknown (op_of_name word)) colon

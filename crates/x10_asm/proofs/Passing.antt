@@ -6,7 +6,6 @@ use Rattle.x10_asm.specs.declared.fault.AsmCause.{AsmCause}
 use Rattle.x10_asm.specs.declared.fault.AsmCause.TheVariants as cause
 use Rattle.x10_asm.specs.declared.fault.AsmFault.{AsmFault}
 use Rattle.x10_asm.specs.declared.source.Source.{Source}
-use Rattle.x10_asm.specs.declared.statement.Statement.{Statement}
 use Rattle.x10_asm.specs.Lines.{words}
 use Rattle.x10_asm.specs.Statements.{statement_in}
 use Rattle.x10_asm.specs.Reading as reading

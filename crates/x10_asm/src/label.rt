@@ -174,11 +174,7 @@ fn ends_labels(statement: Statement) -> bool
 
 /// The labels of the function whose lines follow, from the number of the first of them on. One pass
 /// over the lines of the function.
-pub fn labels_of<'a>(
-    alloc: Global,
-    number: usize,
-    text: &'a str,
-) -> Result<Table<'a>, AllocError>
+pub fn labels_of<'a>(alloc: Global, number: usize, text: &'a str) -> Result<Table<'a>, AllocError>
     requires { number + length text.now < 2 ^ 64 }
     ensures { IfOk result (λ m. IsTable m (labelled.labels_from number 0 (lines text.now))) }
 {

@@ -23,7 +23,7 @@ fn push_places(out: &mut String, places: u16) -> Result<(), AllocError>
 {
     out.push_str("places")?;
     push_number(out, u64::from(places))?;
-    out.push_str("\n")?;
+    out.push('\n')?;
     Ok(())
 }
 
@@ -33,7 +33,7 @@ fn push_entry(out: &mut String, entry: u16) -> Result<(), AllocError>
 {
     out.push_str("entry")?;
     push_number(out, u64::from(entry))?;
-    out.push_str("\n")?;
+    out.push('\n')?;
     Ok(())
 }
 
@@ -52,7 +52,7 @@ fn push_class(out: &mut String, class: &ClassView<'_>) -> Result<(), AllocError>
 {
     out.push_str("class")?;
     push_kinds(out, class)?;
-    out.push_str("\n")?;
+    out.push('\n')?;
     Ok(())
 }
 
@@ -62,7 +62,7 @@ fn push_int_line(out: &mut String, int: i64) -> Result<(), AllocError>
 {
     out.push_str("int")?;
     push_int(out, int)?;
-    out.push_str("\n")?;
+    out.push('\n')?;
     Ok(())
 }
 
@@ -72,7 +72,7 @@ fn push_text(out: &mut String, text: &str) -> Result<(), AllocError>
 {
     out.push_str("text")?;
     push_quoted(out, text)?;
-    out.push_str("\n")?;
+    out.push('\n')?;
     Ok(())
 }
 
@@ -94,7 +94,7 @@ fn push_func(out: &mut String, signature: &SigView<'_>) -> Result<(), AllocError
     push_number(out, u64::from(signature.loops()))?;
     push_result(out, signature.result())?;
     push_slots(out, signature)?;
-    out.push_str("\n")?;
+    out.push('\n')?;
     Ok(())
 }
 
@@ -126,7 +126,7 @@ pub fn push_instruction(out: &mut String, instr: Instr) -> Result<(), AllocError
 {
     out.push_str(name(instr.op))?;
     push_operands(out, instr)?;
-    out.push_str("\n")?;
+    out.push('\n')?;
     Ok(())
 }
 

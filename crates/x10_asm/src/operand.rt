@@ -58,11 +58,7 @@ pub fn last_at(line: &str, operand: Operand) -> Result<(Option<&str>, u32, &str)
 }
 
 /// The index that a label's name stands for, or the number itself.
-fn resolved<'a>(
-    table: &Table<'a>,
-    name: Option<&'a str>,
-    number: u32,
-) -> Result<u32, AsmCause>
+fn resolved<'a>(table: &Table<'a>, name: Option<&'a str>, number: u32) -> Result<u32, AsmCause>
     ensures { (all : List labels.Label) → IsTable table.now all → result ≡ operands.resolved all (option_copied name.entry) number }
 {
     let Some(name) = name else {

@@ -1,6 +1,6 @@
 //! Words of a listing, each pushed with the space before it.
 
-ghost use Rattle.std.specs.Prelude.{◌≡◌, OnOk, ◌++◌, ◌∷◌, decimal, codes};
+ghost use Rattle.std.specs.Prelude.{◌≡◌, OnOk, ◌++◌, ◌∷◌, [], ◌+◌, ◌<◌, decimal, codes};
 ghost use Rattle.std.specs.Fmt.{signed_decimal};
 ghost use Rattle.std.specs.String.{string_bytes};
 ghost use Rattle.x10_asm.specs.Listing.{spaced, kind_word, slot_word, result_word};
@@ -14,14 +14,30 @@ use x10_model::Slot;
 pub fn push_word(out: &mut String, word: &str) -> Result<(), AllocError>
     ensures { OnOk result (string_bytes out.new ≡ string_bytes out.old ++ spaced word.now) }
 {
-    out.push_str(" ")?;
+    out.push(' ')?;
     out.push_str(word)?;
     Ok(())
 }
 
+fn push_digit(out: &mut String, digit: u64) -> Result<(), AllocError>
+    requires { digit < 10 }
+    ensures { OnOk result (string_bytes out.new ≡ string_bytes out.old ++ (48 + digit) ∷ []) }
+{
+    out.push(char::from(b'0' + digit as u8))?;
+    Ok(())
+}
+
+/// Pushes a number, one of two digits at most, as most are, without a buffer.
 fn push_decimal(out: &mut String, number: u64) -> Result<(), AllocError>
     ensures { OnOk result (string_bytes out.new ≡ string_bytes out.old ++ decimal number) }
 {
+    if number < 10 {
+        return push_digit(out, number);
+    }
+    if number < 100 {
+        push_digit(out, number / 10)?;
+        return push_digit(out, number % 10);
+    }
     out.push_str(Buffer::new().format(number))?;
     Ok(())
 }
@@ -30,7 +46,7 @@ fn push_decimal(out: &mut String, number: u64) -> Result<(), AllocError>
 pub fn push_number(out: &mut String, number: u64) -> Result<(), AllocError>
     ensures { OnOk result (string_bytes out.new ≡ string_bytes out.old ++ spaced (decimal number)) }
 {
-    out.push_str(" ")?;
+    out.push(' ')?;
     push_decimal(out, number)?;
     Ok(())
 }

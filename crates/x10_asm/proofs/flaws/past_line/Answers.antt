@@ -1,4 +1,3 @@
-use Rattle.std.proofs.Common.{◌≡◌}
 use Rattle.std.proofs.lemmas.Result.{IfErr-weaker}
 use Rattle.x10_asm.proofs.FlawedLines.{flawed_places, flawed_class, flawed_int, flawed_text, flawed_func, flawed_end, flawed_entry, flawed_label, flawed_instruction, flawed_unknown}
 use Rattle.x10_asm.proofs.flaws.past_line.Goals as goal
