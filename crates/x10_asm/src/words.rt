@@ -27,7 +27,16 @@ fn push_digit(out: &mut String, digit: u64) -> Result<(), AllocError>
     Ok(())
 }
 
-/// Pushes a number, one of two digits at most, as most are, without a buffer.
+/// Pushes a number by way of a buffer.
+fn push_formatted(out: &mut String, number: u64) -> Result<(), AllocError>
+    ensures { OnOk result (string_bytes out.new ≡ string_bytes out.old ++ decimal number) }
+{
+    out.push_str(Buffer::new().format(number))?;
+    Ok(())
+}
+
+/// Pushes a number; one of two digits at most, as most are, without a buffer.
+#[inline(always)]
 fn push_decimal(out: &mut String, number: u64) -> Result<(), AllocError>
     ensures { OnOk result (string_bytes out.new ≡ string_bytes out.old ++ decimal number) }
 {
@@ -38,8 +47,7 @@ fn push_decimal(out: &mut String, number: u64) -> Result<(), AllocError>
         push_digit(out, number / 10)?;
         return push_digit(out, number % 10);
     }
-    out.push_str(Buffer::new().format(number))?;
-    Ok(())
+    push_formatted(out, number)
 }
 
 /// Pushes a space and a number.

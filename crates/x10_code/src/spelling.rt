@@ -48,6 +48,7 @@ fn read(bytes: &[u8]) -> Result<Instr, CodeFault>
     }
 }
 
+#[inline(always)]
 fn checked(instr: Instr) -> Result<Instr, CodeFault>
     ensures { result ≡ fitted instr }
 {
@@ -69,6 +70,7 @@ pub fn encode(instr: Instr) -> [u8; 8]
 }
 
 /// Whether the operands that an instruction's form doesn't use are 0, as `encode` asks.
+#[inline(always)]
 pub fn has_spelling(instr: Instr) -> bool
     ensures value { result ≡ fits_form instr }
 {
@@ -79,6 +81,7 @@ pub fn has_spelling(instr: Instr) -> bool
         && is_fit(form.x, instr.x)
 }
 
+#[inline(always)]
 fn is_fit(operand: Operand, value: u32) -> bool
     ensures { result ≡ fits_operand operand value }
 {
