@@ -1,18 +1,19 @@
 -- Operations by their names, and what first words say.
-use Rattle.std.proofs.Common.{◌≡◌, ℕ, Bool, true, false, List, [], ◌∷◌, Option, Some, None, refl, sym, ap, ◌∙◌, inl, inr}
-use Rattle.std.specs.Prelude.{IfSome, if◌then◌else◌, codes}
+use Rattle.std.proofs.Common.{◌≡◌, ℕ, Bool, true, false, List, [], ◌∷◌, Option, Some, None, refl, sym, ap, ◌∙◌, inl, inr, length, arith}
+use Rattle.std.specs.Prelude.{IfSome, if◌then◌else◌, codes, not}
 use Rattle.std.specs.Str.{bytes_eq}
-use Rattle.std.proofs.lemmas.Bool.{both_ways, false≢true, cases_Bool, cond-true}
+use Rattle.std.proofs.lemmas.Bool.{both_ways, false≢true, cases_Bool, cases_eq, cond-true}
 use Rattle.std.proofs.lemmas.Slice.Eq.{bytes_eq-Decides}
 use Rattle.x10_code.specs.declared.op.Op.{Op}
 use Rattle.x10_code.specs.Table.{name_of, op_of_name}
 use Rattle.x10_code.proofs.Operations.{op_of_name-name_of, name_of-op_of_name}
 use Rattle.x10_asm.specs.declared.statement.Statement.{Statement}
 use Rattle.x10_asm.specs.declared.statement.Statement.TheVariants.{Silent, Places, Class, Int, Text, Func, End, Entry, Label}
-use Rattle.x10_asm.specs.Lines.{begins, words}
+use Rattle.x10_asm.specs.Lines.{begins, words, after_spaces}
 use Rattle.x10_asm.specs.Labels.{ends_in_colon}
 use Rattle.x10_asm.specs.Statements.{statement_of, label_or_instruction, instruction_or_unknown, statement_in, first_word}
 use Rattle.x10_asm.specs.Reading.{is_class}
+use Rattle.x10_asm.proofs.Splitting.{begins_alike, no_words}
 
 none_named : (word : List ℕ) (r : Option Op) → op_of_name word ≡ r → ((o : Op) → word ≡ name_of o → ◌≡◌ {A = Option Op} None (Some o)) → ◌≡◌ {A = Option Op} None r
 none_named word None e only = refl
@@ -136,3 +137,13 @@ class_in word ws others e = class_is word ∙ ap (λ (t : List (List ℕ)). is_c
 
 pub no_class_in : (ws : List (List ℕ)) → ws ≡ [] → is_class (statement_in ws) ≡ false
 no_class_in ws e = ap (λ (t : List (List ℕ)). is_class (statement_in t)) e
+
+first_no_class : (ws : List (List ℕ)) → begins 99 (first_word ws) ≡ false → is_class (statement_in ws) ≡ false
+first_no_class [] e = refl
+first_no_class (w ∷ ws) e = sym (class_is w) ∙ not_word (λ t. not (begins 99 t)) w (codes "class") (ap not e) refl
+
+pub other_line : (line : List ℕ) → begins 99 (after_spaces line) ≡ false → is_class (statement_in (words line)) ≡ false
+other_line line e = elim (cases_eq (length (after_spaces line)) 0) [
+  | inl h ↦ no_class_in (words line) (no_words line h)
+  | inr some ↦ first_no_class (words line) (begins_alike 99 line (omega (arith, some)) ∙ e)
+]

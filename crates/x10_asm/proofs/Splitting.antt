@@ -6,6 +6,7 @@ use Rattle.std.proofs.lemmas.List.{drop_all}
 use Rattle.std.proofs.lemmas.Bool.{eqb-true, eqb-false, ne_eqb, eq-eqb, cases_Bool, cases_eq, cases_lt, and_from, and_left, and_right}
 use Rattle.memchr.specs.Find.{IsFirstByte, is_byte}
 use Rattle.x10_asm.specs.Lines.{grown, begins, lines, is_word_end, words, after_spaces, from_space, count_before, without_return}
+use Rattle.x10_asm.specs.Statements.{first_word}
 
 -- ---- counting
 
@@ -112,6 +113,14 @@ word_first c (d ∷ ds) ne = elim (cases_eq d 32) [
 -- the word at the front of a text, and what follows it
 pub words_front : (cs : List ℕ) → BeginsWord cs → words cs ≡ take (count_before 32 cs) cs ∷ words (drop (count_before 32 cs) cs)
 words_front cs b = rw b.is (word_first b.first b.others b.no_space)
+
+-- the first word of a line begins as the line does behind its spaces
+pub begins_alike : (k : ℕ) (line : List ℕ) → 0 < length (after_spaces line) → begins k (first_word (words line)) ≡ begins k (after_spaces line)
+begins_alike k line some =
+    let b = begins_word line some in
+    ap (λ (ws : List (List ℕ)). begins k (first_word ws)) (words_after_spaces line ∙ ap words b.is ∙ word_first b.first b.others b.no_space)
+    ∙ ap (λ (n : ℕ). begins k (take n (b.first ∷ b.others))) (count_next 32 b.first b.others b.no_space)
+    ∙ sym (ap (begins k) b.is)
 
 pub no_words : (cs : List ℕ) → length (after_spaces cs) ≡ 0 → words cs ≡ []
 unfolding words

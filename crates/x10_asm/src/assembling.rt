@@ -14,19 +14,26 @@ ghost use Rattle.x10_asm.specs.Sources.{GivesAll, GivesImage, IsImageOf, IsSpell
 
 use crate::fault::{AsmCause, AsmFault};
 use crate::source::{Source, nothing_read};
-use crate::split::{next_line, next_word};
+use crate::split::{after_spaces, begins, next_line, next_word};
 use crate::stage::is_finished;
 use std::alloc::Global;
 use x10_image::{ImageFault, Module, write};
 
-/// Whether a line is a class's: by its first word alone.
-fn is_class(line: &str) -> bool
+/// Whether the first word of a line is a class's.
+fn names_class(line: &str) -> bool
     ensures { result ≡ reading.is_class (statement_in (words line.now)) }
 {
     match next_word(line) {
         Some((word, _)) => word == "class",
         None => false,
     }
+}
+
+/// Whether a line is a class's: by its first word, which is only looked for where the first byte is that of `class`.
+fn is_class(line: &str) -> bool
+    ensures { result ≡ reading.is_class (statement_in (words line.now)) }
+{
+    begins(after_spaces(line), b'c') && names_class(line)
 }
 
 /// How many lines of a text are classes. One pass.
