@@ -35,7 +35,7 @@ impl Model for Flow {
 
 /// Looks at one function by itself: whether all that it names is there, and then the flow. The fault is the one that
 /// `verify` tells where the module's structure holds and nothing before this function is at fault. What `verify` asks of
-/// structure isn't looked at. The time is that of `verify` for this function alone; 0.5 kB for each instruction of it.
+/// structure isn't looked at. The time is that of `verify` for this function alone; 0.4 kB for each instruction of it.
 pub fn known_flow(alloc: Global, image: &ImageView, f: usize) -> Result<Flow, AllocError>
     requires { f < length image.now.functions }
     ensures { IfOk result (λ flow. (function : Function) → function_at image.now f ≡ Some function → Judges flow.fault image.now f function flow.table) }

@@ -95,7 +95,7 @@ pub(crate) fn arrive(table: &mut Vec<Entry>, target: usize, known: &Known) -> bo
     table[target].receive(known)
 }
 
-/// A table for functions of so many instructions. 0.5 kB for each.
+/// A table for functions of so many instructions. 0.4 kB for each.
 pub(crate) fn blank(alloc: Global, len: usize) -> Result<Vec<Entry>, AllocError>
     ensures fresh { IfOk result (λ table. IsFresh table.items) }
     ensures size { IfOk result (λ table. length table.items ≡ len) }

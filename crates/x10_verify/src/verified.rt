@@ -45,7 +45,7 @@ impl<'a> Model for Verified<'a> {
 }
 
 /// Verifies a module: memory aside, yes exactly where its structure holds, all that it names is there and each function
-/// has a consistent assignment. Takes 32 bytes for each function and one for each instruction and, while it works, 0.5 kB
+/// has a consistent assignment. Takes 32 bytes for each function and one for each instruction and, while it works, 0.4 kB
 /// for each instruction of the longest function; and time linear in the instructions, but for those in loops that are
 /// looked at again: as often as what is known before them changes.
 pub fn verify<'a>(alloc: Global, image: ImageView<'a>) -> Result<Verified<'a>, VerifyFault>
