@@ -1,4 +1,5 @@
 use crate::listing::{WHOLE, image};
+use crate::sources::assembled;
 use std::test::*;
 use x10_asm::{AsmCause, assemble};
 
@@ -16,7 +17,7 @@ fn want_of_memory(rt: HostRuntime) {
 
 #[test]
 fn a_listing_is_assembled(rt: HostRuntime) -> Result<(), Fail> {
-    let bytes = assemble(rt.alloc(), WHOLE)?;
+    let bytes = assembled(rt.alloc(), WHOLE)?;
     assert!(rt; bytes.as_slice() == image(&rt)?.as_slice());
     Ok(())
 }

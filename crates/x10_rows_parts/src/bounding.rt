@@ -1,10 +1,11 @@
 //! Bounds and regions, and which instructions print a text.
+use crate::sources::{assembled, image_of, verified_of};
+use std::alloc::Global;
 use std::test::*;
-use x10_asm::assemble;
 use x10_bounds::BoundCause::{CallOrder, Jump, LoopSlot, Memory, Nesting, TooLarge};
 use x10_bounds::{BoundFault, Region, bounds, regions};
 use x10_image::ImageView;
-use x10_verify::verify;
+use x10_verify::Verified;
 
 /// A function without a region, a loop in a loop, and a loop in a finish.
 const REGIONS: &str = "places 1
@@ -41,24 +42,33 @@ fn region(opener: u16, closer: u16, limit: u32) -> Region {
     }
 }
 
+/// Whether these are the bounds of the functions.
+fn are_bounds(alloc: Global, view: &ImageView, wanted: &[u64]) -> Result<bool, Fail> {
+    Ok(bounds(alloc, view)?.as_slice() == wanted)
+}
+
+/// The regions of all functions, one function after another, of a module that has bounds.
+fn all_regions(alloc: Global, view: &ImageView) -> Result<Vec<Region>, Fail> {
+    bounds(alloc, view)?;
+    let mut found = Vec::new(alloc);
+    for f in 0..view.functions() {
+        found.extend_from_slice(regions(alloc, view, f)?.as_slice())?;
+    }
+    Ok(found)
+}
+
 #[test]
 fn regions_by_their_openers(rt: HostRuntime) -> Result<(), Fail> {
-    let image = assemble(rt.alloc(), REGIONS)?;
-    let view = ImageView::read(rt.alloc(), &image)?;
-    let bounds = bounds(rt.alloc(), &view)?;
-    assert_eq!(rt; *bounds.as_slice(), *[2, 34, 7].as_slice());
-    let mut found = Vec::new(rt.alloc());
-    for f in 0..view.functions() {
-        for region in regions(rt.alloc(), &view, f)?.as_slice() {
-            found.push(*region)?;
-        }
-    }
-    let loops = [region(1, 5, 3), region(2, 4, 4)];
-    let finish = [region(0, 3, 1), region(1, 2, 3)];
-    assert_eq!(rt;
-        found.as_slice(),
-        [loops, finish].concat(rt.alloc())?.as_slice()
-    );
+    let image = assembled(rt.alloc(), REGIONS)?;
+    let view = image_of(rt.alloc(), &image)?;
+    assert!(rt; are_bounds(rt.alloc(), &view, &[2, 34, 7])?);
+    let wanted = [
+        region(1, 5, 3),
+        region(2, 4, 4),
+        region(0, 3, 1),
+        region(1, 2, 3),
+    ];
+    assert!(rt; all_regions(rt.alloc(), &view)?.as_slice() == wanted.as_slice());
     Ok(())
 }
 
@@ -99,16 +109,21 @@ end
 entry 0
 ";
 
+/// Whether an instruction prints a text.
+fn prints(verified: &Verified, f: usize, pc: usize) -> bool {
+    verified.prints_text(f, pc)
+}
+
 #[test]
 fn what_prints_a_text(rt: HostRuntime) -> Result<(), Fail> {
-    let image = assemble(rt.alloc(), PRINTS)?;
-    let verified = verify(rt.alloc(), ImageView::read(rt.alloc(), &image)?)?;
+    let image = assembled(rt.alloc(), PRINTS)?;
+    let verified = verified_of(rt.alloc(), &image)?;
     verified.assignments();
     for pc in 0..9 {
-        assert_eq!(rt; verified.prints_text(0, pc), pc == 1);
+        assert!(rt; prints(&verified, 0, pc) == (pc == 1), "{pc}");
     }
     for (f, pc) in [(0, usize::MAX), (1, 1), (usize::MAX, 1)] {
-        assert!(rt; !verified.prints_text(f, pc));
+        assert!(rt; !prints(&verified, f, pc));
     }
     Ok(())
 }

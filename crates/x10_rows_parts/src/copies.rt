@@ -1,4 +1,5 @@
 //! What a message takes along, and that it arrives.
+use crate::sources::{assembled, image_of};
 use std::alloc::Global;
 use std::process::Abort;
 use std::test::*;
@@ -84,9 +85,21 @@ pub(crate) fn here(class: u16) -> Slot {
     }
 }
 
-/// The frame as a slice, of which a proof sees the type alone.
+/// The frame as a slice, of which a proof sees the type alone; so the objects, and the words here and there.
 fn shared() -> &'static [u8] {
     &SHARED
+}
+
+fn objects() -> &'static [(u16, &'static [u64])] {
+    OBJECTS
+}
+
+fn words() -> &'static [u64] {
+    &WORDS
+}
+
+fn words_there() -> &'static [u64] {
+    &WORDS_THERE
 }
 
 /// The frame of a new activity at place 1 that takes the words along.
@@ -206,8 +219,8 @@ pub(crate) fn counts(heap: &Heap) -> (usize, usize, usize) {
 
 #[test]
 fn a_cycle_goes_along(rt: HostRuntime) -> Result<(), Fail> {
-    let bytes = assemble(rt.alloc(), CLASSES)?;
-    let image = ImageView::read(rt.alloc(), &bytes)?;
+    let bytes = assembled(rt.alloc(), CLASSES)?;
+    let image = image_of(rt.alloc(), &bytes)?;
     let heap = sender(rt.alloc(), &rt)?;
     let slots = [slot(Kind::Obj(0))];
     assert!(rt; sends(rt.alloc(), &rt, &heap, &image, &slots, &[3], &CYCLE)?);
@@ -216,8 +229,8 @@ fn a_cycle_goes_along(rt: HostRuntime) -> Result<(), Fail> {
 
 #[test]
 fn a_cycle_arrives(rt: HostRuntime) -> Result<(), Fail> {
-    let bytes = assemble(rt.alloc(), CLASSES)?;
-    let image = ImageView::read(rt.alloc(), &bytes)?;
+    let bytes = assembled(rt.alloc(), CLASSES)?;
+    let image = image_of(rt.alloc(), &bytes)?;
     let mut heap = receiver(rt.alloc(), &rt)?;
     let slots = [slot(Kind::Obj(0))];
     assert!(rt; brings(rt.alloc(), &mut heap, &image, &CYCLE, &slots, &[2]));
@@ -227,8 +240,8 @@ fn a_cycle_arrives(rt: HostRuntime) -> Result<(), Fail> {
 
 #[test]
 fn another_kind_is_refused(rt: HostRuntime) -> Result<(), Fail> {
-    let bytes = assemble(rt.alloc(), CLASSES)?;
-    let image = ImageView::read(rt.alloc(), &bytes)?;
+    let bytes = assembled(rt.alloc(), CLASSES)?;
+    let image = image_of(rt.alloc(), &bytes)?;
     let mut heap = receiver(rt.alloc(), &rt)?;
     let slots = [slot(Kind::Obj(1))];
     let why = refusal(rt.alloc(), &mut heap, &image, &CYCLE, &slots);
@@ -259,7 +272,7 @@ fn mixed_slots() -> [Slot; 16] {
 
 /// Parts that are shared, objects that lead back to themselves, and parts that nothing reaches.
 fn mixed(alloc: Global, rt: &impl Abort) -> Result<Heap, Stop> {
-    heap_of(alloc, rt, &["unused", "same", "same"], &[1, 2], OBJECTS)
+    heap_of(alloc, rt, &["unused", "same", "same"], &[1, 2], objects())
 }
 
 /// An object of class 2, which global references name, a rail and a text.
@@ -285,18 +298,18 @@ fn sends_shared(
 fn goes_on(alloc: Global, rt: &impl Abort, image: &ImageView) -> Result<bool, Stop> {
     let mut heap = host(alloc, rt)?;
     let slots = mixed_slots();
-    assert!(rt; brings(alloc, &mut heap, image, shared(), &slots, &WORDS_THERE));
+    assert!(rt; brings(alloc, &mut heap, image, shared(), &slots, words_there()));
     assert!(rt; counts(&heap) == (6, 2, 3));
-    sends_shared(alloc, rt, &heap, image, &WORDS_THERE)
+    sends_shared(alloc, rt, &heap, image, words_there())
 }
 
 /// What is shared goes along once, arrives once, and would go along again in the same way.
 #[test]
 fn shared_parts_go_once(rt: HostRuntime) -> Result<(), Fail> {
-    let bytes = assemble(rt.alloc(), MIXED)?;
-    let image = ImageView::read(rt.alloc(), &bytes)?;
+    let bytes = assembled(rt.alloc(), MIXED)?;
+    let image = image_of(rt.alloc(), &bytes)?;
     let heap = mixed(rt.alloc(), &rt)?;
-    assert!(rt; sends_shared(rt.alloc(), &rt, &heap, &image, &WORDS)?);
+    assert!(rt; sends_shared(rt.alloc(), &rt, &heap, &image, words())?);
     assert!(rt; goes_on(rt.alloc(), &rt, &image)?);
     Ok(())
 }
@@ -310,11 +323,11 @@ fn is_captured(
     image: &ImageView,
 ) -> bool {
     let slots = mixed_slots();
-    match frame_with(alloc, rt, marks, heap, image, &slots, &WORDS) {
+    match frame_with(alloc, rt, marks, heap, image, &slots, words()) {
         Ok(frame) => frame.as_slice() == shared(),
         Err(why) => {
             assert!(rt; matches!(why, Stop::Memory));
-            match frame_with(alloc, rt, marks, heap, image, &slots, &WORDS) {
+            match frame_with(alloc, rt, marks, heap, image, &slots, words()) {
                 Ok(frame) => frame.as_slice() == shared(),
                 Err(_) => false,
             }

@@ -125,8 +125,7 @@ fn busy(alloc: Global) -> Result<Tally, Stop> {
 #[test]
 fn last_to_end_reports(rt: HostRuntime) -> Result<(), Fail> {
     let mut tally = busy(rt.alloc())?;
-    assert!(rt; live(&tally) == 2);
-    assert!(rt; end(&rt, &mut tally)?.is_none());
+    assert!(rt; live(&tally) == 2 && ends_quietly(&rt, &mut tally));
     let report = end(&rt, &mut tally)?.ok_or("no report")?;
     assert!(rt; is_report(&report, 2, &[0, 1, 0], &[1, 0, 0]));
     assert!(rt; live(&tally) == 0);
@@ -138,16 +137,35 @@ fn home(alloc: Global) -> Result<(Tally, Book), Stop> {
     Ok((Tally::new(alloc, 0, 3), Book::open(alloc, FINISH, 3)?))
 }
 
+/// Where a tally stands, and how many places it counts of.
+fn place_of(tally: &Tally) -> (u16, u16) {
+    (tally.place(), tally.places())
+}
+
+/// Of which finish a book is, and how many places it has numbers of.
+fn finish_of(book: &Book) -> (Finish, u16) {
+    (book.finish(), book.places())
+}
+
+/// An activity under the finish begins.
+fn begin(tally: &mut Tally) -> Result<(), Stop> {
+    tally.began(FINISH)
+}
+
+/// Whether an activity under the finish ends, and nothing is reported.
+fn ends_quietly(rt: &impl Abort, tally: &mut Tally) -> bool {
+    matches!(end(rt, tally), Ok(None))
+}
+
 #[test]
 fn home_reports_nothing(rt: HostRuntime) -> Result<(), Fail> {
     let (mut tally, book) = home(rt.alloc())?;
     assert!(rt; answers(&book, &tally) == (true, true));
-    tally.began(FINISH)?;
+    begin(&mut tally)?;
     assert!(rt; answers(&book, &tally) == (true, false));
-    assert!(rt; end(&rt, &mut tally)?.is_none());
+    assert!(rt; ends_quietly(&rt, &mut tally));
     assert!(rt; answers(&book, &tally) == (true, true));
-    assert!(rt; (tally.place(), tally.places()) == (0, 3));
-    assert!(rt; (book.finish(), book.places()) == (FINISH, 3));
+    assert!(rt; place_of(&tally) == (0, 3) && finish_of(&book) == (FINISH, 3));
     Ok(())
 }
 
@@ -173,19 +191,38 @@ fn counted(tally: &Tally, finish: Finish) -> (u32, usize, usize) {
     )
 }
 
-#[test]
-fn finishes_are_counted_apart(rt: HostRuntime) -> Result<(), Fail> {
-    let mut tally = Tally::new(rt.alloc(), 1, 4);
-    for finish in MET {
+/// The finishes as a slice, of which a proof sees the type alone.
+fn met() -> &'static [Finish] {
+    MET
+}
+
+/// Place 1 of four, which has met the finishes.
+fn meeting(alloc: Global, rt: &impl Abort) -> Result<Tally, Stop> {
+    let mut tally = Tally::new(alloc, 1, 4);
+    for finish in met() {
         tally.meet(*finish)?;
         assert!(rt; counted(&tally, *finish) == (0, 4, 4));
     }
+    Ok(tally)
+}
+
+/// Whether one activity lives under a finish, and none under the others that were met.
+fn lives_alone(tally: &Tally, begun: Finish) -> bool {
+    for finish in met() {
+        let live = u32::from(*finish == begun);
+        if counted(tally, *finish) != (live, 4, 4) {
+            return false;
+        }
+    }
+    true
+}
+
+#[test]
+fn finishes_are_counted_apart(rt: HostRuntime) -> Result<(), Fail> {
+    let mut tally = meeting(rt.alloc(), &rt)?;
     let begun = Finish { home: 1, number: 2 };
     tally.began(begun)?;
-    for finish in MET {
-        let live = u32::from(*finish == begun);
-        assert!(rt; counted(&tally, *finish) == (live, 4, 4));
-    }
+    assert!(rt; lives_alone(&tally, begun));
     assert!(rt; counted(&tally, Finish { home: 0, number: 8 }) == (0, 0, 0));
     Ok(())
 }
@@ -201,32 +238,69 @@ fn went(rt: &impl Abort, answer: Result<(), Stop>) -> bool {
     }
 }
 
+/// Whether the finish is met, an activity begun, or one came from place 0.
+fn meets(rt: &impl Abort, tally: &mut Tally) -> bool {
+    went(rt, tally.meet(FINISH))
+}
+
+fn begins(rt: &impl Abort, tally: &mut Tally) -> bool {
+    went(rt, tally.began(FINISH))
+}
+
+fn comes(rt: &impl Abort, tally: &mut Tally) -> bool {
+    assert!(rt; 0 < tally.places());
+    went(rt, tally.came(FINISH, 0))
+}
+
+/// How many came from place 0 under the finish.
+fn came(tally: &Tally) -> u32 {
+    tally.received(FINISH).first().copied().unwrap_or(0)
+}
+
+/// How many numbers are kept of what was sent under the finish.
+fn kept(tally: &Tally) -> usize {
+    tally.sent(FINISH).len()
+}
+
+/// An activity is begun and one comes, each one or none: how many live.
+fn filled(rt: &impl Abort, tally: &mut Tally) -> u32 {
+    let met = meets(rt, tally);
+    assert!(rt; kept(tally) == if met { 3 } else { 0 });
+    let begun = u32::from(begins(rt, tally));
+    assert!(rt; live(tally) == begun);
+    let new = u32::from(comes(rt, tally));
+    assert!(rt; live(tally) == begun.saturating_add(new) && came(tally) == new);
+    begun.saturating_add(new)
+}
+
+/// One of so many activities ends, or all live on where the report of the last was refused.
+fn one_ends(rt: &impl Abort, tally: &mut Tally, living: u32) {
+    let ended = end(rt, tally).is_ok();
+    assert!(rt; ended || living == 1);
+    let left = if ended {
+        living.saturating_sub(1)
+    } else {
+        living
+    };
+    assert!(rt; live(tally) == left);
+}
+
+/// Whether a book is opened that balances, or is refused for want of memory.
+fn opens(alloc: Global) -> bool {
+    match Book::open(alloc, FINISH, 3) {
+        Ok(book) => book.balanced(&Tally::new(alloc, 0, 3)),
+        Err(stop) => stop == Stop::Memory,
+    }
+}
+
 /// Every answer is right, or it is that a growth was refused and nothing has changed: to be run with each allocation
 /// failing in turn.
 #[test]
-fn refused_growth_changes_nothing(rt: HostRuntime) -> Result<(), Fail> {
-    let alloc = rt.alloc();
-    let mut tally = Tally::new(alloc, 1, 3);
-    let met = went(&rt, tally.meet(FINISH));
-    assert_eq!(rt; tally.sent(FINISH).len(), if met { 3 } else { 0 });
-    let began = went(&rt, tally.began(FINISH));
-    assert_eq!(rt; tally.live(FINISH), u32::from(began));
-    let came = went(&rt, tally.came(FINISH, 0));
-    let live = u32::from(began).saturating_add(u32::from(came));
-    assert_eq!(rt; tally.live(FINISH), live);
-    assert_eq!(rt;
-        tally.received(FINISH).first().copied().unwrap_or(0),
-        u32::from(came)
-    );
-    if tally.live(FINISH) > 0 {
-        let ended = tally.ended(FINISH).is_ok();
-        assert!(rt; ended || live == 1);
-        let left = if ended { live.saturating_sub(1) } else { live };
-        assert_eq!(rt; tally.live(FINISH), left);
+fn refused_growth_changes_nothing(rt: HostRuntime) {
+    let mut tally = Tally::new(rt.alloc(), 1, 3);
+    let living = filled(&rt, &mut tally);
+    if living > 0 {
+        one_ends(&rt, &mut tally, living);
     }
-    match Book::open(alloc, FINISH, 3) {
-        Ok(book) => assert!(rt; book.balanced(&Tally::new(alloc, 0, 3))),
-        Err(stop) => assert_eq!(rt; stop, Stop::Memory),
-    }
-    Ok(())
+    assert!(rt; opens(rt.alloc()));
 }

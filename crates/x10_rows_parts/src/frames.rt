@@ -1,6 +1,7 @@
 ghost use Rattle.x10_frame.specs.Heads.{IsGraphHead};
 
 use crate::heaps::long;
+use crate::sources::view_of;
 use std::alloc::{AllocError, Global};
 use std::process::Abort;
 use std::test::*;
@@ -129,9 +130,14 @@ fn again(alloc: Global, rt: &impl Abort, view: &FrameView) -> Result<Vec<u8>, Fa
     }
 }
 
+/// Whether the frame that a view shows is written again as these bytes.
+fn is_again(alloc: Global, rt: &impl Abort, view: &FrameView, bytes: &[u8]) -> Result<bool, Fail> {
+    Ok(again(alloc, rt, view)?.as_slice() == bytes)
+}
+
 fn is_written_again(alloc: Global, rt: &impl Abort, bytes: &[u8], places: u16) -> Result<(), Fail> {
-    let view = FrameView::read(alloc, bytes, places)?;
-    assert!(rt; again(alloc, rt, &view)?.as_slice() == bytes);
+    let view = view_of(alloc, bytes, places)?;
+    assert!(rt; is_again(alloc, rt, &view, bytes)?);
     Ok(())
 }
 
@@ -227,7 +233,7 @@ fn last_lengths(view: &FrameView) -> Option<(usize, usize)> {
 #[test]
 fn most_texts_and_rails(rt: HostRuntime) -> Result<(), Fail> {
     let bytes = greatest(rt.alloc(), &rt)?;
-    let view = FrameView::read(rt.alloc(), &bytes, 2)?;
+    let view = view_of(rt.alloc(), &bytes, 2)?;
     assert!(rt; sizes_of(&view) == (1, 65_535, 65_535, 8_738));
     assert!(rt; last_lengths(&view) == Some((65_535, 65_535)));
     is_written_again(rt.alloc(), &rt, &bytes, 2)
@@ -264,7 +270,7 @@ fn has_first(
 
 #[test]
 fn parts_of_a_cycle(rt: HostRuntime) -> Result<(), Fail> {
-    let view = FrameView::read(rt.alloc(), &CYCLE, 2)?;
+    let view = view_of(rt.alloc(), &CYCLE, 2)?;
     let head = Head::Spawn {
         from: 0,
         to: 1,
@@ -298,7 +304,7 @@ fn has_counts(view: &FrameView, sent: &[u32], received: &[u32]) -> bool {
 
 #[test]
 fn parts_of_a_report(rt: HostRuntime) -> Result<(), Fail> {
-    let view = FrameView::read(rt.alloc(), &REPORT, 3)?;
+    let view = view_of(rt.alloc(), &REPORT, 3)?;
     let head = Head::Report {
         from: 1,
         to: 0,
@@ -320,16 +326,21 @@ fn each_beginning_is_short(rt: HostRuntime) {
     }
 }
 
+/// Whether bytes are refused, which the frame of a cycle isn't, or are a frame that is written again as they are.
+fn is_refused_or_written(alloc: Global, rt: &impl Abort, bytes: &[u8]) -> Result<bool, Fail> {
+    match FrameView::read(alloc, bytes, 2) {
+        Ok(view) => is_again(alloc, rt, &view, bytes),
+        Err(fault) => Ok(fault != FrameFault::Memory && bytes != CYCLE.as_slice()),
+    }
+}
+
 #[test]
 fn each_other_byte(rt: HostRuntime) -> Result<(), Fail> {
     for place in 0..67usize {
         let mut bytes = CYCLE;
         for value in 0..=255u8 {
             bytes[place] = value;
-            match FrameView::read(rt.alloc(), &bytes, 2) {
-                Ok(view) => assert!(rt; again(rt.alloc(), &rt, &view)?.as_slice() == &bytes[..]),
-                Err(fault) => assert!(rt; fault != FrameFault::Memory && value != CYCLE[place]),
-            }
+            assert!(rt; is_refused_or_written(rt.alloc(), &rt, &bytes)?);
         }
     }
     Ok(())

@@ -1,6 +1,7 @@
 ghost use Rattle.std.specs.Prelude.{◌<◌, length};
 
 use crate::heaps::long;
+use crate::sources::image_of;
 use std::alloc::{AllocError, Global};
 use std::test::*;
 use x10_code::{Instr, Op};
@@ -169,7 +170,7 @@ fn prints_seven(function: &Function) -> bool {
 
 #[test]
 fn seven_is_read(rt: HostRuntime) -> Result<(), Fail> {
-    let view = ImageView::read(rt.alloc(), &SEVEN)?;
+    let view = image_of(rt.alloc(), &SEVEN)?;
     assert!(rt; sizes_of(&view) == (1, 0, [0, 1, 0, 1]));
     assert!(rt; has_code(&view, &SEVEN[40..]));
     let module = rebuilt(rt.alloc(), &view)?;
@@ -237,19 +238,26 @@ fn texts_are_utf8(rt: HostRuntime) -> Result<(), Fail> {
     Ok(())
 }
 
+/// The image of the module that a view shows.
+fn written(alloc: Global, view: &ImageView) -> Result<Vec<u8>, Fail> {
+    Ok(write(alloc, &rebuilt(alloc, view)?)?)
+}
+
+/// Whether bytes are refused, or are the image of a module that is written again as they are.
+fn is_refused_or_spelled(alloc: Global, bytes: &[u8]) -> Result<bool, Fail> {
+    match ImageView::read(alloc, bytes) {
+        Ok(view) => Ok(written(alloc, &view)?.as_slice() == bytes),
+        Err(fault) => Ok(fault != ImageFault::Memory),
+    }
+}
+
 #[test]
 fn changed_bytes_are_refused_or_spelled(rt: HostRuntime) -> Result<(), Fail> {
     for at in 0..64 {
         for byte in 0..=255 {
             let mut bytes = SEVEN;
             bytes[at] = byte;
-            match ImageView::read(rt.alloc(), &bytes) {
-                Ok(view) => {
-                    let again = write(rt.alloc(), &rebuilt(rt.alloc(), &view)?)?;
-                    assert!(rt; again.as_slice() == bytes.as_slice());
-                }
-                Err(fault) => assert!(rt; fault != ImageFault::Memory),
-            }
+            assert!(rt; is_refused_or_spelled(rt.alloc(), &bytes)?);
         }
     }
     Ok(())
@@ -257,17 +265,14 @@ fn changed_bytes_are_refused_or_spelled(rt: HostRuntime) -> Result<(), Fail> {
 
 /// How many functions the module has that bytes spell.
 fn functions_of(alloc: Global, bytes: &[u8]) -> Result<usize, Fail> {
-    Ok(
-        rebuilt(alloc, &ImageView::read(alloc, bytes)?)?
-            .functions
-            .len(),
-    )
+    let view = image_of(alloc, bytes)?;
+    Ok(rebuilt(alloc, &view)?.functions.len())
 }
 
 /// The image of the module that bytes spell.
 fn written_again(alloc: Global, bytes: &[u8]) -> Result<Vec<u8>, Fail> {
-    let view = ImageView::read(alloc, bytes)?;
-    Ok(write(alloc, &rebuilt(alloc, &view)?)?)
+    let view = image_of(alloc, bytes)?;
+    written(alloc, &view)
 }
 
 #[test]
@@ -278,32 +283,62 @@ fn written_is_read_and_written_again(rt: HostRuntime) -> Result<(), Fail> {
     Ok(())
 }
 
-#[test]
-fn modules_without_image_are_refused(rt: HostRuntime) -> Result<(), Fail> {
-    let mut module = full(rt.alloc())?;
-    module.entry = 0;
-    assert_eq!(rt; write(rt.alloc(), &module).err(), Some(ImageFault::Entry));
-    module.functions.push(plain(rt.alloc())?)?;
-    assert_eq!(rt; write(rt.alloc(), &module).err(), Some(ImageFault::Count));
-    let mut module = full(rt.alloc())?;
+/// Why a module has no image.
+fn refusal(alloc: Global, module: &Module) -> Option<ImageFault> {
+    write(alloc, module).err()
+}
+
+/// The full module, with one thing more or another in place of one.
+fn with_entry(alloc: Global, entry: u16) -> Result<Module, AllocError> {
+    let mut module = full(alloc)?;
+    module.entry = entry;
+    Ok(module)
+}
+
+fn with_function(alloc: Global) -> Result<Module, AllocError> {
+    let mut module = with_entry(alloc, 0)?;
+    module.functions.push(plain(alloc)?)?;
+    Ok(module)
+}
+
+fn with_class(alloc: Global) -> Result<Module, AllocError> {
+    let mut module = full(alloc)?;
     module
         .classes
-        .push(Vec::from_slice(rt.alloc(), &[Kind::Obj(3)])?)?;
-    assert_eq!(rt; write(rt.alloc(), &module).err(), Some(ImageFault::Kind));
-    let mut module = full(rt.alloc())?;
+        .push(Vec::from_slice(alloc, &[Kind::Obj(3)])?)?;
+    Ok(module)
+}
+
+fn with_instruction(alloc: Global) -> Result<Module, AllocError> {
+    let mut module = full(alloc)?;
     for function in &mut module.functions {
         function.code.push(instr(Op::At, 0, 0))?;
     }
-    assert_eq!(rt; write(rt.alloc(), &module).err(), Some(ImageFault::Count));
-    let mut module = full(rt.alloc())?;
-    let mut bad = plain(rt.alloc())?;
+    Ok(module)
+}
+
+fn with_bad_instruction(alloc: Global) -> Result<Module, AllocError> {
+    let mut module = full(alloc)?;
+    let mut bad = plain(alloc)?;
     bad.code.push(instr(Op::Jmp, 1, 0))?;
     module.functions.pop();
     module.functions.push(bad)?;
-    assert_eq!(rt;
-        write(rt.alloc(), &module).err(),
-        Some(ImageFault::Code(255, 1))
-    );
+    Ok(module)
+}
+
+#[test]
+fn modules_without_image_are_refused(rt: HostRuntime) -> Result<(), Fail> {
+    let alloc = rt.alloc();
+    let entry = refusal(alloc, &with_entry(alloc, 0)?);
+    assert!(rt; entry == Some(ImageFault::Entry));
+    let function = refusal(alloc, &with_function(alloc)?);
+    assert!(rt; function == Some(ImageFault::Count));
+    let class = refusal(alloc, &with_class(alloc)?);
+    assert!(rt; class == Some(ImageFault::Kind));
+    let instruction = refusal(alloc, &with_instruction(alloc)?);
+    assert!(rt; instruction == Some(ImageFault::Count));
+    let bad = refusal(alloc, &with_bad_instruction(alloc)?);
+    assert!(rt; bad == Some(ImageFault::Code(255, 1)));
     Ok(())
 }
 

@@ -1,8 +1,8 @@
 //! The largest frames that copies fill, and one part more.
+use crate::sources::{assembled, image_of};
 use std::alloc::Global;
 use std::process::Abort;
 use std::test::*;
-use x10_asm::assemble;
 use x10_copy::{Marks, arrive, capture, heap_is_sound, words_are_sound};
 use x10_frame::{FrameView, Head};
 use x10_heap::Heap;
@@ -151,8 +151,8 @@ fn meets(
 /// A frame takes 65,535 objects along and no more; as many texts, and as many rails.
 #[test]
 fn the_most_objects(rt: HostRuntime) -> Result<(), Fail> {
-    let bytes = assemble(rt.alloc(), LISTS)?;
-    let image = ImageView::read(rt.alloc(), &bytes)?;
+    let bytes = assembled(rt.alloc(), LISTS)?;
+    let image = image_of(rt.alloc(), &bytes)?;
     let frame = frame_of(rt.alloc(), &rt, &list(rt.alloc(), 65_535)?, &image, 0)?;
     assert!(rt; frame.len() == 393_233);
     assert!(rt; arrived(rt.alloc(), &image, &frame, 0) == (65_535, 0, 0));
@@ -163,8 +163,8 @@ fn the_most_objects(rt: HostRuntime) -> Result<(), Fail> {
 
 #[test]
 fn the_most_texts(rt: HostRuntime) -> Result<(), Fail> {
-    let bytes = assemble(rt.alloc(), LISTS)?;
-    let image = ImageView::read(rt.alloc(), &bytes)?;
+    let bytes = assembled(rt.alloc(), LISTS)?;
+    let image = image_of(rt.alloc(), &bytes)?;
     let most = texts(rt.alloc(), 65_535)?;
     assert!(rt; that_go(rt.alloc(), &rt, &image, &most, 1)? == (4_369, 65_535, 0));
     let more = texts(rt.alloc(), 65_536)?;
@@ -174,8 +174,8 @@ fn the_most_texts(rt: HostRuntime) -> Result<(), Fail> {
 
 #[test]
 fn the_most_rails(rt: HostRuntime) -> Result<(), Fail> {
-    let bytes = assemble(rt.alloc(), LISTS)?;
-    let image = ImageView::read(rt.alloc(), &bytes)?;
+    let bytes = assembled(rt.alloc(), LISTS)?;
+    let image = image_of(rt.alloc(), &bytes)?;
     let most = rails(rt.alloc(), 65_535)?;
     assert!(rt; that_go(rt.alloc(), &rt, &image, &most, 2)? == (4_369, 0, 65_535));
     let more = rails(rt.alloc(), 65_536)?;

@@ -26,6 +26,8 @@ mod listing;
 #[cfg(test)]
 mod refused_copies;
 #[cfg(test)]
+mod sources;
+#[cfg(test)]
 mod verifying;
 #[cfg(test)]
 mod walk;

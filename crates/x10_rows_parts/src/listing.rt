@@ -1,3 +1,4 @@
+use crate::sources::image_of;
 use std::alloc::{AllocError, Global};
 use std::test::*;
 use x10_asm::list;
@@ -107,11 +108,15 @@ pub fn image(rt: &HostRuntime) -> Result<Vec<u8>, Fail> {
     Ok(write(rt.alloc(), &whole(rt.alloc())?)?)
 }
 
+/// The listing of an image.
+fn listed(alloc: Global, view: &ImageView) -> Result<String, Fail> {
+    Ok(list(alloc, view)?)
+}
+
 #[test]
 fn every_line_is_listed(rt: HostRuntime) -> Result<(), Fail> {
     let image = image(&rt)?;
-    let view = ImageView::read(rt.alloc(), &image)?;
-    let text = list(rt.alloc(), &view)?;
-    assert!(rt; text.as_str() == WHOLE);
+    let view = image_of(rt.alloc(), &image)?;
+    assert!(rt; listed(rt.alloc(), &view)?.as_str() == WHOLE);
     Ok(())
 }

@@ -1,10 +1,10 @@
 //! Graphs of frames that don't arrive, and why.
 use crate::copies::{MIXED, counts, here, host, refusal, slot};
 use crate::frames::spawned;
+use crate::sources::{assembled, image_of};
 use std::alloc::Global;
 use std::process::Abort;
 use std::test::*;
-use x10_asm::assemble;
 use x10_copy::Refusal;
 use x10_image::ImageView;
 use x10_kinds::Kind;
@@ -45,8 +45,8 @@ fn answers(
 
 /// Each graph has the answer of its case.
 fn are_answered(alloc: Global, rt: &impl Abort, cases: &[Case]) -> Result<(), Fail> {
-    let bytes = assemble(alloc, MIXED)?;
-    let image = ImageView::read(alloc, &bytes)?;
+    let bytes = assembled(alloc, MIXED)?;
+    let image = image_of(alloc, &bytes)?;
     assert!(rt; answers(alloc, rt, &image, cases)?);
     Ok(())
 }

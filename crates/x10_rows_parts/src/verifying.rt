@@ -1,10 +1,10 @@
+use crate::sources::verified_of;
 use std::alloc::{AllocError, Global};
 use std::test::*;
 use x10_bounds::BoundCause::Nesting;
 use x10_code::{Instr, Op};
-use x10_image::ImageView;
 use x10_samples::SEVEN;
-use x10_verify::{Verified, VerifyCause, VerifyFault, verify};
+use x10_verify::{Verified, VerifyCause, VerifyFault};
 
 const RET: Instr = Instr {
     op: Op::Ret,
@@ -42,8 +42,7 @@ fn all_bounded(verified: &Verified, bound: u64) -> bool {
 
 #[test]
 fn seven_is_verified(rt: HostRuntime) -> Result<(), Fail> {
-    let view = ImageView::read(rt.alloc(), &SEVEN)?;
-    let verified = verify(rt.alloc(), view)?;
+    let verified = verified_of(rt.alloc(), &SEVEN)?;
     verified.certificate();
     let code = code_of(rt.alloc(), &verified)?;
     let wanted = [instr(Op::Intk, 0), instr(Op::Print, 0), RET];

@@ -1,8 +1,8 @@
 //! Random heaps, of which parts go along and arrive: both are walked, side by side.
+use crate::sources::{assembled, image_of};
 use std::alloc::{AllocError, Global};
 use std::process::Abort;
 use std::test::*;
-use x10_asm::assemble;
 use x10_copy::{Marks, Roots, arrive, capture, heap_is_sound, words_are_sound};
 use x10_frame::{FrameView, Head};
 use x10_heap::Heap;
@@ -376,8 +376,8 @@ fn arrives(
 
 #[test]
 fn random_heaps_arrive(rt: HostRuntime) -> Result<(), Fail> {
-    let bytes = assemble(rt.alloc(), CLASSES)?;
-    let image = ImageView::read(rt.alloc(), &bytes)?;
+    let bytes = assembled(rt.alloc(), CLASSES)?;
+    let image = image_of(rt.alloc(), &bytes)?;
     let mut marks = Marks::new(rt.alloc());
     for seed in 1..=HEAPS {
         let answer = arrives(rt.alloc(), &rt, &image, &mut marks, seed);
