@@ -64,12 +64,22 @@ pub(crate) fn program_of(alloc: Global, bytes: &[u8]) -> Option<Verified<'_>> {
     verify(alloc, ImageView::read(alloc, bytes).ok()?).ok()
 }
 
-/// The same, or why it isn't there.
+/// The image of a program that is given as text.
+pub(crate) fn assembled(alloc: Global, text: &str) -> Result<Vec<u8>, Fail> {
+    Ok(assemble(alloc, text)?)
+}
+
+/// The same, if memory is there.
+pub(crate) fn assembled_if(alloc: Global, text: &str) -> Option<Vec<u8>> {
+    assemble(alloc, text).ok()
+}
+
+/// The verified program that an image's bytes are, or why it isn't there.
 pub(crate) fn program(alloc: Global, bytes: &[u8]) -> Result<Verified<'_>, Fail> {
     Ok(verify(alloc, ImageView::read(alloc, bytes)?)?)
 }
 
-/// The same place, which has to be there.
+/// The place, which has to be there.
 pub(crate) fn opened<'a>(
     alloc: Global,
     verified: &'a Verified<'a>,
@@ -102,9 +112,29 @@ fn stands_at(place: &Place, key: usize, op: Op) -> bool {
     matches!(place.at(key), Some((0, _, at)) if at == op)
 }
 
+/// Whether the run has ended.
+pub(crate) fn is_closed(place: &Place) -> bool {
+    place.closed()
+}
+
+/// Whether the number 7 was printed, and nothing else.
+fn has_printed(place: &Place) -> bool {
+    matches!(place.output(), [Line::Int(7)])
+}
+
 /// Whether the run has ended, and the number 7 was printed.
 fn has_ended(place: &Place) -> bool {
-    place.closed() && matches!(place.output(), [Line::Int(7)])
+    is_closed(place) && has_printed(place)
+}
+
+/// Where an activity stands, if there is one.
+fn at(place: &Place, key: usize) -> Option<(u16, u16, Op)> {
+    place.at(key)
+}
+
+/// How many lines there are.
+pub(crate) fn lines(place: &Place) -> usize {
+    place.output().len()
 }
 
 /// The least key in use, if there is one.
@@ -118,11 +148,11 @@ fn step_by_step(rt: HostRuntime) -> Result<(), Fail> {
     let mut place = opened(rt.alloc(), &verified, 0, 1)?;
     let key = first_key(&place).ok_or("main is there")?;
     for op in [Op::Intk, Op::Print, Op::Ret] {
-        assert!(rt; !place.closed() && stands_at(&place, key, op));
+        assert!(rt; !is_closed(&place) && stands_at(&place, key, op));
         assert!(rt; moves(&mut place, key));
     }
     assert!(rt; has_ended(&place) && idles(&mut place, key));
-    assert!(rt; place.at(key).is_none() && first_key(&place).is_none());
+    assert!(rt; at(&place, key).is_none() && first_key(&place).is_none());
     Ok(())
 }
 
@@ -132,7 +162,7 @@ fn at_a_stretch(rt: HostRuntime) -> Result<(), Fail> {
     let mut place = opened(rt.alloc(), &verified, 0, 1)?;
     let key = first_key(&place).ok_or("main is there")?;
     for (key, steps, made) in [(99, 5, 0), (key, 2, 2)] {
-        assert!(rt; ran(&mut place, key, steps) == Some(made) && !place.closed());
+        assert!(rt; ran(&mut place, key, steps) == Some(made) && !is_closed(&place));
     }
     for made in [1, 0] {
         assert!(rt; ran(&mut place, key, 5) == Some(made) && has_ended(&place));
@@ -145,33 +175,37 @@ fn another_place(rt: HostRuntime) -> Result<(), Fail> {
     let verified = program(rt.alloc(), &SEVEN)?;
     let mut place = opened(rt.alloc(), &verified, 1, 2)?;
     assert!(rt; first_key(&place).is_none() && idles(&mut place, 0));
-    assert!(rt; !place.closed());
+    assert!(rt; !is_closed(&place));
     Ok(())
 }
 
+/// Whether a place takes no step.
+fn is_stopped(place: &mut Place, key: usize) -> bool {
+    matches!(place.step(key), Err(Stop::Stopped))
+}
+
 /// Whether a place that was refused memory stays as it was, and takes no later step.
-fn stays(place: &mut Place, key: usize, at: Option<(u16, u16, Op)>, lines: usize) -> bool {
-    let stopped = matches!(place.step(key), Err(Stop::Stopped));
-    stopped && place.at(key) == at && place.output().len() == lines
+fn stays(place: &mut Place, key: usize, stood: Option<(u16, u16, Op)>, printed: usize) -> bool {
+    is_stopped(place, key) && at(place, key) == stood && lines(place) == printed
 }
 
 /// The run ends after its steps, or one that is refused changes nothing.
 fn ends_or_stays(rt: &impl Abort, place: &mut Place, key: usize) {
     for _ in 0..19 {
-        let (at, lines) = (place.at(key), place.output().len());
+        let (stood, printed) = (at(place, key), lines(place));
         if !moves(place, key) {
-            assert!(rt; stays(place, key, at, lines));
+            assert!(rt; stays(place, key, stood, printed));
             return;
         }
     }
-    assert!(rt; place.closed());
+    assert!(rt; is_closed(place));
 }
 
 /// Where memory is refused, nothing moves, the output stays, and no later step is taken. It meets that only where the
 /// runner refuses an allocation; one that is refused before the place is there is left to the tests of other crates.
 #[test]
 fn memory_refused(rt: HostRuntime) -> Result<(), Fail> {
-    let Ok(bytes) = assemble(rt.alloc(), DEEP) else {
+    let Some(bytes) = assembled_if(rt.alloc(), DEEP) else {
         return Ok(());
     };
     let Some(verified) = program_of(rt.alloc(), &bytes) else {

@@ -1,9 +1,8 @@
 //! Worlds of one to three places, event by event, and the frames that they put out, byte for byte.
-use crate::places::program;
-use crate::worlds::world_of;
+use crate::places::{assembled, program};
+use crate::worlds::{happens, is_closed, is_flying, lines_of, posted, world_of};
 use std::process::Abort;
 use std::test::*;
-use x10_asm::assemble;
 use x10_model::Event;
 use x10_place::Line;
 use x10_samples::{ALONE, BACK, CYCLE, OTHER_REPORT, REPORT, SHIFT, SPAWN};
@@ -101,7 +100,7 @@ const REPORT_OF_TWO: [u8; 28] = [
 /// Steps of the first key, which are made, whether they move or not.
 fn steps(rt: &impl Abort, world: &mut World, place: u16, times: u32) {
     for _ in 0..times {
-        assert!(rt; world.run(&[Event::Step(place, 0)]).is_ok());
+        assert!(rt; happens(world, Event::Step(place, 0)));
     }
 }
 
@@ -122,9 +121,9 @@ fn makes(world: &mut World, place: u16, steps: u64) -> bool {
 
 /// The frame with a number is in flight, and is taken in.
 fn arrives(rt: &impl Abort, world: &mut World, number: u64) {
-    assert!(rt; world.frame(number).is_some());
-    assert!(rt; world.run(&[Event::Deliver(number)]).is_ok());
-    assert!(rt; world.frame(number).is_none());
+    assert!(rt; is_flying(world, number));
+    assert!(rt; happens(world, Event::Deliver(number)));
+    assert!(rt; !is_flying(world, number));
 }
 
 /// Whether the frame with a number is in flight to a place, and has these bytes.
@@ -140,33 +139,48 @@ fn printed(world: &World, place: u16, number: i64) -> bool {
     matches!(world.output(place), Some([Line::Int(line)]) if *line == number)
 }
 
-/// Main goes away and comes back, and waits for what was started at place 2.
-fn goes_away(rt: &impl Abort, world: &mut World) {
+/// Main goes away, starts an activity at place 2, and its way back and a report are on their way.
+fn goes_out(rt: &impl Abort, world: &mut World) {
     steps(rt, world, 0, 3);
-    assert!(rt; world.posted() == 1 && flies(world, 0, 1, &SHIFT));
+    assert!(rt; posted(world) == 1 && flies(world, 0, 1, &SHIFT));
     arrives(rt, world, 0);
     steps(rt, world, 1, 3);
-    assert!(rt; world.posted() == 4 && flies(world, 1, 2, &SPAWN));
+    assert!(rt; posted(world) == 4 && flies(world, 1, 2, &SPAWN));
     assert!(rt; flies(world, 2, 0, &BACK) && flies(world, 3, 0, &REPORT));
+}
+
+/// Main comes back, and waits for what was started at place 2.
+fn comes_back(rt: &impl Abort, world: &mut World) {
     arrives(rt, world, 2);
     assert!(rt; waits(world, 0));
     arrives(rt, world, 3);
     assert!(rt; waits(world, 0));
     arrives(rt, world, 1);
     steps(rt, world, 2, 3);
-    assert!(rt; world.posted() == 5 && flies(world, 4, 0, &OTHER_REPORT));
+    assert!(rt; posted(world) == 5 && flies(world, 4, 0, &OTHER_REPORT));
+}
+
+/// Main goes on with the last report, and has ended.
+fn goes_on(rt: &impl Abort, world: &mut World) {
     assert!(rt; waits(world, 0));
     arrives(rt, world, 4);
-    assert!(rt; moves(world, 0) && !world.closed());
+    assert!(rt; moves(world, 0) && !is_closed(world));
     steps(rt, world, 0, 3);
-    assert!(rt; world.closed() && world.posted() == 5);
+    assert!(rt; is_closed(world) && posted(world) == 5);
     assert!(rt; printed(world, 0, 9) && printed(world, 2, 5));
-    assert!(rt; matches!(world.output(1), Some([])));
+    assert!(rt; lines_of(world, 1) == Some(0));
+}
+
+/// Main goes away and comes back, and waits for what was started at place 2.
+fn goes_away(rt: &impl Abort, world: &mut World) {
+    goes_out(rt, world);
+    comes_back(rt, world);
+    goes_on(rt, world);
 }
 
 #[test]
 fn away_and_back(rt: HostRuntime) -> Result<(), Fail> {
-    let bytes = assemble(rt.alloc(), AWAY)?;
+    let bytes = assembled(rt.alloc(), AWAY)?;
     let verified = program(rt.alloc(), &bytes)?;
     let mut world = world_of(rt.alloc(), &verified, 3)?;
     goes_away(&rt, &mut world);
@@ -176,21 +190,21 @@ fn away_and_back(rt: HostRuntime) -> Result<(), Fail> {
 /// The objects go to place 1, whose report comes back.
 fn goes_along(rt: &impl Abort, world: &mut World) {
     assert!(rt; makes(world, 0, 12));
-    assert!(rt; world.posted() == 1 && flies(world, 0, 1, &CYCLE));
+    assert!(rt; posted(world) == 1 && flies(world, 0, 1, &CYCLE));
     assert!(rt; waits(world, 0));
     arrives(rt, world, 0);
     assert!(rt; makes(world, 1, 10));
-    assert!(rt; world.posted() == 2 && flies(world, 1, 0, &REPORT_OF_TWO));
+    assert!(rt; posted(world) == 2 && flies(world, 1, 0, &REPORT_OF_TWO));
     assert!(rt; waits(world, 0));
     arrives(rt, world, 1);
     assert!(rt; makes(world, 0, 5));
-    assert!(rt; world.closed());
+    assert!(rt; is_closed(world));
     assert!(rt; printed(world, 0, 0) && printed(world, 1, 9));
 }
 
 #[test]
 fn two_objects_go_along(rt: HostRuntime) -> Result<(), Fail> {
-    let bytes = assemble(rt.alloc(), ALONG)?;
+    let bytes = assembled(rt.alloc(), ALONG)?;
     let verified = program(rt.alloc(), &bytes)?;
     let mut world = world_of(rt.alloc(), &verified, 2)?;
     goes_along(&rt, &mut world);
@@ -200,17 +214,17 @@ fn two_objects_go_along(rt: HostRuntime) -> Result<(), Fail> {
 /// What main sends comes to its own place.
 fn goes_around(rt: &impl Abort, world: &mut World) {
     steps(rt, world, 0, 6);
-    assert!(rt; !world.closed());
-    assert!(rt; world.posted() == 1 && flies(world, 0, 0, &ALONE));
+    assert!(rt; !is_closed(world));
+    assert!(rt; posted(world) == 1 && flies(world, 0, 0, &ALONE));
     arrives(rt, world, 0);
     steps(rt, world, 0, 1);
-    assert!(rt; world.closed() && world.posted() == 1);
+    assert!(rt; is_closed(world) && posted(world) == 1);
     assert!(rt; printed(world, 0, 0));
 }
 
 #[test]
 fn around_to_itself(rt: HostRuntime) -> Result<(), Fail> {
-    let bytes = assemble(rt.alloc(), AROUND)?;
+    let bytes = assembled(rt.alloc(), AROUND)?;
     let verified = program(rt.alloc(), &bytes)?;
     let mut world = world_of(rt.alloc(), &verified, 1)?;
     goes_around(&rt, &mut world);

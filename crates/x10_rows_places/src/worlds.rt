@@ -83,6 +83,41 @@ pub(crate) fn world_of<'a>(
     Ok(World::open(alloc, verified, places)?)
 }
 
+/// Whether a run has ended.
+pub(crate) fn is_closed(world: &World) -> bool {
+    world.closed()
+}
+
+/// How many frames were put out.
+pub(crate) fn posted(world: &World) -> u64 {
+    world.posted()
+}
+
+/// Whether a frame is in flight.
+pub(crate) fn is_flying(world: &World, number: u64) -> bool {
+    world.frame(number).is_some()
+}
+
+/// The first frame from a number on that is on its way to a place.
+pub(crate) fn next_frame(world: &World, place: u16, from: u64) -> Option<u64> {
+    world.next_frame(place, from)
+}
+
+/// How many lines a place has, if it is there.
+pub(crate) fn lines_of(world: &World, place: u16) -> Option<usize> {
+    world.output(place).map(|lines| lines.len())
+}
+
+/// Whether an event happens.
+pub(crate) fn happens(world: &mut World, event: Event) -> bool {
+    world.run(&[event]).is_ok()
+}
+
+/// How many places a world has.
+fn count(world: &World) -> u16 {
+    world.count()
+}
+
 /// How many steps of an activity are made, of so many at most.
 fn ran(world: &mut World, place: u16, key: usize, steps: u64) -> Option<u64> {
     world.run_activity(place, key, steps).ok()
@@ -95,7 +130,12 @@ fn first_key(world: &World, place: u16) -> Option<usize> {
 
 /// Whether a world has ended, and place 0 has printed the number 7.
 fn has_ended(world: &World) -> bool {
-    world.closed() && matches!(world.output(0), Some([Line::Int(7)]))
+    is_closed(world) && has_printed(world)
+}
+
+/// Whether place 0 has printed the number 7.
+fn has_printed(world: &World) -> bool {
+    matches!(world.output(0), Some([Line::Int(7)]))
 }
 
 #[test]
@@ -111,7 +151,7 @@ fn at_a_stretch(rt: HostRuntime) -> Result<(), Fail> {
     ] {
         assert!(rt; ran(&mut world, place, key, steps) == Some(made));
     }
-    assert!(rt; !world.closed());
+    assert!(rt; !is_closed(&world));
     for made in [1, 0] {
         assert!(rt; ran(&mut world, 0, key, 5) == Some(made) && has_ended(&world));
     }
@@ -127,11 +167,11 @@ fn halt(alloc: Global, world: &mut World, limit: u64) -> Option<Halt> {
 fn in_rounds(rt: HostRuntime) -> Result<(), Fail> {
     let verified = program(rt.alloc(), &SEVEN)?;
     let mut world = world_of(rt.alloc(), &verified, 2)?;
-    assert!(rt; world.count() == 2);
+    assert!(rt; count(&world) == 2);
     for limit in [0, 2] {
         assert!(rt; halt(rt.alloc(), &mut world, limit) == Some(Halt::Limit));
     }
-    assert!(rt; !world.closed());
+    assert!(rt; !is_closed(&world));
     assert!(rt; halt(rt.alloc(), &mut world, 2).is_none() && has_ended(&world));
     Ok(())
 }
@@ -143,7 +183,7 @@ fn stop(world: &mut World, events: &[Event]) -> Option<Stop> {
 
 /// Whether nothing was sent, and place 1 has printed nothing.
 fn is_alone(world: &World) -> bool {
-    world.posted() == 0 && world.frame(0).is_none() && matches!(world.output(1), Some([]))
+    posted(world) == 0 && !is_flying(world, 0) && lines_of(world, 1) == Some(0)
 }
 
 #[test]
@@ -152,7 +192,7 @@ fn a_world(rt: HostRuntime) -> Result<(), Fail> {
     let mut world = world_of(rt.alloc(), &verified, 2)?;
     let key = first_key(&world, 0).ok_or("main is there")?;
     assert!(rt; first_key(&world, 1).is_none() && first_key(&world, 2).is_none());
-    assert!(rt; world.output(2).is_none() && !world.closed());
+    assert!(rt; lines_of(&world, 2).is_none() && !is_closed(&world));
     let events = [
         Event::Step(1, 0),
         Event::Deliver(0),
@@ -171,9 +211,9 @@ fn is_over(world: &mut World, events: &[Event]) -> bool {
     let stopped = Some(Stop::Stopped);
     stop(world, &[]) == stopped
         && stop(world, events) == stopped
-        && matches!(world.output(0), Some([]))
+        && lines_of(world, 0) == Some(0)
         && first_key(world, 0) == Some(0)
-        && !world.closed()
+        && !is_closed(world)
 }
 
 /// The run ends, or it stops for want of memory.
@@ -185,24 +225,33 @@ fn ends_or_stops(rt: &impl Abort, world: &mut World) {
     }
 }
 
+/// A program runs, or its world isn't opened for want of memory.
+fn opens(alloc: Global, rt: &impl Abort, verified: &Verified) -> Result<(), Fail> {
+    match World::open(alloc, verified, 1) {
+        Ok(mut world) => {
+            ends_or_stops(rt, &mut world);
+            Ok(())
+        }
+        Err(fault) => fails_for(fault == OpenFault::Memory),
+    }
+}
+
+/// An image's program runs, or it isn't verified for want of memory.
+fn verifies(alloc: Global, rt: &impl Abort, image: ImageView) -> Result<(), Fail> {
+    match verify(alloc, image) {
+        Ok(verified) => opens(alloc, rt, &verified),
+        Err(fault) => fails_for(fault.cause == VerifyCause::Memory),
+    }
+}
+
 // Under `rt try --test --fail-alloc N` each allocation fails in turn: it is told by name, and after a Stop the world
 // stays as it is.
 #[test]
 fn memory_refused(rt: HostRuntime) -> Result<(), Fail> {
-    let image = match ImageView::read(rt.alloc(), &SEVEN) {
-        Ok(image) => image,
-        Err(fault) => return fails_for(fault == ImageFault::Memory),
-    };
-    let verified = match verify(rt.alloc(), image) {
-        Ok(verified) => verified,
-        Err(fault) => return fails_for(fault.cause == VerifyCause::Memory),
-    };
-    let mut world = match World::open(rt.alloc(), &verified, 1) {
-        Ok(world) => world,
-        Err(fault) => return fails_for(fault == OpenFault::Memory),
-    };
-    ends_or_stops(&rt, &mut world);
-    Ok(())
+    match ImageView::read(rt.alloc(), &SEVEN) {
+        Ok(image) => verifies(rt.alloc(), &rt, image),
+        Err(fault) => fails_for(fault == ImageFault::Memory),
+    }
 }
 
 fn fails_for(memory: bool) -> Result<(), Fail> {
