@@ -29,7 +29,8 @@ use Rattle.x10_verify.proofs.Parts.{parts_permit}
 use Rattle.x10_verify.proofs.Settling.{allows_sound, ResultsFit}
 use Rattle.x10_verify.proofs.Solving.{Works, Arrived, arrived, works_on, reaches_on, reaches_here, least_on, least_jump, least_never, least_past, least_same}
 use Rattle.x10_verify.proofs.Tables.{table_sound}
-use Rattle.x10_verify.proofs.Tabled.{arrives_total, done_total}
+use Rattle.x10_verify.proofs.Tabled.{arrives_size, arrives_total, done_total}
+use Rattle.std.proofs.Math.ListN.{length-set}
 use Rattle.x10_kinds.specs.declared.homes.Term.TheVariants as term
 use Rattle.x10_model.proofs.Lists.{set_here, set_off}
 use Rattle.std.proofs.lemmas.Option.{same_Some, slice_get_within}
@@ -200,6 +201,29 @@ step_on program function at len instr known effect next t0 t1 t2 t3 size is fit 
 -- the state of a taken instruction stays in the table
 pub taken_there : (old : List Entry) (at : ℕ) (known : Known) (new : List Entry) → Takes old at known new → stated new at ≡ Some (state_of known)
 taken_there old at known new t = ap state_in (ap (λ xs. slice_get xs at) t.is ∙ set_here old at (record { mark = Done; known = t.before.known }) (slice_get_within old at t.before t.was)) ∙ ap (λ k. Some (state_of k)) t.known_is
+
+-- what is done, and where it stands
+pub taken_entry : (old : List Entry) (at : ℕ) (known : Known) (new : List Entry) → Takes old at known new → (entry : Entry) × (slice_get new at ≡ Some entry) × (entry.known ≡ known)
+taken_entry old at known new t = (record { mark = Done; known = t.before.known }, ap (λ xs. slice_get xs at) t.is ∙ set_here old at (record { mark = Done; known = t.before.known }) (slice_get_within old at t.before t.was), t.known_is)
+
+-- what is read where it is kept is what was taken
+pub taken_read : (old : List Entry) (at : ℕ) (known read : Known) (new : List Entry) → Takes old at known new → ((entry : Entry) → slice_get new at ≡ Some entry → read ≡ entry.known) → Takes old at read new
+taken_read old at known read new t reads = let e = taken_entry old at known new t in subst (λ k. Takes old at k new) (sym (reads e.0 e.1 ∙ e.2)) t
+
+-- an operation that doesn't jump
+pub no_jump : (instr : Instr) (at len : ℕ) (known : Known) (table : List Entry) (b : Bool) → b ≡ false → JumpsIf b instr at len known table (at + 1) table
+no_jump instr at len known table false e = (refl, refl)
+no_jump instr at len known table true e = absurd cc
+
+-- where the state that was taken goes on
+pub handed_on : (instr : Instr) (at len : ℕ) (effect : Effect) (old : List Entry) (known : Known) (t1 t3 : List Entry) (b : Bool) → Takes old at known t1
+    → ((entry : Entry) → slice_get t1 at ≡ Some entry → GoesOnIf b instr at len effect entry.known t1 t3) → GoesOnIf b instr at len effect known t1 t3
+handed_on instr at len effect old known t1 t3 b t says = let e = taken_entry old at known t1 t in subst (λ (k : Known). GoesOnIf b instr at len effect k t1 t3) e.2 (says e.0 e.1)
+
+-- the table keeps its length
+pub straight_size : (instr : Instr) (at len : ℕ) (effect : Effect) (old : List Entry) (known : Known) (t1 t3 : List Entry) (b : Bool) → Takes old at known t1 → GoesOnIf b instr at len effect known t1 t3 → length t3 ≡ length old
+straight_size instr at len effect old known t1 t3 false t g = ap length g ∙ ap length t.is ∙ length-set old at (record { mark = Done; known = t.before.known })
+straight_size instr at len effect old known t1 t3 true t g = arrives_size t1 (at + 1) g.1 t3 g.0 g.5 ∙ ap length t.is ∙ length-set old at (record { mark = Done; known = t.before.known })
 
 -- a rule that does not hold
 pub step_refused : (program : Module) (function : Function) (at : ℕ) (instr : Instr) (known : Known) (why : FlowCause) (t0 t1 : List Entry) → slice_get function.code at ≡ Some instr → Takes t0 at known t1

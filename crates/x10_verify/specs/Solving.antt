@@ -85,6 +85,11 @@ abbrev pub ReceivesAfter : Known → ℕ → Effect → Entry → Entry → Type
 ReceivesAfter known register effect old new = (changed : Bool) × (t : Known) × IsNarrow (state_of t)
     × (IsState (state_of known) → SameState (state_of t) (after register (state_of known) effect)) × Receives old t new changed
 
+-- the entry after one has received its state with an effect
+abbrev pub Advances : ℕ → ℕ → Effect → Known → List Entry → List Entry → Type 0
+Advances at register effect known old new = (changed : Bool) × (t : Known) × IsNarrow (state_of t)
+    × (IsState (state_of known) → SameState (state_of t) (after register (state_of known) effect)) × Arrives old (at + 1) t new changed
+
 -- what became of the next instruction
 abbrev pub GoesOnIf : Bool → Instr → ℕ → ℕ → Effect → Known → List Entry → List Entry → Type 0
 GoesOnIf true i at len effect known old new = (changed : Bool) × (t : Known) × (at + 1 < len) × IsNarrow (state_of t)

@@ -24,6 +24,7 @@ pub(crate) fn in_range(image: &ImageView, f: usize, signature: &SigView, instr: 
 }
 
 // Whether what one operand names is there.
+#[inline(always)]
 fn is_there(
     image: &ImageView,
     f: usize,

@@ -1,8 +1,8 @@
 //! The states that are known so far before the instructions of one function.
-ghost use Rattle.std.specs.Prelude.{◌≡◌, ◌<◌, ◌≤◌, ℕ, IfOk, length, slice_get, true};
+ghost use Rattle.std.specs.Prelude.{◌≡◌, ◌+◌, ◌<◌, ◌≤◌, ℕ, IfOk, Some, length, slice_get, true};
 ghost use Rattle.x10_verify.specs.Effects.{CanApply, IsNarrow};
 ghost use Rattle.x10_verify.specs.Known.{state_of};
-ghost use Rattle.x10_verify.specs.Solving.{ReceivesAfter};
+ghost use Rattle.x10_verify.specs.Solving.{Advances, ReceivesAfter};
 ghost use Rattle.x10_verify.specs.States.{Arrives, IsFresh, Receives, Takes, state_in, waits};
 
 use crate::known::Known;
@@ -85,6 +85,37 @@ pub(crate) fn take(table: &mut Vec<Entry>, at: usize) -> Known
     entry.mark = Mark::Done;
     entry.known.narrow();
     entry.known
+}
+
+/// A waiting instruction is done from then on; its state stays where it is.
+pub(crate) fn finish(table: &mut Vec<Entry>, at: usize)
+    requires within { at < length table.old.items }
+    requires waiting { waits table.old.items at ≡ true }
+    ensures { (known : Known) × Takes table.old.items at known table.new.items }
+{
+    table[at].mark = Mark::Done;
+}
+
+/// What is known before an instruction that is reached.
+pub(crate) fn known_at(table: &Vec<Entry>, at: usize) -> &Known
+    requires { at < length table.now.items }
+    ensures known { (entry : Entry) → slice_get table.now.items at ≡ Some entry → result.now ≡ entry.known }
+    ensures narrow { IsNarrow (state_of result.now) }
+{
+    let known = &table[at].known;
+    known.narrow();
+    known
+}
+
+/// The next instruction receives what is known after one, by its effect: written where it is kept if this is the first
+/// way, without a copy beside the table.
+pub(crate) fn advance(table: &mut Vec<Entry>, at: usize, register: u8, effect: Effect)
+    requires within { at + 1 < length table.old.items }
+    requires can { CanApply register effect }
+    ensures { (entry : Entry) → slice_get table.old.items at ≡ Some entry → Advances at register effect entry.known table.old.items table.new.items }
+{
+    let known = table[at].known;
+    table[at + 1].receive_after(&known, register, effect);
 }
 
 /// One way more to an instruction. Tells whether its state changed.

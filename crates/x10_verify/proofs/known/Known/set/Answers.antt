@@ -1,4 +1,4 @@
-use Rattle.std.proofs.Common.{Some, arith, set, subst, sym}
+use Rattle.std.proofs.Common.{arith, set, subst, sym}
 use Rattle.x10_model.specs.Assignments.{set as set_kind}
 use Rattle.x10_verify.specs.Known.{state_of}
 use Rattle.x10_verify.specs.Knowledge.{SameState}

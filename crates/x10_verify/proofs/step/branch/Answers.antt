@@ -5,7 +5,7 @@ use Rattle.x10_verify.specs.Knowledge.{point}
 use Rattle.std.proofs.lemmas.Result.{err_from_is_err_and}
 use Rattle.x10_verify.proofs.Stepped.{step_on, step_refused, step_jumps_out, step_runs_out, step_total}
 use Rattle.x10_verify.proofs.Tables.{can_apply, results_fit}
-use Rattle.x10_verify.proofs.step.step.Goals as goal
+use Rattle.x10_verify.proofs.step.branch.Goals as goal
 
 pub returns-in_err-effect-clause-steps : goal.returns-in_err-effect-clause-steps
 returns-in_err-effect-clause-steps c = (
