@@ -238,8 +238,8 @@ impl<'a> World<'a> {
         Some(place.output())
     }
 
-    /// A copy of the lines of each place.
-    pub(crate) fn outputs(&self, alloc: Global) -> Result<Vec<Vec<Line>>, AllocError>
+    /// A copy of the lines of each place. Linear in their bytes.
+    pub fn outputs(&self, alloc: Global) -> Result<Vec<Vec<Line>>, AllocError>
         ensures { IfOk result (λ outputs. lines_in outputs.items ≡ lines_at self.now.places) }
     {
         copied_outputs(alloc, &self.places)

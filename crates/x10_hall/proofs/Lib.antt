@@ -1,0 +1,4 @@
+pub mod Alike
+pub mod Numbering
+pub mod Posting
+pub mod Standing

@@ -1,0 +1,16 @@
+//! The hall: what the places of a run hand to each other when each has a thread of its own. It keeps the log of their turns
+//! and, for each place, the row of frames that were posted to it.
+#![tactic(auto)]
+
+mod hall;
+mod mail;
+mod port;
+mod row;
+mod state;
+mod turn;
+
+pub use hall::Hall;
+pub use mail::{Desk, Mail};
+pub use port::{End, Port, PostFault, Signal, Take};
+pub use state::HallState;
+pub use turn::{Posted, Taken, Turn};

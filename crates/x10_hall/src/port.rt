@@ -1,0 +1,65 @@
+//! What a worker asks of the hall.
+use crate::turn::{Taken, Turn};
+use thiserror::Error;
+use x10_kinds::Stop;
+
+/// What is there for a place to take.
+#[derive(Drop)]
+pub enum Take {
+    /// The next frame of its row.
+    Frame(Taken),
+    /// Nothing: its row was taken to the end.
+    Nothing,
+    /// A worker has stopped the run.
+    Stopped,
+}
+
+/// Why a worker goes on after it has waited.
+#[derive(Clone, Copy, Debug, PartialEq, Eq)]
+pub enum Signal {
+    /// There is a frame in the row of its place.
+    Frame,
+    /// The run has ended.
+    Finished,
+    /// A worker has stopped the run.
+    Stopped,
+}
+
+/// How a worker ends the run for all.
+#[derive(Clone, Copy, Debug, PartialEq, Eq)]
+pub enum End {
+    /// No activity is left.
+    Finished,
+    /// The worker can't go on.
+    Stopped,
+}
+
+/// Why a turn isn't posted. Where there are several reasons, the first one is told.
+#[derive(Clone, Copy, Debug, PartialEq, Eq, Error)]
+pub enum PostFault {
+    /// A worker has stopped the run.
+    #[error("Stopped")]
+    Stopped,
+    /// As many turns as were asked for have been posted.
+    #[error("Turns")]
+    Turns,
+    /// Memory was refused, or frames would be numbered above 2^64 - 1.
+    #[error("Stop")]
+    Stop(Stop),
+}
+
+/// The hall as a worker sees it. No method says what it does to what the threads share, since others may do the same at any
+/// time: that is said by the methods of `Hall`.
+pub trait Port {
+    /// Takes the next frame of a place's row.
+    fn take(&self, place: u16) -> Take;
+
+    /// Appends a turn to the log, and its frames to the rows of their receivers.
+    fn post(&self, turn: Turn) -> Result<(), PostFault>;
+
+    /// Waits until there is a frame for a place, or the run has ended or was stopped.
+    fn wait(&self, place: u16) -> Signal;
+
+    /// Ends the run for all workers.
+    fn end(&self, how: End);
+}

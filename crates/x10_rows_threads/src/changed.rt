@@ -1,0 +1,146 @@
+//! Logs of a run in which one thing was changed.
+use crate::runs::{FINISH, assembled, audited, program, run};
+use std::alloc::Global;
+use std::sync::{Arc, Wait};
+use std::test::*;
+use std::thread::Threads;
+use x10_hall::{Posted, Turn};
+use x10_place::Line;
+use x10_verify::Verified;
+use x10_workers::AuditFault;
+
+/// One thing that is changed in a log.
+#[derive(Clone, Copy, Debug, PartialEq, Eq)]
+enum Change {
+    /// Nothing.
+    Nothing,
+    /// The first line that was printed.
+    Line,
+    /// The last turn is not there.
+    Last,
+    /// The place of the first turn.
+    Place,
+    /// The bytes of the first frame.
+    Frame,
+}
+
+/// Changes the first line of a turn, if it has one.
+fn change_line(turn: &mut Turn) -> bool {
+    if turn.lines.is_empty() {
+        return false;
+    }
+    turn.lines[0] = Line::Int(77);
+    true
+}
+
+/// Changes the bytes of a turn's first frame, if it has one.
+fn change_frame(alloc: Global, turn: &mut Turn) -> Result<bool, Fail> {
+    if turn.frames.is_empty() {
+        return Ok(false);
+    }
+    let mut bytes = Vec::new(alloc);
+    bytes.push(1)?;
+    let to = turn.frames[0].to;
+    let bytes = Arc::new(alloc, bytes)?;
+    turn.frames[0] = Posted { to, bytes };
+    Ok(true)
+}
+
+/// Changes the first line of a log: the number of its turn.
+fn change_first_line(log: &mut [Turn]) -> Option<usize> {
+    for at in 0..log.len() {
+        if change_line(&mut log[at]) {
+            return Some(at);
+        }
+    }
+    None
+}
+
+/// Changes the first frame of a log: the number of its turn.
+fn change_first_frame(alloc: Global, log: &mut [Turn]) -> Result<Option<usize>, Fail> {
+    for at in 0..log.len() {
+        if change_frame(alloc, &mut log[at])? {
+            return Ok(Some(at));
+        }
+    }
+    Ok(None)
+}
+
+/// Changes the place of the first turn.
+fn change_place(log: &mut [Turn]) -> Option<usize> {
+    if log.is_empty() {
+        return None;
+    }
+    log[0].place = 3;
+    Some(0)
+}
+
+/// Makes a change: the number of the turn that was changed, if one was.
+fn make_change(alloc: Global, log: &mut Vec<Turn>, what: Change) -> Result<Option<usize>, Fail> {
+    match what {
+        Change::Nothing => Ok(None),
+        Change::Line => Ok(change_first_line(log)),
+        Change::Last => {
+            log.pop();
+            Ok(None)
+        }
+        Change::Place => Ok(change_place(log)),
+        Change::Frame => change_first_frame(alloc, log),
+    }
+}
+
+/// The log of a new run of three places.
+fn log_of<R: Threads + Wait + Sync>(
+    rt: &R,
+    alloc: Global,
+    verified: &Verified,
+) -> Result<Vec<Turn>, Fail> {
+    match run(rt, alloc, verified, 3, 1_000) {
+        Ok(report) => Ok(report.log),
+        Err(_) => Err("there is no report".into()),
+    }
+}
+
+/// What the audit says of a log at three places, if it refuses it.
+fn refusal(alloc: Global, verified: &Verified, log: &[Turn]) -> Option<AuditFault> {
+    match audited(alloc, verified, 3, log) {
+        Some(Err(fault)) => Some(fault),
+        _ => None,
+    }
+}
+
+/// Whether a fault is the one that a change calls for.
+fn is_right(what: Change, at: Option<usize>, fault: Option<AuditFault>) -> bool {
+    match what {
+        Change::Nothing => fault.is_none(),
+        Change::Last => fault == Some(AuditFault::Open),
+        _ => match (at, fault) {
+            (Some(at), Some(AuditFault::Differs(turn))) => at == turn,
+            _ => false,
+        },
+    }
+}
+
+/// Whether a change in the log of a new run is told.
+fn is_told<R: Threads + Wait + Sync>(rt: &R, alloc: Global, what: Change) -> Result<bool, Fail> {
+    let bytes = assembled(alloc, FINISH)?;
+    let verified = program(alloc, &bytes)?;
+    let mut log = log_of(rt, alloc, &verified)?;
+    let at = make_change(alloc, &mut log, what)?;
+    Ok(is_right(what, at, refusal(alloc, &verified, &log)))
+}
+
+#[test]
+fn changed_logs(rt: HostRuntime) -> Result<(), Fail> {
+    let changes = [
+        Change::Nothing,
+        Change::Line,
+        Change::Last,
+        Change::Place,
+        Change::Frame,
+    ];
+    for what in changes {
+        assert!(rt; is_told(&rt, rt.alloc(), what)?, "{what:?}");
+    }
+    Ok(())
+}

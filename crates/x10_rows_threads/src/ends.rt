@@ -1,0 +1,59 @@
+//! Runs that a limit stops.
+use crate::runs::{assembled, program, run};
+use std::alloc::Global;
+use std::sync::Wait;
+use std::test::*;
+use std::thread::Threads;
+use x10_kinds::Stop;
+use x10_place::Line;
+use x10_workers::WorkFault;
+
+/// Main makes a list of 65,536 objects, and passes it to an activity.
+const LONG: &str = "places 1
+class opt:0
+func 1 0 none opt:0
+RET 0
+end
+func 2 1 none
+NULL 0 0
+LOOP 0 65535
+NEW 0 0 0
+ENDL 0 2
+NEW 0 0 0
+HERE 1
+ATA 0 1 0
+RET 0
+end
+entry 1
+";
+
+/// Whether nothing was printed at the only place.
+fn is_silent(outputs: &[Vec<Line>]) -> bool {
+    match outputs {
+        [lines] => lines.is_empty(),
+        _ => false,
+    }
+}
+
+/// Whether a module is stopped at place 0 by a limit, and has printed nothing.
+fn is_stopped<R: Threads + Wait + Sync>(
+    rt: &R,
+    alloc: Global,
+    text: &str,
+    limit: u8,
+) -> Result<bool, Fail> {
+    let bytes = assembled(alloc, text)?;
+    let verified = program(alloc, &bytes)?;
+    match run(rt, alloc, &verified, 1, 1_000_000) {
+        Err(WorkFault::Stop(0, Stop::Limit(met), report)) => {
+            Ok(met == limit && is_silent(&report.outputs))
+        }
+        _ => Ok(false),
+    }
+}
+
+#[test]
+fn objects_in_one_frame(rt: HostRuntime) -> Result<(), Fail> {
+    assert!(rt; is_stopped(&rt, rt.alloc(), LONG, 7)?);
+    Ok(())
+}

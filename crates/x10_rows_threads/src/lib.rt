@@ -1,0 +1,13 @@
+//! The tests of the hall, and of runs with a thread for each place.
+#![tactic(auto)]
+
+#[cfg(test)]
+mod changed;
+#[cfg(test)]
+mod ends;
+#[cfg(test)]
+mod halls;
+#[cfg(test)]
+mod meeting;
+#[cfg(test)]
+mod runs;

@@ -1,0 +1,6 @@
+use Rattle.std.specs.Prelude.{◌≡◌, map, take}
+use Rattle.x10_place.specs.StandsFor.{line_as}
+use Rattle.x10_workers.proofs.lines.same_lines.Given as goal
+
+abbrev pub invariant-loop-at : goal.invariant-loop-at
+invariant-loop-at l = map line_as (take l.at l.one) ≡ map line_as (take l.at l.other)

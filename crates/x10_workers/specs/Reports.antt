@@ -1,0 +1,33 @@
+-- What the reports of a run tell that failed.
+use Rattle.std.specs.Prelude.{◌≡◌, ℕ, ◌<◌, ◌==◌, List, [], ◌++◌, length, map, Some, slice_get, if◌then◌else◌}
+use Rattle.std.specs.List.{flat_map}
+use Rattle.x10_model.specs.Places.{Line}
+use Rattle.x10_place.specs.StandsFor.{line_as}
+use Rattle.x10_hall.specs.declared.turn.Turn.{Turn}
+use Rattle.x10_world.specs.Endings.{lines_in}
+use Rattle.x10_workers.specs.declared.halt.WorkFault.{WorkFault}
+use Rattle.x10_workers.specs.declared.halt.WorkFault.TheVariants as fault
+
+-- the lines that a turn printed, if it is one of the place
+abbrev pub lines_in_turn : ℕ → Turn → List Line
+lines_in_turn place t = if t.place == place then map line_as t.lines.items else []
+
+-- the lines of a place in a log, turn after turn
+abbrev pub lines_of : ℕ → List Turn → List Line
+lines_of place log = flat_map (lines_in_turn place) log
+
+-- for each of so many places its lines in a log
+pub record AreLinesBy (count : ℕ) (log : List Turn) (outputs : List (List Line)) : Type 0 where
+  pub count_is : length outputs ≡ count
+  pub each : (place : ℕ) → place < count → slice_get outputs place ≡ Some (lines_of place log)
+
+-- the lines of one turn more
+pub record AddsTurn (t : Turn) (old new : List (List Line)) : Type 0 where
+  pub count : length new ≡ length old
+  pub each : (place : ℕ) (lines : List Line) → slice_get old place ≡ Some lines → slice_get new place ≡ Some (lines ++ lines_in_turn place t)
+
+-- what a fault tells of a run: its report has the lines of its log; at the limit of turns the log has so many
+abbrev pub IsTold : ℕ → ℕ → WorkFault → Type 0
+IsTold places turns (fault.Stop place why report) = AreLinesBy places report.log.items (lines_in report.outputs.items)
+IsTold places turns (fault.Turns report) = AreLinesBy places report.log.items (lines_in report.outputs.items) × (length report.log.items ≡ turns)
+IsTold places turns why = Unit {0}

@@ -1,0 +1,21 @@
+//! Workers: a thread for each place of a run, and what their log of turns shows.
+#![tactic(auto)]
+
+mod auditing;
+mod fault;
+mod gate;
+mod halt;
+mod lines;
+mod report;
+mod threads;
+mod turns;
+mod worker;
+mod working;
+
+pub use auditing::audit;
+pub use fault::AuditFault;
+pub use gate::{Gate, Open};
+pub use halt::{Halt, WorkFault};
+pub use report::RunReport;
+pub use threads::run_threads;
+pub use working::work;
