@@ -43,7 +43,7 @@ pub enum PostFault {
     /// As many turns as were asked for have been posted.
     #[error("Turns")]
     Turns,
-    /// Memory was refused, or frames would be numbered above 2^64 - 1.
+    /// Memory was refused, or the log would have more than 2^64 - 1 frames (Limit 11).
     #[error("Stop")]
     Stop(Stop),
 }

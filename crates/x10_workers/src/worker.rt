@@ -63,8 +63,7 @@ impl<'a> Worker<'a> {
         })
     }
 
-    /// One turn: takes frames, makes steps, and posts what it did, if it did something. The worker of place 0 ends the run
-    /// where no activity is left.
+    /// One turn: takes frames, makes steps, and posts what it did, if it did something.
     pub fn turn(&mut self, port: &impl Port, gate: &impl Gate) -> Result<Went, Halt> {
         let mut turn = self.empty_turn();
         self.active = false;
