@@ -10,7 +10,7 @@ use Rattle.x10_finish.specs.Chains.{Name, IsAmong, IsBegunBy, IsChain, AreLinked
 use Rattle.x10_finish.proofs.Counting.{at_entry}
 use Rattle.x10_finish.proofs.Nesting.{at_pair, pair_same, pair_other, no_stay}
 use Rattle.x10_model.proofs.Events.{flying_is}
-use Rattle.x10_model.proofs.Maps.{at_key, off_key}
+use Rattle.x10_model.proofs.Maps.{at_key, at_equal_key, off_key}
 
 -- ---- names
 
@@ -209,9 +209,6 @@ carried_begun stays begun chains unders carries posts chain under c =
       single = c.single;
     }
 
-at_number : {V : Type 0} (f : ℕ → V) (k j : ℕ) (v : V) → j ≡ k → with_entry f k v j ≡ v
-at_number f k j v e = ap (with_entry f k v) e ∙ at_key f k v
-
 head_is : (x y : Name) (xs ys : List Name) → x ∷ xs ≡ y ∷ ys → x ≡ y
 head_is x y xs ys e = cc
 
@@ -220,20 +217,20 @@ pub carried_new : (stays : Stays) (begun : ℕ) (chains : ℕ → List Name) (un
     → Carries stays (chains a) (unders a) message → AreCarried stays begun chains unders (with_entry carries number a) (with_entry posts number (Flying message))
 carried_new stays begun chains unders carries posts number a message c none lt says = record {
   begun_one = λ m other flies. elim (cases_eq m number) [
-    | inl e ↦ subst (λ x. x < begun) (sym (at_number carries number m a e)) lt
+    | inl e ↦ subst (λ x. x < begun) (sym (at_equal_key carries number m a e)) lt
     | inr apart ↦ subst (λ x. x < begun) (sym (off_key carries number m a apart)) (c.begun_one m other (sym (off_key posts number m (Flying message) apart) ∙ flies))
   ];
   says = λ m other flies. elim (cases_eq m number) [
-    | inl e ↦ subst (λ x. Carries stays (chains x) (unders x) other) (sym (at_number carries number m a e)) (subst (Carries stays (chains a) (unders a)) (flying_is message other (sym (at_number posts number m (Flying message) e) ∙ flies)) says)
+    | inl e ↦ subst (λ x. Carries stays (chains x) (unders x) other) (sym (at_equal_key carries number m a e)) (subst (Carries stays (chains a) (unders a)) (flying_is message other (sym (at_equal_key posts number m (Flying message) e) ∙ flies)) says)
     | inr apart ↦ subst (λ x. Carries stays (chains x) (unders x) other) (sym (off_key carries number m a apart)) (c.says m other (sym (off_key posts number m (Flying message) apart) ∙ flies))
   ];
   single = λ m n other another flies too same. elim (cases_eq m number) [
     | inl e ↦ elim (cases_eq n number) [
       | inl f ↦ e ∙ sym f
-      | inr nf ↦ absurd (none n another (sym (off_key posts number n (Flying message) nf) ∙ too) (sym (off_key carries number n a nf) ∙ sym same ∙ at_number carries number m a e))
+      | inr nf ↦ absurd (none n another (sym (off_key posts number n (Flying message) nf) ∙ too) (sym (off_key carries number n a nf) ∙ sym same ∙ at_equal_key carries number m a e))
     ]
     | inr ne ↦ elim (cases_eq n number) [
-      | inl f ↦ absurd (none m other (sym (off_key posts number m (Flying message) ne) ∙ flies) (sym (off_key carries number m a ne) ∙ same ∙ at_number carries number n a f))
+      | inl f ↦ absurd (none m other (sym (off_key posts number m (Flying message) ne) ∙ flies) (sym (off_key carries number m a ne) ∙ same ∙ at_equal_key carries number n a f))
       | inr nf ↦ c.single m n other another (sym (off_key posts number m (Flying message) ne) ∙ flies) (sym (off_key posts number n (Flying message) nf) ∙ too) (sym (off_key carries number m a ne) ∙ same ∙ off_key carries number n a nf)
     ]
   ];
@@ -241,7 +238,7 @@ carried_new stays begun chains unders carries posts number a message c none lt s
 
 taken_apart : (posts : ℕ → Post) (number m : ℕ) (message : Message) → with_entry posts number Taken m ≡ Flying message → (m ≡ number → ⊥) × (posts m ≡ Flying message)
 taken_apart posts number m message flies = elim (cases_eq m number) [
-  | inl e ↦ absurd (let x = sym (at_number posts number m Taken e) ∙ flies in cc)
+  | inl e ↦ absurd (let x = sym (at_equal_key posts number m Taken e) ∙ flies in cc)
   | inr apart ↦ (apart, sym (off_key posts number m Taken apart) ∙ flies)
 ]
 

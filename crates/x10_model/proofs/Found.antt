@@ -24,12 +24,6 @@ cons_nil x xs e = cc
 pub head_is : {X : Type 0} (x y : X) (xs ys : List X) → x ∷ xs ≡ y ∷ ys → x ≡ y
 head_is x y xs ys e = cc
 
--- there is something at each number below the length
-pub below_some : {X : Type 0} (xs : List X) (i : ℕ) → slice_get xs i ≡ None → i < length xs → ⊥
-below_some [] i e lt = omega arith
-below_some (x ∷ xs) zero e lt = cc
-below_some (x ∷ xs) (suc i) e lt = below_some xs i e (omega arith)
-
 -- ---- operands
 
 -- the register holds what is asked for

@@ -1,5 +1,5 @@
 -- Lists and options: what the standard library lacks.
-use Rattle.std.proofs.Common.{◌≡◌, ◌≢◌, ℕ, zero, suc, ◌<◌, List, [], ◌∷◌, ◌++◌, length, set, Option, None, Some, refl, sym, ap, subst, arith}
+use Rattle.std.proofs.Common.{◌≡◌, ◌≢◌, ◌⊎◌, ℕ, zero, suc, ◌<◌, List, [], ◌∷◌, ◌++◌, length, set, Option, None, Some, refl, sym, ap, subst, inl, inr, arith}
 use Rattle.std.specs.Prelude.{slice_get}
 use Rattle.std.specs.List.{AllByRecursion}
 use Rattle.std.proofs.lemmas.Option.{same_Some}
@@ -20,6 +20,22 @@ all_at P (y ∷ xs) (suc i) x h e = all_at P xs i x h.1 e
 pub append_get : {A : Type 0} (xs : List A) (y : A) (ys : List A) → slice_get (xs ++ y ∷ ys) (length xs) ≡ Some y
 append_get [] y ys = refl
 append_get (x ∷ xs) y ys = append_get xs y ys
+
+-- what is in a list with one item more
+pub last_or_before : {A : Type 0} (xs : List A) (x y : A) (i : ℕ) → slice_get (xs ++ x ∷ []) i ≡ Some y → (slice_get xs i ≡ Some y) ⊎ ((i ≡ length xs) × (x ≡ y))
+last_or_before [] x y zero e = inr (refl, same_Some x y e)
+last_or_before [] x y (suc i) e = absurd cc
+last_or_before (z ∷ zs) x y zero e = inl e
+last_or_before (z ∷ zs) x y (suc i) e = elim (last_or_before zs x y i e) [
+  | inl before ↦ inl before
+  | inr last ↦ inr (ap suc last.0, last.1)
+]
+
+-- there is something at each number below the length
+pub below_some : {A : Type 0} (xs : List A) (i : ℕ) → slice_get xs i ≡ None → i < length xs → ⊥
+below_some [] i e lt = omega arith
+below_some (x ∷ xs) zero e lt = cc
+below_some (x ∷ xs) (suc i) e lt = below_some xs i e (omega arith)
 
 -- ---- a list in which one item is another
 

@@ -15,11 +15,11 @@ use Rattle.x10_model.specs.Places as places
 use Rattle.x10_model.specs.Places.{Setting, Stay, CallFrame, Effect, Origin, Export, Message, Spawn, Shift, Back, innermost, Waits, Works, Begins, Spawns, Shifts, Opens, Closes, Ends, with_stay, goes, next, writes}
 use Rattle.x10_model.specs.Moves.{Situation, Passes, Does, entry_frame, new_stay, writes_or_goes, next_or_goes, is_zero, quotient, remainder, joined_text, rail_length, byte_at, byte_value, place_number, with_line, with_cell}
 use Rattle.x10_model.specs.Wrong.{AnIntOrText, asked, IsTarget, IsDetached, IsFieldOwner, new_field, result, Anything, AnObjectOrNull}
-use Rattle.x10_model.proofs.Lists.{none_some}
+use Rattle.x10_model.proofs.Lists.{none_some, below_some}
 use Rattle.std.specs.Bool.{if◌then◌else◌}
 use Rattle.x10_model.specs.Laws.{HasRoom}
 use Rattle.x10_model.proofs.Decided.{and_then, get_below, kinds_or_not, gives_or_not}
-use Rattle.x10_model.proofs.Found.{AllMet, placed, printed, Passed, passed_at, held_place, held_object, same_object, below_some}
+use Rattle.x10_model.proofs.Found.{AllMet, placed, printed, Passed, passed_at, held_place, held_object, same_object}
 use Rattle.x10_model.proofs.Able.{Result, ask, ask_int, ask_place, ask_text, ask_rail, ask_object, ask_ref, ask_placed, is_line, is_object_or_null, holds, on_at, on, put, x_there, called, detached, captured, returns_to, get_field, put_value, opened, makes_rail, sets_byte, leaves}
 use Rattle.x10_model.proofs.Ways.{Way, passes, jumps, begins_loop, calls, begins, shifts, spawns, opens, to, exporting, changing, goes_on, written, went, jumped, turned, made, set, returned, left}
 

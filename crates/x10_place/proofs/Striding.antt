@@ -1,6 +1,7 @@
 -- Steps of a stay are steps of its place, and a place stands for some place of the machine after each of them.
 use Rattle.std.proofs.Common.{◌≡◌, ◌⊎◌, ℕ, zero, suc, Bool, true, false, List, [], ◌∷◌, Option, Some, None, refl, sym, ap, ap₂, subst, ◌∙◌, inl, inr, arith}
-use Rattle.std.specs.Prelude.{slice_index_or, slice_set}
+use Rattle.std.specs.Prelude.{slice_set}
+use Rattle.std.proofs.lemmas.List.{set-get_or}
 use Rattle.slab.specs.Slab.{Slab, get, Updates, with_value}
 use Rattle.x10_code.specs.declared.instr.Instr.{Instr}
 use Rattle.x10_kinds.specs.declared.stop.Stop.{Stop}
@@ -33,13 +34,8 @@ use Rattle.x10_place.proofs.Keeping.{written}
 
 -- ---- slabs
 
-set_same : (slots : List (Option StayState)) (key : ℕ) (a : StayState) → slice_index_or slots key None ≡ Some a → slice_set slots key (Some a) ≡ slots
-set_same [] key a e = absurd (none_some None a refl e)
-set_same (o ∷ slots) zero a e = ap (λ x. x ∷ slots) (sym e)
-set_same (o ∷ slots) (suc key) a e = ap (λ xs. o ∷ xs) (set_same slots key a e)
-
 pub with_same : (slab : Slab StayState) (key : ℕ) (a : StayState) → get slab key ≡ Some a → with_value slab key a ≡ slab
-with_same slab key a e = ap (λ (slots : List (Option StayState)). record slab { slots = slots }) (set_same slab.slots key a e)
+with_same slab key a e = ap (λ (slots : List (Option StayState)). record slab { slots = slots }) (ap (slice_set slab.slots key) (sym e) ∙ set-get_or slab.slots key None)
 
 -- another stay in place of the one written
 rewritten : (slab : Slab StayState) (key : ℕ) (a b c : StayState) → get slab key ≡ Some a → Updates (with_value slab key b) (with_value slab key c) key (Some c)

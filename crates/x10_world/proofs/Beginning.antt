@@ -8,7 +8,7 @@ use Rattle.x10_model.specs.Places as machine
 use Rattle.x10_model.specs.Places.{Setting, Finish, Message, root}
 use Rattle.x10_model.specs.Totals.{nothing, zeros, first_totals}
 use Rattle.x10_model.specs.Worlds.{Unused, Flying, same_finish, first_place, empty_place, opening}
-use Rattle.x10_model.proofs.Lists.{none_some}
+use Rattle.x10_model.proofs.Lists.{none_some, below_some, last_or_before}
 use Rattle.x10_finish.specs.Watching.{AreFirst}
 use Rattle.x10_finish.proofs.Watching.{opening_is_watched}
 use Rattle.x10_verify.specs.Certified.{Certified, IsCertified}
@@ -21,7 +21,7 @@ use Rattle.x10_world.specs.StandsForWorld.{WorldState, world_of, IsWorld, settin
 use Rattle.x10_world.proofs.LinkingDeliveries.{answered_at_opening}
 use Rattle.x10_world.specs.Opening.{IsOpened, AreOpened}
 use Rattle.x10_world.proofs.BudgetRuns.{budget_at_opening}
-use Rattle.x10_world.proofs.Lists.{none_past, at_first, last_or_before}
+use Rattle.x10_world.proofs.Lists.{at_first}
 
 -- ---- counts
 
@@ -31,7 +31,7 @@ first_none id f false ne = refl
 first_none id f true ne = ap (λ c. if c then record nothing { live = 1 } else nothing) (ne_eqb id 0 ne)
 
 totals_first : (verified : Certified) (places : List PlaceState) (id : ℕ) (f : Finish) (o : Option PlaceState) → 0 < length places → AreOpened verified (length places) places → slice_get places id ≡ o → totals_at o f ≡ first_totals id f
-totals_first verified places id f None some opened e = sym (first_none id f (same_finish f root) (λ zero. (let far = none_past places id e in absurd (omega (arith, far, zero, some)))))
+totals_first verified places id f None some opened e = sym (first_none id f (same_finish f root) (λ zero. absurd (below_some places id e (omega (arith, zero, some)))))
 totals_first verified places id f (Some p) some opened e = (opened.each id p e).is_new.store.totals f
 
 kept_first : (verified : Certified) (places : List PlaceState) (id number : ℕ) (o : Option PlaceState) → AreOpened verified (length places) places → slice_get places id ≡ o → kept_at o number ≡ (λ p. zeros)
@@ -112,7 +112,7 @@ opening_stands c count x certified some program bounds opened quiet = (
       where
         not_below : (b : Bool) → nat_lt id (length x.places) ≡ b → nat_lt id (length x.places) ≡ false
         not_below false e = e
-        not_below true e = absurd (let h = none_past x.places id is in let l = ltb-true id (length x.places) e in omega (arith, h, l))
+        not_below true e = absurd (below_some x.places id is (ltb-true id (length x.places) e))
 
     watched_first : AreFirst (counts_in x.places (λ f number. None))
     watched_first = counts_first c x.places (omega (arith, some, opened.count_is)) (subst (λ n. AreOpened c n x.places) (sym opened.count_is) opened)

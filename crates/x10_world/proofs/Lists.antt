@@ -7,34 +7,14 @@ use Rattle.x10_model.proofs.Lists.{set_here as set_within, set_off}
 
 -- ---- what is where
 
-pub none_past : {X : Type 0} (xs : List X) (i : ℕ) → slice_get xs i ≡ None → length xs ≤ i
-none_past [] i e = omega arith
-none_past (y ∷ ys) zero e = absurd cc
-none_past (y ∷ ys) (suc i) e = let h : length ys ≤ i = none_past ys i e in omega arith
-
 pub at_first : {X : Type 0} (xs : List X) → 0 < length xs → (x : X) × (slice_get xs 0 ≡ Some x)
 at_first [] lt = absurd (omega arith)
 at_first (x ∷ xs) lt = (x, refl)
-
--- what is in a list with one item more
-pub last_or_before : {X : Type 0} (xs : List X) (x y : X) (i : ℕ) → slice_get (xs ++ x ∷ []) i ≡ Some y → (slice_get xs i ≡ Some y) ⊎ ((i ≡ length xs) × (x ≡ y))
-last_or_before [] x y zero e = inr (refl, same_Some x y e)
-last_or_before [] x y (suc i) e = absurd cc
-last_or_before (z ∷ zs) x y zero e = inl e
-last_or_before (z ∷ zs) x y (suc i) e = elim (last_or_before zs x y i e) [
-  | inl before ↦ inl before
-  | inr last ↦ inr (ap suc last.0, last.1)
-]
 
 -- ---- changes
 
 pub set_here : {X : Type 0} (xs : List X) (i : ℕ) (x y : X) → slice_get xs i ≡ Some y → slice_get (slice_set xs i x) i ≡ Some x
 set_here xs i x y e = set_within xs i x (slice_get_within xs i y e)
-
-pub set_again : {X : Type 0} (xs : List X) (i : ℕ) (x y : X) → slice_set (slice_set xs i x) i y ≡ slice_set xs i y
-set_again [] i x y = refl
-set_again (z ∷ zs) zero x y = refl
-set_again (z ∷ zs) (suc i) x y = ap (λ zs. z ∷ zs) (set_again zs i x y)
 
 -- what holds of the item that was set, or of one that was there before
 pub set_either : {X : Type 0} (xs : List X) (i j : ℕ) (x y z : X) → slice_get xs i ≡ Some z → slice_get (slice_set xs i x) j ≡ Some y → ((j ≡ i) × (x ≡ y)) ⊎ ((j ≢ i) × (slice_get xs j ≡ Some y))

@@ -2,7 +2,7 @@
 use Rattle.std.proofs.Common.{◌≡◌, ◌≢◌, ◌⊎◌, ◌↔◌, ℕ, ◌+◌, ◌^◌, ◌<◌, ◌≤◌, true, false, List, [], length, replicate, Option, Some, None, Result, Ok, Err, refl, sym, ap, subst, ◌∙◌, inl, inr, arith}
 use Rattle.std.specs.Prelude.{⊤, slice_get, slice_set}
 use Rattle.std.proofs.lemmas.Option.{same_Some, slice_get_past}
-use Rattle.std.proofs.lemmas.List.{length-set}
+use Rattle.std.proofs.lemmas.List.{length-set, set-set}
 use Rattle.x10_kinds.specs.declared.stop.Stop.{Stop}
 use Rattle.x10_kinds.specs.declared.stop.Stop.TheVariants as stop
 use Rattle.x10_model.specs.Modules.{Module}
@@ -23,7 +23,7 @@ use Rattle.x10_world.specs.Flights.{FlightsState, with_room}
 use Rattle.x10_world.specs.Prompt.{MayEnd, WorksIn}
 use Rattle.x10_world.specs.StandsForWorld.{WorldState, world_of, BelongTo, IsWorld, setting_in, far_in, AllStandFor, StandsForWorld, with_posted, with_sent, GoesBelow, IsRunOn, RunsOne, MovesOn, MovesOnce, at_rest, moves_on, IsIdleNow, BeganLast, IsRoomless}
 use Rattle.x10_world.specs.Handling.{Stretches}
-use Rattle.x10_world.proofs.Lists.{set_here, set_again, replicate_more}
+use Rattle.x10_world.proofs.Lists.{set_here, replicate_more}
 use Rattle.x10_world.proofs.BudgetRuns.{budget_bounds}
 use Rattle.x10_world.proofs.Moving.{step_leads}
 use Rattle.x10_place.proofs.Striding.{stopped_hindered}
@@ -54,7 +54,7 @@ module _ (program : Module) (bounds : List ℕ) (places : List PlaceState) (flig
       let made = step_leads program bounds (slice_set places here q) flights v here key q r (stepped.Moved out) bounds-are (belong_set program bounds places here p q is kept belong) stand (set_here places here q p is) stride.leads in (
         made.0,
         subst (λ n. MovesOnce (record { program = program; places = n }) v here key made.0) (length-set places here q) (record { steps = made.1; goes = made.2.0 }),
-        subst (λ ps. AllStandFor program bounds ps (with_sent flights out) made.0) (set_again places here q r) made.3,
+        subst (λ ps. AllStandFor program bounds ps (with_sent flights out) made.0) (set-set places here q r) made.3,
       )
 
   one_more : (k : ℕ) (q r : PlaceState) (out : Sent) (w : World) → Keeps p q → IsStride key q out r → RepeatsIn program bounds places w k here key (slice_set places here q) flights → RepeatsIn program bounds places w (k + 1) here key (slice_set places here r) (with_sent flights out)
@@ -243,7 +243,7 @@ module _ (c : Certified) (places new : List PlaceState) (flights : FlightsState)
             r.0,
             r.1,
             r.2,
-            subst (λ ps. AllStandFor c.program c.bounds ps roomy r.0) (set_again places id ran.0 stopped ∙ ap (λ x. slice_set places id x) (sym ran.2)) (stand_stopped c.program c.bounds at roomy id ran.0 r.0 (set_here places id ran.0 p there) r.3),
+            subst (λ ps. AllStandFor c.program c.bounds ps roomy r.0) (set-set places id ran.0 stopped ∙ ap (λ x. slice_set places id x) (sym ran.2)) (stand_stopped c.program c.bounds at roomy id ran.0 r.0 (set_here places id ran.0 p there) r.3),
           )
 
       makes : (w : World) → AllStandFor c.program c.bounds places flights w → RepeatsIn c.program c.bounds places w n id key new after
