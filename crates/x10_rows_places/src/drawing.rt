@@ -1,13 +1,12 @@
 //! Pictures of runs.
 use crate::places::program;
-use crate::travels::AWAY;
 use crate::worlds::world_of;
 use std::alloc::{AllocError, Global};
 use std::test::*;
 use x10_asm::assemble;
 use x10_draw::{Counts, Drawing, push_escaped};
 use x10_model::Event;
-use x10_samples::SEVEN;
+use x10_samples::{AWAY, SEVEN};
 use x10_world::{Done, Rounds, World};
 
 /// The picture of the run of seven, behind its legend.

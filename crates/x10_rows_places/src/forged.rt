@@ -1,14 +1,14 @@
 //! Frames that no place sends: which fault is told of each, and that the place is as before.
 use crate::places::{opened, program, ran};
 use crate::receiving::{is_used, printed, refused, spawn, takes};
-use crate::travels::{ALONG, AWAY};
+use crate::travels::ALONG;
 use std::process::Abort;
 use std::test::*;
 use x10_asm::assemble;
 use x10_copy::Refusal;
 use x10_frame::FrameFault;
 use x10_place::Place;
-use x10_samples::{BACK, CYCLE};
+use x10_samples::{AWAY, BACK, CYCLE};
 
 /// A function wants a reference whose home is here, and another one. Main makes a reference.
 const REFERENCES: &str = "places 2

@@ -5,34 +5,8 @@ use std::process::Abort;
 use std::test::*;
 use x10_model::Event;
 use x10_place::Line;
-use x10_samples::{ALONE, BACK, CYCLE, OTHER_REPORT, REPORT, SHIFT, SPAWN};
+use x10_samples::{ALONE, AWAY, BACK, CYCLE, OTHER_REPORT, REPORT, SHIFT, SPAWN};
 use x10_world::World;
-
-/// Main waits in a finish, goes to place 1 and back; what it starts from there at place 2 prints 5. Then main prints 9.
-pub(crate) const AWAY: &str = "places 3
-int 5
-int 9
-func 1 0 none
-INTK 0 0
-PRINT 0
-RET 0
-end
-func 1 0 none
-PLACEK 0 2
-ATA 0 0 0
-RET 0
-end
-func 1 0 none
-FINB
-PLACEK 0 1
-AT 0 0 0 1
-FINE
-INTK 0 1
-PRINT 0
-RET 0
-end
-entry 2
-";
 
 /// Two objects, each of which holds the other, a rail that both hold and a global reference go to place 1. There the rail
 /// is changed, and its byte printed. Then main prints the byte of its own rail.

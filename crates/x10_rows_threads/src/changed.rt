@@ -1,11 +1,12 @@
 //! Logs of a run in which one thing was changed.
-use crate::runs::{FINISH, assembled, audited, program, run};
+use crate::runs::{assembled, audited, program, run};
 use std::alloc::Global;
 use std::sync::{Arc, Wait};
 use std::test::*;
 use std::thread::Threads;
 use x10_hall::{Posted, Turn};
 use x10_place::Line;
+use x10_samples::AWAY;
 use x10_verify::Verified;
 use x10_workers::AuditFault;
 
@@ -123,7 +124,7 @@ fn is_right(what: Change, at: Option<usize>, fault: Option<AuditFault>) -> bool 
 
 /// Whether a change in the log of a new run is told.
 fn is_told<R: Threads + Wait + Sync>(rt: &R, alloc: Global, what: Change) -> Result<bool, Fail> {
-    let bytes = assembled(alloc, FINISH)?;
+    let bytes = assembled(alloc, AWAY)?;
     let verified = program(alloc, &bytes)?;
     let mut log = log_of(rt, alloc, &verified)?;
     let at = make_change(alloc, &mut log, what)?;

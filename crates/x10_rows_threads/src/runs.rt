@@ -8,6 +8,7 @@ use x10_asm::assemble;
 use x10_hall::Turn;
 use x10_image::ImageView;
 use x10_place::Line;
+use x10_samples::AWAY;
 use x10_verify::{Verified, verify};
 use x10_workers::{AuditFault, Open, RunReport, WorkFault, audit, run_threads};
 
@@ -47,32 +48,6 @@ ASYNC 0 0
 RET 0
 end
 entry 1
-";
-
-/// Main goes to place 1 and back in a finish. There an activity goes to place 2, where it prints 5; then main prints 9.
-pub(crate) const FINISH: &str = "places 3
-int 5
-int 9
-func 1 0 none
-INTK 0 0
-PRINT 0
-RET 0
-end
-func 1 0 none
-PLACEK 0 2
-ATA 0 0 0
-RET 0
-end
-func 1 0 none
-FINB
-PLACEK 0 1
-AT 0 0 0 1
-FINE
-INTK 0 1
-PRINT 0
-RET 0
-end
-entry 2
 ";
 
 /// The image of a program that is given as text.
@@ -183,7 +158,7 @@ fn relay(rt: HostRuntime) -> Result<(), Fail> {
 #[test]
 fn finish(rt: HostRuntime) -> Result<(), Fail> {
     let wanted: [&[i64]; 3] = [&[9], &[], &[5]];
-    assert!(rt; thrice(&rt, rt.alloc(), FINISH, 3, &wanted)?);
+    assert!(rt; thrice(&rt, rt.alloc(), AWAY, 3, &wanted)?);
     Ok(())
 }
 

@@ -1,10 +1,12 @@
-//! Images, frames and numbers that the tests of several crates share.
+//! Programs, images, frames and numbers that the tests of several crates share.
 #![tactic(auto)]
 
 mod chance;
 mod frames;
 mod images;
+mod programs;
 
 pub use chance::random;
 pub use frames::{ALONE, BACK, CYCLE, OTHER_REPORT, REPORT, SHIFT, SPAWN};
 pub use images::{SEVEN, with_byte};
+pub use programs::AWAY;
