@@ -21,12 +21,16 @@ use Rattle.x10_verify.specs.declared.fault.VerifyCause.TheVariants as cause
 use Rattle.x10_verify.specs.declared.fault.VerifyFault.{VerifyFault}
 use Rattle.x10_world.specs.Endings.{IsImageOf}
 use Rattle.x10_world.specs.Opening.{IsForbidden}
+use Rattle.x10_kinds.specs.declared.stop.Stop.{Stop}
+use Rattle.x10_kinds.specs.declared.stop.Stop.TheVariants as stop
+use Rattle.x10_workers.specs.declared.halt.WorkFault.{WorkFault}
+use Rattle.x10_workers.specs.declared.halt.WorkFault.TheVariants as work
 use Rattle.x10_world.specs.declared.fault.OpenFault.{OpenFault}
 use Rattle.x10_world.specs.declared.fault.OpenFault.TheVariants as opened
 use Rattle.x10_cli.specs.declared.fault.Fault.{Fault}
 use Rattle.x10_cli.specs.declared.fault.Fault.TheVariants as fault
 use Rattle.x10_cli.specs.declared.task.Verb.TheVariants as verb
-use Rattle.x10_cli.specs.Answers.{IsImage, IsVerifiedImage, CanBeDone, IsStatus, Prints, verdict_line, places_for, of_verify, of_bounds, of_open, status_of}
+use Rattle.x10_cli.specs.Answers.{IsImage, IsVerifiedImage, CanBeDone, IsStatus, Prints, verdict_line, places_for, of_verify, of_bounds, of_open, of_stop, of_work, status_of}
 
 abbrev answer : Module → Result Module ImageFault
 answer m = Ok m
@@ -88,11 +92,33 @@ forbidden_again : (c d : Certified) (places : Option ℕ) → c.program ≡ d.pr
 forbidden_again c d None e h = subst (λ (m : Module). (m.least_places < m.least_places) ⊎ (64 < m.least_places)) e h
 forbidden_again c d (Some n) e h = subst (λ (m : Module). (n < m.least_places) ⊎ (64 < n)) e h
 
+pub not_permitted : (bytes : List ℕ) (c : Certified) (places : Option ℕ) (n : ℕ) → IsImageOf bytes c → IsForbidden c n → n ≡ places_for places c → CanBeDone verb.Run places bytes → ⊥
+not_permitted bytes c places n image forbidden en done =
+    let same = same_module c.program done.0.program bytes image.certified.fits image.spelled done.1.certified.fits done.1.spelled in
+    done.2 (forbidden_again c done.0 places same (subst (IsForbidden c) en forbidden))
+
 pub not_open : (bytes : List ℕ) (c : Certified) (places : Option ℕ) (n : ℕ) (f : OpenFault) (told : Fault) → IsImageOf bytes c → (f ≡ opened.Places → IsForbidden c n) → n ≡ places_for places c → told ≡ of_open f → status_of told ≡ 1 → CanBeDone verb.Run places bytes → ⊥
 not_open bytes c places n f told image forbids en e is done =
-    let same = same_module c.program done.0.program bytes image.certified.fits image.spelled done.1.certified.fits done.1.spelled in
-    let forbidden = forbids (forbidden_by f (ap status_of (sym e) ∙ is)) in
-    done.2 (forbidden_again c done.0 places same (subst (IsForbidden c) en forbidden))
+    not_permitted bytes c places n image (forbids (forbidden_by f (ap status_of (sym e) ∙ is))) en done
+
+-- what stops a run isn't a refusal
+stopped_by : (why : Stop) → status_of (of_stop why) ≡ 1 → ⊥
+stopped_by (stop.Limit which) is = omega (arith, is)
+stopped_by stop.Memory is = omega (arith, is)
+stopped_by stop.Stopped is = omega (arith, is)
+
+refused_by : (f : WorkFault) → status_of (of_work f) ≡ 1 → f ≡ work.Places
+refused_by (work.Stop place why report) is = absurd (stopped_by why is)
+refused_by (work.Turns report) is = absurd (omega (arith, is))
+refused_by (work.Refused place why) is = absurd (omega (arith, is))
+refused_by (work.Differs turn) is = absurd (omega (arith, is))
+refused_by work.Memory is = absurd (omega (arith, is))
+refused_by work.Places is = refl
+refused_by work.Thread is = absurd (omega (arith, is))
+
+pub not_worked : (bytes : List ℕ) (c : Certified) (places : Option ℕ) (n : ℕ) (f : WorkFault) (told : Fault) → IsImageOf bytes c → (f ≡ work.Places → IsForbidden c n) → n ≡ places_for places c → told ≡ of_work f → status_of told ≡ 1 → CanBeDone verb.Run places bytes → ⊥
+not_worked bytes c places n f told image forbids en e is done =
+    not_permitted bytes c places n image (forbids (refused_by f (ap status_of (sym e) ∙ is))) en done
 
 -- ---- statuses
 

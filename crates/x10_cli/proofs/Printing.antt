@@ -1,6 +1,7 @@
 -- What is printed line after line.
 use Rattle.std.proofs.Common.{◌≡◌, ℕ, zero, suc, ◌+◌, ◌<◌, List, [], ◌∷◌, ◌++◌, length, get_or, map, Option, Some, None, sym, ap, subst, ◌∙◌, arith, append_assoc}
-use Rattle.std.specs.Prelude.{slice_get, take}
+use Rattle.std.specs.Prelude.{slice_get, take, Vec}
+use Rattle.std.specs.Global.{Global}
 use Rattle.std.proofs.lemmas.List.{append-nil}
 use Rattle.std.specs.Io.KnownBytes.{Appends, Keeps}
 use Rattle.std.proofs.KnownBytes.{Appends-nil, Appends-trans, Appends-kept}
@@ -11,7 +12,7 @@ use Rattle.x10_model.specs.Worlds.{World, Ideal, Run, WithinBounds, opening}
 use Rattle.x10_verify.specs.Certified.{Certified}
 use Rattle.x10_place.specs.declared.line.Line.{Line}
 use Rattle.x10_place.specs.StandsFor.{PlaceState, line_as}
-use Rattle.x10_world.specs.Endings.{lines_at}
+use Rattle.x10_world.specs.Endings.{lines_at, lines_in}
 use Rattle.x10_world.specs.Opening.{IsOpenedWorld}
 use Rattle.x10_world.specs.Rounds.{HasEnded, RunsTo}
 use Rattle.x10_world.specs.declared.done.Done.{Done}
@@ -61,12 +62,25 @@ lines_there [] n p e = absurd cc
 lines_there (q ∷ qs) zero p e = ap (λ (x : PlaceState). Some (map line_as x.lines)) (same_Some q p e)
 lines_there (q ∷ qs) (suc n) p e = lines_there qs n p e
 
+-- the lines of one place more
+outputs_on : (a b c : Option (List ℕ)) (n m : ℕ) (outputs : List (List machine.Line)) (lines : List machine.Line) → m ≡ suc n → slice_get outputs n ≡ Some lines → Appends a b (all_lines 0 (take n outputs)) → Appends b c (place_lines n lines) → Appends a c (all_lines 0 (take m outputs))
+outputs_on a b c n m outputs lines e is before one =
+    let at : 0 + n ≡ n = omega arith in
+    let more = outputs_more 0 n outputs lines is ∙ ap (λ k. all_lines 0 (take n outputs) ++ place_lines k lines) at in
+    subst (λ k. Appends a c (all_lines 0 (take k outputs))) (sym e) (subst (λ bs. Appends a c bs) (sym more) (Appends-trans a b c _ _ before one))
+
 pub output_more : (a b c : Option (List ℕ)) (n m : ℕ) (places : List PlaceState) (p : PlaceState) (lines : List Line) → m ≡ suc n → slice_get places n ≡ Some p → lines ≡ p.lines → Appends a b (all_lines 0 (take n (lines_at places))) → Appends b c (place_lines n (map line_as lines)) → Appends a c (all_lines 0 (take m (lines_at places)))
 output_more a b c n m places p lines e is same before one =
-    let at : 0 + n ≡ n = omega arith in
-    let more = outputs_more 0 n (lines_at places) (map line_as p.lines) (lines_there places n p is) ∙ ap (λ k. all_lines 0 (take n (lines_at places)) ++ place_lines k (map line_as p.lines)) at in
-    subst (λ k. Appends a c (all_lines 0 (take k (lines_at places)))) (sym e)
-    (subst (λ bs. Appends a c bs) (sym more) (Appends-trans a b c _ _ before (subst (λ ls. Appends b c (place_lines n (map line_as ls))) same one)))
+    outputs_on a b c n m (lines_at places) (map line_as p.lines) e (lines_there places n p is) before (subst (λ ls. Appends b c (place_lines n (map line_as ls))) same one)
+
+lines_read : (outputs : List (Vec Line Global)) (n : ℕ) (row : Vec Line Global) → slice_get outputs n ≡ Some row → slice_get (lines_in outputs) n ≡ Some (map line_as row.items)
+lines_read [] n row e = absurd cc
+lines_read (o ∷ os) zero row e = ap (λ (x : Vec Line Global). Some (map line_as x.items)) (same_Some o row e)
+lines_read (o ∷ os) (suc n) row e = lines_read os n row e
+
+pub report_more : (a b c : Option (List ℕ)) (n m : ℕ) (outputs : List (Vec Line Global)) (row : Vec Line Global) (lines : List Line) → m ≡ suc n → slice_get outputs n ≡ Some row → lines ≡ row.items → Appends a b (all_lines 0 (take n (lines_in outputs))) → Appends b c (place_lines n (map line_as lines)) → Appends a c (all_lines 0 (take m (lines_in outputs)))
+report_more a b c n m outputs row lines e is same before one =
+    outputs_on a b c n m (lines_in outputs) (map line_as row.items) e (lines_read outputs n row is) before (subst (λ ls. Appends b c (place_lines n (map line_as ls))) same one)
 
 pub nothing_printed : (a : Option (List ℕ)) → Appends a a []
 nothing_printed a = Appends-nil a

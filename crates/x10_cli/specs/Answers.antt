@@ -16,7 +16,9 @@ use Rattle.x10_asm.specs.Reading.{module_of}
 use Rattle.x10_explain.specs.Verdicts as verdict
 use Rattle.x10_verify.specs.Certified.{Certified}
 use Rattle.x10_verify.specs.Faults.{HasBounds}
-use Rattle.x10_world.specs.Endings.{IsImageOf, AreLinesOf}
+use Rattle.x10_workers.specs.declared.halt.WorkFault.{WorkFault}
+use Rattle.x10_workers.specs.declared.halt.WorkFault.TheVariants as work
+use Rattle.x10_world.specs.Endings.{IsImageOf, AreLinesOf, lines_in}
 use Rattle.x10_world.specs.Opening.{IsForbidden, IsOpenedWorld}
 use Rattle.x10_world.specs.Rounds.{HasEnded, RunsTo}
 use Rattle.x10_world.specs.StandsForWorld.{WorldState}
@@ -154,6 +156,10 @@ status_of fault.Memory = 2
 status_of fault.StopMemory = 2
 status_of (fault.StopLimit n) = 2
 status_of fault.Limit = 2
+status_of fault.Turns = 2
+status_of (fault.Refused place) = 2
+status_of (fault.Differs turn) = 2
+status_of fault.Thread = 2
 status_of fault.File = 4
 
 -- the exit status of something done, or of a fault
@@ -199,3 +205,18 @@ abbrev pub of_halt : Halt → Fault
 of_halt (halt.Stop why) = of_stop why
 of_halt halt.Limit = fault.Limit
 of_halt halt.Memory = fault.Memory
+
+abbrev pub of_work : WorkFault → Fault
+of_work (work.Stop place why report) = of_stop why
+of_work (work.Turns report) = fault.Turns
+of_work (work.Refused place why) = fault.Refused place
+of_work (work.Differs turn) = fault.Differs turn
+of_work work.Memory = fault.Memory
+of_work work.Places = fault.Places
+of_work work.Thread = fault.Thread
+
+-- the lines of each place that a fault's report has; none where it has no report
+abbrev pub lines_told : WorkFault → List (List machine.Line)
+lines_told (work.Stop place why report) = lines_in report.outputs.items
+lines_told (work.Turns report) = lines_in report.outputs.items
+lines_told _ = []

@@ -20,8 +20,11 @@ use crate::explain::explanation;
 use crate::fault::Fault;
 use crate::picture::print_picture;
 use crate::task::{Task, Verb};
+use crate::threads::print_threaded;
 use std::alloc::Global;
 use std::io::Write;
+use std::sync::Wait;
+use std::thread::Threads;
 use x10_asm::{assemble, list};
 use x10_bounds::bounds;
 use x10_explain::list_verbose;
@@ -35,8 +38,11 @@ use x10_world::{Rounds, World, run_rounds};
 /// Does what a task asks for with the bytes of its file, and tells the exit status: 0 done, 1 refused, 2 stopped, 4
 /// where a write failed or a text isn't UTF-8. What is printed goes to `out`, of `asm` the image, which is nothing where
 /// the text is refused, and of `draw` the picture; a fault is one line on `err`, `x10p: ` and its text, and after it, where the task says so, lines that
-/// explain it. Where a run stops, what it printed until then stands on `out` before that.
-pub fn execute<O: Write, E: Write>(
+/// explain it. Where a run stops, what it printed until then stands on `out` before that: with threads the lines that are in
+/// the log of their turns, and nothing where they could not be compared with it. With threads it may wait; then nothing is
+/// promised of when, or whether, it returns.
+pub fn execute<R: Threads + Wait + Sync, O: Write, E: Write>(
+    rt: &R,
     alloc: Global,
     task: &Task,
     bytes: &[u8],
@@ -49,7 +55,7 @@ pub fn execute<O: Write, E: Write>(
     ensures verified { result ≡ 0 → IsVerifying task.now.verb → IsVerifiedImage bytes.now }
     ensures refused { result ≡ 1 → CanBeDone task.now.verb task.now.places bytes.now → ⊥ }
 {
-    let done = perform(alloc, task, bytes, out);
+    let done = perform(rt, alloc, task, bytes, out);
     if out.flush().is_err() {
         return tell(Fault::File, err);
     }
@@ -87,7 +93,13 @@ pub fn tell<E: Write>(fault: Fault, err: &mut E) -> u8
 }
 
 /// Does a task, and tells no fault of it.
-fn perform<O: Write>(alloc: Global, task: &Task, bytes: &[u8], out: &mut O) -> Result<(), Fault>
+fn perform<R: Threads + Wait + Sync, O: Write>(
+    rt: &R,
+    alloc: Global,
+    task: &Task,
+    bytes: &[u8],
+    out: &mut O,
+) -> Result<(), Fault>
     ensures done { IfOk result (λ _. CanBeDone task.now.verb task.now.places bytes.now) }
     ensures printed { OnOk result (Prints task.now.verb task.now.places bytes.now (O.contents out.old) (O.contents out.new)) }
     ensures refused { IfErr result (λ e. status_of e ≡ 1 → CanBeDone task.now.verb task.now.places bytes.now → ⊥) }
@@ -99,6 +111,7 @@ fn perform<O: Write>(alloc: Global, task: &Task, bytes: &[u8], out: &mut O) -> R
         Verb::Check => print_check(alloc, bytes, out),
         Verb::Verify => print_verdict(alloc, bytes, out),
         Verb::Bounds => print_bounds(alloc, bytes, out),
+        Verb::Run if task.threads => print_threaded(rt, alloc, task, bytes, out),
         Verb::Run => print_run(alloc, task, bytes, out),
         Verb::Trace => print_trace(alloc, task, bytes, out),
         Verb::Draw => print_picture(alloc, task, bytes, out),
@@ -258,7 +271,7 @@ fn print_outputs<O: Write>(world: &World, out: &mut O) -> Result<(), Fault>
 {
     for place in 0..world.count() {
         match world.output(place) {
-            Some(lines) => print_lines(place, lines, out)?,
+            Some(lines) => print_lines(usize::from(place), lines, out)?,
             None => {}
         }
     }
@@ -276,7 +289,7 @@ pub(crate) fn places_of(asked: Option<u16>, verified: &Verified) -> u16
 }
 
 /// The lines of a place, each with its number.
-fn print_lines<O: Write>(place: u16, lines: &[Line], out: &mut O) -> Result<(), Fault>
+pub(crate) fn print_lines<O: Write>(place: usize, lines: &[Line], out: &mut O) -> Result<(), Fault>
     ensures ok { OnOk result (Appends (O.contents out.old) (O.contents out.new) (place_lines place (map line_as lines.now))) }
     ensures err { IfErr result (λ e. e ≡ fault.File) }
 {
@@ -287,7 +300,7 @@ fn print_lines<O: Write>(place: u16, lines: &[Line], out: &mut O) -> Result<(), 
 }
 
 /// A line of a place.
-fn print_line<O: Write>(place: u16, line: &Line, out: &mut O) -> Result<(), Fault>
+fn print_line<O: Write>(place: usize, line: &Line, out: &mut O) -> Result<(), Fault>
     ensures ok { OnOk result (Appends (O.contents out.old) (O.contents out.new) (numbered place (line_as line.now))) }
     ensures err { IfErr result (λ e. e ≡ fault.File) }
 {

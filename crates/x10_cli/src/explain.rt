@@ -28,6 +28,10 @@ pub(crate) fn explanation(
         Fault::StopMemory => of_memory(alloc, task, bytes),
         Fault::StopLimit(which) => of_count(alloc, which),
         Fault::Limit => of_events(alloc, task, bytes),
+        Fault::Turns => of_turns(alloc, task),
+        Fault::Refused(place) => of_refusal(alloc, place),
+        Fault::Differs(turn) => of_difference(alloc, turn),
+        Fault::Thread => of_thread(alloc, task, bytes),
         Fault::File => of_text(alloc, task, bytes),
     }
 }
@@ -129,6 +133,34 @@ fn of_events(alloc: Global, task: &Task, bytes: &[u8]) -> Result<String, AllocEr
         None => format!(in alloc;
             "--limit permits {limit} events, and after them the root finish was open.\n"
         ),
+    }
+}
+
+fn of_turns(alloc: Global, task: &Task) -> Result<String, AllocError> {
+    let limit = task.limit;
+    format!(in alloc;
+        "--limit permits {limit} turns of workers, and a worker had one more. In a turn a worker takes in 16 frames and makes 64 steps at most.\n"
+    )
+}
+
+fn of_refusal(alloc: Global, place: u16) -> Result<String, AllocError> {
+    format!(in alloc;
+        "Place {place} refused a frame that was posted to it. In a run with one thread no place refuses any, so the mistake is in x10p and not in the module.\n"
+    )
+}
+
+fn of_difference(alloc: Global, turn: usize) -> Result<String, AllocError> {
+    format!(in alloc;
+        "Turn {turn} of the log, counted from 0, was made again in one thread, and isn't what its worker did; where the log has no such turn, the run isn't over behind the last one. So nothing was printed. The mistake is in x10p and not in the module.\n"
+    )
+}
+
+fn of_thread(alloc: Global, task: &Task, bytes: &[u8]) -> Result<String, AllocError> {
+    match places_in(alloc, task, bytes) {
+        Some(places) => format!(in alloc;
+            "With --threads each place has a thread of its own, here {places} beside the program's, and the system started fewer.\n"
+        ),
+        None => Ok(String::new(alloc)),
     }
 }
 

@@ -1,6 +1,6 @@
 ghost use Rattle.std.specs.Prelude.{◌≡◌};
 ghost use Rattle.x10_cli.specs.declared.fault.Fault.TheVariants as fault;
-ghost use Rattle.x10_cli.specs.Answers.{status_of, of_asm, of_image, of_verify, of_bounds, of_open, of_stop, of_halt};
+ghost use Rattle.x10_cli.specs.Answers.{status_of, of_asm, of_image, of_verify, of_bounds, of_open, of_stop, of_halt, of_work};
 
 use std::alloc::{AllocError, AllocFailed};
 use std::io;
@@ -10,6 +10,7 @@ use x10_bounds::{BoundCause, BoundFault};
 use x10_image::ImageFault;
 use x10_kinds::Stop;
 use x10_verify::{VerifyCause, VerifyFault};
+use x10_workers::WorkFault;
 use x10_world::{Halt, OpenFault};
 
 /// Why a command was not done. Its text is what the program prints of it.
@@ -42,6 +43,19 @@ pub enum Fault {
     /// As many events were made as there may be, and the run had not ended.
     #[error("limit")]
     Limit,
+    /// With threads, as many turns of workers were posted as there may be, and a worker had one more.
+    #[error("turns")]
+    Turns,
+    /// With threads, a place refused a frame that was posted to it.
+    #[error("refused: place {0}")]
+    Refused(u16),
+    /// With threads, the turns of the log, made again one by one, differ from what the workers did in this one, from 0; its
+    /// number is that of all turns where none differs, and the run is not over behind them.
+    #[error("differs: turn {0}")]
+    Differs(usize),
+    /// The thread of a place could not be started.
+    #[error("thread")]
+    Thread,
     /// A file can't be read, or what was printed can't be written.
     #[error("file")]
     File,
@@ -56,6 +70,7 @@ impl Fault {
             Fault::Asm(_) | Fault::Image(_) | Fault::Verify(_) | Fault::Bounds(_) => 1,
             Fault::Places => 1,
             Fault::Memory | Fault::StopMemory | Fault::StopLimit(_) | Fault::Limit => 2,
+            Fault::Turns | Fault::Refused(_) | Fault::Differs(_) | Fault::Thread => 2,
             Fault::File => 4,
         }
     }
@@ -135,6 +150,22 @@ impl From<Halt> for Fault {
             Halt::Stop(stop) => Fault::from(stop),
             Halt::Limit => Fault::Limit,
             Halt::Memory => Fault::Memory,
+        }
+    }
+}
+
+impl From<WorkFault> for Fault {
+    ghost from_gives = { λ why told. told ≡ of_work why };
+
+    fn from(why: WorkFault) -> Fault {
+        match why {
+            WorkFault::Stop(_, stop, _) => Fault::from(stop),
+            WorkFault::Turns(_) => Fault::Turns,
+            WorkFault::Refused(place, _) => Fault::Refused(place),
+            WorkFault::Differs(turn) => Fault::Differs(turn),
+            WorkFault::Memory => Fault::Memory,
+            WorkFault::Places => Fault::Places,
+            WorkFault::Thread => Fault::Thread,
         }
     }
 }

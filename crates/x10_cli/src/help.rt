@@ -63,11 +63,12 @@ Exit status:
 
 pub const RUN: &str = "Example:
   x10p run examples/seven.x10 --places 4
+  x10p run examples/seven.x10 --places 4 --threads
 
 Exit status:
   0  done
   1  refused: the image, its module, or the number of places
-  2  stopped: lack of memory, a limit of the machine, or --limit
+  2  stopped: lack of memory or of a thread, a limit of the machine, or --limit
   3  these words aren't understood
   4  a file can't be read, or the output can't be written";
 

@@ -9,6 +9,7 @@ mod fault;
 mod help;
 mod picture;
 mod task;
+mod threads;
 mod usage;
 
 pub use checking::is_image;

@@ -31,8 +31,10 @@ pub struct Task<'a> {
     pub output: Option<&'a str>,
     /// How many places; left out, the module's least number.
     pub places: Option<u16>,
-    /// How many events at most, those in which nothing moves too.
+    /// How many events at most, those in which nothing moves too; with threads, how many turns of workers.
     pub limit: u64,
+    /// Whether a run has a thread for each place. No other verb looks at it.
+    pub threads: bool,
     /// Whether more is told of a fault than its line.
     pub explain: bool,
 }

@@ -114,6 +114,7 @@ fn task_of<'a>(matches: &ArgMatches<'a>) -> Option<Task<'a>> {
         output: matches.get_str("OUTPUT"),
         places: matches.get_one("places"),
         limit: matches.get_one("limit").unwrap_or(1_000_000),
+        threads: matches.get_flag("threads"),
         explain: matches.get_flag("explain"),
     })
 }
@@ -197,7 +198,11 @@ fn bounds<'a>(alloc: Global) -> Result<Command<'a>, AllocError> {
 
 fn run<'a>(alloc: Global) -> Result<Command<'a>, AllocError> {
     let about = "Verify a module, run it, and print each place's lines, `PLACE: LINE` each";
-    run_words(alloc, "run", about, help::RUN)
+    let threads = Arg::new(alloc, "threads")
+        .long("threads")
+        .help("A thread for each place; --limit then counts turns of workers")
+        .action(ArgAction::SetTrue);
+    run_words(alloc, "run", about, help::RUN)?.arg(threads)
 }
 
 fn trace<'a>(alloc: Global) -> Result<Command<'a>, AllocError> {
