@@ -11,6 +11,8 @@ use crate::trouble::Trouble;
 use std::fs::{self, File};
 use std::io::{BufWriter, ErrorKind, Write};
 use std::process::ExitCode;
+use std::sync::Wait;
+use std::thread::Threads;
 use std::{env, io};
 use x10_cli::{Fault, Task, Usage, execute, no_text, parse, tell};
 
@@ -19,7 +21,7 @@ const FAULT_LINE: usize = 256;
 
 fn main(rt: HostRuntime) -> ExitCode {
     match words(&rt) {
-        Ok(words) => ExitCode::from(follow(&rt, &words)),
+        Ok(words) => ExitCode::from(follow(&rt, &rt, &words)),
         Err(error) if error.kind() == ErrorKind::OutOfMemory => {
             ExitCode::from(tell(Fault::Memory, &mut rt.stderr()))
         }
@@ -32,9 +34,9 @@ fn words(rt: &HostRuntime) -> io::Result<Vec<String>> {
     Ok(env::args(rt)?.collect(rt.alloc())?)
 }
 
-fn follow(rt: &HostRuntime, words: &[String]) -> u8 {
+fn follow<R: Threads + Wait + Sync>(rt: &HostRuntime, threads: &R, words: &[String]) -> u8 {
     match parse(rt.alloc(), words) {
-        Ok(task) => match perform(rt, &task) {
+        Ok(task) => match perform(rt, threads, &task) {
             Ok(status) => status,
             Err(trouble) => trouble.tell(rt, &task),
         },
@@ -43,19 +45,28 @@ fn follow(rt: &HostRuntime, words: &[String]) -> u8 {
 }
 
 /// Reads the file and does the work, which tells its own faults.
-fn perform(rt: &HostRuntime, task: &Task) -> Result<u8, Trouble> {
+fn perform<R: Threads + Wait + Sync>(
+    rt: &HostRuntime,
+    threads: &R,
+    task: &Task,
+) -> Result<u8, Trouble> {
     let mut file = match fs::open(rt, task.input) {
         Ok(file) => file,
         Err(error) => return Err(Trouble::reading(error)),
     };
     match task.output {
-        Some(output) => write(rt, task, &mut file, output),
-        None => print(rt, task, &mut file),
+        Some(output) => write(rt, threads, task, &mut file, output),
+        None => print(rt, threads, task, &mut file),
     }
 }
 
 /// Does the work, and prints what it prints.
-fn print(rt: &HostRuntime, task: &Task, file: &mut File) -> Result<u8, Trouble> {
+fn print<R: Threads + Wait + Sync>(
+    rt: &HostRuntime,
+    threads: &R,
+    task: &Task,
+    file: &mut File,
+) -> Result<u8, Trouble> {
     let bytes = input::read(rt, task.verb, file)?;
     let Ok(mut out) = BufWriter::new(rt.alloc(), Output::new(rt.stdout())) else {
         return Err(Trouble::Memory);
@@ -63,7 +74,7 @@ fn print(rt: &HostRuntime, task: &Task, file: &mut File) -> Result<u8, Trouble> 
     let Ok(mut told) = Vec::with_capacity(rt.alloc(), FAULT_LINE) else {
         return Err(Trouble::Memory);
     };
-    let status = execute(rt.alloc(), task, &bytes, &mut out, &mut told);
+    let status = execute(threads, rt.alloc(), task, &bytes, &mut out, &mut told);
     Ok(speak(rt, task, out.get_ref().failure(), &told, status))
 }
 
@@ -92,7 +103,13 @@ fn speak(
 
 /// Does the work, and writes what it makes once that is whole, if there is anything; then what is told of a fault. A file
 /// that would be read and written is left as it is.
-fn write(rt: &HostRuntime, task: &Task, file: &mut File, output: &str) -> Result<u8, Trouble> {
+fn write<R: Threads + Wait + Sync>(
+    rt: &HostRuntime,
+    threads: &R,
+    task: &Task,
+    file: &mut File,
+    output: &str,
+) -> Result<u8, Trouble> {
     match whole::is_one_file(rt, file, output) {
         Ok(false) => {}
         Ok(true) => return Err(Trouble::OneFile),
@@ -103,7 +120,7 @@ fn write(rt: &HostRuntime, task: &Task, file: &mut File, output: &str) -> Result
     let Ok(mut told) = Vec::with_capacity(rt.alloc(), FAULT_LINE) else {
         return Err(Trouble::Memory);
     };
-    let status = execute(rt.alloc(), task, &bytes, &mut made, &mut told);
+    let status = execute(threads, rt.alloc(), task, &bytes, &mut made, &mut told);
     if !made.is_empty()
         && let Err(error) = whole::write(rt, output, &made)
     {
