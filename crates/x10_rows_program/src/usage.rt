@@ -21,6 +21,7 @@ fn words(rt: HostRuntime) -> Result<(), Fail> {
         output: None,
         places: Some(64),
         limit: 1_000_000,
+        threads: false,
         explain: false,
     };
     assert!(rt; parse(rt.alloc(), &words).ok() == Some(task));

@@ -1,7 +1,9 @@
 use crate::usage::words_of;
 use std::alloc::Global;
 use std::io::{self, ErrorKind, Write};
+use std::sync::Wait;
 use std::test::*;
+use std::thread::Threads;
 use x10_cli::{Task, execute, parse};
 use x10_samples::SEVEN;
 
@@ -36,17 +38,29 @@ fn narrow_to(alloc: Global, room: usize) -> Narrow {
     }
 }
 
-/// The status of a task on `SEVEN`, and what was written, where the output takes so many bytes.
-fn narrowed(alloc: Global, task: &Task, room: usize) -> (u8, Vec<u8>, Vec<u8>) {
+/// The status of a task on an image, and what was written, where the output takes so many bytes.
+fn narrowed<R: Threads + Wait + Sync>(
+    rt: &R,
+    alloc: Global,
+    task: &Task,
+    image: &[u8],
+    room: usize,
+) -> (u8, Vec<u8>, Vec<u8>) {
     let (mut out, mut err) = (narrow_to(alloc, room), Vec::new(alloc));
-    let status = execute(alloc, task, &SEVEN, &mut out, &mut err);
+    let status = execute(rt, alloc, task, image, &mut out, &mut err);
     (status, out.taken, err)
 }
 
 /// Whether a task that prints a text fails wherever its output does, and tells that.
-fn fails(alloc: Global, task: &Task, text: &str) -> bool {
+pub(crate) fn fails<R: Threads + Wait + Sync>(
+    rt: &R,
+    alloc: Global,
+    task: &Task,
+    image: &[u8],
+    text: &str,
+) -> bool {
     for room in 0..text.len() {
-        let (status, taken, told) = narrowed(alloc, task, room);
+        let (status, taken, told) = narrowed(rt, alloc, task, image, room);
         let begun = text.as_bytes().starts_with(&taken) && taken.len() == room;
         if status != 4 || !begun || told.as_slice() != "x10p: file\n".as_bytes() {
             return false;
@@ -65,7 +79,7 @@ fn each_write_fails(rt: HostRuntime) -> Result<(), Fail> {
     for (verb, text) in rows {
         let words = words_of(rt.alloc(), &[verb, "F"])?;
         let task = parse(rt.alloc(), &words).ok().ok_or("it is a task")?;
-        assert!(rt; fails(rt.alloc(), &task, text), "{verb}");
+        assert!(rt; fails(&rt, rt.alloc(), &task, &SEVEN, text), "{verb}");
     }
     Ok(())
 }
@@ -76,7 +90,7 @@ fn a_fault_that_cannot_be_told(rt: HostRuntime) -> Result<(), Fail> {
     let words = words_of(alloc, &["run", "F"])?;
     let task = parse(alloc, &words).ok().ok_or("it is a task")?;
     let (mut out, mut err) = (narrow_to(alloc, 0), narrow_to(alloc, 3));
-    assert!(rt; execute(alloc, &task, &[], &mut out, &mut err) == 4);
+    assert!(rt; execute(&rt, alloc, &task, &[], &mut out, &mut err) == 4);
     assert!(rt; err.taken.as_slice() == "x10".as_bytes());
     Ok(())
 }
