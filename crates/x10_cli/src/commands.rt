@@ -38,9 +38,9 @@ use x10_world::{Rounds, World, run_rounds};
 /// Does what a task asks for with the bytes of its file, and tells the exit status: 0 done, 1 refused, 2 stopped, 4
 /// where a write failed or a text isn't UTF-8. What is printed goes to `out`, of `asm` the image, which is nothing where
 /// the text is refused, and of `draw` the picture; a fault is one line on `err`, `x10p: ` and its text, and after it, where the task says so, lines that
-/// explain it. Where a run stops, what it printed until then stands on `out` before that: with threads the lines that are in
-/// the log of their turns, and nothing where they could not be compared with it. With threads it may wait; then nothing is
-/// promised of when, or whether, it returns.
+/// explain it. Where a run stops, what it printed until then stands on `out` before that; of a run with threads these are the
+/// lines of the turns in its log, where the fault is `Turns` or a stop, and none where it is another. With threads it may
+/// wait: nothing is promised of when, or whether, it returns then.
 pub fn execute<R: Threads + Wait + Sync, O: Write, E: Write>(
     rt: &R,
     alloc: Global,
