@@ -151,7 +151,7 @@ fn of_refusal(alloc: Global, place: u16) -> Result<String, AllocError> {
 
 fn of_difference(alloc: Global, turn: usize) -> Result<String, AllocError> {
     format!(in alloc;
-        "Turn {turn} of the log, counted from 0, was made again in one thread, and isn't what its worker did; where the log has no such turn, the run isn't over behind the last one. So nothing was printed. The mistake is in x10p and not in the module.\n"
+        "Turn {turn} of the log, counted from 0, isn't what the worker of its place did; where the log has no such turn, a worker made a turn that isn't there, or the run isn't over behind the last one. So nothing was printed. The mistake is in x10p and not in the module.\n"
     )
 }
 

@@ -49,8 +49,8 @@ pub enum Fault {
     /// With threads, a place refused a frame that was posted to it.
     #[error("refused: place {0}")]
     Refused(u16),
-    /// With threads, the turns of the log, made again one by one, differ from what the workers did in this one, from 0; its
-    /// number is that of all turns where none differs, and the run is not over behind them.
+    /// With threads, this turn of the log, from 0, isn't what the worker of its place did. The number is that of all turns
+    /// where none differs, and a worker made another one, or the run is not over behind them.
     #[error("differs: turn {0}")]
     Differs(usize),
     /// The thread of a place could not be started.

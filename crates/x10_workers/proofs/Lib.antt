@@ -1,2 +1,7 @@
 mod Playing
+mod Flying
+mod Leading
+mod Woven
+mod Following
+mod Gathering
 mod Reporting

@@ -1,3 +1,6 @@
 pub mod Plays
 pub mod Halts
 pub mod Reports
+pub mod Trails
+pub mod Weaves
+pub mod Looms

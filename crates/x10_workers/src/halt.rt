@@ -78,7 +78,8 @@ pub enum WorkFault {
     Turns(RunReport),
     /// A place refused a frame that was posted to it.
     Refused(u16, Refusal),
-    /// The turns, made one by one, differ from what the threads did in this turn.
+    /// This turn of the log isn't what the worker of its place did; the number of all turns where none differs, but a worker
+    /// made another one, or some activity may be left.
     Differs(usize),
     /// Memory was refused outside a turn.
     Memory,

@@ -20,8 +20,8 @@ fn same_line(one: &Line, other: &Line) -> bool
 }
 
 /// Whether two lists of lines print the same.
-fn same_lines(one: &[Line], other: &[Line]) -> bool
-    ensures { IsTrue result → map line_as one.now ≡ map line_as other.now }
+pub(crate) fn same_lines(one: &[Line], other: &[Line]) -> bool
+    ensures { IsTrue result ↔ (map line_as one.now ≡ map line_as other.now) }
 {
     if one.len() != other.len() {
         return false;
@@ -60,6 +60,15 @@ fn push_all(alloc: Global, lines: &[Line], to: &mut Vec<Line>) -> Result<(), All
         to.push(copy)?;
     }
     Ok(())
+}
+
+/// A copy of lines.
+pub(crate) fn copied_lines(alloc: Global, lines: &[Line]) -> Result<Vec<Line>, AllocError>
+    ensures { IfOk result (λ copy. map line_as copy.items ≡ map line_as lines.now) }
+{
+    let mut copy = Vec::with_capacity(alloc, lines.len())?;
+    push_all(alloc, lines, &mut copy)?;
+    Ok(copy)
 }
 
 /// Pushes copies of the lines behind so many of a list's.

@@ -1,139 +1,136 @@
 //! A thread for each place.
-ghost use Rattle.std.specs.Prelude.{◌≡◌, ◌≢◌, ◌<◌, ◌≤◌, ◌↔◌, ℕ, IfOk, IfErr, IsErrOf};
+ghost use Rattle.std.specs.Prelude.{◌≡◌, ◌≢◌, ◌<◌, ◌≤◌, ◌↔◌, ℕ, IfOk, IfErr, IsErrOf, length, vec_len};
 ghost use Rattle.x10_workers.specs.Reports.{IsTold};
 ghost use Rattle.x10_workers.specs.declared.halt.WorkFault.TheVariants as fault;
 ghost use Rattle.x10_workers.specs.Plays.{IsPlayed};
+ghost use Rattle.x10_workers.specs.Trails.{IsTrail, AreTrails, AreEnds, AreTrailsOf};
+ghost use Rattle.x10_verify.specs.Certified.{Certified};
 ghost use Rattle.x10_world.specs.Endings.{lines_in};
 ghost use Rattle.x10_world.specs.Opening.{IsForbidden};
 
-use crate::auditing::audit;
 use crate::fault::AuditFault;
 use crate::gate::Gate;
 use crate::halt::{Halt, WorkFault};
+use crate::jobs::{Failure, Job, make_all};
 use crate::lines::lines_by_place;
 use crate::report::RunReport;
+use crate::trail::Trail;
+use crate::weaving::weave;
 use crate::working::work;
 use std::alloc::Global;
 use std::sync::Wait;
-use std::thread;
-use std::thread::{JoinHandle, Threads};
+use std::thread::Threads;
 use x10_hall::{Desk, End, Mail, Port, Turn};
 use x10_verify::Verified;
 
-/// Why the workers came to no good end.
-#[derive(Clone, Copy, Debug, PartialEq, Eq)]
-enum Failure {
-    /// The worker of a place stopped, by itself.
-    Worker(u16, Halt),
-    /// Memory for the threads' handles was refused.
-    Memory,
-    /// A worker could not be started.
-    Thread,
-}
-
-/// The work of one place, with the mail for its port.
-fn work_at<R: Wait, G: Gate>(
-    rt: &R,
+/// The workers of a run, with the mail for their port.
+#[derive(Drop)]
+struct Workers<'w, 'i, R: Wait, G: Gate> {
+    rt: &'w R,
     alloc: Global,
-    verified: &Verified,
-    id: u16,
+    verified: &'w Verified<'i>,
     places: u16,
-    mail: &Mail,
-    gate: &G,
-) -> Result<(), Halt>
-    requires within { id < places }
-    requires enough { verified.now.program.least_places ≤ places }
-    requires few { places ≤ 64 }
-{
-    let desk = Desk::new(rt, mail);
-    work(rt, alloc, verified, id, places, &desk, gate)
+    mail: &'w Mail,
+    gate: &'w G,
 }
 
-/// Waits for all workers: the first failure that is a worker's own.
-fn join_all(rt: &impl Threads, handles: Vec<JoinHandle<Result<(), Halt>>>) -> Option<Failure> {
-    let mut failure = None;
-    let mut place: u16 = 0;
-    for handle in handles {
-        if let Err(halt) = handle.join(rt) {
-            if failure.is_none() && halt != Halt::Ended {
-                failure = Some(Failure::Worker(place, halt));
-            }
-        }
-        place = place.saturating_add(1);
+impl<R: Wait, G: Gate> Job for Workers<'_, '_, R, G> {
+    ghost use Rattle.std.specs.Prelude.{◌<◌, ◌≤◌, IfOk};
+    ghost use Rattle.x10_workers.specs.Trails.{IsTrail};
+
+    ghost asks = { λ w id. (id < w.places) × (w.verified.now.program.least_places ≤ w.places) × (w.places ≤ 64) };
+
+    ghost gives = { λ w id end. IfOk end (IsTrail w.verified.now w.places id) };
+
+    fn make(&self, id: u16) -> Result<Trail, Halt> {
+        let desk = Desk::new(self.rt, self.mail);
+        work(
+            self.rt,
+            self.alloc,
+            self.verified,
+            id,
+            self.places,
+            &desk,
+            self.gate,
+        )
     }
-    failure
+
+    fn stop(&self) {
+        let desk = Desk::new(self.rt, self.mail);
+        desk.end(End::Stopped);
+    }
 }
 
-/// Stops the run for all workers, and waits for them.
-fn stopped<R: Threads + Wait>(
-    rt: &R,
-    mail: &Mail,
-    handles: Vec<JoinHandle<Result<(), Halt>>>,
-    failure: Failure,
-) -> Option<Failure> {
-    let desk = Desk::new(rt, mail);
-    desk.end(End::Stopped);
-    join_all(rt, handles);
-    Some(failure)
+/// The first failure that is a worker's own.
+fn first_failure(ends: &[Result<Trail, Halt>]) -> Option<Failure> {
+    let mut place: u16 = 0;
+    for end in ends {
+        match end {
+            Err(halt) if *halt != Halt::Ended => return Some(Failure::Worker(place, *halt)),
+            _ => place = place.saturating_add(1),
+        }
+    }
+    None
 }
 
-/// Starts a worker for each place, and waits for all.
-fn work_all<R: Threads + Wait + Sync, G: Gate + Sync>(
-    rt: &R,
-    alloc: Global,
-    verified: &Verified,
-    places: u16,
-    mail: &Mail,
-    gate: &G,
-) -> Option<Failure>
-    requires enough { verified.now.program.least_places ≤ places }
-    requires few { places ≤ 64 }
+/// The trails of all workers, or why there is one that has none.
+fn gathered(alloc: Global, ends: Vec<Result<Trail, Halt>>) -> Result<Vec<Trail>, Failure>
+    ensures { (c : Certified) (places : ℕ) → AreEnds c places ends.items → IfOk result (λ trails. AreTrailsOf c places trails.items) }
 {
-    let Ok(mut handles) = Vec::with_capacity(alloc, usize::from(places)) else {
-        return Some(Failure::Memory);
+    if let Some(failure) = first_failure(&ends) {
+        return Err(failure);
+    }
+    let Ok(mut trails) = Vec::with_capacity(alloc, ends.len()) else {
+        return Err(Failure::Memory);
     };
-    thread::scope(
-        thread::scope_env(),
-        rt,
-        move |scope| -> Option<Failure>
-            requires { (verified.now.program.least_places ≤ places) × (places ≤ 64) }
-        {
-            for id in 0..places {
-                let started = scope.spawn(
-                    move || -> Result<(), Halt>
-                        requires { (id < places) × (verified.now.program.least_places ≤ places) × (places ≤ 64) }
-                    { work_at(rt, alloc, verified, id, places, mail, gate) },
-                );
-                let Ok(handle) = started else {
-                    return stopped(rt, mail, handles, Failure::Thread);
-                };
-                if handles.push(handle).is_err() {
-                    return stopped(rt, mail, handles, Failure::Memory);
-                }
-            }
-            join_all(rt, handles)
-        },
-    )
+    for end in ends {
+        let Ok(trail) = end else {
+            return Err(Failure::Thread);
+        };
+        if trails.push(trail).is_err() {
+            return Err(Failure::Memory);
+        }
+    }
+    Ok(trails)
 }
 
-/// The report of a run that came to its end, if its turns, made one by one, do what the threads did.
-fn finished(
-    alloc: Global,
-    verified: &Verified,
-    places: u16,
-    log: Vec<Turn>,
-) -> Result<RunReport, WorkFault>
-    requires permitted { IsForbidden verified.now places → ⊥ }
-    ensures ok { IfOk result (λ r. IsPlayed verified.now places r.log.items (lines_in r.outputs.items)) }
+/// The report of a run that came to its end, if its log is found in the trails of its places.
+fn finished(alloc: Global, trails: &[Trail], log: Vec<Turn>) -> Result<RunReport, WorkFault>
+    ensures ok { (c : Certified) → AreTrails c trails.now → IfOk result (λ r. IsPlayed c (length trails.now) r.log.items (lines_in r.outputs.items)) }
     ensures places { IsErrOf result fault.Places → ⊥ }
-    ensures told { (turns : ℕ) → IfErr result (IsTold places turns) }
+    ensures told { (places turns : ℕ) → IfErr result (IsTold places turns) }
 {
-    match audit(alloc, verified, places, &log) {
+    match weave(alloc, &log, trails) {
         Ok(outputs) => Ok(RunReport { outputs, log }),
         Err(AuditFault::Differs(turn)) => Err(WorkFault::Differs(turn)),
         Err(AuditFault::Open) => Err(WorkFault::Differs(log.len())),
         Err(AuditFault::Stop(_)) => Err(WorkFault::Memory),
     }
+}
+
+/// Works at each place in a thread of its own: the trails of all workers, by place.
+fn all_trails<R: Threads + Wait + Sync, G: Gate + Sync>(
+    rt: &R,
+    alloc: Global,
+    verified: &Verified,
+    places: u16,
+    mail: &Mail,
+    gate: &G,
+) -> Result<Vec<Trail>, Failure>
+    requires enough { verified.now.program.least_places ≤ places }
+    requires few { places ≤ 64 }
+    ensures { IfOk result (λ trails. AreTrailsOf verified.now places trails.items) }
+{
+    let workers = Workers {
+        rt,
+        alloc,
+        verified,
+        places,
+        mail,
+        gate,
+    };
+    let ends = make_all(rt, alloc, places, &workers)?;
+    gathered(alloc, ends)
 }
 
 /// The fault of a run that failed, with a report of the turns that were posted.
@@ -161,9 +158,9 @@ fn fault_of(alloc: Global, places: u16, turns: u64, failure: Failure, log: Vec<T
 }
 
 /// Runs a module at so many places, each in a thread of its own, until no activity is left, or so many turns were posted.
-/// Places hand each other frames alone. What a place did in a turn is posted to one log; where the run has ended, the turns
-/// of the log are made again one by one, and compared: so an Ok carries a log that is a run of the machine, with its outputs.
-/// The gate is told of each turn. May wait: nothing is promised of when, or whether, it returns.
+/// Places hand each other frames alone. What a place did in a turn is posted to one log, and kept by its worker; where the run
+/// has ended, the log is compared with what the workers kept: so an Ok carries a log that is a run of the machine, with its
+/// outputs. The gate is told of each turn. May wait: nothing is promised of when, or whether, it returns.
 pub fn run_threads<R: Threads + Wait + Sync, G: Gate + Sync>(
     rt: &R,
     alloc: Global,
@@ -181,10 +178,10 @@ pub fn run_threads<R: Threads + Wait + Sync, G: Gate + Sync>(
         return Err(WorkFault::Places);
     }
     let mail = Mail::new(alloc, places, turns)?;
-    let failure = work_all(rt, alloc, verified, places, &mail, gate);
+    let trails = all_trails(rt, alloc, verified, places, &mail, gate);
     let log = mail.into_hall().into_log();
-    match failure {
-        None => finished(alloc, verified, places, log),
-        Some(failure) => Err(fault_of(alloc, places, turns, failure, log)),
+    match trails {
+        Ok(trails) => finished(alloc, &trails, log),
+        Err(failure) => Err(fault_of(alloc, places, turns, failure, log)),
     }
 }

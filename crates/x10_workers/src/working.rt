@@ -1,8 +1,10 @@
 //! The loop of a worker's thread.
-ghost use Rattle.std.specs.Prelude.{◌<◌, ◌≤◌};
+ghost use Rattle.std.specs.Prelude.{◌≢◌, ◌<◌, ◌≤◌, true, IfOk};
+ghost use Rattle.x10_workers.specs.Trails.{GoesOn, IsTrail};
 
 use crate::gate::Gate;
 use crate::halt::Halt;
+use crate::trail::Trail;
 use crate::worker::{Went, Worker};
 use std::alloc::Global;
 use std::sync::Wait;
@@ -17,7 +19,10 @@ fn attend(
     id: u16,
     port: &impl Port,
     gate: &impl Gate,
-) -> Result<(), Halt> {
+) -> Result<(), Halt>
+    requires { worker.old.place.stopped ≢ true }
+    ensures { IfOk result (λ _. GoesOn worker.old.place worker.old.kept.items worker.new.place worker.new.kept.items) }
+{
     for _ in rt.forever() {
         let went = worker.turn(port, gate)?;
         if id == 0 && worker.is_over() {
@@ -35,10 +40,33 @@ fn attend(
     unreachable!()
 }
 
-/// The work of one place, from its beginning to the end of the run: takes frames, makes steps and posts its turns, by a port.
-/// A turn takes at most 16 frames and then makes at most 64 steps, of the keys in use by rising number, round after round. A
-/// turn that did nothing isn't posted; where all keys were tried since something moved, the worker waits. The gate is told of
-/// each turn with no lock held. Where the worker can't go on, it stops the run for all.
+/// The turns of a place, from its beginning to the end of the run.
+fn attend_all(
+    rt: &impl Wait,
+    alloc: Global,
+    verified: &Verified,
+    id: u16,
+    places: u16,
+    port: &impl Port,
+    gate: &impl Gate,
+) -> Result<Trail, Halt>
+    requires within { id < places }
+    requires enough { verified.now.program.least_places ≤ places }
+    requires few { places ≤ 64 }
+    ensures { IfOk result (IsTrail verified.now places id) }
+{
+    let place = Place::new(alloc, verified, id, places)?;
+    let mut worker = Worker::new(alloc, id, place)?;
+    attend(rt, &mut worker, id, port, gate)?;
+    Ok(worker.into_trail()?)
+}
+
+/// The work of one place, from its beginning to the end of the run: takes frames, makes steps and posts its turns, by a port;
+/// and what the place did. A turn takes at most 16 frames and then makes at most 64 steps, of the keys in use by rising
+/// number, round after round. A turn that did nothing isn't posted; where all keys were tried since something moved, the
+/// worker waits. The gate is told of each turn with no lock held. Where the worker can't go on, it stops the run for all.
+/// Whatever the port answers, the turns of the trail, with the frames that they took, lead from the place's beginning to its
+/// end.
 pub fn work(
     rt: &impl Wait,
     alloc: Global,
@@ -47,20 +75,15 @@ pub fn work(
     places: u16,
     port: &impl Port,
     gate: &impl Gate,
-) -> Result<(), Halt>
+) -> Result<Trail, Halt>
     requires within { id < places }
     requires enough { verified.now.program.least_places ≤ places }
     requires few { places ≤ 64 }
+    ensures { IfOk result (IsTrail verified.now places id) }
 {
-    let ended = match Place::new(alloc, verified, id, places) {
-        Ok(place) => match Worker::new(alloc, id, place) {
-            Ok(mut worker) => attend(rt, &mut worker, id, port, gate),
-            Err(error) => Err(Halt::from(error)),
-        },
-        Err(error) => Err(Halt::from(error)),
-    };
-    if ended.is_err() {
+    let trail = attend_all(rt, alloc, verified, id, places, port, gate);
+    if trail.is_err() {
         port.end(End::Stopped);
     }
-    ended
+    trail
 }

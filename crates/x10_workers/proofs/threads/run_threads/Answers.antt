@@ -1,4 +1,4 @@
 use Rattle.x10_workers.proofs.threads.run_threads.Goals as goal
 
-pub returns-in-None-clause-told : goal.returns-in-None-clause-told
-returns-in-None-clause-told g c = c.finished.ensures.told c.args.turns
+pub returns-in-Ok-clause-told : goal.returns-in-Ok-clause-told
+returns-in-Ok-clause-told g c = c.finished.ensures.told c.args.places c.args.turns

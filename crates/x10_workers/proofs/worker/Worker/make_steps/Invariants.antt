@@ -1,0 +1,12 @@
+use Rattle.std.specs.Prelude.{◌≡◌, ◌≢◌, true, false, map}
+use Rattle.x10_hall.specs.Halls.{frame_of}
+use Rattle.x10_workers.specs.Trails.{StepsEach}
+use Rattle.x10_workers.proofs.worker.Worker.make_steps.Given as goal
+
+abbrev pub invariant-loop : goal.invariant-loop
+invariant-loop l = record {
+  steps : StepsEach l.fn.self.place l.steps.keys.items (map frame_of l.steps.frames.items) l.self.place;
+  goes : l.self.place.stopped ≢ true;
+  still : l.steps.moved ≡ false → l.self.place ≡ l.fn.self.place;
+  kept : l.self.kept ≡ l.fn.self.kept;
+}

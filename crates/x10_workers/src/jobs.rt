@@ -1,0 +1,103 @@
+//! Jobs, each in a thread of its own.
+ghost use Rattle.std.specs.Prelude.{◌≡◌, ℕ, ◌<◌, IfOk, Some, Result, length, slice_get, vec_len};
+ghost use Rattle.x10_workers.specs.declared.halt.Halt as halt;
+ghost use Rattle.x10_workers.specs.declared.trail.Trail as trail;
+
+use crate::halt::Halt;
+use crate::trail::Trail;
+use std::alloc::Global;
+use std::sync::Wait;
+use std::thread;
+use std::thread::{Promise, Threads};
+
+/// Why the workers came to no good end.
+#[derive(Clone, Copy, Debug, PartialEq, Eq)]
+pub(crate) enum Failure {
+    /// The worker of a place stopped, by itself.
+    Worker(u16, Halt),
+    /// Memory for the threads' handles, or for what they hand over, was refused.
+    Memory,
+    /// A worker could not be started.
+    Thread,
+}
+
+/// What the workers of a run do, by the number of their place.
+pub(crate) trait Job {
+    ghost use Rattle.std.specs.Prelude.{ℕ, Result};
+    ghost use Rattle.x10_workers.specs.declared.halt.Halt.{Halt};
+    ghost use Rattle.x10_workers.specs.declared.trail.Trail.{Trail};
+
+    ghost asks: { Self → ℕ → Type 0 };
+
+    ghost gives: { Self → ℕ → Result Trail Halt → Type 0 };
+
+    /// The work of one place.
+    fn make(&self, id: u16) -> Result<Trail, Halt>
+        requires { Self.asks self.now id }
+        ensures { Self.gives self.now id result };
+
+    /// Stops the work of all places.
+    fn stop(&self);
+}
+
+/// What a thread promises: what the work of its place gives.
+#[derive(Drop)]
+struct Given<'j, J: Job> {
+    job: &'j J,
+    id: u16,
+}
+
+impl<'j, J: Job> Promise<Result<Trail, Halt>> for Given<'j, J> {
+    ghost kept_by = { λ p end. J.gives p.job.now p.id end };
+}
+
+/// Stops all work, after a failure.
+fn stopped(job: &impl Job, failure: Failure) -> Failure {
+    job.stop();
+    failure
+}
+
+/// Does the work of so many places, each in a thread of its own, and waits for all: how each ended.
+pub(crate) fn make_all<R: Threads + Wait + Sync, J: Job + Sync>(
+    rt: &R,
+    alloc: Global,
+    count: u16,
+    job: &J,
+) -> Result<Vec<Result<Trail, Halt>>, Failure>
+    requires { (id : ℕ) → id < count → J.asks job.now id }
+    ensures count { IfOk result (λ ends. length ends.items ≡ count) }
+    ensures each { IfOk result (λ ends. (id : ℕ) (end : Result trail.Trail halt.Halt) → slice_get ends.items id ≡ Some end → J.gives job.now id end) }
+{
+    let Ok(mut handles) = Vec::with_capacity(alloc, usize::from(count)) else {
+        return Err(Failure::Memory);
+    };
+    thread::scope(
+        thread::scope_env(),
+        rt,
+        move |scope| -> Result<Vec<Result<Trail, Halt>>, Failure>
+            requires { ((id : ℕ) → id < count → J.asks job.now id) × (vec_len handles ≡ 0) }
+            ensures count { IfOk result (λ ends. length ends.items ≡ count) }
+            ensures each { IfOk result (λ ends. (id : ℕ) (end : Result trail.Trail halt.Halt) → slice_get ends.items id ≡ Some end → J.gives job.entry.now id end) }
+        {
+            for id in 0..count {
+                let started = scope.spawn_with(
+                    Given { job, id },
+                    move || -> Result<Trail, Halt>
+                        requires { J.asks job.now id }
+                        ensures { J.gives job.entry.now id result }
+                    { job.make(id) },
+                );
+                let Ok(handle) = started else {
+                    return Err(stopped(job, Failure::Thread));
+                };
+                let Ok(()) = handles.push(handle) else {
+                    return Err(stopped(job, Failure::Memory));
+                };
+            }
+            match thread::join_promised(rt, handles) {
+                Ok(ends) => Ok(ends),
+                Err(_) => Err(Failure::Memory),
+            }
+        },
+    )
+}
