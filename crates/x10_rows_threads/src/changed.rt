@@ -12,7 +12,7 @@ use x10_workers::AuditFault;
 
 /// One thing that is changed in a log.
 #[derive(Clone, Copy, Debug, PartialEq, Eq)]
-enum Change {
+pub(crate) enum Change {
     /// Nothing.
     Nothing,
     /// The first line that was printed.
@@ -23,6 +23,10 @@ enum Change {
     Place,
     /// The bytes of the first frame.
     Frame,
+    /// The number of the first frame that was taken.
+    Taken,
+    /// The key of the first step.
+    Key,
 }
 
 /// Changes the first line of a turn, if it has one.
@@ -76,8 +80,33 @@ fn change_place(log: &mut [Turn]) -> Option<usize> {
     Some(0)
 }
 
+/// Changes the number of the first frame that was taken: the number of its turn.
+fn change_taken(log: &mut [Turn]) -> Option<usize> {
+    for at in 0..log.len() {
+        let taken = &mut log[at].taken;
+        if !taken.is_empty() {
+            taken[0] = 77;
+            return Some(at);
+        }
+    }
+    None
+}
+
+/// Changes the key of the first step.
+fn change_key(log: &mut [Turn]) -> Option<usize> {
+    if log.is_empty() || log[0].keys.is_empty() {
+        return None;
+    }
+    log[0].keys[0] = 77;
+    Some(0)
+}
+
 /// Makes a change: the number of the turn that was changed, if one was.
-fn make_change(alloc: Global, log: &mut Vec<Turn>, what: Change) -> Result<Option<usize>, Fail> {
+pub(crate) fn make_change(
+    alloc: Global,
+    log: &mut Vec<Turn>,
+    what: Change,
+) -> Result<Option<usize>, Fail> {
     match what {
         Change::Nothing => Ok(None),
         Change::Line => Ok(change_first_line(log)),
@@ -87,6 +116,8 @@ fn make_change(alloc: Global, log: &mut Vec<Turn>, what: Change) -> Result<Optio
         }
         Change::Place => Ok(change_place(log)),
         Change::Frame => change_first_frame(alloc, log),
+        Change::Taken => Ok(change_taken(log)),
+        Change::Key => Ok(change_key(log)),
     }
 }
 
@@ -139,6 +170,7 @@ fn changed_logs(rt: HostRuntime) -> Result<(), Fail> {
         Change::Last,
         Change::Place,
         Change::Frame,
+        Change::Taken,
     ];
     for what in changes {
         assert!(rt; is_told(&rt, rt.alloc(), what)?, "{what:?}");

@@ -11,3 +11,5 @@ mod halls;
 mod meeting;
 #[cfg(test)]
 mod runs;
+#[cfg(test)]
+mod weaving;
