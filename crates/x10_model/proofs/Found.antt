@@ -1,5 +1,5 @@
 -- What a move found: operands, arguments and objects.
-use Rattle.std.proofs.Common.{◌≡◌, ℕ, zero, suc, ◌<◌, List, [], ◌∷◌, length, Option, Some, None, sym, subst, arith}
+use Rattle.std.proofs.Common.{◌≡◌, ℕ, zero, suc, List, [], ◌∷◌, Option, Some, sym, subst}
 use Rattle.std.specs.Prelude.{slice_get}
 use Rattle.x10_model.specs.Maps.{IsIn}
 use Rattle.x10_model.specs.Modules.{Function}

@@ -1,5 +1,5 @@
 -- Steps of a stay are steps of its place, and a place stands for some place of the machine after each of them.
-use Rattle.std.proofs.Common.{◌≡◌, ◌⊎◌, ℕ, zero, suc, Bool, true, false, List, [], ◌∷◌, Option, Some, None, refl, sym, ap, ap₂, subst, ◌∙◌, inl, inr, arith}
+use Rattle.std.proofs.Common.{◌≡◌, ◌⊎◌, ℕ, Bool, true, false, List, Option, Some, None, refl, sym, ap, ap₂, subst, ◌∙◌, inl, inr, arith}
 use Rattle.std.specs.Prelude.{slice_set}
 use Rattle.std.proofs.lemmas.List.{set-get_or}
 use Rattle.slab.specs.Slab.{Slab, get, Updates, with_value}
@@ -7,7 +7,6 @@ use Rattle.x10_code.specs.declared.instr.Instr.{Instr}
 use Rattle.x10_kinds.specs.declared.stop.Stop.{Stop}
 use Rattle.x10_model.specs.Ranges.{instr_in}
 use Rattle.x10_model.specs.Places as machine
-use Rattle.x10_model.proofs.Lists.{none_some}
 use Rattle.x10_heap.specs.Heaps.{HeapState}
 use Rattle.x10_verify.specs.Certified.{Certified}
 use Rattle.x10_place.specs.Frames as frames
