@@ -127,7 +127,7 @@ map_split f [] i x is = absurd cc
 map_split f (y ∷ ys) zero x is = ap (λ z. f z ∷ map f ys) (same_Some y x is)
 map_split f (y ∷ ys) (suc i) x is = ap (λ zs. f y ∷ zs) (map_split f ys i x is)
 
-at_map : {X Y : Type 0} (f : X → Y) (xs : List X) (i : ℕ) (x : X) → slice_get xs i ≡ Some x → slice_get (map f xs) i ≡ Some (f x)
+pub at_map : {X Y : Type 0} (f : X → Y) (xs : List X) (i : ℕ) (x : X) → slice_get xs i ≡ Some x → slice_get (map f xs) i ≡ Some (f x)
 at_map f xs i x is = rw (slice_get-map f xs i, is) refl
 
 -- a frame that is held is taken off

@@ -2,7 +2,7 @@
 use Rattle.std.proofs.Common.{◌≡◌, ℕ, zero, suc, ◌+◌, ◌<◌, false, List, [], ◌∷◌, ◌++◌, Option, Some, None, Ok, length, map, refl, sym, ap, subst, ◌∙◌, arith, set-set}
 use Rattle.std.specs.Prelude.{slice_get, slice_set}
 use Rattle.std.proofs.lemmas.List.{append-nil, append_assoc, map-append, length-append, length-set}
-use Rattle.std.proofs.lemmas.Option.{same_Some, slice_get-map}
+use Rattle.std.proofs.lemmas.Option.{same_Some}
 use Rattle.slab.specs.Slab.{get}
 use Rattle.x10_code.specs.declared.instr.Instr.{Instr}
 use Rattle.x10_model.specs.Modules.{Module, Function}
@@ -31,6 +31,7 @@ use Rattle.x10_workers.specs.declared.trail.OwnTurn.{OwnTurn}
 use Rattle.x10_workers.specs.Plays.{flight_as, Takes, takes_none, takes_more, StepsAll, steps_none, steps_more, PlaysTurn}
 use Rattle.x10_workers.specs.Trails.{frames_out, TakesIn, TakesEach, StepsBy, StepsEach, TurnLeads}
 use Rattle.x10_workers.specs.Weaves.{TakesOff, TakesOffEach, IsTurnOf, all_flying}
+use Rattle.x10_workers.proofs.Leading.{at_map}
 use Rattle.x10_workers.proofs.Flying.{IsTable, table_flight, table_taken, table_stepped}
 
 -- ---- where an activity stands
@@ -48,9 +49,6 @@ append_at : {X : Type 0} (xs ys : List X) (n i : ℕ) → n ≡ length xs + i �
 append_at [] ys n i e = let same : n ≡ i = omega (arith, e) in ap (λ k. slice_get ys k) same
 append_at (x ∷ xs) ys zero i e = absurd (omega (arith, e))
 append_at (x ∷ xs) ys (suc n) i e = append_at xs ys n i (omega (arith, e))
-
-at_map : {X Y : Type 0} (f : X → Y) (xs : List X) (i : ℕ) (x : X) → slice_get xs i ≡ Some x → slice_get (map f xs) i ≡ Some (f x)
-at_map f xs i x is = rw (slice_get-map f xs i, is) refl
 
 module _ (c : Certified) (bounds-are : bounds_of c.program ≡ Ok c.bounds) where
   -- a world that goes on
