@@ -12,6 +12,11 @@ use crate::state::HallState;
 use crate::turn::{Posted, Turn};
 use std::alloc::{AllocError, Global};
 use std::sync::{Condvar, Mutex, Wait};
+use std::thread;
+
+/// How often a worker that waits looks for a reason to go on, and lets others run, before it sleeps. To wake a thread costs
+/// as much as some hundred steps, and the answer to a frame is often there before.
+const LOOKS: u8 = 50;
 
 /// A hall that takes a given number of turns at most.
 #[derive(Drop)]
@@ -175,6 +180,12 @@ impl<R: Wait> Port for Desk<'_, R> {
     }
 
     fn wait(&self, place: u16) -> Signal {
+        for _ in 0..LOOKS {
+            if let Some(signal) = self.mail.shared.lock(self.rt).signal(place) {
+                return signal;
+            }
+            thread::yield_now();
+        }
         let call = self.mail.call(place);
         let mut shared = self.mail.shared.lock(self.rt);
         for _ in self.rt.forever() {
