@@ -33,4 +33,5 @@ unfoldable pub labels_from : ℕ → ℕ → List (List ℕ) → List Label
 labels_from line index [] = []
 labels_from line index (text ∷ others) =
     if ends_labels (statement_in (words text)) then []
-    else (defined (statement_in (words text)) (first_word (words text)) line index ++ labels_from (suc line) (index_after (statement_in (words text)) index) others)
+    else (defined (statement_in (words text)) (first_word (words text)) line index ++ labels_from (suc line)
+    (index_after (statement_in (words text)) index) others)

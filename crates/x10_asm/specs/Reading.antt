@@ -197,7 +197,8 @@ with_instruction s (Ok i) = Ok (record s { function = record s.function { code =
 with_instruction s (Err fault) = Err fault
 
 abbrev pub with_end : Source → Result (Unit {0}) AsmCause → Result Source AsmCause
-with_end s (Ok u) = Ok (record s { stage = stage.Functions; so_far = record s.so_far { functions = s.so_far.functions ++ s.function ∷ [] }; function = no_function; labels = [] })
+with_end s (Ok u) = Ok
+    (record s { stage = stage.Functions; so_far = record s.so_far { functions = s.so_far.functions ++ s.function ∷ [] }; function = no_function; labels = [] })
 with_end s (Err fault) = Err fault
 
 abbrev pub with_entry : Source → Result ℕ AsmCause → Result Source AsmCause
@@ -215,11 +216,13 @@ after_statement classes s line text ws others statement.Places = with_places s (
 after_statement classes s line text ws others statement.Class = with_class s (class_of s.stage classes (length s.so_far.classes) (other_words ws))
 after_statement classes s line text ws others statement.Int = with_int s (int_line_of s.stage (length s.so_far.ints) (other_words ws))
 after_statement classes s line text ws others statement.Text = with_text s (text_of s.stage (length s.so_far.texts) (after_word text))
-after_statement classes s line text ws others statement.Func = with_func s (labels_from (suc line) 0 others) (func_of s.stage classes (length s.so_far.functions) (other_words ws))
+after_statement classes s line text ws others statement.Func = with_func s (labels_from (suc line) 0 others)
+    (func_of s.stage classes (length s.so_far.functions) (other_words ws))
 after_statement classes s line text ws others statement.End = with_end s (end_of s.stage (length s.function.code) (other_words ws))
 after_statement classes s line text ws others statement.Entry = with_entry s (entry_of s.stage s.so_far.functions (other_words ws))
 after_statement classes s line text ws others statement.Label = with_nothing s (label_at s.stage s.labels line (first_word ws) (other_words ws))
-after_statement classes s line text ws others (statement.Instruction op) = with_instruction s (instruction_of s.labels (is_inside s.stage) (length s.function.code) op (other_words ws))
+after_statement classes s line text ws others (statement.Instruction op) = with_instruction s
+    (instruction_of s.labels (is_inside s.stage) (length s.function.code) op (other_words ws))
 after_statement classes s line text ws others statement.Unknown = Err cause.Word
 
 unfoldable pub after_line : ℕ → Source → ℕ → List ℕ → List (List ℕ) → Result Source AsmCause
@@ -251,7 +254,12 @@ classes_in [] = 0
 classes_in (text ∷ others) = if is_class (statement_in (words text)) then suc (classes_in others) else classes_in others
 
 abbrev pub nothing_read : Source
-nothing_read = record { stage = stage.Start; so_far = record { least_places = 0; classes = []; ints = []; texts = []; functions = []; entry = 0 }; function = no_function; labels = [] }
+nothing_read = record {
+  stage = stage.Start;
+  so_far = record { least_places = 0; classes = []; ints = []; texts = []; functions = []; entry = 0 };
+  function = no_function;
+  labels = [];
+}
 
 -- the module that a text spells, or its fault
 unfoldable pub module_of : List ℕ → Result Module AsmFault

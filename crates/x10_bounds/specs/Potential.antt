@@ -39,7 +39,8 @@ levels_from earlier code pc = levels earlier (drop pc code)
 -- what the turns cost that the loops around an instruction still have to make, beside those that they are in
 abbrev pub pending : List ℕ → List Instr → (ℕ → ℕ) → List Region → ℕ
 pending earlier code slots [] = 0
-pending earlier code slots (Turning opener limit ∷ rs) = (slots (depth_of rs) - 1) * inner (levels_from earlier code (opener + 1)) + pending earlier code slots rs
+pending earlier code slots (Turning opener limit ∷ rs) = (slots (depth_of rs) - 1) * inner
+    (levels_from earlier code (opener + 1)) + pending earlier code slots rs
 pending earlier code slots (Waiting opener ∷ rs) = pending earlier code slots rs
 
 -- how many steps there are still, at most, at an instruction with the loops' slots as they are
@@ -56,11 +57,16 @@ pub record IsStructured (loops : ℕ) (code : List Instr) : Type 0 where
 -- loop's begin, each of its turns, its end and each jump take 1.
 pub record PotentialFalls (loops : ℕ) (earlier : List ℕ) (code : List Instr) : Type 0 where
   pub begins : (slots : ℕ → ℕ) → potential earlier code 0 slots ≡ bound_of earlier code
-  pub onward : (pc : ℕ) (i : Instr) (slots : ℕ → ℕ) → slice_get code pc ≡ Some i → i.op ≢ op.Loop → i.op ≢ op.Endl → potential earlier code (pc + 1) slots + cost earlier i ≡ potential earlier code pc slots
-  pub loop : (pc : ℕ) (i : Instr) (slots : ℕ → ℕ) → slice_get code pc ≡ Some i → i.op ≡ op.Loop → potential earlier code (pc + 1) (with_entry slots i.a i.x) + 1 ≤ potential earlier code pc slots
-  pub turns : (pc : ℕ) (i : Instr) (slots : ℕ → ℕ) → slice_get code pc ≡ Some i → i.op ≡ op.Endl → 0 < slots i.a - 1 → potential earlier code i.x (with_entry slots i.a (slots i.a - 1)) + 1 ≤ potential earlier code pc slots
-  pub ends : (pc : ℕ) (i : Instr) (slots : ℕ → ℕ) → slice_get code pc ≡ Some i → i.op ≡ op.Endl → potential earlier code (pc + 1) (with_entry slots i.a (slots i.a - 1)) + 1 ≤ potential earlier code pc slots
-  pub jump : (pc : ℕ) (i : Instr) (slots : ℕ → ℕ) → slice_get code pc ≡ Some i → i.op ≢ op.Endl → is_target (form_of i.op).x ≡ true → potential earlier code i.x slots + 1 ≤ potential earlier code pc slots
+  pub onward : (pc : ℕ) (i : Instr) (slots : ℕ → ℕ) → slice_get code pc ≡ Some i → i.op ≢ op.Loop → i.op ≢ op.Endl
+      → potential earlier code (pc + 1) slots + cost earlier i ≡ potential earlier code pc slots
+  pub loop : (pc : ℕ) (i : Instr) (slots : ℕ → ℕ) → slice_get code pc ≡ Some i → i.op ≡ op.Loop
+      → potential earlier code (pc + 1) (with_entry slots i.a i.x) + 1 ≤ potential earlier code pc slots
+  pub turns : (pc : ℕ) (i : Instr) (slots : ℕ → ℕ) → slice_get code pc ≡ Some i → i.op ≡ op.Endl → 0 < slots i.a - 1
+      → potential earlier code i.x (with_entry slots i.a (slots i.a - 1)) + 1 ≤ potential earlier code pc slots
+  pub ends : (pc : ℕ) (i : Instr) (slots : ℕ → ℕ) → slice_get code pc ≡ Some i → i.op ≡ op.Endl
+      → potential earlier code (pc + 1) (with_entry slots i.a (slots i.a - 1)) + 1 ≤ potential earlier code pc slots
+  pub jump : (pc : ℕ) (i : Instr) (slots : ℕ → ℕ) → slice_get code pc ≡ Some i → i.op ≢ op.Endl → is_target (form_of i.op).x ≡ true
+      → potential earlier code i.x slots + 1 ≤ potential earlier code pc slots
 
 -- in a function whose structure holds, the potential falls with every step
 abbrev pub StructuredFalls : Type 0

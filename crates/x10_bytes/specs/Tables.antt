@@ -28,6 +28,7 @@ pub record IsTable {E A : Type 0} (spell : A → List ℕ) (whole table rest : L
   pub ends : EndsWith whole rest
 
 -- a table and the bytes after its items are what reading gives, unless memory ran out
-abbrev pub GivesTable : {F E A X : Type 0} → (F → Option E) → (A → List ℕ) → List ℕ → (X → List ℕ) → (X → List ℕ) → Result X F → Result (List A × List ℕ) E → Type 0
+abbrev pub GivesTable : {F E A X : Type 0} → (F → Option E) → (A → List ℕ) → List ℕ → (X → List ℕ) → (X → List ℕ) → Result X F → Result (List A × List ℕ) E
+    → Type 0
 GivesTable named spell whole table rest (Ok x) read = IsTable spell whole (table x) (rest x) read
 GivesTable named spell whole table rest (Err e) read = IsFaultOrMemory (named e) read

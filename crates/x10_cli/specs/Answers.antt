@@ -96,7 +96,8 @@ pub record HasRun (c : Certified) (places : ℕ) (outputs : List (List machine.L
   pub key : ℕ
   pub events : List Event
   pub last : World
-  pub run : Run Ideal (record { program = c.program; places = places }) (WithinBounds c.bounds) (opening (record { program = c.program; places = places }) key) events last
+  pub run : Run Ideal (record { program = c.program; places = places }) (WithinBounds c.bounds)
+      (opening (record { program = c.program; places = places }) key) events last
   pub over : IsOver last
   pub count : length outputs ≡ places
   pub lines : AreLinesOf outputs last
@@ -131,11 +132,14 @@ Prints verb.Asm asked bytes old new = (m : Module) × (module_of bytes ≡ Ok m)
 Prints verb.List asked bytes old new = (m : Module) × IsImage bytes m × Appends old new (listing m)
 Prints verb.ListVerbose asked bytes old new = (m : Module) × (rest : List ℕ) × IsImage bytes m × Appends old new (places_line m.least_places ++ rest)
 Prints verb.Check asked bytes old new = (text : List ℕ) × IsChecked bytes × Appends old new text
-Prints verb.Verify asked bytes old new = (c : Certified) × (bound : ℕ) × IsImageOf bytes c × (slice_get c.bounds c.program.entry ≡ Some bound) × Appends old new (verdict_line (length c.program.functions) bound)
+Prints verb.Verify asked bytes old new = (c : Certified) × (bound : ℕ) × IsImageOf bytes c × (slice_get c.bounds c.program.entry ≡ Some bound)
+    × Appends old new (verdict_line (length c.program.functions) bound)
 Prints verb.Bounds asked bytes old new = (m : Module) × (bounds : List ℕ) × IsImage bytes m × (bounds_of m ≡ Ok bounds) × Appends old new (bound_lines 0 bounds)
 Prints verb.Trace asked bytes old new = (c : Certified) × IsImageOf bytes c × HasTraced c (places_for asked c) old new
-Prints verb.Draw asked bytes old new = (c : Certified) × (picture : List ℕ) × IsImageOf bytes c × HasDrawn c (places_for asked c) picture × Appends old new picture
-Prints verb.Run asked bytes old new = (c : Certified) × (outputs : List (List machine.Line)) × IsImageOf bytes c × HasRun c (places_for asked c) outputs × Appends old new (all_lines 0 outputs)
+Prints verb.Draw asked bytes old new = (c : Certified) × (picture : List ℕ) × IsImageOf bytes c × HasDrawn c (places_for asked c) picture
+    × Appends old new picture
+Prints verb.Run asked bytes old new = (c : Certified) × (outputs : List (List machine.Line)) × IsImageOf bytes c × HasRun c (places_for asked c) outputs
+    × Appends old new (all_lines 0 outputs)
 
 -- the commands that ask the verifier
 abbrev pub IsVerifying : Verb → Type 0

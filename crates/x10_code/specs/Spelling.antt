@@ -39,7 +39,8 @@ fitted i = if fits_form i then Ok i else Err UnusedNotZero
 
 abbrev pub decoded_as : Option Op → List ℕ → Result Instr CodeFault
 decoded_as None bytes = Err UnknownOp
-decoded_as (Some o) bytes = fitted (record { op = o; a = slice_index bytes 1; b = slice_index bytes 2; c = slice_index bytes 3; x = from_be_bytes w32 (take 4 (drop 4 bytes)) })
+decoded_as (Some o) bytes = fitted
+    (record { op = o; a = slice_index bytes 1; b = slice_index bytes 2; c = slice_index bytes 3; x = from_be_bytes w32 (take 4 (drop 4 bytes)) })
 
 -- the instruction that eight bytes spell, or their first fault
 unfoldable pub decoded : List ℕ → Result Instr CodeFault

@@ -15,7 +15,8 @@ IsAmong q (x ∷ xs) = (x ≡ q) ⊎ IsAmong q xs
 -- what a stay was begun by: the activity itself, which inherited its finish, or the stay that waits for it, away
 abbrev pub IsBegunBy : Stays → Finish → Stay → List Name → Type 0
 IsBegunBy stays under s [] = (s.back ≡ None) × (s.inherited ≡ under)
-IsBegunBy stays under s (b ∷ rest) = (t : Stay) × (stays b.0 b.1 ≡ Some t) × (t.away ≡ true) × (s.back ≡ Some (record { place = b.0; key = b.1 })) × (s.inherited ≡ innermost b.0 t)
+IsBegunBy stays under s (b ∷ rest) = (t : Stay) × (stays b.0 b.1 ≡ Some t) × (t.away ≡ true) × (s.back ≡ Some (record { place = b.0; key = b.1 }))
+    × (s.inherited ≡ innermost b.0 t)
 
 -- the stays of an activity, the one that works before those that wait for it
 abbrev pub IsChain : Stays → Finish → List Name → Type 0

@@ -22,7 +22,8 @@ pub record IsSound (net : Net) (book : Book) : Type 0 where
 
 -- closing where it is quiet is closing where all has ended
 abbrev pub QuietIsIdeal : Type 0
-QuietIsIdeal = (setting : Setting) (key : ℕ) (bounds : List ℕ) (events : List Event) (w : World) → 0 < setting.places → Run Quiet setting (WithinBounds bounds) (opening setting key) events w → Run Ideal setting (WithinBounds bounds) (opening setting key) events w
+QuietIsIdeal = (setting : Setting) (key : ℕ) (bounds : List ℕ) (events : List Event) (w : World) → 0 < setting.places
+    → Run Quiet setting (WithinBounds bounds) (opening setting key) events w → Run Ideal setting (WithinBounds bounds) (opening setting key) events w
 
 -- the owner of a finish works at its end
 pub record IsAtItsEnd (w : World) (f : Finish) : Type 0 where
@@ -37,7 +38,8 @@ pub record IsAtItsEnd (w : World) (f : Finish) : Type 0 where
 
 -- and where all that a finish governs has ended, its owner is there and no message flies, it is quiet
 abbrev pub EndedIsQuiet : Type 0
-EndedIsQuiet = (setting : Setting) (key : ℕ) (bounds : List ℕ) (events : List Event) (w : World) (f : Finish) → 0 < setting.places → Run Quiet setting (WithinBounds bounds) (opening setting key) events w
+EndedIsQuiet = (setting : Setting) (key : ℕ) (bounds : List ℕ) (events : List Event) (w : World) (f : Finish) → 0 < setting.places
+    → Run Quiet setting (WithinBounds bounds) (opening setting key) events w
     → IsAtItsEnd w f → ((number : ℕ) (message : Message) → w.net.posts number ≡ Flying message → ⊥) → HasEnded w f → IsQuiet w.net f
 
 -- what encloses was opened, and each finish that is held stands within the root
@@ -47,7 +49,8 @@ pub record IsRooted (stays : Stays) (opened : ℕ → ℕ) (enclosing : Finish �
 
 -- where the root is quiet, no activity lives
 abbrev pub RootIsOver : Type 0
-RootIsOver = (setting : Setting) (key : ℕ) (bounds : List ℕ) (events : List Event) (w : World) → 0 < setting.places → Run Quiet setting (WithinBounds bounds) (opening setting key) events w → IsQuiet w.net root → IsOver w
+RootIsOver = (setting : Setting) (key : ℕ) (bounds : List ℕ) (events : List Event) (w : World) → 0 < setting.places
+    → Run Quiet setting (WithinBounds bounds) (opening setting key) events w → IsQuiet w.net root → IsOver w
 
 -- ---- from any world of which that holds
 

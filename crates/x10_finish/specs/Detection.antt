@@ -39,13 +39,19 @@ taken kept (Some t) = with_entry kept t.place (larger (kept t.place) t.entry)
 
 -- what an event changes
 abbrev pub after : ℕ → Counting → Event → Counting
-after home s (PutsOut from to) = record s { totals = with_entry s.totals from (sends_to (s.totals from) to); flying = with_pair s.flying from to (s.flying from to + 1) }
+after home s (PutsOut from to) = record s {
+  totals = with_entry s.totals from (sends_to (s.totals from) to);
+  flying = with_pair s.flying from to (s.flying from to + 1);
+}
 after home s (Begins place) = record s { totals = with_entry s.totals place (begins_one (s.totals place)) }
 after home s (Ends place number) = record s {
   totals = with_entry s.totals place (ends_one (s.totals place));
   told = if is_last home place (s.totals place) then with_entry s.told number (Some (told_of place (s.totals place))) else s.told;
 }
-after home s (Arrives from to) = record s { totals = with_entry s.totals to (receives_from (s.totals to) from); flying = with_pair s.flying from to (s.flying from to - 1) }
+after home s (Arrives from to) = record s {
+  totals = with_entry s.totals to (receives_from (s.totals to) from);
+  flying = with_pair s.flying from to (s.flying from to - 1);
+}
 after home s (TakesIn number) = record s { told = with_entry s.told number None; kept = taken s.kept (s.told number) }
 
 -- at a place something under the finish can act: an activity that lives there, or at the home the owner
@@ -80,11 +86,13 @@ IsDone places home s = IsDoneAt places home (s.totals home) s.kept
 
 -- where the home lets the finish end, nothing under it lives or is in flight
 abbrev pub DoneIsAtRest : Type 0
-DoneIsAtRest = (places home : ℕ) (events : List Event) → home < places → AreAble places home start events → IsDone places home (after_all home start events) → IsAtRest places (after_all home start events)
+DoneIsAtRest = (places home : ℕ) (events : List Event) → home < places → AreAble places home start events → IsDone places home (after_all home start events)
+    → IsAtRest places (after_all home start events)
 
 -- and where nothing lives or is in flight, no report either, the home lets it end
 abbrev pub AtRestIsDone : Type 0
-AtRestIsDone = (places home : ℕ) (events : List Event) → home < places → AreAble places home start events → IsAtRest places (after_all home start events) → ((n : ℕ) → (after_all home start events).told n ≡ None)
+AtRestIsDone = (places home : ℕ) (events : List Event) → home < places → AreAble places home start events → IsAtRest places (after_all home start events)
+    → ((n : ℕ) → (after_all home start events).told n ≡ None)
     → IsDone places home (after_all home start events)
 
 -- ---- the invariant

@@ -53,8 +53,10 @@ pub data IsUsed (stays : Stays) (posts : ℕ → Post) (f : Finish) : Type 0 whe
 -- what the stay inherited; nothing encloses the root; and what is inherited or carried is the root or open
 pub record IsNested (stays : Stays) (opened : ℕ → ℕ) (enclosing : Finish → Option Finish) (posts : ℕ → Post) : Type 0 where
   pub numbered : (p k i n : ℕ) (s : Stay) → stays p k ≡ Some s → nth s.finishes i ≡ Some n → n < opened p
-  pub apart : (p k l i j n : ℕ) (s t : Stay) → stays p k ≡ Some s → stays p l ≡ Some t → nth s.finishes i ≡ Some n → nth t.finishes j ≡ Some n → (k ≡ l) × (i ≡ j)
-  pub enclosed : (p k i n : ℕ) (s : Stay) → stays p k ≡ Some s → nth s.finishes i ≡ Some n → enclosing (record { home = p; number = n }) ≡ Some (innermost_of p s.inherited (outside s.finishes i))
+  pub apart : (p k l i j n : ℕ) (s t : Stay) → stays p k ≡ Some s → stays p l ≡ Some t → nth s.finishes i ≡ Some n → nth t.finishes j ≡ Some n
+      → (k ≡ l) × (i ≡ j)
+  pub enclosed : (p k i n : ℕ) (s : Stay) → stays p k ≡ Some s → nth s.finishes i ≡ Some n
+      → enclosing (record { home = p; number = n }) ≡ Some (innermost_of p s.inherited (outside s.finishes i))
   pub root_outer : enclosing root ≡ None
   pub root_opened : 0 < opened 0
   pub inherited : (p k : ℕ) (s : Stay) → stays p k ≡ Some s → IsHeld stays s.inherited

@@ -28,7 +28,8 @@ unequal_in home places pairs = sum_square (λ from to. difference home from to (
 
 -- one pair has the larger of each number
 abbrev pub raised_at : ℕ → ℕ → Pair → (ℕ → ℕ → Pair) → ℕ → ℕ → Pair
-raised_at from to by old a b = if a == from && b == to then record { sent = max (old a b).sent by.sent; received = max (old a b).received by.received } else old a b
+raised_at from to by old a b = if a == from && b == to then record { sent = max (old a b).sent by.sent; received = max (old a b).received by.received }
+    else old a b
 
 -- of the first q places, the numbers that a place sent to and received from them are taken in
 abbrev pub merged_to : ℕ → List ℕ → List ℕ → ℕ → (ℕ → ℕ → Pair) → ℕ → ℕ → Pair
@@ -40,4 +41,5 @@ merged_to from sent received q old a b = record {
 -- the home and a place tell the same of what they sent each other: by the numbers that the home sent and received, and
 -- by the pairs
 abbrev pub agreed : ℕ → (ℕ → ℕ → Pair) → List ℕ → List ℕ → ℕ → Bool
-agreed home pairs sent received q = if q == home then slice_index sent home == slice_index received home else (slice_index sent q == (pairs home q).received && (pairs q home).sent == slice_index received q)
+agreed home pairs sent received q = if q == home then slice_index sent home == slice_index received home else
+    (slice_index sent q == (pairs home q).received && (pairs q home).sent == slice_index received q)

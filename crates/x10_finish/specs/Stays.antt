@@ -34,14 +34,19 @@ IsWayBack here (Some origin) message = (graph : Snapshot) × (message ≡ Some (
 abbrev pub Changes : ℕ → places.Place → ℕ → Stay → places.Place → Effect → Type 0
 Changes here old key s new (Waits number) = new ≡ old
 Changes here old key s new Works = (t : Stay) × GoesOn s s.finishes false t × Rewrites old key (Some t) old.opened new
-Changes here old key s new (Begins other function under) = (t u : Stay) × GoesOn s s.finishes false t × IsNew under None u × (under ≡ innermost here s) × (old.stays other ≡ None)
+Changes here old key s new (Begins other function under) = (t u : Stay) × GoesOn s s.finishes false t × IsNew under None u × (under ≡ innermost here s)
+    × (old.stays other ≡ None)
     × (new.stays ≡ with_entry (with_entry old.stays key (Some t)) other (Some u)) × (new.opened ≡ old.opened)
-Changes here old key s new (Spawns message function under) = (t : Stay) × (to : ℕ) × (graph : Snapshot) × GoesOn s s.finishes false t × (under ≡ innermost here s) × (message ≡ Spawn here to under function graph)
+Changes here old key s new (Spawns message function under) = (t : Stay) × (to : ℕ) × (graph : Snapshot) × GoesOn s s.finishes false t
+    × (under ≡ innermost here s) × (message ≡ Spawn here to under function graph)
     × Rewrites old key (Some t) old.opened new
-Changes here old key s new (Shifts message under) = (t : Stay) × (to function : ℕ) × (graph : Snapshot) × GoesOn s s.finishes true t × (under ≡ innermost here s) × (message ≡ Shift here to key under function graph)
+Changes here old key s new (Shifts message under) = (t : Stay) × (to function : ℕ) × (graph : Snapshot) × GoesOn s s.finishes true t
+    × (under ≡ innermost here s) × (message ≡ Shift here to key under function graph)
     × Rewrites old key (Some t) old.opened new
-Changes here old key s new (Opens number inside) = (t : Stay) × GoesOn s (number ∷ s.finishes) false t × (number ≡ old.opened) × (inside ≡ innermost here s) × Rewrites old key (Some t) (old.opened + 1) new
-Changes here old key s new (Closes number) = (t : Stay) × (rest : List ℕ) × (s.finishes ≡ number ∷ rest) × GoesOn s rest false t × Rewrites old key (Some t) old.opened new
+Changes here old key s new (Opens number inside) = (t : Stay) × GoesOn s (number ∷ s.finishes) false t × (number ≡ old.opened) × (inside ≡ innermost here s)
+    × Rewrites old key (Some t) (old.opened + 1) new
+Changes here old key s new (Closes number) = (t : Stay) × (rest : List ℕ) × (s.finishes ≡ number ∷ rest) × GoesOn s rest false t
+    × Rewrites old key (Some t) old.opened new
 Changes here old key s new (Ends under back) = (s.finishes ≡ []) × (under ≡ s.inherited) × IsWayBack here s.back back × Rewrites old key None old.opened new
 
 -- the move of a stay that is ready
@@ -52,4 +57,5 @@ pub record MovesStay (here : ℕ) (old : places.Place) (key : ℕ) (new : places
   pub changes : Changes here old key stay new effect
 
 abbrev pub StaysChange : Type 0
-StaysChange = (setting : Setting) (here key : ℕ) (old new : places.Place) (effect : Effect) → Moves setting here old key new effect → MovesStay here old key new effect
+StaysChange = (setting : Setting) (here key : ℕ) (old new : places.Place) (effect : Effect) → Moves setting here old key new effect
+    → MovesStay here old key new effect

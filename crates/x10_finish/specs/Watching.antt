@@ -71,7 +71,8 @@ pub record IsMoved (here : ℕ) (effect : Effect) (report : ℕ) (old new : Worl
   pub here_is : new.totals here f ≡ totals_after f (old.totals here f) (Did effect)
   pub others : (p : ℕ) → (p ≡ here → ⊥) → new.totals p f ≡ old.totals p f
   pub kept : new.kept f ≡ old.kept f
-  pub told : new.told f ≡ (if is_reported here f (old.totals here f) (Did effect) then with_entry (old.told f) report (Some (told_of here (old.totals here f))) else old.told f)
+  pub told : new.told f
+      ≡ (if is_reported here f (old.totals here f) (Did effect) then with_entry (old.told f) report (Some (told_of here (old.totals here f))) else old.told f)
 
 -- of each finish that it doesn't close
 abbrev pub CountsMove : ℕ → Effect → ℕ → WorldCounts → WorldCounts → Type 0
@@ -83,12 +84,17 @@ ClosesDone places here c (Closes number) = let f : Finish = record { home = here
 ClosesDone places here c _ = Unit {0}
 
 abbrev pub world_after : World → ℕ → ℕ → machine.Place → Effect → ℕ → World
-world_after w here key new effect number = record { net = net_after w.net here new effect number; book = book_after w.book (w.book.belongs here key) here effect number }
+world_after w here key new effect number = record {
+  net = net_after w.net here new effect number;
+  book = book_after w.book (w.book.belongs here key) here effect number;
+}
 
 -- such a move is a step by the ideal rule
 abbrev pub MovesAreWatched : Type 0
-MovesAreWatched = (setting : Setting) (w : World) (c d : WorldCounts) (here key number report : ℕ) (old new : machine.Place) (effect : Effect) → IsWatched setting.places w c → w.net.places here ≡ Some old → Moves setting here old key new effect
-    → w.net.posts number ≡ Unused → here < setting.places → GoesTo setting.places (sent effect) → ((f : Finish) → c.told f report ≡ None) → CountsMove here effect report c d → ClosesDone setting.places here c effect
+MovesAreWatched = (setting : Setting) (w : World) (c d : WorldCounts) (here key number report : ℕ) (old new : machine.Place) (effect : Effect)
+    → IsWatched setting.places w c → w.net.places here ≡ Some old → Moves setting here old key new effect
+    → w.net.posts number ≡ Unused → here < setting.places → GoesTo setting.places (sent effect) → ((f : Finish) → c.told f report ≡ None)
+    → CountsMove here effect report c d → ClosesDone setting.places here c effect
     → Steps Ideal setting w here key (world_after w here key new effect number) × IsWatched setting.places (world_after w here key new effect number) d
 
 -- ---- a delivery
@@ -104,7 +110,8 @@ abbrev pub CountsDelivery : ℕ → Message → WorldCounts → WorldCounts → 
 CountsDelivery here message old new = (f : Finish) → IsDelivered here message old new f
 
 abbrev pub DeliveriesAreWatched : Type 0
-DeliveriesAreWatched = (setting : Setting) (w v : World) (c d : WorldCounts) (number : ℕ) (delivery : Delivers setting w number v) → IsWatched setting.places w c → delivery.here < setting.places → CountsDelivery delivery.here delivery.message c d
+DeliveriesAreWatched = (setting : Setting) (w v : World) (c d : WorldCounts) (number : ℕ) (delivery : Delivers setting w number v)
+    → IsWatched setting.places w c → delivery.here < setting.places → CountsDelivery delivery.here delivery.message c d
     → IsWatched setting.places v d
 
 -- ---- a report
@@ -127,7 +134,8 @@ pub record CountsReport (net : Net) (f : Finish) (number : ℕ) (old new : World
   pub others : (g : Finish) → same_finish g f ≡ false → IsSame old new g
 
 abbrev pub ReportsAreWatched : Type 0
-ReportsAreWatched = (places : ℕ) (w : World) (c d : WorldCounts) (f : Finish) (number : ℕ) (t : Told) → IsWatched places w c → c.told f number ≡ Some t → CountsReport w.net f number c d → IsWatched places w d
+ReportsAreWatched = (places : ℕ) (w : World) (c d : WorldCounts) (f : Finish) (number : ℕ) (t : Told) → IsWatched places w c → c.told f number ≡ Some t
+    → CountsReport w.net f number c d → IsWatched places w d
 
 -- ---- what the counts say of such a world
 
@@ -141,17 +149,20 @@ NothingFlies net = (number : ℕ) (message : Message) → net.posts number ≡ F
 
 -- and where no activity lives, and no message and no report of the root flies, the home may let the root end
 abbrev pub OverIsDone : Type 0
-OverIsDone = (places : ℕ) (w : World) (c : WorldCounts) → IsWatched places w c → IsOver w → NothingFlies w.net → ((number : ℕ) → c.told root number ≡ None) → 0 < places → IsDoneAt places 0 (c.totals 0 root) (c.kept root)
+OverIsDone = (places : ℕ) (w : World) (c : WorldCounts) → IsWatched places w c → IsOver w → NothingFlies w.net → ((number : ℕ) → c.told root number ≡ None)
+    → 0 < places → IsDoneAt places 0 (c.totals 0 root) (c.kept root)
 
 -- where the owner works at the end of its finish, all that the finish governs has ended, and no message and no report of it
 -- flies, its home may let it end
 abbrev pub EndedIsDone : Type 0
-EndedIsDone = (places : ℕ) (w : World) (c : WorldCounts) (f : Finish) → IsWatched places w c → IsAtItsEnd w f → f.home < places → NothingFlies w.net → ((number : ℕ) → c.told f number ≡ None) → HasEnded w f
+EndedIsDone = (places : ℕ) (w : World) (c : WorldCounts) (f : Finish) → IsWatched places w c → IsAtItsEnd w f → f.home < places → NothingFlies w.net
+    → ((number : ℕ) → c.told f number ≡ None) → HasEnded w f
     → IsDoneAt places f.home (c.totals f.home f) (c.kept f)
 
 -- what a stay inherited is the root or open, and counts as live at its place
 abbrev pub StaysAreCounted : Type 0
-StaysAreCounted = (places : ℕ) (w : World) (c : WorldCounts) (here key : ℕ) (stay : Stay) → IsWatched places w c → stays_of w.net here key ≡ Some stay → IsHeld (stays_of w.net) stay.inherited × (0 < (c.totals here stay.inherited).live)
+StaysAreCounted = (places : ℕ) (w : World) (c : WorldCounts) (here key : ℕ) (stay : Stay) → IsWatched places w c → stays_of w.net here key ≡ Some stay
+    → IsHeld (stays_of w.net) stay.inherited × (0 < (c.totals here stay.inherited).live)
 
 -- ---- one place by itself
 

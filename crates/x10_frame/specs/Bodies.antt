@@ -26,7 +26,8 @@ pub record IsGraph (frame : List ℕ) (start count : ℕ) (texts rails nodes res
 
 -- the places and the bytes after the graph are what reading gives, unless memory ran out
 abbrev pub GivesGraph : {X : Type 0} → List ℕ → (X → Body) → (X → List ℕ) → Result X FrameFault → Result (Graph × List ℕ) reading.FrameFault → Type 0
-GivesGraph frame body rest (Ok x) read = IsGraph frame (body x).start (body x).roots (body x).texts.items (body x).rails.items (body x).nodes.items (rest x) read
+GivesGraph frame body rest (Ok x) read = IsGraph frame (body x).start (body x).roots (body x).texts.items (body x).rails.items (body x).nodes.items
+    (rest x) read
 GivesGraph frame body rest (Err e) read = IsFaultOrMemory (named e) read
 
 -- the parts of a frame stand there: those of its graph, or the counts of a report
@@ -35,7 +36,8 @@ pub record HasBody (frame : List ℕ) (start count : ℕ) (texts rails nodes : L
   pub counts_at : StandsAt frame start (counts_bytes (sent_of f) ++ counts_bytes (received_of f))
 
 -- what reading gives, with the places of its parts
-pub record IsBody (bytes : List ℕ) (head : Head) (start count : ℕ) (texts rails nodes rest : List ℕ) (read : Result (Frame × List ℕ) reading.FrameFault) : Type 0 where
+pub record IsBody (bytes : List ℕ) (head : Head) (start count : ℕ) (texts rails nodes rest : List ℕ)
+    (read : Result (Frame × List ℕ) reading.FrameFault) : Type 0 where
   pub frame : Frame
   pub reads : read ≡ Ok (frame, rest)
   pub head_is : head_of frame ≡ head
@@ -43,5 +45,6 @@ pub record IsBody (bytes : List ℕ) (head : Head) (start count : ℕ) (texts ra
 
 -- the places and the bytes after the frame are what reading gives, unless memory ran out
 abbrev pub GivesBody : {X : Type 0} → List ℕ → Head → (X → Body) → (X → List ℕ) → Result X FrameFault → Result (Frame × List ℕ) reading.FrameFault → Type 0
-GivesBody frame head body rest (Ok x) read = IsBody frame head (body x).start (body x).roots (body x).texts.items (body x).rails.items (body x).nodes.items (rest x) read
+GivesBody frame head body rest (Ok x) read = IsBody frame head (body x).start (body x).roots (body x).texts.items (body x).rails.items (body x).nodes.items
+    (rest x) read
 GivesBody frame head body rest (Err e) read = IsFaultOrMemory (named e) read

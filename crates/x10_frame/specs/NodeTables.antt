@@ -8,11 +8,13 @@ use Rattle.x10_frame.specs.declared.fault.FrameFault.{FrameFault}
 use Rattle.x10_frame.specs.Faults.{named, IsFault, IsFaultOrMemory}
 
 -- a table of nodes, with what was used once all had their turn
-pub record IsNodeTable (used last : Tables) (spell : Node → List ℕ) (frame table rest : List ℕ) (read : Result (List Node × List ℕ) reading.FrameFault) : Type 0 where
+pub record IsNodeTable (used last : Tables) (spell : Node → List ℕ) (frame table rest : List ℕ)
+    (read : Result (List Node × List ℕ) reading.FrameFault) : Type 0 where
   pub known : IsTable spell frame table rest read
   pub state : last ≡ (after_all next_turn (turn 0 used) known.items).used
 
-abbrev pub GivesNodes : {X : Type 0} → Tables → (Node → List ℕ) → List ℕ → (X → List ℕ) → (X → Tables) → (X → List ℕ) → Result X FrameFault → Result (List Node × List ℕ) reading.FrameFault → Type 0
+abbrev pub GivesNodes : {X : Type 0} → Tables → (Node → List ℕ) → List ℕ → (X → List ℕ) → (X → Tables) → (X → List ℕ) → Result X FrameFault
+    → Result (List Node × List ℕ) reading.FrameFault → Type 0
 GivesNodes used spell frame table last rest (Ok x) read = IsNodeTable used (last x) spell frame (table x) (rest x) read
 GivesNodes used spell frame table last rest (Err e) read = IsFaultOrMemory (named e) read
 

@@ -11,8 +11,11 @@ use Rattle.x10_frame.specs.Items.{item_of}
 
 -- the head of a frame with a graph
 abbrev pub head_bytes : Head → List ℕ
-head_bytes (head.Spawn from to home number function) = (1 ∷ 1 ∷ []) ++ (to_be_bytes w16 from ++ (to_be_bytes w16 to ++ (to_be_bytes w16 home ++ (to_be_bytes w32 number ++ to_be_bytes w16 function))))
-head_bytes (head.Shift from to waiting home number function) = (1 ∷ 2 ∷ []) ++ (to_be_bytes w16 from ++ (to_be_bytes w16 to ++ (to_be_bytes w32 waiting ++ (to_be_bytes w16 home ++ (to_be_bytes w32 number ++ to_be_bytes w16 function)))))
+head_bytes (head.Spawn from to home number function) = (1 ∷ 1 ∷ [])
+    ++ (to_be_bytes w16 from ++ (to_be_bytes w16 to ++ (to_be_bytes w16 home ++ (to_be_bytes w32 number ++ to_be_bytes w16 function))))
+head_bytes (head.Shift from to waiting home number function) = (1 ∷ 2 ∷ []) ++
+    (to_be_bytes w16 from ++ (to_be_bytes w16 to ++
+    (to_be_bytes w32 waiting ++ (to_be_bytes w16 home ++ (to_be_bytes w32 number ++ to_be_bytes w16 function)))))
 head_bytes (head.Back from to waiting) = (1 ∷ 3 ∷ []) ++ (to_be_bytes w16 from ++ (to_be_bytes w16 to ++ to_be_bytes w32 waiting))
 head_bytes (head.Report from to number) = (1 ∷ 4 ∷ []) ++ (to_be_bytes w16 from ++ (to_be_bytes w16 to ++ to_be_bytes w32 number))
 

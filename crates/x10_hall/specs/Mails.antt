@@ -30,7 +30,8 @@ is_finished Stopped = false
 -- that many turns, or frames would be numbered too high
 abbrev pub refusal : ℕ → HallValue → Turn → Option PostFault
 refusal most h turn =
-    if is_stopped h.state then Some fault.Stopped else (if nat_le most (length h.log) then Some fault.Turns else (if nat_le (2 ^ 64) (posted_in h.log + length turn.frames.items) then Some (fault.Stop (Limit 11)) else None))
+    if is_stopped h.state then Some fault.Stopped else (if nat_le most (length h.log) then Some fault.Turns else
+    (if nat_le (2 ^ 64) (posted_in h.log + length turn.frames.items) then Some (fault.Stop (Limit 11)) else None))
 
 -- the state of a run once it is ended in a way
 abbrev pub ended : End → HallState → HallState
@@ -46,4 +47,5 @@ Takes h place take.Stopped after = (is_stopped h.state ≡ true) × (after ≡ h
 -- why a worker of a place needn't wait, if there is a reason
 abbrev pub signal_of : HallValue → ℕ → Option Signal
 signal_of h place =
-    if is_stopped h.state then Some signal.Stopped else (if is_some (next_frame h place) then Some signal.Frame else (if is_finished h.state then Some signal.Finished else None))
+    if is_stopped h.state then Some signal.Stopped else
+    (if is_some (next_frame h place) then Some signal.Frame else (if is_finished h.state then Some signal.Finished else None))

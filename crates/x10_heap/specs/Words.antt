@@ -48,7 +48,8 @@ IsWordOf x kind.Text w v = (text : List ℕ) × (slice_get x.heap.texts w ≡ So
 IsWordOf x kind.Rail w v = (bytes : List ℕ) × (slice_get x.heap.rails w ≡ Some bytes) × (v ≡ Rail (2 * w + 1))
 IsWordOf x (kind.Obj c) w v = IsObjectWord x.heap c w v
 IsWordOf x (kind.Opt c) w v = ((w ≡ 0) × (v ≡ Null)) ⊎ IsObjectWord x.heap c w v
-IsWordOf x (kind.GRef c) w v = (w % 65536 < x.places) × (w / 65536 < 2 ^ 32) × IsTrue (is_named x (w % 65536) (w / 65536) c) × (v ≡ Ref (w % 65536) (w / 65536) c)
+IsWordOf x (kind.GRef c) w v = (w % 65536 < x.places) × (w / 65536 < 2 ^ 32) × IsTrue (is_named x (w % 65536) (w / 65536) c)
+    × (v ≡ Ref (w % 65536) (w / 65536) c)
 
 -- one word and one value for each kind, and each word stands for its value
 abbrev pub AreWordsOf : Context → List Kind → List ℕ → List Value → Type 0

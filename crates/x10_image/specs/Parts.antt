@@ -113,4 +113,7 @@ slots_in _ = []
 
 -- the slot that the four bytes from a place on spell
 abbrev pub slot_at : List ℕ → ℕ → Slot
-slot_at bytes at = record { kind = kind_with (slice_index bytes at) (from_be_bytes w16 (slice_index bytes (at + 1) ∷ slice_index bytes (at + 2) ∷ [])); home_here = slice_index bytes (at + 3) == 1 }
+slot_at bytes at = record {
+  kind = kind_with (slice_index bytes at) (from_be_bytes w16 (slice_index bytes (at + 1) ∷ slice_index bytes (at + 2) ∷ []));
+  home_here = slice_index bytes (at + 3) == 1;
+}

@@ -23,7 +23,14 @@ function_shown f = record { parameters = f.parameters.items; registers = f.regis
 
 -- the module that is to be written
 abbrev pub shown : Module → model.Module
-shown m = record { least_places = m.least_places; classes = map (λ c. c.items) m.classes.items; ints = m.ints.items; texts = map string_bytes m.texts.items; functions = map function_shown m.functions.items; entry = m.entry }
+shown m = record {
+  least_places = m.least_places;
+  classes = map (λ c. c.items) m.classes.items;
+  ints = m.ints.items;
+  texts = map string_bytes m.texts.items;
+  functions = map function_shown m.functions.items;
+  entry = m.entry;
+}
 
 -- ---- tests
 

@@ -144,9 +144,12 @@ Permits op.Textk p s out = out ≡ onward p (gives p s Text None)
 Permits op.Tlen p s out = IsKind s p.instr.b Text × (out ≡ onward p (gives p s Int None))
 Permits op.Tcat p s out = IsKind s p.instr.b Text × IsKind s p.instr.c Text × (out ≡ onward_or p (gives p s Text None) s)
 -- objects
-Permits op.New p s out = (kinds : List Kind) × (slice_get p.program.classes p.instr.x ≡ Some kinds) × KindsFit s p.instr.b kinds × (out ≡ onward p (gives p s (Obj p.instr.x) None))
-Permits op.Get p s out = (class : ℕ) × (kinds : List Kind) × (kind : Kind) × IsKind s p.instr.b (Obj class) × (slice_get p.program.classes class ≡ Some kinds) × (slice_get kinds p.instr.c ≡ Some kind) × (out ≡ onward p (gives p s kind None))
-Permits op.Put p s out = (class : ℕ) × (kinds : List Kind) × (kind : Kind) × IsKind s p.instr.a (Obj class) × (slice_get p.program.classes class ≡ Some kinds) × (slice_get kinds p.instr.c ≡ Some kind) × IsKind s p.instr.b kind × (out ≡ onward p s)
+Permits op.New p s out = (kinds : List Kind) × (slice_get p.program.classes p.instr.x ≡ Some kinds) × KindsFit s p.instr.b kinds
+    × (out ≡ onward p (gives p s (Obj p.instr.x) None))
+Permits op.Get p s out = (class : ℕ) × (kinds : List Kind) × (kind : Kind) × IsKind s p.instr.b (Obj class) × (slice_get p.program.classes class ≡ Some kinds)
+    × (slice_get kinds p.instr.c ≡ Some kind) × (out ≡ onward p (gives p s kind None))
+Permits op.Put p s out = (class : ℕ) × (kinds : List Kind) × (kind : Kind) × IsKind s p.instr.a (Obj class) × (slice_get p.program.classes class ≡ Some kinds)
+    × (slice_get kinds p.instr.c ≡ Some kind) × IsKind s p.instr.b kind × (out ≡ onward p s)
 Permits op.Null p s out = out ≡ onward p (gives p s (Opt p.instr.x) None)
 Permits op.Ifobj p s out = (class : ℕ) × IsKind s p.instr.b (Opt class) × (out ≡ onward_or p (gives p s (Obj class) None) s)
 -- rails
@@ -163,13 +166,17 @@ Permits op.Nextp p s out = IsKind s p.instr.b Place × (out ≡ onward p (gives 
 Permits op.Count p s out = out ≡ onward p (gives p s Int None)
 Permits op.Home p s out = (class : ℕ) × IsKind s p.instr.b (GRef class) × (out ≡ onward p (gives p s Place (Some (term.Reg p.instr.b))))
 Permits op.Gnew p s out = (class : ℕ) × IsKind s p.instr.b (Obj class) × (out ≡ onward p (gives p s (GRef class) (Some term.Here)))
-Permits op.Gopen p s out = (class : ℕ) × IsKind s p.instr.b (GRef class) × IsTrue (s.homes (term.Reg p.instr.b) term.Here) × (out ≡ onward p (gives p s (Obj class) None))
+Permits op.Gopen p s out = (class : ℕ) × IsKind s p.instr.b (GRef class) × IsTrue (s.homes (term.Reg p.instr.b) term.Here)
+    × (out ≡ onward p (gives p s (Obj class) None))
 Permits op.Ifhere p s out = IsPlaced s p.instr.a × (out ≡ onward_or p (record s { homes = joined s.homes (term.Reg p.instr.a) term.Here }) s)
-Permits op.Ifsame p s out = IsPlaced s p.instr.a × IsPlaced s p.instr.b × (out ≡ onward_or p (record s { homes = joined s.homes (term.Reg p.instr.a) (term.Reg p.instr.b) }) s)
+Permits op.Ifsame p s out = IsPlaced s p.instr.a × IsPlaced s p.instr.b
+    × (out ≡ onward_or p (record s { homes = joined s.homes (term.Reg p.instr.a) (term.Reg p.instr.b) }) s)
 -- activities
 Permits op.Async p s out = (callee : Function) × CallsWell p s term.Here callee × (callee.result ≡ None) × (out ≡ onward p s)
-Permits op.At p s out = (callee : Function) × (t : State) × IsKind s p.instr.c Place × CallsWell p s (term.Reg p.instr.c) callee × GivesResult p s (term.Reg p.instr.c) callee.result t × (out ≡ onward p t)
-Permits op.Ata p s out = (callee : Function) × IsKind s p.instr.c Place × CallsWell p s (term.Reg p.instr.c) callee × (callee.result ≡ None) × (out ≡ onward p s)
+Permits op.At p s out = (callee : Function) × (t : State) × IsKind s p.instr.c Place × CallsWell p s (term.Reg p.instr.c) callee
+    × GivesResult p s (term.Reg p.instr.c) callee.result t × (out ≡ onward p t)
+Permits op.Ata p s out = (callee : Function) × IsKind s p.instr.c Place × CallsWell p s (term.Reg p.instr.c) callee × (callee.result ≡ None)
+    × (out ≡ onward p s)
 Permits op.Finb p s out = out ≡ onward p s
 Permits op.Fine p s out = out ≡ onward p s
 -- output
@@ -195,4 +202,5 @@ HasAssignment program function = (states : ℕ → Option State) × IsConsistent
 
 -- every instruction names what is there
 abbrev pub AreInRange : Module → Type 0
-AreInRange program = (f pc : ℕ) (function : Function) (instr : Instr) → function_at program f ≡ Some function → slice_get function.code pc ≡ Some instr → IsInRange program function instr
+AreInRange program = (f pc : ℕ) (function : Function) (instr : Instr) → function_at program f ≡ Some function → slice_get function.code pc ≡ Some instr
+    → IsInRange program function instr

@@ -16,7 +16,8 @@ use Rattle.x10_model.specs.Moves.{new_stay, resumed}
 
 -- each object of the graph has the fields of its class
 abbrev pub FitsClasses : Module → Snapshot → Type 0
-FitsClasses m graph = (k : ℕ) (node : Node) → slice_get graph.nodes k ≡ Some node → (kinds : List Kind) × (slice_get m.classes node.class ≡ Some kinds) × AreOfKinds (IsOfKindIn graph) node.fields kinds
+FitsClasses m graph = (k : ℕ) (node : Node) → slice_get graph.nodes k ≡ Some node
+    → (kinds : List Kind) × (slice_get m.classes node.class ≡ Some kinds) × AreOfKinds (IsOfKindIn graph) node.fields kinds
 
 -- a global reference whose home is the place names an object that the place exported with that class
 abbrev pub IsExported : ℕ → List Export → Value → Type 0
@@ -49,7 +50,8 @@ first_of [] = None
 first_of (v ∷ vs) = Some v
 
 -- a stay begins with the arguments that came, under a finish, with a key that no other stay has
-pub record Begins (setting : Setting) (here : ℕ) (old : places.Place) (function : ℕ) (graph : Snapshot) (under : Finish) (back : Option Origin) (key : ℕ) (new : places.Place) : Type 0 where
+pub record Begins (setting : Setting) (here : ℕ) (old : places.Place) (function : ℕ) (graph : Snapshot) (under : Finish) (back : Option Origin) (key : ℕ)
+    (new : places.Place) : Type 0 where
   pub callee : Function
   pub fits_function : FitsFunctionAt setting here function graph callee
   pub no_result : back ≡ None → callee.result ≡ None
@@ -85,5 +87,6 @@ pub record Resumes (setting : Setting) (here : ℕ) (old : places.Place) (from :
 -- the place here takes in a message: from old to new; key is that of the stay that begins or goes on
 abbrev pub Receives : Setting → ℕ → places.Place → Message → ℕ → places.Place → Type 0
 Receives setting here old (Spawn from to under function graph) key new = (to ≡ here) × Begins setting here old function graph under None key new
-Receives setting here old (Shift from to waiting under function graph) key new = (to ≡ here) × Begins setting here old function graph under (Some (record { place = from; key = waiting })) key new
+Receives setting here old (Shift from to waiting under function graph) key new = (to ≡ here)
+    × Begins setting here old function graph under (Some (record { place = from; key = waiting })) key new
 Receives setting here old (Back from to waiting graph) key new = (to ≡ here) × (key ≡ waiting) × Resumes setting here old from graph key new

@@ -35,7 +35,8 @@ seven = plain_module (pos 7 ∷ []) (plain_function 1 0 (instr op.Intk 0 0 0 0 �
 -- doubles 1 twelve times, in a loop of 4 in a loop of 3
 abbrev pub doubling : Module
 doubling = plain_module (pos 1 ∷ []) (plain_function 1 2 (
-    instr op.Intk 0 0 0 0 ∷ instr op.Loop 0 0 0 3 ∷ instr op.Loop 1 0 0 4 ∷ instr op.Add 0 0 0 0 ∷ instr op.Endl 1 0 0 3 ∷ instr op.Endl 0 0 0 2 ∷ instr op.Print 0 0 0 0 ∷ instr op.Ret 0 0 0 0 ∷ []))
+    instr op.Intk 0 0 0 0 ∷ instr op.Loop 0 0 0 3 ∷ instr op.Loop 1 0 0 4 ∷ instr op.Add 0 0 0 0 ∷ instr op.Endl 1 0 0 3 ∷ instr op.Endl 0 0 0 2
+    ∷ instr op.Print 0 0 0 0 ∷ instr op.Ret 0 0 0 0 ∷ []))
 
 abbrev pub DoublingIsBounded : Type 0
 DoublingIsBounded = bounds_of doubling ≡ Ok (34 ∷ [])
@@ -43,17 +44,20 @@ DoublingIsBounded = bounds_of doubling ≡ Ok (34 ∷ [])
 -- three loops of the greatest length, one in the other
 abbrev pub long_loops : Module
 long_loops = plain_module [] (plain_function 1 3 (
-    instr op.Loop 0 0 0 65535 ∷ instr op.Loop 1 0 0 65535 ∷ instr op.Loop 2 0 0 65535 ∷ instr op.Endl 2 0 0 3 ∷ instr op.Endl 1 0 0 2 ∷ instr op.Endl 0 0 0 1 ∷ instr op.Ret 0 0 0 0 ∷ []))
+    instr op.Loop 0 0 0 65535 ∷ instr op.Loop 1 0 0 65535 ∷ instr op.Loop 2 0 0 65535 ∷ instr op.Endl 2 0 0 3 ∷ instr op.Endl 1 0 0 2 ∷ instr op.Endl 0 0 0 1
+    ∷ instr op.Ret 0 0 0 0 ∷ []))
 
 -- with one instruction more in the second loop
 abbrev pub longer_loops : Module
 longer_loops = plain_module (pos 0 ∷ []) (plain_function 1 3 (
-    instr op.Loop 0 0 0 65535 ∷ instr op.Loop 1 0 0 65535 ∷ instr op.Intk 0 0 0 0 ∷ instr op.Loop 2 0 0 65535 ∷ instr op.Endl 2 0 0 4 ∷ instr op.Endl 1 0 0 2 ∷ instr op.Endl 0 0 0 1 ∷ instr op.Ret 0 0 0 0 ∷ []))
+    instr op.Loop 0 0 0 65535 ∷ instr op.Loop 1 0 0 65535 ∷ instr op.Intk 0 0 0 0 ∷ instr op.Loop 2 0 0 65535 ∷ instr op.Endl 2 0 0 4 ∷ instr op.Endl 1 0 0 2
+    ∷ instr op.Endl 0 0 0 1 ∷ instr op.Ret 0 0 0 0 ∷ []))
 
 -- and one more in the first, which passes the greatest bound by one
 abbrev pub longest_loops : Module
 longest_loops = plain_module (pos 0 ∷ []) (plain_function 1 3 (
-    instr op.Loop 0 0 0 65535 ∷ instr op.Intk 0 0 0 0 ∷ instr op.Loop 1 0 0 65535 ∷ instr op.Intk 0 0 0 0 ∷ instr op.Loop 2 0 0 65535 ∷ instr op.Endl 2 0 0 5 ∷ instr op.Endl 1 0 0 3 ∷ instr op.Endl 0 0 0 1 ∷ instr op.Ret 0 0 0 0 ∷ []))
+    instr op.Loop 0 0 0 65535 ∷ instr op.Intk 0 0 0 0 ∷ instr op.Loop 1 0 0 65535 ∷ instr op.Intk 0 0 0 0 ∷ instr op.Loop 2 0 0 65535 ∷ instr op.Endl 2 0 0 5
+    ∷ instr op.Endl 1 0 0 3 ∷ instr op.Endl 0 0 0 1 ∷ instr op.Ret 0 0 0 0 ∷ []))
 
 pub record LongLoopsAreBounded : Type 0 where
   pub long : bounds_of long_loops ≡ Ok (281470681808897 ∷ [])
@@ -65,9 +69,12 @@ abbrev pub jumping : List Instr → Module
 jumping code = plain_module [] (plain_function 1 1 code)
 
 pub record JumpsAreRefused : Type 0 where
-  pub into_a_loop : bounds_of (jumping (instr op.Jmp 0 0 0 2 ∷ instr op.Loop 0 0 0 2 ∷ instr op.Endl 0 0 0 2 ∷ instr op.Ret 0 0 0 0 ∷ [])) ≡ Err (record { cause = Jump; function = 0; pc = 0 })
-  pub out_of_a_finish : bounds_of (jumping (instr op.Finb 0 0 0 0 ∷ instr op.Jmp 0 0 0 3 ∷ instr op.Fine 0 0 0 0 ∷ instr op.Ret 0 0 0 0 ∷ [])) ≡ Err (record { cause = Jump; function = 0; pc = 1 })
-  pub backward : bounds_of (jumping (instr op.Here 0 0 0 0 ∷ instr op.Jmp 0 0 0 0 ∷ instr op.Ret 0 0 0 0 ∷ [])) ≡ Err (record { cause = Jump; function = 0; pc = 1 })
+  pub into_a_loop : bounds_of (jumping (instr op.Jmp 0 0 0 2 ∷ instr op.Loop 0 0 0 2 ∷ instr op.Endl 0 0 0 2 ∷ instr op.Ret 0 0 0 0 ∷ []))
+      ≡ Err (record { cause = Jump; function = 0; pc = 0 })
+  pub out_of_a_finish : bounds_of (jumping (instr op.Finb 0 0 0 0 ∷ instr op.Jmp 0 0 0 3 ∷ instr op.Fine 0 0 0 0 ∷ instr op.Ret 0 0 0 0 ∷ []))
+      ≡ Err (record { cause = Jump; function = 0; pc = 1 })
+  pub backward : bounds_of (jumping (instr op.Here 0 0 0 0 ∷ instr op.Jmp 0 0 0 0 ∷ instr op.Ret 0 0 0 0 ∷ []))
+      ≡ Err (record { cause = Jump; function = 0; pc = 1 })
 
 -- ---- moves, one of each group
 
@@ -144,7 +151,8 @@ abbrev pub FinishIsOpened : Type 0
 FinishIsOpened =
     let frame = one_frame (holding []) in
     let place = one_place no_cells frame in
-    Moves (on_places 1 (one_instr (instr op.Finb 0 0 0 0))) 0 place 4 (with_stay (record place { opened = 2 }) 4 (Some (record (one_stay (next frame)) { finishes = 1 ∷ [] }))) (Opens 1 root)
+    Moves (on_places 1 (one_instr (instr op.Finb 0 0 0 0))) 0 place 4
+    (with_stay (record place { opened = 2 }) 4 (Some (record (one_stay (next frame)) { finishes = 1 ∷ [] }))) (Opens 1 root)
 
 -- output: a number is a line
 abbrev pub NumberIsPrinted : Type 0
@@ -171,16 +179,23 @@ IsAtEnd w = (place : places.Place) × (w.net.places 0 ≡ Some place) × (place.
 
 -- main's three steps, from the opening to a world whose place 0 has printed 7 and has no activity
 abbrev pub SevenRuns : Type 0
-SevenRuns = (w : World) × Run Ideal (on_places 1 seven) (WithinBounds (3 ∷ [])) (opening (on_places 1 seven) 0) (Step 0 0 ∷ Step 0 0 ∷ Step 0 0 ∷ []) w × IsAtEnd w
+SevenRuns = (w : World) × Run Ideal (on_places 1 seven) (WithinBounds (3 ∷ [])) (opening (on_places 1 seven) 0) (Step 0 0 ∷ Step 0 0 ∷ Step 0 0 ∷ []) w
+    × IsAtEnd w
 
 -- ---- copies
 
 -- two objects that name each other and share a rail
 abbrev pub pair_of_objects : Cells
-pair_of_objects = with_entry (with_entry (with_entry no_cells 3 (Some (Fields 0 (Object 5 ∷ Rail 8 ∷ [])))) 5 (Some (Fields 0 (Object 3 ∷ Rail 8 ∷ [])))) 8 (Some (Bytes (0 ∷ 0 ∷ [])))
+pair_of_objects = with_entry (with_entry (with_entry no_cells 3 (Some (Fields 0 (Object 5 ∷ Rail 8 ∷ [])))) 5 (Some (Fields 0 (Object 3 ∷ Rail 8 ∷ [])))) 8
+    (Some (Bytes (0 ∷ 0 ∷ [])))
 
 abbrev pub pair_snapshot : Snapshot
-pair_snapshot = record { roots = Object 0 ∷ []; rails = (0 ∷ 0 ∷ []) ∷ []; nodes = record { class = 0; fields = Object 1 ∷ Rail 0 ∷ [] } ∷ record { class = 0; fields = Object 0 ∷ Rail 0 ∷ [] } ∷ [] }
+pair_snapshot = record {
+  roots = Object 0 ∷ [];
+  rails = (0 ∷ 0 ∷ []) ∷ [];
+  nodes = record { class = 0; fields = Object 1 ∷ Rail 0 ∷ [] }
+      ∷ record { class = 0; fields = Object 0 ∷ Rail 0 ∷ [] } ∷ [];
+}
 
 abbrev pub CycleIsCopied : Type 0
 CycleIsCopied = IsCopy pair_of_objects (Object 3 ∷ []) pair_snapshot (record { objects = 3 ∷ 5 ∷ []; rails = 8 ∷ [] })

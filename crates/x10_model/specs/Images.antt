@@ -72,7 +72,14 @@ pub record Header : Type 0 where
   pub entry : ℕ
 
 abbrev pub header_of : Module → Header
-header_of m = record { least_places = m.least_places; classes = length m.classes; ints = length m.ints; texts = length m.texts; functions = length m.functions; entry = m.entry }
+header_of m = record {
+  least_places = m.least_places;
+  classes = length m.classes;
+  ints = length m.ints;
+  texts = length m.texts;
+  functions = length m.functions;
+  entry = m.entry;
+}
 
 unfoldable pub header_bytes : Header → List ℕ
 header_bytes h =

@@ -21,7 +21,8 @@ use Rattle.x10_model.specs.Totals.{Totals, Happening, Did, Took, totals_after, t
 
 -- what stands within a finish that stands within another stands within that one too
 abbrev pub EnclosingIsTransitive : Type 0
-EnclosingIsTransitive = (enclosing : Finish → Option Finish) (outer middle inner : Finish) → IsWithin enclosing outer middle → IsWithin enclosing middle inner → IsWithin enclosing outer inner
+EnclosingIsTransitive = (enclosing : Finish → Option Finish) (outer middle inner : Finish) → IsWithin enclosing outer middle → IsWithin enclosing middle inner
+    → IsWithin enclosing outer inner
 
 -- so a finish governs each activity that a finish within it governs
 abbrev pub GoverningIsTransitive : Type 0
@@ -29,11 +30,13 @@ GoverningIsTransitive = (w : World) (outer inner : Finish) (a : ℕ) → IsWithi
 
 -- a move is not wrong
 abbrev pub MovesAreNotWrong : Type 0
-MovesAreNotWrong = (setting : Setting) (here key : ℕ) (old new : places.Place) (effect : Effect) → Moves setting here old key new effect → IsWrong setting here old key → ⊥
+MovesAreNotWrong = (setting : Setting) (here key : ℕ) (old new : places.Place) (effect : Effect) → Moves setting here old key new effect
+    → IsWrong setting here old key → ⊥
 
 -- a message that is taken in fits
 abbrev pub DeliveriesAreNotWrong : Type 0
-DeliveriesAreNotWrong = (setting : Setting) (here key : ℕ) (old new : places.Place) (message : Message) → Receives setting here old message key new → IsMisfit setting here old message → ⊥
+DeliveriesAreNotWrong = (setting : Setting) (here key : ℕ) (old new : places.Place) (message : Message) → Receives setting here old message key new
+    → IsMisfit setting here old message → ⊥
 
 -- the values that an operation sends away: the arguments of an at, and the result of a stay that was sent by one
 abbrev pub IsSent : Situation → Op → List Value → Type 0

@@ -13,7 +13,8 @@ IsOneFrame = (places : ℕ) → places < 2 ^ 16 → (f g : Frame) → FitsFrame 
 
 -- what is read has a spelling, and is spelled so
 abbrev pub IsSpelledSo : Type 0
-IsSpelledSo = (places : ℕ) → places < 2 ^ 16 → (bytes : List ℕ) (f : Frame) → ((k : ℕ) → slice_index bytes k < 256) → frame_at places bytes ≡ Ok f → FitsFrame places f × (bytes ≡ spelling f)
+IsSpelledSo = (places : ℕ) → places < 2 ^ 16 → (bytes : List ℕ) (f : Frame) → ((k : ℕ) → slice_index bytes k < 256) → frame_at places bytes ≡ Ok f
+    → FitsFrame places f × (bytes ≡ spelling f)
 
 -- ---- examples
 
@@ -35,7 +36,9 @@ IsLeast = Spells 1 (1 ∷ 1 ∷ 0 ∷ 0 ∷ 0 ∷ 0 ∷ 0 ∷ 0 ∷ 0 ∷ 0 ∷ 
 
 -- place 1 on finish 1 of place 0: one activity sent to place 2, and one received from place 0
 abbrev pub IsReport : Type 0
-IsReport = Spells 3 (1 ∷ 4 ∷ 0 ∷ 1 ∷ 0 ∷ 0 ∷ 0 ∷ 0 ∷ 0 ∷ 1 ∷ 0 ∷ 3 ∷ 0 ∷ 0 ∷ 0 ∷ 0 ∷ 0 ∷ 0 ∷ 0 ∷ 0 ∷ 0 ∷ 0 ∷ 0 ∷ 1 ∷ 0 ∷ 0 ∷ 0 ∷ 1 ∷ 0 ∷ 0 ∷ 0 ∷ 0 ∷ 0 ∷ 0 ∷ 0 ∷ 0 ∷ []) (Report 1 0 1 (0 ∷ 0 ∷ 1 ∷ []) (1 ∷ 0 ∷ 0 ∷ []))
+IsReport = Spells 3
+    (1 ∷ 4 ∷ 0 ∷ 1 ∷ 0 ∷ 0 ∷ 0 ∷ 0 ∷ 0 ∷ 1 ∷ 0 ∷ 3 ∷ 0 ∷ 0 ∷ 0 ∷ 0 ∷ 0 ∷ 0 ∷ 0 ∷ 0 ∷ 0 ∷ 0 ∷ 0 ∷ 1 ∷ 0 ∷ 0 ∷ 0 ∷ 1 ∷ 0 ∷ 0 ∷ 0 ∷ 0 ∷ 0 ∷ 0 ∷ 0 ∷ 0 ∷ [])
+    (Report 1 0 1 (0 ∷ 0 ∷ 1 ∷ []) (1 ∷ 0 ∷ 0 ∷ []))
 
 abbrev link : ℕ → Node
 link i = record { class = 0; fields = ObjectItem i ∷ RailItem 0 ∷ RefItem 0 0 1 ∷ [] }
@@ -45,7 +48,9 @@ abbrev cycle : Graph
 cycle = record { roots = ObjectItem 0 ∷ []; texts = []; rails = (0 ∷ 0 ∷ []) ∷ []; nodes = link 1 ∷ link 0 ∷ [] }
 
 abbrev pub IsCycle : Type 0
-IsCycle = Spells 2 (1 ∷ 1 ∷ 0 ∷ 0 ∷ 0 ∷ 1 ∷ 0 ∷ 0 ∷ 0 ∷ 0 ∷ 0 ∷ 1 ∷ 0 ∷ 0 ∷ 0 ∷ 1 ∷ 0 ∷ 0 ∷ 0 ∷ 1 ∷ 0 ∷ 2 ∷ 5 ∷ 0 ∷ 0 ∷ 0 ∷ 0 ∷ 0 ∷ 2 ∷ 0 ∷ 0 ∷ 0 ∷ 0 ∷ 3 ∷ 5 ∷ 0 ∷ 1 ∷ 4 ∷ 0 ∷ 0 ∷ 7 ∷ 0 ∷ 0 ∷ 0 ∷ 0 ∷ 0 ∷ 0 ∷ 0 ∷ 1 ∷ 0 ∷ 0 ∷ 3 ∷ 5 ∷ 0 ∷ 0 ∷ 4 ∷ 0 ∷ 0 ∷ 7 ∷ 0 ∷ 0 ∷ 0 ∷ 0 ∷ 0 ∷ 0 ∷ 0 ∷ 1 ∷ []) (Spawn 0 1 0 1 0 cycle)
+IsCycle = Spells 2 (1 ∷ 1 ∷ 0 ∷ 0 ∷ 0 ∷ 1 ∷ 0 ∷ 0 ∷ 0 ∷ 0 ∷ 0 ∷ 1 ∷ 0 ∷ 0 ∷ 0 ∷ 1 ∷ 0 ∷ 0 ∷ 0 ∷ 1 ∷ 0 ∷ 2 ∷ 5 ∷ 0 ∷ 0 ∷ 0 ∷ 0 ∷ 0 ∷ 2 ∷ 0 ∷ 0 ∷ 0 ∷ 0 ∷ 3 ∷ 5
+    ∷ 0 ∷ 1 ∷ 4 ∷ 0 ∷ 0 ∷ 7 ∷ 0 ∷ 0 ∷ 0 ∷ 0 ∷ 0 ∷ 0 ∷ 0 ∷ 1 ∷ 0 ∷ 0 ∷ 3 ∷ 5 ∷ 0 ∷ 0 ∷ 4 ∷ 0 ∷ 0 ∷ 7 ∷ 0 ∷ 0 ∷ 0 ∷ 0 ∷ 0 ∷ 0 ∷ 0 ∷ 1 ∷ [])
+    (Spawn 0 1 0 1 0 cycle)
 
 -- ---- refusals
 

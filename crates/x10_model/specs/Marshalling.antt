@@ -29,7 +29,9 @@ snapshot_of g = record { roots = map (value_of g.texts) g.roots; rails = g.rails
 
 -- the message that a frame carries; a report carries none
 abbrev pub message_of : Frame → Option Message
-message_of (frames.Spawn from to home number function graph) = Some (places.Spawn from to (record { home = home; number = number }) function (snapshot_of graph))
-message_of (frames.Shift from to waiting home number function graph) = Some (places.Shift from to waiting (record { home = home; number = number }) function (snapshot_of graph))
+message_of (frames.Spawn from to home number function graph) = Some
+    (places.Spawn from to (record { home = home; number = number }) function (snapshot_of graph))
+message_of (frames.Shift from to waiting home number function graph) = Some
+    (places.Shift from to waiting (record { home = home; number = number }) function (snapshot_of graph))
 message_of (frames.Back from to waiting graph) = Some (places.Back from to waiting (snapshot_of graph))
 message_of (frames.Report from to number sent received) = None

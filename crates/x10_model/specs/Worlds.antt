@@ -65,7 +65,11 @@ enclosing_after enclosing here (Opens number inside) = with_enclosing enclosing 
 enclosing_after enclosing here _ = enclosing
 
 abbrev pub net_after : Net → ℕ → places.Place → Effect → ℕ → Net
-net_after net here new effect number = record { places = with_entry net.places here (Some new); posts = posts_after net.posts number (sent effect); enclosing = enclosing_after net.enclosing here effect }
+net_after net here new effect number = record {
+  places = with_entry net.places here (Some new);
+  posts = posts_after net.posts number (sent effect);
+  enclosing = enclosing_after net.enclosing here effect;
+}
 
 -- ---- the book after a move
 
@@ -78,7 +82,10 @@ counted book a = let activity = book.activities a in with_activity book a (recor
 
 -- the next activity, which has made no step
 abbrev pub started : Book → ℕ → Finish → List (ℕ × ℕ) → Book
-started book function under stays = record book { begun = book.begun + 1; activities = with_entry book.activities book.begun (record { function = function; under = under; steps = 0; stays = stays }) }
+started book function under stays = record book {
+  begun = book.begun + 1;
+  activities = with_entry book.activities book.begun (record { function = function; under = under; steps = 0; stays = stays });
+}
 
 abbrev pub owned : Book → ℕ → ℕ → ℕ → Book
 owned book here key a = record book { belongs = with_pair book.belongs here key a }
@@ -200,7 +207,8 @@ pub record Delivers (setting : Setting) (w : World) (number : ℕ) (v : World) :
 pub data IsIdle (w : World) : Event → Type 0 where
   no_place : (here key : ℕ) → w.net.places here ≡ None → IsIdle w (Step here key)
   no_stay : (here key : ℕ) (place : places.Place) → w.net.places here ≡ Some place → place.stays key ≡ None → IsIdle w (Step here key)
-  is_away : (here key : ℕ) (place : places.Place) (stay : Stay) → w.net.places here ≡ Some place → place.stays key ≡ Some stay → stay.away ≡ true → IsIdle w (Step here key)
+  is_away : (here key : ℕ) (place : places.Place) (stay : Stay) → w.net.places here ≡ Some place → place.stays key ≡ Some stay → stay.away ≡ true
+      → IsIdle w (Step here key)
   not_flying : (number : ℕ) → ((message : Message) → w.net.posts number ≡ Flying message → ⊥) → IsIdle w (Deliver number)
 
 -- what an event does
@@ -212,13 +220,16 @@ pub data Happens (rule : Rule) (setting : Setting) (w : World) : Event → World
 -- an event goes wrong: a move that goes wrong, or a message that doesn't fit the place that it is for
 pub data GoesWrong (setting : Setting) (w : World) : Event → Type 0 where
   step : (here key : ℕ) (place : places.Place) → w.net.places here ≡ Some place → IsWrong setting here place key → GoesWrong setting w (Step here key)
-  delivery : (number : ℕ) (message : Message) (place : places.Place) → w.net.posts number ≡ Flying message → w.net.places (receiver message) ≡ Some place → IsMisfit setting (receiver message) place message → GoesWrong setting w (Deliver number)
-  nowhere : (number : ℕ) (message : Message) → w.net.posts number ≡ Flying message → w.net.places (receiver message) ≡ None → GoesWrong setting w (Deliver number)
+  delivery : (number : ℕ) (message : Message) (place : places.Place) → w.net.posts number ≡ Flying message → w.net.places (receiver message) ≡ Some place
+      → IsMisfit setting (receiver message) place message → GoesWrong setting w (Deliver number)
+  nowhere : (number : ℕ) (message : Message) → w.net.posts number ≡ Flying message → w.net.places (receiver message) ≡ None
+      → GoesWrong setting w (Deliver number)
 
 -- Each event in its turn, from the first world to the last, and P holds of each world on the way.
 pub data Run (rule : Rule) (setting : Setting) (P : World → Type 0) : World → List Event → World → Type 0 where
   done : (w : World) → P w → Run rule setting P w [] w
-  then : (u v w : World) (event : Event) (events : List Event) → P u → (GoesWrong setting u event → ⊥) → Happens rule setting u event v → Run rule setting P v events w → Run rule setting P u (event ∷ events) w
+  then : (u v w : World) (event : Event) (events : List Event) → P u → (GoesWrong setting u event → ⊥) → Happens rule setting u event v
+      → Run rule setting P v events w → Run rule setting P u (event ∷ events) w
 
 -- no activity has made more steps than the bound of its first function
 abbrev pub WithinBounds : List ℕ → World → Type 0
@@ -240,7 +251,12 @@ opening_places setting key p = if nat_lt p setting.places then Some (if p == 0 t
 abbrev pub opening : Setting → ℕ → World
 opening setting key = record {
   net = record { places = opening_places setting key; posts = λ n. Unused; enclosing = λ f. None };
-  book = record { begun = 1; activities = λ a. record { function = setting.program.entry; under = root; steps = 0; stays = (0, key) ∷ [] }; belongs = λ p k. 0; carries = λ n. 0 };
+  book = record {
+    begun = 1;
+    activities = λ a. record { function = setting.program.entry; under = root; steps = 0; stays = (0, key) ∷ [] };
+    belongs = λ p k. 0;
+    carries = λ n. 0;
+  };
 }
 
 -- no activity lives

@@ -146,7 +146,8 @@ IsLaunchRefused program old s f l refusal.Kind = MisfitsLaunch program s f l ref
 IsLaunchRefused program old s f l refusal.Home = MisfitsLaunch program s f l refusal.Home
 IsLaunchRefused program old s f l refusal.Ref = MisfitsLaunch program s f l refusal.Ref
 IsLaunchRefused program old s f l refusal.Finish = FitsLaunch program s f l × IsShutHere s (finish_as l.under)
-IsLaunchRefused program old s f l (refusal.Limit limit) = FitsLaunch program s f l × IsOpenHere s (finish_as l.under) × (Passes s.heap (graph_of f) limit ⊎ IsCrowded old s l limit)
+IsLaunchRefused program old s f l (refusal.Limit limit) = FitsLaunch program s f l × IsOpenHere s (finish_as l.under)
+    × (Passes s.heap (graph_of f) limit ⊎ IsCrowded old s l limit)
 IsLaunchRefused program old s f l refusal.Memory = Unit {0}
 IsLaunchRefused program old s f l _ = ⊥
 
@@ -177,7 +178,8 @@ pub record GoesOnBy (words : List ℕ) (a : StayState) (register : ℕ) (b : Sta
   pub rest : b ≡ record a { top = b.top; away = false }
 
 -- the result that a frame brings is put where the stay with a key waits for it, and the stay goes on
-pub record ComesBack (program : Module) (old : Slab StayState) (s : StoreState) (f : Frame) (from key : ℕ) (new : Slab StayState) (t : StoreState) : Type 0 where
+pub record ComesBack (program : Module) (old : Slab StayState) (s : StoreState) (f : Frame) (from key : ℕ) (new : Slab StayState)
+    (t : StoreState) : Type 0 where
   pub stay : StayState
   pub is_there : get old key ≡ Some stay
   pub call : Instr
@@ -205,7 +207,8 @@ pub record IsExpected (program : Module) (old : Slab StayState) (from key : ℕ)
 -- why it doesn't: nobody waits, or the result is refused
 abbrev pub IsBackRefused : Module → Slab StayState → StoreState → Frame → (from key : ℕ) → Refusal → Type 0
 IsBackRefused program old s f from key refusal.Segment = (slots : List Slot) → IsExpected program old from key slots → ⊥
-IsBackRefused program old s f from key why = (slots : List Slot) × IsExpected program old from key slots × IsRefusal program s.here from s.heap slots (graph_of f) why
+IsBackRefused program old s f from key why = (slots : List Slot) × IsExpected program old from key slots
+    × IsRefusal program s.here from s.heap slots (graph_of f) why
 
 -- ---- a frame
 

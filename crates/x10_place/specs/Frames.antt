@@ -222,12 +222,14 @@ Acts local.SetField program w i v = SetsField w i v
 Acts local.SetByte program w i v = (bytes : List ℕ) × (rail_in w.heap w.words i.a ≡ Some bytes) × SetsByte (byte_at bytes (int_at w.words i.b)) bytes w i v
 Acts local.Place program w i v = Becomes v (w.pc + 1) (slice_set w.words i.a i.x) w.loops w.heap
 Acts local.Home program w i v = Becomes v (w.pc + 1) (slice_set w.words i.a (home_of (word_at w.words i.b))) w.loops w.heap
-Acts local.Open program w i v = (e : Export) × (slice_get w.heap.exports (id_of (word_at w.words i.b)) ≡ Some e) × Becomes v (w.pc + 1) (slice_set w.words i.a (e.object + 1)) w.loops w.heap
+Acts local.Open program w i v = (e : Export) × (slice_get w.heap.exports (id_of (word_at w.words i.b)) ≡ Some e)
+    × Becomes v (w.pc + 1) (slice_set w.words i.a (e.object + 1)) w.loops w.heap
 Acts local.SamePlace program w i v = Becomes v (if are_same w.words i.a i.b then w.pc + 1 else i.x) w.words w.loops w.heap
 Acts local.Jump program w i v = Becomes v i.x w.words w.loops w.heap
 Acts local.JumpIfZero program w i v = Becomes v (if is_zero (int_at w.words i.a) then i.x else w.pc + 1) w.words w.loops w.heap
 Acts local.Loop program w i v = Becomes v (w.pc + 1) w.words (slice_set w.loops i.a i.x) w.heap
-Acts local.EndLoop program w i v = Becomes v (if nat_lt 0 (turns_left w.loops i.a) then i.x else w.pc + 1) w.words (slice_set w.loops i.a (turns_left w.loops i.a)) w.heap
+Acts local.EndLoop program w i v = Becomes v (if nat_lt 0 (turns_left w.loops i.a) then i.x else w.pc + 1) w.words
+    (slice_set w.loops i.a (turns_left w.loops i.a)) w.heap
 
 -- what an operation that gives a number asks of the constants and of the number of registers
 abbrev pub AsksNumber : Number → Module → ℕ → Instr → Type 0
@@ -292,7 +294,8 @@ Joins false text w i v = Becomes v i.x w.words w.loops w.heap
 -- an object with so many fields from register b on, under the next number; register a gets one more
 pub record MakesObject (w : Workspace) (i : Instr) (count : ℕ) (v : Workspace) : Type 0 where
   pub few : length w.heap.objects < 2 ^ 32
-  pub becomes : Becomes v (w.pc + 1) (slice_set w.words i.a (length w.heap.objects + 1)) w.loops (with_object w.heap i.x (slice_range w.words i.b (i.b + count)))
+  pub becomes : Becomes v (w.pc + 1) (slice_set w.words i.a (length w.heap.objects + 1)) w.loops
+      (with_object w.heap i.x (slice_range w.words i.b (i.b + count)))
 
 -- a rail of so many zeros, under the next number
 pub record MakesZeros (w : Workspace) (i : Instr) (count : ℕ) (v : Workspace) : Type 0 where
@@ -307,7 +310,8 @@ MakesRail None w i v = Becomes v i.x w.words w.loops w.heap
 -- what an operation makes
 abbrev pub Makes : Make → Module → Workspace → Instr → Workspace → Type 0
 Makes make.Text program w i v = (text : List ℕ) × (slice_get program.texts i.x ≡ Some text) × MakesText w i text v
-Makes make.JoinedText program w i v = (t u : List ℕ) × (text_in w.heap w.words i.b ≡ Some t) × (text_in w.heap w.words i.c ≡ Some u) × Joins (nat_le (length t + length u) MOST_BYTES) (t ++ u) w i v
+Makes make.JoinedText program w i v = (t u : List ℕ) × (text_in w.heap w.words i.b ≡ Some t) × (text_in w.heap w.words i.c ≡ Some u)
+    × Joins (nat_le (length t + length u) MOST_BYTES) (t ++ u) w i v
 Makes make.Object program w i v = (kinds : List Kind) × (slice_get program.classes i.x ≡ Some kinds) × MakesObject w i (length kinds) v
 Makes make.Rail program w i v = MakesRail (rail_length (int_at w.words i.b)) w i v
 
@@ -315,7 +319,8 @@ Makes make.Rail program w i v = MakesRail (rail_length (int_at w.words i.b)) w i
 abbrev pub AsksMake : Make → Module → ℕ → Instr → Type 0
 AsksMake make.Text program registers i = (i.a < registers) × (i.x < length program.texts)
 AsksMake make.JoinedText program registers i = (i.a < registers) × (i.b < registers) × (i.c < registers) × (i.x < 2 ^ 16)
-AsksMake make.Object program registers i = (i.a < registers) × ((kinds : List Kind) → slice_get program.classes i.x ≡ Some kinds → i.b + length kinds ≤ registers) × (i.x < length program.classes)
+AsksMake make.Object program registers i = (i.a < registers)
+    × ((kinds : List Kind) → slice_get program.classes i.x ≡ Some kinds → i.b + length kinds ≤ registers) × (i.x < length program.classes)
 AsksMake make.Rail program registers i = (i.a < registers) × (i.b < registers) × (i.x < 2 ^ 16)
 
 -- what it reads in the heap is there
@@ -373,7 +378,8 @@ pub record ExportsObject (here : ℕ) (w : Workspace) (i : Instr) (v : Workspace
   pub few : length w.heap.exports < 2 ^ 32
   pub object : ObjectState
   pub is_object : slice_get w.heap.objects (object_in w.words i.b) ≡ Some object
-  pub becomes : Becomes v (w.pc + 1) (slice_set w.words i.a (reference_word here (length w.heap.exports))) w.loops (with_export w.heap object.class (object_in w.words i.b))
+  pub becomes : Becomes v (w.pc + 1) (slice_set w.words i.a (reference_word here (length w.heap.exports))) w.loops
+      (with_export w.heap object.class (object_in w.words i.b))
 
 -- the register names an object
 pub record NamesObject (heap : HeapState) (words : List ℕ) (r : ℕ) : Type 0 where

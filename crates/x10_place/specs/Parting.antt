@@ -50,7 +50,8 @@ pub record DepartsAt (program : Module) (old : Slab StayState) (s : StoreState) 
   pub message : Outgoing
   pub sent_is : sent ≡ record { message = Some message; report = None }
   pub to_is : message.to ≡ word_at stay.top.registers.items instr.c
-  pub frame : TakesAlong program s (slots_of_call program instr) (words_from stay.top instr.b (slots_of_call program instr)) (head_sent instr.op s.here message.to key (innermost_at s.here stay) instr.x) message.bytes.items
+  pub frame : TakesAlong program s (slots_of_call program instr) (words_from stay.top instr.b (slots_of_call program instr))
+      (head_sent instr.op s.here message.to key (innermost_at s.here stay) instr.x) message.bytes.items
   pub store : Recounts s t s.opened (changed_at (totals_in s) (innermost_at s.here stay) (λ u. sends_to u message.to)) (books_in s)
 
 -- ---- a stay ends
@@ -60,7 +61,8 @@ abbrev pub SendsResult : Module → StoreState → StayState → Instr → Optio
 SendsResult program s a i None None = Unit {0}
 SendsResult program s a i (Some origin) (Some o) =
     (o.to ≡ origin.place)
-    × TakesAlong program s (slots_of_end program a.top) (words_from a.top i.a (slots_of_end program a.top)) (head.Back s.here origin.place origin.key) o.bytes.items
+    × TakesAlong program s (slots_of_end program a.top) (words_from a.top i.a (slots_of_end program a.top))
+    (head.Back s.here origin.place origin.key) o.bytes.items
 SendsResult program s a i _ _ = ⊥
 
 -- a report goes to the home of a finish where its last activity ends away from there

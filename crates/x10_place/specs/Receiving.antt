@@ -48,7 +48,8 @@ pub record Admits (far : Far) (p : PlaceState) (m : machine.Place) (message : Me
 
 -- each place of the machine that the state stands for does, where its global references to objects elsewhere name some
 abbrev pub TakesMessage : PlaceState → Message → PlaceState → Type 0
-TakesMessage p message q = (far : Far) (m : machine.Place) → StandsFor far p m → AreNamedElsewhere (context_of far p) (wrong.graph_of message) → Admits far p m message q
+TakesMessage p message q = (far : Far) (m : machine.Place) → StandsFor far p m → AreNamedElsewhere (context_of far p) (wrong.graph_of message)
+    → Admits far p m message q
 
 abbrev pub merged_in : Report → Option Cut → Option Cut
 merged_in r None = None
@@ -107,8 +108,10 @@ pub record Seat : Type 0 where
 
 -- the function that a frame names may begin with its values; a new activity's has no result
 abbrev pub IsSeat : PlaceState → Frame → Seat → Type 0
-IsSeat p (frames.Spawn from to home number function graph) seat = (callee : Function) × (function_at p.program function ≡ Some callee) × (callee.result ≡ None) × (seat ≡ record { home = p.id; slots = callee.parameters })
-IsSeat p (frames.Shift from to waiting home number function graph) seat = (callee : Function) × (function_at p.program function ≡ Some callee) × (seat ≡ record { home = p.id; slots = callee.parameters })
+IsSeat p (frames.Spawn from to home number function graph) seat = (callee : Function) × (function_at p.program function ≡ Some callee) × (callee.result ≡ None)
+    × (seat ≡ record { home = p.id; slots = callee.parameters })
+IsSeat p (frames.Shift from to waiting home number function graph) seat = (callee : Function) × (function_at p.program function ≡ Some callee)
+    × (seat ≡ record { home = p.id; slots = callee.parameters })
 IsSeat p (frames.Back from to waiting graph) seat = (slots : List Slot) × IsAwaited p waiting from slots × (seat ≡ record { home = from; slots = slots })
 IsSeat p (frames.Report from to number sent received) seat = ⊥
 
@@ -124,8 +127,10 @@ OverfillsLaunch p from under limit = ((limit ≡ 10) × (2 ^ 32 ≤ p.stays.vaca
 
 -- or of what it brings: of objects (1), texts (2) or rails (3)
 abbrev pub OverfillsArrival : PlaceState → Frame → ℕ → Type 0
-OverfillsArrival p (frames.Spawn from to home number function graph) limit = Passes p.heap graph limit ⊎ OverfillsLaunch p from (record { home = home; number = number }) limit
-OverfillsArrival p (frames.Shift from to waiting home number function graph) limit = Passes p.heap graph limit ⊎ OverfillsLaunch p from (record { home = home; number = number }) limit
+OverfillsArrival p (frames.Spawn from to home number function graph) limit = Passes p.heap graph limit
+    ⊎ OverfillsLaunch p from (record { home = home; number = number }) limit
+OverfillsArrival p (frames.Shift from to waiting home number function graph) limit = Passes p.heap graph limit
+    ⊎ OverfillsLaunch p from (record { home = home; number = number }) limit
 OverfillsArrival p (frames.Back from to waiting graph) limit = Passes p.heap graph limit
 OverfillsArrival p (frames.Report from to number sent received) limit = ⊥
 

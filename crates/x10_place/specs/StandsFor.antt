@@ -66,7 +66,19 @@ plain slab = record slab { capacity = 0 }
 
 -- a place as its fields are seen
 abbrev pub place_of : Certified → Slab StayState → StoreState → Bool → PlaceState
-place_of verified stays store stopped = record { program = verified.program; bounds = verified.bounds; id = store.here; places = store.places; stays = plain stays; heap = store.heap; lines = store.lines; opened = store.opened; ledger = store.ledger; books = store.books; stopped = stopped }
+place_of verified stays store stopped = record {
+  program = verified.program;
+  bounds = verified.bounds;
+  id = store.here;
+  places = store.places;
+  stays = plain stays;
+  heap = store.heap;
+  lines = store.lines;
+  opened = store.opened;
+  ledger = store.ledger;
+  books = store.books;
+  stopped = stopped;
+}
 
 -- the place with other stays, and what it then keeps for them
 abbrev pub with_stays : PlaceState → Slab StayState → StoreState → PlaceState
@@ -101,7 +113,8 @@ Assigned program = (f : ℕ) (function : Function) → function_at program f ≡
 
 -- each register of which the kind is known holds a value, and its word stands for that value
 abbrev pub HoldRegisters : Context → State → (ℕ → Option Value) → List ℕ → Type 0
-HoldRegisters x s registers words = (r : ℕ) (kind : Kind) → s.kinds r ≡ Some kind → (v : Value) × (registers r ≡ Some v) × IsWordOf x kind (slice_index words r) v
+HoldRegisters x s registers words = (r : ℕ) (kind : Kind) → s.kinds r ≡ Some kind
+    → (v : Value) × (registers r ≡ Some v) × IsWordOf x kind (slice_index words r) v
 
 -- a frame of the program stands for a call frame: at the same instruction of the same function, with words for the
 -- values of each register of which the assignment knows the kind there, with homes as it knows them, and the same turns
@@ -120,7 +133,8 @@ pub record StandsForFrame (program : Module) (assigned : Assigned program) (x : 
 -- frames stand for the machine's callers, of which the last one is the first
 abbrev pub StandForCallers : (program : Module) → Assigned program → Context → List CallFrame → List machine.CallFrame → Type 0
 StandForCallers program assigned x fs [] = fs ≡ []
-StandForCallers program assigned x fs (c ∷ cs) = (before : List CallFrame) × (f : CallFrame) × (fs ≡ before ++ f ∷ []) × StandsForFrame program assigned x f c × StandForCallers program assigned x before cs
+StandForCallers program assigned x fs (c ∷ cs) = (before : List CallFrame) × (f : CallFrame) × (fs ≡ before ++ f ∷ []) × StandsForFrame program assigned x f c
+    × StandForCallers program assigned x before cs
 
 -- the finish that it inherited is of a place of the run, and so is the stay that its result goes back to, with a key that a
 -- frame can tell
@@ -143,7 +157,8 @@ pub record StandsForStay (program : Module) (assigned : Assigned program) (x : C
 
 -- each export names an object of its class
 abbrev pub AreNamed : HeapState → Type 0
-AreNamed heap = (id : ℕ) (e : Export) → slice_get heap.exports id ≡ Some e → (o : ObjectState) × (slice_get heap.objects e.object ≡ Some o) × (o.class ≡ e.class)
+AreNamed heap = (id : ℕ) (e : Export) → slice_get heap.exports id ≡ Some e
+    → (o : ObjectState) × (slice_get heap.objects e.object ≡ Some o) × (o.class ≡ e.class)
 
 -- a place that there is, one of a number that is permitted
 pub record IsWithinPlaces (program : Module) (here places : ℕ) : Type 0 where
@@ -217,7 +232,8 @@ pub record StandsFor (far : Far) (p : PlaceState) (m : machine.Place) : Type 0 w
   pub assigned : Assigned p.program
   pub none : (key : ℕ) → get p.stays key ≡ None → m.stays key ≡ None
   pub keys : (key : ℕ) → 2 ^ 32 ≤ key → get p.stays key ≡ None
-  pub some : (key : ℕ) (a : StayState) → get p.stays key ≡ Some a → (s : Stay) × (m.stays key ≡ Some s) × StandsForStay p.program assigned (context_of far p) a s
+  pub some : (key : ℕ) (a : StayState) → get p.stays key ≡ Some a
+      → (s : Stay) × (m.stays key ≡ Some s) × StandsForStay p.program assigned (context_of far p) a s
   pub site : IsWithinPlaces p.program p.id p.places
   pub heap : HoldsHeap (context_of far p) m.cells
   pub exports : HoldsExports p.heap m.exports
@@ -266,7 +282,8 @@ LeadsAll p key answer q = (far : Far) (m : machine.Place) → StandsFor far p m 
 
 -- an activity would begin that there can't be: its key (10), or how many live under its finish (6), would be too large
 abbrev pub OverfillsBegin : PlaceState → StayState → ℕ → Type 0
-OverfillsBegin p a limit = ((limit ≡ 10) × (2 ^ 32 ≤ p.stays.vacant_key)) ⊎ ((limit ≡ 6) × (p.stays.vacant_key < 2 ^ 32) × IsLargest (totals_of p.ledger (innermost_at p.id a)).live)
+OverfillsBegin p a limit = ((limit ≡ 10) × (2 ^ 32 ≤ p.stays.vacant_key))
+    ⊎ ((limit ≡ 6) × (p.stays.vacant_key < 2 ^ 32) × IsLargest (totals_of p.ledger (innermost_at p.id a)).live)
 
 -- as many as can be counted were sent under its finish to the place that an instruction names (6)
 abbrev pub OverfillsSend : PlaceState → StayState → Instr → ℕ → Type 0
@@ -295,7 +312,8 @@ pub record IsOverloaded (p : PlaceState) (key limit : ℕ) : Type 0 where
   pub instr : Instr
   pub instr_is : instr_at p.program stay.top.function stay.top.pc ≡ Some instr
   pub sends : IsSending (route_of instr.op) stay
-  pub overloads : Overloads p.program.classes p.heap (slots_sent (route_of instr.op) p.program stay instr) (words_sent (route_of instr.op) (slots_sent (route_of instr.op) p.program stay instr) stay instr) limit
+  pub overloads : Overloads p.program.classes p.heap (slots_sent (route_of instr.op) p.program stay instr)
+      (words_sent (route_of instr.op) (slots_sent (route_of instr.op) p.program stay instr) stay instr) limit
 
 -- the limits that a step may pass: objects (1), texts (2), rails (3), global references (4), finishes (5), activities under
 -- one finish (6), objects, texts and rails of one frame (7, 8, 9), and keys (10)
@@ -315,7 +333,8 @@ IsOperation program function pc op = (i : Instr) × (instr_at program function p
 pub data IsIdleAt (p : PlaceState) (key : ℕ) : Type 0 where
   nobody : get p.stays key ≡ None → IsIdleAt p key
   away : (a : StayState) → get p.stays key ≡ Some a → a.away ≡ true → IsIdleAt p key
-  waits : (a : StayState) (number : ℕ) (outer : List ℕ) → get p.stays key ≡ Some a → IsOperation p.program a.top.function a.top.pc op.Fine → a.finishes ≡ number ∷ outer → (IsDoneHere (store_of p) number → ⊥) → IsIdleAt p key
+  waits : (a : StayState) (number : ℕ) (outer : List ℕ) → get p.stays key ≡ Some a → IsOperation p.program a.top.function a.top.pc op.Fine
+      → a.finishes ≡ number ∷ outer → (IsDoneHere (store_of p) number → ⊥) → IsIdleAt p key
 
 -- the activity with the key stands at an instruction of a function
 abbrev pub IsAt : Slab StayState → ℕ → ℕ → ℕ → Type 0

@@ -225,12 +225,14 @@ Returns program a s i _ b t = ⊥
 
 -- the least consistent assignment knows a number where the PRINT stands, if it has a state there
 abbrev pub PrintsNumber : Module → ℕ → ℕ → ℕ → Type 0
-PrintsNumber program f pc r = (function : Function) (is : function_at program f ≡ Some function) (assigned : HasLeast program function) (s : State) → assigned.0 pc ≡ Some s → IsKind s r kind.Int
+PrintsNumber program f pc r = (function : Function) (is : function_at program f ≡ Some function) (assigned : HasLeast program function) (s : State)
+    → assigned.0 pc ≡ Some s → IsKind s r kind.Int
 
 -- what a PRINT says of its register: a number, or a text
 abbrev pub IsPrinted : Module → HeapState → CallFrame → ℕ → Line → Type 0
 IsPrinted program heap f r (line.Int z) = PrintsNumber program f.function f.pc r × (z ≡ int_at f.registers.items r)
-IsPrinted program heap f r (line.Text text) = PrintsText program f.function f.pc × (slice_get heap.texts (word_at f.registers.items r) ≡ Some (string_bytes text))
+IsPrinted program heap f r (line.Text text) = PrintsText program f.function f.pc
+    × (slice_get heap.texts (word_at f.registers.items r) ≡ Some (string_bytes text))
 
 -- a line is printed
 pub record Prints (program : Module) (a : StayState) (s : StoreState) (i : Instr) (b : StayState) (t : StoreState) : Type 0 where

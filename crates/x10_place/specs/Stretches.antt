@@ -134,14 +134,17 @@ pub record IsUntouched (old : Slab StayState) (s : StoreState) (new : Slab StayS
 
 -- why an activity doesn't begin
 abbrev pub RefusesBegin : Certified → Slab StayState → StoreState → ℕ → Stop → Type 0
-RefusesBegin verified stays s key why = (why ≡ stop.Memory) ⊎ ((limit : ℕ) × (why ≡ stop.Limit limit) × (a : StayState) × (get stays key ≡ Some a) × OverfillsBegin (place_of verified stays s false) a limit)
+RefusesBegin verified stays s key why = (why ≡ stop.Memory)
+    ⊎ ((limit : ℕ) × (why ≡ stop.Limit limit) × (a : StayState) × (get stays key ≡ Some a) × OverfillsBegin (place_of verified stays s false) a limit)
 
 -- What a step of the stay with a key does to the stays of a place and to what it keeps for them. Whether the place has
 -- stopped is nothing to it.
-pub record IsAdvanced (verified : Certified) (old : Slab StayState) (s : StoreState) (key : ℕ) (result : Result Stepped Stop) (new : Slab StayState) (t : StoreState) : Type 0 where
+pub record IsAdvanced (verified : Certified) (old : Slab StayState) (s : StoreState) (key : ℕ) (result : Result Stepped Stop) (new : Slab StayState)
+    (t : StoreState) : Type 0 where
   pub idle : (stopped : Bool) → IsIdleAt (place_of verified old s stopped) key → (result ≡ Ok stepped.Idle) × IsUntouched old s new t
   pub only : (stopped : Bool) → result ≡ Ok stepped.Idle → IsIdleAt (place_of verified old s stopped) key
-  pub some : (stopped : Bool) (a : StayState) → get old key ≡ Some a → a.away ≡ false → IfOk result (λ answer. LeadsAll (place_of verified old s stopped) key answer (place_of verified new t stopped))
+  pub some : (stopped : Bool) (a : StayState) → get old key ≡ Some a → a.away ≡ false
+      → IfOk result (λ answer. LeadsAll (place_of verified old s stopped) key answer (place_of verified new t stopped))
   pub refused : (stopped : Bool) → IfErr result (IsHindered (place_of verified old s stopped) key)
   pub same : IfErr result (λ why. IsUntouched old s new t)
   pub full : (stopped : Bool) (limit : ℕ) → IsOverfull (place_of verified old s stopped) key limit → result ≡ Err (stop.Limit limit)
@@ -166,10 +169,13 @@ pub record IsForPlace (verified : Certified) (old : Slab StayState) (s : StoreSt
   pub steps : Steps (route_of instr.op) (location_of (place_of verified old s false)) stay s instr outcome.ForPlace stay s
 
 -- what up to so many steps do, of which the last may have put something out, or why there is no more
-pub record IsRun (verified : Certified) (old : Slab StayState) (s : StoreState) (key most n : ℕ) (result : Result Sent Stop) (new : Slab StayState) (t : StoreState) : Type 0 where
-  pub ran : (stopped : Bool) → MatchResult result (λ sent. StridesTo key (place_of verified old s stopped) n sent (place_of verified new t stopped)) (λ why. Strides key (place_of verified old s stopped) n (place_of verified new t stopped))
+pub record IsRun (verified : Certified) (old : Slab StayState) (s : StoreState) (key most n : ℕ) (result : Result Sent Stop) (new : Slab StayState)
+    (t : StoreState) : Type 0 where
+  pub ran : (stopped : Bool) → MatchResult result (λ sent. StridesTo key (place_of verified old s stopped) n sent (place_of verified new t stopped))
+      (λ why. Strides key (place_of verified old s stopped) n (place_of verified new t stopped))
   pub few : n ≤ most
-  pub all : IfOk result (λ sent. n < most → (stopped : Bool) → IsIdleAt (place_of verified new t stopped) key ⊎ BeginsLast key (place_of verified old s stopped) n (place_of verified new t stopped) ⊎ (sent ≢ no_sent))
+  pub all : IfOk result (λ sent. n < most → (stopped : Bool) → IsIdleAt (place_of verified new t stopped) key ⊎ BeginsLast key
+      (place_of verified old s stopped) n (place_of verified new t stopped) ⊎ (sent ≢ no_sent))
   pub refused : IfErr result (λ why. (stopped : Bool) → IsHindered (place_of verified new t stopped) key why)
   pub standing : IsStanding (place_of verified new t false)
   pub here : t.here ≡ s.here

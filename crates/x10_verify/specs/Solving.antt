@@ -54,7 +54,8 @@ StopsIn m f pc why = (function : Function) × (function_at m f ≡ Some function
 -- the cause holds in the state that the table has there, or the instruction leads to none
 abbrev pub StopsAt : Module → Function → ℕ → FlowCause → List Entry → Type 0
 StopsAt program function pc why table = ((instr : Instr) × (s : State) × (slice_get function.code pc ≡ Some instr) × (stated table pc ≡ Some s)
-    × IsCauseAt (rule_for instr.op instr) (point program function pc instr) s why) ⊎ ((instr : Instr) × (slice_get function.code pc ≡ Some instr) × LeadsOut function pc instr why)
+    × IsCauseAt (rule_for instr.op instr) (point program function pc instr) s why) ⊎ ((instr : Instr) × (slice_get function.code pc ≡ Some instr)
+    × LeadsOut function pc instr why)
 
 -- each state is one that every consistent assignment has at least, and follows from the entry
 abbrev pub AreLeast : Module → Function → List Entry → Type 0
@@ -68,7 +69,8 @@ pub record Shows (program : Module) (function : Function) (pc : ℕ) (why : Flow
 -- one waiting instruction more: the states so far and where to go on, or no consistent assignment, and why
 abbrev pub Steps : Module → Function → ℕ → List Entry → Result ℕ FlowCause → List Entry → Type 0
 Steps program function at old (Ok next) new = Solves program function at old → Solves program function next new
-Steps program function at old (Err cause) new = Solves program function at old → (HasAssignment program function → ⊥) × Stops program function at cause × Shows program function at cause new
+Steps program function at old (Err cause) new = Solves program function at old
+    → (HasAssignment program function → ⊥) × Stops program function at cause × Shows program function at cause new
 
 -- what became of the jump to x: its state has changed, and is to be looked at next where it is no later instruction
 abbrev pub JumpsIf : Bool → Instr → ℕ → ℕ → Known → List Entry → ℕ → List Entry → Type 0

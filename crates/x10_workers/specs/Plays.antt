@@ -92,7 +92,8 @@ pub record IsPlayed (c : Certified) (count : ℕ) (log : List Turn) (outputs : L
   pub plays : Plays first log final
   pub key : ℕ
   pub last : World
-  pub run : Run Ideal (record { program = c.program; places = count }) (WithinBounds c.bounds) (opening (record { program = c.program; places = count }) key) (events_in log) last
+  pub run : Run Ideal (record { program = c.program; places = count }) (WithinBounds c.bounds) (opening (record { program = c.program; places = count }) key)
+      (events_in log) last
   pub stands : StandsForWorld final last
   pub over : IsOver last
   pub count_is : length outputs ≡ count

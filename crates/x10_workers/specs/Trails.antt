@@ -44,7 +44,8 @@ pub record StepsBy (p : PlaceState) (key : ℕ) (answer : Stepped) (q : PlaceSta
 -- a step of each key, one after another, which put out these frames
 abbrev pub StepsEach : PlaceState → List ℕ → List Frame → PlaceState → Type 0
 StepsEach p [] frames q = (frames ≡ []) × (q ≡ p)
-StepsEach p (key ∷ keys) frames q = (answer : Stepped) × (rest : List Frame) × (r : PlaceState) × (frames ≡ frames_out answer ++ rest) × StepsBy p key answer r × StepsEach r keys rest q
+StepsEach p (key ∷ keys) frames q = (answer : Stepped) × (rest : List Frame) × (r : PlaceState) × (frames ≡ frames_out answer ++ rest) × StepsBy p key answer r
+    × StepsEach r keys rest q
 
 -- A turn of a place: it takes frames in, then makes steps; these put out and print what the turn says.
 pub record TurnLeads (p : PlaceState) (t : OwnTurn) (q : PlaceState) : Type 0 where

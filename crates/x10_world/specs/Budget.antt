@@ -59,29 +59,37 @@ spent_by program bounds w a = (w.book.activities a).steps + left_of_all program 
 -- it, where one flies
 pub record IsWithinBudget (program : Module) (bounds : List ℕ) (w : World) : Type 0 where
   pub stays : (a bound : ℕ) → a < w.book.begun → slice_get bounds (w.book.activities a).function ≡ Some bound → spent_by program bounds w a ≤ bound
-  pub carried : (number bound : ℕ) (message : Message) → w.net.posts number ≡ Flying message → slice_get bounds (w.book.activities (w.book.carries number)).function ≡ Some bound
+  pub carried : (number bound : ℕ) (message : Message) → w.net.posts number ≡ Flying message
+      → slice_get bounds (w.book.activities (w.book.carries number)).function ≡ Some bound
       → spent_by program bounds w (w.book.carries number) + left_for bounds message ≤ bound
 
 -- ---- laws
 
 abbrev pub BudgetAtOpening : Type 0
-BudgetAtOpening = (setting : Setting) (key : ℕ) (bounds : List ℕ) → bounds_of setting.program ≡ Ok bounds → IsWithinBudget setting.program bounds (opening setting key)
+BudgetAtOpening = (setting : Setting) (key : ℕ) (bounds : List ℕ) → bounds_of setting.program ≡ Ok bounds
+    → IsWithinBudget setting.program bounds (opening setting key)
 
 -- the world after a move
 abbrev pub world_after : World → ℕ → ℕ → places.Place → Effect → ℕ → World
-world_after w here key new effect number = record { net = net_after w.net here new effect number; book = book_after w.book (w.book.belongs here key) here effect number }
+world_after w here key new effect number = record {
+  net = net_after w.net here new effect number;
+  book = book_after w.book (w.book.belongs here key) here effect number;
+}
 
 abbrev pub BudgetAfterMove : Type 0
-BudgetAfterMove = (setting : Setting) (bounds : List ℕ) (w : World) (here key number : ℕ) (old new : places.Place) (effect : Effect) → bounds_of setting.program ≡ Ok bounds → IsSound w.net w.book → IsWithinBudget setting.program bounds w
+BudgetAfterMove = (setting : Setting) (bounds : List ℕ) (w : World) (here key number : ℕ) (old new : places.Place) (effect : Effect)
+    → bounds_of setting.program ≡ Ok bounds → IsSound w.net w.book → IsWithinBudget setting.program bounds w
     → w.net.places here ≡ Some old → Moves setting here old key new effect → IsWithinBudget setting.program bounds (world_after w here key new effect number)
 
 abbrev pub BudgetAfterDelivery : Type 0
-BudgetAfterDelivery = (setting : Setting) (bounds : List ℕ) (w v : World) (number : ℕ) → bounds_of setting.program ≡ Ok bounds → IsSound w.net w.book → IsWithinBudget setting.program bounds w
+BudgetAfterDelivery = (setting : Setting) (bounds : List ℕ) (w v : World) (number : ℕ) → bounds_of setting.program ≡ Ok bounds → IsSound w.net w.book
+    → IsWithinBudget setting.program bounds w
     → Delivers setting w number v → IsWithinBudget setting.program bounds v
 
 -- the same of any event, whenever finishes may close
 abbrev pub BudgetAfterEvent : Type 0
-BudgetAfterEvent = (rule : Rule) (setting : Setting) (bounds : List ℕ) (w v : World) (event : Event) → bounds_of setting.program ≡ Ok bounds → IsSound w.net w.book → IsWithinBudget setting.program bounds w
+BudgetAfterEvent = (rule : Rule) (setting : Setting) (bounds : List ℕ) (w v : World) (event : Event) → bounds_of setting.program ≡ Ok bounds
+    → IsSound w.net w.book → IsWithinBudget setting.program bounds w
     → Happens rule setting w event v → IsWithinBudget setting.program bounds v
 
 -- activities within their budgets have taken no more steps than their bounds
@@ -90,5 +98,6 @@ BudgetBounds = (program : Module) (bounds : List ℕ) (w : World) → IsWithinBu
 
 -- so in each world of a run no activity has
 abbrev pub RunsAreWithinBounds : Type 0
-RunsAreWithinBounds = (setting : Setting) (key : ℕ) (bounds : List ℕ) (events : List Event) (w : World) → 0 < setting.places → bounds_of setting.program ≡ Ok bounds
+RunsAreWithinBounds = (setting : Setting) (key : ℕ) (bounds : List ℕ) (events : List Event) (w : World) → 0 < setting.places
+    → bounds_of setting.program ≡ Ok bounds
     → Run Quiet setting (λ u. Unit {0}) (opening setting key) events w → Run Quiet setting (WithinBounds bounds) (opening setting key) events w

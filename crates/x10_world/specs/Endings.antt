@@ -44,10 +44,12 @@ AreLinesOf outputs w = (id : ℕ) (m : machine.Place) → w.net.places id ≡ So
 pub record IsEndingOf (c : Certified) (count : ℕ) (events : List Event) (outputs : List (List machine.Line)) (e : Ending) : Type 0 where
   pub key : ℕ
   pub last : World
-  pub run : Run Ideal (record { program = c.program; places = count }) (WithinBounds c.bounds) (opening (record { program = c.program; places = count }) key) (take e.done events) last
+  pub run : Run Ideal (record { program = c.program; places = count }) (WithinBounds c.bounds) (opening (record { program = c.program; places = count }) key)
+      (take e.done events) last
   pub first : WorldState
   pub state : WorldState
-  pub course : Course (record { program = c.program; places = count }) c.bounds first (opening (record { program = c.program; places = count }) key) (take e.done events) state last
+  pub course : Course (record { program = c.program; places = count }) c.bounds first (opening (record { program = c.program; places = count }) key)
+      (take e.done events) state last
   pub final : WorldState
   pub stands : StandsForWorld final last
   pub permitted : IsForbidden c count → ⊥

@@ -12,4 +12,5 @@ pub record HasEnded (x : WorldState) : Type 0 where
 -- stands for: none goes wrong, and no activity takes more steps than its bound.
 pub record RunsTo (x y : WorldState) : Type 0 where
   pub kept : KeepsSetting x y
-  pub runs : (w : World) → StandsForWorld x w → (events : List Event) × (v : World) × Run Ideal (setting_of x) (WithinBounds x.bounds) w events v × StandsForWorld y v
+  pub runs : (w : World) → StandsForWorld x w
+      → (events : List Event) × (v : World) × Run Ideal (setting_of x) (WithinBounds x.bounds) w events v × StandsForWorld y v

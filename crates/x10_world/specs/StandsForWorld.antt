@@ -120,8 +120,10 @@ pub record FliesAsReport (places : ℕ) (w : World) (told : Finish → ℕ → O
 -- The frames in flight are the messages of a world that fly, and reports. Numbers that were not given are unused.
 pub record Flies (program : Module) (places : ℕ) (flights : FlightsState) (w : World) (told : Finish → ℕ → Option Told) : Type 0 where
   pub rising : RisingBy (λ f. f.number) 0 flights.flying flights.posted
-  pub each : (number : ℕ) (flight : Flight) → flight_of flights number ≡ Some flight → FliesAsMessage program places w told number flight ⊎ FliesAsReport places w told number flight
-  pub none : (number : ℕ) → flight_of flights number ≡ None → ((message : Message) → w.net.posts number ≡ Flying message → ⊥) × ((f : Finish) → told f number ≡ None)
+  pub each : (number : ℕ) (flight : Flight) → flight_of flights number ≡ Some flight
+      → FliesAsMessage program places w told number flight ⊎ FliesAsReport places w told number flight
+  pub none : (number : ℕ) → flight_of flights number ≡ None
+      → ((message : Message) → w.net.posts number ≡ Flying message → ⊥) × ((f : Finish) → told f number ≡ None)
   pub unused : (number : ℕ) → flights.posted ≤ number → w.net.posts number ≡ Unused
 
 -- the frames in flight once more are posted
@@ -172,15 +174,19 @@ pub record IsWorld (program : Module) (bounds : List ℕ) (places : List PlaceSt
 
 -- A step of one place that leads each place of the machine on leads each world on for which all stand.
 abbrev pub StepLeads : Type 0
-StepLeads = (program : Module) (bounds : List ℕ) (places : List PlaceState) (flights : FlightsState) (w : World) (here key : ℕ) (p q : PlaceState) (answer : Stepped) → bounds_of program ≡ Ok bounds → BelongTo program bounds (length places) places
+StepLeads = (program : Module) (bounds : List ℕ) (places : List PlaceState) (flights : FlightsState) (w : World) (here key : ℕ) (p q : PlaceState)
+    (answer : Stepped) → bounds_of program ≡ Ok bounds → BelongTo program bounds (length places) places
     → AllStandFor program bounds places flights w → slice_get places here ≡ Some p → LeadsAll p key answer q
-    → (v : World) × (s : Steps Ideal (setting_in program places) w here key v) × Answers (far_in w) p answer s.effect × AllStandFor program bounds (slice_set places here q) (after_step flights answer) v
+    → (v : World) × (s : Steps Ideal (setting_in program places) w here key v) × Answers (far_in w) p answer s.effect
+    × AllStandFor program bounds (slice_set places here q) (after_step flights answer) v
 
 -- A frame in flight that its receiver takes in is a delivery of the world's message, or a report, which changes no world.
 abbrev pub DeliveryLeads : Type 0
-DeliveryLeads = (program : Module) (bounds : List ℕ) (places : List PlaceState) (flights : FlightsState) (w : World) (number : ℕ) (flight : Flight) (p q : PlaceState) → bounds_of program ≡ Ok bounds → BelongTo program bounds (length places) places
+DeliveryLeads = (program : Module) (bounds : List ℕ) (places : List PlaceState) (flights : FlightsState) (w : World) (number : ℕ) (flight : Flight)
+    (p q : PlaceState) → bounds_of program ≡ Ok bounds → BelongTo program bounds (length places) places
     → AllStandFor program bounds places flights w → flight_of flights number ≡ Some flight → slice_get places flight.to ≡ Some p → IsTaken p flight.bytes q
-    → (v : World) × (h : Happens Ideal (setting_in program places) w (Deliver number) v) × IsPrompt Ideal (setting_in program places) w (Deliver number) v h × AllStandFor program bounds (slice_set places flight.to q) (taken_from flights number) v
+    → (v : World) × (h : Happens Ideal (setting_in program places) w (Deliver number) v) × IsPrompt Ideal (setting_in program places) w (Deliver number) v h
+    × AllStandFor program bounds (slice_set places flight.to q) (taken_from flights number) v
 
 -- the limits that a delivery may pass: objects (1), texts (2), rails (3), activities under one finish (6), and keys (10)
 abbrev pub IsDeliveryLimit : ℕ → Type 0
@@ -188,13 +194,16 @@ IsDeliveryLimit limit = ((1 ≤ limit) × (limit ≤ 3)) ⊎ ((limit ≡ 6) ⊎ 
 
 -- A frame in flight is refused for want of memory or at a limit alone.
 abbrev pub NoneIsRefused : Type 0
-NoneIsRefused = (program : Module) (bounds : List ℕ) (places : List PlaceState) (flights : FlightsState) (w : World) (number : ℕ) (flight : Flight) (p : PlaceState) (why : Refusal) → BelongTo program bounds (length places) places
-    → AllStandFor program bounds places flights w → flight_of flights number ≡ Some flight → slice_get places flight.to ≡ Some p → IsRefusedBytes p flight.bytes why
+NoneIsRefused = (program : Module) (bounds : List ℕ) (places : List PlaceState) (flights : FlightsState) (w : World) (number : ℕ) (flight : Flight)
+    (p : PlaceState) (why : Refusal) → BelongTo program bounds (length places) places
+    → AllStandFor program bounds places flights w → flight_of flights number ≡ Some flight → slice_get places flight.to ≡ Some p
+    → IsRefusedBytes p flight.bytes why
     → (why ≡ refusal.Memory) ⊎ ((limit : ℕ) × (why ≡ refusal.Limit limit) × IsDeliveryLimit limit)
 
 -- Where they stand for a world in which a finish may end, no frame flies, and its owner works in it, its home lets it end.
 abbrev pub EndedIsDoneHere : Type 0
-EndedIsDoneHere = (program : Module) (bounds : List ℕ) (places : List PlaceState) (flights : FlightsState) (w : World) (here key number : ℕ) (p : PlaceState) → BelongTo program bounds (length places) places → AllStandFor program bounds places flights w
+EndedIsDoneHere = (program : Module) (bounds : List ℕ) (places : List PlaceState) (flights : FlightsState) (w : World) (here key number : ℕ) (p : PlaceState)
+    → BelongTo program bounds (length places) places → AllStandFor program bounds places flights w
     → flights.flying ≡ [] → slice_get places here ≡ Some p → WorksIn w here key number → MayEnd w (finish_at here number) → IsDoneHere (store_of p) number
 
 -- ---- a step of one place
@@ -224,7 +233,8 @@ pub record StepsOne (old new : List PlaceState) (id key : ℕ) (result : Result 
 -- something out, or where one was refused.
 pub record IsRunOn (p q : PlaceState) (key most n : ℕ) (result : Result Sent Stop) : Type 0 where
   pub kept : Keeps p q
-  pub ran : MatchResult result (λ out. StridesTo key p n out q) (λ s. (r : PlaceState) × Strides key p n r × (q ≡ record r { stopped = true }) × (p.stopped ≢ true → IsHindered r key s))
+  pub ran : MatchResult result (λ out. StridesTo key p n out q)
+      (λ s. (r : PlaceState) × Strides key p n r × (q ≡ record r { stopped = true }) × (p.stopped ≢ true → IsHindered r key s))
   pub few : n ≤ most
   pub all : IfOk result (λ out. n < most → IsIdleAt q key ⊎ (BeginsLast key p n q ⊎ (out ≡ no_sent → ⊥)))
   pub goes : IfOk result (λ out. q.stopped ≢ true)
@@ -246,7 +256,8 @@ IsHinderedStep x id key why = IsRoomless x.flights why ⊎ ((p : PlaceState) × 
 
 -- a frame in flight was refused, for memory or at a limit
 abbrev pub IsHinderedDelivery : WorldState → ℕ → Stop → Type 0
-IsHinderedDelivery x number why = (flight : Flight) × (flight_of x.flights number ≡ Some flight) × ((why ≡ stop.Memory) ⊎ ((limit : ℕ) × (why ≡ stop.Limit limit) × IsDeliveryLimit limit))
+IsHinderedDelivery x number why = (flight : Flight) × (flight_of x.flights number ≡ Some flight)
+    × ((why ≡ stop.Memory) ⊎ ((limit : ℕ) × (why ≡ stop.Limit limit) × IsDeliveryLimit limit))
 
 -- why a world stops where a frame in flight was refused
 abbrev pub stop_for_refusal : Refusal → Stop
@@ -269,13 +280,15 @@ IsStepStop why = (why ≡ stop.Memory) ⊎ ((limit : ℕ) × (why ≡ stop.Limit
 -- An event of the machine, to a world that the new state stands for. Where no frame flies, a step waits at the end of a
 -- finish only where the finish may not end.
 abbrev pub Makes : WorldState → World → Event → WorldState → Type 0
-Makes x w event y = (v : World) × (h : Happens Ideal (setting_of x) w event v) × (x.flights.flying ≡ [] → IsPrompt Ideal (setting_of x) w event v h) × StandsForWorld y v
+Makes x w event y = (v : World) × (h : Happens Ideal (setting_of x) w event v) × (x.flights.flying ≡ [] → IsPrompt Ideal (setting_of x) w event v h)
+    × StandsForWorld y v
 
 -- Events in their turn, from one state that stands for a world to another: none goes wrong, no activity takes more steps
 -- than its bound, and where no frame flies, none waits at the end of a finish that may end.
 pub data Course (setting : Setting) (bounds : List ℕ) : WorldState → World → List Event → WorldState → World → Type 0 where
   rests : (x : WorldState) (w : World) → StandsForWorld x w → WithinBounds bounds w → Course setting bounds x w [] x w
-  goes : (x y z : WorldState) (u v w : World) (event : Event) (events : List Event) → StandsForWorld x u → WithinBounds bounds u → (GoesWrong setting u event → ⊥) → KeepsSetting x y → (h : Happens Ideal setting u event v)
+  goes : (x y z : WorldState) (u v w : World) (event : Event) (events : List Event) → StandsForWorld x u → WithinBounds bounds u
+      → (GoesWrong setting u event → ⊥) → KeepsSetting x y → (h : Happens Ideal setting u event v)
       → (x.flights.flying ≡ [] → IsPrompt Ideal setting u event v h) → Course setting bounds y v events z w → Course setting bounds x u (event ∷ events) z w
 
 -- Such events are a run of the machine, to a world that the new state stands for. The last of the states between them is
@@ -312,7 +325,8 @@ pub data MovesOn (setting : Setting) (here key : ℕ) (u : World) : ℕ → Worl
 -- The same Step so many times: each is a move, none goes wrong, and no activity takes more steps than its bound. They lead
 -- to a world that the new state stands for.
 abbrev pub Repeats : WorldState → World → ℕ → ℕ → ℕ → WorldState → Type 0
-Repeats x w n here key y = (v : World) × Run Ideal (setting_of x) (WithinBounds x.bounds) w (replicate n (Step here key)) v × MovesOn (setting_of x) here key w n v × StandsForWorld y v
+Repeats x w n here key y = (v : World) × Run Ideal (setting_of x) (WithinBounds x.bounds) w (replicate n (Step here key)) v
+    × MovesOn (setting_of x) here key w n v × StandsForWorld y v
 
 -- a Step of the key at the place would find nothing to do
 abbrev pub IsIdleNow : WorldState → ℕ → ℕ → Type 0
