@@ -96,7 +96,7 @@ pub(crate) fn make_all<R: Threads + Wait + Sync, J: Job + Sync>(
             }
             match thread::join_promised(rt, handles) {
                 Ok(ends) => Ok(ends),
-                Err(_) => Err(Failure::Memory),
+                Err(_) => Err(stopped(job, Failure::Memory)),
             }
         },
     )

@@ -1,5 +1,5 @@
 //! A thread for each place.
-ghost use Rattle.std.specs.Prelude.{◌≡◌, ◌≢◌, ◌<◌, ◌≤◌, ◌↔◌, ℕ, IfOk, IfErr, IsErrOf, length, vec_len};
+ghost use Rattle.std.specs.Prelude.{◌≡◌, ◌≢◌, ◌<◌, ◌≤◌, ◌↔◌, ℕ, IfOk, IfErr, IsErrOf, length};
 ghost use Rattle.x10_workers.specs.Reports.{IsTold};
 ghost use Rattle.x10_workers.specs.declared.halt.WorkFault.TheVariants as fault;
 ghost use Rattle.x10_workers.specs.Plays.{IsPlayed};
