@@ -1,5 +1,6 @@
 -- The hall: what callers see of it.
-use Rattle.std.specs.Prelude.{ℕ, ◌+◌, ◌==◌, List, [], ◌∷◌, ◌++◌, Option, Some, None, map, flat_map, length, replicate, slice_get, slice_index, slice_set, if◌then◌else◌}
+use Rattle.std.specs.Prelude.{ℕ, ◌+◌, ◌==◌, List, [], ◌∷◌, ◌++◌, Option, Some, None, map, flat_map, length, replicate, slice_get, slice_index}
+use Rattle.std.specs.Prelude.{slice_set, if◌then◌else◌}
 use Rattle.std.specs.Arc.{arc_value}
 use Rattle.x10_hall.specs.declared.turn.Posted.{Posted}
 use Rattle.x10_hall.specs.declared.turn.Taken.{Taken}

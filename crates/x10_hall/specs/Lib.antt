@@ -1,3 +1,4 @@
 pub mod Halls
 pub mod Mails
 pub mod Rows
+pub mod KeyLists

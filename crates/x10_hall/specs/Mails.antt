@@ -26,8 +26,8 @@ is_finished Open = false
 is_finished Finished = true
 is_finished Stopped = false
 
--- why a turn can't be posted to a hall that takes so many turns, want of memory apart: the run was stopped, or there are
--- that many turns, or frames would be numbered too high
+-- why a turn can't be posted to a hall that takes so many turns, a refusal of memory apart: the run was stopped, or there
+-- are that many turns, or frames would be numbered too high
 abbrev pub refusal : ℕ → HallValue → Turn → Option PostFault
 refusal most h turn =
     if is_stopped h.state then Some fault.Stopped else (if nat_le most (length h.log) then Some fault.Turns else

@@ -12,7 +12,7 @@ use std::alloc::{AllocError, Global};
 use std::marker::Model;
 use x10_kinds::Stop;
 
-/// Which count it is that ends: that of the frames.
+/// Which limit it is: that of the frames.
 const FRAMES: u8 = 11;
 
 /// What the places of a run hand to each other: the log of their turns, in the order in which they were posted, and for
@@ -40,7 +40,7 @@ impl Model for Hall {
 }
 
 impl Hall {
-    /// A hall for so many places, where nothing was posted. Takes some words of memory a place.
+    /// A hall for `places` places, in which nothing was posted yet. Takes some words of memory for each place.
     pub fn new(alloc: Global, places: u16) -> Result<Hall, AllocError>
         ensures { IfOk result (λ hall. hall ≡ empty_hall places) }
     {
@@ -78,7 +78,7 @@ impl Hall {
     }
 
     /// Appends a turn to the log, and its frames to the rows of their places; a frame for a place that has no row is in
-    /// the log alone. Constant time for each frame, amortized. All that takes memory is done before anything changes.
+    /// the log alone. Constant time for each frame, amortized. Everything that takes memory is done before anything changes.
     pub fn post(&mut self, turn: Turn) -> Result<(), Stop>
         ensures ok { IfOk result (λ _. self.new ≡ with_turn self.old turn) }
         ensures err { IfErr result (λ why. (self.new ≡ self.old) × ((why ≡ stop.Memory) ⊎ (why ≡ stop.Limit 11))) }
@@ -101,7 +101,7 @@ impl Hall {
         Ok(())
     }
 
-    /// The next frame of a place's row, if it hasn't taken all. Constant time, and without memory.
+    /// The next frame of a place's row, if the place hasn't taken all of them. Constant time; takes no memory.
     pub fn take(&mut self, place: u16) -> Option<Taken>
         ensures { MatchOption result ((next_frame self.old place ≡ None) × (self.new ≡ self.old)) (λ frame. (next_frame self.old place ≡ Some (told frame)) × (self.new ≡ moved_on self.old place)) }
     {
@@ -112,7 +112,7 @@ impl Hall {
         row.take()
     }
 
-    /// The run has ended, unless it has already, or was stopped.
+    /// Notes that the run has ended, unless it had ended already, or was stopped.
     pub fn finish(&mut self)
         ensures { self.new ≡ with_state self.old (finished self.old.state) }
     {
@@ -121,14 +121,14 @@ impl Hall {
         }
     }
 
-    /// The run is stopped, even if it has ended.
+    /// Stops the run, even if it has ended.
     pub fn stop(&mut self)
         ensures { self.new ≡ with_state self.old is.Stopped }
     {
         self.state = HallState::Stopped;
     }
 
-    /// The turns that were posted, first to last. What the rows have left is dropped.
+    /// The turns that were posted, first to last. The frames that are left in the rows are dropped.
     pub fn into_log(self) -> Vec<Turn>
         ensures { result.items ≡ self.log }
     {

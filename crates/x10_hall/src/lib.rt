@@ -3,6 +3,7 @@
 #![tactic(auto)]
 
 mod hall;
+mod keys;
 mod mail;
 mod port;
 mod row;
@@ -10,6 +11,7 @@ mod state;
 mod turn;
 
 pub use hall::Hall;
+pub use keys::Keys;
 pub use mail::{Desk, Mail};
 pub use port::{End, Port, PostFault, Signal, Take};
 pub use state::HallState;

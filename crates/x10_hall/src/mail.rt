@@ -1,4 +1,4 @@
-//! The hall that the workers of a run share: one lock round all, and for each place a signal of its own.
+//! The hall that the workers of a run share: one lock for all of it, and for each place a signal of its own.
 
 ghost use Rattle.std.specs.Prelude.{◌≡◌, ◌⊎◌, IfOk, IfErr, Some, None};
 ghost use Rattle.x10_kinds.specs.declared.stop.Stop.TheVariants as stop;
@@ -14,8 +14,8 @@ use std::alloc::{AllocError, Global};
 use std::sync::{Condvar, Mutex, Wait};
 use std::thread;
 
-/// How often a worker that waits looks for a reason to go on, and lets others run, before it sleeps. To wake a thread costs
-/// as much as some hundred steps, and the answer to a frame is often there before.
+/// How often a worker that waits looks for a reason to go on, and lets others run, before it sleeps. Waking a thread costs as
+/// much as some hundred steps, and the answer to a frame is often there before that.
 const LOOKS: u8 = 50;
 
 /// A hall that takes a given number of turns at most.
@@ -34,7 +34,7 @@ impl Limited {
         Ok(Limited { hall, most })
     }
 
-    /// Appends a turn, also where the run has ended. Nothing changes where it is refused.
+    /// Appends a turn, even where the run has ended. Where it is refused, nothing changes.
     fn post(&mut self, turn: Turn) -> Result<(), PostFault>
         ensures most { self.new.most ≡ self.old.most }
         ensures ok { IfOk result (λ _. (refusal self.old.most self.old.hall turn ≡ None) × (self.new.hall ≡ with_turn self.old.hall turn)) }
@@ -52,7 +52,7 @@ impl Limited {
         }
     }
 
-    /// Ends the run. Stopped is the last word.
+    /// Ends the run. A run that was stopped stays stopped.
     fn end(&mut self, how: End)
         ensures most { self.new.most ≡ self.old.most }
         ensures hall { self.new.hall ≡ with_state self.old.hall (ended how self.old.hall.state) }
@@ -95,7 +95,7 @@ impl Limited {
     }
 }
 
-/// A hall behind a lock, with a signal for each place, so that a turn wakes the receivers of its frames alone.
+/// A hall behind a lock, with a signal for each place, so that a turn wakes only the receivers of its frames.
 #[derive(Drop)]
 pub struct Mail {
     shared: Mutex<Limited>,
@@ -105,8 +105,7 @@ pub struct Mail {
 }
 
 impl Mail {
-    /// A hall for so many places that takes so many turns at most.
-    /// Takes some words of memory a place.
+    /// A hall for `places` places that takes at most `turns` turns. Takes some words of memory for each place.
     pub fn new(alloc: Global, places: u16, turns: u64) -> Result<Mail, AllocError> {
         let limited = Limited::open(alloc, places, turns)?;
         let mut calls = Vec::with_capacity(alloc, usize::from(places))?;
@@ -151,7 +150,7 @@ impl Mail {
     }
 }
 
-/// A worker at the mail. The lock is held within each call alone, and never while a caller computes.
+/// A worker's port at the mail. The lock is held only within each call, and never while a caller computes.
 #[derive(Drop)]
 pub struct Desk<'a, R: Wait> {
     rt: &'a R,
@@ -159,7 +158,7 @@ pub struct Desk<'a, R: Wait> {
 }
 
 impl<'a, R: Wait> Desk<'a, R> {
-    /// A desk for one worker; all of a run share the mail.
+    /// A desk for one worker; all workers of a run share the mail.
     pub fn new(rt: &'a R, mail: &'a Mail) -> Desk<'a, R> {
         Desk { rt, mail }
     }
@@ -170,11 +169,13 @@ impl<R: Wait> Port for Desk<'_, R> {
         self.mail.shared.lock(self.rt).take(place)
     }
 
-    fn post(&self, turn: Turn) -> Result<(), PostFault> {
+    fn post(&self, turns: Vec<Turn>) -> Result<(), PostFault> {
         let mut shared = self.mail.shared.lock(self.rt);
-        shared.post(turn)?;
-        if let Some(turn) = shared.hall.log().last() {
-            self.mail.wake(&turn.frames);
+        for turn in turns {
+            shared.post(turn)?;
+            if let Some(turn) = shared.hall.log().last() {
+                self.mail.wake(&turn.frames);
+            }
         }
         Ok(())
     }

@@ -8,7 +8,7 @@ use x10_kinds::Stop;
 pub enum Take {
     /// The next frame of its row.
     Frame(Taken),
-    /// Nothing: its row was taken to the end.
+    /// Nothing: all frames of its row were taken.
     Nothing,
     /// A worker has stopped the run.
     Stopped,
@@ -34,7 +34,7 @@ pub enum End {
     Stopped,
 }
 
-/// Why a turn isn't posted. Where there are several reasons, the first one is told.
+/// Why a turn isn't posted. Where there are several reasons, the first one is reported.
 #[derive(Clone, Copy, Debug, PartialEq, Eq, Error)]
 pub enum PostFault {
     /// A worker has stopped the run.
@@ -49,13 +49,14 @@ pub enum PostFault {
 }
 
 /// The hall as a worker sees it. No method says what it does to what the threads share, since others may do the same at any
-/// time: that is said by the methods of `Hall`.
+/// time; the methods of `Hall` say that.
 pub trait Port {
     /// Takes the next frame of a place's row.
     fn take(&self, place: u16) -> Take;
 
-    /// Appends a turn to the log, and its frames to the rows of their receivers.
-    fn post(&self, turn: Turn) -> Result<(), PostFault>;
+    /// Appends turns to the log, one after another, and their frames to the rows of their receivers. Where one is refused,
+    /// those before it are in the log.
+    fn post(&self, turns: Vec<Turn>) -> Result<(), PostFault>;
 
     /// Waits until there is a frame for a place, or the run has ended or was stopped.
     fn wait(&self, place: u16) -> Signal;

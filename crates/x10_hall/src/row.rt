@@ -12,7 +12,7 @@ use std::marker::Model;
 use std::sync::Arc;
 use x10_kinds::Stop;
 
-/// The frames for one place that it hasn't taken.
+/// The frames for one place that it hasn't taken yet.
 #[derive(Drop)]
 pub(crate) struct Row {
     left: VecDeque<Taken>,
@@ -46,7 +46,7 @@ impl Row {
         }
     }
 
-    /// Room for one frame more.
+    /// Makes room for one more frame.
     fn make_room(&mut self) -> Result<(), Stop>
         ensures left { self.new.left ≡ self.old.left }
         ensures taken { self.new.taken ≡ self.old.taken }
@@ -112,7 +112,7 @@ pub(crate) fn open_rows(alloc: Global, places: u16) -> Result<Vec<Row>, AllocErr
     Ok(rows)
 }
 
-/// The same frames again, whose bytes both share.
+/// The same frames again, which share their bytes with the first ones.
 pub(crate) fn share(alloc: Global, frames: &[Posted]) -> Result<Vec<Posted>, Stop>
     ensures ok { IfOk result (λ copies. map frame_of copies.items ≡ map frame_of frames.now) }
     ensures err { IfErr result (λ why. why ≡ stop.Memory) }
@@ -135,7 +135,7 @@ pub(crate) fn share(alloc: Global, frames: &[Posted]) -> Result<Vec<Posted>, Sto
     Ok(copies)
 }
 
-/// Room for one frame more in the row of a place, if it has one.
+/// Makes room for one more frame in the row of a place, if it has one.
 fn widen(rows: &mut Vec<Row>, place: u16) -> Result<(), Stop>
     ensures count { length rows.new.items ≡ length rows.old.items }
     ensures left { (p : ℕ) → (row_at rows.new.items p).left ≡ (row_at rows.old.items p).left }
@@ -150,7 +150,7 @@ fn widen(rows: &mut Vec<Row>, place: u16) -> Result<(), Stop>
     row.make_room()
 }
 
-/// Room for each of some frames.
+/// Makes room for each of these frames.
 fn widen_all(rows: &mut Vec<Row>, frames: &[Posted]) -> Result<(), Stop>
     ensures count { length rows.new.items ≡ length rows.old.items }
     ensures left { (p : ℕ) → (row_at rows.new.items p).left ≡ (row_at rows.old.items p).left }
@@ -176,7 +176,7 @@ fn give_up_one(rows: &mut Vec<Row>, place: u16)
     }
 }
 
-/// The room that was made for some frames isn't needed.
+/// The room that was made for these frames isn't needed.
 fn give_up(rows: &mut Vec<Row>, frames: &[Posted])
     ensures count { length rows.new.items ≡ length rows.old.items }
     ensures left { (p : ℕ) → (row_at rows.new.items p).left ≡ (row_at rows.old.items p).left }
@@ -187,7 +187,7 @@ fn give_up(rows: &mut Vec<Row>, frames: &[Posted])
     }
 }
 
-/// Room for each of some frames, or no change.
+/// Makes room for each of these frames, or changes nothing.
 pub(crate) fn make_room(rows: &mut Vec<Row>, frames: &[Posted]) -> Result<(), Stop>
     ensures count { length rows.new.items ≡ length rows.old.items }
     ensures left { (p : ℕ) → (row_at rows.new.items p).left ≡ (row_at rows.old.items p).left }

@@ -1,4 +1,5 @@
 //! What a place did in one turn.
+use crate::keys::Keys;
 use std::alloc::Global;
 use std::sync::Arc;
 use x10_place::Line;
@@ -15,7 +16,7 @@ pub struct Posted {
 /// A frame that a place takes out of its row: its number, and its bytes.
 #[derive(Drop)]
 pub struct Taken {
-    /// How many frames were posted before it, to whatever places.
+    /// How many frames were posted before it, to any place.
     pub number: u64,
     /// Its bytes.
     pub bytes: Arc<Vec<u8>, Global>,
@@ -29,8 +30,8 @@ pub struct Turn {
     pub place: u16,
     /// The numbers of the frames that were taken in, in this order.
     pub taken: Vec<u64>,
-    /// The key of each step, in this order; of those too that found nothing to do.
-    pub keys: Vec<usize>,
+    /// The key of each step, in this order, including the steps that found nothing to do.
+    pub keys: Keys,
     /// The frames that were put out, in this order.
     pub frames: Vec<Posted>,
     /// The lines that were printed, in this order.

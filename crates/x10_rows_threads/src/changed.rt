@@ -4,7 +4,7 @@ use std::alloc::Global;
 use std::sync::{Arc, Wait};
 use std::test::*;
 use std::thread::Threads;
-use x10_hall::{Posted, Turn};
+use x10_hall::{Keys, Posted, Turn};
 use x10_place::Line;
 use x10_samples::AWAY;
 use x10_verify::Verified;
@@ -93,12 +93,17 @@ fn change_taken(log: &mut [Turn]) -> Option<usize> {
 }
 
 /// Changes the key of the first step.
-fn change_key(log: &mut [Turn]) -> Option<usize> {
+fn change_key(alloc: Global, log: &mut [Turn]) -> Result<Option<usize>, Fail> {
     if log.is_empty() || log[0].keys.is_empty() {
-        return None;
+        return Ok(None);
     }
-    log[0].keys[0] = 77;
-    Some(0)
+    let mut keys = Vec::new(alloc);
+    keys.push(77)?;
+    for at in 1..log[0].keys.len() {
+        keys.push(log[0].keys.at(at))?;
+    }
+    log[0].keys = Keys::new(alloc, &keys)?;
+    Ok(Some(0))
 }
 
 /// Makes a change: the number of the turn that was changed, if one was.
@@ -117,7 +122,7 @@ pub(crate) fn make_change(
         Change::Place => Ok(change_place(log)),
         Change::Frame => change_first_frame(alloc, log),
         Change::Taken => Ok(change_taken(log)),
-        Change::Key => Ok(change_key(log)),
+        Change::Key => change_key(alloc, log),
     }
 }
 
@@ -153,7 +158,7 @@ fn is_right(what: Change, at: Option<usize>, fault: Option<AuditFault>) -> bool 
     }
 }
 
-/// Whether a change in the log of a new run is told.
+/// Whether a change in the log of a new run is reported.
 fn is_told<R: Threads + Wait + Sync>(rt: &R, alloc: Global, what: Change) -> Result<bool, Fail> {
     let bytes = assembled(alloc, AWAY)?;
     let verified = program(alloc, &bytes)?;

@@ -1,4 +1,4 @@
-//! Runs that a limit stops.
+//! Runs that are stopped by a limit.
 use crate::runs::{assembled, program, run};
 use std::alloc::Global;
 use std::sync::Wait;

@@ -2,7 +2,7 @@
 use std::alloc::Global;
 use std::sync::Arc;
 use std::test::*;
-use x10_hall::{Hall, HallState, Posted, Turn};
+use x10_hall::{Hall, HallState, Keys, Posted, Turn};
 
 /// A turn of place 0 that puts out a frame to each of these places; its byte is the place's number.
 fn turn_to(alloc: Global, places: &[u16]) -> Result<Turn, Fail> {
@@ -16,7 +16,7 @@ fn turn_to(alloc: Global, places: &[u16]) -> Result<Turn, Fail> {
     Ok(Turn {
         place: 0,
         taken: Vec::new(alloc),
-        keys: Vec::new(alloc),
+        keys: Keys::new(alloc, &[])?,
         frames,
         lines: Vec::new(alloc),
     })

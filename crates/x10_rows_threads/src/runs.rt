@@ -71,7 +71,7 @@ pub(crate) fn run<R: Threads + Wait + Sync>(
     run_threads(rt, alloc, verified, places, turns, &Open)
 }
 
-/// What the audit says of a log, where the module runs at so many places.
+/// What the audit says of a log, where the module runs at `places` places.
 pub(crate) fn audited(
     alloc: Global,
     verified: &Verified,
@@ -171,7 +171,7 @@ fn is_cut(report: &RunReport, turns: usize) -> bool {
         }
 }
 
-/// Whether a module is cut off after so many turns.
+/// Whether a module is cut off after 100 turns.
 fn cut_off<R: Threads + Wait + Sync>(rt: &R, alloc: Global, text: &str) -> Result<bool, Fail> {
     let bytes = assembled(alloc, text)?;
     let verified = program(alloc, &bytes)?;
@@ -187,7 +187,7 @@ fn turns(rt: HostRuntime) -> Result<(), Fail> {
     Ok(())
 }
 
-/// Whether a module doesn't run at so many places.
+/// Whether a module doesn't run at `places` places.
 fn is_refused<R: Threads + Wait + Sync>(
     rt: &R,
     alloc: Global,

@@ -40,7 +40,7 @@ impl Port for Full {
         Take::Nothing
     }
 
-    fn post(&self, _turn: Turn) -> Result<(), PostFault> {
+    fn post(&self, _turns: Vec<Turn>) -> Result<(), PostFault> {
         Err(PostFault::Turns)
     }
 
@@ -60,7 +60,7 @@ impl Port for Closed {
         Take::Stopped
     }
 
-    fn post(&self, _turn: Turn) -> Result<(), PostFault> {
+    fn post(&self, _turns: Vec<Turn>) -> Result<(), PostFault> {
         Err(PostFault::Stopped)
     }
 
@@ -71,7 +71,7 @@ impl Port for Closed {
     fn end(&self, _how: End) {}
 }
 
-/// The work of the only place, over a port.
+/// The work of the only place, with a port.
 fn worked(
     rt: &impl Wait,
     alloc: Global,
@@ -104,7 +104,7 @@ fn keep_open(trails: &mut [Trail]) {
     }
 }
 
-/// Whether a fault is the one that a change of the log calls for; a turn that isn't there is missed behind the last one.
+/// Whether a fault is the one that a change of the log calls for; a turn that isn't there is missed after the last one.
 fn is_right(what: Change, at: Option<usize>, turns: usize, fault: Option<AuditFault>) -> bool {
     let wanted = match what {
         Change::Nothing => None,
@@ -114,7 +114,7 @@ fn is_right(what: Change, at: Option<usize>, turns: usize, fault: Option<AuditFa
     fault == wanted.map(|turn| AuditFault::Differs(turn))
 }
 
-/// Whether a change in the log of a new run is told.
+/// Whether a change in the log of a new run is reported.
 fn is_told<R: Wait>(rt: &R, alloc: Global, what: Change) -> Result<bool, Fail> {
     let bytes = assembled(alloc, OWN)?;
     let verified = program(alloc, &bytes)?;

@@ -1,6 +1,6 @@
 -- What a worker makes, one thing behind another.
 use Rattle.std.proofs.Common.{◌≡◌, ◌≢◌, ℕ, zero, suc, ◌+◌, List, [], ◌∷◌, ◌++◌, map, true, refl, sym, ap, subst, ◌∙◌, arith}
-use Rattle.std.specs.Prelude.{◌≤◌, Bool, Result, Ok, IfOk, length, false, Option, Some, None, MatchOption, take, drop, slice_get, slice_set}
+use Rattle.std.specs.Prelude.{◌≤◌, Bool, Result, Ok, IfOk, length, false, Option, Some, None, MatchOption, MatchResult, replicate, take, drop, slice_get, slice_set}
 use Rattle.std.specs.Borrow.{Bor}
 use Rattle.std.proofs.lemmas.Option.{same_Some, slice_get-map, slice_get_within, get_or_from_slice_get}
 use Rattle.std.proofs.lemmas.List.{append-nil, append_assoc, map-append, map-set, take_more}
@@ -8,15 +8,21 @@ use Rattle.slab.specs.Slab.{get}
 use Rattle.x10_kinds.specs.declared.stop.Stop.{Stop}
 use Rattle.x10_place.specs.declared.place.Stepped.{Stepped}
 use Rattle.x10_place.specs.declared.place.Stepped.TheVariants as stepped
+use Rattle.x10_place.specs.declared.sent.Sent.{Sent}
+use Rattle.x10_place.specs.Messages.{no_sent}
 use Rattle.x10_place.specs.StandsFor.{PlaceState, IsIdleAt, LeadsAll, Keeps}
 use Rattle.x10_place.specs.Stays.{StayState}
+use Rattle.x10_place.specs.Stretches.{Strides, at_once, onward, StridesTo, nowhere, finally}
 use Rattle.x10_hall.specs.declared.turn.Posted.{Posted}
 use Rattle.x10_hall.specs.declared.turn.Taken.{Taken}
 use Rattle.x10_hall.specs.declared.turn.Turn.{Turn}
 use Rattle.x10_hall.specs.Halls.{Frame, Numbered, frame_of, told}
 use Rattle.x10_workers.specs.declared.trail.OwnTurn.{OwnTurn}
 use Rattle.x10_workers.specs.declared.trail.Trail.{Trail}
-use Rattle.x10_workers.specs.Trails.{frames_out, TakesIn, TakesEach, StepsBy, StepsEach, TurnLeads, Leads, GoesOn}
+use Rattle.x10_model.proofs.Found.{head_is}
+use Rattle.x10_world.specs.StandsForWorld.{IsMade}
+use Rattle.x10_world.proofs.Lists.{replicate_more}
+use Rattle.x10_workers.specs.Trails.{frames_in, frames_out, TakesIn, TakesEach, StepsBy, by_step, by_stride, StepsEach, TurnLeads, Leads, GoesOn}
 use Rattle.x10_workers.specs.Looms.{flying_as}
 use Rattle.x10_workers.specs.Weaves.{Woven, TakesOff, TakesOffEach, IsTurnOf, IsNext, Weaves, WeavesAll, weaves_more, all_flying}
 
@@ -25,30 +31,58 @@ pub takes_one_more : (p q r : PlaceState) (fs : List Numbered) (f : Numbered) �
 takes_one_more p q r [] f led one = (r, subst (λ z. TakesIn z f.bytes r) led one, refl)
 takes_one_more p q r (g ∷ gs) f led one = (led.0, led.1, takes_one_more led.0 q r gs f led.2 one)
 
--- a step more
-pub steps_one_more : (p q r : PlaceState) (keys : List ℕ) (frames : List Frame) (key : ℕ) (answer : Stepped) → StepsEach p keys frames q → StepsBy q key answer r → StepsEach p (keys ++ key ∷ []) (frames ++ frames_out answer) r
-steps_one_more p q r [] frames key answer led one = (answer, [], r, ap (λ fs. fs ++ frames_out answer) led.0 ∙ sym (append-nil (frames_out answer)), subst (λ z. StepsBy z key answer r) led.1 one, (refl, refl))
-steps_one_more p q r (k ∷ ks) frames key answer led one =
-    (led.0, led.1 ++ frames_out answer, led.2, ap (λ fs. fs ++ frames_out answer) led.3 ∙ append_assoc (frames_out led.0) led.1 (frames_out answer), led.4, steps_one_more led.2 q r ks led.1 key answer led.5 one)
+-- steps more
+pub steps_more : (p q r : PlaceState) (keys others : List ℕ) (frames out : List Frame) → StepsEach p keys frames q → StepsEach q others out r → StepsEach p (keys ++ others) (frames ++ out) r
+steps_more p q r [] others frames out led more = subst (λ z. StepsEach z others (frames ++ out) r) led.1 (subst (λ fs. StepsEach q others (fs ++ out) r) (sym led.0) more)
+steps_more p q r (k ∷ ks) others frames out led more = (led.0, led.1 ++ out, led.2, ap (λ fs. fs ++ out) led.3 ∙ append_assoc (frames_out led.0) led.1 out, led.4, steps_more led.2 q r ks others led.1 out led.5 more)
 
-if_ok_at : {T E : Type 0} (r : Result T E) (x : T) (P : T → Type 0) → r ≡ Ok x → IfOk r P → P x
+-- one step
+pub step_alone : (p q : PlaceState) (key : ℕ) (answer : Stepped) → StepsBy p key answer q → StepsEach p (key ∷ []) (frames_out answer) q
+step_alone p q key answer one = (answer, [], q, sym (append-nil (frames_out answer)), one, (refl, refl))
+
+-- a stretch of steps of one activity
+strides_each : (key : ℕ) (p : PlaceState) (n : ℕ) (q : PlaceState) → Strides key p n q → StepsEach p (replicate n key) [] q
+strides_each key p n q (at_once) = (refl, refl)
+strides_each key p n q (onward k r s far stride) =
+    subst (λ ks. StepsEach p ks [] q) (sym (replicate_more k key)) (steps_more p r q (replicate k key) (key ∷ []) [] [] (strides_each key p k r far) (step_alone r q key (stepped.Moved no_sent) (by_stride no_sent q stride)))
+
+pub strides_to_each : (key : ℕ) (p : PlaceState) (n : ℕ) (sent : Sent) (q : PlaceState) → StridesTo key p n sent q → StepsEach p (replicate n key) (frames_in sent) q
+strides_to_each key p n sent q (nowhere) = (refl, refl)
+strides_to_each key p n sent q (finally k r o s far stride) =
+    subst (λ ks. StepsEach p ks (frames_in sent) q) (sym (replicate_more k key)) (steps_more p r q (replicate k key) (key ∷ []) [] (frames_in sent) (strides_each key p k r far) (step_alone r q key (stepped.Moved sent) (by_stride sent q stride)))
+
+-- of no step
+pub none_made : (key : ℕ) (p : PlaceState) (n : ℕ) (sent : Sent) (q : PlaceState) → n ≡ 0 → StridesTo key p n sent q → q ≡ p
+none_made key p n sent q none (nowhere) = refl
+none_made key p n sent q none (finally k r o s far stride) = absurd (omega (arith, none))
+
+-- what a stretch's clause says where it was not refused
+pub if_ran : (r : Result Sent Stop) (sent : Sent) (A : Sent → Type 0) (B : Stop → Type 0) → r ≡ Ok sent → MatchResult r A B → A sent
+if_ran r sent A B is ran = subst (λ s. MatchResult s A B) is ran
+
+pub if_ok_at : {T E : Type 0} (r : Result T E) (x : T) (P : T → Type 0) → r ≡ Ok x → IfOk r P → P x
 if_ok_at r x P is h = subst (λ s. IfOk s P) is h
 
 is_same : (one other : Stepped) → ◌≡◌ {A = Result Stepped Stop} (Ok one) (Ok other) → one ≡ other
 is_same one other e = cc
 
+-- a step as a turn tells it
+pub record IsStepOf (p : PlaceState) (key : ℕ) (answer : Stepped) (q : PlaceState) : Type 0 where
+  pub steps : StepsEach p (key ∷ []) (frames_out answer) q
+  pub goes : q.stopped ≢ true
+  pub still : answer ≡ stepped.Idle → q ≡ p
+
 -- what a step's clauses say of a place that goes on
 pub steps_by : (p q : PlaceState) (key : ℕ) (result : Result Stepped Stop) (answer : Stepped) → result ≡ Ok answer → (IsIdleAt p key → (result ≡ Ok stepped.Idle) × (q ≡ p)) → (result ≡ Ok stepped.Idle → IsIdleAt p key)
-    → ((a : StayState) → get p.stays key ≡ Some a → a.away ≡ false → IfOk result (λ s. LeadsAll p key s q)) → IfOk result (λ s. q.stopped ≢ true) → Keeps p q → StepsBy p key answer q
-steps_by p q key result answer is idle only some goes kept = record {
-  made = record {
-    idle = λ still. (is_same answer stepped.Idle (sym is ∙ (idle still).0), (idle still).1);
-    only = λ same. only (is ∙ ap (λ s. Ok s) same);
-    some = λ a there ready. if_ok_at result answer (λ s. LeadsAll p key s q) is (some a there ready);
-    goes = if_ok_at result answer (λ s. q.stopped ≢ true) is goes;
-  };
-  kept = kept;
-}
+    → ((a : StayState) → get p.stays key ≡ Some a → a.away ≡ false → IfOk result (λ s. LeadsAll p key s q)) → IfOk result (λ s. q.stopped ≢ true) → Keeps p q → IsStepOf p key answer q
+steps_by p q key result answer is idle only some goes kept =
+    let made : IsMade p q key answer = record {
+      idle = λ still. (is_same answer stepped.Idle (sym is ∙ (idle still).0), (idle still).1);
+      only = λ same. only (is ∙ ap (λ s. Ok s) same);
+      some = λ a there ready. if_ok_at result answer (λ s. LeadsAll p key s q) is (some a there ready);
+      goes = if_ok_at result answer (λ s. q.stopped ≢ true) is goes;
+    } in
+    record { steps = step_alone p q key answer (by_step answer q made kept); goes = made.goes; still = λ same. (made.idle (made.only same)).1 }
 
 -- turns more
 leads_more : (p q r : PlaceState) (ts us : List OwnTurn) → Leads p ts q → Leads q us r → Leads p (ts ++ us) r
@@ -62,6 +96,10 @@ goes_still p q kept same goes = record { more = []; kept = sym (append-nil kept)
 -- one turn was made
 pub goes_one : (p q : PlaceState) (old new : List OwnTurn) (t : OwnTurn) → new ≡ old ++ t ∷ [] → TurnLeads p t q → q.stopped ≢ true → GoesOn p old q new
 goes_one p q old new t kept led goes = record { more = t ∷ []; kept = kept; leads = (q, led, refl); goes = goes }
+
+-- nothing was done since
+pub goes_same : (p q r : PlaceState) (old new kept : List OwnTurn) → GoesOn p old q new → r ≡ q → kept ≡ new → GoesOn p old r kept
+goes_same p q r old new kept a place same = subst (λ ts. GoesOn p old r ts) (sym same) (subst (λ z. GoesOn p old z new) (sym place) a)
 
 pub goes_further : (p q r : PlaceState) (old mid new : List OwnTurn) → GoesOn p old q mid → GoesOn q mid r new → GoesOn p old r new
 goes_further p q r old mid new a b = record {
@@ -86,10 +124,7 @@ weaves_next trails x y z log n t more before one = subst (λ ts. WeavesAll trail
 pub differ_at : {X Y : Type 0} (f : X → Y) (xs ys : List X) (i : ℕ) (x y : X) → slice_get xs i ≡ Some x → slice_get ys i ≡ Some y → (f x ≡ f y → ⊥) → map f xs ≡ map f ys → ⊥
 differ_at f [] ys i x y at there ne same = absurd cc
 differ_at f (z ∷ xs) [] i x y at there ne same = absurd cc
-differ_at f (z ∷ xs) (w ∷ ys) zero x y at there ne same = ne (ap f (sym (same_Some z x at)) ∙ heads (f z) (f w) (map f xs) (map f ys) same ∙ ap f (same_Some w y there))
-  where
-    heads : {Z : Type 0} (a b : Z) (rest others : List Z) → a ∷ rest ≡ b ∷ others → a ≡ b
-    heads a b rest others e = cc
+differ_at f (z ∷ xs) (w ∷ ys) zero x y at there ne same = ne (ap f (sym (same_Some z x at)) ∙ head_is (f z) (f w) (map f xs) (map f ys) same ∙ ap f (same_Some w y there))
 differ_at f (z ∷ xs) (w ∷ ys) (suc i) x y at there ne same = differ_at f xs ys i x y at there ne (tails (f z) (f w) (map f xs) (map f ys) same)
   where
     tails : {Z : Type 0} (a b : Z) (rest others : List Z) → a ∷ rest ≡ b ∷ others → rest ≡ others

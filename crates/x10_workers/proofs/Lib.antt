@@ -1,6 +1,7 @@
 mod Playing
 mod Flying
 mod Leading
+mod Striding
 mod Woven
 mod Following
 mod Gathering

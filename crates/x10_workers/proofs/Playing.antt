@@ -58,8 +58,8 @@ runs_steps x y w events place _ z r (steps_more keys key u v before one) =
 
 runs_turn : (x y z : WorldState) (w : World) (events : List Event) (t : Turn) → RunsTo x w events y → PlaysTurn y t z → RunsTo x w (events ++ events_of_turn (turn_as t)) z
 runs_turn x y z w events t r p =
-    subst (λ es. RunsTo x w es z) (append_assoc events (map Deliver t.taken.items) (map (Step t.place) t.keys.items))
-    (runs_steps x p.middle w (events ++ map Deliver t.taken.items) t.place t.keys.items z (runs_takes x y w events t.place t.taken.items p.middle r p.takes) p.steps)
+    subst (λ es. RunsTo x w es z) (append_assoc events (map Deliver t.taken.items) (map (Step t.place) t.keys))
+    (runs_steps x p.middle w (events ++ map Deliver t.taken.items) t.place t.keys z (runs_takes x y w events t.place t.taken.items p.middle r p.takes) p.steps)
 
 -- the events of one turn more stand behind those before
 snoc_turn : (turns : List Turn) (t : Turn) → events_in turns ++ events_of_turn (turn_as t) ≡ events_in (turns ++ t ∷ [])

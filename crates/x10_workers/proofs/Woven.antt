@@ -13,7 +13,7 @@ use Rattle.x10_model.proofs.Lists.{none_some, below_some, set_same}
 use Rattle.x10_verify.specs.Certified.{Certified}
 use Rattle.x10_place.specs.declared.place.Stepped.{Stepped}
 use Rattle.x10_place.specs.declared.place.Stepped.TheVariants as stepped
-use Rattle.x10_place.specs.StandsFor.{PlaceState, IsIdleAt, nobody}
+use Rattle.x10_place.specs.StandsFor.{PlaceState, Keeps, IsIdleAt, nobody}
 use Rattle.x10_place.specs.Stays.{StayState}
 use Rattle.x10_hall.specs.declared.turn.Taken.{Taken}
 use Rattle.x10_hall.specs.declared.turn.Posted.{Posted}
@@ -24,14 +24,15 @@ use Rattle.x10_world.specs.declared.done.Done.TheVariants as done
 use Rattle.x10_world.specs.Flights.{Flight, FlightsState, flight_of, taken_from, with_room}
 use Rattle.x10_world.specs.Happenings.{Happened, IsDone, StandsAt, frames_in}
 use Rattle.x10_world.specs.StandsForWorld as world
-use Rattle.x10_world.specs.StandsForWorld.{WorldState, world_of, IsWorld, IsStepped, after_step}
+use Rattle.x10_world.specs.StandsForWorld.{WorldState, world_of, IsWorld, IsMade, IsStepped, after_step, far_in}
 use Rattle.x10_world.proofs.Handling.{did_of, handles_made, handles_taken}
 use Rattle.x10_world.proofs.Lists.{set_here}
 use Rattle.x10_workers.specs.declared.trail.OwnTurn.{OwnTurn}
 use Rattle.x10_workers.specs.Plays.{flight_as, Takes, takes_none, takes_more, StepsAll, steps_none, steps_more, PlaysTurn}
-use Rattle.x10_workers.specs.Trails.{frames_out, TakesIn, TakesEach, StepsBy, StepsEach, TurnLeads}
+use Rattle.x10_workers.specs.Trails.{frames_out, TakesIn, TakesEach, StepsBy, by_step, by_stride, StepsEach, TurnLeads}
 use Rattle.x10_workers.specs.Weaves.{TakesOff, TakesOffEach, IsTurnOf, all_flying}
 use Rattle.x10_workers.proofs.Leading.{at_map}
+use Rattle.x10_workers.proofs.Striding.{stride_made}
 use Rattle.x10_workers.proofs.Flying.{IsTable, table_flight, table_taken, table_stepped}
 
 -- ---- where an activity stands
@@ -118,12 +119,20 @@ module _ (c : Certified) (bounds-are : bounds_of c.program ≡ Ok c.bounds) wher
       let s = stood places flights here key h.1.place w h.1.is_there h.1.busy in
       (done.Moved s.0 s.1 s.2.op flights.posted (frames_in h.0), record { out = h.0; moved = h.1; stood = s.3; first_is = refl; count_is = refl })
 
+  -- a step that its place made, in whichever way
+  made_by : (places : List PlaceState) (flights : FlightsState) (here key : ℕ) (answer : Stepped) (p q : PlaceState) → IsGoing places flights → slice_get places here ≡ Some p → StepsBy p key answer q → IsMade p q key answer × Keeps p q
+  made_by places flights here key answer p q going is (by_step a r made kept) = (made, kept)
+  made_by places flights here key answer p q going is (by_stride out r stride) =
+      let stand = going.stands.some here p is in
+      (stride_made (far_in going.world) p q stand.0 key out stand.2 (going.none_stopped (λ e. cc) here p is) stride, stride.kept)
+
   step_more : (x : WorldState) (here : ℕ) (before : List ℕ) (places : List PlaceState) (table : List (Option Frame)) (key : ℕ) (answer : Stepped) (p q : PlaceState) → SteppedTo x here before places table → slice_get places here ≡ Some p → StepsBy p key answer q
       → SteppedTo x here (before ++ key ∷ []) (slice_set places here q) (table ++ all_flying (frames_out answer))
   step_more x here before places table key answer p q t is led =
+      let by = made_by places t.flights here key answer p q t.going is led in
       let one : world.StepsOne places (slice_set places here q) here key (Ok answer) = record {
         gone = λ none. absurd (none_some (slice_get places here) p none is);
-        there = λ r e. (q, refl, subst (λ z. IsStepped z q key (Ok answer)) (same_Some p r (sym is ∙ e)) (record { kept = led.kept; made = led.made; hindered = λ off. tt; stop = tt }));
+        there = λ r e. (q, refl, subst (λ z. IsStepped z q key (Ok answer)) (same_Some p r (sym is ∙ e)) (record { kept = by.1; made = by.0; hindered = λ off. tt; stop = tt }));
       } in
       let after = after_step (with_room t.flights) answer in
       let h = handles_made c places (slice_set places here q) t.flights here key bounds-are t.going answer after one refl in
@@ -185,7 +194,7 @@ module _ (c : Certified) (bounds-are : bounds_of c.program ≡ Ok c.bounds) wher
     plays = record {
       middle = now between taken.flights;
       takes = subst (λ ns. Takes (now places flights) t.place ns (now between taken.flights)) (numbers_told own.taken.items ∙ same.taken) taken.takes;
-      steps = subst (λ ps. StepsAll (now between taken.flights) t.place t.keys.items (now ps stepped.flights)) once (subst (λ ks. StepsAll (now between taken.flights) t.place ks (now (slice_set between t.place q) stepped.flights)) same.keys stepped.steps);
+      steps = subst (λ ps. StepsAll (now between taken.flights) t.place t.keys (now ps stepped.flights)) once (subst (λ ks. StepsAll (now between taken.flights) t.place ks (now (slice_set between t.place q) stepped.flights)) same.keys stepped.steps);
       puts_out = record {
         count = count;
         each = λ i f there. ap (λ n. flight_of stepped.flights n) (first i) ∙ table_flight (middle ++ all_flying (map frame_of t.frames.items)) stepped.flights (length middle + i) (frame_of f) table_then (behind_all middle t.frames.items i f there) ∙ ap (λ n. Some (flight_as n f)) (sym (first i));
@@ -200,8 +209,8 @@ module _ (c : Certified) (bounds-are : bounds_of c.program ≡ Ok c.bounds) wher
       taken : TakenTo (now places flights) t.place (map (λ f. f.number) (map told own.taken.items)) between middle
       taken = take_each (now places flights) t.place [] places table middle (map told own.taken.items) p led.middle (record { flights = flights; going = going; table_is = table-is; takes = takes_none }) is off led.takes
 
-      stepped : SteppedTo (now between taken.flights) t.place own.keys.items (slice_set between t.place q) (middle ++ all_flying (map frame_of own.frames.items))
-      stepped = step_each (now between taken.flights) t.place [] between middle own.keys.items (map frame_of own.frames.items) led.middle q (record { flights = taken.flights; going = taken.going; table_is = taken.table_is; steps = steps_none }) (set_here places t.place led.middle p is) led.steps
+      stepped : SteppedTo (now between taken.flights) t.place own.keys (slice_set between t.place q) (middle ++ all_flying (map frame_of own.frames.items))
+      stepped = step_each (now between taken.flights) t.place [] between middle own.keys (map frame_of own.frames.items) led.middle q (record { flights = taken.flights; going = taken.going; table_is = taken.table_is; steps = steps_none }) (set_here places t.place led.middle p is) led.steps
 
       once : slice_set between t.place q ≡ slice_set places t.place q
       once = set-set places t.place led.middle q

@@ -22,7 +22,7 @@ use Rattle.x10_world.specs.StandsForWorld.{WorldState, StandsForWorld, KeepsSett
 
 -- a turn as the machine sees it
 abbrev pub turn_as : Turn → machine.Turn
-turn_as t = record { place = t.place; taken = t.taken.items; keys = t.keys.items }
+turn_as t = record { place = t.place; taken = t.taken.items; keys = t.keys }
 
 -- the events of turns, one turn after another
 abbrev pub events_in : List Turn → List Event
@@ -73,7 +73,7 @@ pub record Prints (x : WorldState) (place : ℕ) (lines : List place_line.Line) 
 pub record PlaysTurn (x : WorldState) (t : Turn) (y : WorldState) : Type 0 where
   pub middle : WorldState
   pub takes : Takes x t.place t.taken.items middle
-  pub steps : StepsAll middle t.place t.keys.items y
+  pub steps : StepsAll middle t.place t.keys y
   pub puts_out : PutsOut x.flights.posted t.frames.items y
   pub prints : Prints x t.place t.lines.items y
 

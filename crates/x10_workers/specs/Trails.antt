@@ -4,9 +4,11 @@ use Rattle.x10_verify.specs.Certified.{Certified, IsCertified}
 use Rattle.x10_place.specs.declared.place.Stepped.{Stepped}
 use Rattle.x10_place.specs.declared.place.Stepped.TheVariants as stepped
 use Rattle.x10_place.specs.declared.sent.Outgoing.{Outgoing}
+use Rattle.x10_place.specs.declared.sent.Sent.{Sent}
 use Rattle.x10_place.specs.Receiving.{IsTaken}
 use Rattle.x10_place.specs.StandsFor.{PlaceState, store_of, line_as, Keeps}
 use Rattle.x10_place.specs.Stays.{IsDoneHere}
+use Rattle.x10_place.specs.Stretches.{IsStride}
 use Rattle.x10_hall.specs.Halls.{Frame, Numbered, frame_of, told}
 use Rattle.x10_world.specs.Opening.{IsOpened, IsForbidden}
 use Rattle.x10_world.specs.StandsForWorld.{IsMade}
@@ -20,10 +22,14 @@ abbrev pub frame_in : Option Outgoing → List Frame
 frame_in None = []
 frame_in (Some o) = record { to = o.to; bytes = o.bytes.items } ∷ []
 
--- what a step puts out, the message first
+-- both, the message first
+abbrev pub frames_in : Sent → List Frame
+frames_in out = frame_in out.message ++ frame_in out.report
+
+-- what a step puts out
 abbrev pub frames_out : Stepped → List Frame
 frames_out stepped.Idle = []
-frames_out (stepped.Moved out) = frame_in out.message ++ frame_in out.report
+frames_out (stepped.Moved out) = frames_in out
 
 -- a place takes bytes in, and goes on
 pub record TakesIn (p : PlaceState) (bytes : List ℕ) (q : PlaceState) : Type 0 where
@@ -36,10 +42,10 @@ abbrev pub TakesEach : PlaceState → List Numbered → PlaceState → Type 0
 TakesEach p [] q = q ≡ p
 TakesEach p (f ∷ fs) q = (r : PlaceState) × TakesIn p f.bytes r × TakesEach r fs q
 
--- a place makes a step of the activity with a key, or finds nothing to do
-pub record StepsBy (p : PlaceState) (key : ℕ) (answer : Stepped) (q : PlaceState) : Type 0 where
-  pub made : IsMade p q key answer
-  pub kept : Keeps p q
+-- a place makes a step of the activity with a key, or finds nothing to do; or the step is one of several at a stretch
+pub data StepsBy (p : PlaceState) (key : ℕ) : Stepped → PlaceState → Type 0 where
+  by_step : (answer : Stepped) (q : PlaceState) → IsMade p q key answer → Keeps p q → StepsBy p key answer q
+  by_stride : (out : Sent) (q : PlaceState) → IsStride key p out q → StepsBy p key (stepped.Moved out) q
 
 -- a step of each key, one after another, which put out these frames
 abbrev pub StepsEach : PlaceState → List ℕ → List Frame → PlaceState → Type 0
@@ -51,7 +57,7 @@ StepsEach p (key ∷ keys) frames q = (answer : Stepped) × (rest : List Frame) 
 pub record TurnLeads (p : PlaceState) (t : OwnTurn) (q : PlaceState) : Type 0 where
   pub middle : PlaceState
   pub takes : TakesEach p (map told t.taken.items) middle
-  pub steps : StepsEach middle t.keys.items (map frame_of t.frames.items) q
+  pub steps : StepsEach middle t.keys (map frame_of t.frames.items) q
   pub printed : map line_as (drop (length p.lines) q.lines) ≡ map line_as t.lines.items
 
 -- turns, one after another
@@ -90,13 +96,14 @@ pub record AreTrailsOf (c : Certified) (places : ℕ) (trails : List Trail) : Ty
 
 -- ---- while a worker is at work
 
--- One step more of a turn, told behind those before. Where nothing has moved so far, the place is as it was.
-pub record AddsStep (p : PlaceState) (old : Steps) (key : ℕ) (q : PlaceState) (new : Steps) : Type 0 where
-  pub answer : Stepped
-  pub steps : StepsBy p key answer q
+-- More steps of a turn, told behind those before. Where nothing has moved so far, the place is as it was.
+pub record AddsSteps (p : PlaceState) (old : Steps) (q : PlaceState) (new : Steps) : Type 0 where
+  pub more : List ℕ
+  pub out : List Frame
+  pub steps : StepsEach p more out q
   pub goes : q.stopped ≢ true
-  pub keys : new.keys.items ≡ old.keys.items ++ key ∷ []
-  pub frames : map frame_of new.frames.items ≡ map frame_of old.frames.items ++ frames_out answer
+  pub keys : new.keys.items ≡ old.keys.items ++ more
+  pub frames : map frame_of new.frames.items ≡ map frame_of old.frames.items ++ out
   pub still : new.moved ≡ false → (old.moved ≡ false) × (q ≡ p)
 
 -- the turns that were kept since lead from one place to another, which goes on

@@ -35,7 +35,7 @@ TakesOffEach flying place (f ∷ fs) after = (middle : List (Option Frame)) × T
 -- a turn of a log tells what a place kept of its turn
 pub record IsTurnOf (own : OwnTurn) (t : Turn) : Type 0 where
   pub taken : map (λ f. f.number) own.taken.items ≡ t.taken.items
-  pub keys : own.keys.items ≡ t.keys.items
+  pub keys : own.keys ≡ t.keys
   pub frames : map frame_of own.frames.items ≡ map frame_of t.frames.items
   pub lines : map line_as own.lines.items ≡ map line_as t.lines.items
 

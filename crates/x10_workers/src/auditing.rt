@@ -1,4 +1,4 @@
-//! Whether a log is a run: by making it again.
+//! Whether a log is a run, found out by making it again.
 ghost use Rattle.std.specs.Prelude.{IfOk};
 ghost use Rattle.x10_workers.specs.Plays.{Plays, IsPlayed};
 ghost use Rattle.x10_world.specs.Endings.{lines_in};
@@ -13,7 +13,7 @@ use x10_place::Line;
 use x10_verify::Verified;
 use x10_world::World;
 
-/// Makes the turns of a log in a world, to the first that isn't what the log says.
+/// Makes the turns of a log in a world, up to the first that isn't what the log says.
 fn replay_all(world: &mut World, log: &[Turn]) -> Result<(), AuditFault>
     ensures { IfOk result (λ _. Plays world.old log.now world.new) }
 {
@@ -27,9 +27,9 @@ fn replay_all(world: &mut World, log: &[Turn]) -> Result<(), AuditFault>
     Ok(())
 }
 
-/// Makes the turns of a log again in a world of so many places, and answers what each place printed. It refuses the first
-/// turn that took what was not in flight to its place, or that put out or printed something else than these events do; then
-/// a log after which the run has not ended. Linear in the events of the log.
+/// Makes the turns of a log again in a world of `places` places, and answers what each place printed. It refuses the first turn
+/// that took what was not in flight to its place, or that put out or printed something else than these events do; then a log
+/// after which the run has not ended. Linear in the events of the log.
 pub fn audit(
     alloc: Global,
     verified: &Verified,

@@ -1,9 +1,9 @@
-//! What is told while a worker is in its turn.
+//! What is notified of a worker's turns.
 
-/// Is told of each turn of each worker, with no lock held. A test can see by it that places work at the same time.
+/// Is notified of each turn of each worker, while no lock is held. With it a test can see that places work at the same time.
 pub trait Gate {
-    /// The worker of a place is in its turn with this number, from 0, which stays at 2^64 - 1: between the frames that it took
-    /// and its steps. Turns count that took a frame or find an activity.
+    /// The worker of a place is in its turn with this number: after the frames that it took, and before its steps. Turns are
+    /// counted from 0, and the number stays at 2^64 - 1. A turn counts where it took a frame or finds an activity.
     fn inside(&self, place: u16, turn: u64);
 }
 

@@ -1,4 +1,4 @@
-//! Why a worker, or a run by threads, came to no good end.
+//! Why a worker, or a run with threads, did not end well.
 ghost use Rattle.std.specs.Prelude.{◌≡◌};
 ghost use Rattle.x10_kinds.specs.declared.stop.Stop.TheVariants as stop;
 ghost use Rattle.x10_workers.specs.declared.halt.Halt.TheVariants as halt;
@@ -69,10 +69,10 @@ impl From<Refusal> for Halt {
     }
 }
 
-/// Why a run by threads has no report of its end.
+/// Why a run with threads has no report of its end.
 #[derive(Drop)]
 pub enum WorkFault {
-    /// The worker of a place stopped, for want of memory or at a limit. The report tells the turns that were posted.
+    /// The worker of a place stopped, for lack of memory or at a limit. The report has the turns that were posted.
     Stop(u16, Stop, RunReport),
     /// As many turns were posted as were asked for.
     Turns(RunReport),
@@ -83,7 +83,7 @@ pub enum WorkFault {
     Differs(usize),
     /// Memory was refused outside a turn.
     Memory,
-    /// The module does not run at so many places.
+    /// The module does not run at the given number of places.
     Places,
     /// A worker could not be started.
     Thread,

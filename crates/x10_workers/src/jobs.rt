@@ -10,7 +10,7 @@ use std::sync::Wait;
 use std::thread;
 use std::thread::{Promise, Threads};
 
-/// Why the workers came to no good end.
+/// Why the workers did not end well.
 #[derive(Clone, Copy, Debug, PartialEq, Eq)]
 pub(crate) enum Failure {
     /// The worker of a place stopped, by itself.
@@ -21,7 +21,7 @@ pub(crate) enum Failure {
     Thread,
 }
 
-/// What the workers of a run do, by the number of their place.
+/// What the workers of a run do, each given the number of its place.
 pub(crate) trait Job {
     ghost use Rattle.std.specs.Prelude.{ℕ, Result};
     ghost use Rattle.x10_workers.specs.declared.halt.Halt.{Halt};
@@ -57,7 +57,7 @@ fn stopped(job: &impl Job, failure: Failure) -> Failure {
     failure
 }
 
-/// Does the work of so many places, each in a thread of its own, and waits for all: how each ended.
+/// Does the work of `count` places, each in a thread of its own, and waits for all of them. Answers how each ended.
 pub(crate) fn make_all<R: Threads + Wait + Sync, J: Job + Sync>(
     rt: &R,
     alloc: Global,

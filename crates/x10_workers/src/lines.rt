@@ -34,7 +34,7 @@ pub(crate) fn same_lines(one: &[Line], other: &[Line]) -> bool
     true
 }
 
-/// Whether these lines print the same as those behind so many of a list's. Linear in the lines compared.
+/// Whether `lines` print the same as the lines of `all` after the first `before`. Linear in the lines compared.
 pub(crate) fn are_behind(all: &[Line], before: usize, lines: &[Line]) -> bool
     ensures { IsTrue result → map line_as (drop before all.now) ≡ map line_as lines.now }
 {
@@ -71,7 +71,7 @@ pub(crate) fn copied_lines(alloc: Global, lines: &[Line]) -> Result<Vec<Line>, A
     Ok(copy)
 }
 
-/// Pushes copies of the lines behind so many of a list's.
+/// Pushes copies of the lines after the first `before`.
 pub(crate) fn push_copies(
     alloc: Global,
     lines: &[Line],
@@ -86,7 +86,7 @@ pub(crate) fn push_copies(
     push_all(alloc, &lines[before..], to)
 }
 
-/// So many lists with nothing in them.
+/// `count` lists with nothing in them.
 fn empty_lists(alloc: Global, count: u16) -> Result<Vec<Vec<Line>>, AllocError>
     ensures { IfOk result (λ lists. lines_in lists.items ≡ replicate count []) }
 {
@@ -108,7 +108,7 @@ fn push_turn(alloc: Global, turn: &Turn, lists: &mut Vec<Vec<Line>>) -> Result<(
     Ok(())
 }
 
-/// The lines of each place, by the turns of a log.
+/// The lines of each place, from the turns of a log.
 pub(crate) fn lines_by_place(
     alloc: Global,
     places: u16,

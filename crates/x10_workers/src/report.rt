@@ -1,4 +1,4 @@
-//! What is told of a run by threads.
+//! What is reported of a run with threads.
 use x10_hall::Turn;
 use x10_place::Line;
 

@@ -2,18 +2,26 @@
 use std::alloc::{AllocError, Global};
 use x10_place::Place;
 
+/// Stands in a round for a key that was set aside. No activity has it.
+const SET_ASIDE: usize = usize::MAX;
+
 /// Which activity of a place makes the next step: the keys are stepped by rising number, round after round, and an activity
-/// that begins waits for the next round.
+/// that begins waits for the next round. An activity that finds nothing to do, since it is away or waits for a finish, is set
+/// aside. It takes part again once a frame has come in, an activity has ended here, or none of the others can move.
 #[derive(Drop)]
 pub(crate) struct Rounds {
     /// The keys of this round, by rising number, some of them perhaps given up.
     known: Vec<usize>,
-    /// The keys of activities that began in this round.
+    /// The keys that join the next round, in no particular order.
     fresh: Vec<usize>,
+    /// The keys that were set aside.
+    aside: Vec<usize>,
     /// How many of the known keys this round has passed.
     at: usize,
     /// Whether something moved in this round, or came before it.
     moved: bool,
+    /// Whether no key was set aside when this round began.
+    is_full: bool,
 }
 
 impl Rounds {
@@ -26,30 +34,65 @@ impl Rounds {
         Ok(Rounds {
             known: Vec::new(alloc),
             fresh,
+            aside: Vec::new(alloc),
             at: 0,
             moved: true,
+            is_full: true,
         })
     }
 
-    /// Something moved; where an activity began with the key that was free, it is one of the next round.
-    pub fn note(&mut self, place: &Place, vacant: usize) -> Result<(), AllocError> {
-        self.moved = true;
-        if place.contains(vacant) {
-            self.fresh.push(vacant)?;
+    /// A frame came in; an activity that it began has the key `vacant`, which was free before.
+    pub fn came(&mut self, place: &Place, vacant: usize) -> Result<(), AllocError> {
+        self.note(place, vacant)?;
+        self.fresh.append(&mut self.aside)
+    }
+
+    /// The activity with a key moved; an activity that it began has the key `vacant`, which was free before.
+    pub fn stepped(&mut self, place: &Place, key: usize, vacant: usize) -> Result<(), AllocError> {
+        self.note(place, vacant)?;
+        if place.contains(key) {
+            return Ok(());
+        }
+        self.fresh.append(&mut self.aside)
+    }
+
+    /// The activity with this key, whose step it was, found nothing to do.
+    pub fn waits(&mut self, key: usize) -> Result<(), AllocError> {
+        self.aside.push(key)?;
+        if let Some(slot) = self.known.get_mut(self.at.saturating_sub(1)) {
+            *slot = SET_ASIDE;
         }
         Ok(())
     }
 
-    /// The next key in use; a new round begins where one has passed all, and none where nothing moved in it.
+    /// Whether this round has one key, and no other joins the next one: then no other activity can move.
+    pub fn is_single(&self) -> bool {
+        self.known.len() == 1 && self.fresh.is_empty()
+    }
+
+    /// The next key in use. Where a round has passed all its keys, a new one begins; but none after a round of all keys in
+    /// which nothing moved.
     pub fn next_key(&mut self, place: &Place) -> Result<Option<usize>, AllocError> {
         if let Some(key) = self.next_known(place) {
             return Ok(Some(key));
         }
         if !self.moved {
-            return Ok(None);
+            if self.is_full {
+                return Ok(None);
+            }
+            self.fresh.append(&mut self.aside)?;
         }
         self.begin(place)?;
         Ok(self.next_known(place))
+    }
+
+    /// Something moved or came in.
+    fn note(&mut self, place: &Place, vacant: usize) -> Result<(), AllocError> {
+        self.moved = true;
+        if place.contains(vacant) {
+            self.fresh.push(vacant)?;
+        }
+        Ok(())
     }
 
     /// The next key of this round that is in use.
@@ -65,10 +108,12 @@ impl Rounds {
         None
     }
 
-    /// Begins a round of the keys that are in use now. Linear in the keys, but that new ones are sorted in.
+    /// Begins a round of the keys that are in use now and weren't set aside. Linear in the keys, except that those that join
+    /// are sorted in.
     fn begin(&mut self, place: &Place) -> Result<(), AllocError> {
         self.at = 0;
         self.moved = false;
+        self.is_full = self.aside.is_empty();
         self.known.retain(|key| place.contains(*key));
         if self.fresh.is_empty() {
             return Ok(());

@@ -73,7 +73,7 @@ fn first_failure(ends: &[Result<Trail, Halt>]) -> Option<Failure> {
     None
 }
 
-/// The trails of all workers, or why there is one that has none.
+/// The trails of all workers, or why one of them has none.
 fn gathered(alloc: Global, ends: Vec<Result<Trail, Halt>>) -> Result<Vec<Trail>, Failure>
     ensures { (c : Certified) (places : ℕ) → AreEnds c places ends.items → IfOk result (λ trails. AreTrailsOf c places trails.items) }
 {
@@ -94,7 +94,7 @@ fn gathered(alloc: Global, ends: Vec<Result<Trail, Halt>>) -> Result<Vec<Trail>,
     Ok(trails)
 }
 
-/// The report of a run that came to its end, if its log is found in the trails of its places.
+/// The report of a run that has ended, if its log is found in the trails of its places.
 fn finished(alloc: Global, trails: &[Trail], log: Vec<Turn>) -> Result<RunReport, WorkFault>
     ensures ok { (c : Certified) → AreTrails c trails.now → IfOk result (λ r. IsPlayed c (length trails.now) r.log.items (lines_in r.outputs.items)) }
     ensures places { IsErrOf result fault.Places → ⊥ }
@@ -108,7 +108,7 @@ fn finished(alloc: Global, trails: &[Trail], log: Vec<Turn>) -> Result<RunReport
     }
 }
 
-/// Works at each place in a thread of its own: the trails of all workers, by place.
+/// Works at each place in a thread of its own, and answers the trails of all workers, by place.
 fn all_trails<R: Threads + Wait + Sync, G: Gate + Sync>(
     rt: &R,
     alloc: Global,
@@ -157,10 +157,10 @@ fn fault_of(alloc: Global, places: u16, turns: u64, failure: Failure, log: Vec<T
     }
 }
 
-/// Runs a module at so many places, each in a thread of its own, until no activity is left, or so many turns were posted.
-/// Places hand each other frames alone. What a place did in a turn is posted to one log, and kept by its worker; where the run
-/// has ended, the log is compared with what the workers kept: so an Ok carries a log that is a run of the machine, with its
-/// outputs. The gate is told of each turn. May wait: nothing is promised of when, or whether, it returns.
+/// Runs a module at `places` places, each in a thread of its own, until no activity is left, or `turns` turns were posted.
+/// Places hand each other nothing but frames. What a place did in a turn is posted to one log, and kept by its worker. Where
+/// the run has ended, the log is compared with what the workers kept: so an Ok carries a log that is a run of the machine, with
+/// its outputs. The gate is notified of each turn. May wait: nothing is promised about when, or whether, it returns.
 pub fn run_threads<R: Threads + Wait + Sync, G: Gate + Sync>(
     rt: &R,
     alloc: Global,

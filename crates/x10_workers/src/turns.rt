@@ -4,12 +4,12 @@ ghost use Rattle.x10_world.specs.Flights.{flight_of};
 ghost use Rattle.x10_workers.specs.Plays.{Takes, TakesOne, StepsAll, StepsOne, PutsOut, PlaysTurn, flight_as};
 
 use crate::lines::are_behind;
-use x10_hall::{Posted, Turn};
+use x10_hall::{Keys, Posted, Turn};
 use x10_kinds::Stop;
 use x10_model::Event;
 use x10_world::{Done, World};
 
-/// Takes a frame in; whether it was in flight to the place.
+/// Takes a frame in, and answers whether it was in flight to the place.
 fn take_one(world: &mut World, place: u16, number: u64) -> Result<bool, Stop>
     ensures { IfOk result (λ same. IsTrue same → TakesOne world.old place number world.new) }
 {
@@ -19,7 +19,7 @@ fn take_one(world: &mut World, place: u16, number: u64) -> Result<bool, Stop>
     }
 }
 
-/// Takes frames in, one after another; whether each was in flight to the place then.
+/// Takes frames in, one after another, and answers whether each was in flight to the place then.
 fn take_all(world: &mut World, place: u16, taken: &[u64]) -> Result<bool, Stop>
     ensures { IfOk result (λ same. IsTrue same → Takes world.old place taken.now world.new) }
 {
@@ -40,11 +40,11 @@ fn step_one(world: &mut World, place: u16, key: usize) -> Result<(), Stop>
 }
 
 /// One step of each key, one after another.
-fn step_all(world: &mut World, place: u16, keys: &[usize]) -> Result<(), Stop>
+fn step_all(world: &mut World, place: u16, keys: &Keys) -> Result<(), Stop>
     ensures { IfOk result (λ _. StepsAll world.old place keys.now world.new) }
 {
     for at in 0..keys.len() {
-        step_one(world, place, keys[at])?;
+        step_one(world, place, keys.at(at))?;
     }
     Ok(())
 }
@@ -59,7 +59,7 @@ fn is_flying(world: &World, number: u64, frame: &Posted) -> bool
     }
 }
 
-/// Whether these frames are in flight under the numbers from one on, and no more were numbered since.
+/// Whether these frames are in flight under the numbers from `first` on, and no others were numbered since.
 fn were_posted(world: &World, first: u64, frames: &[Posted]) -> bool
     ensures { IsTrue result → PutsOut first frames.now world.now }
 {
@@ -74,7 +74,7 @@ fn were_posted(world: &World, first: u64, frames: &[Posted]) -> bool
     true
 }
 
-/// Makes the events of a turn: whether they took in, put out and printed what the turn says.
+/// Makes the events of a turn, and answers whether they took in, put out and printed what the turn says.
 pub(crate) fn replay_turn(world: &mut World, turn: &Turn) -> Result<bool, Stop>
     ensures { IfOk result (λ same. IsTrue same → PlaysTurn world.old turn.now world.new) }
 {

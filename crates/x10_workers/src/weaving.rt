@@ -1,4 +1,4 @@
-//! Whether a log is a run: by the trails of its places.
+//! Whether a log is a run, found out from the trails of its places.
 ghost use Rattle.std.specs.Prelude.{◌≡◌, ◌↔◌, ℕ, ◌+◌, ◌<◌, ◌^◌, ◌++◌, List, Option, Some, IsTrue, IsFalse, IfOk, IfErr, IfSome, IfNone, length, map, slice_get};
 ghost use Rattle.x10_hall.specs.Halls.{Frame, frame_of, told};
 ghost use Rattle.x10_place.specs.StandsFor.{line_as};
@@ -23,7 +23,7 @@ use x10_place::Line;
 struct Loom<'l> {
     /// How many turns of each trail are in the log so far.
     cursors: Vec<usize>,
-    /// The frames that were posted, by number; none where it was taken.
+    /// The frames that were posted, by number; none where the frame was taken.
     flying: Vec<Option<&'l Posted>>,
 }
 
@@ -69,7 +69,7 @@ fn is_turn_of(own: &OwnTurn, turn: &Turn) -> bool
     ensures { IsTrue result ↔ IsTurnOf own.now turn.now }
 {
     same_numbers(&own.taken, &turn.taken)
-        && own.keys.as_slice() == turn.keys.as_slice()
+        && own.keys.is_same(&turn.keys)
         && same_frames(&own.frames, &turn.frames)
         && same_lines(&own.lines, &turn.lines)
 }
@@ -82,7 +82,7 @@ fn goes_to(posted: &Posted, place: u16, frame: &Taken) -> bool
 }
 
 impl<'l> Loom<'l> {
-    /// Nothing was logged.
+    /// A loom for these places, with nothing logged.
     fn new(alloc: Global, places: usize) -> Result<Loom<'l>, AllocError>
         ensures { IfOk result (λ loom. woven loom ≡ nothing_woven places) }
     {
@@ -92,7 +92,7 @@ impl<'l> Loom<'l> {
         })
     }
 
-    /// Takes a frame that a place took in; whether it was flying to this place.
+    /// Takes a frame that a place took in, and answers whether it was in flight to this place.
     fn take_one(&mut self, place: u16, frame: &Taken) -> bool
         ensures cursors { self.new.cursors ≡ self.old.cursors }
         ensures takes { IsTrue result → TakesOff (woven self.old).flying place (told frame.now) (woven self.new).flying }
@@ -111,7 +111,7 @@ impl<'l> Loom<'l> {
         }
     }
 
-    /// Takes frames, one after another; whether each was flying to the place then.
+    /// Takes frames, one after another, and answers whether each was in flight to the place then.
     fn take_all(&mut self, place: u16, frames: &[Taken]) -> bool
         ensures cursors { self.new.cursors ≡ self.old.cursors }
         ensures takes { IsTrue result → TakesOffEach (woven self.old).flying place (map told frames.now) (woven self.new).flying }
@@ -156,7 +156,7 @@ impl<'l> Loom<'l> {
         Some((cursor, &turns[cursor]))
     }
 
-    /// Whether a turn is the next one of its place's trail, and took what was flying to this place. If so, it counts.
+    /// Whether a turn is the next one of its place's trail, and took what was in flight to this place. If so, it is counted.
     fn weave_turn(&mut self, trails: &[Trail], turn: &'l Turn) -> Result<bool, AllocError>
         ensures weaves { IfOk result (λ same. IsTrue same → Weaves trails.now (woven self.old) turn.now (woven self.new)) }
         ensures refuses { IfOk result (λ same. IsFalse same → (after : Woven) → Weaves trails.now (woven self.old) turn.now after → ⊥) }
@@ -176,7 +176,7 @@ impl<'l> Loom<'l> {
         Ok(true)
     }
 
-    /// Goes through a log, to the first turn that differs.
+    /// Goes through a log, up to the first turn that differs.
     fn weave_all(&mut self, trails: &[Trail], log: &'l [Turn]) -> Result<(), AuditFault>
         ensures ok { IfOk result (λ _. WeavesAll trails.now (woven self.old) log.now (woven self.new)) }
         ensures err { IfErr result (IsNotWoven trails.now (woven self.old) log.now) }
@@ -223,11 +223,11 @@ fn outputs_of(alloc: Global, trails: &[Trail]) -> Result<Vec<Vec<Line>>, AllocEr
     Ok(outputs)
 }
 
-/// Compares a log with the trails of its places, the first one that of place 0, and answers what each place printed. Each turn
-/// has to be the next one of its place's trail, and each frame that it took in was posted earlier to this place under this
-/// number, with these bytes, and not taken before. It refuses the first turn that differs; then a trail with a turn that isn't
-/// in the log, by the number of turns that are; then trails after which some activity may be left. No step is made. Linear in
-/// the turns, with the bytes of their frames and lines.
+/// Compares a log with the trails of its places, of which the first is that of place 0, and answers what each place printed.
+/// Each turn has to be the next one of its place's trail, and each frame that it took in has to be one that was posted earlier
+/// to this place under this number, with these bytes, and not taken before. It refuses the first turn that differs; then a
+/// trail with a turn that isn't in the log, by the number of turns that are; then trails after which some activity may be left.
+/// No step is made. Linear in the turns, with the bytes of their frames and lines.
 pub fn weave(alloc: Global, log: &[Turn], trails: &[Trail]) -> Result<Vec<Vec<Line>>, AuditFault>
     ensures ok { (c : Certified) → AreTrails c trails.now → IfOk result (λ outputs. IsPlayed c (length trails.now) log.now (lines_in outputs.items)) }
     ensures err { IfErr result (Explains trails.now log.now) }

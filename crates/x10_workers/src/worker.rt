@@ -1,7 +1,7 @@
 //! A worker: one place, and the turns that it makes.
-ghost use Rattle.std.specs.Prelude.{◌≡◌, ◌≢◌, ◌++◌, ◌∷◌, [], true, false, IfOk, map};
+ghost use Rattle.std.specs.Prelude.{◌≡◌, ◌≢◌, ◌≤◌, ◌++◌, ◌∷◌, [], true, false, IfOk, map, replicate};
 ghost use Rattle.x10_hall.specs.Halls.{frame_of, told};
-ghost use Rattle.x10_workers.specs.Trails.{frame_in, TakesIn, TakesEach, StepsEach, AddsStep, GoesOn, IsWhole};
+ghost use Rattle.x10_workers.specs.Trails.{frame_in, frames_in, TakesIn, TakesEach, StepsEach, AddsSteps, GoesOn, IsWhole};
 
 use crate::gate::Gate;
 use crate::halt::Halt;
@@ -9,15 +9,19 @@ use crate::lines::{copied_lines, push_copies};
 use crate::rounds::Rounds;
 use crate::trail::{OwnTurn, Trail};
 use std::alloc::{AllocError, Global};
+use std::mem;
 use std::sync::Arc;
-use x10_hall::{Port, Posted, Take, Taken, Turn};
-use x10_place::{Line, Outgoing, Place, Stepped};
+use x10_hall::{End, Keys, Port, Posted, Take, Taken, Turn};
+use x10_place::{Line, Outgoing, Place, Sent, Stepped};
 
 /// The most frames that a turn takes.
 const MOST_FRAMES: u8 = 16;
 
 /// The most steps that a turn makes.
-const MOST_STEPS: u8 = 64;
+const MOST_STEPS: usize = 64;
+
+/// The most turns that are posted at once. Posting takes a lock that all workers share, which costs as much as a turn's steps.
+const MOST_UNPOSTED: usize = 16;
 
 /// How a turn went.
 #[derive(Clone, Copy, Debug, PartialEq, Eq)]
@@ -45,9 +49,11 @@ pub(crate) struct Worker<'a> {
     id: u16,
     place: Place<'a>,
     rounds: Rounds,
-    /// How many turns the gate was told of.
+    /// How many turns the gate was notified of.
     turns: u64,
     kept: Vec<OwnTurn>,
+    /// The last of them, in the form of the log, which are still to be posted.
+    unposted: Vec<Turn>,
 }
 
 /// Puts out a frame, if there is one.
@@ -69,6 +75,23 @@ fn put_frame(
     Ok(())
 }
 
+/// Puts out what a step sent, the message first.
+fn put_sent(alloc: Global, sent: Sent, frames: &mut Vec<Posted>) -> Result<(), AllocError>
+    ensures { IfOk result (λ _. map frame_of frames.new.items ≡ map frame_of frames.old.items ++ frames_in sent) }
+{
+    put_frame(alloc, sent.message, frames)?;
+    put_frame(alloc, sent.report, frames)
+}
+
+/// Notes `count` steps of one activity.
+fn push_steps(keys: &mut Vec<usize>, key: usize, count: usize) -> Result<(), AllocError>
+    requires { count ≤ 64 }
+    ensures { IfOk result (λ _. keys.new.items ≡ keys.old.items ++ replicate count key) }
+{
+    let all = keys.len() + count;
+    keys.resize(all, key)
+}
+
 /// The numbers of frames.
 fn numbers_of(alloc: Global, taken: &[Taken]) -> Result<Vec<u64>, AllocError> {
     let mut numbers = Vec::with_capacity(alloc, taken.len())?;
@@ -78,16 +101,7 @@ fn numbers_of(alloc: Global, taken: &[Taken]) -> Result<Vec<u64>, AllocError> {
     Ok(numbers)
 }
 
-/// A copy of keys.
-fn copied_keys(alloc: Global, keys: &[usize]) -> Result<Vec<usize>, AllocError> {
-    let mut copy = Vec::with_capacity(alloc, keys.len())?;
-    for key in keys {
-        copy.push(*key)?;
-    }
-    Ok(copy)
-}
-
-/// The same frames again, whose bytes both share.
+/// The same frames again, which share their bytes with the first ones.
 fn shared(alloc: Global, frames: &[Posted]) -> Result<Vec<Posted>, AllocError> {
     let mut copies = Vec::with_capacity(alloc, frames.len())?;
     for frame in frames {
@@ -113,10 +127,11 @@ impl<'a> Worker<'a> {
             rounds,
             turns: 0,
             kept: Vec::new(alloc),
+            unposted: Vec::new(alloc),
         })
     }
 
-    /// One turn: takes frames, makes steps, and posts what it did, if it did something.
+    /// One turn: takes frames, makes steps, and keeps what it did, if it did something.
     pub fn turn(&mut self, port: &impl Port, gate: &impl Gate) -> Result<Went, Halt>
         requires { self.old.place.stopped ≢ true }
         ensures { IfOk result (λ _. GoesOn self.old.place self.old.kept.items self.new.place self.new.kept.items) }
@@ -137,19 +152,54 @@ impl<'a> Worker<'a> {
         push_copies(self.alloc, self.place.output(), printed, &mut lines)?;
         let own = OwnTurn {
             taken,
-            keys: steps.keys,
+            keys: Keys::new(self.alloc, &steps.keys)?,
             frames: steps.frames,
             lines,
         };
-        self.kept.reserve(1)?;
-        port.post(self.told(&own)?)?;
-        self.kept.push_reserved(own);
+        self.keep(own, port)?;
         Ok(went)
     }
 
-    /// Whether no activity of the run is left, as place 0 knows it.
-    pub fn is_over(&self) -> bool {
-        self.place.closed()
+    /// Keeps what a turn did. A turn that sends a frame is posted at once, with those before it; else several are posted together.
+    fn keep(&mut self, own: OwnTurn, port: &impl Port) -> Result<(), Halt>
+        ensures place { self.new.place ≡ self.old.place }
+        ensures kept { IfOk result (λ _. self.new.kept.items ≡ self.old.kept.items ++ own ∷ []) }
+    {
+        let sends = !own.frames.is_empty();
+        let told = self.told(&own)?;
+        self.kept.reserve(1)?;
+        self.unposted.reserve(1)?;
+        self.unposted.push_reserved(told);
+        self.kept.push_reserved(own);
+        if sends || self.unposted.len() >= MOST_UNPOSTED {
+            self.post(port)?;
+        }
+        Ok(())
+    }
+
+    /// Posts the turns that are not yet in the log.
+    pub fn post(&mut self, port: &impl Port) -> Result<(), Halt>
+        ensures place { self.new.place ≡ self.old.place }
+        ensures kept { self.new.kept ≡ self.old.kept }
+    {
+        if self.unposted.is_empty() {
+            return Ok(());
+        }
+        let turns = mem::replace(&mut self.unposted, Vec::new(self.alloc));
+        port.post(turns)?;
+        Ok(())
+    }
+
+    /// Ends the run where no activity of it is left, which only place 0 knows; all turns are posted first.
+    pub fn end(&mut self, port: &impl Port) -> Result<(), Halt>
+        ensures place { self.new.place ≡ self.old.place }
+        ensures kept { self.new.kept ≡ self.old.kept }
+    {
+        if self.place.closed() {
+            self.post(port)?;
+            port.end(End::Finished);
+        }
+        Ok(())
     }
 
     /// What was kept, at the end.
@@ -166,18 +216,19 @@ impl<'a> Worker<'a> {
         })
     }
 
-    /// A turn as it is told to the log.
+    /// A turn in the form of the log.
     fn told(&self, own: &OwnTurn) -> Result<Turn, AllocError> {
         Ok(Turn {
             place: self.id,
             taken: numbers_of(self.alloc, &own.taken)?,
-            keys: copied_keys(self.alloc, &own.keys)?,
+            keys: own.keys.copied(self.alloc)?,
             frames: shared(self.alloc, &own.frames)?,
             lines: copied_lines(self.alloc, &own.lines)?,
         })
     }
 
-    /// Takes in the frames that are there, up to the most of a turn.
+    /// Takes in the frames that are there, up to the most that a turn takes; none while turns are still to be posted, so that
+    /// the lock is taken once for several turns.
     fn take_frames(&mut self, port: &impl Port) -> Result<Vec<Taken>, Halt>
         requires { self.old.place.stopped ≢ true }
         ensures takes { IfOk result (λ taken. TakesEach self.old.place (map told taken.items) self.new.place) }
@@ -185,6 +236,9 @@ impl<'a> Worker<'a> {
         ensures kept { self.new.kept ≡ self.old.kept }
     {
         let mut taken = Vec::new(self.alloc);
+        if !self.unposted.is_empty() {
+            return Ok(taken);
+        }
         for _ in 0..MOST_FRAMES {
             match port.take(self.id) {
                 Take::Frame(frame) => self.accept(frame, &mut taken)?,
@@ -205,12 +259,12 @@ impl<'a> Worker<'a> {
         taken.reserve(1)?;
         let vacant = self.place.vacant_key();
         self.place.receive(&frame.bytes)?;
-        self.rounds.note(&self.place, vacant)?;
+        self.rounds.came(&self.place, vacant)?;
         taken.push_reserved(frame);
         Ok(())
     }
 
-    /// Makes the steps of a turn, up to the most, or until all keys were tried since something moved.
+    /// Makes the steps of a turn, up to the most that a turn makes, or until all keys were tried since something moved.
     fn make_steps(&mut self) -> Result<Steps, Halt>
         requires { self.old.place.stopped ≢ true }
         ensures steps { IfOk result (λ steps. StepsEach self.old.place steps.keys.items (map frame_of steps.frames.items) self.new.place) }
@@ -219,37 +273,75 @@ impl<'a> Worker<'a> {
         ensures kept { self.new.kept ≡ self.old.kept }
     {
         let mut steps = Steps {
-            keys: Vec::new(self.alloc),
+            keys: Vec::with_capacity(self.alloc, MOST_STEPS)?,
             frames: Vec::new(self.alloc),
             moved: false,
             went: Went::On,
         };
         for _ in 0..MOST_STEPS {
+            if steps.keys.len() >= MOST_STEPS {
+                return Ok(steps);
+            }
             let Some(key) = self.rounds.next_key(&self.place)? else {
                 steps.went = Went::Idle;
                 return Ok(steps);
             };
-            self.make_step(key, &mut steps)?;
+            self.make_some(key, &mut steps)?;
         }
         Ok(steps)
+    }
+
+    /// A step of the activity with a key; where no other activity can move, as many steps as the turn may still make.
+    fn make_some(&mut self, key: usize, steps: &mut Steps) -> Result<(), Halt>
+        requires { self.old.place.stopped ≢ true }
+        ensures adds { IfOk result (λ _. AddsSteps self.old.place steps.old self.new.place steps.new) }
+        ensures kept { self.new.kept ≡ self.old.kept }
+    {
+        if self.rounds.is_single() {
+            return self.make_stretch(key, steps);
+        }
+        self.make_step(key, steps)
+    }
+
+    /// Steps of the activity with a key, one after another, as many as the turn may still make: up to one that sends something
+    /// or begins or ends an activity, or one that finds nothing to do.
+    fn make_stretch(&mut self, key: usize, steps: &mut Steps) -> Result<(), Halt>
+        requires { self.old.place.stopped ≢ true }
+        ensures adds { IfOk result (λ _. AddsSteps self.old.place steps.old self.new.place steps.new) }
+        ensures kept { self.new.kept ≡ self.old.kept }
+    {
+        let most = MOST_STEPS.saturating_sub(steps.keys.len());
+        let vacant = self.place.vacant_key();
+        let (made, last) = self.place.run(key, most as u64);
+        let sent = last?;
+        if made == 0 {
+            return self.make_step(key, steps);
+        }
+        push_steps(&mut steps.keys, key, made as usize)?;
+        steps.moved = true;
+        self.rounds.stepped(&self.place, key, vacant)?;
+        put_sent(self.alloc, sent, &mut steps.frames)?;
+        Ok(())
     }
 
     /// One step of the activity with a key.
     fn make_step(&mut self, key: usize, steps: &mut Steps) -> Result<(), Halt>
         requires { self.old.place.stopped ≢ true }
-        ensures adds { IfOk result (λ _. AddsStep self.old.place steps.old key self.new.place steps.new) }
+        ensures adds { IfOk result (λ _. AddsSteps self.old.place steps.old self.new.place steps.new) }
         ensures kept { self.new.kept ≡ self.old.kept }
     {
         steps.keys.reserve(1)?;
         steps.keys.push_reserved(key);
         let vacant = self.place.vacant_key();
         match self.place.step(key)? {
-            Stepped::Idle => Ok(()),
+            Stepped::Idle => {
+                self.rounds.waits(key)?;
+                Ok(())
+            }
             Stepped::Moved(sent) => {
                 steps.moved = true;
-                self.rounds.note(&self.place, vacant)?;
-                put_frame(self.alloc, sent.message, &mut steps.frames)?;
-                put_frame(self.alloc, sent.report, &mut steps.frames)?;
+                self.rounds.stepped(&self.place, key, vacant)?;
+                put_sent(self.alloc, sent, &mut steps.frames)?;
                 Ok(())
             }
         }

@@ -25,12 +25,11 @@ fn attend(
 {
     for _ in rt.forever() {
         let went = worker.turn(port, gate)?;
-        if id == 0 && worker.is_over() {
-            port.end(End::Finished);
-        }
+        worker.end(port)?;
         if went == Went::On {
             continue;
         }
+        worker.post(port)?;
         match port.wait(id) {
             Signal::Frame => {}
             Signal::Finished => return Ok(()),
@@ -57,16 +56,20 @@ fn attend_all(
 {
     let place = Place::new(alloc, verified, id, places)?;
     let mut worker = Worker::new(alloc, id, place)?;
-    attend(rt, &mut worker, id, port, gate)?;
+    if let Err(halt) = attend(rt, &mut worker, id, port, gate) {
+        let _unposted = worker.post(port);
+        return Err(halt);
+    }
     Ok(worker.into_trail()?)
 }
 
-/// The work of one place, from its beginning to the end of the run: takes frames, makes steps and posts its turns, by a port;
-/// and what the place did. A turn takes at most 16 frames and then makes at most 64 steps, of the keys in use by rising
-/// number, round after round. A turn that did nothing isn't posted; where all keys were tried since something moved, the
-/// worker waits. The gate is told of each turn with no lock held. Where the worker can't go on, it stops the run for all.
-/// Whatever the port answers, the turns of the trail, with the frames that they took, lead from the place's beginning to its
-/// end.
+/// The work of one place, from its beginning to the end of the run: it takes frames, makes steps and posts its turns through a
+/// port, and answers what the place did. A turn takes at most 16 frames and then makes at most 64 steps, of the keys in use by
+/// rising number, round after round. Activities that find nothing to do are passed over until a frame comes in, an activity
+/// ends here, or no other one can move. A turn that did nothing isn't posted, and turns that send nothing are posted several at
+/// a time. Where all keys were tried since something moved, the worker waits. The gate is notified of each turn while no lock
+/// is held. Where the worker can't go on, it stops the run for all. No matter what the port answers, the turns of the trail,
+/// with the frames that they took, lead from the place's beginning to its end.
 pub fn work(
     rt: &impl Wait,
     alloc: Global,

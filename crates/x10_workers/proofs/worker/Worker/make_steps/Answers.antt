@@ -1,18 +1,18 @@
-use Rattle.std.proofs.Common.{[], ◌∷◌, ◌++◌, map, sym, subst, ◌∙◌}
+use Rattle.std.proofs.Common.{◌++◌, map, sym, subst, ◌∙◌}
 use Rattle.x10_hall.specs.Halls.{frame_of}
 use Rattle.x10_workers.specs.Trails.{StepsEach}
-use Rattle.x10_workers.proofs.Leading.{steps_one_more}
+use Rattle.x10_workers.proofs.Leading.{steps_more}
 use Rattle.x10_workers.proofs.worker.Worker.make_steps.Goals as goal
 
 pub loop-preserved : goal.loop-preserved
 loop-preserved c =
-    let adds = c.in_ok-make_step.ensures.adds in
+    let adds = c.in_ok-make_some.ensures.adds in
     let old = c.loop.invariant in
     record {
-      steps = subst (λ ks. StepsEach c.args.self.now.place ks (map frame_of c.make_step.new.steps.frames.items) c.make_step.new.self.place) (sym adds.keys)
-          (subst (λ fs. StepsEach c.args.self.now.place (c.loop.steps.keys.items ++ c.in-Some.key ∷ []) fs c.make_step.new.self.place) (sym adds.frames)
-          (steps_one_more c.args.self.now.place c.loop.self.place c.make_step.new.self.place c.loop.steps.keys.items (map frame_of c.loop.steps.frames.items) c.in-Some.key adds.answer old.steps adds.steps));
+      steps = subst (λ ks. StepsEach c.args.self.now.place ks (map frame_of c.make_some.new.steps.frames.items) c.make_some.new.self.place) (sym adds.keys)
+          (subst (λ fs. StepsEach c.args.self.now.place (c.loop.steps.keys.items ++ adds.more) fs c.make_some.new.self.place) (sym adds.frames)
+          (steps_more c.args.self.now.place c.loop.self.place c.make_some.new.self.place c.loop.steps.keys.items adds.more (map frame_of c.loop.steps.frames.items) adds.out old.steps adds.steps));
       goes = adds.goes;
       still = λ e. let s = adds.still e in s.1 ∙ old.still s.0;
-      kept = c.in_ok-make_step.ensures.kept ∙ old.kept;
+      kept = c.in_ok-make_some.ensures.kept ∙ old.kept;
     }
