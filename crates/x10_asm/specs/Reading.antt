@@ -1,5 +1,6 @@
 -- Which module a text spells, or its fault: on the least line that has one, the least cause.
-use Rattle.std.specs.Prelude.{ℕ, suc, ℤ, Bool, true, false, not, ◌==◌, ◌&&◌, nat_lt, nat_le, List, [], ◌∷◌, ◌++◌, length, Option, Some, None, Result, Ok, Err, if◌then◌else◌, slice_get}
+use Rattle.std.specs.Prelude.{ℕ, suc, ℤ, Bool, true, false, not, ◌==◌, ◌&&◌, nat_lt, nat_le, List, [], ◌∷◌, ◌++◌, length, Option, Some, None}
+use Rattle.std.specs.Prelude.{Result, Ok, Err, if◌then◌else◌, slice_get}
 use Rattle.x10_model.specs.declared.limits.TheConstants.{MOST_ENTRIES, MOST_FIELDS, MOST_FUNCTIONS, MOST_PLACES}
 use Rattle.x10_kinds.specs.declared.kind.Kind.{Kind}
 use Rattle.x10_code.specs.declared.instr.Instr.{Instr}

@@ -51,7 +51,7 @@ pub fn classes_in(text: &str) -> usize
     count
 }
 
-/// The fault of a line; want of memory is no line's.
+/// The fault of a line; lack of memory is no line's fault.
 fn fault_at(line: usize, cause: AsmCause) -> AsmFault
     ensures line { cause ≢ Memory → result ≡ reading.fault_at line cause }
     ensures cause { result.cause ≡ cause }
@@ -86,8 +86,8 @@ fn module_in(alloc: Global, text: &str) -> Result<Module, AsmFault>
     Ok(so_far)
 }
 
-/// The image of the module that a text spells. A module that was read has an image, so writing it is
-/// refused for want of memory alone.
+/// The image of the module that a text spells. A module that was read has an image, so writing it is refused only for lack of
+/// memory.
 fn image_in(alloc: Global, text: &str) -> Result<Vec<u8>, AsmFault>
     ensures exact { GivesImage (λ v. v.items) result (module_of text.now) }
     ensures found { IfOk result (λ v. IsImageOf v.items (module_of text.now)) }
@@ -103,10 +103,10 @@ fn image_in(alloc: Global, text: &str) -> Result<Vec<u8>, AsmFault>
     }
 }
 
-/// The image of the module that a text spells. Else the first line that has a fault, counted from 1,
-/// and on it the first cause in the order of `AsmCause`; a missing `end` or `entry` names the line
-/// after the last. Linear in the text, but for the look-up of labels, which takes the logarithm of
-/// their number; the memory is that of the module and its image, and of a function's labels.
+/// The image of the module that a text spells. Otherwise the first line that has a fault, counted from 1, and on it the first
+/// cause in the order of `AsmCause`; a missing `end` or `entry` names the line after the last. Linear in the text, except for
+/// looking up labels, which takes the logarithm of their number; the memory is that of the module and its image, and of a
+/// function's labels.
 pub fn assemble(alloc: Global, text: &str) -> Result<Vec<u8>, AsmFault>
     ensures found { IfOk result (λ v. IsImageOf v.items (module_of text.now)) }
     ensures only { (m : model.Module) → module_of text.now ≡ Ok m → IsSpelledUnlessMemory (λ v. v.items) result m }

@@ -31,7 +31,7 @@ pub enum AsmCause {
     /// The entry function isn't there, or takes or gives something.
     #[error("Entry")]
     Entry,
-    /// A growth was refused for want of memory.
+    /// A growth was refused for lack of memory.
     #[error("Memory")]
     Memory,
 }

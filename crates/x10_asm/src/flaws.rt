@@ -21,11 +21,11 @@ use crate::split::{after_spaces, next_word};
 use crate::statement::{Line, Statement, line_of};
 use x10_code::{Op, Operand, form};
 
-/// A word at which a line is faulty, by the cause that is the line's.
+/// A word at which a line is faulty, with the cause that is the line's.
 #[derive(Clone, Copy)]
 pub struct Flaw<'a> {
     pub cause: AsmCause,
-    /// The word; nothing where one is missing behind the last of the line.
+    /// The word; empty where a word is missing after the last one of the line.
     pub word: &'a str,
     /// What follows the word in its line.
     pub rest: &'a str,
@@ -241,7 +241,7 @@ fn past_text(line: &str) -> Result<(), Flaw<'_>>
     Ok(())
 }
 
-/// A line whose words are what may stand there.
+/// A line whose words are those that may be there.
 fn past_line(line: &str, classes: usize) -> Result<(), Flaw<'_>>
     ensures { IfErr result (λ flaw. IsFaultOf classes line.now flaw.cause) }
 {
@@ -261,10 +261,10 @@ fn past_line(line: &str, classes: usize) -> Result<(), Flaw<'_>>
     }
 }
 
-/// The first word at which a line of a text with so many classes is faulty, whatever the other lines say: one that is
-/// unknown, that is no number or none in its range, that is one too many, or one that is missing. Its cause is the line's in
-/// each text with so many classes. Faults in quotes, and those that hang on other lines, are none of these: order, labels,
-/// limits and the entry. One pass over the line, or two.
+/// The first word at which a line of a text with `classes` classes is faulty, whatever the other lines say: one that is
+/// unknown, that is not a number or not one in its range, that is one too many, or one that is missing. Its cause is the line's
+/// in each text with `classes` classes. Faults in quotes, and those that depend on other lines, are none of these: order,
+/// labels, limits and the entry. One pass over the line, or two.
 pub fn flaw_of(line: &str, classes: usize) -> Option<Flaw<'_>>
     ensures { IfSome result (λ flaw. IsFaultOf classes line.now flaw.cause) }
 {

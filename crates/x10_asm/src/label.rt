@@ -16,7 +16,7 @@ use std::alloc::{AllocError, Global};
 use std::collections::BTreeMap;
 use x10_model::limits::MOST_INSTRUCTIONS;
 
-/// Where a label stands: the number of its line, counted from 1, and the index of the instruction
+/// Where a label is: the number of its line, counted from 1, and the index of the instruction
 /// that follows it, at most the 4,096 that a function may have.
 #[derive(Clone, Copy, Debug, PartialEq, Eq)]
 pub struct Definition {
@@ -75,7 +75,7 @@ fn counted(index: u32) -> u32
     (index + 1).min(u32::from(MOST_INSTRUCTIONS))
 }
 
-/// A byte of a name; behind its end 0.
+/// A byte of a name; 0 after its end.
 fn byte_at(bytes: &[u8], at: usize) -> u64
     ensures value { result ≡ slice_index bytes.now at }
     ensures small { result < 256 }

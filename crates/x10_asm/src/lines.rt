@@ -1,5 +1,5 @@
-//! Lines, each by what follows its first word: what it says, or the least cause that applies. The
-//! checks stand in the order of the causes.
+//! Lines, each by what follows its first word: what it says, or the least cause that applies. The checks are in the order of
+//! the causes.
 
 ghost use Rattle.std.specs.Prelude.{◌≡◌, ◌≤◌, ◌<◌, ◌^◌, List, true, length, map, slice_get};
 ghost use Rattle.std.specs.String.{string_bytes};
@@ -39,7 +39,7 @@ pub fn places_of(stage: Stage, line: &str) -> Result<u16, AsmCause>
     Ok(places)
 }
 
-/// The kinds of a class's fields, in a text with so many classes, after so many of them.
+/// The kinds of a class's fields, in a text with `classes` classes, after `before` of them.
 #[tactic(auto, unfolding(crate::specs::Reading::class_of))]
 pub fn class_of(
     alloc: Global,
@@ -99,8 +99,7 @@ pub fn text_of(alloc: Global, stage: Stage, before: usize, line: &str) -> Result
     Ok(text)
 }
 
-/// Whether the kinds of a function's result and parameters are kinds, their classes aside. They stand
-/// after two numbers.
+/// Whether the kinds of a function's result and parameters are kinds, their classes aside. They come after two numbers.
 fn kinds_are_known(classes: usize, line: &str) -> bool
     ensures { result ≡ reading.kinds_are_known classes (words line.now) }
 {
@@ -116,7 +115,7 @@ fn kinds_are_known(classes: usize, line: &str) -> bool
     result_is_known(kind, classes) && are_slots(line, classes)
 }
 
-/// A function without instructions, of what its line says.
+/// A function without instructions, from what its line says.
 fn signature_of(alloc: Global, classes: usize, line: &str) -> Result<Function, AsmCause>
     ensures { Gives function_shown result (reading.signature_of classes (words line.now)) }
 {
@@ -136,7 +135,7 @@ fn signature_of(alloc: Global, classes: usize, line: &str) -> Result<Function, A
     })
 }
 
-/// The beginning of a function, in a text with so many classes, after so many functions.
+/// The beginning of a function, in a text with `classes` classes, after `before` functions.
 #[tactic(auto, unfolding(crate::specs::Reading::func_of))]
 pub fn func_of(
     alloc: Global,
@@ -160,7 +159,7 @@ pub fn func_of(
     Ok(function)
 }
 
-/// The end of a function of so many instructions.
+/// The end of a function of `count` instructions.
 #[tactic(auto, unfolding(crate::specs::Reading::end_of))]
 pub fn end_of(stage: Stage, count: usize, line: &str) -> Result<(), AsmCause>
     ensures { result ≡ reading.end_of stage count (words line.now) }
@@ -202,7 +201,7 @@ pub fn entry_of(stage: Stage, functions: &[Function], line: &str) -> Result<u16,
     Ok(entry)
 }
 
-/// Whether a label's name is defined by this line, and by none before in the function.
+/// Whether a label's name is defined by this line, and by no earlier line of the function.
 fn is_defined_at<'a>(table: &Table<'a>, name: &'a str, number: usize) -> bool
     ensures { (all : List labels.Label) → IsTable table.now all → result ≡ reading.is_defined_at number (labels.label_of all name.now) }
 {

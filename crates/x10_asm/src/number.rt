@@ -11,8 +11,8 @@ ghost use Rattle.x10_asm.specs.Reading as reading;
 use crate::fault::AsmCause;
 use crate::split::next_word;
 
-/// The number that decimal digits spell, if it is at most so great. A word that spells a greater one
-/// is left as soon as that shows.
+/// The number that decimal digits spell, if it is at most `most`. A word that spells a greater one is given up as soon as that
+/// shows.
 pub fn number_of(word: &str, most: u64) -> Option<u64>
     requires { most ≤ 2 ^ 63 }
     ensures value { result ≡ spec.number_of most word.now }
@@ -36,7 +36,7 @@ pub fn number_of(word: &str, most: u64) -> Option<u64>
     Some(value)
 }
 
-/// The number that a word spells, which has to be at most so great.
+/// The number that a word spells, which has to be at most `most`.
 pub fn number(word: &str, most: u64) -> Result<u64, AsmCause>
     requires { most ≤ 2 ^ 63 }
     ensures value { result ≡ given (spec.number_of most word.now) Number }

@@ -43,7 +43,7 @@ fn target_at(line: &str) -> Result<(Option<&str>, u32, &str), AsmCause>
     Ok((None, number as u32, rest))
 }
 
-/// The operand x: of a jump a label's name or a number, else a number, and what follows its word.
+/// The operand x: for a jump a label's name or a number, otherwise a number; and what follows its word.
 pub fn last_at(line: &str, operand: Operand) -> Result<(Option<&str>, u32, &str), AsmCause>
     ensures { Answers (λ x. record { name = option_copied x.0; number = x.1; others = words x.2.now }) result (operands.last_at operand (words line.now)) }
 {
@@ -70,8 +70,7 @@ fn resolved<'a>(table: &Table<'a>, name: Option<&'a str>, number: u32) -> Result
     }
 }
 
-/// The instruction of an operation and operand words, in a function with these labels and so many
-/// instructions before it.
+/// The instruction of an operation and operand words, in a function with these labels and `count` instructions before it.
 #[tactic(auto, unfolding(crate::specs::Operands::instruction_of))]
 pub fn instruction_of<'a>(
     table: &Table<'a>,

@@ -160,8 +160,8 @@ impl<'a> Source<'a> {
         label_at(self.stage, &self.labels, number, word, line)
     }
 
-    /// Takes in a line, by the number of classes in the text, its own number, and what follows it.
-    /// Refused, it may have changed what is kept.
+    /// Takes in a line, given the number of classes in the text, its own number, and what follows it. Where it is refused, what
+    /// is kept may have changed.
     pub fn take(
         &mut self,
         alloc: Global,

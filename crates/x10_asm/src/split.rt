@@ -7,7 +7,7 @@ ghost use Rattle.x10_asm.specs.Lines.{lines, words, count_before, from_space};
 
 use memchr::memchr;
 
-/// How many bytes stand before the first of a value.
+/// How many bytes come before the first one with a value.
 fn position_of(bytes: &[u8], byte: u8) -> usize
     ensures at { result ≡ count_before byte bytes.now }
     ensures within { result ≤ length bytes.now }
@@ -21,7 +21,7 @@ fn position_of(bytes: &[u8], byte: u8) -> usize
     bytes.len()
 }
 
-/// How many bytes stand before the first line feed.
+/// How many bytes come before the first line feed.
 fn line_end(bytes: &[u8]) -> usize
     ensures at { result ≡ count_before 10 bytes.now }
     ensures within { result ≤ length bytes.now }

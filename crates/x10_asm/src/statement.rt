@@ -54,7 +54,7 @@ fn instruction_or_unknown(word: &str) -> Statement
     }
 }
 
-/// The statement that a word begins which is no comment's and no label's, each word compared in turn.
+/// The statement that begins with a word, which is no comment's and no label's; each word is compared in turn.
 #[tactic(auto, unfolding(crate::specs::Statements::statement_of))]
 fn keyword(word: &str) -> Statement
     requires comment { spec.begins 59 word.now ≡ false }
@@ -94,7 +94,7 @@ fn begins_name(word: &str) -> bool
     !bytes.is_empty() && bytes[0] < b'a'
 }
 
-/// The statement that a first word begins. Labels and operations, which most lines begin with, are told first.
+/// The statement that begins with a word. Labels and operations, which most lines begin with, are looked for first.
 #[tactic(auto, unfolding(crate::specs::Statements::statement_of))]
 fn statement_of(word: &str) -> Statement
     ensures { result ≡ statements.statement_of word.now }

@@ -24,7 +24,7 @@ pub enum BoundCause {
     /// The function's bound is above 2^48.
     #[error("TooLarge")]
     TooLarge,
-    /// A growth was refused for want of memory.
+    /// A growth was refused for lack of memory.
     #[error("Memory")]
     Memory,
 }

@@ -33,7 +33,7 @@ fn code_of(alloc: Global, image: &ImageView, f: usize) -> Result<Vec<Instr>, All
     Ok(code)
 }
 
-/// The bound of one function, given those of the functions before it, or its first fault: for those who look at a
+/// The bound of one function, given those of the functions before it, or its first fault: for callers that look at a
 /// function by itself. The time and the memory taken are linear in its instructions.
 pub fn bound_at(
     alloc: Global,
@@ -51,10 +51,10 @@ pub fn bound_at(
     checked_bound(alloc, f as u16, image.signature(f).loops(), earlier, &code)
 }
 
-/// How many steps each function of a module takes at most, with those of the functions that it calls
-/// by CALL and AT; or the first fault of the least function that has one. The time is linear in the
-/// number of instructions, whatever they are; the memory taken is 8 bytes for each function, and 24
-/// for each instruction of one function while it is looked at. Want of memory refuses with Memory.
+/// How many steps each function of a module takes at most, with those of the functions that it calls by CALL and AT; or the
+/// first fault of the least function that has one. The time is linear in the number of instructions, whatever they are; the
+/// memory taken is 8 bytes for each function, and 24 for each instruction of one function while it is looked at. Lack of memory
+/// is reported as Memory.
 pub fn bounds(alloc: Global, image: &ImageView) -> Result<Vec<u64>, BoundFault>
     ensures exact { Gives (λ bounds. bounds.items) result (bounds_of image.now) }
     ensures nests { IfOk result (λ _. (f : ℕ) → f < length image.now.functions

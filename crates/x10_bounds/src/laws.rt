@@ -1,14 +1,14 @@
 ghost use Rattle.x10_bounds.specs.OpenFinishes.{StructuredMatches};
 ghost use Rattle.x10_bounds.specs.Potential.{StructuredFalls};
 
-/// In a function whose structure holds, what it can still take falls with every step, and is its bound where it
-/// begins: what a bound of the steps of its runs rests on.
+/// In a function whose structure holds, the number of steps that it can still take falls with every step, and is its bound
+/// where it begins: the bound on the steps of its runs rests on this.
 pub fn structured_falls()
     ensures { StructuredFalls }
 {}
 
-/// In such a function each FINB is left by its FINE, jumps stay in as many finishes, and it ends in none: a stay has as
-/// many finishes open as its instructions stand in.
+/// In such a function each FINB is left by its FINE, a jump leads to an instruction inside the same number of finishes, and the
+/// function ends inside none: a stay has as many finishes open as there are around its instructions.
 pub fn structured_matches()
     ensures { StructuredMatches }
 {}

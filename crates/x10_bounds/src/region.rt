@@ -13,8 +13,8 @@ use crate::spot::{Innermost, Spot, instr_at, spot_at, spots_of};
 use std::alloc::{AllocError, Global};
 use x10_code::Instr;
 
-/// A loop or a finish: the numbers of the instructions that open and close it, and how often it
-/// turns, which is 1 for a finish.
+/// A loop or a finish: the numbers of the instructions that open and close it, and how many turns it makes, which is 1 for a
+/// finish.
 #[derive(Clone, Copy, Debug, PartialEq, Eq)]
 pub struct Region {
     pub opener: u16,

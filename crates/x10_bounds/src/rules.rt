@@ -11,8 +11,8 @@ use crate::spot::{Innermost, Spot, instr_at, spot_at};
 use x10_code::{Instr, Op};
 use x10_model::limits::MOST_TURNS;
 
-/// Whether an instruction closes the region that it stands in, if it closes one, and ends the
-/// function outside every finish, if it ends it.
+/// Whether an instruction closes the region that it is in, if it closes one, and ends the function outside every finish, if it
+/// ends it.
 fn nests(code: &[Instr], spots: &[Spot], pc: usize) -> bool
     requires within { pc < length code.now }
     requires spots { AreSpotsTo code.now (length code.now) spots.now }
@@ -71,9 +71,9 @@ pub fn nesting_fault(code: &[Instr], spots: &[Spot]) -> Option<u16>
     Some((code.len() - 1) as u16)
 }
 
-/// Whether a jump goes forward, inside the function, and out of loops alone. A region determines the
-/// regions around it; so the target's regions are around the jump too where the innermost of them
-/// begins before the jump, and no finish is left where both stand in as many.
+/// Whether a jump goes forward, inside the function, and leaves only loops. A region determines the regions around it; so the
+/// target's regions are around the jump too where the innermost of them begins before the jump, and no finish is left where as
+/// many are around both.
 fn jumps_forward(code: &[Instr], spots: &[Spot], pc: usize, x: u32) -> bool
     requires within { pc < length code.now }
     requires spots { AreSpotsTo code.now (length code.now) spots.now }

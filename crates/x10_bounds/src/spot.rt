@@ -1,4 +1,4 @@
-//! The table of what each instruction of a function stands in.
+//! The table of what is around each instruction of a function.
 
 ghost use Rattle.std.specs.Prelude.{◌≡◌, ◌+◌, ◌*◌, ◌<◌, ◌≤◌, ◌^◌, List, [], ◌∷◌, length, Some, IfOk, slice_get};
 ghost use Rattle.x10_model.specs.Structure.{Region, Turning, Waiting, around};
@@ -17,7 +17,7 @@ pub enum Innermost {
     Finish(u16),
 }
 
-/// What an instruction stands in.
+/// What is around an instruction.
 #[derive(Clone, Copy, Debug, PartialEq, Eq)]
 pub struct Spot {
     pub innermost: Innermost,
@@ -29,7 +29,7 @@ pub struct Spot {
     pub weight: u64,
 }
 
-/// The greatest bound, and one more: what every greater number of steps is kept as.
+/// The greatest bound plus one: every greater number of steps is kept as this number.
 const TOO_MANY: u64 = (1 << 48) + 1;
 
 pub fn capped_sum(a: u64, b: u64) -> u64

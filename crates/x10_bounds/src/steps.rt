@@ -43,7 +43,7 @@ fn bound_of(earlier: &[u64], code: &[Instr], spots: &[Spot]) -> u64
     steps
 }
 
-/// The first fault of a function by rules, before its bound is looked at. Most functions have none, which one pass tells.
+/// The first fault of a function by rules, before its bound is looked at. Most functions have none, and one pass shows that.
 fn rule_fault(function: u16, loops: u8, code: &[Instr], spots: &[Spot]) -> Option<BoundFault>
     requires some { 1 ≤ length code.now }
     requires count { length code.now ≤ 4096 }

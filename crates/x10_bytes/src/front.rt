@@ -57,7 +57,7 @@ pub fn i64_at<F: ReadFault>(bytes: &[u8]) -> Result<(i64, &[u8]), F>
     Ok((BigEndian::read_u64(front).cast_signed(), rest))
 }
 
-/// Whether so many bytes are there.
+/// Whether `count` bytes are there.
 #[tactic(auto, unfolding(x10_model::specs::Readers::need))]
 #[inline(always)]
 pub fn has<F: ReadFault>(bytes: &[u8], count: usize) -> Result<(), F>
@@ -69,7 +69,7 @@ pub fn has<F: ReadFault>(bytes: &[u8], count: usize) -> Result<(), F>
     Ok(())
 }
 
-/// The bytes after so many.
+/// The bytes after the first `count`.
 #[tactic(auto, unfolding(x10_model::specs::Readers::part))]
 #[inline(always)]
 pub fn past<F: ReadFault>(bytes: &[u8], count: usize) -> Result<&[u8], F>
@@ -82,7 +82,7 @@ pub fn past<F: ReadFault>(bytes: &[u8], count: usize) -> Result<&[u8], F>
     Ok(rest)
 }
 
-/// The bytes after a text of so many bytes; the fault that is given where they aren't UTF-8.
+/// The bytes after a text of `count` bytes; the fault `no_text` where these aren't UTF-8.
 #[tactic(auto, unfolding(x10_model::specs::Readers::such_that, x10_model::specs::Readers::bind, x10_model::specs::Readers::part, x10_model::specs::Readers::check, x10_model::specs::Readers::done))]
 #[inline(always)]
 pub fn past_text<F: ReadFault>(bytes: &[u8], count: usize, no_text: F) -> Result<&[u8], F>

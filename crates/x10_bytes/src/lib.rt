@@ -1,4 +1,4 @@
-//! Reading bytes: numbers and parts at the front of them, and by their places.
+//! Reading bytes: numbers and parts at the front of them, and by their positions.
 #![tactic(auto)]
 
 mod fault;

@@ -1,4 +1,4 @@
-//! The command `check`: all that can be told of a text or an image.
+//! The command `check`: all that can be reported about a text or an image.
 ghost use Rattle.std.specs.Prelude.{◌≡◌, ◌≢◌, ◌↔◌, IfOk, IfErr, OnOk, IsTrue, None};
 ghost use Rattle.x10_cli.specs.declared.task.Verb.TheVariants as verb;
 ghost use Rattle.x10_cli.specs.Answers.{CanBeDone, Prints, IsChecked, begins_as_image, status_of};
@@ -22,7 +22,7 @@ pub(crate) fn print_check<O: Write>(alloc: Global, bytes: &[u8], out: &mut O) ->
     Err(fault_of(report.refusal))
 }
 
-/// Whether a file is taken as an image, by its first four bytes; else it is taken as a text.
+/// Whether a file is taken as an image, by its first four bytes; otherwise it is taken as a text.
 pub fn is_image(bytes: &[u8]) -> bool
     ensures { result ≡ begins_as_image bytes.now }
 {
@@ -42,7 +42,7 @@ fn report_of(alloc: Global, bytes: &[u8]) -> Result<Report, Fault>
     Ok(check_text(alloc, text)?)
 }
 
-/// The fault of a file that isn't a verified module, as the other commands tell it.
+/// The fault of a file that isn't a verified module, as the other commands report it.
 fn fault_of(refusal: Option<Refusal>) -> Fault {
     match refusal {
         Some(Refusal::Asm(fault)) => Fault::from(fault),

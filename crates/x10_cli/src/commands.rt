@@ -1,4 +1,4 @@
-//! What each command does, over an image's bytes and a writer.
+//! What each command does, given an image's bytes and a writer.
 ghost use Rattle.std.specs.Prelude.{◌≡◌, ◌≢◌, ◌⊎◌, IfOk, IfErr, OnOk, None, map};
 ghost use Rattle.std.specs.Io.KnownBytes.{Appends};
 ghost use Rattle.x10_model.specs.Modules.{Module};
@@ -35,12 +35,12 @@ use x10_trace::trace_line;
 use x10_verify::{Verified, verify};
 use x10_world::{Rounds, World, run_rounds};
 
-/// Does what a task asks for with the bytes of its file, and tells the exit status: 0 done, 1 refused, 2 stopped, 4
-/// where a write failed or a text isn't UTF-8. What is printed goes to `out`, of `asm` the image, which is nothing where
-/// the text is refused, and of `draw` the picture; a fault is one line on `err`, `x10p: ` and its text, and after it, where the task says so, lines that
-/// explain it. Where a run stops, what it printed until then stands on `out` before that; of a run with threads these are the
-/// lines of the turns in its log, where the fault is `Turns` or a stop, and none where it is another. With threads it may
-/// wait: nothing is promised of when, or whether, it returns then.
+/// Does what a task asks for with the bytes of its file, and answers the exit status: 0 done, 1 refused, 2 stopped, 4 where a
+/// write failed or a text isn't UTF-8. What is printed goes to `out`: for `asm` the image, which is nothing where the text is
+/// refused, and for `draw` the picture. A fault is one line on `err`, `x10p: ` and its text, and after it, where the task says
+/// so, lines that explain it. Where a run stops, what it printed until then is on `out` before that; for a run with threads
+/// these are the lines of the turns in its log, where the fault is `Turns` or a stop, and none where it is another. With
+/// threads it may wait: nothing is promised about when, or whether, it returns then.
 pub fn execute<R: Threads + Wait + Sync, O: Write, E: Write>(
     rt: &R,
     alloc: Global,
@@ -65,7 +65,7 @@ pub fn execute<R: Threads + Wait + Sync, O: Write, E: Write>(
     }
 }
 
-/// Tells a fault, and what is asked for beside its line. Where there is no memory for that, its line has to do.
+/// Reports a fault, and what is asked for besides its line. Where there is no memory for that, its line has to do.
 fn refuse<E: Write>(alloc: Global, task: &Task, bytes: &[u8], fault: Fault, err: &mut E) -> u8
     ensures { (result ≡ status_of fault) ⊎ (result ≡ 4) }
 {
@@ -82,7 +82,7 @@ fn refuse<E: Write>(alloc: Global, task: &Task, bytes: &[u8], fault: Fault, err:
     }
 }
 
-/// Tells a fault on a line, and gives the status that goes with it.
+/// Reports a fault on a line, and answers the status that goes with it.
 pub fn tell<E: Write>(fault: Fault, err: &mut E) -> u8
     ensures { (result ≡ status_of fault) ⊎ (result ≡ 4) }
 {
@@ -92,7 +92,7 @@ pub fn tell<E: Write>(fault: Fault, err: &mut E) -> u8
     }
 }
 
-/// Does a task, and tells no fault of it.
+/// Does a task, and reports no fault of it.
 fn perform<R: Threads + Wait + Sync, O: Write>(
     rt: &R,
     alloc: Global,
@@ -198,7 +198,7 @@ fn print_bounds<O: Write>(alloc: Global, bytes: &[u8], out: &mut O) -> Result<()
     Ok(())
 }
 
-/// Runs a module, and prints what its places printed, also where the run stops before its end.
+/// Runs a module, and prints what its places printed, even where the run stops before its end.
 fn print_run<O: Write>(alloc: Global, task: &Task, bytes: &[u8], out: &mut O) -> Result<(), Fault>
     ensures done { IfOk result (λ _. CanBeDone verb.Run task.now.places bytes.now) }
     ensures printed { OnOk result (Prints verb.Run task.now.places bytes.now (O.contents out.old) (O.contents out.new)) }
@@ -225,7 +225,7 @@ fn print_trace<O: Write>(alloc: Global, task: &Task, bytes: &[u8], out: &mut O) 
     Ok(())
 }
 
-/// Makes the events of a program until the run has ended, so many at most, and prints the lines of each.
+/// Makes the events of a program until the run has ended, at most `limit`, and prints the lines of each.
 fn trace<O: Write>(alloc: Global, world: &mut World, limit: u64, out: &mut O) -> Result<(), Fault>
     ensures traced { OnOk result (Traces world.old world.new (O.contents out.old) (O.contents out.new)) }
     ensures runs { RunsTo world.old world.new }

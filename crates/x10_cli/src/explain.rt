@@ -1,4 +1,4 @@
-//! What is told of a fault beside its line, for people.
+//! What is said about a fault besides its line, for people.
 
 use crate::fault::Fault;
 use crate::task::{Task, Verb};
@@ -69,7 +69,7 @@ fn least_of(alloc: Global, bytes: &[u8]) -> Option<u16> {
     Some(image.least())
 }
 
-/// How many places a task runs over.
+/// At how many places a task runs.
 fn places_in(alloc: Global, task: &Task, bytes: &[u8]) -> Option<u16> {
     match task.places {
         Some(places) => Some(places),
@@ -171,7 +171,7 @@ fn bound_of_main(alloc: Global, bytes: &[u8]) -> Option<u64> {
     Some(*bound)
 }
 
-/// Where a text isn't UTF-8. Else the fault is the writer's, of which its owner knows more.
+/// Where a text isn't UTF-8. Otherwise the fault is the writer's, and its owner knows more about it.
 fn of_text(alloc: Global, task: &Task, bytes: &[u8]) -> Result<String, AllocError> {
     let (Verb::Asm | Verb::Check, Err(error)) = (task.verb, str::from_utf8(bytes)) else {
         return Ok(String::new(alloc));

@@ -13,13 +13,13 @@ use x10_verify::{VerifyCause, VerifyFault};
 use x10_workers::WorkFault;
 use x10_world::{Halt, OpenFault};
 
-/// Why a command was not done. Its text is what the program prints of it.
+/// Why a command was not done. Its text is what the program prints for it.
 #[derive(Clone, Copy, Debug, PartialEq, Eq, Error)]
 pub enum Fault {
     /// The text spells no module.
     #[error("asm: {0}")]
     Asm(AsmFault),
-    /// The bytes are no image.
+    /// The bytes are not an image.
     #[error("image: {0}")]
     Image(ImageFault),
     /// The verifier refuses the module.
@@ -28,7 +28,7 @@ pub enum Fault {
     /// A rule of structure is broken, so that there are no bounds.
     #[error("verify: Structure {0}")]
     Bounds(BoundFault),
-    /// The module does not run at so many places.
+    /// The module does not run at the given number of places.
     #[error("places")]
     Places,
     /// Memory was refused, outside a run.
@@ -40,17 +40,17 @@ pub enum Fault {
     /// A count of a place that ran would have passed its greatest value.
     #[error("stop: Limit {0}")]
     StopLimit(u8),
-    /// As many events were made as there may be, and the run had not ended.
+    /// As many events were made as were allowed, and the run had not ended.
     #[error("limit")]
     Limit,
-    /// With threads, as many turns of workers were posted as there may be, and a worker had one more.
+    /// With threads, as many turns of workers were posted as were allowed, and a worker had one more.
     #[error("turns")]
     Turns,
     /// With threads, a place refused a frame that was posted to it.
     #[error("refused: place {0}")]
     Refused(u16),
     /// With threads, this turn of the log, from 0, isn't what the worker of its place did. The number is that of all turns
-    /// where none differs, and a worker made another one, or the run is not over behind them.
+    /// where none differs, and a worker made another one, or the run is not over after them.
     #[error("differs: turn {0}")]
     Differs(usize),
     /// The thread of a place could not be started.

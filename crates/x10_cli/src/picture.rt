@@ -14,7 +14,7 @@ use x10_draw::Drawing;
 use x10_model::Event;
 use x10_world::{Rounds, World};
 
-/// Runs a module, and prints the picture of what happened, also where the run stops before its end.
+/// Runs a module, and prints the picture of what happened, even where the run stops before its end.
 pub(crate) fn print_picture<O: Write>(
     alloc: Global,
     task: &Task,
@@ -35,7 +35,7 @@ pub(crate) fn print_picture<O: Write>(
     Ok(ended?)
 }
 
-/// Makes the events of a program until the run has ended, so many at most, and notes each.
+/// Makes the events of a program until the run has ended, at most `limit`, and notes each.
 fn draw(alloc: Global, world: &mut World, limit: u64, drawing: &mut Drawing) -> Result<(), Fault>
     ensures runs { RunsTo world.old world.new }
     ensures ended { OnOk result (HasEnded world.new) }

@@ -1,4 +1,4 @@
-/// What is to be done with a file.
+/// What a command does with a file.
 #[derive(Clone, Copy, Debug, PartialEq, Eq)]
 pub enum Verb {
     /// Assemble a text into an image.
@@ -7,11 +7,11 @@ pub enum Verb {
     List,
     /// Print the listing with what the verifier knows at each instruction.
     ListVerbose,
-    /// Tell all faults of a text or an image that can be told by themselves, or the bound of each function.
+    /// Report all faults of a text or an image that can be reported by themselves, or the bound of each function.
     Check,
-    /// Verify it, and tell how many functions it has and the bound of its entry function.
+    /// Verify it, and report how many functions it has and the bound of its entry function.
     Verify,
-    /// Tell the bound of each function.
+    /// Report the bound of each function.
     Bounds,
     /// Verify it, run it, and print what it prints.
     Run,
@@ -27,14 +27,14 @@ pub struct Task<'a> {
     pub verb: Verb,
     /// The name of the file to read.
     pub input: &'a str,
-    /// The name of the file to write, of `asm` and `draw` alone.
+    /// The name of the file to write, only for `asm` and `draw`.
     pub output: Option<&'a str>,
     /// How many places; left out, the module's least number.
     pub places: Option<u16>,
-    /// How many events at most, those in which nothing moves too; with threads, how many turns of workers.
+    /// How many events at most, including those in which nothing moves; with threads, how many turns of workers.
     pub limit: u64,
     /// Whether a run has a thread for each place. No other verb looks at it.
     pub threads: bool,
-    /// Whether more is told of a fault than its line.
+    /// Whether more is said about a fault than its line.
     pub explain: bool,
 }

@@ -13,10 +13,10 @@ use x10_model::limits::MOST_PLACES;
 /// What is printed instead of doing something: help that was asked for, or what is wrong with the words.
 #[derive(Debug, Drop)]
 pub struct Usage {
-    // None for want of memory.
+    // None where memory was refused.
     text: Option<String>,
-    /// The exit status: 0 for help, to be printed on standard output; 3 for a fault of usage and 2 for want of memory, on
-    /// standard error.
+    /// The exit status: 0 for help, to be printed on standard output; 3 for a fault of usage and 2 where memory was refused,
+    /// on standard error.
     pub status: u8,
 }
 

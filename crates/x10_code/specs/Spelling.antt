@@ -1,5 +1,6 @@
 -- An instruction as eight bytes: the operation's code, the operands a, b and c, and x in four bytes, the highest first.
-use Rattle.std.specs.Prelude.{ℕ, ◌<◌, ◌^◌, Bool, true, ◌==◌, ◌&&◌, List, ◌∷◌, take, drop, Option, Some, None, Result, Ok, Err, if◌then◌else◌, IsTrue, slice_index, find}
+use Rattle.std.specs.Prelude.{ℕ, ◌<◌, ◌^◌, Bool, true, ◌==◌, ◌&&◌, List, ◌∷◌, take, drop, Option, Some, None, Result, Ok, Err, if◌then◌else◌}
+use Rattle.std.specs.Prelude.{IsTrue, slice_index, find}
 use Rattle.std.specs.Int.{w32, to_be_bytes, from_be_bytes}
 use Rattle.x10_code.specs.declared.op.Op.{Op}
 use Rattle.x10_code.specs.declared.operands.Operand.{Operand}

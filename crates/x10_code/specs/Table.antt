@@ -6,7 +6,8 @@ use Rattle.x10_code.specs.declared.op.Op.TheVariants as op
 use Rattle.x10_code.specs.declared.groups.Group.{Group}
 use Rattle.x10_code.specs.declared.groups.Group.TheVariants.{Numbers, Control, Texts, Objects, Rails, Places, Activities, Output}
 use Rattle.x10_code.specs.declared.operands.Operand.{Operand}
-use Rattle.x10_code.specs.declared.operands.Operand.TheVariants.{Unused, Register, Result, Arguments, Slot, Count, Field, Int, Text, Place, Class, Function, Target}
+use Rattle.x10_code.specs.declared.operands.Operand.TheVariants.{Unused, Register, Result, Arguments, Slot, Count, Field, Int, Text, Place, Class}
+use Rattle.x10_code.specs.declared.operands.Operand.TheVariants.{Function, Target}
 use Rattle.x10_code.specs.declared.operands.Form.{Form}
 
 -- the first byte, the name in text, the group, and what a, b, c and x name

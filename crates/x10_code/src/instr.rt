@@ -10,10 +10,10 @@ pub struct Instr {
     pub x: u32,
 }
 
-/// Why eight bytes are no instruction.
+/// Why eight bytes are not an instruction.
 #[derive(Clone, Copy, Debug, PartialEq, Eq)]
 pub enum CodeFault {
-    /// The first byte is no operation's code.
+    /// The first byte is not an operation's code.
     UnknownOp,
     /// An operand that the form doesn't use isn't 0.
     UnusedNotZero,

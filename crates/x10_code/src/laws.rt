@@ -22,7 +22,7 @@ pub fn names_differ()
     ensures law { NamesDiffer }
 {}
 
-/// The list of operations misses none.
+/// The list of operations lacks none.
 pub fn all_are_listed()
     ensures law { AllAreListed }
 {}

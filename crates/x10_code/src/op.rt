@@ -39,7 +39,7 @@ pub enum Op {
     Placen,
     /// `r(a) :=` the number of the place in `r(b)`.
     Placei,
-    /// `r(a) :=` the place after `r(b)`, round.
+    /// `r(a) :=` the place after `r(b)`; after the last one, the first.
     Nextp,
     /// `r(a) :=` the number of places.
     Count,
@@ -91,8 +91,8 @@ pub enum Op {
     Fine,
 }
 
-/// The table: every operation by rising code, a row each. A row has the code, the name, the group, and what the
-/// operands a, b, c and x name. All that reads, writes, assembles or lists an instruction goes by these rows.
+/// The table: every operation by rising code, a row each. A row has the code, the name, the group, and what the operands a, b,
+/// c and x name. Everything that reads, writes, assembles or lists an instruction uses these rows.
 ///
 /// `table!(each(given))` is `each!` of what is given and the rows.
 macro_rules! table {

@@ -21,7 +21,7 @@ pub fn decode(bytes: &[u8; 8]) -> Result<Instr, CodeFault>
     decode_slice(bytes)
 }
 
-/// The instruction that eight bytes spell where they lie, as in a slice of a function's code.
+/// The instruction that eight bytes spell, read where they are, as in a slice of a function's code.
 pub fn decode_slice(bytes: &[u8]) -> Result<Instr, CodeFault>
     requires { length bytes.now ≡ 8 }
     ensures exact { result ≡ decoded bytes.now }

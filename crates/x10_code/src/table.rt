@@ -92,8 +92,8 @@ pub fn form(op: Op) -> Form
     table!(form_in(op))
 }
 
-/// The operation with a name, which is in capitals. Constant time, but where no operation has the name: then it compares
-/// the names one by one.
+/// The operation with a name, which is in capitals. Constant time, except where no operation has the name: then it compares the
+/// names one by one.
 pub fn op_named(name: &str) -> Option<Op>
     ensures found { IfSome result (λ o. name.now ≡ name_of o) }
     ensures only { (o : Op) → name.now ≡ name_of o → result ≡ Some o }

@@ -40,7 +40,7 @@ CapturesFit =
     → x.classes ≡ m.classes → HaveHomes home values slots → KnowsExports x here heap
     → FitsArrival m here home heap slots (snapshot_of captured.graph)
 
--- a graph that has all that is asked for is refused for want of room alone
+-- a graph that has all that is asked for is refused only where room is lacking
 abbrev pub FittingIsTaken : Type 0
 FittingIsTaken =
     (m : Module) (here home : ℕ) (heap : HeapState) (slots : List Slot) (g : Graph) (why : Refusal)

@@ -14,7 +14,7 @@ use x10_kinds::Stop;
 /// The values that were passed, as words.
 pub type Roots = SmallVec<u64, 8>;
 
-/// How many texts, rails and objects a heap has before a frame's are put behind them.
+/// How many texts, rails and objects a heap has before a frame's are added.
 #[derive(Clone, Copy)]
 pub struct Bases {
     pub texts: u32,

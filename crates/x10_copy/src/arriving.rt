@@ -41,10 +41,10 @@ fn values_found(
     Some(roots_exported(view, heap, here))
 }
 
-/// What is asked of a frame's values before they arrive at the place `here`: `Kind` where they aren't of the kinds of
-/// `slots`, one for each, or an object doesn't have the fields of its class; else `Home` where a value of which its slot
-/// asks for a home is a global reference with another one than `home`; else `Ref` where a global reference with its home
-/// here names no export of its class. Linear in the frame.
+/// What is asked of a frame's values before they arrive at the place `here`: `Kind` where they aren't of the kinds of `slots`,
+/// one for each, or an object doesn't have the fields of its class; else `Home` where a value whose slot asks for a home is a
+/// global reference with a home other than `home`; else `Ref` where a global reference with its home here names no export of
+/// its class. Linear in the frame.
 pub fn check(
     view: &FrameView,
     heap: &Heap,
@@ -91,9 +91,9 @@ pub fn refusal_of(why: Stop) -> Refusal
     }
 }
 
-/// Puts a copy of what a frame brings into a heap, beside all that it has, and answers the words of the values that were
-/// passed: text i is the heap's next text and i more, and so are rails and objects. Each text and rail is copied once,
-/// from the frame. A report brings nothing. It asks nothing of the values: see `check`.
+/// Adds a copy of what a frame brings to all that a heap has, and answers the words of the values that were passed: text i
+/// becomes the text whose number is the heap's next one plus i, and likewise for rails and objects. Each text and rail is
+/// copied once, from the frame. A report brings nothing. It asks nothing of the values: see `check`.
 ///
 /// Refused, with the heap as before: `Limit` 1, 2 or 3 where the heap would have too many objects, texts or rails, or
 /// `Memory`. Linear in the frame.
@@ -123,7 +123,7 @@ pub fn bring(alloc: Global, view: &FrameView, heap: &mut Heap) -> Result<Roots, 
 
 /// Puts a copy of what a frame brings into the heap of the place `here`, as `bring` does, where `check` finds no fault.
 ///
-/// Refused, with the heap as before: for the first fault that `check` finds, else for want of room, as `bring` is.
+/// Refused, with the heap as before: for the first fault that `check` finds, else for lack of room, as `bring` is.
 pub fn arrive(
     alloc: Global,
     view: &FrameView,

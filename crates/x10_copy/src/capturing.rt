@@ -23,7 +23,7 @@ use x10_model::Slot;
 /// The most bytes before the roots, in a frame with a graph.
 const HEAD: usize = 26;
 
-/// What stands before each text's or rail's bytes.
+/// How many bytes come before each text's or rail's bytes.
 const LENGTH: usize = 4;
 
 /// How many bytes the texts take.
@@ -50,7 +50,7 @@ fn rails_size(marks: &Marks, heap: &Heap) -> usize
     size
 }
 
-/// How many bytes the frame has that passes so many words, or a few more where its head is a short one.
+/// How many bytes a frame has that passes `words` words, or a few more where its head is a short one.
 fn room(marks: &Marks, heap: &Heap, words: usize) -> usize
     requires { AreThere heap.now marks.now }
 {
@@ -94,10 +94,10 @@ fn written(
     Ok(writer.finish())
 }
 
-/// The frame with a head that takes the words along, and all that they lead to: each object, each rail and each text of
-/// the heap once, numbered by first use. What a global reference names is not taken along. `slots` says of which kinds the
-/// words are. Refused with Limit 7, 8 or 9 where there are more than 65,535 objects, texts or rails. Linear in what is
-/// taken along, without recursion; `marks` grows to the number of parts that the heap has, and keeps that memory.
+/// The frame with a head that takes the words along, and all that they lead to: each object, each rail and each text of the
+/// heap once, numbered by first use. What a global reference names is not taken along. `slots` says which kinds the words have.
+/// Refused with Limit 7, 8 or 9 where there are more than 65,535 objects, texts or rails. Linear in what is taken along,
+/// without recursion; `marks` grows to the number of parts that the heap has, and keeps that memory.
 pub fn capture(
     alloc: Global,
     marks: &mut Marks,

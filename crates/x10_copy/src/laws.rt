@@ -7,16 +7,16 @@ pub fn standing_is_sound()
     ensures { StandingIsSound }
 {}
 
-/// What was captured has all that is asked for where it arrives, in whatever heap of the same module: so it is refused
-/// for want of room alone. The homes are those of the values, and global references to objects of the place where it
-/// arrives are as good as what the sender knew of them.
+/// What was captured has all that is asked for where it arrives, in any heap of the same module: so it is refused only for lack
+/// of room. The homes are those of the values, and global references to objects of the place where it arrives are as good as
+/// what the sender knew about them.
 pub fn captures_arrive()
     ensures fit { CapturesFit }
     ensures taken { FittingIsTaken }
 {}
 
-/// What an arrival asks of a frame's graph is what the machine asks where a place takes a message in; and a graph that
-/// is refused for its values is one that the machine doesn't take in. What fits goes on to fit while exports are added.
+/// What an arrival asks of a frame's graph is what the machine asks where a place takes a message in; and a graph that is
+/// refused for its values is one that the machine doesn't take in. What fits still fits when exports are added.
 pub fn arrivals_fit()
     ensures asked { ArrivalsFit }
     ensures faults { FaultsAreMisfits }

@@ -13,13 +13,13 @@ use x10_image::ImageView;
 use x10_kinds::Stop;
 use x10_model::Slot;
 
-/// What stands before each object's fields.
+/// How many bytes come before each object's fields.
 const NODE: usize = 3;
 
 /// How many objects are looked at together before the turn of the first one. Memory then brings them at the same time.
 pub const TOGETHER: usize = 16;
 
-/// How many bytes these objects take, beside what stands behind the tags of their fields.
+/// How many bytes these objects take, without what follows the tags of their fields.
 #[inline(always)]
 pub fn size_of(marks: &Marks, heap: &Heap, from: usize, to: usize) -> usize
     requires there { (k : ℕ) → k < length marks.now.objects → slice_index marks.now.objects k < length heap.now.objects }
@@ -34,7 +34,7 @@ pub fn size_of(marks: &Marks, heap: &Heap, from: usize, to: usize) -> usize
 }
 
 /// Looks at the object whose turn it is, and at some of those after it, where it is the first that wasn't looked at yet.
-/// Answers how many were looked at by now.
+/// Answers how many have been looked at by now.
 #[inline(always)]
 fn look_ahead(marks: &mut Marks, heap: &Heap, turn: usize, seen: usize) -> usize
     requires there { (k : ℕ) → k < length marks.old.objects → slice_index marks.old.objects k < length heap.now.objects }

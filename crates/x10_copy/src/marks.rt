@@ -16,15 +16,15 @@ const TEXTS: u8 = 8;
 
 const RAILS: u8 = 9;
 
-/// Which texts, rails and objects of a heap the message takes along that is written last. A place has one of these for
-/// all its messages. Clauses see the numbers in the heap, each list in the order of the numbers in the message.
+/// Which texts, rails and objects of a heap the message that is written last takes along. A place has one of these for all its
+/// messages. Clauses see the numbers in the heap, each list in the order of the numbers in the message.
 #[derive(Drop)]
 pub struct Marks {
     texts: Numbers,
     rails: Numbers,
     objects: Numbers,
-    /// How many bytes what was met so far takes in the message, but for the tags of the words that are passed, for texts
-    /// and for rails. No clause speaks of it: it is for room alone.
+    /// How many bytes what was met so far takes in the message, without the tags of the words that are passed, texts and rails.
+    /// No clause speaks of it: it matters only for room.
     size: usize,
 }
 
@@ -36,7 +36,7 @@ impl Model for Marks {
     ghost view = { λ m. record { texts = m.texts; rails = m.rails; objects = m.objects } };
 }
 
-/// How many bytes a word takes in a message behind its tag.
+/// How many bytes a word takes in a message after its tag.
 #[inline(always)]
 fn untagged_size(kind: Kind, word: u64) -> usize {
     match kind {
@@ -59,7 +59,7 @@ impl Marks {
         }
     }
 
-    /// Nothing is taken along any more. What memory there is stays.
+    /// Nothing is taken along any more. The memory is kept.
     pub(crate) fn clear(&mut self)
         ensures { self.new ≡ no_names }
     {
@@ -69,13 +69,12 @@ impl Marks {
         self.size = 0;
     }
 
-    /// How many bytes what was met takes in the message, but for the tags of the words that are passed, for texts and for
-    /// rails.
+    /// How many bytes what was met takes in the message, without the tags of the words that are passed, texts and rails.
     pub(crate) fn size(&self) -> usize {
         self.size
     }
 
-    /// So many bytes more are taken.
+    /// `bytes` more bytes are taken.
     #[inline(always)]
     pub(crate) fn take_room(&mut self, bytes: usize)
         ensures { self.new ≡ self.old }

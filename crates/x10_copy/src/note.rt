@@ -11,7 +11,7 @@ use x10_image::{ClassView, ImageView};
 use x10_kinds::Stop;
 use x10_model::Slot;
 
-/// Takes along what the words lead to that are passed.
+/// Takes along what the words that are passed lead to.
 pub fn note_roots(marks: &mut Marks, slots: &[Slot], words: &[u64]) -> Result<(), Stop>
     requires { AreWords (kinds_of slots.now) words.now }
     ensures ok { IfOk result (λ _. marks.new ≡ noted_all marks.old (kinds_of slots.now) words.now) }

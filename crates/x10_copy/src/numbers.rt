@@ -9,8 +9,8 @@ use x10_kinds::Stop;
 
 /// Some parts of a heap, each with a number of its own, from 0. Clauses see the list of the parts.
 ///
-/// `places` has each part's number at that part's place, and anything at the others: a part has a number where it stands
-/// under the number at its place. So nothing has to be cleared for another message.
+/// `places` has each part's number at the position of that part, and anything at the others: a part has a number where `parts`
+/// has it under the number at its position. So nothing has to be cleared for another message.
 #[derive(Drop)]
 pub struct Numbers {
     places: Vec<u16>,
@@ -28,7 +28,7 @@ impl Model for Numbers {
     ghost invariant = { λ n. AreNumbered n.places.items n.parts.items };
 }
 
-/// Whether a part has a number: it stands under the number at its place.
+/// Whether a part has a number: `parts` has it under the number at its position.
 #[inline(always)]
 fn is_numbered(places: &[u16], parts: &[u32], part: u32) -> bool
     requires { AreNumbered places.now parts.now }
@@ -44,7 +44,7 @@ fn is_numbered(places: &[u16], parts: &[u32], part: u32) -> bool
     parts[k] == part
 }
 
-/// A place for a part, where there is none yet.
+/// A position for a part, where there is none yet.
 #[inline(always)]
 fn make_place(places: &mut Vec<u16>, part: u32) -> Result<(), Stop>
     ensures ok { IfOk result (λ _. part < length places.new.items) }
@@ -72,7 +72,7 @@ impl Numbers {
         }
     }
 
-    /// Takes all numbers back. What memory there is stays.
+    /// Takes all numbers back. The memory is kept.
     pub fn clear(&mut self)
         ensures { self.new ≡ [] }
     {
@@ -106,7 +106,7 @@ impl Numbers {
         self.places[part as usize]
     }
 
-    /// Gives a part the next number, where it has none. Refused where 65,535 have one already, and for want of memory.
+    /// Gives a part the next number, where it has none. Refused where 65,535 have one already, and for lack of memory.
     #[inline(always)]
     pub fn note(&mut self, part: u32, limit: u8) -> Result<(), Stop>
         ensures ok { IfOk result (λ _. self.new ≡ with_new self.old part) }

@@ -5,10 +5,10 @@ use std::alloc::{AllocError, AllocFailed};
 use thiserror::Error;
 use x10_frame::FrameFault;
 
-/// Why a place takes no message in.
+/// Why a place doesn't take a message in.
 #[derive(Clone, Copy, Debug, PartialEq, Eq, Error)]
 pub enum Refusal {
-    /// The bytes are no frame. Want of memory is `Memory`.
+    /// The bytes are not a frame. Lack of memory is `Memory`.
     #[error("Frame")]
     Frame(FrameFault),
     /// It is for another place.
@@ -20,7 +20,7 @@ pub enum Refusal {
     /// The values don't fit the signature, or an object its class.
     #[error("Kind")]
     Kind,
-    /// A global reference whose home has to be known has another.
+    /// A global reference whose home has to be known has another one.
     #[error("Home")]
     Home,
     /// A global reference with its home here names no object of its class.
@@ -32,7 +32,7 @@ pub enum Refusal {
     /// No activity waits for it.
     #[error("Segment")]
     Segment,
-    /// A growth was refused for want of memory.
+    /// A growth was refused for lack of memory.
     #[error("Memory")]
     Memory,
     /// A count would have passed its greatest value; which one, from 1 to 11.

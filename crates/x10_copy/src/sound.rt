@@ -1,4 +1,4 @@
-//! Whether words stand for something, for callers to whom nobody says so.
+//! Whether words stand for something, for callers that don't know it otherwise.
 
 ghost use Rattle.std.specs.Prelude.{◌≡◌, ◌↔◌, ◌<◌, IsTrue, length, slice_get};
 ghost use Rattle.x10_copy.specs.Names.{AreSound};

@@ -6,7 +6,7 @@ use std::alloc::{AllocError, Global};
 pub(crate) enum State {
     /// It makes steps.
     Working,
-    /// It stands at a FINE, and looked in vain whether it may go on.
+    /// It is at a FINE, and found that it may not go on yet.
     Waiting,
     /// It goes on at another place, by AT.
     Away,
@@ -44,8 +44,8 @@ pub(crate) enum Row {
     Shared(u64),
 }
 
-/// The column of a place. A stay's key is the number of its lane: a place gives keys up and uses them again, so there are
-/// as many lanes as stays that live at a time.
+/// The column of a place. A stay's key is the number of its lane: a place uses keys again that were given up, so there are as
+/// many lanes as stays that live at the same time.
 #[derive(Drop)]
 pub(crate) struct Column {
     alloc: Global,
@@ -62,8 +62,8 @@ pub(crate) struct Column {
 }
 
 impl Column {
-    /// The column of a place before the run, where so many steps in a row that put nothing out have rows of their own. The
-    /// root finish is number 0 of place 0.
+    /// The column of a place before the run, where `shown` steps in a row that put nothing out have rows of their own. The root
+    /// finish is number 0 of place 0.
     pub(crate) fn new(alloc: Global, place: u16, shown: u64) -> Column {
         Column {
             alloc,
@@ -94,7 +94,7 @@ impl Column {
         self.widest
     }
 
-    /// A label of so many letters stands here.
+    /// A label of `letters` letters is in this column.
     pub(crate) fn widen(&mut self, letters: usize) {
         self.widest = self.widest.max(letters);
     }
@@ -114,7 +114,7 @@ impl Column {
         self.row
     }
 
-    /// A new row, below all rows of the place so far and below another one.
+    /// A new row, below all rows so far of the place and below another one.
     pub(crate) fn next_row(&mut self, below: u64) -> u64 {
         self.quiet = 0;
         self.row = self.row.max(below).saturating_add(1);
@@ -142,7 +142,7 @@ impl Column {
         matches!(self.stays.get(key), Some(Some(_)))
     }
 
-    /// The key that the next stay gets which begins here: the one that was given up last, else the least that was never in
+    /// The key that the next stay that begins here gets: the one that was given up last, otherwise the least that was never in
     /// use.
     pub(crate) fn vacant_key(&self) -> usize {
         match self.given_up.last() {
@@ -170,7 +170,7 @@ impl Column {
         Ok(())
     }
 
-    /// A stay ends at a row: the last piece of its bar. Its key is given up.
+    /// A stay ends at a row, and its key is given up. Answers the last piece of its bar.
     pub(crate) fn end(&mut self, key: usize, row: u64) -> Result<Option<Span>, AllocError> {
         let Some(span) = self.rest(key, row) else {
             return Ok(None);
@@ -191,7 +191,7 @@ impl Column {
         }
     }
 
-    /// From a row on, a stay is in a state: the piece of its bar that ends there, if it was in another one.
+    /// From a row on, a stay is in a state. Answers the piece of its bar that ends there, if it was in another state.
     pub(crate) fn change(&mut self, key: usize, state: State, row: u64) -> Option<Span> {
         let span = self.rest(key, row)?;
         if span.state == state {
@@ -205,7 +205,7 @@ impl Column {
         Some(span)
     }
 
-    /// A stay looked in vain: if it was at work, it has waited since its last step. The piece of its bar up to that.
+    /// A stay may not go on yet: if it was at work, it has waited since its last step. Answers the piece of its bar up to that.
     pub(crate) fn wait(&mut self, key: usize) -> Option<Span> {
         let Some(Some(stay)) = self.stays.get(key) else {
             return None;

@@ -4,7 +4,7 @@ ghost use Rattle.x10_draw.specs.Counting.{counted};
 
 use x10_world::Done;
 
-/// How many events of each kind, to 2^64 - 1 at most.
+/// How many events of each kind, up to 2^64 - 1.
 #[derive(Clone, Copy, Debug, PartialEq, Eq)]
 pub struct Counts {
     /// Steps that moved.
@@ -16,7 +16,7 @@ pub struct Counts {
 }
 
 impl Counts {
-    /// The counts after one event more.
+    /// The counts after one more event.
     pub(crate) fn after(self, done: Done) -> Counts
         ensures { result ≡ counted self done }
     {

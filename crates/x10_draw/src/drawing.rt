@@ -29,7 +29,7 @@ impl Model for Drawing {
 }
 
 impl Drawing {
-    /// The drawing of a run over so many places before its first event. Takes memory for the places.
+    /// The drawing of a run at `places` places before its first event. Takes memory for the places.
     pub fn new(alloc: Global, places: u16) -> Result<Drawing, AllocError>
         ensures { IfOk result (λ d. d ≡ no_events) }
     {
@@ -46,12 +46,12 @@ impl Drawing {
         })
     }
 
-    /// Notes an event and what it did, in the world right after it: what `x10_trace::trace_line` takes. Each event of a run
-    /// is noted in its turn, from the first one on; one that wasn't leaves out what only it would have shown. After a
-    /// refusal, which is for want of memory, the event isn't counted, and it may be drawn in part.
+    /// Notes an event and what it did, in the world right after it: what `x10_trace::trace_line` takes. Each event of a run is
+    /// noted in its turn, from the first one on; one that wasn't noted leaves out what only it would have shown. After a
+    /// refusal, which is for lack of memory, the event isn't counted, and it may be drawn in part.
     ///
-    /// Linear in the bytes of the frames that the event put out and in the line that it printed, else constant. Takes memory
-    /// for what is new in the picture: an idle step, or one among many that put nothing out, adds nothing.
+    /// Linear in the bytes of the frames that the event put out and in the line that it printed, otherwise constant. Takes
+    /// memory for what is new in the picture: an idle step, or one among many that put nothing out, adds nothing.
     pub fn note(&mut self, world: &World, event: Event, done: &Done) -> Result<(), AllocError>
         ensures ok { OnOk result (self.new ≡ counted self.old done.now) }
         ensures err { OnErr result (self.new ≡ self.old) }

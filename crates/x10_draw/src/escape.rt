@@ -26,7 +26,7 @@ fn reference(c: char) -> Option<&'static str>
     }
 }
 
-/// Pushes a character as it stands in XML.
+/// Pushes a character as it is written in XML.
 fn push_char(out: &mut String, c: char) -> Result<(), AllocError>
     ensures { OnOk result (string_bytes out.new ≡ string_bytes out.old ++ spec.escape c) }
 {
@@ -36,10 +36,10 @@ fn push_char(out: &mut String, c: char) -> Result<(), AllocError>
     }
 }
 
-/// Pushes a text as it stands in XML 1.0 (fifth edition), in the content of an element or in an attribute's value: `&`,
-/// `<`, `>` and the quotes by the five predefined entities (sections 2.4 and 4.6), a tab, a line feed and a carriage return
-/// by their numbers, so that no reader makes spaces of them (2.11, 3.3.3), and each character that section 2.2 doesn't
-/// permit, which no reference may name either, as U+FFFD, the replacement character. Linear in the text.
+/// Pushes a text as it is written in XML 1.0 (fifth edition), in the content of an element or in an attribute's value: `&`,
+/// `<`, `>` and the quotes by the five predefined entities (sections 2.4 and 4.6), a tab, a line feed and a carriage return by
+/// their numbers, so that no reader makes spaces of them (2.11, 3.3.3), and each character that section 2.2 doesn't permit,
+/// which no reference may name either, as U+FFFD, the replacement character. Linear in the text.
 #[tactic(auto, using(crate::proofs::Contents::all_chars))]
 pub fn push_escaped(out: &mut String, text: &str) -> Result<(), AllocError>
     ensures value { OnOk result (string_bytes out.new ≡ string_bytes out.old ++ flat_map spec.escape (chars text.now)) }

@@ -2,7 +2,7 @@
 use std::alloc::{AllocError, Global};
 use x10_frame::{FrameFault, FrameView, Head};
 
-/// The type of a frame, as its head tells it.
+/// The type of a frame, as its head says.
 #[derive(Clone, Copy, Debug, PartialEq, Eq)]
 pub(crate) enum FrameKind {
     Spawn,
@@ -22,7 +22,7 @@ impl FrameKind {
     }
 }
 
-/// The head of a frame between so many places; none where the bytes aren't such a frame's. Linear in the bytes.
+/// The head of a frame where there are `places` places; none where the bytes aren't such a frame's. Linear in the bytes.
 pub(crate) fn head_of(
     alloc: Global,
     bytes: &[u8],
@@ -35,7 +35,7 @@ pub(crate) fn head_of(
     }
 }
 
-/// What an arrow tells of a head: the type, the stay that waits for the frame, of a Back, and the function that begins.
+/// What an arrow shows of a head: the type, the stay that waits for the frame, of a Back, and the function that begins.
 pub(crate) fn facts_of(head: Head) -> (FrameKind, Option<usize>, Option<u16>) {
     match head {
         Head::Spawn { function, .. } => (FrameKind::Spawn, None, Some(function)),

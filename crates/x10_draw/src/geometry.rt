@@ -1,4 +1,4 @@
-//! Where things stand on the page, in pixels.
+//! Where things are on the page, in pixels.
 use crate::column::Column;
 use crate::parts::Spot;
 use std::alloc::{AllocError, Global};
@@ -13,12 +13,12 @@ const LETTER: u64 = 6;
 const LANE: u64 = 18;
 /// From the left edge of a column to its lifeline, and from that to the first lane.
 const EDGE: u64 = 14;
-/// From the last lane to the labels, and behind them.
+/// From the last lane to the labels, and after them.
 const MARGIN: u64 = 12;
 /// The least width of the page: the head has room.
 const LEAST: u64 = 700;
 
-/// Where the parts of a place's column stand.
+/// Where the parts of a place's column are.
 #[derive(Clone, Copy, Debug, PartialEq, Eq)]
 pub(crate) struct Band {
     pub(crate) lifeline: u64,
@@ -27,7 +27,7 @@ pub(crate) struct Band {
     pub(crate) right: u64,
 }
 
-/// Where all stands.
+/// Where everything is.
 #[derive(Drop)]
 pub(crate) struct Grid {
     pub(crate) bands: Vec<Band>,
@@ -37,7 +37,7 @@ pub(crate) struct Grid {
     pub(crate) height: u64,
 }
 
-/// The band of a column that begins at a place on the page.
+/// The band of a column that begins at a position on the page.
 fn band_of(column: &Column, left: u64) -> Band {
     let lanes = (column.lanes() as u64).max(1);
     let letters = letters_wide(column.widest().max(8));
@@ -95,7 +95,7 @@ impl Grid {
         first.saturating_add(LANE.saturating_mul(lane as u64))
     }
 
-    /// Where an end of an arrow stands.
+    /// Where an end of an arrow is.
     pub(crate) fn spot(&self, spot: Spot) -> u64 {
         match spot.lane {
             Some(lane) => self.lane(spot.place, lane),
@@ -104,7 +104,7 @@ impl Grid {
     }
 }
 
-/// How wide so many columns of letters are.
+/// How wide `letters` columns of letters are.
 pub(crate) fn letters_wide(letters: usize) -> u64 {
     LETTER.saturating_mul(letters as u64)
 }

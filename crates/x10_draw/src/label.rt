@@ -2,7 +2,7 @@
 use crate::words::{width, width_of};
 use std::alloc::AllocError;
 
-/// What a label tells.
+/// What a label shows.
 #[derive(Clone, Copy, Debug, PartialEq, Eq)]
 pub(crate) enum Tone {
     /// A step that put nothing out.
@@ -11,7 +11,7 @@ pub(crate) enum Tone {
     Notable,
     /// A line of output.
     Printed,
-    /// So many steps that share a row; one alone is told as any other.
+    /// This many steps that share a row; a single one is shown like any other.
     Shortened(u64),
 }
 
@@ -40,8 +40,8 @@ impl Label {
     }
 }
 
-/// Pushes a text as one line, cut with an ellipsis behind so many letters; whether it differs from the text. What breaks a
-/// line or is a tab is a space there, since SVG 1.1 (section 10.15) would take it away.
+/// Pushes a text as one line, cut with an ellipsis after `most` letters, and answers whether it differs from the text. What
+/// breaks a line or is a tab becomes a space there, since SVG 1.1 (section 10.15) would remove it.
 pub(crate) fn push_cut(out: &mut String, text: &str, most: usize) -> Result<bool, AllocError> {
     let mut letters = 0usize;
     let mut differs = false;

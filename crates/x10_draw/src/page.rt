@@ -32,7 +32,7 @@ pub(crate) fn page(alloc: Global, counts: Counts, sketch: &Sketch) -> Result<Str
     Ok(text)
 }
 
-/// All between the head and the tail: the root's size first.
+/// Everything between the head and the tail: the root's size first.
 fn body(alloc: Global, counts: Counts, sketch: &Sketch) -> Result<String, AllocError> {
     let grid = Grid::new(alloc, &sketch.columns)?;
     let mut out = String::new(alloc);

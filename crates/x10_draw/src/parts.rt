@@ -1,4 +1,4 @@
-//! The shapes of a picture that stand in lists: arrows, brackets, and where stays begin and end.
+//! The shapes of a picture that are kept in lists: arrows, brackets, and where stays begin and end.
 use crate::frame_kind::FrameKind;
 
 /// An end of an arrow: a lane of a place, or its lifeline, and the row.

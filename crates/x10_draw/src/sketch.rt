@@ -10,7 +10,7 @@ use x10_code::Op;
 use x10_model::Event;
 use x10_world::{Done, World};
 
-/// How much is told of each event.
+/// How much is shown of each event.
 #[derive(Clone, Copy, Debug, PartialEq, Eq)]
 struct Detail {
     /// How many steps in a row that put nothing out have rows of their own.
@@ -36,7 +36,7 @@ impl Detail {
     }
 }
 
-/// All that is to be drawn.
+/// Everything that is drawn.
 #[derive(Drop)]
 pub(crate) struct Sketch {
     alloc: Global,
@@ -51,7 +51,7 @@ pub(crate) struct Sketch {
 }
 
 impl Sketch {
-    /// So many places before a run: main is at place 0.
+    /// `places` places before a run: main is at place 0.
     pub(crate) fn new(alloc: Global, places: u16) -> Result<Sketch, AllocError> {
         let detail = Detail::of(places);
         let mut columns = Vec::new(alloc);
@@ -127,7 +127,7 @@ impl Sketch {
         self.push_span(span)
     }
 
-    /// A step that was idle: a stay that was at work stands at a FINE.
+    /// A step that was idle: a stay that was at work is at a FINE.
     fn waited(&mut self, place: u16, key: usize) -> Result<(), AllocError> {
         let Some(column) = self.columns.get_mut(usize::from(place)) else {
             return Ok(());
@@ -148,7 +148,7 @@ impl Sketch {
         Ok(())
     }
 
-    /// A stay begins at a row of a place, with the key that is next, if it is there: the key.
+    /// A stay begins at a row of a place, with the key that is next, if it is there. Answers the key.
     fn begin(&mut self, world: &World, place: u16, row: u64) -> Result<Option<usize>, AllocError> {
         let Some(column) = self.columns.get_mut(usize::from(place)) else {
             return Ok(None);
@@ -187,7 +187,7 @@ impl Sketch {
 }
 
 impl Sketch {
-    /// A step that moved, and put so many frames out, numbered from one on.
+    /// A step that moved, and put `count` frames out, numbered from `first` on.
     fn moved(
         &mut self,
         world: &World,
@@ -254,7 +254,7 @@ impl Sketch {
         }
     }
 
-    /// One step more in the row that steps share.
+    /// One more step in the row that steps share.
     fn share(&mut self, place: u16) {
         let Some(column) = self.columns.get(usize::from(place)) else {
             return;
@@ -269,7 +269,7 @@ impl Sketch {
 }
 
 impl Sketch {
-    /// What a step did beside its place in the code, and all of its line of output, where that is cut.
+    /// What a step did besides its place in the code, and all of its line of output, where that is cut.
     fn tell(
         &mut self,
         world: &World,
@@ -461,7 +461,7 @@ impl Sketch {
     }
 }
 
-/// Whether an operation is seen by its own stay alone, where it puts nothing out and ends no stay.
+/// Whether an operation is seen only by its own stay, where it puts nothing out and ends no stay.
 fn is_quiet(op: Op) -> bool {
     !matches!(
         op,

@@ -22,7 +22,7 @@ pub(crate) fn text_of(alloc: Global, step: Move) -> Result<String, AllocError> {
     format!(in alloc; "{function}:{pc} {name}")
 }
 
-/// What a delivery tells: the frame, and the function that begins.
+/// What the label of a delivery says: the frame, and the function that begins.
 pub(crate) fn taken_text(alloc: Global, arrow: Arrow) -> Result<String, AllocError> {
     let (name, number) = (arrow.kind.name(), arrow.number);
     match arrow.function {
@@ -31,7 +31,7 @@ pub(crate) fn taken_text(alloc: Global, arrow: Arrow) -> Result<String, AllocErr
     }
 }
 
-/// Pushes the last of a place's lines, cut behind so many letters; all of it, where it was cut.
+/// Pushes the last of a place's lines, cut after `letters` letters; answers all of it, where it was cut.
 pub(crate) fn print(
     alloc: Global,
     lines: Option<&[Line]>,
@@ -56,7 +56,7 @@ pub(crate) fn print(
     Ok(None)
 }
 
-/// Main stands at place 0.
+/// Main is at place 0.
 pub(crate) fn main_label(text: String) -> Label {
     let spot = Spot {
         place: 0,

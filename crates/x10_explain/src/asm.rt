@@ -29,7 +29,7 @@ fn word(cause: AsmCause) -> &'static str
 }
 
 /// Why a text spells no module, in at most 10 lines: the cause and the number of the line, with the line itself and marks
-/// beneath the word at fault; what the cause says of it, what such a line has to be, and hints for common mistakes. Linear
+/// beneath the word at fault; what the cause says about it, what such a line has to be, and hints for common mistakes. Linear
 /// in the text up to the faulty line, and in all of it where the line names classes.
 pub fn explain_asm(alloc: Global, text: &str, fault: AsmFault) -> Result<String, AllocError>
     ensures { IfOk result (λ s. (rest : List ℕ) × (string_bytes s ≡ asm_head fault ++ rest)) }
@@ -50,7 +50,7 @@ fn push_head(out: &mut String, fault: AsmFault) -> Result<(), AllocError>
     write!(out, "{word}, line {line}: ")
 }
 
-// What stands behind that, which has so many bytes.
+// What comes after that, which has `before` bytes.
 fn reasons(
     alloc: Global,
     text: &str,
@@ -90,7 +90,7 @@ fn classes_for(text: &str, line: &str) -> usize {
     }
 }
 
-// A line behind so many bytes, and what is wrong with it, in a text with so many classes.
+// A line after `before` bytes, and what is wrong with it, in a text with `classes` classes.
 fn push_line(
     alloc: Global,
     out: &mut String,
@@ -107,10 +107,10 @@ fn push_line(
     push_hints(alloc, out, front_of(line), fault)
 }
 
-/// The greatest number of faulty lines that are explained behind the first: each has 8 lines at most.
+/// The greatest number of faulty lines that are explained after the first: each has 8 lines at most.
 const MOST_LINES: usize = 6;
 
-/// The lines behind a faulty one that are faulty by themselves, each explained.
+/// The lines after a faulty one that are faulty by themselves, each explained.
 pub(crate) fn push_others(
     alloc: Global,
     out: &mut String,
@@ -162,7 +162,7 @@ fn push_other(
     push_line(alloc, out, wide, line, fault, classes)
 }
 
-// What a cause says of a line.
+// What a cause says about a line.
 fn push_cause(out: &mut String, cause: AsmCause, statement: Statement) -> Result<(), AllocError> {
     out.push_str(match cause {
         AsmCause::Word if statement == Statement::Unknown => { "Its first word begins no line.\n" }

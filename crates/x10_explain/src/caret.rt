@@ -5,16 +5,16 @@ use crate::text::MOST_SHOWN;
 use std::alloc::AllocError;
 use x10_asm::{AsmCause, Flaw, Line, Statement, flaw_of, line_of, next_word, number_of};
 
-/// Bytes of a line, from one on up to another. They may stand behind it.
+/// Bytes of a line, from one on up to another. They may be after its end.
 #[derive(Clone, Copy, Debug, PartialEq, Eq)]
 pub(crate) struct Span {
     pub(crate) from: usize,
     pub(crate) to: usize,
 }
 
-/// A line with marks beneath the word at which a line is refused by a cause, in a text with so many classes: one for each
-/// character of the word, with its tabs as they are, and one where a word is missing. The line before has so many bytes in
-/// front of that line, of one column each. Nothing where no such word is found.
+/// A line with marks beneath the word at which a line is refused for a cause, in a text with `classes` classes: one for each
+/// character of the word, with its tabs as they are, and one where a word is missing. In the line before, `before` bytes of one
+/// column each are in front of that line. Nothing where no such word is found.
 pub(crate) fn push_marks(
     out: &mut String,
     before: usize,
@@ -30,7 +30,7 @@ pub(crate) fn push_marks(
     }
 }
 
-// What stands in place of a byte before the marks: a tab stays one, and the later bytes of a character have no column.
+// What is put in place of a byte before the marks: a tab stays one, and the later bytes of a character have no column.
 fn blank(byte: u8) -> &'static str {
     match byte {
         b'\t' => "\t",
@@ -62,7 +62,7 @@ fn span_of(line: &str, word: &str, rest: &str) -> Span {
     Span { from, to }
 }
 
-// The word of a flaw; where one is missing, the column behind the last word and a space.
+// The word of a flaw; where one is missing, the column after the last word and a space.
 fn span_of_flaw(line: &str, flaw: Flaw) -> Span {
     if !flaw.word.is_empty() {
         return span_of(line, flaw.word, flaw.rest);
@@ -74,7 +74,7 @@ fn span_of_flaw(line: &str, flaw: Flaw) -> Span {
     }
 }
 
-// How many bytes there are without the spaces behind them.
+// How many bytes there are without the spaces at their end.
 fn end_of_words(bytes: &[u8]) -> usize {
     let mut end = 0;
     for at in 0..bytes.len() {
@@ -105,7 +105,7 @@ fn marked(line: &str, cause: AsmCause, classes: usize) -> Option<Span> {
     }
 }
 
-// Of a text line what is wrong with its quotes, or behind them.
+// What is wrong with the quotes of a text line, or after them.
 fn quoted(line: &str, said: Line, cause: AsmCause) -> Option<Span> {
     if said.statement != Statement::Text {
         return None;

@@ -1,4 +1,4 @@
-//! All faults of a module that can be told by themselves.
+//! All faults of a module that can be reported by themselves.
 ghost use Rattle.std.specs.Prelude.{◌≡◌, ◌↔◌, IfOk, IsTrue, List, ℕ};
 ghost use Rattle.x10_verify.specs.declared.fault.VerifyCause.TheVariants.{Memory};
 ghost use Rattle.x10_explain.specs.Verdicts.{IsVerifiedImage, IsVerifiedText};
@@ -15,7 +15,7 @@ use x10_asm::{AsmCause, AsmFault, assemble};
 use x10_image::{ImageFault, ImageView};
 use x10_verify::{Verified, VerifyCause, VerifyFault, verify};
 
-/// Why a check refuses a module: the fault that the first call tells which refuses it.
+/// Why a check refuses a module: the fault that is reported by the first call that refuses it.
 #[derive(Clone, Copy, Debug, PartialEq, Eq)]
 pub enum Refusal {
     Asm(AsmFault),
@@ -38,8 +38,8 @@ pub struct Report {
 const MOST_FAULTS: usize = 7;
 
 /// Whether an image is verified, which is `verify`'s answer; and the bound of each function, or the first fault of each
-/// function that has one. Where it isn't verified this costs `verify` of all functions twice at most, and the explanations
-/// of at most 7 functions.
+/// function that has one. Where it isn't verified this costs `verify` of all functions at most twice, and the explanations of
+/// at most 7 functions.
 pub fn check_image(alloc: Global, bytes: &[u8]) -> Result<Report, AllocError>
     ensures { IfOk result (λ report. IsTrue report.verified ↔ IsVerifiedImage bytes.now) }
 {
@@ -70,7 +70,7 @@ pub fn check_text(alloc: Global, text: &str) -> Result<Report, AllocError>
     }
 }
 
-// The first faulty line of a text, and those behind it that are faulty by themselves.
+// The first faulty line of a text, and those after it that are faulty by themselves.
 fn lines_of(alloc: Global, text: &str, fault: AsmFault) -> Result<String, AllocError> {
     let mut out = explain_asm(alloc, text, fault)?;
     push_others(alloc, &mut out, text, fault.line)?;

@@ -72,7 +72,7 @@ fn shows(line: &str, fault: AsmFault, mistake: Mistake) -> bool {
     }
 }
 
-// Whether a line is a constant text, in which a tab may stand.
+// Whether a line is a constant text, in which a tab may be.
 fn is_text_line(line: &str) -> bool {
     line_of(line).statement == Statement::Text
 }
@@ -91,7 +91,7 @@ fn has_tab(bytes: &[u8]) -> bool {
     false
 }
 
-// Whether a word behind the first one shows a mistake.
+// Whether a word after the first one shows a mistake.
 fn shows_word(line: &str, mistake: Mistake) -> bool {
     let Some((_, others)) = next_word(line) else {
         return false;
@@ -124,7 +124,7 @@ fn is_sign(word: &[u8], mistake: Mistake) -> bool {
     }
 }
 
-// Whether the first word of a line is the name of an instruction, but for its small letters.
+// Whether the first word of a line is the name of an instruction, except for its small letters.
 fn is_small_name(alloc: Global, line: &str) -> Result<bool, AllocError> {
     let Some((word, _)) = next_word(line) else {
         return Ok(false);

@@ -1,4 +1,4 @@
-//! Why bytes are no image.
+//! Why bytes are not an image.
 ghost use Rattle.std.specs.Prelude.{◌≡◌, ◌++◌, ◌<◌, List, ℕ, IfOk, OnOk, length};
 ghost use Rattle.std.specs.String.{string_bytes};
 ghost use Rattle.x10_explain.specs.Heads.{image_head, image_word};
@@ -28,9 +28,9 @@ fn word(fault: ImageFault) -> &'static str
     }
 }
 
-/// Why bytes are no image, in at most 5 lines: the fault and how many bytes there are; where the fault is, the field that
-/// begins there and its bytes; what the fault says; what the header counts, where it is there; and whether the bytes are a
-/// text that is to be assembled. One pass over the bytes.
+/// Why bytes are not an image, in at most 5 lines: the fault and how many bytes there are; where the fault is, the field that
+/// begins there and its bytes; what the fault says; what the header counts, where it is there; and whether the bytes are a text
+/// that has to be assembled. One pass over the bytes.
 pub fn explain_image(alloc: Global, bytes: &[u8], fault: ImageFault) -> Result<String, AllocError>
     ensures { IfOk result (λ s. (rest : List ℕ) × (string_bytes s ≡ image_head fault (length bytes.now) ++ rest)) }
 {
@@ -49,7 +49,7 @@ fn push_head(out: &mut String, fault: ImageFault, len: usize) -> Result<(), Allo
     writeln!(out, "{word}, in {len} bytes")
 }
 
-// What stands below that.
+// What comes below that.
 fn reasons(alloc: Global, bytes: &[u8], fault: ImageFault) -> Result<String, AllocError> {
     let mut out = String::new(alloc);
     push_position(&mut out, bytes, fault)?;

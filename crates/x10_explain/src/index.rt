@@ -33,7 +33,7 @@ pub(crate) fn push_index(
     Ok(())
 }
 
-// Tells of an operand that names what isn't there.
+// Reports an operand that names what isn't there.
 fn push_operand(
     out: &mut String,
     image: &ImageView,
@@ -115,7 +115,7 @@ fn count_of(image: &ImageView, instr: Instr) -> usize {
     }
 }
 
-// Tells of arguments that aren't there.
+// Reports arguments that aren't there.
 fn push_arguments(
     out: &mut String,
     image: &ImageView,

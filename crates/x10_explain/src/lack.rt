@@ -31,7 +31,7 @@ pub(crate) enum Lack {
     NoField(u8, u16),
     /// The home of the reference in a register isn't known to be the place of a term.
     Home(u8, Term, Role),
-    /// A register is named for a result that there isn't.
+    /// A register is named for a result, but there is none.
     NoResult,
     /// An activity would begin with a function that gives something.
     Dropped,
@@ -40,7 +40,7 @@ pub(crate) enum Lack {
 }
 
 impl Lack {
-    /// The cause by which a fault tells this, where the register has the kind that is given.
+    /// The cause with which a fault reports this, where the register has the given kind.
     pub(crate) fn cause(self, have: Option<Kind>) -> VerifyCause {
         match self {
             Lack::Register(..) => match have {
@@ -185,7 +185,7 @@ fn called_with(spot: &Spot, at: Term, signature: &SigView) -> Option<Lack> {
     None
 }
 
-// The register of an argument, or one that there can't be.
+// The register of an argument, or one that can't exist.
 fn argument(first: u8, n: usize) -> u8 {
     if n < 16 {
         first.saturating_add(n as u8)

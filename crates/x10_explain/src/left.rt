@@ -4,9 +4,9 @@ use std::alloc::{AllocError, Global};
 use x10_code::{Instr, Op};
 use x10_image::ImageView;
 
-/// For each instruction of a function, given the bounds of those before it, how many steps it takes at most from there to
-/// its end, where the loops around it are in their first turn; at instruction 0 this is the function's bound. Two passes;
-/// 16 bytes for each instruction. Of a function whose structure is broken it says nothing.
+/// For each instruction of a function, given the bounds of those before it, how many steps it takes at most from there to its
+/// end, where the loops around it are in their first turn; at instruction 0 this is the function's bound. Two passes; 16 bytes
+/// for each instruction. It says nothing about a function whose structure is broken.
 pub(crate) fn steps_left(
     alloc: Global,
     image: &ImageView,

@@ -31,10 +31,10 @@ struct Question {
     at: Option<Term>,
 }
 
-/// The greatest number of ways that are told.
+/// The greatest number of ways that are shown.
 const MOST_WAYS: usize = 3;
 
-/// Lines that tell where the register of what is missing got what it has. Linear in the function's instructions.
+/// Lines that say where the register of what is missing got what it has. Linear in the function's instructions.
 pub(crate) fn push_origin(
     alloc: Global,
     out: &mut String,

@@ -47,13 +47,13 @@ pub(crate) fn push_instruction_at(
     push_instruction(out, image.instr(f, pc))
 }
 
-/// Whether two terms are known to be the same place before an instruction; not where one is a register or a place that
-/// there can't be.
+/// Whether two terms are known to be the same place before an instruction; false where one is a register or a place that can't
+/// exist.
 pub(crate) fn are_same(flow: &Flow, pc: usize, one: Term, other: Term) -> bool {
     is_term(one) && is_term(other) && flow.same(pc, one, other)
 }
 
-// Whether a term is one that there may be.
+// Whether a term is one that can exist.
 fn is_term(term: Term) -> bool
     ensures { IsTrue result ↔ IsTerm term }
 {

@@ -5,7 +5,7 @@ use std::fmt::Write;
 use x10_image::{Field, ImageFault, Item, Meaning, Misfit, misfit_in};
 
 /// A line on where bytes are refused by a fault: the byte, the field that begins there, and its bytes. Nothing where it isn't
-/// found, as for another fault than that of the bytes. One pass over the bytes, or a part of it.
+/// found, as for a fault other than that of the bytes. One pass over the bytes, or a part of it.
 pub(crate) fn push_position(
     out: &mut String,
     bytes: &[u8],
@@ -20,7 +20,7 @@ pub(crate) fn push_position(
     }
 }
 
-// How many bytes stand before some that the others end with.
+// How many bytes come before `end`, with which `bytes` ends.
 fn place_of(bytes: &[u8], end: &[u8]) -> usize {
     bytes.len().saturating_sub(end.len())
 }
@@ -47,7 +47,7 @@ fn push_misfit(out: &mut String, bytes: &[u8], misfit: Misfit) -> Result<(), All
     }
 }
 
-// A field that is wrong, with its bytes; of a short one how many there are.
+// A field that is wrong, with its bytes; for a short one how many there are.
 fn push_field(out: &mut String, bytes: &[u8], item: Item, field: Field) -> Result<(), AllocError> {
     let at = place_of(bytes, field.rest);
     let (width, left) = (field.width, field.rest.len());
@@ -82,7 +82,7 @@ fn push_item(out: &mut String, item: Item) -> Result<(), AllocError> {
     }
 }
 
-// What a field is, with a space behind it.
+// What a field is, followed by a space.
 fn push_meaning(out: &mut String, meaning: Meaning) -> Result<(), AllocError> {
     match meaning {
         Meaning::FieldKind(n) => write!(out, "the kind of field {n} "),

@@ -5,8 +5,8 @@ ghost use Rattle.std.specs.Prelude.{◌<◌, length};
 use crate::caret::Span;
 use x10_asm::AsmCause;
 
-/// What is wrong with a text in quotes that begins behind so many bytes of a line: what isn't in quotes, an escape that
-/// isn't known, a quote that isn't closed, or what follows the closing one.
+/// What is wrong with a text in quotes that begins after `from` bytes of a line: what isn't in quotes, an escape that isn't
+/// known, a quote that isn't closed, or what follows the closing one.
 pub(crate) fn in_quotes(line: &str, from: usize) -> Option<(AsmCause, Span)> {
     let bytes = line.as_bytes();
     let quote = past_spaces(bytes, from);
@@ -22,7 +22,7 @@ pub(crate) fn in_quotes(line: &str, from: usize) -> Option<(AsmCause, Span)> {
     }
 }
 
-// The first byte from one on that is no space.
+// The first byte from `from` on that is not a space.
 fn past_spaces(bytes: &[u8], from: usize) -> usize {
     for at in from..bytes.len() {
         if bytes[at] != b' ' {
@@ -32,7 +32,7 @@ fn past_spaces(bytes: &[u8], from: usize) -> usize {
     bytes.len()
 }
 
-// The bytes from one on up to a space.
+// The bytes from `from` on up to a space.
 fn word_from(bytes: &[u8], from: usize) -> Span {
     for at in from..bytes.len() {
         if bytes[at] == b' ' {
@@ -71,7 +71,7 @@ fn closing(bytes: &[u8], quote: usize) -> Result<usize, Span>
     })
 }
 
-// What stands behind a closing quote: at once it is no text, and behind a space a word too many.
+// What comes after a closing quote: directly after it, it is not a text, and after a space, a word too many.
 fn behind(bytes: &[u8], close: usize) -> Option<(AsmCause, Span)> {
     let from = close.saturating_add(1);
     if from >= bytes.len() {

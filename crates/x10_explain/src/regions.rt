@@ -1,4 +1,4 @@
-//! What the rules of structure ask, and what stands there.
+//! What the rules of structure ask, and what is there.
 
 use crate::head::instr_in;
 use crate::phrase::push_instruction_at;

@@ -7,7 +7,7 @@ use x10_code::{Instr, Operand, form};
 use x10_image::ImageView;
 use x10_verify::{Effect, Outcome, Rule, rule_of};
 
-/// The row of an instruction, where its class or place is one that there may be.
+/// The row of an instruction, where its class or place is one that can exist.
 pub(crate) fn outcome_and_row(instr: Instr) -> Option<Rule> {
     if is_small(instr) {
         Some(rule_of(instr))
@@ -16,7 +16,7 @@ pub(crate) fn outcome_and_row(instr: Instr) -> Option<Rule> {
     }
 }
 
-// Whether a class or a place that an instruction names is one that there may be.
+// Whether a class or a place that an instruction names is one that can exist.
 fn is_small(instr: Instr) -> bool
     ensures { IsTrue result → NamesSmall instr }
 {

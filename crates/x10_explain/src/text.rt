@@ -22,7 +22,7 @@ pub(crate) fn line_at(text: &str, number: usize) -> Option<(&str, &str)>
     None
 }
 
-/// So many bytes of a line are shown at most: no screen is as wide.
+/// At most this many bytes of a line are shown: no screen is as wide.
 pub(crate) const MOST_SHOWN: usize = 1000;
 
 /// The front of a line, as much as is shown.
@@ -33,7 +33,7 @@ pub(crate) fn front_of(line: &str) -> &str {
     }
 }
 
-/// Pushes a line as far as it is shown, and its end.
+/// Pushes as much of a line as is shown, and its end.
 pub(crate) fn push_shown(out: &mut String, line: &str) -> Result<(), AllocError> {
     let front = front_of(line);
     out.push_str(front)?;
@@ -68,7 +68,7 @@ pub(crate) fn missing(text: &str) -> &'static str {
     }
 }
 
-/// Where a text stands for an image's bytes: whether it is UTF-8, and its first line that says something begins as one may.
+/// Whether bytes given for an image are a text: they are UTF-8, and the first line that says something begins as one may.
 pub(crate) fn is_text(bytes: &[u8]) -> bool {
     if bytes.starts_with(b"X10P") {
         return false;

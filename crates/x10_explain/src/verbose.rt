@@ -20,10 +20,10 @@ use x10_image::{ClassView, ImageView, SigView};
 use x10_verify::VerifyCause;
 
 /// The listing of an image for people: the canonical listing, with comments in lines of their own. They number classes,
-/// constants and functions, and say before each instruction its number, what the verifier knows there and how many steps
-/// are left at most, and what the instruction names. A function that is refused has its first fault explained before the
-/// faulty instruction, and no states behind it. Without the comments it is the listing, so it assembles to the same image.
-/// Linear in the image, each function's flow aside; the memory is that of the text and of one function's states.
+/// constants and functions, and say before each instruction its number, what the verifier knows there and how many steps are
+/// left at most, and what the instruction names. A function that is refused has its first fault explained before the faulty
+/// instruction, and no states after it. Without the comments it is the listing, so it assembles to the same image. Linear in
+/// the image, each function's flow aside; the memory is that of the text and of one function's states.
 pub fn list_verbose(alloc: Global, image: &ImageView) -> Result<String, AllocError>
     ensures { IfOk result (λ s. (rest : List ℕ) × (string_bytes s ≡ places_line image.now.least_places ++ rest)) }
 {
@@ -44,7 +44,7 @@ fn push_places(out: &mut String, places: u16) -> Result<(), AllocError>
     Ok(())
 }
 
-// What stands below the first line.
+// What comes below the first line.
 fn rest_of(alloc: Global, image: &ImageView) -> Result<String, AllocError> {
     let mut out = String::new(alloc);
     push_constants(&mut out, image)?;
@@ -175,8 +175,8 @@ fn push_notes(
     }
 }
 
-// Whether an instruction stands where nothing is told of states: behind a fault of the flow, or anywhere where what is
-// named isn't there, since the flow wasn't looked at then.
+// Whether an instruction is where no states are shown: after a fault of the flow, or anywhere where what is named isn't there,
+// since the flow wasn't looked at then.
 fn is_past(finding: &Finding, pc: usize) -> bool {
     match finding.flow.fault() {
         None => false,

@@ -18,8 +18,8 @@ use x10_kinds::Term;
 use x10_verify::{Flow, VerifyCause, VerifyFault, known_flow};
 
 /// Why the verifier refuses a module, in at most 10 lines: the rule, the function and the instruction, as the listing writes
-/// it; what the rule asks, of which register or operand; what the verifier knows there, and where that comes from. A fault
-/// that isn't this module's is told by its first line. The states are those of the verifier, so the time is that of one
+/// it; what the rule asks, of which register or operand; what the verifier knows there, and where that comes from. A fault that
+/// isn't this module's is explained by its first line. The states are those of the verifier, so the time is that of one
 /// function's flow, and as much memory.
 pub fn explain_verify(
     alloc: Global,
@@ -34,7 +34,7 @@ pub fn explain_verify(
     Ok(out)
 }
 
-// What stands below the first line.
+// What comes below the first line.
 fn reasons(alloc: Global, image: &ImageView, fault: VerifyFault) -> Result<String, AllocError> {
     let f = usize::from(fault.function);
     if f >= image.functions() {
@@ -55,7 +55,7 @@ fn is_of_flow(cause: VerifyCause) -> bool {
     )
 }
 
-/// What stands below the first line of a fault that isn't of what is known.
+/// What comes below the first line of a fault that isn't of what is known.
 fn without_flow(
     alloc: Global,
     image: &ImageView,
@@ -75,7 +75,7 @@ fn without_flow(
     Ok(out)
 }
 
-/// What stands below the first line, by what is known of the function.
+/// What comes below the first line, by what is known of the function.
 pub(crate) fn explained(
     alloc: Global,
     image: &ImageView,

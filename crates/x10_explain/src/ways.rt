@@ -62,7 +62,7 @@ pub(crate) fn arrivals(
     Ok(arrivals)
 }
 
-// One jump more.
+// One more jump.
 fn arrive(arrivals: &mut Vec<Arrived>, target: usize, from: u16) {
     if target >= arrivals.len() {
         return;
@@ -111,7 +111,7 @@ pub(crate) fn way_into(
     Way::Several
 }
 
-/// Whether two terms are known to be the same place behind an instruction that writes neither, on going on.
+/// Whether two terms are known to be the same place after an instruction that writes neither, on going on.
 pub(crate) fn same_after(flow: &Flow, pc: usize, instr: Instr, one: Term, other: Term) -> bool {
     if are_same(flow, pc, one, other) {
         return true;

@@ -10,6 +10,7 @@ use Rattle.x10_finish.specs.Chains.{Name, IsAmong, IsBegunBy, IsChain, AreLinked
 use Rattle.x10_finish.proofs.Counting.{at_entry}
 use Rattle.x10_finish.proofs.Nesting.{at_pair, pair_same, pair_other, no_stay}
 use Rattle.x10_model.proofs.Events.{flying_is}
+use Rattle.x10_model.proofs.Found.{head_is}
 use Rattle.x10_model.proofs.Maps.{at_key, at_equal_key, off_key}
 
 -- ---- names
@@ -208,9 +209,6 @@ carried_begun stays begun chains unders carries posts chain under c =
           (subst (λ f. Carries stays (chains (carries m)) f message) (sym (off_key unders begun (carries m) under (apart m message flies))) (c.says m message flies));
       single = c.single;
     }
-
-head_is : (x y : Name) (xs ys : List Name) → x ∷ xs ≡ y ∷ ys → x ≡ y
-head_is x y xs ys e = cc
 
 -- a message is put out that carries an activity which nothing carried
 pub carried_new : (stays : Stays) (begun : ℕ) (chains : ℕ → List Name) (unders : ℕ → Finish) (carries : ℕ → ℕ) (posts : ℕ → Post) (number a : ℕ) (message : Message) → AreCarried stays begun chains unders carries posts → IsUncarried carries posts a → a < begun

@@ -34,7 +34,7 @@ impl Model for Book {
 }
 
 impl Book {
-    /// Of a finish that was opened at its home, one of so many places; nothing was reported yet. Takes all the memory
+    /// The book of a finish that was opened at its home, one of `places` places; nothing was reported yet. Takes all the memory
     /// that the book will need: two numbers for each pair of places.
     pub fn open(alloc: Global, finish: Finish, places: u16) -> Result<Book, Stop>
         requires { finish.home < places }
@@ -73,8 +73,7 @@ impl Book {
     }
 
     /// Takes in what a place reports of the finish: how many activities it sent to each place, and received from each.
-    /// Reports may come in whatever order: the larger of each number is kept. Linear in the number of places, and without
-    /// memory.
+    /// Reports may come in any order: the larger of each number is kept. Linear in the number of places; takes no memory.
     pub fn merge_counts(&mut self, from: u16, sent: &[u32], received: &[u32])
         requires place { from < self.old.places }
         requires sent { length sent.now ≡ self.old.places }
@@ -102,9 +101,9 @@ impl Book {
         self.merge_counts(report.place, &report.sent, &report.received);
     }
 
-    /// Whether what each place sent to another is what the other received from it: by the home's own totals as they are
-    /// now, and by what was reported of the other places. Beside finding the totals it takes constant time where the
-    /// answer is no and neither the totals nor the book has changed since it was no the last time, else it is linear in the number of places.
+    /// Whether what each place sent to another is what the other received from it: by the home's own totals as they are now,
+    /// and by what was reported of the other places. Apart from finding the totals, it takes constant time where the answer is
+    /// no and neither the totals nor the book has changed since it was last no; otherwise it is linear in the number of places.
     pub fn balanced(&self, tally: &Tally) -> bool
         ensures { IsTrue result ↔ IsBalanced self.now.places (seen_from self.now.home (entry_of (totals_of tally.now (finish_of self.now))) (kept_of self.now)) }
     {

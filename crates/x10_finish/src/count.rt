@@ -30,7 +30,7 @@ pub enum Change {
     Receives(u16),
 }
 
-/// Nothing counted yet, for so many places.
+/// Nothing counted yet, for `places` places.
 pub fn no_count(alloc: Global, places: u16) -> Result<Count, AllocError>
     ensures nothing { IfOk result (λ c. counted c ≡ nothing) }
     ensures whole { IfOk result (IsWhole places) }
@@ -56,7 +56,7 @@ fn raised(count: u32) -> Result<u32, Stop>
     }
 }
 
-/// One more of what changes, where that is within the limit.
+/// Adds one to what changes, where that is within the limit.
 pub fn apply(count: &mut Count, change: Change) -> Result<(), Stop>
     requires sent { Fits change (length count.old.sent.items) }
     requires received { length count.old.received.items ≡ length count.old.sent.items }

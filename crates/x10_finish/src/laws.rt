@@ -84,8 +84,8 @@ pub fn opening_is_counted()
     ensures { OpeningIsCounted }
 {}
 
-/// In every world stays are at places, and what flies under a finish goes from place to place: at the opening, and
-/// after each move that sends to a place and each delivery at one.
+/// In every world stays are at places, and what is in flight under a finish goes from place to place: at the opening, and after
+/// each move that sends to a place and each delivery at one.
 pub fn all_is_in_range()
     ensures opening { OpeningIsInRange }
     ensures moves { MovesStayInRange }

@@ -21,7 +21,7 @@ fn differs(home: usize, from: usize, to: usize, pair: Pair) -> usize
     usize::from(pair.sent != pair.received)
 }
 
-/// The larger of each number for one pair. Takes how many pairs differ and gives how many do then. Constant time.
+/// The larger of each number for one pair. Takes how many pairs differ, and answers how many do afterwards. Constant time.
 #[inline(always)]
 pub fn raise(
     pairs: &mut Vec<Pair>,
@@ -54,8 +54,8 @@ pub fn raise(
     unequal + differs(home, from, to, new) - differs(home, from, to, old)
 }
 
-/// Takes in how many activities a place sent to each other and received from each, the larger of each number. Takes how
-/// many pairs differ and gives how many do then. Linear in the number of places.
+/// Takes in how many activities a place sent to each other and received from each, the larger of each number. Takes how many
+/// pairs differ, and answers how many do afterwards. Linear in the number of places.
 pub fn merge(
     pairs: &mut Vec<Pair>,
     mut unequal: usize,

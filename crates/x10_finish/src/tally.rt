@@ -49,7 +49,7 @@ fn put(counts: &mut HashMap<Finish, Count>, finish: Finish, count: Count) -> Res
 }
 
 impl Tally {
-    /// A place that has counted nothing, one of so many.
+    /// The tally of a place that has counted nothing, one of `places` places.
     pub fn new(alloc: Global, place: u16, places: u16) -> Tally
         ensures place { result.place ≡ place }
         ensures places { result.places ≡ places }
@@ -94,7 +94,7 @@ impl Tally {
         put(&mut self.counts, finish, count)
     }
 
-    /// Makes room to count a finish: afterwards counting it is refused by a limit alone. Nothing is counted.
+    /// Makes room to count a finish: afterwards counting it is refused only by a limit. Nothing is counted.
     pub fn meet(&mut self, finish: Finish) -> Result<(), Stop>
         ensures ok { OnOk result (Counts self.old (named finish) (λ t. t) self.new) }
         ensures err { IfErr result (λ why. (self.new ≡ self.old) × (why ≡ stop.Memory) × (is_met self.old (named finish) ≡ false)) }
@@ -137,7 +137,7 @@ impl Tally {
         self.count(finish, Change::Begins)
     }
 
-    /// What the home of a finish is told when one more activity ends here: how many were sent to each place and received
+    /// What is reported to the home of a finish when one more activity ends here: how many were sent to each place and received
     /// from each, where that is the last one and the home is elsewhere. Nothing is counted yet.
     pub fn due(&self, finish: Finish) -> Option<(&[u32], &[u32])>
         requires { 0 < (totals_of self.now (named finish)).live }
@@ -198,7 +198,7 @@ impl Tally {
         Ok(report)
     }
 
-    /// A finish has ended at its home: what was counted of it goes, and its memory is given back.
+    /// A finish has ended at its home: what was counted of it is dropped, and its memory is given back.
     pub fn forget(&mut self, finish: Finish)
         ensures { Forgets self.old (named finish) self.new }
     {

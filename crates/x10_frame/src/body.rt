@@ -1,4 +1,4 @@
-//! Where the parts of a frame stand in its bytes.
+//! Where the parts of a frame are in its bytes.
 
 ghost use Rattle.std.specs.Prelude.{ℕ};
 ghost use Rattle.x10_model.specs.Offsets.{EndsWith};
@@ -47,8 +47,7 @@ fn read_counts<'a>(
     Ok((body, rest))
 }
 
-/// Where the parts of a frame with such a head stand in the frame that the bytes end, and the bytes
-/// after it.
+/// Where the parts of a frame with such a head are in `frame`, of which `bytes` is the rest, and the bytes after it.
 #[inline(always)]
 pub fn read_body<'a>(
     alloc: Global,

@@ -4,7 +4,7 @@ ghost use Rattle.x10_frame.specs.declared.fault.FrameFault.TheVariants.{Memory};
 use std::alloc::{AllocError, AllocFailed};
 use thiserror::Error;
 
-/// Why bytes are no frame. It is the first fault from front to back.
+/// Why bytes are not a frame. It is the first fault from front to back.
 #[derive(Clone, Copy, Debug, PartialEq, Eq, Error)]
 pub enum FrameFault {
     /// The bytes end inside a field.
@@ -29,10 +29,10 @@ pub enum FrameFault {
     /// or too long ones.
     #[error("Order")]
     Order,
-    /// Bytes stand after the frame.
+    /// There are bytes after the frame.
     #[error("Trailing")]
     Trailing,
-    /// A growth was refused for want of memory.
+    /// A growth was refused for lack of memory.
     #[error("Memory")]
     Memory,
 }

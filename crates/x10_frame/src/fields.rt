@@ -20,7 +20,7 @@ impl ReadFault for FrameFault {
     }
 }
 
-/// The number of one of so many places, and the bytes after it.
+/// The number of one of `places` places, and the bytes after it.
 #[tactic(auto, unfolding(x10_model::specs::ReadingFrames::place_at, x10_model::specs::Readers::such_that, x10_model::specs::Readers::bind, x10_model::specs::Readers::check, x10_model::specs::Readers::done))]
 #[inline(always)]
 pub fn place_at(bytes: &[u8], places: u16) -> Result<(u16, &[u8]), FrameFault>

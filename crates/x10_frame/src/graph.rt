@@ -1,4 +1,4 @@
-//! The graph of a frame: where its parts stand.
+//! The graph of a frame: where its parts are.
 
 ghost use Rattle.std.specs.Prelude.{◌^◌, ◌<◌, IfOk, nat_le};
 ghost use Rattle.std.specs.Int.{w16};
@@ -87,8 +87,7 @@ fn parts_of<'a>(
     Ok((body, rest))
 }
 
-/// Where the parts of a graph of so many roots at most stand in the frame that the bytes end, and the
-/// bytes after it.
+/// Where the parts of a graph of at most `most` roots are in `frame`, of which `bytes` is the rest, and the bytes after it.
 pub fn read_graph<'a>(
     alloc: Global,
     frame: &[u8],

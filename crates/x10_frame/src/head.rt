@@ -1,4 +1,4 @@
-//! The numbers that stand before the graph of a frame, or before the counts of a report.
+//! The numbers that come before the graph of a frame, or before the counts of a report.
 
 ghost use Rattle.std.specs.Prelude.{nat_le, ◌&&◌};
 ghost use Rattle.std.specs.Int.{w16};
@@ -23,8 +23,7 @@ pub enum Head {
         number: u32,
         function: u16,
     },
-    /// An activity that goes on elsewhere: the segment that waits for it, the home and number of its
-    /// finish, and the function.
+    /// An activity that goes on elsewhere: the stay that waits for it, the home and number of its finish, and the function.
     Shift {
         from: u16,
         to: u16,
@@ -33,7 +32,7 @@ pub enum Head {
         number: u32,
         function: u16,
     },
-    /// The way back of such an activity: the segment that waits for it.
+    /// The way back of such an activity: the stay that waits for it.
     Back {
         from: u16,
         to: u16,
@@ -71,7 +70,7 @@ fn type_at(bytes: &[u8]) -> Result<(u8, &[u8]), FrameFault>
     Ok((kind, bytes))
 }
 
-/// The bytes after the number of places, which is this one.
+/// The bytes after the number of places, which has to be `places`.
 #[tactic(auto, unfolding(x10_model::specs::Readers::expect, x10_model::specs::Readers::bind, x10_model::specs::Readers::check))]
 #[inline(always)]
 fn after_places(bytes: &[u8], places: u16) -> Result<&[u8], FrameFault>

@@ -87,7 +87,7 @@ fn untagged_at<'a>(
     }
 }
 
-/// A value, by what was used before it, and the bytes after it.
+/// A value, given what was used before it, and the bytes after it.
 #[tactic(auto, unfolding(x10_model::specs::ReadingFrames::item_at, x10_model::specs::Readers::bind))]
 #[inline(always)]
 pub fn item_at<'a>(
@@ -102,7 +102,7 @@ pub fn item_at<'a>(
     untagged_at(bytes, tag, places, all, used)
 }
 
-/// One of so many values that were read before.
+/// One of `count` values that were read before.
 pub fn nth_item(bytes: &[u8], places: u16, count: u16, i: usize) -> Item
     requires there { HasItems places count bytes.now }
     requires below { i < count }

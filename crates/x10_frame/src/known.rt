@@ -1,4 +1,4 @@
-//! Values that were read before. That each is there was seen when the frame was read, so nothing is looked at again.
+//! Values that were read before. Each was seen to be there when the frame was read, so nothing is looked at again.
 
 ghost use Rattle.std.specs.Prelude.{◌≡◌, ◌≤◌, ℕ, Ok, IsOk, length, take, drop, slice_index};
 ghost use Rattle.std.specs.Int.{w16, w32, w64, from_be_bytes, cast_signed};

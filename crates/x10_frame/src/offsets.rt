@@ -1,5 +1,5 @@
-//! Parts of a frame by their places in its bytes. That each part is there was seen when the frame was
-//! read, so nothing is looked for again.
+//! Parts of a frame by their positions in its bytes. Each part was seen to be there when the frame was read, so nothing is
+//! looked for again.
 
 ghost use Rattle.std.specs.Prelude.{◌≡◌, ◌+◌, ◌*◌, ◌<◌, ◌≤◌, length, drop, slice_index, slice_range};
 ghost use Rattle.std.specs.Int.{w16, w32, from_be_bytes};
@@ -8,7 +8,7 @@ ghost use Rattle.x10_frame.specs.Items.{items_in, HasItems};
 use crate::node_view::NodeView;
 use x10_bytes::{u16_in, u32_in};
 
-/// One of the counts of four bytes each that begin at a place.
+/// One of the counts of four bytes each that begin at `start`.
 #[inline(always)]
 pub fn count_in(bytes: &[u8], start: usize, i: usize) -> u32
     requires { start + 4 * i + 4 ≤ length bytes.now }
@@ -17,7 +17,7 @@ pub fn count_in(bytes: &[u8], start: usize, i: usize) -> u32
     u32_in(bytes, start + 4 * i)
 }
 
-/// The text or rail at a place: its length in four bytes, and its bytes.
+/// The text or rail at a position: its length in four bytes, and its bytes.
 #[inline(always)]
 pub fn blob_in(bytes: &[u8], at: usize) -> &[u8]
     requires length { at + 4 ≤ length bytes.now }
@@ -28,7 +28,7 @@ pub fn blob_in(bytes: &[u8], at: usize) -> &[u8]
     &bytes[at + 4..at + 4 + count]
 }
 
-/// The node at a place: its class in two bytes, its number of fields in one, and their values.
+/// The node at a position: its class in two bytes, its number of fields in one, and their values.
 #[inline(always)]
 pub fn node_in(bytes: &[u8], at: usize, places: u16) -> NodeView<'_>
     requires room { at + 3 ≤ length bytes.now }

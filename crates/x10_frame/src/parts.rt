@@ -18,7 +18,7 @@ use crate::used::Used;
 use x10_bytes::{byte_at, past, u16_at};
 use x10_model::limits::MOST_FIELDS;
 
-/// What was used after so many values, and the bytes after them.
+/// What was used after `count` values, and the bytes after them.
 #[inline(always)]
 pub fn past_items<'a>(
     bytes: &'a [u8],
@@ -89,7 +89,7 @@ pub fn past_rail(bytes: &[u8]) -> Result<&[u8], FrameFault>
     past(bytes, length as usize)
 }
 
-/// The bytes after so many counts of a report.
+/// The bytes after `count` counts of a report.
 pub fn past_counts(bytes: &[u8], count: u16) -> Result<&[u8], FrameFault>
     ensures exact { Passes (λ x. x.now) result (times count (readers.number w32 Short) bytes.now) }
 {

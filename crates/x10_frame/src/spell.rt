@@ -157,7 +157,7 @@ fn put_short(out: &mut Vec<u8>, kind: u8, from: u16, to: u16, number: u32) -> Re
     out.extend_from_slice(&[1, kind, f[0], f[1], t[0], t[1], n[0], n[1], n[2], n[3]])
 }
 
-/// What stands before the graph of a frame, or before the number of places of a report.
+/// What comes before the graph of a frame, or before the number of places of a report.
 #[inline(always)]
 pub fn put_head(out: &mut Vec<u8>, head: &Head) -> Result<(), AllocError>
     ensures { OnOk result (out.new.items ≡ out.old.items ++ head_bytes head.now) }

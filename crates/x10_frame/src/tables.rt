@@ -1,4 +1,4 @@
-//! The places of the texts, rails and nodes of a frame.
+//! The positions of the texts, rails and nodes of a frame.
 
 ghost use Rattle.std.specs.Prelude.{◌^◌, ◌<◌};
 ghost use Rattle.x10_model.specs.Frames.{blob_bytes, node_bytes, next_turn, turn};
@@ -16,7 +16,7 @@ use crate::parts::{past_node, past_rail, past_text};
 use crate::used::Used;
 use std::alloc::Global;
 
-/// Where each of so many texts stands in the frame that the bytes end, and the bytes after them.
+/// Where each of `count` texts begins in `frame`, of which `bytes` is the rest, and the bytes after them.
 pub fn text_table<'a>(
     alloc: Global,
     frame: &[u8],
@@ -36,7 +36,7 @@ pub fn text_table<'a>(
     Ok((table, rest))
 }
 
-/// Where each of so many rails stands in the frame that the bytes end, and the bytes after them.
+/// Where each of `count` rails begins in `frame`, of which `bytes` is the rest, and the bytes after them.
 pub fn rail_table<'a>(
     alloc: Global,
     frame: &[u8],
@@ -56,8 +56,7 @@ pub fn rail_table<'a>(
     Ok((table, rest))
 }
 
-/// Where each node stands in the frame that the bytes end, what was used after them, and the bytes
-/// after them.
+/// Where each node begins in `frame`, of which `bytes` is the rest, what was used after them, and the bytes after them.
 pub fn node_table<'a>(
     alloc: Global,
     frame: &[u8],

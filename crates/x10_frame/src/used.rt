@@ -26,7 +26,7 @@ impl Used {
         }
     }
 
-    /// Whether so much of everything was used.
+    /// Whether as much of everything was used as `all` says.
     #[inline(always)]
     pub fn is_all(&self, all: &Used) -> bool
         ensures { result ≡ same_tables (tables_in self.now) (tables_in all.now) }

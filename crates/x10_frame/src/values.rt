@@ -36,7 +36,7 @@ impl<'a> Values<'a> {
         usize::from(self.count)
     }
 
-    /// The next one, which is left no longer. Constant time.
+    /// The next one, which is then no longer among those that are left. Constant time.
     #[inline(always)]
     pub fn step(&mut self) -> Item
         requires { 0 < length self.old }

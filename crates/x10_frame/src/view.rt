@@ -59,9 +59,8 @@ fn whole<'a>(alloc: Global, bytes: &'a [u8], places: u16) -> Result<FrameView<'a
 }
 
 impl<'a> FrameView<'a> {
-    /// The view of a frame where there are so many places. A fault is the first one from front to
-    /// back. One pass over the bytes; the memory taken is 8 bytes for each text, rail and node that is
-    /// there.
+    /// The view of a frame where there are `places` places. A fault is the first one from front to back. One pass over the
+    /// bytes; the memory taken is 8 bytes for each text, rail and node that is there.
     pub fn read(alloc: Global, bytes: &'a [u8], places: u16) -> Result<FrameView<'a>, FrameFault>
         ensures found { IfOk result (λ f. FitsFrame places f × (bytes.now ≡ spelling f)) }
         ensures only { (f : Frame) → FitsFrame places f → bytes.now ≡ spelling f → Gives (λ v. v) result (Ok f) }
@@ -70,8 +69,8 @@ impl<'a> FrameView<'a> {
         whole(alloc, bytes, places)
     }
 
-    /// What the frame is, and the numbers that stand before its graph or its counts: its first bytes. Constant time, as
-    /// all that follow but for a walk over at most 16 values, and without memory.
+    /// What the frame is, and the numbers that come before its graph or its counts: its first bytes. Constant time, like all
+    /// that follow except for a walk over at most 16 values, and no memory.
     pub fn head(&self) -> Head
         ensures value { result ≡ head_of self.now }
         ensures part { IsPart (spelling self.now) 0 (head_bytes result) }
@@ -166,7 +165,7 @@ impl<'a> FrameView<'a> {
         )
     }
 
-    /// A text, in the frame's bytes: behind its length there.
+    /// A text, in the frame's bytes: after its length there.
     pub fn text(&self, i: usize) -> &'a str
         requires { i < length (graph_of self.now).texts }
         ensures value { slice_get (graph_of self.now).texts i ≡ Some result.now }
@@ -178,7 +177,7 @@ impl<'a> FrameView<'a> {
         unsafe { str::from_utf8_unchecked(text) }
     }
 
-    /// A rail, in the frame's bytes: behind its length there.
+    /// A rail, in the frame's bytes: after its length there.
     pub fn rail(&self, i: usize) -> &'a [u8]
         requires { i < length (graph_of self.now).rails }
         ensures value { slice_get (graph_of self.now).rails i ≡ Some result.now }

@@ -50,7 +50,7 @@ fn put_sizes(out: &mut Vec<u8>, sizes: &Sizes) -> Result<(), AllocError>
 }
 
 impl FrameWriter {
-    /// A frame with such a head, no report's, and with so much of everything.
+    /// A frame with this head, which is not a report's, and with these sizes.
     pub fn new(alloc: Global, head: &Head, sizes: &Sizes) -> Result<FrameWriter, AllocError>
         requires graph { IsGraphHead head.now }
         ensures value { IfOk result (λ w. w ≡ head_bytes head.now ++ sizes_bytes sizes.now.roots sizes.now.texts sizes.now.rails sizes.now.nodes) }
@@ -61,7 +61,7 @@ impl FrameWriter {
         Ok(FrameWriter { bytes })
     }
 
-    /// The same, with room for so many bytes: where the frame has no more, no other call takes memory.
+    /// The same, with room for `room` bytes: where the frame has no more, no other call takes memory.
     #[inline(always)]
     pub fn with_room(
         alloc: Global,
@@ -78,7 +78,7 @@ impl FrameWriter {
         Ok(FrameWriter { bytes })
     }
 
-    /// The same, with room for so many bytes more.
+    /// The same, with room for `bytes` more bytes.
     #[inline(always)]
     pub fn reserve(self, bytes: usize) -> Result<FrameWriter, AllocError>
         ensures value { IfOk result (λ w. w ≡ self) }

@@ -23,10 +23,10 @@ const RAILS: u8 = 3;
 
 const EXPORTS: u8 = 4;
 
-/// What the activities of a place share: objects, rails and texts, each by its number, and the objects that global
-/// references name, by their ids. Each counts from 0, in the order in which things were made, and nothing is taken away.
-/// There are at most 2^32 - 1 of each. A field is a word without a tag, since the verifier knows its kind. Making takes
-/// memory; where it is refused, nothing has changed. Reading and changing take none, and constant time.
+/// What the activities of a place share: objects, rails and texts, each by its number, and the objects that global references
+/// name, by their ids. Each counts from 0, in the order in which things were made; `truncate` alone removes any. There are at
+/// most 2^32 - 1 of each. A field is a word without a tag, since the verifier knows its kind. Making takes memory; where it is
+/// refused, nothing has changed. Reading and changing take no memory, and constant time.
 #[derive(Drop)]
 pub struct Heap {
     alloc: Global,
@@ -46,7 +46,7 @@ impl Model for Heap {
     ghost invariant = { λ h. IsWithinLimits h.objects.items h.rails.items h.texts.items h.exports.items };
 }
 
-/// The number of what is made next, where there are so many; refused where there may be no more.
+/// The number of what is made next, where there are `count` already; refused where there may be no more.
 fn next_number(count: usize, limit: u8) -> Result<u32, Stop>
     ensures ok { IfOk result (λ number. number ≡ count) }
     ensures full { IsFull count → result ≡ Err (stop.Limit limit) }
@@ -77,7 +77,7 @@ impl Heap {
         }
     }
 
-    /// That every heap keeps its limits, for callers whose own clauses rest on it. It does nothing.
+    /// Every heap keeps its limits: for callers whose own clauses rely on it. It does nothing.
     pub fn fits(&self)
         ensures { IsWithinLimits self.now.objects self.now.rails self.now.texts self.now.exports }
     {
@@ -116,7 +116,7 @@ impl Heap {
         self.exports.len()
     }
 
-    /// Takes back what was made last, down to so many objects, rails and texts. Takes no memory.
+    /// Takes back what was made last, down to the given numbers of objects, rails and texts. Takes no memory.
     pub fn truncate(&mut self, objects: usize, rails: usize, texts: usize)
         ensures { self.new ≡ shortened self.old objects rails texts }
     {
@@ -173,7 +173,7 @@ impl Heap {
         self.objects[object as usize].write(field, word);
     }
 
-    /// A new rail of so many zero bytes. Limit 3 where there may be no more rails.
+    /// A new rail of `bytes` zero bytes. Limit 3 where there may be no more rails.
     pub fn new_rail(&mut self, bytes: u16) -> Result<u32, Stop>
         ensures ok { IfOk result (λ number. (number ≡ length self.old.rails) × (self.new ≡ with_rail self.old (replicate bytes 0))) }
         ensures full { IsFull (length self.old.rails) → result ≡ Err (stop.Limit 3) }
@@ -288,8 +288,8 @@ impl Heap {
         Ok(Some(number))
     }
 
-    /// A new global reference to an object, whose id is the next, also where there is one to it already. Limit 4 where
-    /// there may be no more.
+    /// A new global reference to an object, whose id is the next, even where there is one to it already. Limit 4 where there
+    /// may be no more.
     pub fn export(&mut self, object: u32) -> Result<u32, Stop>
         requires { object < length self.old.objects }
         ensures ok { IfOk result (λ id. (id ≡ length self.old.exports) × ((o : ObjectState) → slice_get self.old.objects object ≡ Some o → self.new ≡ with_export self.old o.class object)) }

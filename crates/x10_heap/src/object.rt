@@ -3,7 +3,7 @@ ghost use Rattle.std.specs.Prelude.{◌≡◌, ◌<◌, length, slice_set};
 use smallvec::SmallVec;
 use std::marker::Model;
 
-/// An object: its class, and a word for each field. Up to four fields stand in the object itself.
+/// An object: its class, and a word for each field. Up to four fields are kept in the object itself.
 #[derive(Drop)]
 pub struct Object {
     pub(crate) class: u16,

@@ -5,7 +5,7 @@ use smallvec::SmallVec;
 use std::alloc::{AllocError, Global};
 use std::marker::Model;
 
-/// A text, in UTF-8, of at most 65,535 bytes; up to 16 of them stand in the text itself. Clauses see its bytes.
+/// A text, in UTF-8, of at most 65,535 bytes; up to 16 of them are kept in the text itself. Clauses see its bytes.
 #[derive(Drop)]
 pub struct Text {
     bytes: SmallVec<u8, 16>,

@@ -4,11 +4,10 @@ ghost use Rattle.x10_image.specs.declared.fault.ImageFault.TheVariants.{Memory};
 use std::alloc::{AllocError, AllocFailed};
 use thiserror::Error;
 
-/// Why bytes are no image, or why a module has none. Of bytes it is the first fault from front to
-/// back.
+/// Why bytes are not an image, or why a module has none. For bytes it is the first fault from front to back.
 #[derive(Clone, Copy, Debug, PartialEq, Eq, Error)]
 pub enum ImageFault {
-    /// A part isn't there whole.
+    /// A part isn't complete.
     #[error("Short")]
     Short,
     /// The first four bytes aren't those of an image.
@@ -27,7 +26,7 @@ pub enum ImageFault {
     /// A text that isn't UTF-8.
     #[error("Text")]
     Text,
-    /// Bytes stand after the last function.
+    /// There are bytes after the last function.
     #[error("Trailing")]
     Trailing,
     /// A byte that has to be 0 isn't.
@@ -39,7 +38,7 @@ pub enum ImageFault {
     /// Eight bytes that are no instruction: the function's number and the instruction's number in it.
     #[error("Code {0} {1}")]
     Code(u16, u16),
-    /// A growth was refused for want of memory.
+    /// A growth was refused for lack of memory.
     #[error("Memory")]
     Memory,
 }

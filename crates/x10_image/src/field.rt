@@ -1,4 +1,4 @@
-//! The first field of a part that is wrong, by the readers of the part, in their order.
+//! The first field of a part that is wrong, found by the readers of the part, in their order.
 
 use crate::fault::ImageFault;
 use crate::fields::{after_zero_byte, after_zero_u16, byte_at_most, registers_at, u16_within};
@@ -13,7 +13,7 @@ use x10_model::limits::{
 /// What a field of an image says.
 #[derive(Clone, Copy, Debug, PartialEq, Eq)]
 pub enum Meaning {
-    /// The header whole.
+    /// The whole header.
     Header,
     Magic,
     Version,
@@ -128,7 +128,7 @@ fn equal(holds: bool, fault: ImageFault) -> Result<(), ImageFault> {
     if holds { Ok(()) } else { Err(fault) }
 }
 
-/// The first field of a class that is wrong, in a module with so many classes.
+/// The first field of a class that is wrong, in a module with `classes` classes.
 pub fn class_field(bytes: &[u8], classes: u16) -> Option<Field<'_>> {
     past_fields(bytes, classes).err()
 }
@@ -150,7 +150,7 @@ fn past_fields(bytes: &[u8], classes: u16) -> Result<(), Field<'_>> {
     Ok(())
 }
 
-/// The first constant number that isn't there whole, of too few bytes.
+/// The first constant number that isn't complete, since there are too few bytes.
 pub fn int_field(bytes: &[u8]) -> Field<'_> {
     let whole = bytes.len() / 8;
     Field {
@@ -184,7 +184,7 @@ fn past_bytes(bytes: &[u8]) -> Result<(), Field<'_>> {
     }
 }
 
-/// The first field of the function with a number that is wrong, in a module with so many classes.
+/// The first field of the function with a number that is wrong, in a module with `classes` classes.
 pub fn function_field(bytes: &[u8], classes: u16, function: u16) -> Option<Field<'_>> {
     past_parts(bytes, classes, function).err()
 }

@@ -23,7 +23,7 @@ impl ReadFault for ImageFault {
     }
 }
 
-/// One byte, at most so great, and the bytes after it.
+/// One byte, at most `most`, and the bytes after it.
 #[tactic(auto, unfolding(x10_model::specs::Readers::such_that, x10_model::specs::Readers::bind, x10_model::specs::Readers::check, x10_model::specs::Readers::done))]
 pub fn byte_at_most(bytes: &[u8], most: u8) -> Result<(u8, &[u8]), ImageFault>
     ensures exact { Answers (λ x. (x.0, x.1.now)) result (such_that (byte Short) (is_within 0 most) Count bytes.now) }
@@ -47,7 +47,7 @@ pub fn registers_at(bytes: &[u8], parameters: u8) -> Result<(u8, &[u8]), ImageFa
     Ok((registers, bytes))
 }
 
-/// A number of two bytes from the least to the most, and the bytes after it.
+/// A number of two bytes from `least` to `most`, and the bytes after it.
 #[tactic(auto, unfolding(x10_model::specs::Readers::such_that, x10_model::specs::Readers::bind, x10_model::specs::Readers::check, x10_model::specs::Readers::done))]
 pub fn u16_within(bytes: &[u8], least: u16, most: u16) -> Result<(u16, &[u8]), ImageFault>
     ensures exact { Answers (λ x. (x.0, x.1.now)) result (such_that (number w16 Short) (is_within least most) Count bytes.now) }

@@ -89,7 +89,7 @@ fn text_fits(text: &str) -> bool
     text.len() < 65_536
 }
 
-/// Whether a function has as many registers, loop slots and parameters as one may have.
+/// Whether a function has as many registers, loop slots and parameters as a function may have.
 pub fn signature_fits(function: &Function) -> bool
     ensures value { result ≡ written.signature_fits (function_shown function.now) }
 {
@@ -191,7 +191,7 @@ fn bad_function(functions: &[Function]) -> Option<(usize, usize)>
     None
 }
 
-/// Whether a module has an image, or the first of Count, Kind, Code and Entry that hinders it.
+/// Whether a module has an image, or the first of Count, Kind, Code and Entry that prevents it.
 pub fn check(source: &Module) -> Result<(), ImageFault>
     ensures passes { OnOk result (Passes source.now) }
     ensures fault { IfErr result (λ e. Hinders e source.now) }

@@ -10,7 +10,7 @@ use x10_bytes::{byte_at, u16_at};
 use x10_kinds::Kind;
 use x10_model::Slot;
 
-/// The kind with a tag, of a module with so many classes.
+/// The kind with a tag, in a module with `classes` classes.
 fn kind_with(classes: u16, tag: u8, class: u16) -> Option<Kind>
     ensures { result ≡ kind_of classes tag class }
 {
@@ -32,7 +32,7 @@ fn without_class(kind: Kind, class: u16) -> Option<Kind>
     (class == 0).then_some(kind)
 }
 
-/// A kind of a module with so many classes, and the bytes after it.
+/// A kind in a module with `classes` classes, and the bytes after it.
 #[tactic(auto, unfolding(x10_model::specs::ReadingImages::kind_at, x10_model::specs::Readers::bind, x10_model::specs::Readers::given))]
 pub fn kind_at(bytes: &[u8], classes: u16) -> Result<(Kind, &[u8]), ImageFault>
     ensures exact { Answers (λ x. (x.0, x.1.now)) result (kind_at classes bytes.now) }
@@ -65,7 +65,7 @@ fn slot_with(classes: u16, tag: u8, class: u16, flag: u8) -> Option<Slot>
     with_flag(kind_with(classes, tag, class)?, flag)
 }
 
-/// A parameter of a module with so many classes, and the bytes after it.
+/// A parameter in a module with `classes` classes, and the bytes after it.
 #[tactic(auto, unfolding(x10_model::specs::ReadingImages::slot_at, x10_model::specs::Readers::bind, x10_model::specs::Readers::given))]
 pub fn slot_at(bytes: &[u8], classes: u16) -> Result<(Slot, &[u8]), ImageFault>
     ensures exact { Answers (λ x. (x.0, x.1.now)) result (slot_at classes bytes.now) }
@@ -86,7 +86,7 @@ fn result_with(classes: u16, tag: u8, class: u16, flag: u8) -> Option<Option<Slo
     Some(Some(slot_with(classes, tag, class, flag)?))
 }
 
-/// A result of a module with so many classes, which may be none, and the bytes after it.
+/// A result in a module with `classes` classes, which may be none, and the bytes after it.
 #[tactic(auto, unfolding(x10_model::specs::ReadingImages::result_at, x10_model::specs::Readers::bind, x10_model::specs::Readers::given))]
 pub fn result_at(bytes: &[u8], classes: u16) -> Result<(Option<Slot>, &[u8]), ImageFault>
     ensures exact { Answers (λ x. (x.0, x.1.now)) result (result_at classes bytes.now) }

@@ -1,4 +1,4 @@
-//! Where bytes that are no image are wrong: the first part that the reader refuses.
+//! Where bytes that are not an image are wrong: the first part that the reader refuses.
 
 ghost use Rattle.std.specs.Prelude.{ℕ, IfErr, IfSome};
 ghost use Rattle.x10_image.specs.Misfits.{IsRefused};
@@ -14,13 +14,13 @@ pub enum Item {
     Header,
     /// A class, by its number.
     Class(u16),
-    /// The constant numbers, so many.
+    /// The constant numbers, and how many there are.
     Ints(u16),
     /// A constant text, by its number.
     Text(u16),
     /// A function, by its number.
     Function(u16),
-    /// What stands behind the last function.
+    /// What comes after the last function.
     Behind,
 }
 
@@ -143,9 +143,9 @@ fn past_all(bytes: &[u8]) -> Result<(), Misfit<'_>>
     })
 }
 
-/// The first part of bytes that is refused, with its fault, which is that of reading the part from there on, and the field
-/// of it that is wrong. Nothing where each part is whole and in order, also where the entry is wrong. One pass over the
-/// bytes, and without memory.
+/// The first part of bytes that is refused, with its fault, which is that of reading the part from there on, and the field of
+/// it that is wrong. Nothing where each part is whole and in order, even where the entry is wrong. One pass over the bytes;
+/// takes no memory.
 pub fn misfit_in(bytes: &[u8]) -> Option<Misfit<'_>>
     ensures { IfSome result (λ m. (classes : ℕ) × IsRefused classes m.item m.from.now m.fault) }
 {

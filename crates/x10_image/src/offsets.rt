@@ -1,5 +1,5 @@
-//! Parts of an image by their places in its bytes. That each part is there was seen when the image was
-//! read, so nothing is looked for again.
+//! Parts of an image by their positions in its bytes. Each part was seen to be there when the image was read, so nothing is
+//! looked for again.
 
 ghost use Rattle.std.specs.Prelude.{◌≡◌, ◌+◌, ◌*◌, ◌≤◌, Ok, length, slice_index, slice_range, IsUtf8, ◌==◌, if◌then◌else◌};
 ghost use Rattle.std.specs.Int.{w16, from_be_bytes};
@@ -14,7 +14,7 @@ use x10_bytes::u16_in;
 use x10_code::{Instr, op_with_code};
 use x10_model::Slot;
 
-/// The text at a place: its length in two bytes, and its bytes.
+/// The text at a position: its length in two bytes, and its bytes.
 pub fn text_in(bytes: &[u8], at: usize) -> &str
     requires length { at + 2 ≤ length bytes.now }
     requires room { at + 2 + from_be_bytes w16 (slice_range bytes.now at (at + 2)) ≤ length bytes.now }
@@ -26,7 +26,7 @@ pub fn text_in(bytes: &[u8], at: usize) -> &str
     unsafe { str::from_utf8_unchecked(text) }
 }
 
-/// The class at a place: its number of fields in a byte, and their kinds.
+/// The class at a position: its number of fields in a byte, and their kinds.
 pub fn class_in(bytes: &[u8], at: usize) -> ClassView<'_>
     requires { at + 1 + 3 * slice_index bytes.now at ≤ length bytes.now }
     ensures { result ≡ kinds_in (slice_range bytes.now (at + 1) (at + 1 + 3 * slice_index bytes.now at)) }
@@ -47,7 +47,7 @@ fn result_in(bytes: &[u8], at: usize) -> Option<Slot>
     Some(slot_in(bytes, at))
 }
 
-/// The signature of the function at a place.
+/// The signature of the function at a position.
 pub fn signature_in(bytes: &[u8], at: usize) -> SigView<'_>
     requires { at + 8 + 4 * slice_index bytes.now at ≤ length bytes.now }
     ensures { result ≡ record {
@@ -66,7 +66,7 @@ pub fn signature_in(bytes: &[u8], at: usize) -> SigView<'_>
     }
 }
 
-/// The place of the code of the function at a place. Four bytes before it is the code's length.
+/// The position of the code of the function at a position. Four bytes before it is the code's length.
 pub fn code_place(bytes: &[u8], at: usize) -> usize
     requires { at + 12 + 4 * slice_index bytes.now at ≤ length bytes.now }
     ensures { result ≡ at + 12 + 4 * slice_index bytes.now at }
@@ -74,7 +74,7 @@ pub fn code_place(bytes: &[u8], at: usize) -> usize
     at + 12 + 4 * usize::from(bytes[at])
 }
 
-/// How many instructions the function at a place has.
+/// How many instructions the function at a position has.
 pub fn code_len_in(bytes: &[u8], at: usize) -> usize
     requires { at + 12 + 4 * slice_index bytes.now at ≤ length bytes.now }
     ensures { result ≡ from_be_bytes w16 (slice_range bytes.now (at + 8 + 4 * slice_index bytes.now at) (at + 8 + 4 * slice_index bytes.now at + 2)) }
@@ -98,7 +98,7 @@ fn instr_of(bytes: &[u8]) -> Instr
     }
 }
 
-/// The instruction at a place.
+/// The instruction at a position.
 #[inline(always)]
 pub fn instr_in(bytes: &[u8], at: usize) -> Instr
     requires room { at + 8 ≤ length bytes.now }

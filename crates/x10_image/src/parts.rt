@@ -51,7 +51,7 @@ pub fn past_text(bytes: &[u8]) -> Result<&[u8], ImageFault>
     x10_bytes::past_text(bytes, usize::from(length), ImageFault::Text)
 }
 
-/// The bytes after an instruction, by its function's number and its own.
+/// The bytes after an instruction, given its function's number and its own.
 #[tactic(auto, unfolding(x10_model::specs::ReadingImages::instruction_at, x10_model::specs::Readers::bind, x10_model::specs::Readers::part, x10_model::specs::Readers::given))]
 fn past_instruction(bytes: &[u8], function: u16, pc: u16) -> Result<&[u8], ImageFault>
     ensures exact { Passes (λ x. x.now) result (instruction_at function pc bytes.now) }

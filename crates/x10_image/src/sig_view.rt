@@ -25,7 +25,7 @@ impl<'a> Model for SigView<'a> {
     ghost invariant = { λ a. length a.slots.now ≡ 4 * length (slots_in a.slots.now) };
 }
 
-/// The slot that the four bytes from a place on spell.
+/// The slot that the four bytes from `at` on spell.
 pub fn slot_in(bytes: &[u8], at: usize) -> Slot
     requires { at + 3 < length bytes.now }
     ensures { result ≡ slot_at bytes.now at }
@@ -37,7 +37,7 @@ pub fn slot_in(bytes: &[u8], at: usize) -> Slot
 }
 
 impl<'a> SigView<'a> {
-    /// How many parameters the function has, at most 16. Constant time, as all that follow.
+    /// How many parameters the function has, at most 16. Constant time, like all that follow.
     pub fn parameters(&self) -> usize
         ensures value { result ≡ length self.now.parameters }
     {

@@ -1,4 +1,4 @@
-//! The places of the classes, texts and functions of an image.
+//! The positions of the classes, texts and functions of an image.
 
 ghost use Rattle.x10_model.specs.Images.{class_bytes, text_bytes, function_bytes};
 ghost use Rattle.x10_model.specs.Readers.{times, numbered};
@@ -11,7 +11,7 @@ use crate::fault::ImageFault;
 use crate::parts::{past_class, past_function, past_text};
 use std::alloc::Global;
 
-/// Where each of so many classes stands in the image that the bytes end, and the bytes after them.
+/// Where each of `count` classes begins in `image`, of which `bytes` is the rest, and the bytes after them.
 pub fn class_table<'a>(
     alloc: Global,
     image: &[u8],
@@ -31,7 +31,7 @@ pub fn class_table<'a>(
     Ok((table, rest))
 }
 
-/// Where each of so many texts stands in the image that the bytes end, and the bytes after them.
+/// Where each of `count` texts begins in `image`, of which `bytes` is the rest, and the bytes after them.
 pub fn text_table<'a>(
     alloc: Global,
     image: &[u8],
@@ -51,7 +51,7 @@ pub fn text_table<'a>(
     Ok((table, rest))
 }
 
-/// Where each of so many functions stands in the image that the bytes end, and the bytes after them.
+/// Where each of `count` functions begins in `image`, of which `bytes` is the rest, and the bytes after them.
 pub fn function_table<'a>(
     alloc: Global,
     image: &[u8],

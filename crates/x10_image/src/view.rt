@@ -97,15 +97,15 @@ impl<'a> ImageView<'a> {
         whole(alloc, bytes)
     }
 
-    /// What every image's module meets, for callers whose own clauses rest on it. It does nothing.
+    /// What holds for every image's module, for callers whose own clauses rely on it. It does nothing.
     pub fn fits(&self)
         ensures { FitsImage self.now }
     {
         let _ = &self.bytes;
     }
 
-    /// The least number of places that the module asks for, 1 to 64: bytes 6 and 7 of the image. Constant time, as all
-    /// that follow, and without memory.
+    /// The least number of places that the module asks for, 1 to 64: bytes 6 and 7 of the image. Constant time and no memory,
+    /// like all that follow.
     pub fn least(&self) -> u16
         ensures value { result ≡ self.now.least_places }
         ensures range { (1 ≤ result) × (result ≤ 64) }
@@ -169,7 +169,7 @@ impl<'a> ImageView<'a> {
         i64_in(self.bytes, self.ints + 8 * i)
     }
 
-    /// A constant text, in the image's bytes: behind its length there.
+    /// A constant text, in the image's bytes: after its length there.
     pub fn text(&self, i: usize) -> &'a str
         requires { i < length self.now.texts }
         ensures value { slice_get self.now.texts i ≡ Some result.now }
@@ -180,7 +180,7 @@ impl<'a> ImageView<'a> {
         text_in(bytes, self.texts[i])
     }
 
-    /// The fields of a class, in the image's bytes: behind their number there.
+    /// The fields of a class, in the image's bytes: after their number there.
     #[inline(always)]
     pub fn class(&self, c: usize) -> ClassView<'a>
         requires { c < length self.now.classes }
@@ -240,8 +240,8 @@ impl<'a> ImageView<'a> {
         instr_in(self.bytes, start + 8 * pc)
     }
 
-    /// An instruction of a function, as `instr` answers it, from the function's code that `code` handed out. For a loop
-    /// over the instructions of one function, where the function is looked up once. Constant time.
+    /// An instruction of a function, as `instr` answers it, from the function's code as `code` gives it. For a loop over the
+    /// instructions of one function, where the function is looked up once. Constant time.
     #[inline(always)]
     pub fn instr_from(&self, code: &[u8], f: usize, pc: usize) -> Instr
         requires function { f < length self.now.functions }

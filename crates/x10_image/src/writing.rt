@@ -265,8 +265,8 @@ fn spelled(alloc: Global, source: &Module) -> Result<Vec<u8>, AllocError>
     Ok(out)
 }
 
-/// The image of a module: its one spelling. A fault is one that hinders an image; where several do,
-/// the first of Count, Kind, Code, Entry. Twice over the module, and the memory of the image.
+/// The image of a module: its one spelling. A fault is one that prevents an image; where several do, the first of Count, Kind,
+/// Code, Entry. Two passes over the module; takes the memory of the image.
 pub fn write(alloc: Global, source: &Module) -> Result<Vec<u8>, ImageFault>
     ensures spelled { IfOk result (λ v. FitsImage (shown source.now) × (v.items ≡ spelling (shown source.now))) }
     ensures only { FitsImage (shown source.now) → IsOkUnless result Memory }

@@ -45,7 +45,7 @@ impl Homes {
     ghost use Rattle.x10_kinds.specs.Equations.{IsTerm, Includes, SameEquations, alone, equations, joined, met, written};
     ghost use Rattle.x10_kinds.specs.Ranks.{rank};
 
-    /// Nothing is known: every term is equal to itself alone.
+    /// Nothing is known: every term is equal only to itself.
     #[tactic(auto, unfolding(crate::specs::Equations::equations))]
     pub fn new() -> Homes
         ensures { SameEquations (equations result) alone }
@@ -75,8 +75,8 @@ impl Homes {
         labels::join(&mut self.labels, t.index(), u.index());
     }
 
-    /// The register is written: with the place that `like` stands for before the write, or, where that is `None`, with
-    /// a place that nothing is known of. A register that is given its own place changes nothing.
+    /// The register is written: with the place that `like` stands for before the write, or, where that is `None`, with a place
+    /// that nothing is known about. A register that is given its own place changes nothing.
     pub fn write(&mut self, reg: u8, like: Option<Term>)
         requires register { reg < 64 }
         requires like { ForSome like IsTerm }
@@ -105,8 +105,8 @@ impl Homes {
         labels::contains(&self.labels, &other.labels)
     }
 
-    /// Gives up the equations that do not hold in `other` too, and tells whether there were some. Each time there were,
-    /// the rank falls, so a row gives up equations 16,641 times at most.
+    /// Gives up the equations that do not hold in `other` too, and answers whether there were any. Each time there were, the
+    /// rank falls, so a row gives up equations 16,641 times at most.
     pub fn weaken(&mut self, other: &Homes) -> bool
         ensures met { SameEquations (equations self.new) (met (equations self.old) (equations other.now)) }
         ensures kept { result ≡ false → self.new ≡ self.old }
@@ -134,7 +134,7 @@ impl Homes {
         self.join(register, term);
     }
 
-    // Nothing is known of the register any more.
+    // Nothing is known about the register any more.
     fn leave(&mut self, reg: u8)
         requires { reg < 64 }
         ensures { SameEquations (equations self.new) (written (equations self.old) reg None) }

@@ -20,8 +20,8 @@ pub enum Kind {
     GRef(u16),
 }
 
-/// Whether a value of kind `have` may stand where a `want` is asked for: the kinds are the same, or the object
-/// of a class stands where an object of that class or null is asked for.
+/// Whether a value of kind `have` may be used where a `want` is asked for: the kinds are the same, or the object of a class is
+/// used where an object of that class or null is asked for.
 pub fn fits(have: Kind, want: Kind) -> bool
     ensures { IsTrue result ↔ Fits have want }
 {
@@ -31,8 +31,8 @@ pub fn fits(have: Kind, want: Kind) -> bool
     }
 }
 
-/// The least kind that both kinds fit: a register that has one of them on one path and the other on another path
-/// has this one where the paths meet. There is none for kinds that no value has in common.
+/// The least kind that both kinds fit: a register that has one of them on one path and the other on another path has this one
+/// where the paths meet. There is none for kinds that have no value in common.
 pub fn meet(a: Kind, b: Kind) -> Option<Kind>
     ensures { result ≡ meet_of a b }
 {

@@ -61,7 +61,7 @@ pub fn meet(a: &Labels, b: &Labels) -> Labels
     labels
 }
 
-/// Whether terms that are equal by the one row are equal by the other too. Where ways meet most rows are the same, which
+/// Whether terms that are equal by one row are equal by the other too. Where ways meet most rows are the same, which
 /// takes one pass without branches.
 pub fn contains(labels: &Labels, less: &Labels) -> bool
     requires { IsCanonical less.now }

@@ -1,6 +1,7 @@
 -- What one instruction of one activity does to its place: a relation by cases on the operation, in the groups numbers,
 -- control, text, objects, rails, places, activities and output.
-use Rattle.std.specs.Prelude.{◌≡◌, ℕ, ℤ, pos, negsuc, ◌+ℤ◌, ◌-ℤ◌, ◌*ℤ◌, int_div, int_rem, int_lt, ◌+◌, ◌-◌, ◌%◌, ◌<◌, ◌⊎◌, Bool, true, false, ◌==◌, nat_lt, nat_le, List, [], ◌∷◌, ◌++◌, length, replicate, Option, Some, None, if◌then◌else◌, slice_get, slice_set}
+use Rattle.std.specs.Prelude.{◌≡◌, ℕ, ℤ, pos, negsuc, ◌+ℤ◌, ◌-ℤ◌, ◌*ℤ◌, int_div, int_rem, int_lt, ◌+◌, ◌-◌, ◌%◌, ◌<◌, ◌⊎◌, Bool, true, false, ◌==◌}
+use Rattle.std.specs.Prelude.{nat_lt, nat_le, List, [], ◌∷◌, ◌++◌, length, replicate, Option, Some, None, if◌then◌else◌, slice_get, slice_set}
 use Rattle.std.specs.Int.{w64, int_wrap, int_rem_euclid}
 use Rattle.std.specs.Ordering.{int_eq}
 use Rattle.x10_model.specs.declared.limits.TheConstants.{MOST_BYTES}
@@ -16,7 +17,8 @@ use Rattle.x10_model.specs.Values.{Value, Int, Place, Text, Rail, Object, Null, 
 use Rattle.x10_model.specs.Signatures.{FitsSlotAt, FitSlots, AreOfKinds}
 use Rattle.x10_model.specs.Copies.{Snapshot, Captures}
 use Rattle.x10_model.specs.Places as places
-use Rattle.x10_model.specs.Places.{Setting, Finish, CallFrame, Origin, Stay, Line, Number, Words, Export, Message, Spawn, Shift, Back, innermost, Effect, Waits, Works, Begins, Spawns, Shifts, Opens, Closes, Ends, with_stay, goes, next, writes}
+use Rattle.x10_model.specs.Places.{Setting, Finish, CallFrame, Origin, Stay, Line, Number, Words, Export, Message, Spawn, Shift, Back, innermost}
+use Rattle.x10_model.specs.Places.{Effect, Waits, Works, Begins, Spawns, Shifts, Opens, Closes, Ends, with_stay, goes, next, writes}
 
 -- where an instruction is executed: the run's setting, the place with its number, the activity's key there and its
 -- stay, the function and the instruction

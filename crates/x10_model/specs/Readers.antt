@@ -1,5 +1,6 @@
 -- Readers: each takes bytes from the front and gives a value and the bytes after it, or a fault.
-use Rattle.std.specs.Prelude.{ℕ, ℤ, zero, suc, ◌<◌, Bool, List, [], ◌∷◌, length, take, drop, Option, Some, None, Result, Ok, Err, nat_lt, ◌==◌, if◌then◌else◌, slice_index}
+use Rattle.std.specs.Prelude.{ℕ, ℤ, zero, suc, ◌<◌, Bool, List, [], ◌∷◌, length, take, drop, Option, Some, None, Result, Ok, Err, nat_lt, ◌==◌}
+use Rattle.std.specs.Prelude.{if◌then◌else◌, slice_index}
 use Rattle.std.specs.Int.{Width, byte_len, from_be_bytes, w64, cast_signed}
 
 abbrev pub Reader : Type 0 → Type 0 → Type 0

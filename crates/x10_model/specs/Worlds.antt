@@ -5,7 +5,8 @@ use Rattle.x10_model.specs.declared.event.Event.TheVariants.{Step, Deliver}
 use Rattle.x10_model.specs.Maps.{with_entry, with_pair}
 use Rattle.x10_model.specs.Copies.{Snapshot}
 use Rattle.x10_model.specs.Places as places
-use Rattle.x10_model.specs.Places.{Setting, Finish, root, Stay, Message, Spawn, Shift, Back, receiver, Effect, Waits, Works, Begins, Spawns, Shifts, Opens, Closes, Ends}
+use Rattle.x10_model.specs.Places.{Setting, Finish, root, Stay, Message, Spawn, Shift, Back, receiver, Effect, Waits, Works, Begins, Spawns, Shifts}
+use Rattle.x10_model.specs.Places.{Opens, Closes, Ends}
 use Rattle.x10_model.specs.Moves.{Moves, new_stay}
 use Rattle.x10_model.specs.Deliveries.{Receives}
 use Rattle.x10_model.specs.Wrong.{IsWrong, IsMisfit}

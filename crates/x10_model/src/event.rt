@@ -1,8 +1,8 @@
-/// What is to happen next in a world.
+/// What happens next in a world.
 #[derive(Clone, Copy, Debug, PartialEq, Eq)]
 pub enum Event {
     /// The activity with a key at a place makes one move.
     Step(u16, usize),
-    /// The message with a number is taken in where it is for.
+    /// The message with a number is taken in at the place that it is for.
     Deliver(u64),
 }

@@ -38,7 +38,7 @@ pub fn reports_balance()
     ensures { ReportsBalance }
 {}
 
-/// A run over three places: main opens a finish, goes to the second place, where an activity is begun at the third, comes
+/// A run at three places: main opens a finish, goes to the second place, where an activity is begun at the third, comes
 /// back, waits at the end of its finish until that activity has ended, and goes on.
 pub fn relay_runs()
     ensures { RelayRuns }

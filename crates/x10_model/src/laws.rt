@@ -1,13 +1,12 @@
 ghost use Rattle.x10_model.specs.Laws.{EnclosingIsTransitive, GoverningIsTransitive, MovesAreNotWrong, DeliveriesAreNotWrong, ReadyIsAbleOrWrong, ArrivedIsTakenOrMisfit, BalanceIsTested, EventsAreNotWrong, TotalsGoOn, ReportsAreDue, LogsGoOn, FramesCarryTo};
 
-/// Enclosing finishes lead on: what stands within a finish that stands within another stands within
-/// that one too.
+/// Enclosing is transitive: what is inside a finish that is inside another one is inside that one too.
 pub fn enclosing_is_transitive()
     ensures { EnclosingIsTransitive }
 {}
 
-/// A finish governs each activity that a finish within it governs (X10 2.2, chapter Activities, `finish`: all
-/// activities that the body started, directly or through others).
+/// A finish governs each activity that a finish inside it governs (X10 2.2, chapter Activities, `finish`: all activities that
+/// the body started, directly or through others).
 pub fn governing_is_transitive()
     ensures { GoverningIsTransitive }
 {}
@@ -27,12 +26,12 @@ pub fn ready_is_able_or_wrong()
     ensures { ReadyIsAbleOrWrong }
 {}
 
-/// A message that reaches its place is taken in or is a misfit, where there is room for it: none is left lying.
+/// A message that reaches its place is taken in or is a misfit, where there is room for it: none is left over.
 pub fn arrived_is_taken_or_misfit()
     ensures { ArrivedIsTakenOrMisfit }
 {}
 
-/// Whether a cut balances is told by comparing each pair of places.
+/// Whether a cut balances is found by comparing each pair of places.
 pub fn balance_is_tested()
     ensures { BalanceIsTested }
 {}

@@ -21,7 +21,7 @@ pub const MOST_ROOTS: u16 = MOST_PARAMETERS as u16;
 /// The most registers of a function.
 pub const MOST_REGISTERS: u8 = 64;
 
-/// The most loop slots of a function, which is how deep loops may stand in one another.
+/// The most loop slots of a function, which is how deep loops may be nested.
 pub const MOST_LOOPS: u8 = 8;
 
 /// The most instructions of a function.

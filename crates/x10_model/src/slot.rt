@@ -4,6 +4,6 @@ use x10_kinds::Kind;
 #[derive(Clone, Copy, Debug, PartialEq, Eq)]
 pub struct Slot {
     pub kind: Kind,
-    /// Only of a global reference: that its home is the place where the function runs.
+    /// Only for a global reference: whether its home is the place where the function runs.
     pub home_here: bool,
 }

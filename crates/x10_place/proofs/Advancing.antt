@@ -8,6 +8,7 @@ use Rattle.x10_code.specs.declared.op.Op.TheVariants as op
 use Rattle.x10_code.specs.declared.instr.Instr.{Instr}
 use Rattle.x10_model.specs.Modules.{Module}
 use Rattle.x10_model.specs.Ranges.{instr_at, instr_in}
+use Rattle.x10_model.proofs.Found.{head_is}
 use Rattle.x10_model.proofs.Lists.{none_some}
 use Rattle.x10_verify.specs.Certified.{Certified}
 use Rattle.x10_place.specs.declared.place.Stepped.TheVariants as stepped
@@ -97,11 +98,8 @@ module _ (v : Certified) (old : Slab StayState) (s : StoreState) (key : ℕ) (st
     goes_on : (b : StayState) (t : StoreState) → IsWaiting → Steps (route_of i.op) (location_of (place false)) a s i outcome.Goes b t → ⊥
     goes_on b t w steps =
         let closes : ClosesFinish a s b t = subst (λ o. Steps (route_of o) (location_of (place false)) a s i outcome.Goes b t) w.is_fine steps in
-        let same : closes.number ≡ w.number = first_is closes.number w.number b.finishes w.outer (sym closes.innermost ∙ w.innermost) in
+        let same : closes.number ≡ w.number = head_is closes.number w.number b.finishes w.outer (sym closes.innermost ∙ w.innermost) in
         w.not_done (subst (λ n. IsDoneHere s n) same closes.done)
-      where
-        first_is : (m n : ℕ) (ms ns : List ℕ) → m ∷ ms ≡ n ∷ ns → m ≡ n
-        first_is m n ms ns f = cc
 
     -- a stay that would make too many of something, by its own instruction
     overfills : (stopped : Bool) (limit : ℕ) → IsOverfull (place stopped) key limit → Overfills (route_of i.op) (place stopped) a i limit

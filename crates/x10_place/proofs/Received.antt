@@ -92,7 +92,7 @@ flagged_standing v stays s b c h = (
 
 -- ---- bytes
 
--- a fault that isn't want of memory is one of the bytes
+-- a fault that isn't a refusal of memory is one of the bytes
 pub fault_told : {Y : Type 0} (f : FrameFault) (read : Result Y reading.FrameFault) → (f ≡ fault.Memory → ⊥) → IsFaultOrMemory (named f) read → IsFault (named f) read
 fault_told fault.Short read ne h = h
 fault_told fault.Version read ne h = h

@@ -178,7 +178,7 @@ IsOfFrame places bytes (refusal.Frame fault) = Unit {0}
 IsOfFrame places bytes refusal.Memory = Unit {0}
 IsOfFrame places bytes why = (f : Frame) × FitsFrame places f × (bytes ≡ spelling f)
 
--- after want of memory and limits the place has stopped
+-- the place has stopped where memory was refused, or at a limit
 abbrev pub stops : Refusal → Bool
 stops refusal.Memory = true
 stops (refusal.Limit limit) = true

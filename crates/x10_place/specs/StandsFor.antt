@@ -1,5 +1,6 @@
 -- When a place of the program stands for a place of the machine.
-use Rattle.std.specs.Prelude.{◌≡◌, ℕ, ◌<◌, ◌≤◌, ◌⊎◌, Bool, true, false, List, [], ◌∷◌, ◌++◌, ◌==◌, ◌^◌, length, map, Option, if◌then◌else◌, Some, None, slice_get, slice_index}
+use Rattle.std.specs.Prelude.{◌≡◌, ℕ, ◌<◌, ◌≤◌, ◌⊎◌, Bool, true, false, List, [], ◌∷◌, ◌++◌, ◌==◌, ◌^◌, length, map, Option, if◌then◌else◌, Some}
+use Rattle.std.specs.Prelude.{None, slice_get, slice_index}
 use Rattle.std.specs.Prelude.{string_bytes}
 use Rattle.slab.specs.Slab.{Slab, get}
 use Rattle.x10_kinds.specs.declared.kind.Kind.{Kind}
@@ -38,7 +39,8 @@ use Rattle.x10_place.specs.Homes.{AreHomes}
 use Rattle.x10_place.specs.Messages.{PutsOut}
 use Rattle.x10_place.specs.Routes.{route_of}
 use Rattle.x10_place.specs.Sending.{IsSending, slots_sent, words_sent, Overloads}
-use Rattle.x10_place.specs.Stays.{StayState, StoreState, Location, IsPlaced, IsDoneHere, HasBook, OverfillsBy, finish_at, totals_in, books_of, books_in, kept_in, innermost_at}
+use Rattle.x10_place.specs.Stays.{StayState, StoreState, Location, IsPlaced, IsDoneHere, HasBook, OverfillsBy, finish_at, totals_in, books_of}
+use Rattle.x10_place.specs.Stays.{books_in, kept_in, innermost_at}
 
 -- What callers see of a place: the module with the bounds of its functions, its number and how many there are, the stays
 -- by key, the heap, the lines of output, how many finishes it opened, what it has counted of each finish, what it keeps

@@ -32,7 +32,8 @@ use Rattle.x10_place.specs.declared.line.Line.{Line}
 use Rattle.x10_place.specs.declared.line.Line.TheVariants as line
 use Rattle.x10_place.specs.declared.route.Route.{Route}
 use Rattle.x10_place.specs.declared.route.Route.TheVariants as route
-use Rattle.x10_place.specs.Frames.{Workspace, space_of, word_at, int_at, IsInside, IsFetchedFor, Acts, Reads, Makes, ReadsMake, Overfills, IsRefused, ActsAt, ReadsAt, ExportsObject, NamesObject, IsExportRefused, IsEntered}
+use Rattle.x10_place.specs.Frames.{Workspace, space_of, word_at, int_at, IsInside, IsFetchedFor, Acts, Reads, Makes, ReadsMake, Overfills}
+use Rattle.x10_place.specs.Frames.{IsRefused, ActsAt, ReadsAt, ExportsObject, NamesObject, IsExportRefused, IsEntered}
 
 -- what callers see of a stay: the frame of the function that it executes, and those of the functions that called it, the
 -- last one last; the numbers of the finishes that it opened and hasn't closed, the last one first, and the one that it
@@ -311,7 +312,7 @@ OverfillsBy route.Export a s i limit = (limit ≡ 4) × IsFull (length s.heap.ex
 OverfillsBy route.OpenFinish a s i limit = (limit ≡ 5) × IsFull s.opened
 OverfillsBy _ a s i limit = ⊥
 
--- why an operation of a stay is refused: for want of memory, or since there can be no more of what it makes
+-- why an operation of a stay is refused: since memory is refused, or since there can be no more of what it makes
 abbrev pub Refuses : Route → StayState → StoreState → Instr → Stop → Type 0
 Refuses (route.Make m) a s i why = IsRefused m s.heap a.top.registers.items i why
 Refuses route.Export a s i why = IsExportRefused s.heap why

@@ -19,8 +19,10 @@ use Rattle.x10_place.specs.declared.stay.Pause.{Pause}
 use Rattle.x10_place.specs.declared.stay.Pause.TheVariants as pause
 use Rattle.x10_place.specs.Messages.{no_sent}
 use Rattle.x10_place.specs.Frames.{Workspace, IsFetched, IsFetchedFor, Acts}
-use Rattle.x10_place.specs.Stays.{StayState, StoreState, Location, IsPlaced, GoesNext, IsBegun, innermost_at, totals_in, books_in, changed_at, Recounts, Steps, Refuses}
-use Rattle.x10_place.specs.StandsFor.{PlaceState, place_of, location_of, plain, Keeps, IsWorking, IsStanding, LeadsAll, IsIdleAt, IsOverfull, IsHindered, OverfillsBegin}
+use Rattle.x10_place.specs.Stays.{StayState, StoreState, Location, IsPlaced, GoesNext, IsBegun, innermost_at, totals_in, books_in, changed_at}
+use Rattle.x10_place.specs.Stays.{Recounts, Steps, Refuses}
+use Rattle.x10_place.specs.StandsFor.{PlaceState, place_of, location_of, plain, Keeps, IsWorking, IsStanding, LeadsAll, IsIdleAt, IsOverfull}
+use Rattle.x10_place.specs.StandsFor.{IsHindered, OverfillsBegin}
 use Rattle.x10_place.specs.Routes.{route_of}
 
 -- ---- of one frame

@@ -29,7 +29,7 @@ use x10_verify::Verified;
 /// The limit of activities that are sent to one place under one finish.
 const SENT: u8 = 6;
 
-/// What stands at the front of the frame that an AT or ATA sends.
+/// The head of the frame that an AT or ATA sends.
 fn head_of(op: Op, here: u16, to: u16, key: usize, under: Finish, function: u16) -> Head
     requires key { key < 2 ^ 32 }
     requires op { route_of op ≡ route.Send }

@@ -22,9 +22,9 @@ use x10_code::Instr;
 use x10_heap::Heap;
 use x10_verify::Verified;
 
-/// A function that is being executed: the number of its next instruction, a word for each register, and how often each
-/// open loop still turns. A word is a number's 64 bits, a place's number, or a reference's; it has no tag, since the
-/// verifier knows its kind. There may be more registers than the function has: a frame is used again.
+/// A function that is being executed: the number of its next instruction, a word for each register, and how many turns each
+/// open loop still makes. A word is a number's 64 bits, a place's number, or a reference's; it has no tag, since the verifier
+/// knows its kind. There may be more registers than the function has: a frame is reused.
 #[derive(Drop)]
 pub struct CallFrame {
     pub(crate) function: u16,
@@ -33,7 +33,7 @@ pub struct CallFrame {
     pub(crate) loops: [u32; 8],
 }
 
-/// A frame at the first instruction of a function, with so many registers, which are 0.
+/// A frame at the first instruction of a function, with `registers` registers, which are 0.
 pub(crate) fn first_frame(
     alloc: Global,
     function: u16,
@@ -60,7 +60,7 @@ fn int(registers: &[u64], register: u8) -> i64
     registers[usize::from(register)].cast_signed()
 }
 
-/// The quotient toward zero, which wraps for the least number by -1; none by zero.
+/// The quotient, rounded toward zero, which wraps where the least number is divided by -1; none where the divisor is zero.
 fn quotient(x: i64, y: i64) -> Option<i64>
     ensures { as_value result ≡ machine.quotient x y }
 {
@@ -70,7 +70,7 @@ fn quotient(x: i64, y: i64) -> Option<i64>
     Some(x.wrapping_div(y))
 }
 
-/// The remainder with the sign of the dividend; none by zero.
+/// The remainder, with the sign of the dividend; none where the divisor is zero.
 fn remainder(x: i64, y: i64) -> Option<i64>
     ensures { as_value result ≡ machine.remainder x y }
 {
@@ -276,8 +276,8 @@ impl CallFrame {
         );
     }
 
-    /// Operations of this frame alone, one after another: as many as come before one that isn't, and at most so many. How
-    /// many there were, and the instruction at which the frame stands then, where it isn't of this frame alone.
+    /// Operations of this frame alone, one after another: as many as come before one that isn't, and at most `most`. How many
+    /// there were, and the instruction at which the frame then stands, if it isn't of this frame alone.
     #[inline(always)]
     pub(crate) fn stretch(
         &mut self,
@@ -313,7 +313,7 @@ impl CallFrame {
         (most, None)
     }
 
-    /// Stands at the first instruction of a function, with no loop open. Its registers are as they were.
+    /// Goes to the first instruction of a function, with no loop open. Its registers are as they were.
     #[inline(always)]
     pub(crate) fn begin(&mut self, function: u16)
         ensures { self.new ≡ record self.old { function = function; pc = 0; loops = replicate 8 0 } }

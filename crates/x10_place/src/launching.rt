@@ -61,7 +61,7 @@ fn put_words(registers: &mut [u64], words: &[u64])
     registers[..words.len()].copy_from_slice(words);
 }
 
-/// The frame stands at the first instruction of a function, with these words in its first registers.
+/// The frame goes to the first instruction of a function, with these words in its first registers.
 fn enter(frame: &mut CallFrame, function: u16, words: &Roots)
     requires { length words.now.items ≤ length frame.old.registers.items }
     ensures { IsEnteredWith function (length frame.old.registers.items) words.now.items frame.new }
@@ -70,7 +70,7 @@ fn enter(frame: &mut CallFrame, function: u16, words: &Roots)
     put_words(frame.registers.as_mut_slice(), words.as_slice());
 }
 
-/// What the frame brings comes into the heap, and the activity is counted. Where either is refused, nothing has changed.
+/// What the frame brings is put into the heap, and the activity is counted. Where either is refused, nothing has changed.
 fn settle(
     alloc: Global,
     view: &FrameView,

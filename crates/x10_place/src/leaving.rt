@@ -26,7 +26,7 @@ use x10_frame::{Head, write_counts};
 use x10_kinds::Stop;
 use x10_verify::Verified;
 
-/// Takes a stay away, and keeps its call frame for another one.
+/// Removes a stay, and keeps its call frame for another one.
 fn remove(stays: &mut Slab<Stay>, store: &mut Store, key: usize)
     ensures gone { Updates stays.old stays.new key None }
     ensures kept { store.new ≡ store.old }
@@ -85,7 +85,7 @@ fn counts_are_small(counts: &[u32])
     let _ = counts;
 }
 
-/// The report that is due at the home of a finish when one more activity under it ends here, if one is.
+/// The report that is due at the home of a finish when one more activity under it ends here, if there is one.
 fn report(alloc: Global, store: &Store, finish: Finish) -> Result<Option<Outgoing>, Stop>
     requires live { 0 < (totals_in store.now (finish_as finish)).live }
     requires within { store.now.here < store.now.places }
@@ -109,7 +109,7 @@ fn report(alloc: Global, store: &Store, finish: Finish) -> Result<Option<Outgoin
     }
 }
 
-/// The stay with a key ends by the RET of its last function. Where it is refused, nothing has changed.
+/// The stay with a key ends with the RET of its last function. Where it is refused, nothing has changed.
 pub(crate) fn leave(
     alloc: Global,
     verified: &Verified,

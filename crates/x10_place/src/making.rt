@@ -12,7 +12,7 @@ use x10_heap::Heap;
 use x10_kinds::Stop;
 use x10_verify::Verified;
 
-/// A number as the length of a rail, where a rail may be so long.
+/// A number as the length of a rail, where a rail may be that long.
 fn rail_length(number: i64) -> Option<u16>
     ensures { result ≡ machine.rail_length number }
 {
@@ -78,7 +78,7 @@ impl CallFrame {
         Ok(())
     }
 
-    /// A rail of zeros, or none where it can't be so long.
+    /// A rail of zeros, or none where it can't be that long.
     fn make_rail(&mut self, verified: &Verified, heap: &mut Heap, instr: Instr) -> Result<(), Stop>
         requires asks { AsksMake make.Rail verified.now.program (length self.old.registers.items) instr }
         requires next { self.old.pc + 1 < 2 ^ 16 }

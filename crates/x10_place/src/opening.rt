@@ -11,7 +11,7 @@ use std::alloc::{AllocError, Global};
 use x10_finish::Finish;
 use x10_verify::Verified;
 
-/// Main: the entry function at its first instruction, its registers 0, under the root finish.
+/// Main: the entry function at its first instruction, with its registers 0, under the root finish.
 fn main(alloc: Global, verified: &Verified) -> Result<Stay, AllocError>
     ensures { IfOk result (IsMain verified.now.program) }
 {

@@ -61,7 +61,7 @@ impl<'a> Place<'a> {
     /// sent to one place under it; 10: the number of a key), where what the step sends leads to more than 65,535 objects,
     /// texts or rails (Limit 7, 8, 9), or after another Stop; the output is then that of the steps before it.
     ///
-    /// Constant time, but that CALL, ASYNC, NEW, RAIL, TEXTK, TCAT and PRINT of a text also copy or fill what they make,
+    /// Constant time, except that CALL, ASYNC, NEW, RAIL, TEXTK, TCAT and PRINT of a text also copy or fill what they make,
     /// that AT, ATA and a RET that sends a result back copy all that they send, that FINB makes two numbers for each pair of
     /// places, that FINE looks at the places where nothing lives under its finish here, that the book of an open finish is
     /// looked up in logarithmic time, that a report has two numbers for each place, and that a list or table that grows is
@@ -89,10 +89,10 @@ impl<'a> Place<'a> {
         made
     }
 
-    /// Up to so many steps of the activity with a key, one after another: as many as come before one that finds nothing to
-    /// do or is refused, or up to one that ends the stay, begins an activity or puts something out. How many
-    /// were made, and what the last one put out, or why no more, where one was refused. Each is as `step` makes it, and moves;
-    /// but the activity is looked up once, and operations of one call frame touch nothing else.
+    /// Up to `most` steps of the activity with a key, one after another: as many as come before one that finds nothing to do or
+    /// is refused, or up to one that ends the stay, begins an activity or puts something out. How many were made, and what the
+    /// last one put out; or, where one was refused, why no more were made. Each is as `step` makes it, and moves; but the
+    /// activity is looked up once, and operations of one call frame touch nothing else.
     pub fn run(&mut self, key: usize, most: u64) -> (u64, Result<Sent, Stop>)
         ensures ran { MatchResult result.1 (λ sent. StridesTo key self.old result.0 sent self.new) (λ why. (p : PlaceState) × Strides key self.old result.0 p × (self.new ≡ record p { stopped = true }) × (self.old.stopped ≢ true → IsHindered p key why)) }
         ensures few { result.0 ≤ most }
@@ -120,11 +120,11 @@ impl<'a> Place<'a> {
 }
 
 impl<'a> Place<'a> {
-    /// Takes in bytes that come from a place: those of the frame of a message, by which an activity begins or goes on, or
-    /// of a report of what was counted of a finish. Bytes of any kind may come: what isn't such a frame for this place, or
-    /// doesn't fit it, is refused, and the first fault is answered. A report of a finish that was closed changes nothing.
-    /// After a refusal for want of memory or at a limit the place has stopped; after each other one it is as before. Linear
-    /// in the bytes, and it takes memory.
+    /// Takes in bytes that come from a place: those of the frame of a message, by which an activity begins or goes on, or of a
+    /// report of what was counted of a finish. Bytes of any kind may come: what isn't such a frame for this place, or doesn't
+    /// fit it, is refused, and the first fault is reported. A report of a finish that was closed changes nothing. After a
+    /// refusal for lack of memory or at a limit the place has stopped; after any other one it is as before. Linear in the
+    /// bytes; takes memory.
     pub fn receive(&mut self, bytes: &[u8]) -> Result<(), Refusal>
         ensures ok { IfOk result (λ _. IsTaken self.old bytes.now self.new) }
         ensures refused { self.old.stopped ≢ true → IfErr result (IsRefusedBytes self.old bytes.now) }
@@ -152,7 +152,7 @@ impl<'a> Place<'a> {
 }
 
 impl<'a> Place<'a> {
-    /// A place at the beginning: main at place 0, no activity elsewhere. Takes memory at place 0 alone.
+    /// A place at the beginning: main at place 0, no activity elsewhere. Takes memory only at place 0.
     pub fn new(
         alloc: Global,
         verified: &'a Verified<'a>,
@@ -185,7 +185,7 @@ impl<'a> Place<'a> {
         })
     }
 
-    /// The least key not below a number that is in use. Linear in the keys that it passes over.
+    /// The least key in use that is not below a number. Linear in the keys that it passes over.
     pub fn next_key(&self, from: usize) -> Option<usize>
         ensures { MatchOption result ((k : ℕ) → from ≤ k → get self.now.stays k ≡ None) (IsNextKey self.now.stays from) }
     {
@@ -213,7 +213,7 @@ impl<'a> Place<'a> {
         self.stays.contains(key)
     }
 
-    /// The key that the next activity gets that begins here. Constant time.
+    /// The key that the next activity that begins here gets. Constant time.
     #[inline(always)]
     pub fn vacant_key(&self) -> usize
         ensures value { result ≡ self.now.stays.vacant_key }

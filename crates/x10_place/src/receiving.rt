@@ -1,4 +1,4 @@
-//! What comes in: bytes that are to be the frame of a message or of a report.
+//! What comes in: bytes that should be the frame of a message or of a report.
 ghost use Rattle.std.specs.Prelude.{◌≡◌, Bool, true, false, Ok, IfErr, IfOk, OnErr, OnOk};
 ghost use Rattle.x10_model.specs.Frames.{Frame, FitsFrame, spelling};
 ghost use Rattle.x10_copy.specs.declared.refusal.Refusal.TheVariants as refusal;
@@ -33,7 +33,7 @@ fn read<'a>(alloc: Global, bytes: &'a [u8], places: u16) -> Result<FrameView<'a>
     }
 }
 
-/// To which place a frame goes.
+/// The place that a frame goes to.
 fn receiver(head: Head) -> u16
     ensures { result ≡ to_in head }
 {
@@ -131,7 +131,7 @@ pub(crate) fn receive_in(
     take(alloc, verified, stays, store, &view)
 }
 
-/// Whether a place stops after a refusal: for want of memory, or at a limit.
+/// Whether a place stops after a refusal: for lack of memory, or at a limit.
 pub(crate) fn is_stop(why: Refusal) -> bool
     ensures { result ≡ stops why }
 {

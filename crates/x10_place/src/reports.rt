@@ -8,7 +8,7 @@ use crate::store::Store;
 use x10_copy::Refusal;
 use x10_frame::FrameView;
 
-/// How many activities a report says were sent to each place, and after them numbers that mean nothing.
+/// How many activities a report says were sent to each place, followed by numbers that mean nothing.
 fn sent(view: &FrameView) -> [u32; 64]
     requires { length (sent_of view.now) ≤ 64 }
     ensures { take (length (sent_of view.now)) result ≡ sent_of view.now }
@@ -20,7 +20,7 @@ fn sent(view: &FrameView) -> [u32; 64]
     counts
 }
 
-/// How many it says were received from each, and after them numbers that mean nothing.
+/// How many it says were received from each, followed by numbers that mean nothing.
 fn received(view: &FrameView) -> [u32; 64]
     requires { length (received_of view.now) ≤ 64 }
     ensures { take (length (received_of view.now)) result ≡ received_of view.now }
@@ -32,8 +32,8 @@ fn received(view: &FrameView) -> [u32; 64]
     counts
 }
 
-/// The book of a finish takes in what a report says. One of a finish that was closed says nothing new. Where it is refused,
-/// nothing has changed.
+/// The book of a finish takes in what a report says. A report of a finish that was closed says nothing new. Where it is
+/// refused, nothing has changed.
 pub(crate) fn take_report(
     store: &mut Store,
     view: &FrameView,

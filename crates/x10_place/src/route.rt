@@ -1,4 +1,4 @@
-//! Operations as a step tells them apart.
+//! Operations, as a step distinguishes them.
 ghost use Rattle.std.specs.Prelude.{◌≡◌};
 ghost use Rattle.x10_place.specs.Routes.{route_of};
 
@@ -15,7 +15,7 @@ pub(crate) enum Number {
     Equal,
     RailLength,
     TextLength,
-    /// That of a place.
+    /// The number of a place.
     PlaceNumber,
 }
 
@@ -64,7 +64,7 @@ pub(crate) enum Local {
     EndLoop,
 }
 
-/// An operation that changes its own call frame alone, by the place where it is executed.
+/// An operation that changes its own call frame alone, and depends on the place where it is executed.
 #[derive(Clone, Copy, Debug, PartialEq, Eq)]
 pub(crate) enum Site {
     /// Writes this place to a register.

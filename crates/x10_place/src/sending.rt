@@ -16,7 +16,7 @@ use x10_kinds::{Kind, Stop};
 use x10_model::Slot;
 use x10_verify::Verified;
 
-/// The parameters of a function, and after them slots that mean nothing.
+/// The parameters of a function, followed by slots that mean nothing.
 pub(crate) fn parameters(signature: &SigView) -> [Slot; 16]
     requires { length signature.now.parameters ≤ 16 }
     ensures { take (length signature.now.parameters) result ≡ signature.now.parameters }

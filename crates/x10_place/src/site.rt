@@ -1,4 +1,4 @@
-//! Operations that go by the place where they are executed, and global references to its objects.
+//! Operations that depend on the place where they are executed, and global references to its objects.
 ghost use Rattle.std.specs.Prelude.{◌≡◌, ◌+◌, ◌<◌, ◌^◌, ℕ, IfErr, IfOk, Err, length};
 ghost use Rattle.x10_kinds.specs.declared.stop.Stop.TheVariants as stop;
 ghost use Rattle.x10_heap.specs.Heaps.{HeapState, IsFull};
@@ -36,7 +36,7 @@ impl CallFrame {
         }
     }
 
-    /// One operation that goes by the place where it is executed.
+    /// One operation that depends on the place where it is executed.
     pub(crate) fn act_at(&mut self, spot: Spot, site: Site, instr: Instr)
         requires asks { AsksAt site (length self.old.registers.items) instr }
         requires reads { ReadsAt site spot.places self.old.registers.items instr }

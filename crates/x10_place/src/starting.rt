@@ -38,7 +38,7 @@ pub(crate) fn go_on(stays: &mut Slab<Stay>, key: usize)
     }
 }
 
-/// An activity begins by the instruction of the stay with a key. Where it is refused, nothing has changed.
+/// The instruction of the stay with a key begins an activity. Where it is refused, nothing has changed.
 pub(crate) fn begin(
     alloc: Global,
     verified: &Verified,

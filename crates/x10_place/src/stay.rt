@@ -60,7 +60,7 @@ impl Model for Stay {
     ghost view = { λ a. record { top = a.top.value; callers = frames_of a.callers.items; finishes = reverse a.finishes.items; inherited = finish_as a.inherited; away = a.away; back = origin_as a.back } };
 }
 
-/// What becomes of a stay by a step.
+/// What becomes of a stay in a step.
 #[derive(Clone, Copy, Debug, PartialEq, Eq)]
 pub(crate) enum Outcome {
     /// It goes on.
@@ -94,8 +94,8 @@ impl Stay {
         Ok(())
     }
 
-    /// The function ends, and its caller goes on with the result, if there is one. Where there is no caller the stay ends
-    /// with it, which is for the place to make.
+    /// The function ends, and its caller goes on with the result, if there is one. Where there is no caller, the stay ends with
+    /// it, which is for the place to do.
     #[inline(always)]
     fn ret(&mut self, verified: &Verified, store: &mut Store, instr: Instr) -> Outcome
         requires placed { IsPlaced verified.now.program self.old }
@@ -307,10 +307,10 @@ impl Stay {
     }
 }
 
-/// Why a stay makes no more steps at a stretch.
+/// Why a stay makes no more steps in a stretch.
 #[derive(Clone, Copy, Debug, PartialEq, Eq)]
 pub(crate) enum Pause {
-    /// It has made as many as it was to.
+    /// It has made as many as were asked for.
     Goes,
     /// It waits at the end of a finish that may not end yet.
     Waits,
@@ -321,8 +321,8 @@ pub(crate) enum Pause {
 }
 
 impl Stay {
-    /// Operations of the top frame alone: as many as come before one that isn't, and at most so many. How many there were,
-    /// and the instruction at which the stay stands then, where it isn't of the frame alone.
+    /// Operations of the top frame alone: as many as come before one that isn't, and at most `most`. How many there were, and
+    /// the instruction at which the stay then stands, if it isn't of the frame alone.
     #[inline(always)]
     fn stretch(&mut self, verified: &Verified, store: &mut Store, most: u64) -> (u64, Option<Instr>)
         requires inside { IsInside verified.now.program self.old.top }
@@ -337,8 +337,7 @@ impl Stay {
         self.top.stretch(&mut store.heap, verified, most)
     }
 
-    /// Operations of the top frame alone, and then a step of any kind, but at most so many in all: how many steps were
-    /// made.
+    /// Operations of the top frame alone, and then a step of any kind, but at most `most` steps in all: how many were made.
     fn stride(
         &mut self,
         alloc: Global,
@@ -368,8 +367,7 @@ impl Stay {
         }
     }
 
-    /// So many steps, or as many as come before one that waits, is for the place to make, or is refused: how many were
-    /// made.
+    /// `most` steps, or as many as come before one that waits, is for the place to make, or is refused: how many were made.
     pub(crate) fn run(
         &mut self,
         alloc: Global,

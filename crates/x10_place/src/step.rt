@@ -1,4 +1,4 @@
-//! One step of a stay at its place, and steps of one at a stretch.
+//! One step of a stay at its place, and steps of one stay in a stretch.
 ghost use Rattle.std.specs.Prelude.{◌≡◌, false, Err, IfErr, IfOk, OnErr, OnOk, ℕ};
 ghost use Rattle.x10_code.specs.declared.instr.Instr.{Instr};
 ghost use Rattle.x10_kinds.specs.declared.stop.Stop.TheVariants as stop;
@@ -76,8 +76,8 @@ pub(crate) fn step_in(
     }
 }
 
-/// Up to so many steps of the stay with a key: how many were made, and what the last one put out, or why no more, where
-/// one was refused.
+/// Up to `most` steps of the stay with a key: how many were made, and what the last one put out; or, where one was refused, why
+/// no more were made.
 pub(crate) fn run_in(
     alloc: Global,
     verified: &Verified,

@@ -51,7 +51,7 @@ impl Model for Store {
 }
 
 impl Store {
-    /// Nothing yet, but that place 0 begins with main under the root finish. Takes memory at place 0 alone.
+    /// Nothing yet, except that place 0 begins with main under the root finish. Takes memory only at place 0.
     pub(crate) fn new(alloc: Global, spot: Spot) -> Result<Store, Stop>
         requires { spot.here < spot.places }
         ensures ok { IfOk result (IsNewStore spot.here spot.places) }
@@ -86,7 +86,7 @@ impl Store {
         }
     }
 
-    /// One line more. Where memory is refused, nothing has changed.
+    /// One more line. Where memory is refused, nothing has changed.
     pub(crate) fn print(&mut self, line: Line) -> Result<(), AllocError>
         ensures ok { OnOk result (self.new ≡ record self.old { lines = self.old.lines ++ line ∷ [] }) }
         ensures err { OnErr result (self.new ≡ self.old) }
@@ -95,8 +95,8 @@ impl Store {
         Ok(())
     }
 
-    /// A call frame with at least so many registers, of any words, wherever it stands: that of a function that ended, if
-    /// there is one.
+    /// A call frame with at least `count` registers, which hold any words, at any instruction: that of a function that ended,
+    /// if there is one.
     #[inline(always)]
     pub(crate) fn frame(
         &mut self,
@@ -116,7 +116,7 @@ impl Store {
         Ok(frame)
     }
 
-    /// Takes the call frame of a function that ended. Takes no memory: where there is no room for it, it goes.
+    /// Takes the call frame of a function that ended. Takes no memory: where there is no room for the frame, it is dropped.
     #[inline(always)]
     pub(crate) fn keep(&mut self, frame: Box<CallFrame>)
         ensures { self.new ≡ self.old }
@@ -219,7 +219,7 @@ impl Store {
         self.books[&number].done(&self.tally)
     }
 
-    /// Closes a finish that is open here: its book goes, and what was counted of it. Takes no memory.
+    /// Closes a finish that is open here: its book is dropped, and what was counted of it. Takes no memory.
     pub(crate) fn close_finish(&mut self, number: u32)
         ensures { Recounts self.old self.new self.old.opened (changed_at (totals_in self.old) (finish_at self.old.here number) (λ t. nothing)) (with_entry (books_in self.old) number None) }
     {
@@ -262,8 +262,8 @@ impl Store {
         self.tally.spawned(finish, to)
     }
 
-    /// What the home of a finish is told when one more activity under it ends here, if it is told something then: how many
-    /// were sent to each place, and received from each.
+    /// What is reported to the home of a finish when one more activity under it ends here, if anything is: how many were sent
+    /// to each place, and received from each.
     pub(crate) fn due(&self, finish: Finish) -> Option<(&[u32], &[u32])>
         requires { 0 < (totals_in self.now (finish_as finish)).live }
         ensures none { IfNone result (gives_report self.now.ledger (finish_as finish) ≡ false) }

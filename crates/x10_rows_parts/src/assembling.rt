@@ -6,7 +6,7 @@ use x10_asm::{AsmCause, assemble};
 /// One function that prints the constant number 7.
 const SEVEN: &str = "places 1\nint 7\nfunc 1 0 none\nINTK 0 0\nPRINT 0\nRET 0\nend\nentry 0\n";
 
-/// The right answer, or want of memory, which is no line's fault.
+/// The right answer, or lack of memory, which is no line's fault.
 #[test]
 fn want_of_memory(rt: HostRuntime) {
     match assemble(rt.alloc(), SEVEN) {

@@ -93,7 +93,7 @@ fn texts(rt: HostRuntime) -> Result<(), Fail> {
     Ok(())
 }
 
-/// A PRINT of a text, one of a number, and behind the RET one that no way leads to.
+/// A PRINT of a text, one of a number, and after the RET one that no way leads to.
 const PRINTS: &str = "places 1
 int 7
 text \"t\"

@@ -52,7 +52,7 @@ const TABLE: [(u8, &str, [u8; 4]); 44] = [
     (0x2e, "FINE", [0, 0, 0, 0]),
 ];
 
-/// The table as a slice, of which a proof sees the type alone.
+/// The table as a slice, of which a proof sees only the type.
 fn table() -> &'static [(u8, &'static str, [u8; 4])] {
     &TABLE
 }

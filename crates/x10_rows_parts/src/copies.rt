@@ -85,7 +85,7 @@ pub(crate) fn here(class: u16) -> Slot {
     }
 }
 
-/// The frame as a slice, of which a proof sees the type alone; so the objects, and the words here and there.
+/// The frame as a slice, of which a proof sees only the type; so the objects, and the words here and there.
 fn shared() -> &'static [u8] {
     &SHARED
 }

@@ -137,12 +137,12 @@ fn home(alloc: Global) -> Result<(Tally, Book), Stop> {
     Ok((Tally::new(alloc, 0, 3), Book::open(alloc, FINISH, 3)?))
 }
 
-/// Where a tally stands, and how many places it counts of.
+/// The place of a tally, and how many places it counts.
 fn place_of(tally: &Tally) -> (u16, u16) {
     (tally.place(), tally.places())
 }
 
-/// Of which finish a book is, and how many places it has numbers of.
+/// The finish of a book, and how many places it has numbers of.
 fn finish_of(book: &Book) -> (Finish, u16) {
     (book.finish(), book.places())
 }
@@ -169,7 +169,7 @@ fn home_reports_nothing(rt: HostRuntime) -> Result<(), Fail> {
     Ok(())
 }
 
-/// Finishes that a place has met, in no order.
+/// Finishes that a place has met, in no particular order.
 const MET: &[Finish] = &[
     Finish { home: 3, number: 0 },
     Finish { home: 0, number: 7 },
@@ -191,7 +191,7 @@ fn counted(tally: &Tally, finish: Finish) -> (u32, usize, usize) {
     )
 }
 
-/// The finishes as a slice, of which a proof sees the type alone.
+/// The finishes as a slice, of which a proof sees only the type.
 fn met() -> &'static [Finish] {
     MET
 }
@@ -273,7 +273,7 @@ fn filled(rt: &impl Abort, tally: &mut Tally) -> u32 {
     begun.saturating_add(new)
 }
 
-/// One of so many activities ends, or all live on where the report of the last was refused.
+/// One of `living` activities ends, or all live on where the report of the last was refused.
 fn one_ends(rt: &impl Abort, tally: &mut Tally, living: u32) {
     let ended = end(rt, tally).is_ok();
     assert!(rt; ended || living == 1);
@@ -285,7 +285,7 @@ fn one_ends(rt: &impl Abort, tally: &mut Tally, living: u32) {
     assert!(rt; live(tally) == left);
 }
 
-/// Whether a book is opened that balances, or is refused for want of memory.
+/// Whether a book is opened that balances, or is refused for lack of memory.
 fn opens(alloc: Global) -> bool {
     match Book::open(alloc, FINISH, 3) {
         Ok(book) => book.balanced(&Tally::new(alloc, 0, 3)),

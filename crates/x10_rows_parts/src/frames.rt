@@ -18,7 +18,7 @@ const VALUES: [u8; 61] = [
     0, 0, 0, 2, 128, 0,
 ];
 
-/// What stands before the counts of a graph, in a frame for a new activity at place 1.
+/// What comes before the counts of a graph, in a frame for a new activity at place 1.
 const HEAD: [u8; 14] = [1, 1, 0, 0, 0, 1, 0, 0, 0, 0, 0, 1, 0, 0];
 
 /// The frame for a new activity at place 1 with a graph.

@@ -70,7 +70,7 @@ fn rails(rt: HostRuntime) -> Result<(), Fail> {
     Ok(())
 }
 
-/// A text of so many bytes.
+/// A text of `bytes` bytes.
 pub(crate) fn long(alloc: Global, bytes: u32) -> Result<String, AllocError> {
     let mut long = String::new(alloc);
     for _ in 0..bytes {

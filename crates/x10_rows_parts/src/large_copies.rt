@@ -24,7 +24,7 @@ entry 0
 /// How many texts or rails an object names.
 const EACH: u32 = 15;
 
-/// The word of the object after this one in a list of so many.
+/// The word of the object after this one in a list of `count` objects.
 fn next(number: u32, count: u32) -> u64 {
     if number.saturating_add(1) < count {
         u64::from(number) + 2
@@ -33,7 +33,7 @@ fn next(number: u32, count: u32) -> u64 {
     }
 }
 
-/// A list of so many objects of class 0.
+/// A list of `count` objects of class 0.
 fn list(alloc: Global, count: u32) -> Result<Heap, Stop> {
     let mut heap = Heap::new(alloc);
     for number in 0..count {
@@ -51,7 +51,7 @@ fn naming(next: u64, first: u32, last: u32) -> [u64; 16] {
     words
 }
 
-/// A list of objects of a class that name each text or each rail of the heap, of which there are so many.
+/// A list of objects of a class that name each text or each rail of the heap, of which there are `count`.
 fn name_all(heap: &mut Heap, class: u16, count: u32) -> Result<(), Stop> {
     let objects = count.div_ceil(EACH);
     for number in 0..objects {

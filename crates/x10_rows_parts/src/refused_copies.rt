@@ -10,7 +10,7 @@ use x10_image::ImageView;
 use x10_kinds::Kind;
 use x10_model::Slot;
 
-/// Kinds of roots, a graph that is to arrive there, and why it doesn't.
+/// Kinds of roots, a graph that should arrive there, and why it doesn't.
 type Case<'a> = (&'a [Slot], &'a [u8], Option<Refusal>);
 
 /// Why a graph doesn't arrive at `host`, if it doesn't; then that is as it was.
@@ -97,7 +97,7 @@ fn references_are_asked_for(rt: HostRuntime) -> Result<(), Fail> {
     are_answered(rt.alloc(), &rt, &cases)
 }
 
-/// Of two faults the kind is told before the home, and the home before the reference, wherever they are.
+/// Of two faults the kind is reported before the home, and the home before the reference, wherever they are.
 #[test]
 fn the_first_fault_is_named(rt: HostRuntime) -> Result<(), Fail> {
     let any = slot(Kind::GRef(2));

@@ -1,4 +1,4 @@
-//! A walk of many random events at five places, beside a plain count of everything.
+//! A walk of many random events at five places, next to a plain count of everything.
 
 use std::alloc::Global;
 use std::process::Abort;
@@ -85,7 +85,7 @@ impl Plain {
         (0..25usize).all(|i| self.agrees(i / 5, i % 5))
     }
 
-    /// Whether a report is what a place has to tell.
+    /// Whether a report is what a place has to report.
     fn tells(&self, p: usize, report: &Report) -> bool {
         usize::from(report.place) == p
             && report.number == FINISH.number

@@ -140,7 +140,7 @@ fn random_heap(alloc: Global, dice: &mut Dice, image: &ImageView, counts: &Count
     Some(heap)
 }
 
-/// Three objects of class 2 that global references name, behind other parts.
+/// Three objects of class 2 that global references name, after other parts.
 fn host(alloc: Global) -> Option<Heap> {
     let mut heap = Heap::new(alloc);
     heap.new_text("here").ok()?;
@@ -246,7 +246,7 @@ impl Walk {
         }
     }
 
-    /// Whether two words of objects lead to a pair; it is to be looked at where it wasn't one yet.
+    /// Whether two words of objects lead to a pair; it will be looked at where it wasn't one yet.
     fn objects_meet(&mut self, here: u64, there: u64) -> bool {
         let (Some(from), Some(to)) = (here.checked_sub(1), there.checked_sub(1)) else {
             return false;
@@ -315,7 +315,7 @@ fn same_rail(from: &Heap, to: &Heap, here: u64, there: u64) -> bool {
     from.rail(here as u32) == to.rail(there as u32)
 }
 
-/// Whether the roots lead to copies of what the words lead to, and nothing else was added to so many objects.
+/// Whether the roots lead to copies of what the words lead to, and nothing else was added after the first `before` objects.
 fn is_copy(
     alloc: Global,
     image: &ImageView,

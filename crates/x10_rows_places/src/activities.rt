@@ -1,4 +1,4 @@
-//! Many activities at one place under ten thousand random events, beside a plain count of what each of them does.
+//! Many activities at one place under ten thousand random events, next to a plain count of what each of them does.
 use crate::places::{opened, program};
 use std::alloc::{AllocError, Global};
 use std::process::Abort;

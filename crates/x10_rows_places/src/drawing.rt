@@ -9,7 +9,7 @@ use x10_model::Event;
 use x10_samples::{AWAY, SEVEN};
 use x10_world::{Done, Rounds, World};
 
-/// The picture of the run of seven, behind its legend.
+/// The picture of the run of seven, after its legend.
 const SEVEN_DRAWN: &str = r##"<text x="18" y="136" font-size="12" font-weight="bold">place 0</text>
 <path d="M26 142V198" stroke="#999999" stroke-dasharray="6 4"/>
 <path stroke="#e4e4e4" d="M0 150M46 150H56M46 162H56M46 174H56M46 186H56"/>
@@ -57,7 +57,7 @@ end
 entry 2
 ";
 
-/// Notes the events of a run in rounds, so many at most.
+/// Notes the events of a run in rounds, at most `limit`.
 fn noted(alloc: Global, world: &mut World, limit: u64) -> Result<Drawing, Fail> {
     let mut drawing = Drawing::new(alloc, world.count())?;
     let mut rounds = Rounds::new(alloc, world)?;
@@ -72,7 +72,7 @@ fn noted(alloc: Global, world: &mut World, limit: u64) -> Result<Drawing, Fail> 
     Ok(drawing)
 }
 
-/// The drawing of the first events of a run, so many at most.
+/// The drawing of the first events of a run, at most `limit`.
 fn drawn(alloc: Global, image: &[u8], places: u16, limit: u64) -> Result<Drawing, Fail> {
     let verified = program(alloc, image)?;
     let mut world = world_of(alloc, &verified, places)?;
@@ -85,7 +85,7 @@ fn pictured(alloc: Global, text: &str, places: u16, limit: u64) -> Result<String
     Ok(drawn(alloc, &image, places, limit)?.svg()?)
 }
 
-/// The picture of the events of a run after so many, of which nothing was noted.
+/// The picture of the events of a run after the first `missed` ones, of which nothing was noted.
 fn pictured_late(alloc: Global, text: &str, places: u16, missed: u64) -> Result<String, Fail> {
     let image = assemble(alloc, text)?;
     let verified = program(alloc, &image)?;

@@ -1,4 +1,4 @@
-//! Frames that no place sends: which fault is told of each, and that the place is as before.
+//! Frames that no place sends: which fault is reported for each, and that the place is as before.
 use crate::places::{opened, program, ran};
 use crate::receiving::{is_used, printed, refused, spawn, takes};
 use crate::travels::ALONG;
@@ -31,7 +31,7 @@ const WRONG: [u8; 40] = [
     7, 0, 0, 0, 0, 0, 1, 0, 0, // the second one's number
 ];
 
-/// What puts one fault after another right, and the fault that is told then.
+/// What puts one fault after another right, and the fault that is reported then.
 const RIGHT: [(usize, u8, Refusal); 6] = [
     (0, 1, Refusal::NotHere),
     (5, 0, Refusal::Function),
@@ -61,7 +61,7 @@ const REPORT_OF_TWO_PLACES: [u8; 28] = [
     1, 4, 0, 1, 0, 0, 0, 0, 0, 1, 0, 2, 0, 0, 0, 0, 0, 0, 0, 0, 0, 0, 0, 0, 0, 0, 0, 0,
 ];
 
-/// Each fault is told in its turn, and the frame that has none is taken in.
+/// Each fault is reported in its turn, and the frame that has none is taken in.
 fn each_is_told(rt: &impl Abort, place: &mut Place) {
     let mut frame = WRONG;
     let version = Refusal::Frame(FrameFault::Version);

@@ -124,7 +124,7 @@ fn step(rt: &impl Abort, place: &mut Place) -> Option<Sent> {
     }
 }
 
-/// What the last of so many steps of the first key puts out. Where memory is refused, fewer are made.
+/// What the last of `steps` steps of the first key puts out. Where memory is refused, fewer are made.
 fn run(rt: &impl Abort, place: &mut Place, steps: u64) -> Option<Sent> {
     match stretched(place, steps) {
         (made, Ok(sent)) => {
@@ -154,7 +154,7 @@ fn takes(rt: &impl Abort, place: &mut Place, frame: Option<Outgoing>) -> bool {
     false
 }
 
-/// What the first place sends the other, if no memory is refused: after eight steps one by one, or so many at a stretch.
+/// What the first place sends to the other, if no memory is refused: after eight steps, one by one or in a stretch.
 fn goes(rt: &impl Abort, place: &mut Place, by_steps: bool) -> Option<Sent> {
     if !by_steps {
         return run(rt, place, 9);
@@ -202,7 +202,7 @@ fn ends(rt: &impl Abort, one: &mut Place, other: &mut Place) {
     assert!(rt; seen(one).closed && has_printed(one) && has_printed(other));
 }
 
-/// The way between two places, by steps or at a stretch.
+/// The way between two places, by steps or in a stretch.
 fn between_places(alloc: Global, rt: &impl Abort, by_steps: bool) -> Result<(), Fail> {
     let Ok(bytes) = assemble(alloc, THERE_AND_BACK) else {
         return Ok(());

@@ -59,7 +59,7 @@ enum Order {
     Shuffled,
 }
 
-/// Puts the numbers of the frames on their way to a place behind others.
+/// Appends the numbers of the frames on their way to a place.
 fn add_flying(world: &World, place: u16, numbers: &mut Vec<u64>) -> Result<(), Fail> {
     let mut from = 0u64;
     for _ in 0..world.posted() {

@@ -46,7 +46,7 @@ end
 entry 3
 ";
 
-/// A place of a run on so many places, where its module runs on so many.
+/// A place of a run at `places` places, where its module runs at that many.
 pub(crate) fn place_of<'a>(
     alloc: Global,
     verified: &'a Verified<'a>,
@@ -99,7 +99,7 @@ pub(crate) fn idles(place: &mut Place, key: usize) -> bool {
     matches!(place.step(key), Ok(Stepped::Idle))
 }
 
-/// How far many steps go, where no memory is wanted.
+/// How far many steps go, where no memory is refused.
 pub(crate) fn ran(place: &mut Place, key: usize, most: u64) -> Option<u64> {
     match place.run(key, most) {
         (steps, Ok(_)) => Some(steps),

@@ -52,7 +52,7 @@ fn report(from: u8, sent: [u8; 3], received: [u8; 3]) -> [u8; 36] {
     bytes
 }
 
-/// The frame of a cycle, with another byte at one place.
+/// The frame of a cycle, with another byte at one position.
 fn cycle_with(at: usize, byte: u8) -> [u8; 67] {
     let mut bytes = CYCLE;
     if let Some(place) = bytes.get_mut(at) {
@@ -99,7 +99,7 @@ pub(crate) fn takes(place: &mut Place, bytes: &[u8]) -> bool {
     place.receive(bytes).is_ok()
 }
 
-/// Main waits for both reports, in whichever order they come. One that comes late changes nothing.
+/// Main waits for both reports, in any order. One that comes late changes nothing.
 fn waits_for_both(rt: &impl Abort, place: &mut Place) {
     assert!(rt; ran(place, 0, 100) == Some(3));
     assert!(rt; ran(place, 0, 100) == Some(2));

@@ -88,7 +88,7 @@ fn waits(world: &mut World, place: u16) -> bool {
     world.run_activity(place, 0, 1) == Ok(0)
 }
 
-/// Whether so many steps of the first key are made until it ends, waits or is away.
+/// Whether `steps` steps of the first key are made until it ends, waits or is away.
 fn makes(world: &mut World, place: u16, steps: u64) -> bool {
     world.run_activity(place, 0, 100) == Ok(steps)
 }

@@ -17,7 +17,7 @@ fn prints_r1() -> [u8; 64] {
     bytes
 }
 
-/// A run of `SEVEN` on one place: whether it has ended, how many events were made, and what was printed.
+/// A run of `SEVEN` at one place: whether it has ended, how many events were made, and what was printed.
 fn outcome(alloc: Global, events: &[Event]) -> Result<(bool, usize, Option<i64>), Fail> {
     let run = run_image(alloc, &SEVEN, 1, events)?;
     let printed = match run.outputs.first() {
@@ -42,12 +42,12 @@ fn runs_of_events(rt: HostRuntime) -> Result<(), Fail> {
     Ok(())
 }
 
-/// Why an image doesn't run on so many places, if it doesn't.
+/// Why an image doesn't run at `places` places, if it doesn't.
 fn fault_of(alloc: Global, image: &[u8], places: u16) -> Option<RunFault> {
     run_image(alloc, image, places, &[]).err()
 }
 
-/// On how many places an image runs.
+/// At how many places an image runs.
 fn places_of(alloc: Global, image: &[u8], places: u16) -> Option<usize> {
     match run_image(alloc, image, places, &[]) {
         Ok(run) => Some(run.outputs.len()),
@@ -74,7 +74,7 @@ fn refusals(rt: HostRuntime) {
     assert!(rt; places_of(alloc, &least_two, 64) == Some(64));
 }
 
-/// A world of so many places for a program.
+/// A world of `places` places for a program.
 pub(crate) fn world_of<'a>(
     alloc: Global,
     verified: &'a Verified<'a>,
@@ -118,7 +118,7 @@ fn count(world: &World) -> u16 {
     world.count()
 }
 
-/// How many steps of an activity are made, of so many at most.
+/// How many steps of an activity are made, of at most `steps`.
 fn ran(world: &mut World, place: u16, key: usize, steps: u64) -> Option<u64> {
     world.run_activity(place, key, steps).ok()
 }
@@ -158,7 +158,7 @@ fn at_a_stretch(rt: HostRuntime) -> Result<(), Fail> {
     Ok(())
 }
 
-/// Why a world makes no more of so many events in rounds.
+/// Why a world makes no more events in rounds, of at most `limit`.
 fn halt(alloc: Global, world: &mut World, limit: u64) -> Option<Halt> {
     run_rounds(alloc, world, limit).err()
 }
@@ -216,7 +216,7 @@ fn is_over(world: &mut World, events: &[Event]) -> bool {
         && !is_closed(world)
 }
 
-/// The run ends, or it stops for want of memory.
+/// The run ends, or it stops for lack of memory.
 fn ends_or_stops(rt: &impl Abort, world: &mut World) {
     let events = [Event::Step(0, 0); 3];
     match stop(world, &events) {
@@ -225,7 +225,7 @@ fn ends_or_stops(rt: &impl Abort, world: &mut World) {
     }
 }
 
-/// A program runs, or its world isn't opened for want of memory.
+/// A program runs, or its world isn't opened for lack of memory.
 fn opens(alloc: Global, rt: &impl Abort, verified: &Verified) -> Result<(), Fail> {
     match World::open(alloc, verified, 1) {
         Ok(mut world) => {
@@ -236,7 +236,7 @@ fn opens(alloc: Global, rt: &impl Abort, verified: &Verified) -> Result<(), Fail
     }
 }
 
-/// An image's program runs, or it isn't verified for want of memory.
+/// An image's program runs, or it isn't verified for lack of memory.
 fn verifies(alloc: Global, rt: &impl Abort, image: ImageView) -> Result<(), Fail> {
     match verify(alloc, image) {
         Ok(verified) => opens(alloc, rt, &verified),
@@ -244,8 +244,8 @@ fn verifies(alloc: Global, rt: &impl Abort, image: ImageView) -> Result<(), Fail
     }
 }
 
-// Under `rt try --test --fail-alloc N` each allocation fails in turn: it is told by name, and after a Stop the world
-// stays as it is.
+// Under `rt try --test --fail-alloc N` each allocation fails in turn: it is reported by name, and after a Stop the world stays
+// as it is.
 #[test]
 fn memory_refused(rt: HostRuntime) -> Result<(), Fail> {
     match ImageView::read(rt.alloc(), &SEVEN) {
@@ -257,6 +257,6 @@ fn memory_refused(rt: HostRuntime) -> Result<(), Fail> {
 fn fails_for(memory: bool) -> Result<(), Fail> {
     memory
         .then_some(())
-        .ok_or("a fault that is not want of memory")?;
+        .ok_or("a fault that isn't a refusal of memory")?;
     Ok(())
 }

@@ -9,7 +9,7 @@ use x10_image::{ImageFault, ImageView};
 use x10_kinds::{Kind, Term};
 use x10_verify::{VerifyCause, VerifyFault, known_flow};
 
-/// A reference that is opened on two ways, of which one alone knows that its home is here.
+/// A reference that is opened on two ways, only one of which knows that its home is here.
 const AWAY: &str =
     "places 1\nclass int\nfunc 3 1 none gref:0 int\nLOOP 0 3\nENDL 0 1\nJZ 1 4\nIFHERE 0 5\nGOPEN 2 0\nRET 0\nend\nfunc 1 0 none\nRET 0\nend\nentry 1\n";
 

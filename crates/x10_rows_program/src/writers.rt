@@ -7,7 +7,7 @@ use std::thread::Threads;
 use x10_cli::{Task, execute, parse};
 use x10_samples::SEVEN;
 
-/// A writer that takes a byte at a time, so many of them, and then fails.
+/// A writer that takes a byte at a time, `room` of them, and then fails.
 #[derive(Drop)]
 struct Narrow {
     taken: Vec<u8>,
@@ -38,7 +38,7 @@ fn narrow_to(alloc: Global, room: usize) -> Narrow {
     }
 }
 
-/// The status of a task on an image, and what was written, where the output takes so many bytes.
+/// The status of a task on an image, and what was written, where the output takes `room` bytes.
 fn narrowed<R: Threads + Wait + Sync>(
     rt: &R,
     alloc: Global,
@@ -51,7 +51,7 @@ fn narrowed<R: Threads + Wait + Sync>(
     (status, out.taken, err)
 }
 
-/// Whether a task that prints a text fails wherever its output does, and tells that.
+/// Whether a task that prints a text fails wherever its output does, and reports that.
 pub(crate) fn fails<R: Threads + Wait + Sync>(
     rt: &R,
     alloc: Global,

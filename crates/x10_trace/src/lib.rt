@@ -1,4 +1,4 @@
-//! The trace of a run: the lines that tell its events.
+//! The trace of a run: the lines for its events.
 #![tactic(auto)]
 
 mod lines;

@@ -11,10 +11,10 @@ use x10_code::{Op, name};
 use x10_model::Event;
 use x10_world::{Done, World};
 
-/// The lines that tell an event, in the world as it stands after it: `S place key function pc NAME` for a step, and after
-/// it `P number from to hex` for each frame that it put out and that is in flight, with its bytes in hexadecimal; `D number
-/// to` for a delivery; `- place key` for a step that found nothing to do, and `- number` for a delivery of no frame. Each is
-/// ended by a line feed. Linear in the bytes of the frames.
+/// The lines for an event, in the world right after it: `S place key function pc NAME` for a step, and after that `P number
+/// from to hex` for each frame that it put out and that is in flight, with its bytes in hexadecimal; `D number to` for a
+/// delivery; `- place key` for a step that found nothing to do, and `- number` for a delivery of no frame. Each ends with a
+/// line feed. Linear in the bytes of the frames.
 pub fn trace_line(
     alloc: Global,
     world: &World,
@@ -57,7 +57,7 @@ fn push_step(
     push_posts(alloc, text, world, place, first, count)
 }
 
-/// The lines of so many frames that are in flight, numbered from one on.
+/// The lines of those frames in flight that are among the `count` numbered from `first` on.
 fn push_posts(
     alloc: Global,
     text: &mut String,

@@ -34,7 +34,7 @@ fn fits_as(slot: Slot, register: u8, at: Term, known: &Known) -> Result<(), Flow
     Ok(())
 }
 
-// The registers from one on fit the parameters, at the place of a term.
+// The registers from `first` on fit the parameters, at the place of a term.
 fn arguments_fit(signature: &SigView, first: u8, at: Term, known: &Known) -> Result<(), FlowCause>
     requires term { IsTerm at }
     requires few { length signature.now.parameters ≤ 16 }

@@ -19,8 +19,8 @@ use x10_image::ImageView;
 use x10_kinds::Kind;
 use x10_model::Slot;
 
-/// The effect of an instruction in a state, if its rule holds there; else the first thing that is missing, by the order of
-/// the operands. `slot` is the result of the function that it stands in.
+/// The effect of an instruction in a state, if its rule holds there; else the first thing that is missing, by the order of the
+/// operands. `slot` is the result of the function that it belongs to.
 pub(crate) fn decide(
     image: &ImageView,
     slot: Option<Slot>,
@@ -49,7 +49,7 @@ fn asked(register: u8, want: Option<Kind>, known: &Known) -> Result<(), FlowCaus
     }
 }
 
-// What a row asks beside kinds, and the effect.
+// What a row asks besides kinds, and the effect.
 fn settled(
     image: &ImageView,
     slot: Option<Slot>,

@@ -34,7 +34,7 @@ fn kinds(signature: &SigView) -> Kinds
     kinds
 }
 
-// The homes of the parameters from one on.
+// The homes of the parameters from `from` on.
 fn homes(signature: &SigView, from: usize) -> Homes
     requires count { length signature.now.parameters ≤ 16 }
     requires from { from ≤ length signature.now.parameters }

@@ -13,7 +13,7 @@ pub(crate) enum FlowCause {
     Kind,
     /// An equation that is asked for does not hold.
     Home,
-    /// A register is named for a result that there is not.
+    /// A register is named for a result, but there is none.
     Result,
 }
 
@@ -35,18 +35,18 @@ pub enum VerifyCause {
     /// An equation between places that is asked for doesn't hold.
     #[error("Home")]
     Home,
-    /// A register is named for a result that there isn't, or a result is dropped.
+    /// A register is named for a result, but there is none; or a result is dropped.
     #[error("Result")]
     Result,
-    /// A growth was refused for want of memory.
+    /// A growth was refused for lack of memory.
     #[error("Memory")]
     Memory,
 }
 
-/// Why a module is refused, with the function and the instruction. Structure is looked at first over all functions, then
-/// Index, then the flow of each function by itself: a cause from Unset to Result names the first function that has no
-/// consistent assignment, and an instruction where it holds in a state that follows there from the entry; where there are
-/// several such, which one is named is open.
+/// Why a module is refused, with the function and the instruction. Structure is looked at first over all functions, then Index,
+/// then the flow of each function by itself: a cause from Unset to Result names the first function that has no consistent
+/// assignment, and an instruction where it holds in a state that follows there from the entry; where there are several of
+/// these, it is open which one is named.
 #[derive(Clone, Copy, Debug, PartialEq, Eq, Error)]
 #[error("{cause} {function} {pc}")]
 pub struct VerifyFault {

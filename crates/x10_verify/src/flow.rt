@@ -33,9 +33,9 @@ impl Model for Flow {
     ghost view = { λ a. record { fault = a.fault; table = a.table.items } };
 }
 
-/// Looks at one function by itself: whether all that it names is there, and then the flow. The fault is the one that
-/// `verify` tells where the module's structure holds and nothing before this function is at fault. What `verify` asks of
-/// structure isn't looked at. The time is that of `verify` for this function alone; 0.4 kB for each instruction of it.
+/// Looks at one function by itself: whether all that it names is there, and then the flow. The fault is the one that `verify`
+/// reports where the module's structure holds and nothing before this function is at fault. What `verify` asks of structure
+/// isn't looked at. The time is that of `verify` for this function alone; 0.4 kB for each instruction of it.
 pub fn known_flow(alloc: Global, image: &ImageView, f: usize) -> Result<Flow, AllocError>
     requires { f < length image.now.functions }
     ensures { IfOk result (λ flow. (function : Function) → function_at image.now f ≡ Some function → Judges flow.fault image.now f function flow.table) }
@@ -72,7 +72,7 @@ fn flow_fault(image: &ImageView, f: usize, table: &mut Vec<Entry>) -> Option<Ver
 }
 
 impl Flow {
-    /// The function's fault, if it has one. Constant time, as all that follow, and without memory.
+    /// The function's fault, if it has one. Constant time and no memory, like all that follow.
     pub fn fault(&self) -> Option<VerifyFault>
         ensures { result ≡ self.now.fault }
     {
@@ -86,15 +86,15 @@ impl Flow {
         is_reached(&self.table, pc)
     }
 
-    /// The kind that a register is known to have before an instruction; none where it isn't known to be set, or where the
-    /// flow doesn't reach.
+    /// The kind that a register is known to have before an instruction; none where it isn't known to be set, or where the flow
+    /// doesn't reach the instruction.
     pub fn kind(&self, pc: usize, register: u8) -> Option<Kind>
         ensures { result ≡ kind_of (states_of self.now pc) register }
     {
         kind_in(&self.table, pc, register)
     }
 
-    /// Whether two terms are known to be the same place before an instruction; not where the flow doesn't reach.
+    /// Whether two terms are known to be the same place before an instruction; false where the flow doesn't reach it.
     pub fn same(&self, pc: usize, one: Term, other: Term) -> bool
         requires one { IsTerm one }
         requires other { IsTerm other }

@@ -23,7 +23,7 @@ pub(crate) struct Known {
 }
 
 impl Known {
-    /// The kind that a register is set to; of one that there can't be, none.
+    /// The kind that a register is set to; none where there can't be such a register.
     pub(crate) fn kind(&self, register: u8) -> Option<Kind>
         ensures value { result ≡ kind_in self.now.kinds register }
     {
@@ -87,7 +87,7 @@ impl Known {
         self.homes.write(register, like);
     }
 
-    /// Only the 64 registers that there may be are set. It does nothing.
+    /// Only registers below 64 are set: there can be no others. It does nothing.
     pub(crate) fn narrow(&self)
         ensures { IsNarrow (state_of self.now) }
     {

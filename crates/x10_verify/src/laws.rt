@@ -12,7 +12,7 @@ pub fn followed_is_known()
     ensures { FollowedIsKnown }
 {}
 
-/// So where a cause is found at an instruction its function has no consistent assignment: no fault can be told of a
+/// So where a cause is found at an instruction its function has no consistent assignment: no fault can be reported of a
 /// function that has one.
 pub fn found_is_without()
     ensures { FoundIsWithout }

@@ -11,8 +11,8 @@ use crate::known::Known;
 use x10_kinds::{Kind, meet};
 
 impl Known {
-    /// Gives up what isn't known in the other state too, and tells whether there was any. Each time there was, the rank
-    /// falls. One pass over the registers and, where an equation is given up, one over the terms.
+    /// Gives up what isn't known in the other state too, and answers whether there was anything to give up. Each time there
+    /// was, the rank falls. One pass over the registers and, where an equation is given up, one over the terms.
     pub(crate) fn weaken(&mut self, other: &Known) -> bool
         ensures met { IsKept (state_of self.old) → IsKept (state_of other.now) → IsMet (state_of self.old) (state_of other.now) (state_of self.new) }
         ensures kept { result ≡ false → self.new ≡ self.old }

@@ -28,7 +28,7 @@ fn object(register: u8, known: &Known) -> Result<u16, FlowCause>
     }
 }
 
-// The kind of a class's field, where there are both.
+// The kind of a class's field, where both are there.
 fn field(image: &ImageView, class: u16, at: u8) -> Option<Kind>
     ensures { result ≡ field_of image.now class at }
 {
@@ -42,7 +42,7 @@ fn field(image: &ImageView, class: u16, at: u8) -> Option<Kind>
     Some(fields.field(at.into()))
 }
 
-// The registers from one on have the kinds of a class's fields.
+// The registers from `first` on have the kinds of a class's fields.
 fn fields_fit(fields: &ClassView, first: u8, known: &Known) -> Result<(), FlowCause>
     requires { length fields.now ≤ 16 }
     ensures fit { MatchResult result (λ _. KindsAre (state_of known.now) first fields.now) (λ _. KindsAre (state_of known.now) first fields.now → ⊥) }

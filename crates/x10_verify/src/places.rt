@@ -1,4 +1,4 @@
-//! The rules that go by the place in a register, or by no more than its kind: MOVE, HOME, IFHERE, IFSAME, PRINT.
+//! The rules that depend on the place in a register, or only on its kind: MOVE, HOME, IFHERE, IFSAME, PRINT.
 ghost use Rattle.std.specs.Prelude.{◌≡◌, ℕ, ◌⊎◌, MatchResult, IfOk, IfErr, ◌<◌, Some, None};
 ghost use Rattle.x10_kinds.specs.Kinds as kinds;
 ghost use Rattle.x10_model.specs.Assignments as model;

@@ -12,7 +12,7 @@ use x10_code::{Instr, Op};
 use x10_image::ImageView;
 use x10_kinds::Kind;
 
-/// A row for each function, with room for one answer an instruction. A byte for each.
+/// A row for each function, with room for one answer for each instruction. A byte for each.
 pub(crate) fn blank_rows(alloc: Global, image: &ImageView) -> Result<Vec<Vec<bool>>, AllocError>
     ensures { IfOk result (λ rows. HasRows image.now rows.items) }
 {
@@ -24,8 +24,8 @@ pub(crate) fn blank_rows(alloc: Global, image: &ImageView) -> Result<Vec<Vec<boo
     Ok(rows)
 }
 
-/// Notes of each instruction of a function whether it is a PRINT of a text, by the states that are known before them. One
-/// pass over the code, which looks at the states of PRINTs alone.
+/// Notes of each instruction of a function whether it is a PRINT of a text, by the states that are known before them. One pass
+/// over the code, which looks only at the states of PRINTs.
 pub(crate) fn note(image: &ImageView, f: usize, table: &Vec<Entry>, row: &mut Vec<bool>)
     requires there { f < length image.now.functions }
     requires room { length (code_at image.now f) ≤ length table.now.items }

@@ -65,7 +65,7 @@ fn result_fits(image: &ImageView, signature: &SigView, instr: Instr, n: u32) -> 
     }
 }
 
-// What the function gives that an instruction calls, or else the one that it ends.
+// The result of the function that an instruction calls, or else of the one that it ends.
 fn named_result(image: &ImageView, signature: &SigView, instr: Instr) -> Option<Slot>
     requires { (form_of instr.op).a ≡ Operand.Result }
     ensures { (function : Function) → signature.now ≡ signature_of function → result ≡ result_for image.now function instr instr.op }
@@ -77,7 +77,7 @@ fn named_result(image: &ImageView, signature: &SigView, instr: Instr) -> Option<
     }
 }
 
-// What the function that an instruction calls gives.
+// The result of the function that an instruction calls.
 fn callee_result(image: &ImageView, instr: Instr) -> Option<Slot>
     ensures { result ≡ result_of (function_at image.now instr.x) }
 {
@@ -110,7 +110,7 @@ fn named_count(image: &ImageView, instr: Instr) -> usize
     }
 }
 
-// How many fields the class has that an instruction names.
+// How many fields the class that an instruction names has.
 fn field_count(image: &ImageView, instr: Instr) -> usize
     ensures value { result ≡ length (fields_of (slice_get image.now.classes instr.x)) }
     ensures few { result ≤ 16 }
@@ -122,7 +122,7 @@ fn field_count(image: &ImageView, instr: Instr) -> usize
     }
 }
 
-// How many parameters the function has that an instruction names.
+// How many parameters the function that an instruction names has.
 fn parameter_count(image: &ImageView, instr: Instr) -> usize
     ensures value { result ≡ length (parameters_of (function_at image.now instr.x)) }
     ensures few { result ≤ 16 }

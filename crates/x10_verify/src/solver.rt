@@ -26,8 +26,8 @@ pub(crate) struct FlowFault {
     pub(crate) pc: usize,
 }
 
-/// Fills a table without states with those of a function, or finds a rule that fails in every assignment of it. Code
-/// without loops is walked once; an instruction in loops as often as what is known before it changes, and once.
+/// Fills a table without states with those of a function, or finds a rule that fails in every assignment of it. Code without
+/// loops is walked once; an instruction in loops once, and again as often as what is known before it changes.
 pub(crate) fn solve(image: &ImageView, f: usize, table: &mut Vec<Entry>) -> Result<(), FlowFault>
     requires there { f < length image.now.functions }
     requires names { HasNames image.now f }
@@ -56,8 +56,8 @@ pub(crate) fn solve(image: &ImageView, f: usize, table: &mut Vec<Entry>) -> Resu
     Ok(())
 }
 
-/// A function has a consistent assignment, or some rule fails in every one. The table comes and goes without a state; the
-/// row gets the answers of which instructions print a text. The time is that of `solve`.
+/// A function has a consistent assignment, or some rule fails in every one. The table has no state before and after; the row
+/// gets the answers of which instructions print a text. The time is that of `solve`.
 pub(crate) fn check_function(
     image: &ImageView,
     f: usize,

@@ -29,8 +29,8 @@ pub(crate) struct Entry {
 }
 
 impl Entry {
-    /// What is known after an instruction, by its effect on what is known before it: as `receive`, but written where it
-    /// is kept if this is the first way, without another copy.
+    /// What is known after an instruction, by its effect on what is known before it: like `receive`, but written where it is
+    /// kept if this is the first way, without another copy.
     pub(crate) fn receive_after(&mut self, known: &Known, register: u8, effect: Effect)
         requires { CanApply register effect }
         ensures { ReceivesAfter known.now register effect self.old self.new }
@@ -48,8 +48,8 @@ impl Entry {
         self.receive(&after);
     }
 
-    /// What is known on one way more: kept whole where it is the first, else as far as both ways know it. Tells whether
-    /// that changed anything.
+    /// What is known on one more way: kept as a whole where it is the first, otherwise as far as both ways know it. Answers
+    /// whether that changed anything.
     pub(crate) fn receive(&mut self, known: &Known) -> bool
         ensures { Receives self.old known.now self.new result }
     {
@@ -107,8 +107,8 @@ pub(crate) fn known_at(table: &Vec<Entry>, at: usize) -> &Known
     known
 }
 
-/// The next instruction receives what is known after one, by its effect: written where it is kept if this is the first
-/// way, without a copy beside the table.
+/// The next instruction receives what is known after one, by its effect: written where it is kept if this is the first way,
+/// without a copy outside the table.
 pub(crate) fn advance(table: &mut Vec<Entry>, at: usize, register: u8, effect: Effect)
     requires within { at + 1 < length table.old.items }
     requires can { CanApply register effect }
@@ -118,7 +118,7 @@ pub(crate) fn advance(table: &mut Vec<Entry>, at: usize, register: u8, effect: E
     table[at + 1].receive_after(&known, register, effect);
 }
 
-/// One way more to an instruction. Tells whether its state changed.
+/// One more way to an instruction. Answers whether its state changed.
 pub(crate) fn arrive(table: &mut Vec<Entry>, target: usize, known: &Known) -> bool
     requires { target < length table.old.items }
     ensures { Arrives table.old.items target known.now table.new.items result }
@@ -126,7 +126,7 @@ pub(crate) fn arrive(table: &mut Vec<Entry>, target: usize, known: &Known) -> bo
     table[target].receive(known)
 }
 
-/// A table for functions of so many instructions. 0.4 kB for each.
+/// A table for functions of `len` instructions. 0.4 kB for each instruction.
 pub(crate) fn blank(alloc: Global, len: usize) -> Result<Vec<Entry>, AllocError>
     ensures fresh { IfOk result (λ table. IsFresh table.items) }
     ensures size { IfOk result (λ table. length table.items ≡ len) }
@@ -144,7 +144,7 @@ pub(crate) fn blank(alloc: Global, len: usize) -> Result<Vec<Entry>, AllocError>
     Ok(table)
 }
 
-/// Forgets the states of a function of so many instructions.
+/// Forgets the states of a function of `len` instructions.
 pub(crate) fn clear(table: &mut Vec<Entry>, len: usize)
     requires { len ≤ length table.old.items }
     ensures cleared { (q : ℕ) → q < len → state_in (slice_get table.new.items q) ≡ None }

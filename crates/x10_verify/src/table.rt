@@ -20,7 +20,7 @@ pub enum Effect {
     Joins(Term, Term),
 }
 
-/// What settles an instruction's effect, and what it asks beside the kinds of its row.
+/// What settles an instruction's effect, and what it asks besides the kinds of its row.
 #[derive(Clone, Copy, Debug, PartialEq, Eq)]
 pub enum Outcome {
     /// The operation alone.

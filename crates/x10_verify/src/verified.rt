@@ -44,10 +44,10 @@ impl<'a> Model for Verified<'a> {
     ghost invariant = { λ a. IsKnownWell (record { program = a.image; bounds = a.bounds.items }) a.rows.items };
 }
 
-/// Verifies a module: memory aside, yes exactly where its structure holds, all that it names is there and each function
-/// has a consistent assignment. Takes 32 bytes for each function and one for each instruction and, while it works, 0.4 kB
-/// for each instruction of the longest function; and time linear in the instructions, but for those in loops that are
-/// looked at again: as often as what is known before them changes.
+/// Verifies a module: memory aside, yes exactly where its structure holds, all that it names is there and each function has a
+/// consistent assignment. Takes 32 bytes for each function and one for each instruction and, while it works, 0.4 kB for each
+/// instruction of the longest function; and time linear in the instructions, except for those in loops that are looked at
+/// again: as often as what is known before them changes.
 pub fn verify<'a>(alloc: Global, image: ImageView<'a>) -> Result<Verified<'a>, VerifyFault>
     ensures ok { IfOk result (λ v. (v.program ≡ image.entry) × IsCertified v) }
     ensures err { IfErr result (Refutes image.entry) }
@@ -93,7 +93,7 @@ impl<'a> Verified<'a> {
         &self.image
     }
 
-    /// How many steps an activity takes at most that begins with a function. Constant time.
+    /// The most steps that an activity takes that begins with a function. Constant time.
     pub fn bound(&self, f: usize) -> u64
         requires { f < length self.now.program.functions }
         ensures { slice_get self.now.bounds f ≡ Some result }
@@ -101,14 +101,14 @@ impl<'a> Verified<'a> {
         self.bounds[f]
     }
 
-    /// What the verifier found of the module, for callers whose own clauses rest on it. It does nothing.
+    /// What the verifier found about the module, for callers whose own clauses rely on it. It does nothing.
     pub fn certificate(&self)
         ensures { IsCertified self.now }
     {
         let _ = &self.bounds;
     }
 
-    /// That each function has a least assignment, for callers whose own clauses rest on it. It does nothing.
+    /// Each function has a least assignment: for callers whose own clauses rely on it. It does nothing.
     pub fn assignments(&self)
         ensures { (f : ℕ) (function : Function) → function_at self.now.program f ≡ Some function → HasLeast self.now.program function }
     {
@@ -116,7 +116,7 @@ impl<'a> Verified<'a> {
     }
 
     /// Whether the PRINT at an instruction of a function prints a text: true where the flow reaches it and each consistent
-    /// assignment knows a text in its register; false for a number, and wherever else. Constant time, no memory.
+    /// assignment knows a text in its register; false for a number, and everywhere else. Constant time, no memory.
     pub fn prints_text(&self, f: usize, pc: usize) -> bool
         ensures exact { IsTrue result ↔ PrintsText self.now.program f pc }
         ensures text { IsTrue result → (function : Function) → function_at self.now.program f ≡ Some function → (i : instrs.Instr) → slice_get function.code pc ≡ Some i → (a : HasAssignment self.now.program function) (s : State) → a.0 pc ≡ Some s → IsKind s i.a kind.Text }
@@ -147,8 +147,8 @@ impl<'a> Verified<'a> {
         self.image.code(f)
     }
 
-    /// An instruction as `fetch` answers it, from the function's code that `code` handed out. For a loop over the
-    /// instructions of one function, where the function is looked up once. Constant time, no memory.
+    /// An instruction as `fetch` answers it, from the function's code as `code` gives it. For a loop over the instructions of
+    /// one function, where the function is looked up once. Constant time, no memory.
     #[inline(always)]
     pub fn fetch_from(&self, code: &[u8], f: usize, pc: usize) -> Instr
         requires function { f < length self.now.program.functions }

@@ -15,7 +15,7 @@ use crate::solver::{FlowFault, check_function};
 use crate::states::Entry;
 use x10_image::ImageView;
 
-/// Where something stands: a function, and an instruction of it.
+/// A position: a function, and an instruction of it.
 #[derive(Clone, Copy, Debug, PartialEq, Eq)]
 pub(crate) struct Position {
     pub(crate) function: usize,

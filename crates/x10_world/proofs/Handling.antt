@@ -330,7 +330,7 @@ module _ (c : Certified) (places : List PlaceState) (flights : FlightsState) (nu
     hindered = (flight, is, reason_for why refused);
   }
     where
-      -- after want of memory and limits a place has stopped
+      -- a place has stopped where memory was refused, or at a limit
       stopping : (r : Refusal) → ((r ≡ refusal.Memory) ⊎ ((limit : ℕ) × (r ≡ refusal.Limit limit) × IsDeliveryLimit limit)) → stops r ≡ true
       stopping r (inl memory) = ap (λ x. stops x) memory
       stopping r (inr limit) = ap (λ x. stops x) limit.1

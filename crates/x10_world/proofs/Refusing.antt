@@ -1,5 +1,5 @@
--- A frame in flight is refused for want of memory or at a limit alone: it is one of its receiver's, and all that it names is
--- there.
+-- A frame in flight is refused only where memory is refused, or at a limit: it is one of its receiver's, and all that it
+-- names is there.
 use Rattle.std.proofs.Common.{◌≡◌, ◌⊎◌, ℕ, ◌<◌, ◌≤◌, ◌^◌, List, length, Option, Some, None, Ok, refl, sym, ap, subst, ◌∙◌, inl, inr, arith}
 use Rattle.std.specs.Prelude.{slice_get}
 use Rattle.std.proofs.lemmas.Option.{same_Some}
@@ -36,7 +36,7 @@ use Rattle.x10_world.specs.StandsForWorld.{BelongsTo, BelongTo, far_in, FliesAsM
 use Rattle.x10_world.proofs.Delivering.{held_book}
 use Rattle.x10_world.proofs.Fitting.{IsFor, spawn_fits, shift_fits, awaited, back_fits}
 
--- for want of memory or at a limit
+-- since memory is refused, or at a limit
 abbrev IsForRoom : Refusal → Type 0
 IsForRoom why = (why ≡ refusal.Memory) ⊎ ((limit : ℕ) × (why ≡ refusal.Limit limit) × IsDeliveryLimit limit)
 

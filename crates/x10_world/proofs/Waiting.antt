@@ -21,6 +21,7 @@ use Rattle.x10_model.proofs.Ways as ways
 use Rattle.x10_model.proofs.Operations.{way_of}
 use Rattle.x10_model.proofs.Ways.{Way}
 use Rattle.x10_model.proofs.Lists.{none_some}
+use Rattle.x10_model.proofs.Found.{head_is}
 use Rattle.x10_world.proofs.Moving.{done_by}
 
 -- ---- where a finish may end, its home lets it
@@ -41,9 +42,6 @@ ended_is_done_here program bounds places flights w here key number p belong stan
     (ended_is_done (length places) w (counts_in places stand.told) (finish_at here number) stand.watched at (slice_get_within places here p is) may.none_flies (λ n. none_told program bounds places flights w (finish_at here number) n stand empty) may.ended)
 
 -- ---- what is idle
-
-first_is : {X : Type 0} (x y : X) (xs ys : List X) → x ∷ xs ≡ y ∷ ys → x ≡ y
-first_is x y xs ys e = cc
 
 -- the machine's stay is the one that the place's stands for
 same_stay : (places : List PlaceState) (program : Module) (bounds : List ℕ) (flights : FlightsState) (w : World) (here key : ℕ) (p : PlaceState) (stay : Stay) → (stand : AllStandFor program bounds places flights w) → (is : slice_get places here ≡ Some p) → stays_of w.net here key ≡ Some stay → (stand.some here p is).0.stays key ≡ Some stay
@@ -66,7 +64,7 @@ idle_works program bounds places flights w here key number p belong stand empty 
     let old = stand.some here p is in
     let s = old.2.some key a there in
     let same = same_Some s.0 works.stay (sym s.1 ∙ same_stay places program bounds flights w here key p works.stay stand is works.is_there) in
-    let number-is : number ≡ n = first_is number n works.outer outer (sym works.innermost_is ∙ ap (λ (x : Stay). x.finishes) (sym same) ∙ s.2.finishes ∙ innermost) in
+    let number-is : number ≡ n = head_is number n works.outer outer (sym works.innermost_is ∙ ap (λ (x : Stay). x.finishes) (sym same) ∙ s.2.finishes ∙ innermost) in
     not (subst (λ k. IsDoneHere (store_of p) k) number-is (ended_is_done_here program bounds places flights w here key number p belong stand empty is works may))
 
 -- ---- a move that waits

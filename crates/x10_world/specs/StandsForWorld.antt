@@ -1,5 +1,6 @@
 -- When a world of the program stands for a world of the machine.
-use Rattle.std.specs.Prelude.{◌≡◌, ◌≢◌, ◌⊎◌, ℕ, ◌+◌, ◌^◌, ◌<◌, ◌≤◌, ◌==◌, ◌∷◌, Bool, IsTrue, List, [], length, replicate, Option, Some, None, MatchResult, Result, Ok, IfOk, IfErr, true, false, slice_get, slice_set, take}
+use Rattle.std.specs.Prelude.{◌≡◌, ◌≢◌, ◌⊎◌, ℕ, ◌+◌, ◌^◌, ◌<◌, ◌≤◌, ◌==◌, ◌∷◌, Bool, IsTrue, List, [], length, replicate, Option, Some, None}
+use Rattle.std.specs.Prelude.{MatchResult, Result, Ok, IfOk, IfErr, true, false, slice_get, slice_set, take}
 use Rattle.slab.specs.Slab.{get}
 use Rattle.x10_kinds.specs.declared.stop.Stop.{Stop}
 use Rattle.x10_kinds.specs.declared.stop.Stop.TheVariants as stop
@@ -192,7 +193,7 @@ DeliveryLeads = (program : Module) (bounds : List ℕ) (places : List PlaceState
 abbrev pub IsDeliveryLimit : ℕ → Type 0
 IsDeliveryLimit limit = ((1 ≤ limit) × (limit ≤ 3)) ⊎ ((limit ≡ 6) ⊎ (limit ≡ 10))
 
--- A frame in flight is refused for want of memory or at a limit alone.
+-- A frame in flight is refused only where memory is refused, or at a limit.
 abbrev pub NoneIsRefused : Type 0
 NoneIsRefused = (program : Module) (bounds : List ℕ) (places : List PlaceState) (flights : FlightsState) (w : World) (number : ℕ) (flight : Flight)
     (p : PlaceState) (why : Refusal) → BelongTo program bounds (length places) places

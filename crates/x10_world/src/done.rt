@@ -15,7 +15,7 @@ pub enum Done {
         pc: u16,
         /// The operation of that instruction.
         op: Op,
-        /// The number of the first frame that the step put out, or else that of the next frame of the world.
+        /// The number of the first frame that the step put out; if it put out none, that of the next frame of the world.
         first: u64,
         /// How many frames it put out, numbered one after another: at most 2.
         count: u64,

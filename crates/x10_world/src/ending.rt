@@ -37,7 +37,7 @@ pub enum RunFault {
     /// The verifier refuses the module.
     #[error("Verify {0}")]
     Verify(VerifyFault),
-    /// The module does not run at so many places.
+    /// The module does not run at the given number of places.
     #[error("Open {0}")]
     Open(OpenFault),
     /// Memory for the outputs was refused.
@@ -79,7 +79,7 @@ pub(crate) fn copied_outputs(alloc: Global, places: &[Place]) -> Result<Vec<Vec<
     Ok(outputs)
 }
 
-/// Reads an image, verifies its module, and runs it at so many places under the events, to the first that is refused.
+/// Reads an image, verifies its module, and runs it at `places` places with these events, up to the first that is refused.
 pub fn run_image(
     alloc: Global,
     bytes: &[u8],

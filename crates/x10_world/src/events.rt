@@ -24,7 +24,7 @@ fn step_one(places: &mut Vec<Place>, id: usize, key: usize) -> Result<Stepped, S
     Ok(Stepped::Idle)
 }
 
-/// Up to so many steps of the activity with a key at a place, if they are there, and what the last one put out.
+/// Up to `most` steps of the activity with a key at a place, if they are there, and what the last one put out.
 fn run_one(places: &mut Vec<Place>, id: usize, key: usize, most: u64) -> (u64, Result<Sent, Stop>)
     ensures { RunsOne places.old.items places.new.items id key most result.0 result.1 }
 {
@@ -60,7 +60,7 @@ fn post_all(flights: &mut Flights, sent: Sent)
     post(flights, sent.report);
 }
 
-/// One step of the activity with a key at a place, if they are there. Room for what it may put out is made before.
+/// One step of the activity with a key at a place, if they are there. Room for what it may put out is made first.
 #[inline(always)]
 fn step(
     verified: &Verified,
@@ -84,7 +84,7 @@ fn step(
     }
 }
 
-/// Up to so many steps of the activity with a key at a place, to one that puts something out: how many.
+/// At most `most` steps of the activity with a key at a place, up to one that puts something out: how many were made.
 pub(crate) fn stretch(
     verified: &Verified,
     places: &mut Vec<Place>,
@@ -110,7 +110,7 @@ pub(crate) fn stretch(
     }
 }
 
-/// Why a world stops where a frame in flight was refused: at a limit, or else for want of memory.
+/// Why a world stops where a frame in flight was refused: at a limit, or else for lack of memory.
 fn stop_for(why: Refusal) -> Stop
     ensures { result ≡ stop_for_refusal why }
 {
@@ -120,7 +120,7 @@ fn stop_for(why: Refusal) -> Stop
     }
 }
 
-/// The frame in flight with a number is taken in where it goes, if there is one. Where it is refused, it is still in flight.
+/// Takes in the frame in flight with a number where it goes, if there is one. A frame that is refused is still in flight.
 #[inline(never)]
 fn deliver(
     verified: &Verified,

@@ -9,13 +9,13 @@ use std::alloc::{AllocError, Global};
 use std::marker::Model;
 use x10_kinds::Stop;
 
-/// How many frames are taken before it is worth while to give their slots back.
+/// How many frames are taken before it is worthwhile to give their slots back.
 const FEW: usize = 16;
 
 /// No place: there are at most 65,535, and they count from 0.
 const NONE: u16 = 65_535;
 
-/// Which count it is that ends: that of the frames.
+/// Which limit it is: that of the frames.
 const FRAMES: u8 = 11;
 
 /// A frame, or what is left of one that was taken.
@@ -26,7 +26,7 @@ struct Slot {
     bytes: Option<Vec<u8>>,
 }
 
-/// Where a frame with a number stands.
+/// The position of the frame with a number.
 fn find(slots: &[Slot], number: u64) -> Option<usize>
     requires { IsNonDecreasingBy (λ s. s.number) slots.now }
     ensures some { IfSome result (λ at. (at < length slots.now) × HoldsAt (λ s. s.number ≡ number) slots.now at) }
@@ -44,7 +44,7 @@ fn find(slots: &[Slot], number: u64) -> Option<usize>
 struct Table {
     posted: u64,
     slots: Vec<Slot>,
-    /// How many of the slots are of frames that were taken. No clause speaks of it: it is for time and room alone.
+    /// How many of the slots are of frames that were taken. No clause speaks of it: it matters only for time and memory.
     taken: usize,
 }
 
@@ -78,7 +78,7 @@ impl Table {
         self.posted
     }
 
-    /// Room for two frames more.
+    /// Makes room for two more frames.
     #[inline(always)]
     fn make_room(&mut self) -> Result<(), Stop>
         ensures flying { self.new.flying ≡ self.old.flying }
@@ -111,7 +111,7 @@ impl Table {
         self.posted += 1;
     }
 
-    /// Where the frame with a number goes, and its bytes.
+    /// The place that the frame with a number goes to, and its bytes.
     fn get(&self, number: u64) -> Option<(u16, &[u8])>
         ensures { MatchOption result (flight_among self.now.flying number ≡ None) (λ x. flight_among self.now.flying number ≡ Some (record { number = number; to = x.0; bytes = x.1.now })) }
     {
@@ -177,11 +177,11 @@ fn first_flying(numbers: &[u64], table: &Table, place: u16) -> Option<u64>
         .find(|number| table.flies_to(place, *number))
 }
 
-/// The numbers of the frames to one place, as they rise.
+/// The numbers of the frames to one place, in rising order.
 #[derive(Drop)]
 struct Queue {
     numbers: Vec<u64>,
-    /// How many of the numbers are of frames that were taken. No clause speaks of it: it is for time and room alone.
+    /// How many of the numbers are of frames that were taken. No clause speaks of it: it matters only for time and memory.
     taken: usize,
 }
 
@@ -202,7 +202,7 @@ impl Queue {
         Ok(Queue { numbers, taken: 0 })
     }
 
-    /// Room for two numbers more.
+    /// Makes room for two more numbers.
     #[inline(always)]
     fn make_room(&mut self) -> Result<(), Stop>
         ensures numbers { self.new.numbers ≡ self.old.numbers }
@@ -224,7 +224,7 @@ impl Queue {
         let _ = self.numbers.push(number);
     }
 
-    /// The least of the numbers, from one on, whose frame is in flight to the place.
+    /// The least of the numbers, from `from` on, whose frame is in flight to the place.
     fn next(&self, table: &Table, place: u16, from: u64) -> Option<u64>
         requires rising { RisingBy (λ n. n) 0 self.now.numbers table.now.posted }
         requires filed { (n : ℕ) → flies_to table.now.flying place n ≡ true → Has self.now.numbers n }
@@ -247,7 +247,7 @@ impl Queue {
     }
 }
 
-/// Room for two numbers more in the queue of a place, if it is one.
+/// Makes room for two more numbers in the queue of a place, if there is such a place.
 fn widen(queues: &mut Vec<Queue>, place: u16) -> Result<(), Stop>
     ensures count { length queues.new.items ≡ length queues.old.items }
     ensures numbers { (p : ℕ) → numbers_at queues.new.items p ≡ numbers_at queues.old.items p }
@@ -274,9 +274,9 @@ fn open_queues(alloc: Global, places: u16) -> Result<Vec<Queue>, AllocError>
     Ok(queues)
 }
 
-/// The frames in flight of a world, by number and by receiver. Frames are numbered from 0 in the order in which they
-/// are posted. Memory is for the most frames that were in flight at once, not for all that ever flew: slots are kept for
-/// no more frames that were taken than fly, or 16.
+/// The frames in flight of a world, by number and by receiver. Frames are numbered from 0 in the order in which they are
+/// posted. Memory is taken for the most frames that were in flight at once, not for all that ever were: slots of frames that
+/// were taken are kept for no more frames than are in flight, or for 16.
 #[derive(Drop)]
 pub(crate) struct Flights {
     table: Table,
@@ -300,7 +300,7 @@ impl Model for Flights {
 }
 
 impl Flights {
-    /// Nothing was posted, and nothing flies. Takes memory for four numbers a place.
+    /// Nothing was posted, and nothing is in flight. Takes memory for four numbers for each place.
     pub(crate) fn new(alloc: Global, places: u16) -> Result<Flights, AllocError>
         ensures { IfOk result (λ flights. flights ≡ record { places = places; posted = 0; room = 0; flying = [] }) }
     {
@@ -323,7 +323,7 @@ impl Flights {
         self.table.posted()
     }
 
-    /// Room for two frames more, which then cannot be refused. Constant time where there is room, and amortized.
+    /// Makes room for two more frames, which then cannot be refused. Constant time where there is room, and amortized.
     #[inline(always)]
     pub(crate) fn make_room(&mut self) -> Result<(), Stop>
         ensures ok { IfOk result (λ _. self.new ≡ with_room self.old) }
@@ -345,7 +345,7 @@ impl Flights {
         Ok(())
     }
 
-    /// Puts a frame out to a place, under the next number. Constant time, and without memory.
+    /// Puts a frame out to a place, under the next number. Constant time; takes no memory.
     #[inline(always)]
     pub(crate) fn post(&mut self, to: u16, bytes: Vec<u8>)
         requires room { 0 < self.old.room }
@@ -368,8 +368,7 @@ impl Flights {
         self.table.get(number)
     }
 
-    /// Takes the frame with a number out of flight. Logarithmic in the number of frames in flight, amortized, and
-    /// without memory.
+    /// Takes the frame with a number out of flight. Logarithmic in the number of frames in flight, amortized; takes no memory.
     pub(crate) fn take(&mut self, number: u64) -> Option<(u16, Vec<u8>)>
         ensures none { IfNone result ((flight_of self.old number ≡ None) × (self.new ≡ self.old)) }
         ensures some { IfSome result (λ x. (flight_of self.old number ≡ Some (record { number = number; to = x.0; bytes = x.1.items })) × (self.new ≡ taken_from self.old number)) }
@@ -383,9 +382,9 @@ impl Flights {
         Some((to, bytes))
     }
 
-    /// The least number, from one on, of a frame in flight to a place. To go over all that fly to the place, ask for
-    /// the next from each number plus 1: that takes logarithmic time for each frame, and for each that was taken of late,
-    /// of which the place's queue has no more than fly to it, or 16.
+    /// The least number, from `from` on, of a frame in flight to a place. To go over all frames in flight to the place, ask for
+    /// the next from each number plus 1. That takes logarithmic time for each frame, and for each that was taken lately, of
+    /// which the place's queue has no more than are in flight to it, or 16.
     pub(crate) fn next_to(&self, place: u16, from: u64) -> Option<u64>
         ensures { IsNext (flies_to self.now.flying place) from result }
     {

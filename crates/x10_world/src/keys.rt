@@ -8,11 +8,11 @@ use std::mem;
 pub(crate) struct Keys {
     /// Those that were in use when the place's last turn came to its steps, by rising number.
     pub known: Vec<usize>,
-    /// Those of activities that began since, in no order.
+    /// Those of activities that began since, in no particular order.
     pub fresh: Vec<usize>,
-    /// The frames for the place that have lower numbers were taken in.
+    /// The frames for the place with numbers below this one were taken in.
     pub taken: u64,
-    /// At most so many frames are in flight to it.
+    /// At most this many frames are in flight to it.
     pub waiting: u64,
     /// Room in which the next list is made.
     spare: Vec<usize>,
@@ -39,7 +39,7 @@ impl Keys {
         })
     }
 
-    /// Those in use now are known. Linear in the keys, but that new ones are sorted.
+    /// Makes the keys in use now the known ones. Linear in the keys, except that new ones are sorted.
     pub fn refresh(&mut self, world: &World, place: u16) -> Result<(), AllocError> {
         self.known.retain(|key| world.has_key(place, *key));
         if self.fresh.is_empty() {
@@ -67,7 +67,7 @@ impl Keys {
     }
 }
 
-/// The numbers of two sorted lists, each once, by rising number, in place of what the third list has.
+/// Puts the numbers of two sorted lists, each once, by rising number, in place of what the third list has.
 fn merge(old: &[usize], new: &[usize], all: &mut Vec<usize>) -> Result<(), AllocError> {
     all.clear();
     let mut position = 0;
@@ -79,7 +79,7 @@ fn merge(old: &[usize], new: &[usize], all: &mut Vec<usize>) -> Result<(), Alloc
     Ok(())
 }
 
-/// Pushes the numbers of a sorted list from a position on that are below a number, and tells at which position the larger
+/// Pushes the numbers of a sorted list from a position on that are below a number, and answers at which position the larger
 /// ones begin.
 fn push_below(
     list: &[usize],

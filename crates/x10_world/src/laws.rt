@@ -9,7 +9,7 @@ pub fn budget_at_opening()
     ensures { BudgetAtOpening }
 {}
 
-/// And after a move, of whatever operation.
+/// And after a move, of any operation.
 pub fn budget_after_move()
     ensures { BudgetAfterMove }
 {}
@@ -46,12 +46,12 @@ pub fn delivery_leads()
     ensures { DeliveryLeads }
 {}
 
-/// A frame in flight is refused for want of memory or at a limit alone.
+/// A frame in flight is refused only for lack of memory or at a limit.
 pub fn none_is_refused()
     ensures { NoneIsRefused }
 {}
 
-/// Where they stand for a world of the machine in which a finish may end, and no frame flies, its home lets it end: its
+/// Where they stand for a world of the machine in which a finish may end, and no frame is in flight, its home lets it end: its
 /// owner's step there is one that closes it.
 pub fn ended_is_done_here()
     ensures { EndedIsDoneHere }

@@ -5,7 +5,7 @@ use std::alloc::{AllocError, Global};
 use x10_place::Place;
 use x10_verify::Verified;
 
-/// So many places at the beginning.
+/// `count` places at the beginning.
 pub(crate) fn places_of<'a>(
     alloc: Global,
     verified: &'a Verified<'a>,

@@ -11,13 +11,13 @@ use x10_kinds::Stop;
 use x10_model::Event;
 use x10_model::limits::MOST_PLACES;
 
-/// Why rounds were made no more before the run had ended.
+/// Why no more rounds were made before the run had ended.
 #[derive(Clone, Copy, Debug, PartialEq, Eq, Error)]
 pub enum Halt {
     /// The world stopped.
     #[error("Stop")]
     Stop(Stop),
-    /// As many events were made as there were to be.
+    /// As many events were made as were allowed.
     #[error("Limit")]
     Limit,
     /// Memory for the list of keys was refused.
@@ -44,9 +44,9 @@ impl From<AllocError> for Halt {
 /// Where a place is in its turn.
 #[derive(Clone, Copy)]
 enum Turn {
-    /// It takes in the frames that are in flight to it, from a number on.
+    /// It takes in the frames that are in flight to it, from this number on.
     TakesIn(u64),
-    /// Its activities make their steps, from a position in the list of keys on.
+    /// Its activities make their steps, from this position in the list of keys on.
     Steps(usize),
 }
 
@@ -61,17 +61,17 @@ enum Work {
 
 /// The order of a program's events. In a round each place, by rising number, takes in the frames that are in flight to it
 /// when its turn comes, by rising number, and then makes a step of each of its activities that are there, by rising key;
-/// what these begin waits for the next round. It is told nothing of the events: it looks at the world before each one, so
-/// nothing else may happen to the world meanwhile. A round takes time in its events and the places that have some.
+/// what these begin waits for the next round. It isn't notified of the events: it looks at the world before each one, so
+/// nothing else may happen to the world meanwhile. A round takes time for its events and for the places that have some.
 #[derive(Drop)]
 pub struct Rounds {
     /// The keys of each place.
     lists: Vec<Keys>,
     /// The places that may have an activity, or a frame in flight to them: bit p stands for place p.
     busy: u64,
-    /// The frames with lower numbers were looked at.
+    /// The frames with numbers below this one were looked at.
     posted: u64,
-    /// A place, and the key that an activity has that the last event began there.
+    /// A place, and the key that an activity has that the last event may have begun there.
     next_key: Option<(u16, usize)>,
     /// The place whose turn it is.
     place: u16,
@@ -79,7 +79,7 @@ pub struct Rounds {
 }
 
 impl Rounds {
-    /// The rounds of a world from now on. Takes time in the keys that were ever in use at once, and memory for them.
+    /// The rounds of a world from now on. Takes time and memory for the keys that were ever in use at once.
     pub fn new(alloc: Global, world: &World) -> Result<Rounds, AllocError> {
         let mut lists = Vec::with_capacity(alloc, usize::from(world.count()))?;
         let mut busy = 0;
@@ -128,7 +128,7 @@ impl Rounds {
         self.begun(place, key)
     }
 
-    /// Looks at what was put out since it was looked at last.
+    /// Looks at what was put out since the last look.
     #[inline(never)]
     fn look_at_frames(&mut self, world: &World) {
         for number in self.posted..world.posted() {
@@ -157,7 +157,7 @@ impl Rounds {
         }
     }
 
-    /// Remembers which key an activity gets that begins at a place.
+    /// Remembers which key the next activity that begins at a place gets.
     #[inline(always)]
     fn watch(&mut self, world: &World, place: u16) {
         self.next_key = match world.vacant_key(place) {
@@ -207,7 +207,7 @@ impl Rounds {
         Ok(())
     }
 
-    /// The step of the activity at a position in the list of keys, if the list goes so far.
+    /// The step of the activity at a position in the list of keys, if the list is that long.
     fn step(&mut self, position: usize) -> Option<Event> {
         self.turn = Turn::Steps(position.saturating_add(1));
         let keys = self.lists.get(usize::from(self.place))?;
@@ -224,7 +224,7 @@ impl Rounds {
         self.turn = Turn::TakesIn(self.taken());
     }
 
-    /// The frames for the place whose turn it is that have lower numbers were taken in before.
+    /// The frames with numbers below this one for the place whose turn it is were taken in before.
     fn taken(&self) -> u64 {
         match self.lists.get(usize::from(self.place)) {
             Some(keys) => keys.taken,
@@ -249,8 +249,8 @@ impl Rounds {
         Some((self.place, key))
     }
 
-    /// The next events: how many. Where one activity is alone, its steps are made at a stretch, each a round of its own; else
-    /// the steps of a turn are made one after another.
+    /// Makes the next events, and answers how many. Where one activity is alone, its steps are made in one stretch, each a
+    /// round of its own; otherwise the steps of a turn are made one after another.
     fn advance(&mut self, world: &mut World, left: u64) -> Result<u64, Halt>
         ensures runs { RunsTo world.old world.new }
     {
@@ -264,7 +264,7 @@ impl Rounds {
         self.go_on(world, left)
     }
 
-    /// What comes next where a turn begins or goes on: how many events.
+    /// Makes what comes next where a turn begins or goes on, and answers how many events.
     fn go_on(&mut self, world: &mut World, left: u64) -> Result<u64, Halt>
         ensures runs { RunsTo world.old world.new }
     {
@@ -300,7 +300,7 @@ impl Rounds {
         }
     }
 
-    /// The steps of a turn from a position on, up to one by which place 0 is left empty: how many.
+    /// Makes the steps of a turn from a position on, up to one that leaves place 0 empty, and answers how many.
     fn steps(&mut self, world: &mut World, from: usize, left: u64) -> Result<u64, Halt>
         ensures runs { RunsTo world.old world.new }
     {
@@ -345,7 +345,7 @@ impl Rounds {
     }
 }
 
-/// Makes one event: how many were made.
+/// Makes one event, and answers how many were made.
 #[inline(always)]
 fn make(world: &mut World, event: Event) -> Result<u64, Halt>
     ensures runs { RunsTo world.old world.new }
@@ -354,9 +354,9 @@ fn make(world: &mut World, event: Event) -> Result<u64, Halt>
     Ok(1)
 }
 
-/// Runs a world in rounds until the run has ended, with so many events at most, idle ones among them: those of `Rounds`, one
-/// after another. Whether the run has ended is looked at after each event, before whether there may be another one: only
-/// those at place 0 can end it.
+/// Runs a world in rounds until the run has ended, with at most `limit` events, idle ones included: those of `Rounds`, one
+/// after another. Whether the run has ended is checked after each event, before whether there may be another one: only events
+/// at place 0 can end it.
 pub fn run_rounds(alloc: Global, world: &mut World, limit: u64) -> Result<(), Halt>
     ensures runs { RunsTo world.old world.new }
     ensures ended { IfOk result (λ _. HasEnded world.new) }

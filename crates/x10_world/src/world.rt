@@ -79,7 +79,7 @@ impl<'a> World<'a> {
 }
 
 impl<'a> World<'a> {
-    /// The events in their turn, to the first that is refused: how many were made, and why the next was not.
+    /// The events one after another, up to the first that is refused: how many were made, and why the next was not.
     #[inline(always)]
     pub(crate) fn make(&mut self, events: &[Event]) -> (usize, Option<Stop>)
         requires { self.old.stopped ≢ true }
@@ -100,7 +100,7 @@ impl<'a> World<'a> {
 }
 
 impl<'a> World<'a> {
-    /// A world of so many places at the beginning: main is at place 0, and nothing at the others.
+    /// A world of `places` places at the beginning: main is at place 0, and nothing at the others.
     pub fn open(
         alloc: Global,
         verified: &'a Verified<'a>,
@@ -123,7 +123,7 @@ impl<'a> World<'a> {
         })
     }
 
-    /// The events in their turn. An event that names nothing able to move, or no frame in flight, changes nothing. A Stop
+    /// The events, one after another. An event that names nothing able to move, or no frame in flight, changes nothing. A Stop
     /// comes only where a growth was refused, or where there can be no more of what an event would make (Limit 1: objects,
     /// 2: texts, 3: rails, 4: global references, 5: finishes, 6: activities that live under one finish, 7 to 9: objects,
     /// texts and rails of one frame, 10: keys, 11: frames). After it every later call answers Stopped, and the output is
@@ -157,8 +157,8 @@ impl<'a> World<'a> {
         self.places.get(usize::from(place))?.at(key)
     }
 
-    /// One event, and what it did: as `run` makes it. After a Stop, which comes as `run` says, the world stands for what it
-    /// stood for.
+    /// One event, made as `run` makes it, and what it did. After a Stop, which comes as `run` says, the world stands for what
+    /// it stood for before.
     pub fn event(&mut self, event: Event) -> Result<Done, Stop>
         ensures ok { IfOk result (λ _. (w : machine.World) → StandsForWorld self.old w → Makes self.old w event self.new) }
         ensures done { IfOk result (λ done. IsDone self.old event done self.new) }
@@ -192,11 +192,11 @@ impl<'a> World<'a> {
 }
 
 impl<'a> World<'a> {
-    /// Up to so many times the event `Step(place, key)`: how many were made. Each is as `run` would make it, several times as
-    /// fast, and moves. They are fewer than that many only where a Step of the key now finds nothing to do, or where the last
-    /// one began an activity or put out a frame, so that other events may come. It waits at the end of a finish only where
-    /// something lives that the finish governs, or a frame is in flight. After a Stop, which comes as `run` says, the output
-    /// is that of the steps before the one that was refused.
+    /// Up to `most` times the event `Step(place, key)`: how many were made. Each is as `run` would make it, several times as
+    /// fast, and moves. They are fewer than `most` only where a Step of the key now finds nothing to do, or where the last one
+    /// began an activity or put out a frame, so that other events may come. It waits at the end of a finish only where
+    /// something lives that the finish governs, or a frame is in flight. After a Stop, which comes as `run` says, the output is
+    /// that of the steps before the one that was refused.
     pub fn run_activity(&mut self, place: u16, key: usize, most: u64) -> Result<u64, Stop>
         ensures ok { IfOk result (λ n. (w : machine.World) → StandsForWorld self.old w → Repeats self.old w n place key self.new) }
         ensures some { (w : machine.World) → StandsForWorld self.old w → (n : ℕ) × (n ≤ most) × Repeats self.old w n place key self.new }
@@ -253,7 +253,7 @@ impl<'a> World<'a> {
         place.next_key(from)
     }
 
-    /// Whether no activity is at place 0, as where the run has ended. Constant time.
+    /// Whether no activity is at place 0, as is so where the run has ended. Constant time.
     #[inline(always)]
     pub(crate) fn home_is_empty(&self) -> bool {
         match self.places.first() {
@@ -273,7 +273,7 @@ impl<'a> World<'a> {
         }
     }
 
-    /// The key that the next activity gets that begins at a place; none where there is no such place. Constant time.
+    /// The key that the next activity that begins at a place gets; none where there is no such place. Constant time.
     #[inline(always)]
     pub(crate) fn vacant_key(&self, place: u16) -> Option<usize>
         ensures { MatchOption result (IsNoPlace self.now.places place) (λ key. HasPlace self.now.places place (λ p. key ≡ p.stays.vacant_key)) }
@@ -301,14 +301,14 @@ impl<'a> World<'a> {
         self.flights.get(number)
     }
 
-    /// The least number, from one on, of a frame in flight to a place; none where there is none, or no such place.
+    /// The least number, from `from` on, of a frame in flight to a place; none where there is none, or no such place.
     pub fn next_frame(&self, place: u16, from: u64) -> Option<u64>
         ensures { IsNext (flies_to self.now.flights.flying place) from result }
     {
         self.flights.next_to(place, from)
     }
 
-    /// Whether the run has ended: then no activity lives. Where none lives and no frame is in flight, it has.
+    /// Whether the run has ended: then no activity lives. Conversely, where none lives and no frame is in flight, it has ended.
     pub fn closed(&self) -> bool
         ensures ended { (w : machine.World) → StandsForWorld self.now w → IsTrue result → machine.IsOver w }
         ensures over { (w : machine.World) → StandsForWorld self.now w → machine.IsOver w → self.now.flights.flying ≡ [] → IsTrue result }

@@ -8,8 +8,8 @@ use x10_image::{ImageFault, ImageView};
 /// How many bytes are read before they are looked at for the first time.
 const FIRST: u64 = 65_536;
 
-/// How many times as many bytes are read before each further look. What was read is looked at from its beginning, so that
-/// the looks together cost little beside the last reading.
+/// How many times as many bytes are read before each further look. What was read is looked at from its beginning, so that the
+/// looks together cost little compared with the last reading.
 const MORE: u64 = 16;
 
 /// The most bytes of a text's lines that aren't `text` lines: room for the greatest module without its texts, which takes
@@ -19,9 +19,9 @@ const BESIDE_TEXTS: u64 = 67_108_864;
 /// The most bytes of a `text` line: 65,535 bytes, each escaped, the word before them, two quotes and a line's end.
 const TEXT_LINE: u64 = 131_079;
 
-/// What is known of a file of which so much was read.
+/// What is known about a file from those of its bytes that were read.
 enum Look {
-    /// More of it may be of use, up to so many bytes in all.
+    /// More of it may be of use, up to this many bytes in all.
     More(u64),
     /// The answer is found in what was read, whatever follows.
     Enough,
@@ -29,7 +29,7 @@ enum Look {
     TooLong,
 }
 
-/// The bytes of a file, or so many of its first bytes that the command answers as it would for all of them.
+/// The bytes of a file, or its first bytes, enough of them that the command answers as it would for all.
 pub fn read(rt: &HostRuntime, verb: Verb, file: &mut File) -> Result<Vec<u8>, Trouble> {
     let mut bytes = Vec::new(rt.alloc());
     let mut goal = FIRST;
@@ -46,7 +46,7 @@ pub fn read(rt: &HostRuntime, verb: Verb, file: &mut File) -> Result<Vec<u8>, Tr
     Err(Trouble::TooLong)
 }
 
-/// Reads on until there are so many bytes, and tells whether the file has ended before that.
+/// Reads on until there are `goal` bytes, and answers whether the file has ended before that.
 fn is_at_end(file: &mut File, goal: u64, bytes: &mut Vec<u8>) -> Result<bool, Trouble> {
     let missing = goal.saturating_sub(bytes.len() as u64);
     match file.take(missing).read_to_end(bytes) {
@@ -77,7 +77,7 @@ fn look_at_text(bytes: &[u8]) -> Look {
     Look::More(most.saturating_add(1))
 }
 
-/// The most bytes of a text that begins so, and has no `text` lines but those.
+/// The most bytes of a text that begins with these bytes, and has no `text` lines but those in them.
 fn most_of_text(bytes: &[u8]) -> u64 {
     let mut most = BESIDE_TEXTS;
     for line in bytes.split(|byte| *byte == b'\n') {
@@ -88,8 +88,8 @@ fn most_of_text(bytes: &[u8]) -> u64 {
     most
 }
 
-/// An image is read from front to back, so that the first fault stands whatever follows; but for an end that comes too
-/// early, and for what is told only where nothing follows.
+/// An image is read from front to back, so that the first fault stays, whatever follows; except for an end that comes too
+/// early, and for what is reported only where nothing follows.
 fn look_at_image(rt: &HostRuntime, bytes: &[u8]) -> Result<Look, Trouble> {
     match ImageView::read(rt.alloc(), bytes) {
         Err(ImageFault::Memory) => Err(Trouble::Memory),

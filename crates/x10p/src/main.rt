@@ -44,7 +44,7 @@ fn follow<R: Threads + Wait + Sync>(rt: &HostRuntime, threads: &R, words: &[Stri
     }
 }
 
-/// Reads the file and does the work, which tells its own faults.
+/// Reads the file and does the work, which reports its own faults.
 fn perform<R: Threads + Wait + Sync>(
     rt: &HostRuntime,
     threads: &R,
@@ -78,7 +78,7 @@ fn print<R: Threads + Wait + Sync>(
     Ok(speak(rt, task, out.get_ref().failure(), &told, status))
 }
 
-/// Says what was told of a fault, and gives the exit status. Where the reader of a pipe has gone, nothing is said.
+/// Prints what was said about a fault, and answers the exit status. Where the reader of a pipe has gone, nothing is printed.
 fn speak(
     rt: &HostRuntime,
     task: &Task,
@@ -101,7 +101,7 @@ fn speak(
     }
 }
 
-/// Does the work, and writes what it makes once that is whole, if there is anything; then what is told of a fault. A file
+/// Does the work, and writes what it makes once that is whole, if there is anything; then what is said about a fault. A file
 /// that would be read and written is left as it is.
 fn write<R: Threads + Wait + Sync>(
     rt: &HostRuntime,

@@ -1,4 +1,4 @@
-//! What goes wrong with files and streams, before a command is at work or behind it.
+//! What goes wrong with files and streams, before a command is at work or after it.
 use std::io::{self, ErrorKind, Write};
 use x10_cli::{Fault, Task, tell};
 
@@ -41,7 +41,7 @@ impl Trouble {
         }
     }
 
-    /// Tells it, with its reason where the task asks for explanations, and gives the exit status.
+    /// Reports it, with its reason where the task asks for explanations, and answers the exit status.
     pub fn tell(&self, rt: &HostRuntime, task: &Task) -> u8 {
         let status = tell(self.fault(), &mut rt.stderr());
         if !task.explain {

@@ -1,9 +1,9 @@
-//! Writing a file, so that one which is there stays as it was until the new one is whole.
+//! Writing a file, so that one which is there stays as it was until the new one is complete.
 use std::fs::{self, File, Metadata, OpenOptions};
 use std::io::{self, ErrorKind, Write};
 use std::os::unix::fs::MetadataExt;
 
-/// How many names for the new file beside the old one are tried.
+/// How many names for the new file next to the old one are tried.
 const NAMES: u32 = 10_000;
 
 /// Where the bytes go.
@@ -23,7 +23,7 @@ pub fn is_one_file(rt: &HostRuntime, file: &File, name: &str) -> io::Result<bool
     }
 }
 
-/// Writes a file. Where that fails, an ordinary file is as it was, and nothing is left beside it.
+/// Writes a file. Where that fails, an ordinary file is as it was, and nothing is left next to it.
 pub fn write(rt: &HostRuntime, name: &str, bytes: &[u8]) -> io::Result<()> {
     match target_of(rt, name)? {
         Target::Through => fs::write(rt, name, bytes),
@@ -56,19 +56,19 @@ fn leads_to_file(rt: &HostRuntime, name: &str) -> bool {
     }
 }
 
-/// Writes a new file beside the one of this name, and gives it the name.
+/// Writes a new file next to the one of this name, and gives it the name.
 fn replace(rt: &HostRuntime, name: &str, bytes: &[u8]) -> io::Result<()> {
     let old = writable(rt, name)?;
     let (beside, file) = file_beside(rt, name)?;
     let done = fill(file, old, bytes).and_then(|()| fs::rename(rt, beside.as_str(), name));
     if done.is_err() {
-        // where it can't be removed either, the first error is told
+        // where it can't be removed either, the first error is reported
         let _removed = fs::remove_file(rt, beside.as_str());
     }
     done
 }
 
-/// What is known of the file of this name, if there is one. One that may not be written stays as it is.
+/// What is known about the file of this name, if there is one. One that may not be written stays as it is.
 fn writable(rt: &HostRuntime, name: &str) -> io::Result<Option<Metadata>> {
     match OpenOptions::new().write(true).open(rt, name) {
         Ok(file) => Ok(Some(file.metadata()?)),
