@@ -1,4 +1,5 @@
 pub mod Alike
 pub mod Numbering
 pub mod Posting
+pub mod Rounds
 pub mod Standing

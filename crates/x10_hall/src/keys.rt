@@ -1,5 +1,6 @@
 //! The keys of a turn's steps, kept short.
-ghost use Rattle.std.specs.Prelude.{◌≡◌, ◌↔◌, ◌<◌, IsTrue, IfOk, IfSome, length, replicate, slice_index};
+ghost use Rattle.std.specs.Prelude.{◌≡◌, ◌↔◌, ◌<◌, ◌≤◌, ◌%◌, IsTrue, IfOk, IfSome, length, get_or, replicate, slice_index};
+ghost use Rattle.x10_hall.specs.KeyLists.{in_rounds, keys_in, Recurs};
 
 use std::alloc::{AllocError, Global};
 use std::marker::Model;
@@ -9,12 +10,13 @@ use std::marker::Model;
 enum Form {
     /// One key, this often.
     Same(usize, usize),
-    /// Each key by itself.
-    Each(Vec<usize>),
+    /// A round of keys, again and again, up to so many.
+    Round(Vec<usize>, usize),
 }
 
 /// The keys of steps, one after another. Where all are the same, as in a stretch of steps of one activity, they take no memory
-/// beyond the struct; else a word for each.
+/// beyond the struct. Where they go round, as steps of activities in turn do, they take a word for each of a round; else a
+/// word for each.
 #[derive(Drop)]
 pub struct Keys {
     form: Form,
@@ -42,6 +44,68 @@ fn only_key(keys: &[usize]) -> Option<usize>
     Some(key)
 }
 
+/// Whether two lists of keys are kept in the same way, and so are the same.
+fn same_form(form: &Form, other: &Form) -> bool
+    ensures { IsTrue result → keys_in form.now ≡ keys_in other.now }
+{
+    match (form, other) {
+        (Form::Same(key, count), Form::Same(other_key, other_count)) => {
+            key == other_key && count == other_count
+        }
+        (Form::Round(round, count), Form::Round(other_round, other_count)) => {
+            round == other_round && count == other_count
+        }
+        (Form::Same(_, _), Form::Round(_, _)) | (Form::Round(_, _), Form::Same(_, _)) => false,
+    }
+}
+
+/// The position at which the first key comes again; the number of keys where it doesn't.
+fn next_first(keys: &[usize]) -> usize
+    ensures within { result ≤ length keys.now }
+    ensures past { 0 < length keys.now → 0 < result }
+{
+    for at in 1..keys.len() {
+        if keys[at] == keys[0] {
+            return at;
+        }
+    }
+    keys.len()
+}
+
+/// Whether the keys before a position come again and again behind it.
+fn recurs(keys: &[usize], period: usize) -> bool
+    requires { 0 < period }
+    ensures { IsTrue result → Recurs keys.now period }
+{
+    for at in period..keys.len() {
+        if keys[at] != keys[at - period] {
+            return false;
+        }
+    }
+    true
+}
+
+/// The key at a position of a list that goes round.
+fn in_round(round: &[usize], position: usize) -> usize
+    ensures { result ≡ get_or round.now (position % length round.now) 0 }
+{
+    if round.is_empty() {
+        return 0;
+    }
+    round[position % round.len()]
+}
+
+/// The keys up to where the first one comes again, if these go round; else all of them.
+fn round_of(keys: &[usize]) -> &[usize]
+    ensures { keys.now ≡ in_rounds result.now (length keys.now) }
+{
+    let period = next_first(keys);
+    if period == 0 || !recurs(keys, period) {
+        return keys;
+    }
+    &keys[..period]
+}
+
 impl Keys {
     /// These keys. Linear in their number; takes memory only where they differ.
     pub fn new(alloc: Global, keys: &[usize]) -> Result<Keys, AllocError>
@@ -49,7 +113,7 @@ impl Keys {
     {
         let form = match only_key(keys) {
             Some(key) => Form::Same(key, keys.len()),
-            None => Form::Each(Vec::from_slice(alloc, keys)?),
+            None => Form::Round(Vec::from_slice(alloc, round_of(keys))?, keys.len()),
         };
         Ok(Keys { form })
     }
@@ -60,7 +124,7 @@ impl Keys {
     {
         match &self.form {
             Form::Same(_, count) => *count,
-            Form::Each(keys) => keys.len(),
+            Form::Round(_, count) => *count,
         }
     }
 
@@ -78,14 +142,18 @@ impl Keys {
     {
         match &self.form {
             Form::Same(key, _) => *key,
-            Form::Each(keys) => keys[position],
+            Form::Round(round, _) => in_round(round, position),
         }
     }
 
-    /// Whether these are the same keys in the same order. Linear in their number.
+    /// Whether these are the same keys in the same order. Linear in their number at most, and in that of a round where both were
+    /// made alike.
     pub fn is_same(&self, other: &Keys) -> bool
         ensures { IsTrue result ↔ (self.now ≡ other.now) }
     {
+        if same_form(&self.form, &other.form) {
+            return true;
+        }
         if self.len() != other.len() {
             return false;
         }
@@ -103,7 +171,7 @@ impl Keys {
     {
         let form = match &self.form {
             Form::Same(key, count) => Form::Same(*key, *count),
-            Form::Each(keys) => Form::Each(Vec::from_slice(alloc, keys)?),
+            Form::Round(round, count) => Form::Round(Vec::from_slice(alloc, round)?, *count),
         };
         Ok(Keys { form })
     }

@@ -88,3 +88,32 @@ fn states(rt: HostRuntime) -> Result<(), Fail> {
     assert!(rt; turns(&hall) == 0);
     Ok(())
 }
+
+/// Whether keys are kept as they are given: as many, each at its position, and the same as a copy of them.
+fn is_kept(alloc: Global, keys: &[usize]) -> Result<bool, Fail> {
+    let kept = Keys::new(alloc, keys)?;
+    let copy = kept.copied(alloc)?;
+    Ok(kept.len() == keys.len() && kept.is_same(&copy) && has_each(&kept, keys))
+}
+
+/// Whether keys stand at their positions.
+fn has_each(kept: &Keys, keys: &[usize]) -> bool {
+    for at in 0..keys.len() {
+        if at >= kept.len() || kept.at(at) != keys[at] {
+            return false;
+        }
+    }
+    true
+}
+
+/// Keys that are the same, that go round, up to the middle of a round too, and that do neither.
+#[test]
+fn keys(rt: HostRuntime) -> Result<(), Fail> {
+    let alloc = rt.alloc();
+    assert!(rt; is_kept(alloc, &[])?);
+    assert!(rt; is_kept(alloc, &[4, 4, 4])?);
+    assert!(rt; is_kept(alloc, &[3, 5, 3, 5, 3])?);
+    assert!(rt; is_kept(alloc, &[3, 5, 3, 6])?);
+    assert!(rt; is_kept(alloc, &[1, 2, 3])?);
+    Ok(())
+}
