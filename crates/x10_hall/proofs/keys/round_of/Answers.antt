@@ -1,4 +1,4 @@
-use Rattle.std.proofs.Common.{◌≡◌, ◌<◌, length, refl, arith}
+use Rattle.std.proofs.Common.{◌<◌, refl, arith}
 use Rattle.x10_hall.proofs.Rounds.{whole, again}
 use Rattle.x10_hall.proofs.keys.round_of.Goals as goal
 

@@ -1,6 +1,6 @@
-use Rattle.std.proofs.Common.{◌≡◌, ◌<◌, ◌%◌, ℕ, List, length, get_or, sym, ap, subst, ◌∙◌, arith}
+use Rattle.std.proofs.Common.{◌≡◌, ◌<◌, ◌%◌, ℕ, List, length, get_or, sym, ap, ◌∙◌, arith}
 use Rattle.std.specs.Prelude.{slice_index}
-use Rattle.x10_hall.specs.KeyLists.{keys_in, in_rounds}
+use Rattle.x10_hall.specs.KeyLists.{keys_in}
 use Rattle.x10_hall.proofs.Rounds.{long, item}
 use Rattle.x10_hall.proofs.keys.Keys.at.Goals as goal
 

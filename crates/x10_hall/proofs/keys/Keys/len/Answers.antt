@@ -1,4 +1,4 @@
-use Rattle.std.proofs.Common.{◌≡◌, ℕ, List, length, sym, ap, ◌∙◌}
+use Rattle.std.proofs.Common.{ℕ, List, length, sym, ap, ◌∙◌}
 use Rattle.x10_hall.specs.KeyLists.{keys_in}
 use Rattle.x10_hall.proofs.Rounds.{long}
 use Rattle.x10_hall.proofs.keys.Keys.len.Goals as goal
