@@ -24,6 +24,7 @@ use Rattle.x10_copy.specs.Captured.{kinds_of}
 use Rattle.x10_copy.specs.References.{AreNamedElsewhere}
 use Rattle.x10_copy.specs.Taken.{TakesIn, with_heap}
 use Rattle.x10_copy.proofs.Lawful.{arrivals_fit}
+use Rattle.x10_model.proofs.Lists.{none_some}
 use Rattle.x10_verify.specs.Certified.{Certified}
 use Rattle.x10_verify.proofs.Wholes.{function_fits}
 use Rattle.x10_place.specs.declared.launching.Launch.{Launch}
@@ -147,7 +148,7 @@ module _ (far : Far) (p : PlaceState) (m : machine.Place) (stands : StandsFor fa
       let few = h.few in
       admitted far p m stands slab t h.key h.child child h.added grows child_stands message next (λ le. omega (arith, few, le)) receives refl taken.holds exports
       (stands.opened ∙ sym c.opened_is) (stands.lines ∙ sym (ap (λ ls. map line_as ls) c.lines)) (record { here = c.here; places = c.places_are; totals = totals; kept = c.books_are })
-      (booked_as p.id p.opened t.opened next.stays next.stays (books_of p.books) (books_of t.books) (without p.id p.opened m.stays (books_of p.books) stands.booked h.key (Some child) (λ u e. ap (λ (z : Stay). z.finishes) (sym (same_Some child u e)))) refl c.opened_is c.books_are)
+      (booked_as p.id p.opened t.opened next.stays next.stays (books_of p.books) (books_of t.books) (without p.id p.opened m.stays (books_of p.books) stands.booked h.key (Some child) (λ u e. absurd (none_some (m.stays h.key) u (stands.none h.key h.free) e)) (λ u e. ap (λ (z : Stay). z.finishes) (sym (same_Some child u e)))) refl c.opened_is c.books_are)
 
 -- ---- by the frame that brings it
 

@@ -1,7 +1,8 @@
--- Books of a place: after each move there is one for each finish that a stay has open.
-use Rattle.std.proofs.Common.{◌≡◌, ◌⊎◌, ℕ, zero, suc, ◌+◌, ◌<◌, ◌≤◌, [], ◌∷◌, Option, Some, None, refl, sym, ap, subst, ◌∙◌, inl, inr, arith}
+-- Books of a place: after each move there is one for each finish that a stay has open, and no other but the root's.
+use Rattle.std.proofs.Common.{◌≡◌, ◌⊎◌, ℕ, zero, suc, ◌+◌, ◌<◌, ◌≤◌, List, [], ◌∷◌, Option, Some, None, refl, sym, ap, subst, ◌∙◌, inl, inr, arith}
 use Rattle.std.proofs.lemmas.Option.{same_Some}
-use Rattle.std.proofs.lemmas.Bool.{cases_eq}
+use Rattle.std.specs.Prelude.{if◌then◌else◌}
+use Rattle.std.proofs.lemmas.Bool.{cases_eq, cases_lt, ne_eqb}
 use Rattle.x10_model.specs.Maps.{with_entry}
 use Rattle.x10_model.specs.Places as machine
 use Rattle.x10_model.specs.Places.{Stay, Effect, Waits, Works, Begins, Spawns, Shifts, Opens, Closes, Ends}
@@ -11,7 +12,7 @@ use Rattle.x10_model.proofs.Maps.{at_key, off_key}
 use Rattle.x10_finish.specs.Nesting.{nth}
 use Rattle.x10_finish.specs.Stays.{MovesStay}
 use Rattle.x10_place.specs.Stays.{StoreState, books_in, HasBook}
-use Rattle.x10_place.specs.StandsFor.{first_number, AreBooked}
+use Rattle.x10_place.specs.StandsFor.{first_number, IsOpenIn, AreBooked}
 use Rattle.x10_place.proofs.Recounting.{KeepsBooks}
 
 -- books and numbers as functions; other functions with the same values do as well
@@ -23,6 +24,10 @@ booked_as id opened opened' stays stays' books books' h same e b = record {
   unopened = λ n le. b n ∙ h.unopened n (subst (λ o. o ≤ n) e le);
   first = subst (λ o. first_number id ≤ o) (sym e) h.first;
   root = λ z. let c = h.root z in (c.0, b 0 ∙ c.1);
+  only = λ n has. elim (h.only n (has.0, sym (b n) ∙ has.1)) [
+    | inl c ↦ inl c
+    | inr c ↦ inr (c.0, c.1, c.2, ap (λ (m : ℕ → Option Stay). m c.0) same ∙ c.3, c.4)
+  ];
 }
   where
     was : (k : ℕ) (s : Stay) → stays' k ≡ Some s → stays k ≡ Some s
@@ -35,12 +40,19 @@ found stays key k o s e = elim (cases_eq k key) [
   | inr ne ↦ inr (ne, sym (off_key stays key k o ne) ∙ e)
 ]
 
+-- a key is free still after the stay with another key has changed
+vacant : (stays : ℕ → Option Stay) (key other : ℕ) (s t u : Stay) → stays key ≡ Some s → stays other ≡ None → with_entry stays key (Some t) other ≡ Some u → ⊥
+vacant stays key other s t u there none e = elim (found stays key other (Some t) u e) [
+  | inl c ↦ none_some (stays other) s none (ap stays c.0 ∙ there)
+  | inr c ↦ none_some (stays other) u none c.1
+]
+
 -- ---- one stay changes
 
 module _ (id opened : ℕ) (stays : ℕ → Option Stay) (books : ℕ → Option Cut) (h : AreBooked id stays opened books) (key : ℕ) where
-  -- with no finish open, or none at all
-  pub without : (o : Option Stay) → ((t : Stay) → o ≡ Some t → t.finishes ≡ []) → AreBooked id (with_entry stays key o) opened books
-  without o empty = record {
+  -- with no finish open, or none at all, where before no finish was open either
+  pub without : (o : Option Stay) → ((s : Stay) → stays key ≡ Some s → s.finishes ≡ []) → ((t : Stay) → o ≡ Some t → t.finishes ≡ []) → AreBooked id (with_entry stays key o) opened books
+  without o closed empty = record {
     booked = λ k i n s is f. elim (found stays key k o s is) [ inl c ↦ absurd (none k i n s c.1 f) | inr c ↦ h.booked k i n s c.1 f ];
     numbered = λ k i n s is f. elim (found stays key k o s is) [ inl c ↦ absurd (none k i n s c.1 f) | inr c ↦ h.numbered k i n s c.1 f ];
     apart = λ k l i j n s t is it f g. elim (found stays key k o s is) [
@@ -50,12 +62,27 @@ module _ (id opened : ℕ) (stays : ℕ → Option Stay) (books : ℕ → Option
     unopened = h.unopened;
     first = h.first;
     root = h.root;
+    only = λ n has. elim (h.only n has) [
+      | inl c ↦ inl c
+      | inr c ↦ inr (c.0, c.1, c.2, off_key stays key c.0 o (λ q. nowhere c.1 n c.2.finishes (closed c.2 (ap stays (sym q) ∙ c.3)) c.4) ∙ c.3, c.4)
+    ];
   }
     where
+      nowhere : (i n : ℕ) (finishes : List ℕ) → finishes ≡ [] → nth finishes i ≡ Some n → ⊥
+      nowhere i n finishes e f = absurd (let g : nth [] i ≡ Some n = subst (λ ns. nth ns i ≡ Some n) e f in cc)
+
       none : (k i n : ℕ) (s : Stay) → o ≡ Some s → nth s.finishes i ≡ Some n → ⊥
-      none k i n s is f = absurd (let g : nth [] i ≡ Some n = subst (λ ns. nth ns i ≡ Some n) (empty s is) f in cc)
+      none k i n s is f = nowhere i n s.finishes (empty s is) f
 
   module _ (s t : Stay) (there : stays key ≡ Some s) where
+    -- who has a book: the root, or what is open in another stay, or what is open still in this one
+    only_after : (n : ℕ) → ((id ≡ 0) × (n ≡ 0)) ⊎ IsOpenIn stays n → ((i : ℕ) → nth s.finishes i ≡ Some n → IsOpenIn (with_entry stays key (Some t)) n) → ((id ≡ 0) × (n ≡ 0)) ⊎ IsOpenIn (with_entry stays key (Some t)) n
+    only_after n (inl c) still = inl c
+    only_after n (inr c) still = inr (elim (cases_eq c.0 key) [
+      | inl at ↦ still c.1 (ap (λ (z : Stay). nth z.finishes c.1) (same_Some s c.2 (sym there ∙ ap stays (sym at) ∙ c.3)) ∙ c.4)
+      | inr off ↦ (c.0, c.1, c.2, off_key stays key c.0 (Some t) off ∙ c.3, c.4)
+    ])
+
     -- with the same finishes open
     pub same : t.finishes ≡ s.finishes → AreBooked id (with_entry stays key (Some t)) opened books
     same e = record {
@@ -65,6 +92,7 @@ module _ (id opened : ℕ) (stays : ℕ → Option Stay) (books : ℕ → Option
       unopened = h.unopened;
       first = h.first;
       root = h.root;
+      only = λ n has. only_after n (h.only n has) (λ i f. (key, i, t, at_key stays key (Some t), ap (λ ns. nth ns i) e ∙ f));
     }
       where
         was : (k i n : ℕ) (u : Stay) → with_entry stays key (Some t) k ≡ Some u → nth u.finishes i ≡ Some n → (w : Stay) × (stays k ≡ Some w) × (nth w.finishes i ≡ Some n)
@@ -97,6 +125,10 @@ module _ (id opened : ℕ) (stays : ℕ → Option Stay) (books : ℕ → Option
       unopened = λ n le. b n ∙ off_key books number n (Some (λ p. zeros)) (λ q. absurd (omega (arith, le, q, next))) ∙ h.unopened n (omega (arith, le));
       first = (let le = h.first in omega (arith, le));
       root = λ z. let c = h.root z in (c.0, b 0 ∙ off_key books number 0 (Some (λ p. zeros)) (λ q. none_some (books number) c.0 (h.unopened number (omega (arith, next))) (ap books (sym q) ∙ c.1)) ∙ c.1);
+      only = λ n has. elim (cases_eq n number) [
+        | inl q ↦ inr (key, 0, t, at_key stays key (Some t), ap (λ ns. nth ns 0) e ∙ ap Some (sym q))
+        | inr ne ↦ only_after n (h.only n (has.0, sym (off_key books number n (Some (λ p. zeros)) ne) ∙ sym (b n) ∙ has.1)) (λ i f. (key, suc i, t, at_key stays key (Some t), ap (λ ns. nth ns (suc i)) e ∙ f))
+      ];
     }
       where
         -- where a finish was before: nowhere, or one position further out in the stay that changed, or where it is
@@ -134,8 +166,16 @@ module _ (id opened : ℕ) (stays : ℕ → Option Stay) (books : ℕ → Option
       ];
       first = h.first;
       root = λ z. let c = h.root z in (c.0, b 0 ∙ off_key books number 0 None (λ q. absurd (let le = (h.numbered key 0 number s there (ap (λ ns. nth ns 0) e)).0 in low z (subst (λ n. first_number id ≤ n) (sym q) le))) ∙ c.1);
+      only = λ n has. elim (cases_eq n number) [
+        | inl q ↦ absurd (none_some (books' n) has.0 (b n ∙ ap (with_entry books number None) q ∙ at_key books number None) has.1)
+        | inr ne ↦ only_after n (h.only n (has.0, sym (off_key books number n None ne) ∙ sym (b n) ∙ has.1)) (λ i f. further i n ne (ap (λ ns. nth ns i) (sym e) ∙ f))
+      ];
     }
       where
+        further : (i n : ℕ) → (n ≡ number → ⊥) → nth (number ∷ t.finishes) i ≡ Some n → IsOpenIn (with_entry stays key (Some t)) n
+        further zero n ne f = absurd (ne (sym (same_Some number n f)))
+        further (suc i) n ne f = (key, i, t, at_key stays key (Some t), f)
+
         low : id ≡ 0 → first_number id ≤ 0 → ⊥
         low z le = absurd (let f : first_number 0 ≤ 0 = subst (λ n. first_number n ≤ 0) z le in omega (arith, f))
 
@@ -171,7 +211,17 @@ booked_first id opened books is unopened root = record {
   unopened = unopened;
   first = omega (arith, is);
   root = root;
+  only = λ n has. elim (cases_lt n opened) [
+    | inl lt ↦ inl (below id n (subst (λ k. n < k) is lt))
+    | inr le ↦ absurd (none_some (books n) has.0 (unopened n le) has.1)
+  ];
 }
+  where
+    below : (id n : ℕ) → n < first_number id → (id ≡ 0) × (n ≡ 0)
+    below id n lt = elim (cases_eq id 0) [
+      | inl z ↦ (let one : n < 1 = subst (λ k. n < first_number k) z lt in (z, omega (arith, one)))
+      | inr ne ↦ absurd (let none : n < 0 = subst (λ b. n < (if b then 1 else 0)) (ne_eqb id 0 ne) lt in omega (arith, none))
+    ]
 
 -- ---- a move
 
@@ -182,7 +232,7 @@ moved_booked here key old new Works s t h m k =
 moved_booked here key old new (Begins other function under) s t h m k =
     let first = same here s.opened old.stays (books_in s) h key m.stay m.changes.0 m.is_there m.changes.2.finishes_are in
     booked_as here s.opened t.opened (with_entry (with_entry old.stays key (Some m.changes.0)) other (Some m.changes.1)) new.stays (books_in s) (books_in t)
-    (without here s.opened (with_entry old.stays key (Some m.changes.0)) (books_in s) first other (Some m.changes.1) (λ u e. ap (λ (z : Stay). z.finishes) (sym (same_Some m.changes.1 u e)) ∙ m.changes.3.finishes)) m.changes.6 k.0 k.1
+    (without here s.opened (with_entry old.stays key (Some m.changes.0)) (books_in s) first other (Some m.changes.1) (λ u e. absurd (vacant old.stays key other m.stay m.changes.0 u m.is_there m.changes.5 e)) (λ u e. ap (λ (z : Stay). z.finishes) (sym (same_Some m.changes.1 u e)) ∙ m.changes.3.finishes)) m.changes.6 k.0 k.1
 moved_booked here key old new (Spawns message function under) s t h m k =
     booked_as here s.opened t.opened (with_entry old.stays key (Some m.changes.0)) new.stays (books_in s) (books_in t) (same here s.opened old.stays (books_in s) h key m.stay m.changes.0 m.is_there m.changes.3.finishes_are) m.changes.6.stays k.0 k.1
 moved_booked here key old new (Shifts message under) s t h m k =
@@ -194,4 +244,4 @@ moved_booked here key old new (Closes number) s t h m k =
     booked_as here s.opened t.opened (with_entry old.stays key (Some m.changes.0)) new.stays (books_in t) (books_in t)
     (popped here s.opened old.stays (books_in s) h key m.stay m.changes.0 m.is_there (books_in t) number (m.changes.2 ∙ ap (λ ns. number ∷ ns) (sym m.changes.3.finishes_are)) k.1) m.changes.4.stays k.0 (λ n. refl)
 moved_booked here key old new (Ends under back) s t h m k =
-    booked_as here s.opened t.opened (with_entry old.stays key None) new.stays (books_in s) (books_in t) (without here s.opened old.stays (books_in s) h key None (λ u e. absurd cc)) m.changes.3.stays k.0 k.1
+    booked_as here s.opened t.opened (with_entry old.stays key None) new.stays (books_in s) (books_in t) (without here s.opened old.stays (books_in s) h key None (λ u e. ap (λ (z : Stay). z.finishes) (same_Some u m.stay (sym e ∙ m.is_there)) ∙ m.changes.0) (λ u e. absurd cc)) m.changes.3.stays k.0 k.1

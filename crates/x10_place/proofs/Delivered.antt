@@ -6,6 +6,7 @@ use Rattle.x10_model.specs.Frames.{Graph, Frame, FitsFrame}
 use Rattle.x10_model.specs.Modules.{FitsImage}
 use Rattle.x10_frame.specs.declared.head.Head.TheVariants as head
 use Rattle.x10_frame.specs.Heads.{head_of, graph_of}
+use Rattle.x10_heap.specs.Heaps.{HeapState}
 use Rattle.x10_copy.specs.declared.refusal.Refusal.{Refusal}
 use Rattle.x10_copy.specs.declared.refusal.Refusal.TheVariants as refusal
 use Rattle.x10_verify.specs.Certified.{Certified}
@@ -81,6 +82,7 @@ module _ (v : Certified) (old : Slab StayState) (s : StoreState) where
     spawn_taken_by g new t image fits h = record {
       takes = λ stopped. takes_spawn v old new s t stopped image from to home number function g here fits h;
       is_open = λ stopped shut. shut.1 (h.is_open shut.0);
+      texts = ap (λ (heap : HeapState). heap.texts) h.settles.brought.heap_is;
       here = h.settles.counted.here;
       places = h.settles.counted.places_are;
     }
@@ -118,6 +120,7 @@ module _ (v : Certified) (old : Slab StayState) (s : StoreState) where
       shift_taken_by g new t image fits h = record {
         takes = λ stopped. takes_shift v old new s t stopped image from to home number function g here waiting fits h;
         is_open = λ stopped shut. shut.1 (h.is_open shut.0);
+        texts = ap (λ (heap : HeapState). heap.texts) h.settles.brought.heap_is;
         here = h.settles.counted.here;
         places = h.settles.counted.places_are;
       }
@@ -169,6 +172,7 @@ module _ (v : Certified) (old : Slab StayState) (s : StoreState) where
     back_taken_by g new t checks fits h = record {
       takes = λ stopped. takes_back v old new s t stopped checks from to waiting g here fits h;
       is_open = λ stopped shut. shut;
+      texts = ap (λ (heap : HeapState). heap.texts) h.arrived.heap_is;
       here = ap (λ (u : StoreState). u.here) h.store;
       places = ap (λ (u : StoreState). u.places) h.store;
     }

@@ -31,6 +31,7 @@ use Rattle.x10_place.specs.declared.route.Route.TheVariants as route
 use Rattle.x10_place.specs.declared.sent.Sent.{Sent}
 use Rattle.x10_place.specs.Frames.{word_at}
 use Rattle.x10_place.specs.Homes.{place_in}
+use Rattle.x10_place.specs.Routes.{route_of}
 use Rattle.x10_place.specs.Sending.{slots_of_call, words_from}
 use Rattle.x10_place.specs.Parting.{head_sent, DepartsBy, DepartsAt}
 use Rattle.x10_place.specs.Messages.{IsMessageSent, PutsOut}
@@ -45,6 +46,7 @@ use Rattle.x10_place.proofs.Ends.{next_stands}
 use Rattle.x10_place.proofs.Payloads.{range_at}
 use Rattle.x10_place.proofs.Placing.{IsChecked, is_send, next_placed}
 use Rattle.x10_place.proofs.Recounting.{KeepsBooks, counted_in, spawns_count, shifts_count}
+use Rattle.x10_place.proofs.Texts.{adds_none}
 use Rattle.x10_place.proofs.Steps.{moves, rebuilt, keys_one, keyed_one}
 
 module _ (far : Far) (p : PlaceState) (m : machine.Place) (stands : StandsFor far p m) (key : ℕ) (out : Sent) (slab : Slab StayState) (t : StoreState) (checks : IsChecked p.program) (d : DepartsAt p.program p.stays (store_of p) key out slab t) (ready : d.stay.away ≡ false) where
@@ -92,6 +94,10 @@ module _ (far : Far) (p : PlaceState) (m : machine.Place) (stands : StandsFor fa
     pub moves_on : (number : ℕ) → effect ≡ Waits number → ⊥
     pub goes_to : IsMessageSent p.program x d.message message
 
+  -- it makes no text
+  sends_not : (o : Op) → i.op ≡ o → (route_of o ≡ route.Send → ⊥) → ⊥
+  sends_not o e other = other (ap route_of (sym e) ∙ d.route_is)
+
   departed : Departs → Leads far p m key (stepped.Moved out) (with_stays p slab t)
   departed dep =
       let new = with_stay m key (Some dep.after) in
@@ -115,6 +121,7 @@ module _ (far : Far) (p : PlaceState) (m : machine.Place) (stands : StandsFor fa
             report = λ f. dep.silent p.id f (totals_in (store_of p) f);
           }),
         );
+        texts = adds_none p key a i d.is_there d.fetched (with_stays p slab t) (λ e. sends_not op.Textk e (λ f. absurd cc)) (λ e. sends_not op.Tcat e (λ f. absurd cc)) r.heap;
       }
 
   -- what is counted, by the machine's place and finish

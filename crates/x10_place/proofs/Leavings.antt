@@ -37,6 +37,7 @@ use Rattle.x10_place.proofs.Ends.{Ending, ret_ends, result_register}
 use Rattle.x10_place.proofs.Payloads.{given_words}
 use Rattle.x10_place.proofs.Placing.{IsChecked, none_open}
 use Rattle.x10_place.proofs.Recounting.{counted_in, ends_count}
+use Rattle.x10_place.proofs.Texts.{adds_none}
 use Rattle.x10_place.proofs.Steps.{moves, rebuilt, keys_one, keyed_one}
 
 -- a finish is the same as itself, and no other one is
@@ -198,6 +199,7 @@ module _ (far : Far) (p : PlaceState) (m : machine.Place) (stands : StandsFor fa
             (stands.opened ∙ sym r.opened_is) (stands.lines ∙ sym (ap (λ ls. map line_as ls) r.lines)) counted (r.opened_is, r.books_are);
         counted = counted_in (store_of p) t effect counted;
         answers = ((λ n f. absurd cc), record { message = result.goes_back; report = report_of_finish result.back });
+        texts = (let ret = d.is_ret in adds_none p key a i d.is_there d.fetched (with_stays p slab t) (λ q. absurd cc) (λ q. absurd cc) r.heap);
       }
 
 -- each place of the machine makes the step

@@ -3,6 +3,7 @@ pub mod Homes
 pub mod Numbers
 pub mod Forms
 pub mod HeapKept
+pub mod Texts
 pub mod Fetching
 pub mod Filling
 pub mod Fitting
@@ -49,3 +50,4 @@ pub mod Advancing
 pub mod Running
 pub mod Answering
 pub mod Openings
+pub mod NeverIdle

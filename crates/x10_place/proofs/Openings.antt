@@ -140,7 +140,7 @@ module _ (far : Far) (p : PlaceState) where
     opened = sym (fresh.store.opened ∙ ap first_number zero_is);
     lines = sym (ap (λ ls. map line_as ls) fresh.store.lines);
     tallied = begun_tallied (λ k. None) root key first (λ f. nothing) (totals_in (store_of p)) (none_tallied (λ f. nothing) (λ f. refl)) refl refl (λ f. main_lives p.id f (totals_in (store_of p) f) zero_is (fresh.store.totals f));
-    booked = without p.id p.opened (λ k. None) (books_in (store_of p)) (booked_first p.id p.opened (books_in (store_of p)) fresh.store.opened fresh.store.unopened fresh.store.root) key (Some first) (λ t e. ap (λ (s : Stay). s.finishes) (sym (same_Some first t e)));
+    booked = without p.id p.opened (λ k. None) (books_in (store_of p)) (booked_first p.id p.opened (books_in (store_of p)) fresh.store.opened fresh.store.unopened fresh.store.root) key (Some first) (λ s e. absurd cc) (λ t e. ap (λ (s : Stay). s.finishes) (sym (same_Some first t e)));
   }
     where
       first : Stay

@@ -1,12 +1,12 @@
 -- What a place does with bytes: it stands as before, or takes them in and stands for what the machine's place is then.
-use Rattle.std.proofs.Common.{◌≡◌, ℕ, Bool, true, false, List, Option, Result, Ok, Err, OnOk, OnErr, IfErr, refl, sym, ap, subst, ◌∙◌, inl, inr, arith}
+use Rattle.std.proofs.Common.{◌≡◌, ℕ, Bool, true, false, List, Option, Some, None, Result, Ok, Err, OnOk, OnErr, IfErr, refl, sym, ap, subst, ◌∙◌, inl, inr, arith}
 use Rattle.std.proofs.lemmas.Bool.{cases_eq}
 use Rattle.slab.specs.Slab.{Slab}
 use Rattle.x10_model.specs.Frames as frames
 use Rattle.x10_model.specs.Frames.{Frame, FitsFrame, spelling}
 use Rattle.x10_model.specs.Places as machine
 use Rattle.x10_model.specs.Places.{Message, Stay}
-use Rattle.x10_model.specs.Totals.{Report, merged}
+use Rattle.x10_model.specs.Totals.{Cut, Report, merged}
 use Rattle.x10_model.specs.Wrong as wrong
 use Rattle.x10_model.specs.ReadingFrames as reading
 use Rattle.x10_frame.specs.declared.fault.FrameFault.{FrameFault}
@@ -31,6 +31,17 @@ book_kept p to r q h n has = elim (cases_eq n r.number) [
   | inr ne ↦ (has.0, h.others n ne ∙ has.1)
 ]
 
+was_merged : (r : Report) (o : Option Cut) (cut : Cut) → merged_in r o ≡ Some cut → (c : Cut) × (o ≡ Some c)
+was_merged r None cut e = absurd cc
+was_merged r (Some c) cut e = (c, refl)
+
+-- and each was there
+book_was : (p : PlaceState) (to : ℕ) (r : Report) (q : PlaceState) → TakesReport p to r q → (n : ℕ) → HasBook (books_of q.books) n → HasBook (books_of p.books) n
+book_was p to r q h n has = elim (cases_eq n r.number) [
+  | inl e ↦ was_merged r (books_of p.books n) has.0 (ap (λ k. merged_in r (books_of p.books k)) e ∙ sym h.this ∙ ap (books_of q.books) (sym e) ∙ has.1)
+  | inr ne ↦ (has.0, sym (h.others n ne) ∙ has.1)
+]
+
 booked_still : (p : PlaceState) (to : ℕ) (r : Report) (q : PlaceState) (stays : ℕ → Option Stay) → TakesReport p to r q → AreBooked p.id stays p.opened (books_of p.books) → AreBooked p.id stays p.opened (books_of q.books)
 booked_still p to r q stays h b = record {
   booked = λ k i n s is f. book_kept p to r q h n (b.booked k i n s is f);
@@ -39,6 +50,7 @@ booked_still p to r q stays h b = record {
   unopened = λ n le. h.others n (λ e. absurd (let lt = h.opened in omega (arith, lt, le, e))) ∙ b.unopened n le;
   first = b.first;
   root = λ e. book_kept p to r q h 0 (b.root e);
+  only = λ n has. b.only n (book_was p to r q h n has);
 }
 
 -- a place that takes a report in stands for the same place of the machine
@@ -111,6 +123,7 @@ module _ (v : Certified) (old : Slab StayState) (s : StoreState) (bytes : List �
     fits = spelled.0;
     spelled = spelled.1;
     is_open = h.is_open stopped;
+    texts = h.texts;
     takes = λ g fits same. subst (λ q. TakesFrame (place_of v old s stopped) q (place_of v new t stopped)) (only g fits same) (h.takes stopped);
   }
 

@@ -35,6 +35,7 @@ use Rattle.x10_place.proofs.Ends.{next_stands}
 use Rattle.x10_place.proofs.Going.{stay_goes}
 use Rattle.x10_place.proofs.Placing.{IsChecked, is_close_finish, next_placed, begun_placed}
 use Rattle.x10_place.proofs.Booking.{moved_booked}
+use Rattle.x10_place.proofs.Texts.{goes_added, adds, adds_none}
 use Rattle.x10_place.proofs.Recounting.{KeepsBooks, closed_none, counted_in, waits_count, begins_count, puts_nothing, silent_begins}
 
 -- ---- the whole place
@@ -130,6 +131,7 @@ module _ (far : Far) (p : PlaceState) (m : machine.Place) (stands : StandsFor fa
         stands = rebuilt far p m stands slab t key new to.effect moved (keys_one far p m stands slab t key a (Some b) found up) (keyed_one far p m stands slab t key (Some b) (Some to.stay) to.base.stays to.stays to.grows up (to.stay, refl, to.stands)) to.holds to.now_exported to.opened (to.lines stands.lines) counted to.booked;
         counted = counted_in (store_of p) t to.effect counted;
         answers = (to.works, puts_nothing p.program (context_of far p) (store_of p) to.effect to.silent);
+        texts = (let made = goes_added (location_of p) a (store_of p) i b t i.op steps in adds p key a i found fetched (with_stays p slab t) made.0 made.1 made.2);
       }
 
   -- the stay waits at the end of a finish
@@ -142,6 +144,7 @@ module _ (far : Far) (p : PlaceState) (m : machine.Place) (stands : StandsFor fa
     stands = stands;
     counted = waits_count (store_of p) waits.number;
     answers = (waits.number, refl);
+    texts = (let fine = is_close_finish i.op e in adds_none p key a i found fetched p (λ q. absurd cc) (λ q. absurd cc) refl);
   }
 
 -- an activity begins
@@ -188,6 +191,7 @@ module _ (far : Far) (p : PlaceState) (m : machine.Place) (stands : StandsFor fa
             (stands.opened ∙ sym r.opened_is) (stands.lines ∙ sym (ap (λ ls. map line_as ls) r.lines)) counted (r.opened_is, r.books_are);
         counted = counted_in (store_of p) t effect counted;
         answers = ((λ n f. absurd cc), puts_nothing p.program (context_of far p) (store_of p) effect (silent_begins begins.other i.x (innermost p.id s)));
+        texts = (let async = begins.is_async in adds_none p key a i begins.is_there begins.fetched (with_stays p slab t) (λ q. absurd cc) (λ q. absurd cc) r.heap);
       }
     where
       -- the heap is as it was

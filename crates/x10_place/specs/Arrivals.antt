@@ -1,5 +1,5 @@
 -- What comes in at a place: what it does to the stays, and to what the place keeps.
-use Rattle.std.specs.Prelude.{◌≡◌, ℕ, ◌<◌, ◌≤◌, ◌^◌, ◌⊎◌, Bool, true, false, List, [], ◌∷◌, Some, None, length}
+use Rattle.std.specs.Prelude.{◌≡◌, ℕ, ◌<◌, ◌≤◌, ◌^◌, ◌⊎◌, Bool, true, false, List, [], ◌∷◌, ◌++◌, Some, None, length}
 use Rattle.slab.specs.Slab.{Slab, get, Updates}
 use Rattle.x10_code.specs.declared.op.Op.TheVariants as op
 use Rattle.x10_code.specs.declared.instr.Instr.{Instr}
@@ -222,5 +222,6 @@ to_in (head.Report from to number) = to
 pub record IsTakenFrame (verified : Certified) (old : Slab StayState) (s : StoreState) (f : Frame) (new : Slab StayState) (t : StoreState) : Type 0 where
   pub takes : (stopped : Bool) → TakesFrame (place_of verified old s stopped) f (place_of verified new t stopped)
   pub is_open : (stopped : Bool) → IsShut (place_of verified old s stopped) f → ⊥
+  pub texts : t.heap.texts ≡ s.heap.texts ++ (graph_of f).texts
   pub here : t.here ≡ s.here
   pub places : t.places ≡ s.places

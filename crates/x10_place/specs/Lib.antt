@@ -1,6 +1,7 @@
 pub mod Routes
 pub mod Homes
 pub mod Frames
+pub mod Texts
 pub mod Stays
 pub mod Messages
 pub mod Sending
@@ -10,3 +11,4 @@ pub mod Parting
 pub mod Stretches
 pub mod Opening
 pub mod Arrivals
+pub mod Laws

@@ -1,5 +1,5 @@
 -- What a place does with bytes that come from a place.
-use Rattle.std.specs.Prelude.{◌≡◌, ◌≢◌, ◌⊎◌, ℕ, ◌≤◌, ◌<◌, ◌^◌, Bool, true, false, List, Option, Some, None}
+use Rattle.std.specs.Prelude.{◌≡◌, ◌≢◌, ◌⊎◌, ℕ, ◌≤◌, ◌<◌, ◌^◌, Bool, true, false, List, ◌++◌, Option, Some, None}
 use Rattle.slab.specs.Slab.{get}
 use Rattle.x10_code.specs.declared.op.Op.TheVariants as op
 use Rattle.x10_code.specs.declared.instr.Instr.{Instr}
@@ -78,13 +78,15 @@ IsShut p (frames.Spawn from to home number function graph) = (home ≡ p.id) × 
 IsShut p (frames.Shift from to waiting home number function graph) = (home ≡ p.id) × (HasBook (books_of p.books) number → ⊥)
 IsShut p f = ⊥
 
--- the bytes are those of a frame, and the place takes it in: one whose finish is open, if it is one of this place
+-- The bytes are those of a frame, and the place takes it in: one whose finish is open, if it is one of this place. The texts
+-- of the frame are added to the heap, and no others.
 pub record IsTaken (p : PlaceState) (bytes : List ℕ) (q : PlaceState) : Type 0 where
   pub frame : Frame
   pub fits : FitsFrame p.places frame
   pub spelled : bytes ≡ spelling frame
   pub is_open : IsShut p frame → ⊥
   pub takes : (f : Frame) → FitsFrame p.places f → bytes ≡ spelling f → TakesFrame p f q
+  pub texts : q.heap.texts ≡ p.heap.texts ++ (graph_of frame).texts
 
 -- ---- what is refused
 

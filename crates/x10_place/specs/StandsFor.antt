@@ -41,6 +41,7 @@ use Rattle.x10_place.specs.Routes.{route_of}
 use Rattle.x10_place.specs.Sending.{IsSending, slots_sent, words_sent, Overloads}
 use Rattle.x10_place.specs.Stays.{StayState, StoreState, Location, IsPlaced, IsDoneHere, HasBook, OverfillsBy, finish_at, totals_in, books_of}
 use Rattle.x10_place.specs.Stays.{books_in, kept_in, innermost_at}
+use Rattle.x10_place.specs.Texts.{MakesTexts}
 
 -- What callers see of a place: the module with the bounds of its functions, its number and how many there are, the stays
 -- by key, the heap, the lines of output, how many finishes it opened, what it has counted of each finish, what it keeps
@@ -217,8 +218,12 @@ pub record HoldsExports (heap : HeapState) (exports : List machine.Export) : Typ
 abbrev pub first_number : ℕ → ℕ
 first_number id = if id == 0 then 1 else 0
 
+-- a stay has the finish with a number open
+abbrev pub IsOpenIn : (ℕ → Option Stay) → ℕ → Type 0
+IsOpenIn stays n = (k i : ℕ) × (s : Stay) × (stays k ≡ Some s) × (nth s.finishes i ≡ Some n)
+
 -- Each finish that a stay has open has a number that its place gave, and a book. No two are the same, and a number that was
--- not given yet has no book. At place 0 there is the root's book.
+-- not given yet has no book. At place 0 there is the root's book. There are no other books: a finish that was closed has none.
 pub record AreBooked (id : ℕ) (stays : ℕ → Option Stay) (opened : ℕ) (books : ℕ → Option Cut) : Type 0 where
   pub booked : (k i n : ℕ) (s : Stay) → stays k ≡ Some s → nth s.finishes i ≡ Some n → HasBook books n
   pub numbered : (k i n : ℕ) (s : Stay) → stays k ≡ Some s → nth s.finishes i ≡ Some n → (first_number id ≤ n) × (n < opened)
@@ -226,6 +231,7 @@ pub record AreBooked (id : ℕ) (stays : ℕ → Option Stay) (opened : ℕ) (bo
   pub unopened : (n : ℕ) → opened ≤ n → books n ≡ None
   pub first : first_number id ≤ opened
   pub root : id ≡ 0 → HasBook books 0
+  pub only : (n : ℕ) → HasBook books n → ((id ≡ 0) × (n ≡ 0)) ⊎ IsOpenIn stays n
 
 -- A place of the program stands for a place of the machine, where it is known what other places export: the same stays
 -- under the same keys, the same heap, exports and output, and as many finishes opened. It has counted how many of its
@@ -268,6 +274,16 @@ abbrev pub Answers : Far → PlaceState → Stepped → Effect → Type 0
 Answers far p stepped.Idle effect = (number : ℕ) × (effect ≡ Waits number)
 Answers far p (stepped.Moved out) effect = ((number : ℕ) → effect ≡ Waits number → ⊥) × PutsOut p.program (context_of far p) (store_of p) effect out
 
+-- A step of the activity with the key adds the texts that its instruction makes, and no others; those that were there stay.
+pub record AddsTexts (p : PlaceState) (key : ℕ) (q : PlaceState) : Type 0 where
+  pub stay : StayState
+  pub is_there : get p.stays key ≡ Some stay
+  pub instr : Instr
+  pub instr_is : instr_at p.program stay.top.function stay.top.pc ≡ Some instr
+  pub texts : List (List ℕ)
+  pub makes : MakesTexts instr.op p.program p.heap stay.top.registers.items instr texts
+  pub texts_are : q.heap.texts ≡ p.heap.texts ++ texts
+
 -- From a place of the machine that the old state stands for, the move of the activity with the key leads to one that
 -- the new state stands for.
 pub record Leads (far : Far) (p : PlaceState) (m : machine.Place) (key : ℕ) (answer : Stepped) (q : PlaceState) : Type 0 where
@@ -277,6 +293,7 @@ pub record Leads (far : Far) (p : PlaceState) (m : machine.Place) (key : ℕ) (a
   pub stands : StandsFor far q new
   pub counted : IsCountedBy (store_of p) effect (store_of q)
   pub answers : Answers far p answer effect
+  pub texts : AddsTexts p key q
 
 -- each place of the machine that the state stands for makes such a move
 abbrev pub LeadsAll : PlaceState → ℕ → Stepped → PlaceState → Type 0

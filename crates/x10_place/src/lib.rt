@@ -5,6 +5,7 @@ mod departing;
 mod frame;
 mod heap;
 mod launching;
+pub mod laws;
 mod leaving;
 mod line;
 mod making;
