@@ -1,5 +1,5 @@
 -- A frame in flight that its receiver takes in is a delivery of the world's message, or a report, which changes no world.
-use Rattle.std.proofs.Common.{◌≡◌, ◌≢◌, ◌⊎◌, ℕ, true, false, if◌then◌else◌, List, length, Option, Some, None, Ok, refl, sym, ap, subst, ◌∙◌, inl, inr, arith}
+use Rattle.std.proofs.Common.{◌≡◌, ◌≢◌, ◌⊎◌, ℕ, true, false, if◌then◌else◌, List, length, Option, Some, None, Ok, refl, sym, ap, subst, ◌∙◌, inl, inr}
 use Rattle.std.specs.Prelude.{IsTrue, slice_get, slice_set}
 use Rattle.std.proofs.lemmas.Bool.{cases_Bool, cases_eq}
 use Rattle.std.proofs.lemmas.Option.{same_Some, slice_get_within}
@@ -14,7 +14,7 @@ use Rattle.x10_model.specs.Marshalling.{message_of}
 use Rattle.x10_model.specs.Places as machine
 use Rattle.x10_model.specs.Places.{Finish, Message, root}
 use Rattle.x10_model.specs.Deliveries.{Receives}
-use Rattle.x10_model.specs.Totals.{Cut, Report, Took, totals_after, merged, reported}
+use Rattle.x10_model.specs.Totals.{Cut, Took, totals_after, reported}
 use Rattle.x10_model.specs.Worlds.{World, Flying, Taken, same_finish, book_with, Ideal, Happens, delivers, idle, not_flying, Delivers}
 use Rattle.x10_model.specs.Wrong as wrong
 use Rattle.x10_model.proofs.Lists.{none_some, set_off}
@@ -29,6 +29,7 @@ use Rattle.x10_place.specs.Receiving.{Admits, TakesMessage, TakesReport, TakesFr
 use Rattle.x10_place.specs.Stays.{HasBook, books_of, kept_in}
 use Rattle.x10_place.specs.StandsFor as place
 use Rattle.x10_place.specs.StandsFor.{PlaceState, Far, store_of, context_of, AreBooked, StandsFor}
+use Rattle.x10_place.proofs.Received.{report_stands}
 use Rattle.x10_world.specs.Flights.{Flight, FlightsState, flight_of, taken_from}
 use Rattle.x10_world.specs.Links.{AreAnswered}
 use Rattle.x10_world.specs.Prompt.{IsPrompt}
@@ -58,46 +59,6 @@ held_book w far p m here number there id-is stands (inl is) =
     let zero-is : number ≡ 0 = ap (λ (f : Finish). f.number) is in
     subst (λ n. HasBook (books_of p.books) n) (sym zero-is) (stands.booked.root (id-is ∙ home))
 held_book w far p m here number there id-is stands (inr (key, i, s, at, nth-is)) = stands.booked.booked key i number s (ap (λ o. stays_in o key) (sym there) ∙ at) nth-is
-
--- ---- a report changes a book
-
-some_merged : (r : Report) (o : Option Cut) (cut : Cut) → o ≡ Some cut → merged_in r o ≡ Some (merged cut r)
-some_merged r o cut e = ap (merged_in r) e
-
-module _ (p : PlaceState) (to : ℕ) (r : Report) (q : PlaceState) (t : TakesReport p to r q) where
-  book_still : (n : ℕ) → HasBook (books_of p.books) n → HasBook (books_of q.books) n
-  book_still n h = elim (cases_eq n r.number) [
-    | inl same ↦ (merged h.0 r, ap (books_of q.books) same ∙ t.this ∙ some_merged r (books_of p.books r.number) h.0 (ap (books_of p.books) (sym same) ∙ h.1))
-    | inr ne ↦ (h.0, t.others n ne ∙ h.1)
-  ]
-
-  booked_still : (m : machine.Place) → AreBooked p.id m.stays p.opened (books_of p.books) → AreBooked p.id m.stays p.opened (books_of q.books)
-  booked_still m b = record {
-    booked = λ k i n s there at. book_still n (b.booked k i n s there at);
-    numbered = b.numbered;
-    apart = b.apart;
-    unopened = λ n le. t.others n (λ e. (let lt = t.opened in omega (arith, lt, le, e))) ∙ b.unopened n le;
-    first = b.first;
-    root = λ e. book_still 0 (b.root e);
-  }
-
-  stands_still : (far : Far) (m : machine.Place) → StandsFor far p m → StandsFor far q m
-  stands_still far m h = subst (λ x. StandsFor far x m) (sym t.rest) with_books
-    where
-      with_books : StandsFor far (record p { books = q.books }) m
-      with_books = record {
-        assigned = h.assigned;
-        none = h.none;
-        keys = h.keys;
-        some = h.some;
-        site = h.site;
-        heap = h.heap;
-        exports = h.exports;
-        opened = h.opened;
-        lines = h.lines;
-        tallied = h.tallied;
-        booked = booked_still m h.booked;
-      }
 
 -- ---- a delivery to one place
 
@@ -251,7 +212,7 @@ module _ (program : Module) (bounds : List ℕ) (places : List PlaceState) (flig
 
     some_too : (id : ℕ) (r : PlaceState) → slice_get (slice_set places here q) id ≡ Some r → (o : machine.Place) × (w.net.places id ≡ Some o) × StandsFor (far_in w) r o
     some_too id r e = elim (set_either places here id q r p is e) [
-      | inl at ↦ (m, ap w.net.places at.0 ∙ there, subst (λ x. StandsFor (far_in w) x m) at.1 (stands_still p here h.report q t (far_in w) m old))
+      | inl at ↦ (m, ap w.net.places at.0 ∙ there, subst (λ x. StandsFor (far_in w) x m) at.1 (report_stands (far_in w) p here h.report q m t old))
       | inr off ↦ stand.some id r off.1
     ]
 

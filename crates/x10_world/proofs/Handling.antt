@@ -1,11 +1,10 @@
 -- What an event does to places and frames in flight is an event of each world of the machine for which they stand.
-use Rattle.std.proofs.Common.{◌≡◌, ◌≢◌, ◌⊎◌, ℕ, ◌<◌, Bool, true, false, List, [], length, Option, Some, None, Result, Ok, Err, refl, sym, ap, subst, ◌∙◌, inl, inr}
+use Rattle.std.proofs.Common.{◌≡◌, ◌≢◌, ℕ, ◌<◌, Bool, true, false, List, [], length, Option, Some, None, Result, Ok, Err, refl, sym, ap, subst, ◌∙◌, inl, inr}
 use Rattle.std.specs.Prelude.{IfNone, IfSome, slice_get, slice_set}
 use Rattle.std.proofs.lemmas.Option.{same_Some}
 use Rattle.std.proofs.lemmas.List.{length-set}
 use Rattle.slab.specs.Slab.{get}
 use Rattle.x10_kinds.specs.declared.stop.Stop.{Stop}
-use Rattle.x10_kinds.specs.declared.stop.Stop.TheVariants as stop
 use Rattle.x10_model.specs.Modules.{Module}
 use Rattle.x10_model.specs.Structure.{bounds_of}
 use Rattle.x10_model.specs.declared.event.Event.{Event}
@@ -16,7 +15,6 @@ use Rattle.x10_model.specs.Worlds.{World, Ideal, Happens, Steps, steps, idle, no
 use Rattle.x10_model.proofs.Lists.{none_some, set_same}
 use Rattle.x10_verify.specs.Certified.{Certified}
 use Rattle.x10_copy.specs.declared.refusal.Refusal.{Refusal}
-use Rattle.x10_copy.specs.declared.refusal.Refusal.TheVariants as refusal
 use Rattle.x10_place.specs.declared.place.Stepped.{Stepped}
 use Rattle.x10_place.specs.declared.place.Stepped.TheVariants as stepped
 use Rattle.x10_place.specs.declared.sent.Outgoing.{Outgoing}
@@ -26,19 +24,19 @@ use Rattle.x10_place.specs.Stays.{StayState, finish_at}
 use Rattle.x10_place.specs.StandsFor.{PlaceState, Far, StandsFor, Keeps, Answers, LeadsAll, IsHindered, IsIdleAt, nobody, away, context_of, store_of}
 use Rattle.x10_world.specs.declared.done.Happening.{Happening}
 use Rattle.x10_world.specs.declared.done.Happening.TheVariants as happening
-use Rattle.x10_world.specs.Happenings.{Happened}
+use Rattle.x10_world.specs.Happenings.{AreUnchanged, Happened}
 use Rattle.x10_world.specs.Flights.{Flight, FlightsState, with_room, flight_of, taken_from}
 use Rattle.x10_world.specs.Prompt.{MayEnd, IsPrompt}
-use Rattle.x10_world.specs.StandsForWorld.{BelongTo, IsWorld, setting_in, far_in, AllStandFor, with_posted, after_step, GoesBelow, IsMade, IsStepped, StepsOne, IsRoomless, IsDeliveryLimit, stop_for_refusal}
+use Rattle.x10_world.specs.StandsForWorld.{BelongTo, IsWorld, setting_in, far_in, AllStandFor, with_posted, with_sent, after_step, GoesBelow, IsMade, IsStepped, StepsOne, IsRoomless, IsForRoom, stop_for_refusal}
+use Rattle.x10_world.specs.Runs.{AreHalted}
 use Rattle.x10_world.specs.Handling.{Handles}
 use Rattle.x10_place.proofs.Knowing.{receiver_is, put_within}
-use Rattle.x10_world.proofs.Lists.{set_here}
 use Rattle.x10_world.proofs.Changing.{ChangesOne, belong_after, none_stopped_after, length_after, few_after}
 use Rattle.x10_world.proofs.Moving.{step_leads}
 use Rattle.x10_world.proofs.Delivering.{delivery_leads}
 use Rattle.x10_world.proofs.Refusing.{none_is_refused}
 use Rattle.x10_world.proofs.Stopping.{stand_stopped, stand_roomy}
-use Rattle.x10_place.proofs.Striding.{stopped_hindered}
+use Rattle.x10_world.proofs.Courses.{unchanged_self, sent_same}
 use Rattle.x10_world.proofs.Waiting.{idle_prompt}
 
 -- ---- where frames go
@@ -161,8 +159,7 @@ module _ (c : Certified) (places new : List PlaceState) (flights : FlightsState)
     world = subst (λ g. IsWorld c.program c.bounds places g true) (sym same) (record { belong = world.belong; places_are = world.places_are; none_stopped = λ off. absurd (off refl); few = world.few; world = world.world; stands = world.stands });
     made = tt;
     told = tt;
-    kept = λ w stand. subst (λ g. AllStandFor c.program c.bounds places g w) (sym same) stand;
-    hindered = inl (subst (λ g. IsRoomless g why) (sym same) roomless);
+    stops = record { hindered = inl roomless; places = inl refl; flights = subst (λ g. AreUnchanged flights g) (sym same) (unchanged_self flights); kept = record { program = refl; bounds = refl; count = refl }; stopped = refl };
   }
 
   -- what a step that was made did
@@ -183,7 +180,7 @@ module _ (c : Certified) (places new : List PlaceState) (flights : FlightsState)
       at_place (Some p) is =
           let t = one.there p is in
           let by = moved_by p t.0 key out t.2.made in
-          (out, record { place = p; next = t.0; is_there = is; busy = by.1; leads = by.0; places_are = t.1; flights_are = same })
+          (out, record { place = p; next = t.0; is_there = is; busy = by.1; leads = by.0; places_are = t.1; flights_are = subst (λ g. AreUnchanged (with_sent flights out) g) (sym same) (sent_same flights (with_room flights) out (record { posted = refl; flying = refl })) })
 
   pub handles_made : (answer : Stepped) (after : FlightsState) → StepsOne places new id key (Ok answer) → after ≡ after_step (with_room flights) answer → Handles c places flights (Step id key) (Ok (did_of answer)) new after
   handles_made answer after one same = record {
@@ -198,8 +195,7 @@ module _ (c : Certified) (places new : List PlaceState) (flights : FlightsState)
     };
     made = makes;
     told = told_of answer after one same;
-    kept = tt;
-    hindered = tt;
+    stops = tt;
   }
     where
       keeps : ChangesOne Keeps places new id
@@ -222,8 +218,13 @@ module _ (c : Certified) (places new : List PlaceState) (flights : FlightsState)
     };
     made = tt;
     told = tt;
-    kept = stands;
-    hindered = inr (at_place (slice_get places id) refl);
+    stops = record {
+      hindered = inr (at_place (slice_get places id) refl);
+      places = halted (slice_get places id) refl;
+      flights = subst (λ g. AreUnchanged flights g) (sym same) (record { posted = refl; flying = refl });
+      kept = record { program = refl; bounds = refl; count = length_after Keeps places new id keeps };
+      stopped = refl;
+    };
   }
     where
       keeps : ChangesOne Keeps places new id
@@ -233,11 +234,13 @@ module _ (c : Certified) (places new : List PlaceState) (flights : FlightsState)
       stands w stand = subst (λ g. AllStandFor c.program c.bounds new g w) (sym same)
           (one_refused c.program c.bounds places new (with_room flights) w id key why (slice_get places id) (stand_roomy c.program c.bounds places flights w stand) one refl)
 
-      at_place : (o : Option PlaceState) → slice_get places id ≡ o → (p : PlaceState) × (slice_get new id ≡ Some p) × IsHindered p key why
+      at_place : (o : Option PlaceState) → slice_get places id ≡ o → (p : PlaceState) × (slice_get places id ≡ Some p) × IsHindered p key why
       at_place None none = absurd (err_is why (one.gone none).0)
-      at_place (Some p) there =
-          let t = one.there p there in
-          (t.0, ap (λ ps. slice_get ps id) t.1 ∙ set_here places id t.0 p there, subst (λ s. IsHindered s key why) (sym t.2.stop) (stopped_hindered p key why (t.2.hindered (world.none_stopped on id p there))))
+      at_place (Some p) there = (p, there, (one.there p there).2.hindered (world.none_stopped on id p there))
+
+      halted : (o : Option PlaceState) → slice_get places id ≡ o → AreHalted places new
+      halted None none = absurd (err_is why (one.gone none).0)
+      halted (Some p) there = let t = one.there p there in inr (id, p, there, t.1 ∙ ap (λ r. slice_set places id r) t.2.stop)
 
   -- what a step puts out goes to places that there are
   pub sent_below : (out : Sent) → StepsOne places new id key (Ok (stepped.Moved out)) → GoesBelow flights.places out
@@ -268,9 +271,8 @@ handles_nothing c places flights number world none = record {
   count = refl;
   world = world;
   made = λ w stand. (w, idle (Deliver number) (not_flying number (stand.flies.none number none).0), (λ still. tt), stand);
-  told = record { none = none; places_are = refl; flights_are = record { posted = refl; flying = refl } };
-  kept = tt;
-  hindered = tt;
+  told = record { none = none; places_are = refl; flights_are = unchanged_self flights };
+  stops = tt;
 }
 
 module _ (c : Certified) (places : List PlaceState) (flights : FlightsState) (number : ℕ) (flight : Flight) (p q : PlaceState) (bounds-are : bounds_of c.program ≡ Ok c.bounds) (world : IsWorld c.program c.bounds places flights false) (is : flight_of flights number ≡ Some flight)
@@ -297,20 +299,16 @@ module _ (c : Certified) (places : List PlaceState) (flights : FlightsState) (nu
       stands = (makes world.world world.stands).3;
     };
     made = makes;
-    told = record { flight = flight; place = p; next = q; flying = is; to_is = refl; is_there = there; taken = taken; places_are = refl; flights_are = refl };
-    kept = tt;
-    hindered = tt;
+    told = record { flight = flight; place = p; next = q; flying = is; to_is = refl; is_there = there; taken = taken; places_are = refl; flights_are = unchanged_self (taken_from flights number) };
+    stops = tt;
   }
     where
       makes : (w : World) → AllStandFor c.program c.bounds places flights w → MakesIn c.program c.bounds places flights w (Deliver number) (slice_set places flight.to q) (taken_from flights number)
       makes w stand = let v = delivery_leads c.program c.bounds places flights w number flight p q bounds-are world.belong stand is there taken in (v.0, v.1, (λ still. v.2), v.3)
 
   -- why it may be refused
-  reason_for : (why : Refusal) → IsRefusedBytes p flight.bytes why → (stop_for_refusal why ≡ stop.Memory) ⊎ ((limit : ℕ) × (stop_for_refusal why ≡ stop.Limit limit) × IsDeliveryLimit limit)
-  reason_for why refused = elim (none_is_refused c.program c.bounds places flights world.world number flight p why world.belong world.stands is there refused) [
-    | inl memory ↦ inl (ap (λ r. stop_for_refusal r) memory)
-    | inr limit ↦ inr (limit.0, ap (λ r. stop_for_refusal r) limit.1, limit.2)
-  ]
+  for_room : (why : Refusal) → IsRefusedBytes p flight.bytes why → IsForRoom why
+  for_room why refused = none_is_refused c.program c.bounds places flights world.world number flight p why world.belong world.stands is there refused
 
   -- its receiver refused it
   pub handles_refusal : (why : Refusal) → q ≡ record p { stopped = stops why } → IsRefusedBytes p flight.bytes why → Handles c places flights (Deliver number) (Err (stop_for_refusal why)) (slice_set places flight.to q) flights
@@ -326,17 +324,22 @@ module _ (c : Certified) (places : List PlaceState) (flights : FlightsState) (nu
     };
     made = tt;
     told = tt;
-    kept = stands;
-    hindered = (flight, is, reason_for why refused);
+    stops = record {
+      hindered = record { flight = flight; flying = is; place = p; is_there = there; refused_as = why; refused = refused; for_room = for_room why refused; why_is = refl };
+      places = inr (flight.to, p, there, ap (λ r. slice_set places flight.to r) same);
+      flights = unchanged_self flights;
+      kept = record { program = refl; bounds = refl; count = length-set places flight.to q };
+      stopped = refl;
+    };
   }
     where
       -- a place has stopped where memory was refused, or at a limit
-      stopping : (r : Refusal) → ((r ≡ refusal.Memory) ⊎ ((limit : ℕ) × (r ≡ refusal.Limit limit) × IsDeliveryLimit limit)) → stops r ≡ true
+      stopping : (r : Refusal) → IsForRoom r → stops r ≡ true
       stopping r (inl memory) = ap (λ x. stops x) memory
       stopping r (inr limit) = ap (λ x. stops x) limit.1
 
       same : q ≡ record p { stopped = true }
-      same = left ∙ ap (λ (b : Bool). record p { stopped = b }) (stopping why (none_is_refused c.program c.bounds places flights world.world number flight p why world.belong world.stands is there refused))
+      same = left ∙ ap (λ (b : Bool). record p { stopped = b }) (stopping why (for_room why refused))
 
       stands : (w : World) → AllStandFor c.program c.bounds places flights w → AllStandFor c.program c.bounds (slice_set places flight.to q) flights w
       stands w stand = subst (λ r. AllStandFor c.program c.bounds (slice_set places flight.to r) flights w) (sym same) (stand_stopped c.program c.bounds places flights flight.to p w there stand)

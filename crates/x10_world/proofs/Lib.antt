@@ -23,11 +23,14 @@ pub mod Changing
 pub mod Stopping
 pub mod Hindering
 pub mod Beginning
-pub mod Handling
 pub mod Running
+pub mod Courses
+pub mod Making
+pub mod Handling
 pub mod Repeating
 pub mod Answering
 pub mod Asking
+pub mod Quiet
 pub mod Rounding
 pub mod Finishing
 mod FlightsRising

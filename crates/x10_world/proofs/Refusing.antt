@@ -32,13 +32,9 @@ use Rattle.x10_place.specs.Receiving.{Seat, IsSeat, LacksSeat, IsShut, IsUnopene
 use Rattle.x10_place.specs.Sending.{slots_of}
 use Rattle.x10_world.specs.Flights.{Flight, FlightsState}
 use Rattle.x10_world.specs.Links.{AreAnswered}
-use Rattle.x10_world.specs.StandsForWorld.{BelongsTo, BelongTo, far_in, FliesAsMessage, FliesAsReport, AllStandFor, IsDeliveryLimit, NoneIsRefused}
+use Rattle.x10_world.specs.StandsForWorld.{BelongsTo, BelongTo, far_in, FliesAsMessage, FliesAsReport, AllStandFor, IsDeliveryLimit, IsForRoom, NoneIsRefused}
 use Rattle.x10_world.proofs.Delivering.{held_book}
 use Rattle.x10_world.proofs.Fitting.{IsFor, spawn_fits, shift_fits, awaited, back_fits}
-
--- since memory is refused, or at a limit
-abbrev IsForRoom : Refusal → Type 0
-IsForRoom why = (why ≡ refusal.Memory) ⊎ ((limit : ℕ) × (why ≡ refusal.Limit limit) × IsDeliveryLimit limit)
 
 -- ---- limits
 

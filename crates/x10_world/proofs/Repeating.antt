@@ -1,5 +1,5 @@
 -- Steps of one activity at a stretch are runs of each world of the machine that the world stands for.
-use Rattle.std.proofs.Common.{◌≡◌, ◌≢◌, ◌⊎◌, ◌↔◌, ℕ, ◌+◌, ◌^◌, ◌<◌, ◌≤◌, true, false, List, [], length, replicate, Option, Some, None, Result, Ok, Err, refl, sym, ap, subst, ◌∙◌, inl, inr, arith}
+use Rattle.std.proofs.Common.{◌≡◌, ◌≢◌, ◌⊎◌, ◌↔◌, ℕ, ◌+◌, ◌^◌, ◌<◌, ◌≤◌, true, false, List, [], length, ◌∷◌, ◌++◌, replicate, Option, Some, None, Result, Ok, Err, refl, sym, ap, subst, ◌∙◌, inl, inr, arith}
 use Rattle.std.specs.Prelude.{⊤, slice_get, slice_set}
 use Rattle.std.proofs.lemmas.Option.{same_Some, slice_get_past}
 use Rattle.std.proofs.lemmas.List.{length-set, set-set}
@@ -7,8 +7,9 @@ use Rattle.x10_kinds.specs.declared.stop.Stop.{Stop}
 use Rattle.x10_kinds.specs.declared.stop.Stop.TheVariants as stop
 use Rattle.x10_model.specs.Modules.{Module}
 use Rattle.x10_model.specs.Structure.{bounds_of}
+use Rattle.x10_model.specs.declared.event.Event.{Event}
 use Rattle.x10_model.specs.declared.event.Event.TheVariants.{Step}
-use Rattle.x10_model.specs.Worlds.{World, Ideal, steps, Run, done, WithinBounds}
+use Rattle.x10_model.specs.Worlds.{World, Ideal, steps, Run, WithinBounds}
 use Rattle.x10_model.proofs.Lists.{none_some, set_same}
 use Rattle.x10_place.specs.declared.place.Stepped.TheVariants as stepped
 use Rattle.x10_place.specs.declared.sent.Outgoing.{Outgoing}
@@ -17,20 +18,24 @@ use Rattle.x10_finish.specs.Nesting.{stays_in, stays_of}
 use Rattle.x10_verify.specs.Certified.{Certified}
 use Rattle.x10_place.specs.Messages.{no_sent}
 use Rattle.x10_place.specs.Stays.{finish_at}
-use Rattle.x10_place.specs.StandsFor.{PlaceState, Keeps, IsIdleAt, IsHindered}
+use Rattle.x10_place.specs.StandsFor.{PlaceState, Keeps, IsIdleAt}
 use Rattle.x10_place.specs.Stretches.{IsStride, Strides, at_once, onward, StridesTo, nowhere, finally}
 use Rattle.x10_world.specs.Flights.{FlightsState, with_room}
 use Rattle.x10_world.specs.Prompt.{MayEnd, WorksIn}
-use Rattle.x10_world.specs.StandsForWorld.{WorldState, world_of, BelongTo, IsWorld, setting_in, far_in, AllStandFor, StandsForWorld, with_posted, with_sent, GoesBelow, IsRunOn, RunsOne, MovesOn, MovesOnce, at_rest, moves_on, IsIdleNow, BeganLast, IsRoomless}
+use Rattle.x10_world.specs.StandsForWorld.{WorldState, world_of, BelongTo, IsWorld, setting_in, far_in, AllStandFor, StandsForWorld, with_posted, with_sent, GoesBelow, IsRunOn, RunsOne, IsIdleNow, BeganLast, IsRoomless}
+use Rattle.x10_world.specs.declared.done.Happening.TheVariants as happening
+use Rattle.x10_world.specs.Happenings.{AreUnchanged}
+use Rattle.x10_world.specs.Runs.{IsSame, Follows, Course, MovesOnce, at_rest, moves_on, Repeats, RepeatsThrough, IsHaltedStretch}
 use Rattle.x10_world.specs.Handling.{Stretches}
 use Rattle.x10_world.proofs.Lists.{set_here, replicate_more}
 use Rattle.x10_world.proofs.BudgetRuns.{budget_bounds}
 use Rattle.x10_world.proofs.Moving.{step_leads}
-use Rattle.x10_place.proofs.Striding.{stopped_hindered}
 use Rattle.x10_world.proofs.Waiting.{idle_works}
-use Rattle.x10_world.proofs.Running.{run_more}
+use Rattle.x10_world.proofs.Courses.{unchanged_self}
+use Rattle.x10_world.proofs.Making.{through_none, through_step, repeats_before, halted_repeats}
+use Rattle.x10_place.proofs.NeverIdle.{no_stride_is_idle}
 use Rattle.x10_world.proofs.Changing.{ChangesOne, belong_set, belong_after, none_stopped_after, length_after, few_after}
-use Rattle.x10_world.proofs.Stopping.{stand_stopped, stand_roomy}
+use Rattle.x10_world.proofs.Stopping.{stand_roomy}
 use Rattle.x10_world.proofs.Handling.{goes_below, places_posted}
 
 -- ---- one place
@@ -42,11 +47,21 @@ strides_keep key p n q (onward k r s far stride) =
     let k = stride.kept in
     record { program = k.program ∙ before.program; bounds = k.bounds ∙ before.bounds; id = k.id ∙ before.id; places = k.places ∙ before.places }
 
--- so many moves of the activity, one after another, to a world for which the new places and frames stand
-abbrev pub RepeatsIn : Module → List ℕ → List PlaceState → World → ℕ → ℕ → ℕ → List PlaceState → FlightsState → Type 0
-RepeatsIn program bounds places w n here key new after = (v : World) × Run Ideal (setting_in program places) (WithinBounds bounds) w (replicate n (Step here key)) v × MovesOn (setting_in program places) here key w n v × AllStandFor program bounds new after v
+-- a world that goes on, by its parts
+abbrev pub state_of : Module → List ℕ → List PlaceState → FlightsState → WorldState
+state_of program bounds places flights = record { program = program; bounds = bounds; places = places; flights = flights; stopped = false }
+
+going_on : false ≢ true
+going_on e = cc
 
 module _ (program : Module) (bounds : List ℕ) (places : List PlaceState) (flights : FlightsState) (here key : ℕ) (p : PlaceState) (bounds-are : bounds_of program ≡ Ok bounds) (belong : BelongTo program bounds (length places) places) (is : slice_get places here ≡ Some p) where
+  -- where they begin, and where they are with the place so
+  abbrev from : WorldState
+  from = state_of program bounds places flights
+
+  abbrev at : PlaceState → FlightsState → WorldState
+  at q after = state_of program bounds (slice_set places here q) after
+
   -- one step more
   stride_makes : (q r : PlaceState) (out : Sent) (v : World) → Keeps p q → IsStride key q out r → AllStandFor program bounds (slice_set places here q) flights v
       → (w : World) × MovesOnce (setting_in program places) v here key w × AllStandFor program bounds (slice_set places here r) (with_sent flights out) w
@@ -57,23 +72,44 @@ module _ (program : Module) (bounds : List ℕ) (places : List PlaceState) (flig
         subst (λ ps. AllStandFor program bounds ps (with_sent flights out) made.0) (set-set places here q r) made.3,
       )
 
-  one_more : (k : ℕ) (q r : PlaceState) (out : Sent) (w : World) → Keeps p q → IsStride key q out r → RepeatsIn program bounds places w k here key (slice_set places here q) flights → RepeatsIn program bounds places w (k + 1) here key (slice_set places here r) (with_sent flights out)
+  stride_follows : (q r : PlaceState) (out : Sent) (v : World) → IsStride key q out r → AllStandFor program bounds (slice_set places here q) flights v → Follows (at q flights) (Step here key) (at r (with_sent flights out))
+  stride_follows q r out v stride stand =
+      let there = set_here places here q p is in
+      let old = stand.some here q there in
+      record {
+        did = happening.Moved;
+        happened = (
+          out,
+          record { place = q; next = r; is_there = there; busy = no_stride_is_idle (far_in v) q old.0 key out r old.2 stride; leads = stride.leads; places_are = sym (set-set places here q r); flights_are = unchanged_self (with_sent flights out) },
+        );
+        kept = record { program = refl; bounds = refl; count = length-set places here r ∙ sym (length-set places here q) };
+        goes = going_on;
+      }
+
+  one_more : (k : ℕ) (q r : PlaceState) (out : Sent) (w : World) → Keeps p q → IsStride key q out r → RepeatsThrough from w k here key (at q flights) → RepeatsThrough from w (k + 1) here key (at r (with_sent flights out))
   one_more k q r out w kept stride before =
-      let made = stride_makes q r out before.0 kept stride before.3 in (
-        made.0,
-        subst (λ es. Run Ideal (setting_in program places) (WithinBounds bounds) w es made.0) (sym (replicate_more k (Step here key)))
-            (run_more Ideal (setting_in program places) (WithinBounds bounds) w before.0 made.0 (replicate k (Step here key)) (Step here key) before.1 (steps here key made.0 made.1.steps) (budget_bounds program bounds made.0 made.2.budget)),
-        moves_on k before.0 made.0 before.2 made.1,
-        made.2,
-      )
+      let made = stride_makes q r out before.runs.last kept stride before.runs.stands in
+      let event : Event = Step here key in
+      let after : WorldState = at r (with_sent flights out) in
+      let run = through_step from (at q flights) after (replicate k event) event w made.0 before.runs (stride_follows q r out before.runs.last stride before.runs.stands) (steps here key made.0 made.1.steps) (λ still number e may. made.1.goes number e) made.2 (budget_bounds program bounds made.0 made.2.budget) in
+      let more : replicate k event ++ event ∷ [] ≡ replicate (k + 1) event = sym (replicate_more k event) in
+      record {
+        runs = record {
+          last = made.0;
+          run = subst (λ es. Run Ideal (setting_in program places) (WithinBounds bounds) w es made.0) more run.run;
+          stands = made.2;
+          course = subst (λ es. Course (setting_in program places) bounds from w es after made.0) more run.course;
+        };
+        moves = moves_on k before.runs.last made.0 before.moves made.1;
+      }
 
   -- the steps are so many events of each world of the machine
-  strides_run : (n : ℕ) (q : PlaceState) → Strides key p n q → (w : World) → AllStandFor program bounds places flights w → RepeatsIn program bounds places w n here key (slice_set places here q) flights
-  strides_run n q (at_once) w stand = (w, done w (budget_bounds program bounds w stand.budget), at_rest, subst (λ ps. AllStandFor program bounds ps flights w) (sym (set_same places here p is)) stand)
+  strides_run : (n : ℕ) (q : PlaceState) → Strides key p n q → (w : World) → AllStandFor program bounds places flights w → RepeatsThrough from w n here key (at q flights)
+  strides_run n q (at_once) w stand = subst (λ ps. RepeatsThrough from w 0 here key (state_of program bounds ps flights)) (sym (set_same places here p is)) (record { runs = through_none from w stand; moves = at_rest })
   strides_run n q (onward k r s far stride) w stand = one_more k r s no_sent w (strides_keep key p k r far) stride (strides_run k r far w stand)
 
   -- and so are those of which the last one puts something out
-  strides_to_run : (n : ℕ) (out : Sent) (q : PlaceState) → StridesTo key p n out q → (w : World) → AllStandFor program bounds places flights w → RepeatsIn program bounds places w n here key (slice_set places here q) (with_sent flights out)
+  strides_to_run : (n : ℕ) (out : Sent) (q : PlaceState) → StridesTo key p n out q → (w : World) → AllStandFor program bounds places flights w → RepeatsThrough from w n here key (at q (with_sent flights out))
   strides_to_run n out q (nowhere) w stand = strides_run 0 p at_once w stand
   strides_to_run n out q (finally k r o s far stride) w stand = one_more k r s o w (strides_keep key p k r far) stride (strides_run k r far w stand)
 
@@ -85,8 +121,8 @@ module _ (program : Module) (bounds : List ℕ) (places : List PlaceState) (flig
       none_out o e = absurd cc
   out_below n out q (finally k r o s far stride) w stand =
       let before = strides_run k r far w stand in
-      let old = before.3.some here r (set_here places here r p is) in
-      subst (λ c. GoesBelow c o) (strides_keep key p k r far).places (goes_below r old.0 (far_in before.0) key o s old.2 stride.leads)
+      let old = before.runs.stands.some here r (set_here places here r p is) in
+      subst (λ c. GoesBelow c o) (strides_keep key p k r far).places (goes_below r old.0 (far_in before.runs.last) key o s old.2 stride.leads)
 
 -- ---- a stretch, as a function answers it
 
@@ -122,8 +158,15 @@ module _ (c : Certified) (places new : List PlaceState) (flights : FlightsState)
   abbrev roomy : FlightsState
   roomy = with_room flights
 
-  none_runs : (w : World) → AllStandFor c.program c.bounds places flights w → RepeatsIn c.program c.bounds places w 0 id key places flights
-  none_runs w stand = (w, done w (budget_bounds c.program c.bounds w stand.budget), at_rest, stand)
+  -- how the world is, with more room, and how it is then
+  abbrev before : WorldState
+  before = world_of c places flights false
+
+  abbrev with_more : WorldState
+  with_more = world_of c places roomy false
+
+  roomier : IsSame before with_more
+  roomier = record { places = refl; flights = record { posted = refl; flying = refl }; kept = record { program = refl; bounds = refl; count = refl }; stopped = refl }
 
   -- there was no room
   pub stretches_roomless : (after : FlightsState) (why : Stop) → after ≡ flights → IsRoomless flights why → Stretches c places flights id key most (Err why) places after
@@ -132,8 +175,13 @@ module _ (c : Certified) (places new : List PlaceState) (flights : FlightsState)
     world = subst (λ g. IsWorld c.program c.bounds places g true) (sym same) (record { belong = world.belong; places_are = world.places_are; none_stopped = λ off. absurd (off refl); few = world.few; world = world.world; stands = world.stands });
     made = tt;
     all = tt;
-    kept = λ w stand. (0, omega arith, subst (λ g. RepeatsIn c.program c.bounds places w 0 id key places g) (sym same) (none_runs w stand));
-    hindered = inl (subst (λ g. IsRoomless g why) (sym same) roomless);
+    halted = record {
+      done = 0;
+      few = omega arith;
+      state = before;
+      repeats = λ w stand. record { runs = through_none before w stand; moves = at_rest };
+      stops = record { hindered = inl roomless; places = inl refl; flights = subst (λ g. AreUnchanged flights g) (sym same) (unchanged_self flights); kept = record { program = refl; bounds = refl; count = refl }; stopped = refl };
+    };
   }
 
   -- what the last step put out goes to places that there are
@@ -157,29 +205,30 @@ module _ (c : Certified) (places new : List PlaceState) (flights : FlightsState)
       places_are = ap (λ (g : FlightsState). g.places) same ∙ places_posted (with_posted roomy out.message) out.report ∙ places_posted roomy out.message ∙ world.places_are ∙ sym (length_after Keeps places new id keeps);
       none_stopped = λ off. none_stopped_after places new id (world.none_stopped on) (changes_by (λ p q. q.stopped ≢ true) places new id key most n (Ok out) (λ p q s. run_goes p q key most n out s) one);
       few = few_after Keeps places new id keeps world.few;
-      world = (makes world.world world.stands).0;
-      stands = (makes world.world world.stands).3;
+      world = (makes world.world world.stands).runs.last;
+      stands = (makes world.world world.stands).runs.stands;
     };
     made = (few, makes);
     all = all;
-    kept = tt;
-    hindered = tt;
+    halted = tt;
   }
     where
       keeps : ChangesOne Keeps places new id
       keeps = changes_by Keeps places new id key most n (Ok out) (λ p q s. s.kept) one
 
-      makes_at : (w : World) → AllStandFor c.program c.bounds places roomy w → (o : Option PlaceState) → slice_get places id ≡ o → RepeatsIn c.program c.bounds places w n id key new (with_sent roomy out)
+      makes_at : (w : World) → AllStandFor c.program c.bounds places roomy w → (o : Option PlaceState) → slice_get places id ≡ o → RepeatsThrough with_more w n id key (world_of c new (with_sent roomy out) false)
       makes_at w stand None none =
           let g = one.gone none in
-          subst (λ m. RepeatsIn c.program c.bounds places w m id key new (with_sent roomy out)) (sym g.0)
-          (subst (λ x. RepeatsIn c.program c.bounds places w 0 id key new (with_sent roomy x)) (sym (sent_is out g.1)) (w, done w (budget_bounds c.program c.bounds w stand.budget), at_rest, subst (λ ps. AllStandFor c.program c.bounds ps roomy w) (sym g.2) stand))
+          subst (λ m. RepeatsThrough with_more w m id key (world_of c new (with_sent roomy out) false)) (sym g.0)
+          (subst (λ x. RepeatsThrough with_more w 0 id key (world_of c new (with_sent roomy x) false)) (sym (sent_is out g.1))
+          (subst (λ ps. RepeatsThrough with_more w 0 id key (world_of c ps roomy false)) (sym g.2) (record { runs = through_none with_more w stand; moves = at_rest })))
       makes_at w stand (Some p) there =
           let t = one.there p there in
-          subst (λ ps. RepeatsIn c.program c.bounds places w n id key ps (with_sent roomy out)) (sym t.1) (strides_to_run c.program c.bounds places roomy id key p bounds-are world.belong there n out t.0 t.2.ran w stand)
+          subst (λ ps. RepeatsThrough with_more w n id key (world_of c ps (with_sent roomy out) false)) (sym t.1) (strides_to_run c.program c.bounds places roomy id key p bounds-are world.belong there n out t.0 t.2.ran w stand)
 
-      makes : (w : World) → AllStandFor c.program c.bounds places flights w → RepeatsIn c.program c.bounds places w n id key new after
-      makes w stand = subst (λ g. RepeatsIn c.program c.bounds places w n id key new g) (sym same) (makes_at w (stand_roomy c.program c.bounds places flights w stand) (slice_get places id) refl)
+      makes : (w : World) → AllStandFor c.program c.bounds places flights w → RepeatsThrough before w n id key (world_of c new after false)
+      makes w stand = subst (λ g. RepeatsThrough before w n id key (world_of c new g false)) (sym same)
+          (repeats_before before with_more (world_of c new (with_sent roomy out) false) w n id key roomier stand (makes_at w (stand_roomy c.program c.bounds places flights w stand) (slice_get places id) refl))
 
       few_at : (o : Option PlaceState) → slice_get places id ≡ o → n ≤ most
       few_at None none = omega (arith, (one.gone none).0)
@@ -212,49 +261,44 @@ module _ (c : Certified) (places new : List PlaceState) (flights : FlightsState)
       places_are = ap (λ (g : FlightsState). g.places) same ∙ world.places_are ∙ sym (length_after Keeps places new id keeps);
       none_stopped = λ off. absurd (off refl);
       few = few_after Keeps places new id keeps world.few;
-      world = (makes world.world world.stands).0;
-      stands = (makes world.world world.stands).3;
+      world = ran.reaches.last;
+      stands = ran.reaches.stands;
     };
     made = tt;
     all = tt;
-    kept = λ w stand. (n, few, makes w stand);
-    hindered = inr (hindered (slice_get places id) refl);
+    halted = halted;
   }
     where
       keeps : ChangesOne Keeps places new id
       keeps = changes_by Keeps places new id key most n (Err why) (λ p q s. s.kept) one
 
-      few_at : (o : Option PlaceState) → slice_get places id ≡ o → n ≤ most
-      few_at None none = omega (arith, (one.gone none).0)
-      few_at (Some p) there = let t = one.there p there in t.2.few
-
-      few : n ≤ most
-      few = few_at (slice_get places id) refl
-
-      makes_at : (w : World) → AllStandFor c.program c.bounds places roomy w → (o : Option PlaceState) → slice_get places id ≡ o → RepeatsIn c.program c.bounds places w n id key new roomy
-      makes_at w stand None none = absurd (err_is why (one.gone none).1)
-      makes_at w stand (Some p) there =
+      halted_at : (o : Option PlaceState) → slice_get places id ≡ o → IsHaltedStretch before id key most (world_of c new after true) why
+      halted_at None none = absurd (err_is why (one.gone none).1)
+      halted_at (Some p) there =
           let t = one.there p there in
           let ran = t.2.ran in
-          let r = strides_run c.program c.bounds places roomy id key p bounds-are world.belong there n ran.0 ran.1 w stand in
-          let stopped : PlaceState = record ran.0 { stopped = true } in
-          let at = slice_set places id ran.0 in
-          subst (λ ps. RepeatsIn c.program c.bounds places w n id key ps roomy) (sym t.1) (
-            r.0,
-            r.1,
-            r.2,
-            subst (λ ps. AllStandFor c.program c.bounds ps roomy r.0) (set-set places id ran.0 stopped ∙ ap (λ x. slice_set places id x) (sym ran.2)) (stand_stopped c.program c.bounds at roomy id ran.0 r.0 (set_here places id ran.0 p there) r.3),
-          )
+          let last : List PlaceState = slice_set places id ran.0 in
+          let here : slice_get last id ≡ Some ran.0 = set_here places id ran.0 p there in
+          record {
+            done = n;
+            few = t.2.few;
+            state = world_of c last roomy false;
+            repeats = λ w stand. repeats_before before with_more (world_of c last roomy false) w n id key roomier stand
+                (strides_run c.program c.bounds places roomy id key p bounds-are world.belong there n ran.0 ran.1 w (stand_roomy c.program c.bounds places flights w stand));
+            stops = record {
+              hindered = inr (ran.0, here, ran.3 (world.none_stopped on id p there));
+              places = inr (id, ran.0, here, t.1 ∙ ap (λ x. slice_set places id x) ran.2 ∙ sym (set-set places id ran.0 (record ran.0 { stopped = true })));
+              flights = subst (λ g. AreUnchanged roomy g) (sym same) (unchanged_self roomy);
+              kept = record { program = refl; bounds = refl; count = length_after Keeps places new id keeps ∙ sym (length-set places id ran.0) };
+              stopped = refl;
+            };
+          }
 
-      makes : (w : World) → AllStandFor c.program c.bounds places flights w → RepeatsIn c.program c.bounds places w n id key new after
-      makes w stand = subst (λ g. RepeatsIn c.program c.bounds places w n id key new g) (sym same) (makes_at w (stand_roomy c.program c.bounds places flights w stand) (slice_get places id) refl)
+      halted : IsHaltedStretch before id key most (world_of c new after true) why
+      halted = halted_at (slice_get places id) refl
 
-      hindered : (o : Option PlaceState) → slice_get places id ≡ o → (p : PlaceState) × (slice_get new id ≡ Some p) × IsHindered p key why
-      hindered None none = absurd (err_is why (one.gone none).1)
-      hindered (Some p) there =
-          let t = one.there p there in
-          let ran = t.2.ran in
-          (t.0, ap (λ ps. slice_get ps id) t.1 ∙ set_here places id t.0 p there, subst (λ s. IsHindered s key why) (sym ran.2) (stopped_hindered ran.0 key why (ran.3 (world.none_stopped on id p there))))
+      ran : Repeats before world.world (halted_repeats before (world_of c new after true) id key most why halted world.world world.stands).0 id key (world_of c new after true)
+      ran = (halted_repeats before (world_of c new after true) id key most why halted world.world world.stands).2
 
 -- an activity that works and has nothing to do stands in a finish that may not end
 pub run_waits : (y : WorldState) (place key number : ℕ) (X : Type 0) → BelongTo y.program y.bounds (length y.places) y.places → y.flights.flying ≡ [] → IsIdleNow y place key ⊎ X → (w : World) → StandsForWorld y w → WorksIn w place key number → MayEnd w (finish_at place number) → X

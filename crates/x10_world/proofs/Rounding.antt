@@ -1,17 +1,36 @@
 -- Runs one after another.
-use Rattle.std.proofs.Common.{ℕ, ◌≤◌, List, [], ◌∷◌, ◌++◌, replicate, subst}
-use Rattle.std.specs.Prelude.{take}
+use Rattle.std.proofs.Common.{◌≡◌, ℕ, ◌+◌, ◌≤◌, zero, suc, [], ◌∷◌, ◌++◌, refl, sym, ap, subst, ◌∙◌, arith, length, replicate}
+use Rattle.std.specs.Prelude.{Result, Ok, Err, IfErr, MatchResult}
+use Rattle.std.specs.Result.{IsErrAnd}
+use Rattle.std.proofs.lemmas.List.{length-append, length-replicate}
+use Rattle.x10_kinds.specs.declared.stop.Stop.{Stop}
 use Rattle.x10_model.specs.declared.event.Event.{Event}
 use Rattle.x10_model.specs.declared.event.Event.TheVariants.{Step}
-use Rattle.x10_model.specs.Places.{Setting}
-use Rattle.x10_model.specs.Worlds.{World, Rule, Ideal, Run, done, then, WithinBounds}
-use Rattle.x10_world.specs.StandsForWorld.{WorldState, KeepsSetting, setting_of, StandsForWorld, Makes, Runs, Repeats}
-use Rattle.x10_world.specs.Rounds.{RunsTo}
-use Rattle.x10_world.proofs.Running.{within, keeps_more, keeps_self, setting_kept, runs_one}
+use Rattle.x10_model.specs.Worlds.{World, Ideal, Run, done, WithinBounds}
+use Rattle.x10_world.specs.declared.rounds.Halt.{Halt}
+use Rattle.x10_world.specs.declared.rounds.Halt.TheVariants as halt
+use Rattle.x10_world.specs.StandsForWorld.{WorldState, KeepsSetting, setting_of, StandsForWorld, Makes}
+use Rattle.x10_world.specs.Runs.{Runs, IsHaltedRun, IsHaltedAt, IsHaltedStretch, RepeatsThrough}
+use Rattle.x10_world.specs.Rounds.{RunsTo, RunsIn, IsHaltedIn, IsCut, IsHalted, AdvancesOrEnds}
+use Rattle.x10_world.proofs.Running.{within, keeps_more, keeps_self, setting_kept, run_more, run_on}
+use Rattle.x10_world.proofs.Courses.{stop_stands}
+use Rattle.x10_world.proofs.Making.{through_none, through_on}
 
-run_on : (rule : Rule) (setting : Setting) (P : World → Type 0) (u v : World) (events : List Event) → Run rule setting P u events v → (w : World) (more : List Event) → Run rule setting P v more w → Run rule setting P u (events ++ more) w
-run_on rule setting P u v events (done x holds) w more rest = rest
-run_on rule setting P u v events (then x y z event others holds right happens far) w more rest = then x y w event (others ++ more) holds right happens (run_on rule setting P y v others far w more rest)
+-- what holds of an error that is told as another one
+pub err_is : {T : Type 0} (r : Result T Halt) (why : Halt) (P : Halt → Type 0) (Q : T → Type 0) → IsErrAnd r (λ made. made ≡ why) → P why → MatchResult r Q P
+err_is (Ok x) why P Q e h = absurd e
+err_is (Err made) why P Q e h = subst P (sym e) h
+
+pub err_if : {T : Type 0} (r : Result T Halt) (why : Halt) (P : Halt → Type 0) → IsErrAnd r (λ made. made ≡ why) → P why → IfErr r P
+err_if (Ok x) why P e h = absurd e
+err_if (Err made) why P e h = subst P (sym e) h
+
+-- what holds whatever the error is
+pub if_err : {T E : Type 0} (r : Result T E) (P : E → Type 0) → ((e : E) → P e) → IfErr r P
+if_err (Ok x) P h = tt
+if_err (Err e) P h = h e
+
+-- ---- some run
 
 pub runs_self : (x : WorldState) → RunsTo x x
 runs_self x = record { kept = keeps_self x; runs = λ w stand. ([], w, done w (within x w stand), stand) }
@@ -25,19 +44,94 @@ runs_on x y z first second = record {
       let same = setting_kept x y first.kept in
       let run : Run Ideal (setting_of x) (WithinBounds x.bounds) a.1 b.0 b.1 =
       subst (λ s. Run Ideal s (WithinBounds x.bounds) a.1 b.0 b.1) same (subst (λ bs. Run Ideal (setting_of y) (WithinBounds bs) a.1 b.0 b.1) first.kept.bounds b.2) in
-      (a.0 ++ b.0, b.1, run_on Ideal (setting_of x) (WithinBounds x.bounds) w a.1 a.0 a.2 b.1 b.0 run, b.3));
+      (a.0 ++ b.0, b.1, run_on Ideal (setting_of x) (WithinBounds x.bounds) w a.1 b.1 a.0 b.0 a.2 run, b.3));
 }
-
-pub runs_by : (x y : WorldState) (events : List Event) → KeepsSetting x y → ((w : World) → StandsForWorld x w → (n : ℕ) × Runs x w n events y) → RunsTo x y
-runs_by x y events kept runs = record { kept = kept; runs = λ w stand. let r = runs w stand in (take r.0 events, r.1.last, r.1.run, r.1.stands) }
-
-pub repeats_by : (x y : WorldState) (here key most : ℕ) → KeepsSetting x y → ((w : World) → StandsForWorld x w → (n : ℕ) × (n ≤ most) × Repeats x w n here key y) → RunsTo x y
-repeats_by x y here key most kept runs = record { kept = kept; runs = λ w stand. let r = runs w stand in (replicate r.0 (Step here key), r.2.0, r.2.1, r.2.3) }
 
 -- one event, which was made
 pub runs_event : (x y : WorldState) (event : Event) → KeepsSetting x y → ((w : World) → StandsForWorld x w → Makes x w event y) → RunsTo x y
-runs_event x y event kept makes = record { kept = kept; runs = λ w stand. let r = runs_one x y event kept makes w stand in (event ∷ [], r.last, r.run, r.stands) }
+runs_event x y event kept makes = record {
+  kept = kept;
+  runs = λ w stand.
+      (let m = makes w stand in
+      let q = subst (λ bs. WithinBounds bs m.0) kept.bounds (within y m.0 m.3) in
+      (event ∷ [], m.0, run_more Ideal (setting_of x) (WithinBounds x.bounds) w w m.0 [] event (done w (within x w stand)) m.1 q, m.3));
+}
 
 -- no event was made
 pub runs_still : (x y : WorldState) → KeepsSetting x y → ((w : World) → StandsForWorld x w → StandsForWorld y w) → RunsTo x y
 runs_still x y kept still = record { kept = kept; runs = λ w stand. ([], w, done w (within x w stand), still w stand) }
+
+-- ---- so many events
+
+pub in_none : (x : WorldState) → RunsIn x 0 x
+in_none x = record { kept = keeps_self x; runs = λ w stand. ([], refl, through_none x w stand) }
+
+pub in_on : (x y z : WorldState) (m n : ℕ) → RunsIn x m y → RunsIn y n z → RunsIn x (m + n) z
+in_on x y z m n first second = record {
+  kept = keeps_more x y z first.kept second.kept;
+  runs = λ w stand.
+      (let a = first.runs w stand in
+      let b = second.runs a.2.last a.2.stands in
+      (a.0 ++ b.0, length-append a.0 b.0 ∙ ap (λ k. k + length b.0) a.1 ∙ ap (λ k. m + k) b.1, through_on x y z w a.0 b.0 first.kept a.2 b.2));
+}
+
+-- so many steps of one activity
+pub in_repeats : (x y : WorldState) (n here key : ℕ) → KeepsSetting x y → ((w : World) → StandsForWorld x w → RepeatsThrough x w n here key y) → RunsIn x n y
+in_repeats x y n here key kept repeats = record { kept = kept; runs = λ w stand. let r = repeats w stand in (replicate n (Step here key), length-replicate n (Step here key), r.runs) }
+
+-- one event of a list of one
+pub in_one : (x y : WorldState) (event : Event) → KeepsSetting x y → ((w : World) → StandsForWorld x w → Runs x w 1 (event ∷ []) y) → RunsIn x 1 y
+in_one x y event kept runs = record { kept = kept; runs = λ w stand. (event ∷ [], refl, runs w stand) }
+
+pub in_to : (x y : WorldState) (n : ℕ) → RunsIn x n y → RunsTo x y
+in_to x y n r = record { kept = r.kept; runs = λ w stand. let a = r.runs w stand in (a.0, a.2.last, a.2.run, a.2.stands) }
+
+-- a stop after so many events
+pub halted_to : (x y : WorldState) (limit : ℕ) (why : Stop) → IsHaltedIn x limit y why → RunsTo x y
+halted_to x y limit why h = runs_on x h.state y (in_to x h.state h.done h.runs) (runs_still h.state y h.stops.kept (λ w stand. stop_stands h.state y h.event why w h.stops stand))
+
+pub cut_to : (x y : WorldState) (limit : ℕ) (why : Halt) → IsCut x limit y why → RunsTo x y
+cut_to x y limit (halt.Stop why) h = halted_to x y limit why h
+cut_to x y limit halt.Limit h = absurd h
+cut_to x y limit halt.Memory h = in_to x y h.0 h.2
+
+-- events more before it
+pub cut_on : (x y z : WorldState) (m some limit : ℕ) (why : Halt) → RunsIn x m y → IsCut y some z why → m + some ≤ limit → IsCut x limit z why
+cut_on x y z m some limit (halt.Stop why) first h less = record { done = m + h.done; few = let few = h.few in omega (arith, less, few); state = h.state; runs = in_on x y h.state m h.done first h.runs; event = h.event; stops = h.stops }
+cut_on x y z m some limit halt.Limit first h less = h
+cut_on x y z m some limit halt.Memory first h less = (m + h.0, (let few = h.1 in omega (arith, less, few)), in_on x y z m h.0 first h.2, h.3)
+
+pub cut_is_halt : (x y : WorldState) (limit : ℕ) (why : Halt) → IsCut x limit y why → IsHalted x limit y why
+cut_is_halt x y limit (halt.Stop why) h = h
+cut_is_halt x y limit halt.Limit h = absurd h
+cut_is_halt x y limit halt.Memory h = h
+
+keeps_back : (x y z : WorldState) → KeepsSetting x z → KeepsSetting y z → KeepsSetting x y
+keeps_back x y z k l = record { program = sym l.program ∙ k.program; bounds = sym l.bounds ∙ k.bounds; count = sym l.count ∙ k.count }
+
+-- the one event was refused
+pub cut_one : (x y : WorldState) (event : Event) (limit : ℕ) (why : Stop) → KeepsSetting x y → IsHaltedRun x (event ∷ []) y why → IsHaltedIn x limit y why
+cut_one x y event limit why kept (n, h) = at_number n h
+  where
+    at_number : (m : ℕ) → IsHaltedAt x (event ∷ []) m y why → IsHaltedIn x limit y why
+    at_number zero a = record { done = 0; few = omega arith; state = a.state; runs = record { kept = keeps_back x a.state y kept a.stops.kept; runs = λ w stand. ([], refl, a.runs w stand) }; event = a.event; stops = a.stops }
+    at_number (suc m) a = (let e = a.is_next in absurd cc)
+
+-- one of several steps of an activity was
+pub cut_stretch : (x y : WorldState) (here key most : ℕ) (why : Stop) → KeepsSetting x y → IsHaltedStretch x here key most y why → IsHaltedIn x most y why
+cut_stretch x y here key most why kept h = record {
+  done = h.done;
+  few = h.few;
+  state = h.state;
+  runs = in_repeats x h.state h.done here key (keeps_back x h.state y kept h.stops.kept) h.repeats;
+  event = Step here key;
+  stops = h.stops;
+}
+
+-- the same after no event
+pub ends_after : (x y z : WorldState) (limit : ℕ) (result : Result ℕ Halt) → RunsIn x 0 y → AdvancesOrEnds y limit result z → AdvancesOrEnds x limit result z
+ends_after x y z limit (Ok n) first h = (
+  record { few = h.0.few; runs = (let same : 0 + n ≡ n = omega arith in subst (λ k. RunsIn x k z) same (in_on x y z 0 n first h.0.runs)); goes = h.0.goes },
+  h.1,
+)
+ends_after x y z limit (Err why) first h = cut_on x y z 0 limit limit why first h (omega arith)

@@ -1,6 +1,7 @@
 -- What a run from an image's bytes ends with, and why there is none.
-use Rattle.std.specs.Prelude.{◌≡◌, ℕ, List, [], length, map, take, Some, None, IsTrue, slice_get, Vec, IfSome, ◌<◌}
+use Rattle.std.specs.Prelude.{◌≡◌, ◌↔◌, ℕ, List, [], length, map, take, Some, None, IsTrue, slice_get, Vec, IfSome, ◌<◌}
 use Rattle.std.specs.Global.{Global}
+use Rattle.x10_kinds.specs.declared.stop.Stop.{Stop}
 use Rattle.x10_model.specs.declared.event.Event.{Event}
 use Rattle.x10_model.specs.Modules.{Module, FitsImage}
 use Rattle.x10_model.specs.Images.{spelling}
@@ -17,8 +18,10 @@ use Rattle.x10_world.specs.declared.fault.OpenFault.TheVariants as opened
 use Rattle.x10_world.specs.declared.ending.Ending.{Ending}
 use Rattle.x10_world.specs.declared.ending.RunFault.{RunFault}
 use Rattle.x10_world.specs.declared.ending.RunFault.TheVariants as fault
-use Rattle.x10_world.specs.Opening.{IsForbidden}
-use Rattle.x10_world.specs.StandsForWorld.{WorldState, StandsForWorld, Course}
+use Rattle.x10_world.specs.Opening.{IsForbidden, IsOpenedWorld}
+use Rattle.x10_world.specs.Queries.{IsClosed}
+use Rattle.x10_world.specs.Runs.{Course}
+use Rattle.x10_world.specs.StandsForWorld.{WorldState, StandsForWorld, IsHinderedAt}
 
 -- lists of lines as the machine has them
 abbrev pub lines_in : List (Vec Line Global) → List (List machine.Line)
@@ -37,26 +40,33 @@ pub record IsImageOf (bytes : List ℕ) (c : Certified) : Type 0 where
 abbrev pub AreLinesOf : List (List machine.Line) → World → Type 0
 AreLinesOf outputs w = (id : ℕ) (m : machine.Place) → w.net.places id ≡ Some m → slice_get outputs id ≡ Some m.lines
 
+-- why an event of a list, the one with a number, is refused
+abbrev pub IsHinderedNext : WorldState → List Event → ℕ → Stop → Type 0
+IsHinderedNext x events n why = (next : Event) × (slice_get events n ≡ Some next) × IsHinderedAt x next why
+
 -- A run of the machine, from its opening, under the events that were made: none goes wrong, and no activity takes more
 -- steps than its bound; and where no frame is in flight, none waits at the end of a finish that may end (`course`). The
--- number of places is permitted. All events were made, or a Stop is told of the one after them; the lines are those of the
--- last world.
+-- world is opened at so many places, which is a permitted number, and each event leads from one of its states to the next.
+-- All events were made, or a Stop is told of the one after them, and why it was refused; the lines, and whether the run has
+-- ended, are those of the last state.
 pub record IsEndingOf (c : Certified) (count : ℕ) (events : List Event) (outputs : List (List machine.Line)) (e : Ending) : Type 0 where
   pub key : ℕ
   pub last : World
   pub run : Run Ideal (record { program = c.program; places = count }) (WithinBounds c.bounds) (opening (record { program = c.program; places = count }) key)
       (take e.done events) last
   pub first : WorldState
-  pub state : WorldState
-  pub course : Course (record { program = c.program; places = count }) c.bounds first (opening (record { program = c.program; places = count }) key)
-      (take e.done events) state last
+  pub opened : IsOpenedWorld c count first
   pub final : WorldState
+  pub course : Course (record { program = c.program; places = count }) c.bounds first (opening (record { program = c.program; places = count }) key)
+      (take e.done events) final last
   pub stands : StandsForWorld final last
   pub permitted : IsForbidden c count → ⊥
   pub all : e.stop ≡ None → e.done ≡ length events
   pub less : IfSome e.stop (λ stop. e.done < length events)
+  pub hindered : IfSome e.stop (IsHinderedNext final events e.done)
   pub count_is : length outputs ≡ count
   pub lines : AreLinesOf outputs last
+  pub closed : IsTrue e.closed ↔ IsClosed final.places
   pub ended : IsTrue e.closed → IsOver last
   pub over : IsOver last → final.flights.flying ≡ [] → IsTrue e.closed
 

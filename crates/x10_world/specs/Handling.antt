@@ -8,8 +8,9 @@ use Rattle.x10_verify.specs.Certified.{Certified}
 use Rattle.x10_place.specs.StandsFor.{PlaceState}
 use Rattle.x10_world.specs.declared.done.Happening.{Happening}
 use Rattle.x10_world.specs.Flights.{FlightsState}
-use Rattle.x10_world.specs.StandsForWorld.{world_of, IsWorld, AllStandFor, Makes, Repeats, IsHinderedAt, IsHinderedStep, IsIdleNow, BeganLast}
+use Rattle.x10_world.specs.StandsForWorld.{world_of, IsWorld, AllStandFor, Makes, IsIdleNow, BeganLast}
 use Rattle.x10_world.specs.Happenings.{Happened}
+use Rattle.x10_world.specs.Runs.{RepeatsThrough, StopsAt, IsHaltedStretch}
 
 -- What an event does to the places and to the frames of a world that has not stopped: an event of each world of the machine
 -- for which they stand; or it is refused, and they stand for what they stood for.
@@ -20,8 +21,7 @@ pub record Handles (c : Certified) (places : List PlaceState) (flights : Flights
   pub made : IfOk result
       (λ _. (w : World) → AllStandFor c.program c.bounds places flights w → Makes (world_of c places flights false) w event (world_of c new after false))
   pub told : IfOk result (λ did. Happened places flights event did new after)
-  pub kept : IfErr result (λ why. (w : World) → AllStandFor c.program c.bounds places flights w → AllStandFor c.program c.bounds new after w)
-  pub hindered : IfErr result (IsHinderedAt (world_of c new after true) event)
+  pub stops : IfErr result (λ why. StopsAt (world_of c places flights false) event why (world_of c new after true))
 
 -- what up to so many steps of one activity do
 pub record Stretches (c : Certified) (places : List PlaceState) (flights : FlightsState) (id key most : ℕ) (result : Result ℕ Stop) (new : List PlaceState)
@@ -29,9 +29,8 @@ pub record Stretches (c : Certified) (places : List PlaceState) (flights : Fligh
   pub count : length new ≡ length places
   pub world : IsWorld c.program c.bounds new after (is_err result)
   pub made : IfOk result (λ n. (n ≤ most) ×
-      ((w : World) → AllStandFor c.program c.bounds places flights w → Repeats (world_of c places flights false) w n id key (world_of c new after false)))
+      ((w : World) → AllStandFor c.program c.bounds places flights w
+      → RepeatsThrough (world_of c places flights false) w n id key (world_of c new after false)))
   pub all : IfOk result (λ n. n < most → IsIdleNow (world_of c new after false) id key ⊎
       (BeganLast (world_of c places flights false) id key n (world_of c new after false) ⊎ flights.posted < after.posted))
-  pub kept : IfErr result (λ why. (w : World) → AllStandFor c.program c.bounds places flights w → (n : ℕ) × (n ≤ most) × Repeats
-      (world_of c places flights false) w n id key (world_of c new after true))
-  pub hindered : IfErr result (IsHinderedStep (world_of c new after true) id key)
+  pub halted : IfErr result (IsHaltedStretch (world_of c places flights false) id key most (world_of c new after true))

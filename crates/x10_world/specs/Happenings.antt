@@ -13,7 +13,7 @@ use Rattle.x10_world.specs.declared.done.Done.{Done}
 use Rattle.x10_world.specs.declared.done.Done.TheVariants as done
 use Rattle.x10_world.specs.declared.done.Happening.{Happening}
 use Rattle.x10_world.specs.declared.done.Happening.TheVariants as happening
-use Rattle.x10_world.specs.Flights.{Flight, FlightsState, flight_of, taken_from, with_room}
+use Rattle.x10_world.specs.Flights.{Flight, FlightsState, flight_of, taken_from}
 use Rattle.x10_world.specs.StandsForWorld.{WorldState, with_sent}
 
 -- how many frames there are, none or one
@@ -44,7 +44,7 @@ pub record HasMoved (places : List PlaceState) (flights : FlightsState) (id key 
   pub busy : IsIdleAt place key → ⊥
   pub leads : LeadsAll place key (stepped.Moved out) next
   pub places_are : new ≡ slice_set places id next
-  pub flights_are : after ≡ with_sent (with_room flights) out
+  pub flights_are : AreUnchanged (with_sent flights out) after
 
 -- There was no frame in flight with a number, and nothing has changed.
 pub record WasNowhere (places : List PlaceState) (flights : FlightsState) (number : ℕ) (new : List PlaceState) (after : FlightsState) : Type 0 where
@@ -62,7 +62,7 @@ pub record HasTaken (places : List PlaceState) (flights : FlightsState) (number 
   pub is_there : slice_get places to ≡ Some place
   pub taken : IsTaken place flight.bytes next
   pub places_are : new ≡ slice_set places to next
-  pub flights_are : after ≡ taken_from flights number
+  pub flights_are : AreUnchanged (taken_from flights number) after
 
 -- what an event did to the parts of a world
 abbrev pub Happened : List PlaceState → FlightsState → Event → Happening → List PlaceState → FlightsState → Type 0

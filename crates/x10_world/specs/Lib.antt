@@ -8,4 +8,5 @@ pub mod Queries
 pub mod Endings
 pub mod Rounds
 pub mod Happenings
+pub mod Runs
 pub mod Handling

@@ -4,7 +4,8 @@ use Rattle.slab.specs.Slab.{get}
 use Rattle.x10_model.specs.Places as places
 use Rattle.x10_model.specs.Places.{Message, receiver}
 use Rattle.x10_model.specs.Worlds.{World, Unused, Flying}
-use Rattle.x10_place.specs.StandsFor.{PlaceState}
+use Rattle.x10_place.specs.Stays.{IsDoneHere}
+use Rattle.x10_place.specs.StandsFor.{PlaceState, store_of}
 
 -- no place has the number
 abbrev pub IsNoPlace : List PlaceState → ℕ → Type 0
@@ -33,3 +34,7 @@ IsReportTo w number place = (w.net.posts number ≡ Unused) × ((p : places.Plac
 -- the numbers that messages have had are below it
 abbrev pub IsPosted : World → ℕ → Type 0
 IsPosted w count = (number : ℕ) → w.net.posts number ≢ Unused → number < count
+
+-- the root finish may end at its home, place 0, by its own counts and what was reported to it
+abbrev pub IsClosed : List PlaceState → Type 0
+IsClosed places = (p : PlaceState) → slice_get places 0 ≡ Some p → IsDoneHere (store_of p) 0

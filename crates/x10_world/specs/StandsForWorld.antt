@@ -1,6 +1,6 @@
 -- When a world of the program stands for a world of the machine.
-use Rattle.std.specs.Prelude.{◌≡◌, ◌≢◌, ◌⊎◌, ℕ, ◌+◌, ◌^◌, ◌<◌, ◌≤◌, ◌==◌, ◌∷◌, Bool, IsTrue, List, [], length, replicate, Option, Some, None}
-use Rattle.std.specs.Prelude.{MatchResult, Result, Ok, IfOk, IfErr, true, false, slice_get, slice_set, take}
+use Rattle.std.specs.Prelude.{◌≡◌, ◌≢◌, ◌⊎◌, ℕ, ◌+◌, ◌^◌, ◌<◌, ◌≤◌, ◌==◌, Bool, IsTrue, List, [], length, Option, Some, None}
+use Rattle.std.specs.Prelude.{MatchResult, Result, Ok, IfOk, IfErr, true, false, slice_get, slice_set}
 use Rattle.slab.specs.Slab.{get}
 use Rattle.x10_kinds.specs.declared.stop.Stop.{Stop}
 use Rattle.x10_kinds.specs.declared.stop.Stop.TheVariants as stop
@@ -11,7 +11,7 @@ use Rattle.x10_model.specs.declared.event.Event.TheVariants.{Step, Deliver}
 use Rattle.x10_model.specs.Places as machine
 use Rattle.x10_model.specs.Places.{Setting, Finish, Message, receiver, Waits}
 use Rattle.x10_model.specs.Totals.{Totals, Cut, Report, nothing, zeros, reported}
-use Rattle.x10_model.specs.Worlds.{World, Unused, Flying, same_finish, Ideal, Happens, Steps, GoesWrong, Run, WithinBounds}
+use Rattle.x10_model.specs.Worlds.{World, Unused, Flying, same_finish, Ideal, Happens, Steps}
 use Rattle.x10_model.specs.Wrong.{graph_of}
 use Rattle.x10_copy.specs.declared.refusal.Refusal.{Refusal}
 use Rattle.x10_copy.specs.declared.refusal.Refusal.TheVariants as refusal
@@ -193,13 +193,16 @@ DeliveryLeads = (program : Module) (bounds : List ℕ) (places : List PlaceState
 abbrev pub IsDeliveryLimit : ℕ → Type 0
 IsDeliveryLimit limit = ((1 ≤ limit) × (limit ≤ 3)) ⊎ ((limit ≡ 6) ⊎ (limit ≡ 10))
 
+-- memory is refused, or a limit would be passed
+abbrev pub IsForRoom : Refusal → Type 0
+IsForRoom why = (why ≡ refusal.Memory) ⊎ ((limit : ℕ) × (why ≡ refusal.Limit limit) × IsDeliveryLimit limit)
+
 -- A frame in flight is refused only where memory is refused, or at a limit.
 abbrev pub NoneIsRefused : Type 0
 NoneIsRefused = (program : Module) (bounds : List ℕ) (places : List PlaceState) (flights : FlightsState) (w : World) (number : ℕ) (flight : Flight)
     (p : PlaceState) (why : Refusal) → BelongTo program bounds (length places) places
     → AllStandFor program bounds places flights w → flight_of flights number ≡ Some flight → slice_get places flight.to ≡ Some p
-    → IsRefusedBytes p flight.bytes why
-    → (why ≡ refusal.Memory) ⊎ ((limit : ℕ) × (why ≡ refusal.Limit limit) × IsDeliveryLimit limit)
+    → IsRefusedBytes p flight.bytes why → IsForRoom why
 
 -- Where they stand for a world in which a finish may end, no frame flies, and its owner works in it, its home lets it end.
 abbrev pub EndedIsDoneHere : Type 0
@@ -255,17 +258,23 @@ IsRoomless s why = (why ≡ stop.Memory) ⊎ ((why ≡ stop.Limit 11) × (2 ^ 64
 abbrev pub IsHinderedStep : WorldState → (id key : ℕ) → Stop → Type 0
 IsHinderedStep x id key why = IsRoomless x.flights why ⊎ ((p : PlaceState) × (slice_get x.places id ≡ Some p) × IsHindered p key why)
 
--- a frame in flight was refused, for memory or at a limit
-abbrev pub IsHinderedDelivery : WorldState → ℕ → Stop → Type 0
-IsHinderedDelivery x number why = (flight : Flight) × (flight_of x.flights number ≡ Some flight)
-    × ((why ≡ stop.Memory) ⊎ ((limit : ℕ) × (why ≡ stop.Limit limit) × IsDeliveryLimit limit))
-
 -- why a world stops where a frame in flight was refused
 abbrev pub stop_for_refusal : Refusal → Stop
 stop_for_refusal (refusal.Limit limit) = stop.Limit limit
 stop_for_refusal _ = stop.Memory
 
--- why an event was refused, after which the world has stopped
+-- a frame in flight was refused by the place that it goes to, for memory or at a limit, and this is why the world stops
+pub record IsHinderedDelivery (x : WorldState) (number : ℕ) (why : Stop) : Type 0 where
+  pub flight : Flight
+  pub flying : flight_of x.flights number ≡ Some flight
+  pub place : PlaceState
+  pub is_there : slice_get x.places flight.to ≡ Some place
+  pub refused_as : Refusal
+  pub refused : IsRefusedBytes place flight.bytes refused_as
+  pub for_room : IsForRoom refused_as
+  pub why_is : why ≡ stop_for_refusal refused_as
+
+-- why an event is refused, after which the world has stopped
 abbrev pub IsHinderedAt : WorldState → Event → Stop → Type 0
 IsHinderedAt x (Step id key) why = IsHinderedStep x id key why
 IsHinderedAt x (Deliver number) why = IsHinderedDelivery x number why
@@ -276,58 +285,13 @@ IsHinderedAt x (Deliver number) why = IsHinderedDelivery x number why
 abbrev pub IsStepStop : Stop → Type 0
 IsStepStop why = (why ≡ stop.Memory) ⊎ ((limit : ℕ) × (why ≡ stop.Limit limit) × (1 ≤ limit) × (limit ≤ 11))
 
--- ---- runs
+-- ---- one event
 
 -- An event of the machine, to a world that the new state stands for. Where no frame flies, a step waits at the end of a
 -- finish only where the finish may not end.
 abbrev pub Makes : WorldState → World → Event → WorldState → Type 0
 Makes x w event y = (v : World) × (h : Happens Ideal (setting_of x) w event v) × (x.flights.flying ≡ [] → IsPrompt Ideal (setting_of x) w event v h)
     × StandsForWorld y v
-
--- Events in their turn, from one state that stands for a world to another: none goes wrong, no activity takes more steps
--- than its bound, and where no frame flies, none waits at the end of a finish that may end.
-pub data Course (setting : Setting) (bounds : List ℕ) : WorldState → World → List Event → WorldState → World → Type 0 where
-  rests : (x : WorldState) (w : World) → StandsForWorld x w → WithinBounds bounds w → Course setting bounds x w [] x w
-  goes : (x y z : WorldState) (u v w : World) (event : Event) (events : List Event) → StandsForWorld x u → WithinBounds bounds u
-      → (GoesWrong setting u event → ⊥) → KeepsSetting x y → (h : Happens Ideal setting u event v)
-      → (x.flights.flying ≡ [] → IsPrompt Ideal setting u event v h) → Course setting bounds y v events z w → Course setting bounds x u (event ∷ events) z w
-
--- Such events are a run of the machine, to a world that the new state stands for. The last of the states between them is
--- the new one, or that before an event that was refused.
-pub record RunsThrough (x : WorldState) (w : World) (events : List Event) (y : WorldState) : Type 0 where
-  pub last : World
-  pub run : Run Ideal (setting_of x) (WithinBounds x.bounds) w events last
-  pub stands : StandsForWorld y last
-  pub state : WorldState
-  pub course : Course (setting_of x) x.bounds x w events state last
-
--- the events before number n are
-abbrev pub Runs : WorldState → World → ℕ → List Event → WorldState → Type 0
-Runs x w n events y = RunsThrough x w (take n events) y
-
--- the events before one that was refused were made, and why it was
-pub record IsHaltedRun (x : WorldState) (events : List Event) (y : WorldState) (why : Stop) : Type 0 where
-  pub done : ℕ
-  pub event : Event
-  pub runs : (w : World) → StandsForWorld x w → Runs x w done events y
-  pub is_next : slice_get events done ≡ Some event
-  pub hindered : IsHinderedAt y event why
-
--- a move of the activity with a key at a place, which is no wait at the end of a finish
-pub record MovesOnce (setting : Setting) (w : World) (here key : ℕ) (v : World) : Type 0 where
-  pub steps : Steps Ideal setting w here key v
-  pub goes : (number : ℕ) → steps.effect ≡ Waits number → ⊥
-
--- so many such moves, one after another
-pub data MovesOn (setting : Setting) (here key : ℕ) (u : World) : ℕ → World → Type 0 where
-  at_rest : MovesOn setting here key u 0 u
-  moves_on : (n : ℕ) (v w : World) → MovesOn setting here key u n v → MovesOnce setting v here key w → MovesOn setting here key u (n + 1) w
-
--- The same Step so many times: each is a move, none goes wrong, and no activity takes more steps than its bound. They lead
--- to a world that the new state stands for.
-abbrev pub Repeats : WorldState → World → ℕ → ℕ → ℕ → WorldState → Type 0
-Repeats x w n here key y = (v : World) × Run Ideal (setting_of x) (WithinBounds x.bounds) w (replicate n (Step here key)) v
-    × MovesOn (setting_of x) here key w n v × StandsForWorld y v
 
 -- a Step of the key at the place would find nothing to do
 abbrev pub IsIdleNow : WorldState → ℕ → ℕ → Type 0

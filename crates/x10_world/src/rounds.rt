@@ -1,11 +1,14 @@
 //! The order in which a program makes events: round after round, place after place, key after key.
-ghost use Rattle.std.specs.Prelude.{◌≡◌, IfOk};
+ghost use Rattle.std.specs.Prelude.{◌≡◌, ◌≢◌, ◌≤◌, ℕ, true, IfOk, IfErr, IfSome, Err, None};
+ghost use Rattle.x10_kinds.specs.declared.stop.Stop.TheVariants as stop;
 ghost use Rattle.x10_world.specs.declared.rounds.Halt.TheVariants as halt;
-ghost use Rattle.x10_world.specs.Rounds.{HasEnded, RunsTo};
+ghost use Rattle.x10_world.specs.Queries.{IsClosed};
+ghost use Rattle.x10_world.specs.Rounds.{HasEnded, RunsTo, IsThereAt, IsQuiet, IsHalted, GoesOn, Advances, AdvancesOrEnds};
 
 use crate::keys::Keys;
 use crate::world::World;
 use std::alloc::{AllocError, Global};
+use std::marker::Model;
 use thiserror::Error;
 use x10_kinds::Stop;
 use x10_model::Event;
@@ -59,7 +62,7 @@ enum Work {
     Event(Event),
 }
 
-/// The order of a program's events. In a round each place, by rising number, takes in the frames that are in flight to it
+/// The order of a program's events; contracts see the place whose turn it is. In a round each place, by rising number, takes in the frames that are in flight to it
 /// when its turn comes, by rising number, and then makes a step of each of its activities that are there, by rising key;
 /// what these begin waits for the next round. It isn't notified of the events: it looks at the world before each one, so
 /// nothing else may happen to the world meanwhile. A round takes time for its events and for the places that have some.
@@ -76,6 +79,12 @@ pub struct Rounds {
     /// The place whose turn it is.
     place: u16,
     turn: Turn,
+}
+
+impl Model for Rounds {
+    ghost Value = { ℕ };
+
+    ghost view = { λ a. a.place };
 }
 
 impl Rounds {
@@ -98,18 +107,30 @@ impl Rounds {
         })
     }
 
-    /// The next event; none where nothing is in flight and no activity is there. Takes memory for keys.
-    pub fn next(&mut self, world: &World) -> Result<Option<Event>, AllocError> {
+    /// The next event, of an activity at the place whose turn it then is, or of a frame in flight to it; none only where no
+    /// frame is in flight and no activity is anywhere. Takes memory for keys.
+    pub fn next(&mut self, world: &World) -> Result<Option<Event>, AllocError>
+        ensures there { IfOk result (λ event. IfSome event (IsThereAt world.now self.new)) }
+        ensures none { IfOk result (λ event. event ≡ None → IsQuiet world.now) }
+    {
         self.look(world)?;
         for _ in 0..=MOST_PLACES {
-            let event = self.next_here(world)?;
-            if event.is_some() {
+            let Some(event) = self.next_here(world)? else {
+                self.pass(self.place.saturating_add(1));
+                continue;
+            };
+            if world.names_at(self.place, event) {
                 self.watch(world, self.place);
-                return Ok(event);
+                return Ok(Some(event));
             }
-            self.pass(self.place.saturating_add(1));
         }
-        Ok(None)
+        match world.any_event() {
+            Some((place, event)) => {
+                self.place = place;
+                Ok(Some(event))
+            }
+            None => Ok(None),
+        }
     }
 
     /// Looks at what the last events put out and began.
@@ -159,7 +180,9 @@ impl Rounds {
 
     /// Remembers which key the next activity that begins at a place gets.
     #[inline(always)]
-    fn watch(&mut self, world: &World, place: u16) {
+    fn watch(&mut self, world: &World, place: u16)
+        ensures { self.new ≡ self.old }
+    {
         self.next_key = match world.vacant_key(place) {
             Some(key) => Some((place, key)),
             None => None,
@@ -249,36 +272,59 @@ impl Rounds {
         Some((self.place, key))
     }
 
-    /// Makes the next events, and answers how many. Where one activity is alone, its steps are made in one stretch, each a
-    /// round of its own; otherwise the steps of a turn are made one after another.
+    /// Makes the next events, and answers how many; none only where nothing is in flight and no activity is anywhere. Where
+    /// one activity is alone, its steps are made in one stretch, each a round of its own; otherwise the steps of a turn are
+    /// made one after another.
     fn advance(&mut self, world: &mut World, left: u64) -> Result<u64, Halt>
-        ensures runs { RunsTo world.old world.new }
+        requires going { world.old.stopped ≢ true }
+        requires some { 1 ≤ left }
+        ensures made { AdvancesOrEnds world.old left result world.new }
     {
         self.look(world)?;
-        if let Turn::Steps(position) = self.turn {
-            if position < self.known() {
-                return self.steps(world, position, left);
+        match self.turn {
+            Turn::TakesIn(_) => self.go_on(world, left),
+            Turn::Steps(position) if position < self.known() => {
+                self.steps_or_more(world, position, left)
             }
-            self.pass(self.place.saturating_add(1));
+            Turn::Steps(_) => {
+                self.pass(self.place.saturating_add(1));
+                self.go_on(world, left)
+            }
         }
+    }
+
+    /// Makes the steps of a turn from a position on, and where there is none what comes after the turn.
+    #[inline(always)]
+    fn steps_or_more(&mut self, world: &mut World, position: usize, left: u64) -> Result<u64, Halt>
+        requires going { world.old.stopped ≢ true }
+        requires some { 1 ≤ left }
+        ensures made { AdvancesOrEnds world.old left result world.new }
+    {
+        let made = self.steps(world, position, left)?;
+        if made > 0 {
+            return Ok(made);
+        }
+        self.pass(self.place.saturating_add(1));
         self.go_on(world, left)
     }
 
     /// Makes what comes next where a turn begins or goes on, and answers how many events.
     fn go_on(&mut self, world: &mut World, left: u64) -> Result<u64, Halt>
-        ensures runs { RunsTo world.old world.new }
+        requires going { world.old.stopped ≢ true }
+        requires some { 1 ≤ left }
+        ensures made { AdvancesOrEnds world.old left result world.new }
     {
-        let Some(work) = self.find(world)? else {
-            return Err(Halt::Limit);
-        };
-        match work {
-            Work::Stretch(place, key) => self.stretch(world, place, key, left),
-            Work::Event(event) => make(world, event),
+        match self.find(world)? {
+            Some(Work::Stretch(place, key)) => self.stretch(world, place, key, left),
+            Some(Work::Event(event)) => make(world, event),
+            None => Ok(0),
         }
     }
 
-    /// What comes next where a turn begins or goes on; nothing where nothing is in flight and no activity is there.
-    fn find(&mut self, world: &World) -> Result<Option<Work>, AllocError> {
+    /// What comes next where a turn begins or goes on; nothing only where nothing is in flight and no activity is anywhere.
+    fn find(&mut self, world: &World) -> Result<Option<Work>, AllocError>
+        ensures none { IfOk result (λ work. work ≡ None → IsQuiet world.now) }
+    {
         for _ in 0..=MOST_PLACES {
             if let Some((place, key)) = self.lone(world) {
                 return Ok(Some(Work::Stretch(place, key)));
@@ -289,7 +335,10 @@ impl Rounds {
             }
             self.pass(self.place.saturating_add(1));
         }
-        Ok(None)
+        match world.any_event() {
+            Some((_, event)) => Ok(Some(Work::Event(event))),
+            None => Ok(None),
+        }
     }
 
     /// How many activities make a step in the turn.
@@ -302,7 +351,9 @@ impl Rounds {
 
     /// Makes the steps of a turn from a position on, up to one that leaves place 0 empty, and answers how many.
     fn steps(&mut self, world: &mut World, from: usize, left: u64) -> Result<u64, Halt>
-        ensures runs { RunsTo world.old world.new }
+        requires going { world.old.stopped ≢ true }
+        requires some { 1 ≤ left }
+        ensures made { Advances world.old left result world.new }
     {
         let mut made = 0;
         for position in from..self.known() {
@@ -310,9 +361,8 @@ impl Rounds {
                 return Ok(made);
             };
             self.watch(world, self.place);
-            world.run(&[event])?;
+            made += make(world, event)?;
             self.look(world)?;
-            made = made.saturating_add(1);
             if made == left || (self.place == 0 && world.home_is_empty()) {
                 return Ok(made);
             }
@@ -322,7 +372,9 @@ impl Rounds {
 
     /// Steps of the one activity that there is, up to one that begins an activity or puts out a frame.
     fn stretch(&mut self, world: &mut World, place: u16, key: usize, left: u64) -> Result<u64, Halt>
-        ensures runs { RunsTo world.old world.new }
+        requires going { world.old.stopped ≢ true }
+        requires some { 1 ≤ left }
+        ensures made { AdvancesOrEnds world.old left result world.new }
     {
         self.watch(world, place);
         let made = world.run_activity(place, key, left)?;
@@ -336,19 +388,22 @@ impl Rounds {
 
     /// The next event.
     fn event(&mut self, world: &mut World) -> Result<u64, Halt>
-        ensures runs { RunsTo world.old world.new }
+        requires going { world.old.stopped ≢ true }
+        ensures made { (limit : ℕ) → 1 ≤ limit → AdvancesOrEnds world.old limit result world.new }
     {
-        let Some(event) = self.next(world)? else {
-            return Err(Halt::Limit);
-        };
-        make(world, event)
+        match self.next(world)? {
+            Some(event) => make(world, event),
+            None => Ok(0),
+        }
     }
 }
 
 /// Makes one event, and answers how many were made.
 #[inline(always)]
 fn make(world: &mut World, event: Event) -> Result<u64, Halt>
-    ensures runs { RunsTo world.old world.new }
+    requires going { world.old.stopped ≢ true }
+    ensures made { (limit : ℕ) → 1 ≤ limit → Advances world.old limit result world.new }
+    ensures one { IfOk result (λ made. made ≡ 1) }
 {
     world.run(&[event])?;
     Ok(1)
@@ -356,20 +411,29 @@ fn make(world: &mut World, event: Event) -> Result<u64, Halt>
 
 /// Runs a world in rounds until the run has ended, with at most `limit` events, idle ones included: those of `Rounds`, one
 /// after another. Whether the run has ended is checked after each event, before whether there may be another one: only events
-/// at place 0 can end it.
+/// at place 0 can end it. The answer is Limit exactly where `limit` events were made and the last one didn't end it. A world
+/// that has stopped answers so, and stays as it is.
 pub fn run_rounds(alloc: Global, world: &mut World, limit: u64) -> Result<(), Halt>
     ensures runs { RunsTo world.old world.new }
+    ensures made { world.old.stopped ≢ true → IfOk result (λ _. (n : ℕ) × GoesOn world.old limit n world.new) }
     ensures ended { IfOk result (λ _. HasEnded world.new) }
+    ensures closed { IfOk result (λ _. IsClosed world.new.places) }
+    ensures halted { world.old.stopped ≢ true → IfErr result (IsHalted world.old limit world.new) }
+    ensures stopped { world.old.stopped ≡ true → (result ≡ Err (halt.Stop stop.Stopped)) × (world.new ≡ world.old) }
 {
+    world.going()?;
     let mut rounds = Rounds::new(alloc, world)?;
     let mut left = limit;
     for _ in 0..limit {
         let is_first = left == limit;
         let made = rounds.advance(world, left)?;
+        if made == 0 {
+            return Ok(());
+        }
         if (is_first || rounds.place == 0) && world.home_is_empty() && world.closed() {
             return Ok(());
         }
-        left = left.saturating_sub(made);
+        left -= made;
         if left == 0 {
             return Err(Halt::Limit);
         }

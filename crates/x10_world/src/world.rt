@@ -1,15 +1,15 @@
-ghost use Rattle.std.specs.Prelude.{◌≡◌, ◌≢◌, ◌<◌, ◌≤◌, ◌↔◌, ◌⊎◌, ℕ, true, IsTrue, IfOk, IfErr, IsErrOf, IfSome, IfNone, MatchOption, Ok, Err, Some, None, [], length, slice_get};
+ghost use Rattle.std.specs.Prelude.{◌≡◌, ◌≢◌, ◌<◌, ◌≤◌, ◌↔◌, ◌⊎◌, ℕ, true, IsTrue, IfOk, IfErr, IsErrOf, IfSome, IfNone, MatchOption, Ok, Err, Some, None, [], length, take};
 ghost use Rattle.slab.specs.Slab.{ContainsKey};
 ghost use Rattle.x10_kinds.specs.declared.stop.Stop.TheVariants as stop;
-ghost use Rattle.x10_model.specs.declared.event.Event as event;
-ghost use Rattle.x10_model.specs.declared.event.Event.TheVariants.{Step};
 ghost use Rattle.x10_model.specs.Worlds as machine;
 ghost use Rattle.x10_world.specs.declared.fault.OpenFault.TheVariants as fault;
 ghost use Rattle.x10_place.specs.Opening.{IsNextKey};
 ghost use Rattle.x10_world.specs.Endings.{lines_in, lines_at};
-ghost use Rattle.x10_world.specs.Queries.{IsNoPlace, HasPlace, HasNoKey, IsNotFlying, IsFlyingTo, IsReportTo, IsPosted};
+ghost use Rattle.x10_world.specs.Queries.{IsNoPlace, HasPlace, HasNoKey, IsNotFlying, IsFlyingTo, IsReportTo, IsPosted, IsClosed};
 ghost use Rattle.x10_world.specs.Opening.{IsOpenedWorld, IsForbidden};
-ghost use Rattle.x10_world.specs.StandsForWorld.{StandsForWorld, KeepsSetting, IsHinderedAt, Makes, Runs, IsHaltedRun, Repeats, IsIdleNow, BeganLast, SentLast};
+ghost use Rattle.x10_world.specs.StandsForWorld.{StandsForWorld, KeepsSetting, Makes, IsIdleNow, BeganLast, SentLast};
+ghost use Rattle.x10_world.specs.Runs.{Runs, Reaches, StopsAt, IsHaltedAt, IsHaltedRun, Repeats, RepeatsThrough, IsHaltedStretch};
+ghost use Rattle.x10_world.specs.Rounds.{IsThereAt, IsQuiet};
 ghost use Rattle.x10_world.specs.Happenings.{Happened, IsStood, IsDone};
 ghost use Rattle.x10_world.specs.Flights.{flight_of, flies_to, IsNext};
 ghost use Rattle.x10_world.specs.Prompt.{MayEnd, WorksIn};
@@ -50,7 +50,7 @@ impl<'a> Model for World<'a> {
 impl<'a> World<'a> {
     /// Refuses where the world has stopped.
     #[inline(always)]
-    fn going(&self) -> Result<(), Stop>
+    pub(crate) fn going(&self) -> Result<(), Stop>
         ensures ok { IfOk result (λ _. self.now.stopped ≢ true) }
         ensures err { IfErr result (λ why. (why ≡ stop.Stopped) × (self.now.stopped ≡ true)) }
     {
@@ -66,10 +66,8 @@ impl<'a> World<'a> {
         requires { self.old.stopped ≢ true }
         ensures told { IfOk result (λ did. Happened self.old.places self.old.flights event did self.new.places self.new.flights) }
         ensures ok { IfOk result (λ _. (w : machine.World) → StandsForWorld self.old w → Makes self.old w event self.new) }
-        ensures err { IfErr result (λ _. (w : machine.World) → StandsForWorld self.old w → StandsForWorld self.new w) }
         ensures goes { IfOk result (λ _. self.new.stopped ≢ true) }
-        ensures stop { IfErr result (λ _. self.new.stopped ≡ true) }
-        ensures hindered { IfErr result (IsHinderedAt self.new event) }
+        ensures stops { IfErr result (λ why. StopsAt self.old event why self.new) }
         ensures kept { KeepsSetting self.old self.new }
     {
         let made = handle(self.verified, &mut self.places, &mut self.flights, event);
@@ -83,11 +81,11 @@ impl<'a> World<'a> {
     #[inline(always)]
     pub(crate) fn make(&mut self, events: &[Event]) -> (usize, Option<Stop>)
         requires { self.old.stopped ≢ true }
-        ensures runs { (w : machine.World) → StandsForWorld self.old w → Runs self.old w result.0 events.now self.new }
+        ensures runs { result.1 ≡ None → (w : machine.World) → StandsForWorld self.old w → Runs self.old w result.0 events.now self.new }
         ensures all { result.1 ≡ None → result.0 ≡ length events.now }
+        ensures goes { result.1 ≡ None → self.new.stopped ≢ true }
         ensures less { IfSome result.1 (λ _. result.0 < length events.now) }
-        ensures stop { IfSome result.1 (λ _. self.new.stopped ≡ true) }
-        ensures hindered { IfSome result.1 (λ why. (next : event.Event) × (slice_get events.now result.0 ≡ Some next) × IsHinderedAt self.new next why) }
+        ensures halted { IfSome result.1 (IsHaltedAt self.old events.now result.0 self.new) }
         ensures kept { KeepsSetting self.old self.new }
     {
         for done in 0..events.len() {
@@ -132,8 +130,9 @@ impl<'a> World<'a> {
     #[inline(always)]
     pub fn run(&mut self, events: &[Event]) -> Result<(), Stop>
         ensures all { IfOk result (λ _. (w : machine.World) → StandsForWorld self.old w → Runs self.old w (length events.now) events.now self.new) }
-        ensures some { (w : machine.World) → StandsForWorld self.old w → (n : ℕ) × Runs self.old w n events.now self.new }
+        ensures some { (w : machine.World) → StandsForWorld self.old w → (n : ℕ) × Reaches self.old w (take n events.now) self.new }
         ensures stopped { self.old.stopped ≡ true → (result ≡ Err stop.Stopped) × (self.new ≡ self.old) }
+        ensures goes { IfOk result (λ _. self.new.stopped ≢ true) }
         ensures hindered { self.old.stopped ≢ true → IfErr result (IsHaltedRun self.old events.now self.new) }
         ensures stop { IfErr result (λ _. self.new.stopped ≡ true) }
         ensures kept { KeepsSetting self.old self.new }
@@ -164,7 +163,8 @@ impl<'a> World<'a> {
         ensures done { IfOk result (λ done. IsDone self.old event done self.new) }
         ensures left { IfErr result (λ _. (w : machine.World) → StandsForWorld self.old w → StandsForWorld self.new w) }
         ensures stopped { self.old.stopped ≡ true → (result ≡ Err stop.Stopped) × (self.new ≡ self.old) }
-        ensures hindered { self.old.stopped ≢ true → IfErr result (IsHinderedAt self.new event) }
+        ensures goes { IfOk result (λ _. self.new.stopped ≢ true) }
+        ensures hindered { self.old.stopped ≢ true → IfErr result (λ why. StopsAt self.old event why self.new) }
         ensures stop { IfErr result (λ _. self.new.stopped ≡ true) }
         ensures kept { KeepsSetting self.old self.new }
     {
@@ -198,13 +198,14 @@ impl<'a> World<'a> {
     /// something lives that the finish governs, or a frame is in flight. After a Stop, which comes as `run` says, the output is
     /// that of the steps before the one that was refused.
     pub fn run_activity(&mut self, place: u16, key: usize, most: u64) -> Result<u64, Stop>
-        ensures ok { IfOk result (λ n. (w : machine.World) → StandsForWorld self.old w → Repeats self.old w n place key self.new) }
+        ensures ok { IfOk result (λ n. (w : machine.World) → StandsForWorld self.old w → RepeatsThrough self.old w n place key self.new) }
         ensures some { (w : machine.World) → StandsForWorld self.old w → (n : ℕ) × (n ≤ most) × Repeats self.old w n place key self.new }
         ensures few { IfOk result (λ n. n ≤ most) }
         ensures all { IfOk result (λ n. n < most → IsIdleNow self.new place key ⊎ (BeganLast self.old place key n self.new ⊎ SentLast self.old self.new)) }
         ensures waits { IfOk result (λ n. n < most → self.new.flights.flying ≡ [] → (w : machine.World) (number : ℕ) → StandsForWorld self.new w → WorksIn w place key number → MayEnd w (record { home = place; number = number }) → BeganLast self.old place key n self.new ⊎ SentLast self.old self.new) }
         ensures stopped { self.old.stopped ≡ true → (result ≡ Err stop.Stopped) × (self.new ≡ self.old) }
-        ensures hindered { self.old.stopped ≢ true → IfErr result (IsHinderedAt self.new (Step place key)) }
+        ensures goes { IfOk result (λ _. self.new.stopped ≢ true) }
+        ensures hindered { self.old.stopped ≢ true → IfErr result (IsHaltedStretch self.old place key most self.new) }
         ensures stop { IfErr result (λ _. self.new.stopped ≡ true) }
         ensures kept { KeepsSetting self.old self.new }
     {
@@ -308,8 +309,53 @@ impl<'a> World<'a> {
         self.flights.next_to(place, from)
     }
 
-    /// Whether the run has ended: then no activity lives. Conversely, where none lives and no frame is in flight, it has ended.
+    /// Whether an event names an activity at a place, or a frame in flight to it.
+    #[inline(always)]
+    pub(crate) fn names_at(&self, place: u16, event: Event) -> bool
+        ensures { IsTrue result ↔ IsThereAt self.now place event }
+    {
+        match event {
+            Event::Step(at, key) => at == place && self.has_key(place, key),
+            Event::Deliver(number) => match self.flights.get(number) {
+                Some((to, _)) => to == place,
+                None => false,
+            },
+        }
+    }
+
+    /// An event that names an activity at a place or a frame in flight to it, and that place; none where there is none.
+    /// Linear in the place's keys.
+    fn event_at(&self, place: u16) -> Option<Event>
+        ensures some { IfSome result (IsThereAt self.now place) }
+        ensures none { result ≡ None → IsNext (flies_to self.now.flights.flying place) 0 None × HasNoKey self.now.places place 0 }
+    {
+        match (self.next_frame(place, 0), self.next_key(place, 0)) {
+            (Some(number), _) => Some(Event::Deliver(number)),
+            (None, Some(key)) => Some(Event::Step(place, key)),
+            (None, None) => None,
+        }
+    }
+
+    /// A place, and an event that names an activity there or a frame in flight to it; none where no frame is in flight and no
+    /// activity is anywhere. Linear in places and keys.
+    #[inline(never)]
+    pub(crate) fn any_event(&self) -> Option<(u16, Event)>
+        ensures some { IfSome result (λ at. IsThereAt self.now at.0 at.1) }
+        ensures none { result ≡ None → IsQuiet self.now }
+    {
+        let _ = &self.verified;
+        for place in 0..self.count() {
+            if let Some(event) = self.event_at(place) {
+                return Some((place, event));
+            }
+        }
+        None
+    }
+
+    /// Whether the run has ended, as place 0 sees it by its own counts and by what was reported to it: then no activity lives.
+    /// Conversely, where none lives and no frame is in flight, it has ended.
     pub fn closed(&self) -> bool
+        ensures value { IsTrue result ↔ IsClosed self.now.places }
         ensures ended { (w : machine.World) → StandsForWorld self.now w → IsTrue result → machine.IsOver w }
         ensures over { (w : machine.World) → StandsForWorld self.now w → machine.IsOver w → self.now.flights.flying ≡ [] → IsTrue result }
     {

@@ -1,8 +1,10 @@
-use Rattle.x10_world.proofs.Rounding.{runs_self}
+use Rattle.std.proofs.Common.{arith}
+use Rattle.x10_world.specs.declared.rounds.Halt.TheVariants as halt
+use Rattle.x10_world.proofs.Rounding.{err_is, in_none}
 use Rattle.x10_world.proofs.rounds.Rounds.event.Goals as goal
 
 pub returns-in_err-event : goal.returns-in_err-event
-returns-in_err-event c = record { runs = runs_self c.args.world.now }
+returns-in_err-event c = record { made = λ limit some. err_is c.from_residual.result halt.Memory _ _ c.from_residual.ensures.1 (0, omega arith, in_none c.args.world.now, c.requires.going) }
 
-pub returns-in_default : goal.returns-in_default
-returns-in_default c = record { runs = runs_self c.args.world.now }
+pub returns-in-None : goal.returns-in-None
+returns-in-None c = record { made = λ limit some. (record { few = omega arith; runs = in_none c.args.world.now; goes = c.requires.going }, (λ e. c.in_ok-event.ensures.none c.in-None.is)) }

@@ -1,8 +1,10 @@
-use Rattle.x10_world.proofs.Rounding.{runs_self}
+use Rattle.std.proofs.Common.{arith}
+use Rattle.x10_world.specs.declared.rounds.Halt.TheVariants as halt
+use Rattle.x10_world.proofs.Rounding.{err_is, in_none}
 use Rattle.x10_world.proofs.rounds.Rounds.go_on.Goals as goal
 
-pub returns-in_err-work : goal.returns-in_err-work
-returns-in_err-work c = record { runs = runs_self c.args.world.now }
+pub returns-in_err-place : goal.returns-in_err-place
+returns-in_err-place c = record { made = err_is c.from_residual.result halt.Memory _ _ c.from_residual.ensures.1 (0, omega arith, in_none c.args.world.now, c.requires.going) }
 
-pub returns-in_default : goal.returns-in_default
-returns-in_default c = record { runs = runs_self c.args.world.now }
+pub returns-in-None : goal.returns-in-None
+returns-in-None c = record { made = (record { few = omega arith; runs = in_none c.args.world.now; goes = c.requires.going }, (λ e. c.in_ok-place.ensures.none c.in-None.is)) }
