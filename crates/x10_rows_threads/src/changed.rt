@@ -1,5 +1,5 @@
 //! Logs of a run in which one thing was changed.
-use crate::runs::{assembled, audited, program, run};
+use crate::runs::{ACROSS, assembled, audited, program, run};
 use std::alloc::Global;
 use std::sync::{Arc, Wait};
 use std::test::*;
@@ -126,21 +126,22 @@ pub(crate) fn make_change(
     }
 }
 
-/// The log of a new run of three places.
+/// The log of a new run.
 fn log_of<R: Threads + Wait + Sync>(
     rt: &R,
     alloc: Global,
     verified: &Verified,
+    places: u16,
 ) -> Result<Vec<Turn>, Fail> {
-    match run(rt, alloc, verified, 3, 1_000) {
+    match run(rt, alloc, verified, places, 1_000) {
         Ok(report) => Ok(report.log),
         Err(_) => Err("there is no report".into()),
     }
 }
 
-/// What the audit says of a log at three places, if it refuses it.
-fn refusal(alloc: Global, verified: &Verified, log: &[Turn]) -> Option<AuditFault> {
-    match audited(alloc, verified, 3, log) {
+/// What the audit says of a log, if it refuses it.
+fn refusal(alloc: Global, verified: &Verified, places: u16, log: &[Turn]) -> Option<AuditFault> {
+    match audited(alloc, verified, places, log) {
         Some(Err(fault)) => Some(fault),
         _ => None,
     }
@@ -162,9 +163,9 @@ fn is_right(what: Change, at: Option<usize>, fault: Option<AuditFault>) -> bool 
 fn is_told<R: Threads + Wait + Sync>(rt: &R, alloc: Global, what: Change) -> Result<bool, Fail> {
     let bytes = assembled(alloc, AWAY)?;
     let verified = program(alloc, &bytes)?;
-    let mut log = log_of(rt, alloc, &verified)?;
+    let mut log = log_of(rt, alloc, &verified, 3)?;
     let at = make_change(alloc, &mut log, what)?;
-    Ok(is_right(what, at, refusal(alloc, &verified, &log)))
+    Ok(is_right(what, at, refusal(alloc, &verified, 3, &log)))
 }
 
 #[test]
@@ -180,5 +181,27 @@ fn changed_logs(rt: HostRuntime) -> Result<(), Fail> {
     for what in changes {
         assert!(rt; is_told(&rt, rt.alloc(), what)?, "{what:?}");
     }
+    Ok(())
+}
+
+/// Whether the last turn of a log is one of place 0 that took a frame and made no step.
+fn ends_with_a_frame(log: &[Turn]) -> bool {
+    match log.last() {
+        Some(turn) => turn.place == 0 && turn.taken.len() == 1 && turn.keys.is_empty(),
+        None => false,
+    }
+}
+
+#[test]
+fn last_report_in_flight(rt: HostRuntime) -> Result<(), Fail> {
+    let bytes = assembled(rt.alloc(), ACROSS)?;
+    let verified = program(rt.alloc(), &bytes)?;
+    let mut log = log_of(&rt, rt.alloc(), &verified, 2)?;
+    let whole = audited(rt.alloc(), &verified, 2, &log);
+    assert!(rt; matches!(whole, Some(Ok(_))));
+    assert!(rt; ends_with_a_frame(&log));
+    log.pop();
+    let cut = refusal(rt.alloc(), &verified, 2, &log);
+    assert!(rt; cut == Some(AuditFault::Open));
     Ok(())
 }

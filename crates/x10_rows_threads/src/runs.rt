@@ -50,6 +50,22 @@ end
 entry 1
 ";
 
+/// Main sends an activity to place 1, which prints 5, and ends.
+pub(crate) const ACROSS: &str = "places 2
+int 5
+func 1 0 none
+INTK 0 0
+PRINT 0
+RET 0
+end
+func 1 0 none
+PLACEK 0 1
+ATA 0 0 0
+RET 0
+end
+entry 1
+";
+
 /// The image of a program that is given as text.
 pub(crate) fn assembled(alloc: Global, text: &str) -> Result<Vec<u8>, Fail> {
     Ok(assemble(alloc, text)?)

@@ -1,6 +1,6 @@
 //! Logs that are compared with what the worker of their place kept.
 use crate::changed::{Change, make_change};
-use crate::runs::{assembled, printed, program};
+use crate::runs::{ACROSS, assembled, printed, program};
 use std::alloc::Global;
 use std::sync::Wait;
 use std::test::*;
@@ -26,8 +26,8 @@ entry 1
 
 /// What the worker of one place kept, and the log of its turns.
 #[derive(Drop)]
-struct Kept {
-    trails: Vec<Trail>,
+struct Kept<'a> {
+    trails: Vec<Trail<'a>>,
     log: Vec<Turn>,
 }
 
@@ -71,13 +71,35 @@ impl Port for Closed {
     fn end(&self, _how: End) {}
 }
 
+/// A port at which nobody waits: where there is nothing to take, the run has ended.
+#[derive(Drop)]
+struct Brief<'a, R: Wait> {
+    desk: Desk<'a, R>,
+}
+
+impl<R: Wait> Port for Brief<'_, R> {
+    fn take(&self, place: u16) -> Take {
+        self.desk.take(place)
+    }
+
+    fn post(&self, turns: Vec<Turn>) -> Result<(), PostFault> {
+        self.desk.post(turns)
+    }
+
+    fn wait(&self, _place: u16) -> Signal {
+        Signal::Finished
+    }
+
+    fn end(&self, _how: End) {}
+}
+
 /// The work of the only place, with a port.
-fn worked(
+fn worked<'a>(
     rt: &impl Wait,
     alloc: Global,
-    verified: &Verified,
+    verified: &'a Verified<'a>,
     port: &impl Port,
-) -> Option<Result<Trail, Halt>> {
+) -> Option<Result<Trail<'a>, Halt>> {
     if verified.image().least() > 1 {
         return None;
     }
@@ -85,7 +107,11 @@ fn worked(
 }
 
 /// What the worker of the only place keeps in a new run.
-fn run_alone<R: Wait>(rt: &R, alloc: Global, verified: &Verified) -> Result<Kept, Fail> {
+fn run_alone<'a, R: Wait>(
+    rt: &R,
+    alloc: Global,
+    verified: &'a Verified<'a>,
+) -> Result<Kept<'a>, Fail> {
     let mail = Mail::new(alloc, 1, 1_000)?;
     let desk = Desk::new(rt, &mail);
     let Some(Ok(trail)) = worked(rt, alloc, verified, &desk) else {
@@ -97,11 +123,27 @@ fn run_alone<R: Wait>(rt: &R, alloc: Global, verified: &Verified) -> Result<Kept
     Ok(Kept { trails, log })
 }
 
-/// Says of all trails that the root finish may not end.
-fn keep_open(trails: &mut [Trail]) {
-    for at in 0..trails.len() {
-        trails[at].closed = false;
+/// What the workers of two places keep, where the second one begins after the first has ended.
+fn run_in_turn<'a, R: Wait>(
+    rt: &R,
+    alloc: Global,
+    verified: &'a Verified<'a>,
+) -> Result<Kept<'a>, Fail> {
+    if verified.image().least() > 2 {
+        return Err("there are two places".into());
     }
+    let mail = Mail::new(alloc, 2, 1_000)?;
+    let desk = Desk::new(rt, &mail);
+    let brief = Brief { desk };
+    let mut trails = Vec::new(alloc);
+    for id in 0..2u16 {
+        match work(rt, alloc, verified, id, 2, &brief, &Open) {
+            Ok(trail) => trails.push(trail)?,
+            Err(_) => return Err("there is no trail".into()),
+        }
+    }
+    let log = mail.into_hall().into_log();
+    Ok(Kept { trails, log })
 }
 
 /// Whether a fault is the one that a change of the log calls for; a turn that isn't there is missed after the last one.
@@ -118,10 +160,10 @@ fn is_right(what: Change, at: Option<usize>, turns: usize, fault: Option<AuditFa
 fn is_told<R: Wait>(rt: &R, alloc: Global, what: Change) -> Result<bool, Fail> {
     let bytes = assembled(alloc, OWN)?;
     let verified = program(alloc, &bytes)?;
-    let mut kept = run_alone(rt, alloc, &verified)?;
-    let at = make_change(alloc, &mut kept.log, what)?;
-    let fault = weave(alloc, &kept.log, &kept.trails).err();
-    Ok(is_right(what, at, kept.log.len(), fault))
+    let Kept { trails, mut log } = run_alone(rt, alloc, &verified)?;
+    let at = make_change(alloc, &mut log, what)?;
+    let fault = weave(alloc, &log, &trails).err();
+    Ok(is_right(what, at, log.len(), fault))
 }
 
 #[test]
@@ -155,17 +197,6 @@ fn changed(rt: HostRuntime) -> Result<(), Fail> {
 }
 
 #[test]
-fn still_open(rt: HostRuntime) -> Result<(), Fail> {
-    let bytes = assembled(rt.alloc(), OWN)?;
-    let verified = program(rt.alloc(), &bytes)?;
-    let mut kept = run_alone(&rt, rt.alloc(), &verified)?;
-    keep_open(&mut kept.trails);
-    let fault = weave(rt.alloc(), &kept.log, &kept.trails).err();
-    assert!(rt; fault == Some(AuditFault::Open));
-    Ok(())
-}
-
-#[test]
 fn other_ports(rt: HostRuntime) -> Result<(), Fail> {
     let bytes = assembled(rt.alloc(), OWN)?;
     let verified = program(rt.alloc(), &bytes)?;
@@ -173,5 +204,27 @@ fn other_ports(rt: HostRuntime) -> Result<(), Fail> {
     assert!(rt; matches!(full, Some(Err(Halt::Turns))));
     let closed = worked(&rt, rt.alloc(), &verified, &Closed);
     assert!(rt; matches!(closed, Some(Err(Halt::Ended))));
+    Ok(())
+}
+
+/// Whether the last turn of a log is one of a place.
+fn ends_at(log: &[Turn], place: u16) -> bool {
+    match log.last() {
+        Some(turn) => turn.place == place,
+        None => false,
+    }
+}
+
+#[test]
+fn last_turn_elsewhere(rt: HostRuntime) -> Result<(), Fail> {
+    let bytes = assembled(rt.alloc(), ACROSS)?;
+    let verified = program(rt.alloc(), &bytes)?;
+    let Kept { trails, mut log } = run_in_turn(&rt, rt.alloc(), &verified)?;
+    let whole = weave(rt.alloc(), &log, &trails).err();
+    assert!(rt; whole == Some(AuditFault::Open));
+    assert!(rt; ends_at(&log, 1));
+    log.pop();
+    let cut = weave(rt.alloc(), &log, &trails).err();
+    assert!(rt; cut == Some(AuditFault::Differs(log.len())));
     Ok(())
 }

@@ -8,20 +8,22 @@ use Rattle.x10_model.specs.Structure.{bounds_of}
 use Rattle.x10_model.specs.Places.{Line}
 use Rattle.x10_model.specs.Worlds.{World, IsOver}
 use Rattle.x10_model.proofs.Lists.{set_off}
-use Rattle.x10_verify.specs.Certified.{Certified}
+use Rattle.x10_verify.specs.Certified.{Certified, IsCertified}
 use Rattle.x10_place.specs.StandsFor.{PlaceState, store_of, line_as}
 use Rattle.x10_place.specs.Stays.{IsDoneHere}
 use Rattle.x10_hall.specs.declared.turn.Turn.{Turn}
 use Rattle.x10_world.specs.Endings.{lines_at}
 use Rattle.x10_world.specs.Flights.{FlightsState}
-use Rattle.x10_world.specs.Opening.{IsOpened, AreOpened, IsOpenedWorld}
+use Rattle.x10_world.specs.Opening.{IsOpened, AreOpened, IsOpenedWorld, IsForbidden}
+use Rattle.x10_world.specs.Queries.{IsClosed}
 use Rattle.x10_world.specs.StandsForWorld.{WorldState, StandsForWorld, world_of, IsWorld}
 use Rattle.x10_world.proofs.Asking.{over_is}
 use Rattle.x10_world.proofs.Beginning.{opening_stands, opened_world}
 use Rattle.x10_world.proofs.Lists.{set_here, set_either}
 use Rattle.x10_workers.specs.declared.trail.Trail.{Trail}
 use Rattle.x10_workers.specs.Plays.{Plays, plays_none, plays_more, IsPlayed}
-use Rattle.x10_workers.specs.Trails.{Leads, EndsAs, IsTrail, AreTrails}
+use Rattle.x10_workers.specs.Trails.{Leads, EndsAs, IsTrail}
+use Rattle.x10_workers.specs.Workings.{IsTrailOf, AreTrails}
 use Rattle.x10_workers.specs.Weaves.{Woven, nothing_woven, Weaves, WeavesAll, weaves_none, weaves_more, AreAllWoven}
 use Rattle.x10_workers.proofs.Flying.{IsTable}
 use Rattle.x10_workers.proofs.Playing.{played}
@@ -52,6 +54,39 @@ same_maps f g (x ∷ xs) (y ∷ ys) long each =
     let first = each 0 x refl in
     ap (λ z. z ∷ map f xs) (first.2 ∙ ap g (same_Some first.0 y (sym first.1))) ∙ ap (λ zs. g y ∷ zs) (same_maps f g xs ys (omega (arith, long)) (λ i z is. each (suc i) z is))
 
+-- trails, whoever holds them: each is one, of a module that the verifier accepts
+abbrev pub AreSound : List Trail → Type 0
+AreSound trails = (id : ℕ) (t : Trail) → slice_get trails id ≡ Some t → IsTrail t × IsCertified t.certified
+
+-- a trail of a place, one of so many of a module, begins where that place does
+pub record Begins (c : Certified) (places id : ℕ) (t : Trail) : Type 0 where
+  pub first : PlaceState
+  pub opened : IsOpened c places id first
+  pub ends : EndsAs first t.turns t
+
+begins_as : (c : Certified) (places id : ℕ) (t : Trail) → IsTrail t → IsTrailOf c places id t → Begins c places id t
+begins_as c places id t trail of = record {
+  first = trail.first;
+  opened = subst (λ n. IsOpened c places n trail.first) of.id_is (subst (λ n. IsOpened c n t.id trail.first) of.places_are (subst (λ d. IsOpened d t.places t.id trail.first) of.certified_is trail.opened));
+  ends = trail.ends;
+}
+
+-- a trail for each place of a permitted number, of a module that the verifier accepts
+pub record AreBegun (c : Certified) (trails : List Trail) : Type 0 where
+  pub certified : IsCertified c
+  pub permitted : IsForbidden c (length trails) → ⊥
+  pub each : (id : ℕ) (t : Trail) → slice_get trails id ≡ Some t → Begins c (length trails) id t
+
+pub are_begun : (c : Certified) (trails : List Trail) (t : Trail) → AreSound trails → AreTrails c trails → slice_get trails 0 ≡ Some t → AreBegun c trails
+are_begun c trails t sound are is = record {
+  certified = subst (λ d. IsCertified d) of.certified_is (sound 0 t is).1;
+  permitted = λ f. (sound 0 t is).0.permitted (subst (λ d. IsForbidden d t.places) (sym of.certified_is) (subst (λ n. IsForbidden c n) (sym of.places_are) f));
+  each = λ id u there. begins_as c (length trails) id u (sound id u there).0 (are.each id u there);
+}
+  where
+    of : IsTrailOf c (length trails) 0 t
+    of = are.each 0 t is
+
 module _ (c : Certified) (trails : List Trail) (bounds-are : bounds_of c.program ≡ Ok c.bounds) where
   -- what of its trail a place has before it
   record Left (cursors : List ℕ) (id : ℕ) (p : PlaceState) : Type 0 where
@@ -59,7 +94,7 @@ module _ (c : Certified) (trails : List Trail) (bounds-are : bounds_of c.program
     trail : Trail
     cursor_is : slice_get cursors id ≡ Some cursor
     trail_is : slice_get trails id ≡ Some trail
-    ends : EndsAs p (drop cursor trail.turns.items) trail
+    ends : EndsAs p (drop cursor trail.turns) trail
 
   -- so far the log leads a world from its beginning, and each place goes on as the rest of its trail
   record Follows (x : Woven) (log : List Turn) : Type 0 where
@@ -82,13 +117,13 @@ module _ (c : Certified) (trails : List Trail) (bounds-are : bounds_of c.program
     before : Left x.cursors t.place here.0
     before = f.left t.place here.0 here.1
 
-    ends : EndsAs here.0 (drop w.cursor w.next.trail.turns.items) w.next.trail
+    ends : EndsAs here.0 (drop w.cursor w.next.trail.turns) w.next.trail
     ends =
-        subst (λ n. EndsAs here.0 (drop n w.next.trail.turns.items) w.next.trail) (same_Some before.cursor w.cursor (sym before.cursor_is ∙ w.next.cursor_is))
-        (subst (λ r. EndsAs here.0 (drop before.cursor r.turns.items) r) (same_Some before.trail w.next.trail (sym before.trail_is ∙ w.next.trail_is)) before.ends)
+        subst (λ n. EndsAs here.0 (drop n w.next.trail.turns) w.next.trail) (same_Some before.cursor w.cursor (sym before.cursor_is ∙ w.next.cursor_is))
+        (subst (λ r. EndsAs here.0 (drop before.cursor r.turns) r) (same_Some before.trail w.next.trail (sym before.trail_is ∙ w.next.trail_is)) before.ends)
 
-    next : Leads here.0 (w.own ∷ drop (suc w.cursor) w.next.trail.turns.items) ends.last
-    next = subst (λ ts. Leads here.0 ts ends.last) (drop_at_some w.next.trail.turns.items w.cursor w.own w.next.own_is) ends.leads
+    next : Leads here.0 (w.own ∷ drop (suc w.cursor) w.next.trail.turns) ends.last
+    next = subst (λ ts. Leads here.0 ts ends.last) (drop_at_some w.next.trail.turns w.cursor w.own w.next.own_is) ends.leads
 
     abbrev cursors : List ℕ
     cursors = slice_set x.cursors t.place (w.cursor + 1)
@@ -101,7 +136,7 @@ module _ (c : Certified) (trails : List Trail) (bounds-are : bounds_of c.program
       trail_is = w.next.trail_is;
       ends = record {
         last = ends.last;
-        leads = (let more : suc w.cursor ≡ w.cursor + 1 = omega arith in subst (λ n. Leads next.0 (drop n w.next.trail.turns.items) ends.last) more next.2);
+        leads = (let more : suc w.cursor ≡ w.cursor + 1 = omega arith in subst (λ n. Leads next.0 (drop n w.next.trail.turns) ends.last) more next.2);
         lines = ends.lines;
         closed = ends.closed;
       };
@@ -141,20 +176,20 @@ module _ (c : Certified) (trails : List Trail) (bounds-are : bounds_of c.program
   record Firsts (ts : List Trail) (from : ℕ) : Type 0 where
     places : List PlaceState
     count_is : length places ≡ length ts
-    each : (id : ℕ) (p : PlaceState) → slice_get places id ≡ Some p → (t : Trail) × (slice_get ts id ≡ Some t) × IsOpened c (length trails) (from + id) p × EndsAs p t.turns.items t
+    each : (id : ℕ) (p : PlaceState) → slice_get places id ≡ Some p → (t : Trail) × (slice_get ts id ≡ Some t) × IsOpened c (length trails) (from + id) p × EndsAs p t.turns t
 
-  firsts_more : (t : Trail) (ts : List Trail) (from : ℕ) → IsTrail c (length trails) (from + 0) t → Firsts ts (suc from) → Firsts (t ∷ ts) from
+  firsts_more : (t : Trail) (ts : List Trail) (from : ℕ) → Begins c (length trails) (from + 0) t → Firsts ts (suc from) → Firsts (t ∷ ts) from
   firsts_more t ts from this rest = record { places = this.first ∷ rest.places; count_is = ap suc rest.count_is; each = go }
     where
-      go : (id : ℕ) (p : PlaceState) → slice_get (this.first ∷ rest.places) id ≡ Some p → (u : Trail) × (slice_get (t ∷ ts) id ≡ Some u) × IsOpened c (length trails) (from + id) p × EndsAs p u.turns.items u
-      go zero p is = let same : this.first ≡ p = same_Some this.first p is in (t, refl, subst (λ q. IsOpened c (length trails) (from + 0) q) same this.opened, subst (λ q. EndsAs q t.turns.items t) same this.ends)
+      go : (id : ℕ) (p : PlaceState) → slice_get (this.first ∷ rest.places) id ≡ Some p → (u : Trail) × (slice_get (t ∷ ts) id ≡ Some u) × IsOpened c (length trails) (from + id) p × EndsAs p u.turns u
+      go zero p is = let same : this.first ≡ p = same_Some this.first p is in (t, refl, subst (λ q. IsOpened c (length trails) (from + 0) q) same this.opened, subst (λ q. EndsAs q t.turns t) same this.ends)
       go (suc id) p is = (let r = rest.each id p is in let same : suc from + id ≡ from + suc id = omega arith in (r.0, r.1, subst (λ n. IsOpened c (length trails) n p) same r.2, r.3))
 
-  firsts : (ts : List Trail) (from : ℕ) → ((id : ℕ) (t : Trail) → slice_get ts id ≡ Some t → IsTrail c (length trails) (from + id) t) → Firsts ts from
+  firsts : (ts : List Trail) (from : ℕ) → ((id : ℕ) (t : Trail) → slice_get ts id ≡ Some t → Begins c (length trails) (from + id) t) → Firsts ts from
   firsts [] from each = record { places = []; count_is = refl; each = λ id p is. absurd cc }
-  firsts (t ∷ ts) from each = firsts_more t ts from (each 0 t refl) (firsts ts (suc from) (λ id u is. let same : from + suc id ≡ suc from + id = omega arith in subst (λ n. IsTrail c (length trails) n u) same (each (suc id) u is)))
+  firsts (t ∷ ts) from each = firsts_more t ts from (each 0 t refl) (firsts ts (suc from) (λ id u is. let same : from + suc id ≡ suc from + id = omega arith in subst (λ n. Begins c (length trails) n u) same (each (suc id) u is)))
 
-  begins : AreTrails c trails → Follows (nothing_woven (length trails)) []
+  begins : AreBegun c trails → Follows (nothing_woven (length trails)) []
   begins are = record {
     first = world_of c places flights false;
     opened = record { program = refl; bounds = refl; places = opened; stopped = refl; flying = refl; posted = refl; stands = opening_stands c (length trails) (world_of c places flights false) are.certified some refl refl opened refl };
@@ -168,7 +203,7 @@ module _ (c : Certified) (trails : List Trail) (bounds-are : bounds_of c.program
   }
     where
       made : Firsts trails 0
-      made = firsts trails 0 (λ id t is. let same : id ≡ 0 + id = omega arith in subst (λ n. IsTrail c (length trails) n t) same (are.each id t is))
+      made = firsts trails 0 (λ id t is. let same : id ≡ 0 + id = omega arith in subst (λ n. Begins c (length trails) n t) same (are.each id t is))
 
       places : List PlaceState
       places = made.places
@@ -202,14 +237,14 @@ module _ (c : Certified) (trails : List Trail) (bounds-are : bounds_of c.program
   record IsAtEnd (id : ℕ) (p : PlaceState) : Type 0 where
     trail : Trail
     trail_is : slice_get trails id ≡ Some trail
-    lines : map line_as trail.lines.items ≡ map line_as p.lines
+    lines : map line_as trail.lines ≡ map line_as p.lines
     closed : IsTrue trail.closed ↔ ((p.id ≡ 0) × IsDoneHere (store_of p) 0)
 
   at_end : (y : Woven) (log : List Turn) (f : Follows y log) → AreAllWoven trails y → (id : ℕ) (p : PlaceState) → slice_get f.places id ≡ Some p → IsAtEnd id p
   at_end y log f all id p is =
       let l = f.left id p is in
-      let long : l.cursor ≡ length l.trail.turns.items = same_Some l.cursor (length l.trail.turns.items) (sym l.cursor_is ∙ all id l.trail l.trail_is) in
-      let none : drop l.cursor l.trail.turns.items ≡ [] = drop_all l.cursor l.trail.turns.items (omega (arith, long)) in
+      let long : l.cursor ≡ length l.trail.turns = same_Some l.cursor (length l.trail.turns) (sym l.cursor_is ∙ all id l.trail l.trail_is) in
+      let none : drop l.cursor l.trail.turns ≡ [] = drop_all l.cursor l.trail.turns (omega (arith, long)) in
       let last : l.ends.last ≡ p = subst (λ ts. Leads p ts l.ends.last) none l.ends.leads in
       record {
         trail = l.trail;
@@ -219,9 +254,9 @@ module _ (c : Certified) (trails : List Trail) (bounds-are : bounds_of c.program
       }
 
   -- a log that is found in trails, with nothing left in them, is a run, whose outputs are the trails' lines
-  pub woven_is_played : (y : Woven) (log : List Turn) (outputs : List (List Line)) (t : Trail) → AreTrails c trails → WeavesAll trails (nothing_woven (length trails)) log y → AreAllWoven trails y → slice_get trails 0 ≡ Some t → IsTrue t.closed → outputs ≡ map (λ u. map line_as u.lines.items) trails
+  pub woven_is_played : (y : Woven) (log : List Turn) (outputs : List (List Line)) (t : Trail) → AreBegun c trails → WeavesAll trails (nothing_woven (length trails)) log y → AreAllWoven trails y → slice_get trails 0 ≡ Some t → IsTrue t.closed → outputs ≡ map (λ u. map line_as u.lines) trails
       → IsPlayed c (length trails) log outputs
-  woven_is_played y log outputs t are weaves all first closed lines = played c (length trails) log outputs f.first (world_of c f.places f.flights false) f.opened f.plays over (lines ∙ sym same)
+  woven_is_played y log outputs t are weaves all first closed lines = played c (length trails) log outputs f.first (world_of c f.places f.flights false) f.opened f.plays at_home over (lines ∙ sym same)
     where
       f : Follows y log
       f = follows_all (nothing_woven (length trails)) y log (begins are) weaves
@@ -229,10 +264,13 @@ module _ (c : Certified) (trails : List Trail) (bounds-are : bounds_of c.program
       main : (p : PlaceState) × (slice_get f.places 0 ≡ Some p)
       main = (let lt = slice_get_within trails 0 t first in let count = f.count_is in some_at f.places 0 (omega (arith, lt, count)))
 
+      at_home : IsClosed f.places
+      at_home p is = let e = at_end y log f all 0 p is in (e.closed.0 (subst (λ (u : Trail). IsTrue u.closed) (same_Some t e.trail (sym first ∙ e.trail_is)) closed)).1
+
       over : (w : World) → StandsForWorld (world_of c f.places f.flights false) w → IsOver w
       over w stands =
           let e = at_end y log f all 0 main.0 main.1 in
           (over_is (world_of c f.places f.flights false) (world_of c f.places f.flights false) c.program c.bounds main.0 e.trail.closed refl f.going.belong main.1 e.closed w stands).0 (subst (λ (u : Trail). IsTrue u.closed) (same_Some t e.trail (sym first ∙ e.trail_is)) closed)
 
-      same : lines_at f.places ≡ map (λ u. map line_as u.lines.items) trails
-      same = same_maps (λ p. map line_as p.lines) (λ u. map line_as u.lines.items) f.places trails f.count_is (λ id p is. let e = at_end y log f all id p is in (e.trail, e.trail_is, sym e.lines))
+      same : lines_at f.places ≡ map (λ u. map line_as u.lines) trails
+      same = same_maps (λ p. map line_as p.lines) (λ u. map line_as u.lines) f.places trails f.count_is (λ id p is. let e = at_end y log f all id p is in (e.trail, e.trail_is, sym e.lines))

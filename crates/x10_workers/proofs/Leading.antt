@@ -22,7 +22,8 @@ use Rattle.x10_workers.specs.declared.trail.Trail.{Trail}
 use Rattle.x10_model.proofs.Found.{head_is}
 use Rattle.x10_world.specs.StandsForWorld.{IsMade}
 use Rattle.x10_world.proofs.Lists.{replicate_more}
-use Rattle.x10_workers.specs.Trails.{frames_in, frames_out, TakesIn, TakesEach, StepsBy, by_step, by_stride, StepsEach, TurnLeads, Leads, GoesOn}
+use Rattle.x10_workers.specs.Trails.{frames_in, frames_out, TakesIn, TakesEach, StepsBy, by_step, by_stride, StepsEach, TurnLeads, Leads}
+use Rattle.x10_workers.specs.Workings.{GoesOn}
 use Rattle.x10_workers.specs.Looms.{flying_as}
 use Rattle.x10_workers.specs.Weaves.{Woven, TakesOff, TakesOffEach, IsTurnOf, IsNext, Weaves, WeavesAll, weaves_more, all_flying}
 
@@ -191,11 +192,11 @@ next_past_trails trails cursors place cursor own past n = (let lt = slice_get_wi
 pub next_past_cursors : (trails : List Trail) (cursors : List ℕ) (place cursor : ℕ) (own : OwnTurn) → length cursors ≤ place → IsNext trails cursors place cursor own → ⊥
 next_past_cursors trails cursors place cursor own past n = (let lt = slice_get_within cursors place cursor n.cursor_is in omega (arith, past, lt))
 
-pub next_past_turns : (trails : List Trail) (cursors : List ℕ) (place cursor at : ℕ) (trail : Trail) (own : OwnTurn) → slice_get trails place ≡ Some trail → slice_get cursors place ≡ Some at → length trail.turns.items ≤ at → IsNext trails cursors place cursor own → ⊥
+pub next_past_turns : (trails : List Trail) (cursors : List ℕ) (place cursor at : ℕ) (trail : Trail) (own : OwnTurn) → slice_get trails place ≡ Some trail → slice_get cursors place ≡ Some at → length trail.turns ≤ at → IsNext trails cursors place cursor own → ⊥
 next_past_turns trails cursors place cursor at trail own is cursor-is past n =
     let same : n.trail ≡ trail = same_Some n.trail trail (sym n.trail_is ∙ is) in
     let there : cursor ≡ at = same_Some cursor at (sym n.cursor_is ∙ cursor-is) in
-    let lt = slice_get_within trail.turns.items cursor own (subst (λ (t : Trail). slice_get t.turns.items cursor ≡ Some own) same n.own_is) in
+    let lt = slice_get_within trail.turns cursor own (subst (λ (t : Trail). slice_get t.turns cursor ≡ Some own) same n.own_is) in
     omega (arith, past, lt, there)
 
 -- what makes a turn of the log one of its place's trail
@@ -217,7 +218,7 @@ next_same : (trails : List Trail) (cursors : List ℕ) (place m n : ℕ) (own ot
 next_same trails cursors place m n own other a b =
     let same : a.trail ≡ b.trail = same_Some a.trail b.trail (sym a.trail_is ∙ b.trail_is) in
     let there : m ≡ n = same_Some m n (sym a.cursor_is ∙ b.cursor_is) in
-    same_Some own other (sym a.own_is ∙ ap (λ (t : Trail). slice_get t.turns.items m) same ∙ ap (λ k. slice_get b.trail.turns.items k) there ∙ b.own_is)
+    same_Some own other (sym a.own_is ∙ ap (λ (t : Trail). slice_get t.turns m) same ∙ ap (λ k. slice_get b.trail.turns k) there ∙ b.own_is)
 
 pub none_next : (trails : List Trail) (x after : Woven) (t : Turn) → ((cursor : ℕ) (own : OwnTurn) → IsNext trails x.cursors t.place cursor own → ⊥) → Weaves trails x t after → ⊥
 none_next trails x after t none w = none w.cursor w.own w.next

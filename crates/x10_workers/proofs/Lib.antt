@@ -5,4 +5,5 @@ mod Striding
 mod Woven
 mod Following
 mod Gathering
+mod Replaying
 mod Reporting

@@ -14,6 +14,7 @@ use Rattle.x10_hall.specs.declared.turn.Turn.{Turn}
 use Rattle.x10_world.specs.declared.done.Done.{Done}
 use Rattle.x10_world.specs.Endings.{AreLinesOf, lines_at}
 use Rattle.x10_world.specs.Opening.{IsOpenedWorld}
+use Rattle.x10_world.specs.Queries.{IsClosed}
 use Rattle.x10_world.specs.StandsForWorld.{WorldState, StandsForWorld, KeepsSetting, setting_of}
 use Rattle.x10_world.proofs.Running.{within, run_more, setting_kept, keeps_more, keeps_self}
 use Rattle.x10_world.proofs.Finishing.{lines_are, map_length}
@@ -82,12 +83,13 @@ pub plays_next : (x y z : WorldState) (turns : List Turn) (n : ℕ) (t : Turn) �
 plays_next x y z turns n t more before one = subst (λ ts. Plays x ts z) (sym more) (plays_more (take n turns) t y z before one)
 
 -- a log that a world plays from its beginning to an end is a run of the machine
-pub played : (c : Certified) (count : ℕ) (log : List Turn) (outputs : List (List Line)) (x y : WorldState) → IsOpenedWorld c count x → Plays x log y → ((w : World) → StandsForWorld y w → IsOver w) → outputs ≡ lines_at y.places → IsPlayed c count log outputs
-played c count log outputs x y opened plays over lines = record {
+pub played : (c : Certified) (count : ℕ) (log : List Turn) (outputs : List (List Line)) (x y : WorldState) → IsOpenedWorld c count x → Plays x log y → IsClosed y.places → ((w : World) → StandsForWorld y w → IsOver w) → outputs ≡ lines_at y.places → IsPlayed c count log outputs
+played c count log outputs x y opened plays closed over lines = record {
   first = x;
   final = y;
   opened = opened;
   plays = plays;
+  closed = closed;
   key = key;
   last = made.last;
   run = run;

@@ -18,6 +18,7 @@ use Rattle.x10_world.specs.Endings.{AreLinesOf}
 use Rattle.x10_world.specs.Flights.{Flight, flight_of}
 use Rattle.x10_world.specs.Happenings.{IsDone}
 use Rattle.x10_world.specs.Opening.{IsOpenedWorld}
+use Rattle.x10_world.specs.Queries.{IsClosed}
 use Rattle.x10_world.specs.StandsForWorld.{WorldState, StandsForWorld, KeepsSetting, Makes}
 
 -- a turn as the machine sees it
@@ -82,14 +83,16 @@ pub data Plays (x : WorldState) : List Turn → WorldState → Type 0 where
   plays_none : Plays x [] x
   plays_more : (turns : List Turn) (t : Turn) (y z : WorldState) → Plays x turns y → PlaysTurn y t z → Plays x (turns ++ t ∷ []) z
 
--- The turns of a log lead a world of so many places from its beginning to one whose run has ended, and their events are a run
--- of the machine from its opening, by the rule that a finish ends only when all that it governs has: none goes wrong, and no
--- activity takes more steps than its bound. The outputs are those of its last world.
+-- The turns of a log lead a world of so many places from its beginning to one whose run has ended: there the root finish may
+-- end, by what its home has counted and was told, and nothing lives. Their events are a run of the machine from its opening, by
+-- the rule that a finish ends only when all that it governs has: none goes wrong, and no activity takes more steps than its
+-- bound. The outputs are those of its last world.
 pub record IsPlayed (c : Certified) (count : ℕ) (log : List Turn) (outputs : List (List Line)) : Type 0 where
   pub first : WorldState
   pub final : WorldState
   pub opened : IsOpenedWorld c count first
   pub plays : Plays first log final
+  pub closed : IsClosed final.places
   pub key : ℕ
   pub last : World
   pub run : Run Ideal (record { program = c.program; places = count }) (WithinBounds c.bounds) (opening (record { program = c.program; places = count }) key)

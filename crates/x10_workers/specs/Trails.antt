@@ -1,6 +1,7 @@
--- What a worker keeps of its place: the turns that lead from the place's beginning to where it is.
-use Rattle.std.specs.Prelude.{◌≡◌, ◌≢◌, ◌↔◌, ℕ, List, [], ◌∷◌, ◌++◌, Option, Some, None, Result, IfOk, IsTrue, true, false, length, map, drop, slice_get}
-use Rattle.x10_verify.specs.Certified.{Certified, IsCertified}
+-- What a place keeps of what it did: turns that lead from its beginning to where it is.
+use Rattle.std.specs.Prelude.{◌≡◌, ◌≢◌, ◌↔◌, ℕ, Bool, List, [], ◌∷◌, ◌++◌, Option, Some, None, IsTrue, true, length, map, drop}
+use Rattle.x10_verify.specs.Certified.{Certified}
+use Rattle.x10_place.specs.declared.line.Line as place_line
 use Rattle.x10_place.specs.declared.place.Stepped.{Stepped}
 use Rattle.x10_place.specs.declared.place.Stepped.TheVariants as stepped
 use Rattle.x10_place.specs.declared.sent.Outgoing.{Outgoing}
@@ -12,10 +13,8 @@ use Rattle.x10_place.specs.Stretches.{IsStride}
 use Rattle.x10_hall.specs.Halls.{Frame, Numbered, frame_of, told}
 use Rattle.x10_world.specs.Opening.{IsOpened, IsForbidden}
 use Rattle.x10_world.specs.StandsForWorld.{IsMade}
-use Rattle.x10_workers.specs.declared.halt.Halt.{Halt}
+use Rattle.x10_workers.specs.declared.trail.Kept.{Kept}
 use Rattle.x10_workers.specs.declared.trail.OwnTurn.{OwnTurn}
-use Rattle.x10_workers.specs.declared.trail.Trail.{Trail}
-use Rattle.x10_workers.specs.declared.worker.Steps.{Steps}
 
 -- the frame that a step puts out, if there is one
 abbrev pub frame_in : Option Outgoing → List Frame
@@ -65,56 +64,30 @@ abbrev pub Leads : PlaceState → List OwnTurn → PlaceState → Type 0
 Leads p [] q = q ≡ p
 Leads p (t ∷ ts) q = (r : PlaceState) × TurnLeads p t r × Leads r ts q
 
+-- what callers see of a trail: the module, how many places the run has, the number of the place, its turns, all lines that it
+-- printed, and whether the root finish may end, as this place knows it
+pub record TrailState : Type 0 where
+  pub certified : Certified
+  pub places : ℕ
+  pub id : ℕ
+  pub turns : List OwnTurn
+  pub lines : List place_line.Line
+  pub closed : Bool
+
+-- the trail of a place, one of so many of a module, of which something was kept
+abbrev pub trail_of : Certified → ℕ → Kept → TrailState
+trail_of c places kept = record { certified = c; places = places; id = kept.id; turns = kept.turns.items; lines = kept.lines.items; closed = kept.closed }
+
 -- From a place, turns lead to one that has printed a trail's lines, and where the root finish may end if the trail says so.
-pub record EndsAs (p : PlaceState) (turns : List OwnTurn) (t : Trail) : Type 0 where
+pub record EndsAs (p : PlaceState) (turns : List OwnTurn) (t : TrailState) : Type 0 where
   pub last : PlaceState
   pub leads : Leads p turns last
-  pub lines : map line_as t.lines.items ≡ map line_as last.lines
+  pub lines : map line_as t.lines ≡ map line_as last.lines
   pub closed : IsTrue t.closed ↔ ((last.id ≡ 0) × IsDoneHere (store_of last) 0)
 
--- All turns of a trail lead from the beginning of a place, one of so many of a module, to its end.
-pub record IsTrail (c : Certified) (places id : ℕ) (t : Trail) : Type 0 where
+-- All turns of a trail lead from the beginning of its place, one of a permitted number, to its end.
+pub record IsTrail (t : TrailState) : Type 0 where
+  pub permitted : IsForbidden t.certified t.places → ⊥
   pub first : PlaceState
-  pub opened : IsOpened c places id first
-  pub ends : EndsAs first t.turns.items t
-
--- a trail for each place of a run of a module
-pub record AreTrails (c : Certified) (trails : List Trail) : Type 0 where
-  pub certified : IsCertified c
-  pub permitted : IsForbidden c (length trails) → ⊥
-  pub each : (id : ℕ) (t : Trail) → slice_get trails id ≡ Some t → IsTrail c (length trails) id t
-
--- how the workers of so many places ended, by place: each with its trail, or not
-pub record AreEnds (c : Certified) (places : ℕ) (ends : List (Result Trail Halt)) : Type 0 where
-  pub count : length ends ≡ places
-  pub each : (id : ℕ) (end : Result Trail Halt) → slice_get ends id ≡ Some end → IfOk end (IsTrail c places id)
-
--- trails of so many places
-pub record AreTrailsOf (c : Certified) (places : ℕ) (trails : List Trail) : Type 0 where
-  pub count : length trails ≡ places
-  pub each : (id : ℕ) (t : Trail) → slice_get trails id ≡ Some t → IsTrail c places id t
-
--- ---- while a worker is at work
-
--- More steps of a turn, told behind those before. Where nothing has moved so far, the place is as it was.
-pub record AddsSteps (p : PlaceState) (old : Steps) (q : PlaceState) (new : Steps) : Type 0 where
-  pub more : List ℕ
-  pub out : List Frame
-  pub steps : StepsEach p more out q
-  pub goes : q.stopped ≢ true
-  pub keys : new.keys.items ≡ old.keys.items ++ more
-  pub frames : map frame_of new.frames.items ≡ map frame_of old.frames.items ++ out
-  pub still : new.moved ≡ false → (old.moved ≡ false) × (q ≡ p)
-
--- the turns that were kept since lead from one place to another, which goes on
-pub record GoesOn (p : PlaceState) (old : List OwnTurn) (q : PlaceState) (new : List OwnTurn) : Type 0 where
-  pub more : List OwnTurn
-  pub kept : new ≡ old ++ more
-  pub leads : Leads p more q
-  pub goes : q.stopped ≢ true
-
--- a trail of the turns that were kept, up to a place
-pub record IsWhole (p : PlaceState) (kept : List OwnTurn) (t : Trail) : Type 0 where
-  pub turns : t.turns.items ≡ kept
-  pub lines : map line_as t.lines.items ≡ map line_as p.lines
-  pub closed : IsTrue t.closed ↔ ((p.id ≡ 0) × IsDoneHere (store_of p) 0)
+  pub opened : IsOpened t.certified t.places t.id first
+  pub ends : EndsAs first t.turns t

@@ -1,5 +1,6 @@
 -- How the turns of a log are found in the trails of its places.
-use Rattle.std.specs.Prelude.{◌≡◌, ℕ, ◌+◌, ◌≤◌, List, [], ◌∷◌, ◌++◌, Option, Some, None, MatchOption, false, length, map, replicate, take, slice_get, slice_set}
+use Rattle.std.specs.Prelude.{◌≡◌, ℕ, ◌+◌, ◌≤◌, List, [], ◌∷◌, ◌++◌, Option, Some, None, MatchOption, IsTrue, false}
+use Rattle.std.specs.Prelude.{length, map, replicate, take, slice_get, slice_set}
 use Rattle.x10_kinds.specs.declared.stop.Stop.TheVariants as stop
 use Rattle.x10_place.specs.StandsFor.{line_as}
 use Rattle.x10_hall.specs.declared.turn.Turn.{Turn}
@@ -44,7 +45,7 @@ pub record IsNext (trails : List Trail) (cursors : List ℕ) (place cursor : ℕ
   pub trail : Trail
   pub trail_is : slice_get trails place ≡ Some trail
   pub cursor_is : slice_get cursors place ≡ Some cursor
-  pub own_is : slice_get trail.turns.items cursor ≡ Some own
+  pub own_is : slice_get trail.turns cursor ≡ Some own
 
 -- A turn of the log is the next one of its place's trail; what it took was flying to this place, and what it put out flies
 -- under the next numbers.
@@ -64,7 +65,16 @@ pub data WeavesAll (trails : List Trail) (x : Woven) : List Turn → Woven → T
 
 -- all turns of each trail are in the log
 abbrev pub AreAllWoven : List Trail → Woven → Type 0
-AreAllWoven trails x = (id : ℕ) (t : Trail) → slice_get trails id ≡ Some t → slice_get x.cursors id ≡ Some (length t.turns.items)
+AreAllWoven trails x = (id : ℕ) (t : Trail) → slice_get trails id ≡ Some t → slice_get x.cursors id ≡ Some (length t.turns)
+
+-- all turns of a log are found in the trails, all of these are in the log, and the root finish may end as place 0 knows it
+pub record IsWovenWhole (trails : List Trail) (log : List Turn) : Type 0 where
+  pub last : Woven
+  pub weaves : WeavesAll trails (nothing_woven (length trails)) log last
+  pub all : AreAllWoven trails last
+  pub trail : Trail
+  pub trail_is : slice_get trails 0 ≡ Some trail
+  pub closed : IsTrue trail.closed
 
 -- The first turns of a log are found in the trails, up to a number. The next one isn't; or there is none, and a trail has more.
 pub record IsDifference (trails : List Trail) (x : Woven) (log : List Turn) (number : ℕ) : Type 0 where

@@ -1,8 +1,12 @@
 //! Whether a log is a run, found out by making it again.
-ghost use Rattle.std.specs.Prelude.{IfOk};
+ghost use Rattle.std.specs.Prelude.{◌≡◌, ◌≢◌, true, IfOk, IfErr};
+ghost use Rattle.x10_model.specs.Worlds.{World as Machine, IsOver};
+ghost use Rattle.x10_workers.specs.Audits.{BreaksOff, HasNotEnded, IsNotPlayed};
 ghost use Rattle.x10_workers.specs.Plays.{Plays, IsPlayed};
-ghost use Rattle.x10_world.specs.Endings.{lines_in};
+ghost use Rattle.x10_world.specs.Endings.{lines_in, lines_at};
 ghost use Rattle.x10_world.specs.Opening.{IsForbidden};
+ghost use Rattle.x10_world.specs.Queries.{IsClosed};
+ghost use Rattle.x10_world.specs.StandsForWorld.{StandsForWorld};
 
 use crate::fault::AuditFault;
 use crate::turns::replay_turn;
@@ -15,7 +19,9 @@ use x10_world::World;
 
 /// Makes the turns of a log in a world, up to the first that isn't what the log says.
 fn replay_all(world: &mut World, log: &[Turn]) -> Result<(), AuditFault>
-    ensures { IfOk result (λ _. Plays world.old log.now world.new) }
+    requires { world.old.stopped ≢ true }
+    ensures plays { IfOk result (λ _. Plays world.old log.now world.new) }
+    ensures err { IfErr result (BreaksOff world.old log.now) }
 {
     for at in 0..log.len() {
         match replay_turn(world, &log[at]) {
@@ -27,22 +33,13 @@ fn replay_all(world: &mut World, log: &[Turn]) -> Result<(), AuditFault>
     Ok(())
 }
 
-/// Makes the turns of a log again in a world of `places` places, and answers what each place printed. It refuses the first turn
-/// that took what was not in flight to its place, or that put out or printed something else than these events do; then a log
-/// after which the run has not ended. Linear in the events of the log.
-pub fn audit(
-    alloc: Global,
-    verified: &Verified,
-    places: u16,
-    log: &[Turn],
-) -> Result<Vec<Vec<Line>>, AuditFault>
-    requires permitted { IsForbidden verified.now places → ⊥ }
-    ensures { IfOk result (λ outputs. IsPlayed verified.now places log.now (lines_in outputs.items)) }
+/// What each place of a world printed, if its run has ended.
+fn ended(alloc: Global, world: &World) -> Result<Vec<Vec<Line>>, AuditFault>
+    ensures closed { IfOk result (λ _. IsClosed world.now.places) }
+    ensures over { IfOk result (λ _. (w : Machine) → StandsForWorld world.now w → IsOver w) }
+    ensures lines { IfOk result (λ outputs. lines_in outputs.items ≡ lines_at world.now.places) }
+    ensures err { IfErr result (HasNotEnded world.now) }
 {
-    let Ok(mut world) = World::open(alloc, verified, places) else {
-        return Err(AuditFault::Stop(Stop::Memory));
-    };
-    replay_all(&mut world, log)?;
     if !world.closed() {
         return Err(AuditFault::Open);
     }
@@ -50,4 +47,24 @@ pub fn audit(
         Ok(outputs) => Ok(outputs),
         Err(_) => Err(AuditFault::Stop(Stop::Memory)),
     }
+}
+
+/// Makes the turns of a log again in a world of `places` places, and answers what each place printed. It refuses the first turn
+/// that took what was not in flight to its place, or that put out or printed something else than these events do; then a log
+/// after which the run has not ended. It stops where memory or an event of a turn is refused. Linear in the events of the log.
+pub fn audit(
+    alloc: Global,
+    verified: &Verified,
+    places: u16,
+    log: &[Turn],
+) -> Result<Vec<Vec<Line>>, AuditFault>
+    requires permitted { IsForbidden verified.now places → ⊥ }
+    ensures ok { IfOk result (λ outputs. IsPlayed verified.now places log.now (lines_in outputs.items)) }
+    ensures err { IfErr result (IsNotPlayed verified.now places log.now) }
+{
+    let Ok(mut world) = World::open(alloc, verified, places) else {
+        return Err(AuditFault::Stop(Stop::Memory));
+    };
+    replay_all(&mut world, log)?;
+    ended(alloc, &world)
 }

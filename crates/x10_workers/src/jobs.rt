@@ -1,10 +1,10 @@
 //! Jobs, each in a thread of its own.
 ghost use Rattle.std.specs.Prelude.{◌≡◌, ℕ, ◌<◌, IfOk, Some, Result, length, slice_get, vec_len};
 ghost use Rattle.x10_workers.specs.declared.halt.Halt as halt;
-ghost use Rattle.x10_workers.specs.declared.trail.Trail as trail;
+ghost use Rattle.x10_workers.specs.declared.trail.Kept as kept;
 
 use crate::halt::Halt;
-use crate::trail::Trail;
+use crate::trail::Kept;
 use std::alloc::Global;
 use std::sync::Wait;
 use std::thread;
@@ -25,14 +25,14 @@ pub(crate) enum Failure {
 pub(crate) trait Job {
     ghost use Rattle.std.specs.Prelude.{ℕ, Result};
     ghost use Rattle.x10_workers.specs.declared.halt.Halt.{Halt};
-    ghost use Rattle.x10_workers.specs.declared.trail.Trail.{Trail};
+    ghost use Rattle.x10_workers.specs.declared.trail.Kept.{Kept};
 
     ghost asks: { Self → ℕ → Type 0 };
 
-    ghost gives: { Self → ℕ → Result Trail Halt → Type 0 };
+    ghost gives: { Self → ℕ → Result Kept Halt → Type 0 };
 
     /// The work of one place.
-    fn make(&self, id: u16) -> Result<Trail, Halt>
+    fn make(&self, id: u16) -> Result<Kept, Halt>
         requires { Self.asks self.now id }
         ensures { Self.gives self.now id result };
 
@@ -47,7 +47,7 @@ struct Given<'j, J: Job> {
     id: u16,
 }
 
-impl<'j, J: Job> Promise<Result<Trail, Halt>> for Given<'j, J> {
+impl<'j, J: Job> Promise<Result<Kept, Halt>> for Given<'j, J> {
     ghost kept_by = { λ p end. J.gives p.job.now p.id end };
 }
 
@@ -63,10 +63,10 @@ pub(crate) fn make_all<R: Threads + Wait + Sync, J: Job + Sync>(
     alloc: Global,
     count: u16,
     job: &J,
-) -> Result<Vec<Result<Trail, Halt>>, Failure>
+) -> Result<Vec<Result<Kept, Halt>>, Failure>
     requires { (id : ℕ) → id < count → J.asks job.now id }
     ensures count { IfOk result (λ ends. length ends.items ≡ count) }
-    ensures each { IfOk result (λ ends. (id : ℕ) (end : Result trail.Trail halt.Halt) → slice_get ends.items id ≡ Some end → J.gives job.now id end) }
+    ensures each { IfOk result (λ ends. (id : ℕ) (end : Result kept.Kept halt.Halt) → slice_get ends.items id ≡ Some end → J.gives job.now id end) }
 {
     let Ok(mut handles) = Vec::with_capacity(alloc, usize::from(count)) else {
         return Err(Failure::Memory);
@@ -74,15 +74,15 @@ pub(crate) fn make_all<R: Threads + Wait + Sync, J: Job + Sync>(
     thread::scope(
         thread::scope_env(),
         rt,
-        move |scope| -> Result<Vec<Result<Trail, Halt>>, Failure>
+        move |scope| -> Result<Vec<Result<Kept, Halt>>, Failure>
             requires { ((id : ℕ) → id < count → J.asks job.now id) × (vec_len handles ≡ 0) }
             ensures count { IfOk result (λ ends. length ends.items ≡ count) }
-            ensures each { IfOk result (λ ends. (id : ℕ) (end : Result trail.Trail halt.Halt) → slice_get ends.items id ≡ Some end → J.gives job.entry.now id end) }
+            ensures each { IfOk result (λ ends. (id : ℕ) (end : Result kept.Kept halt.Halt) → slice_get ends.items id ≡ Some end → J.gives job.entry.now id end) }
         {
             for id in 0..count {
                 let started = scope.spawn_with(
                     Given { job, id },
-                    move || -> Result<Trail, Halt>
+                    move || -> Result<Kept, Halt>
                         requires { J.asks job.now id }
                         ensures { J.gives job.entry.now id result }
                     { job.make(id) },

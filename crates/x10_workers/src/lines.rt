@@ -36,9 +36,12 @@ pub(crate) fn same_lines(one: &[Line], other: &[Line]) -> bool
 
 /// Whether `lines` print the same as the lines of `all` after the first `before`. Linear in the lines compared.
 pub(crate) fn are_behind(all: &[Line], before: usize, lines: &[Line]) -> bool
-    ensures { IsTrue result → map line_as (drop before all.now) ≡ map line_as lines.now }
+    ensures { IsTrue result ↔ (map line_as (drop before all.now) ≡ map line_as lines.now) }
 {
-    before <= all.len() && same_lines(&all[before..], lines)
+    if before > all.len() {
+        return lines.is_empty();
+    }
+    same_lines(&all[before..], lines)
 }
 
 /// A copy of a line.

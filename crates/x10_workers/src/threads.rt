@@ -3,7 +3,7 @@ ghost use Rattle.std.specs.Prelude.{◌≡◌, ◌≢◌, ◌<◌, ◌≤◌, �
 ghost use Rattle.x10_workers.specs.Reports.{IsTold};
 ghost use Rattle.x10_workers.specs.declared.halt.WorkFault.TheVariants as fault;
 ghost use Rattle.x10_workers.specs.Plays.{IsPlayed};
-ghost use Rattle.x10_workers.specs.Trails.{IsTrail, AreTrails, AreEnds, AreTrailsOf};
+ghost use Rattle.x10_workers.specs.Workings.{AreTrails, AreEnds, AreKept, AreTrailsOf};
 ghost use Rattle.x10_verify.specs.Certified.{Certified};
 ghost use Rattle.x10_world.specs.Endings.{lines_in};
 ghost use Rattle.x10_world.specs.Opening.{IsForbidden};
@@ -14,9 +14,9 @@ use crate::halt::{Halt, WorkFault};
 use crate::jobs::{Failure, Job, make_all};
 use crate::lines::lines_by_place;
 use crate::report::RunReport;
-use crate::trail::Trail;
+use crate::trail::{Kept, Trail};
 use crate::weaving::weave;
-use crate::working::work;
+use crate::working::kept_of;
 use std::alloc::Global;
 use std::sync::Wait;
 use std::thread::Threads;
@@ -36,15 +36,15 @@ struct Workers<'w, 'i, R: Wait, G: Gate> {
 
 impl<R: Wait, G: Gate> Job for Workers<'_, '_, R, G> {
     ghost use Rattle.std.specs.Prelude.{◌<◌, ◌≤◌, IfOk};
-    ghost use Rattle.x10_workers.specs.Trails.{IsTrail};
+    ghost use Rattle.x10_workers.specs.Workings.{IsKeptOf};
 
     ghost asks = { λ w id. (id < w.places) × (w.verified.now.program.least_places ≤ w.places) × (w.places ≤ 64) };
 
-    ghost gives = { λ w id end. IfOk end (IsTrail w.verified.now w.places id) };
+    ghost gives = { λ w id end. IfOk end (IsKeptOf w.verified.now w.places id) };
 
-    fn make(&self, id: u16) -> Result<Trail, Halt> {
+    fn make(&self, id: u16) -> Result<Kept, Halt> {
         let desk = Desk::new(self.rt, self.mail);
-        work(
+        kept_of(
             self.rt,
             self.alloc,
             self.verified,
@@ -62,7 +62,7 @@ impl<R: Wait, G: Gate> Job for Workers<'_, '_, R, G> {
 }
 
 /// The first failure that is a worker's own.
-fn first_failure(ends: &[Result<Trail, Halt>]) -> Option<Failure> {
+fn first_failure(ends: &[Result<Kept, Halt>]) -> Option<Failure> {
     let mut place: u16 = 0;
     for end in ends {
         match end {
@@ -73,21 +73,42 @@ fn first_failure(ends: &[Result<Trail, Halt>]) -> Option<Failure> {
     None
 }
 
-/// The trails of all workers, or why one of them has none.
-fn gathered(alloc: Global, ends: Vec<Result<Trail, Halt>>) -> Result<Vec<Trail>, Failure>
-    ensures { (c : Certified) (places : ℕ) → AreEnds c places ends.items → IfOk result (λ trails. AreTrailsOf c places trails.items) }
+/// What all workers kept, or why one of them has nothing.
+fn gathered(alloc: Global, ends: Vec<Result<Kept, Halt>>) -> Result<Vec<Kept>, Failure>
+    ensures { (c : Certified) (places : ℕ) → AreEnds c places ends.items → IfOk result (λ kept. AreKept c places kept.items) }
 {
     if let Some(failure) = first_failure(&ends) {
         return Err(failure);
     }
-    let Ok(mut trails) = Vec::with_capacity(alloc, ends.len()) else {
+    let Ok(mut all) = Vec::with_capacity(alloc, ends.len()) else {
         return Err(Failure::Memory);
     };
     for end in ends {
-        let Ok(trail) = end else {
+        let Ok(kept) = end else {
             return Err(Failure::Thread);
         };
-        if trails.push(trail).is_err() {
+        if all.push(kept).is_err() {
+            return Err(Failure::Memory);
+        }
+    }
+    Ok(all)
+}
+
+/// The trails of all places.
+fn trails_from<'a>(
+    alloc: Global,
+    verified: &'a Verified<'a>,
+    places: u16,
+    all: Vec<Kept>,
+) -> Result<Vec<Trail<'a>>, Failure>
+    requires { AreKept verified.now places all.items }
+    ensures { IfOk result (λ trails. AreTrailsOf verified.now places trails.items) }
+{
+    let Ok(mut trails) = Vec::with_capacity(alloc, all.len()) else {
+        return Err(Failure::Memory);
+    };
+    for kept in all {
+        if trails.push(Trail::new(verified, places, kept)).is_err() {
             return Err(Failure::Memory);
         }
     }
@@ -109,14 +130,14 @@ fn finished(alloc: Global, trails: &[Trail], log: Vec<Turn>) -> Result<RunReport
 }
 
 /// Works at each place in a thread of its own, and answers the trails of all workers, by place.
-fn all_trails<R: Threads + Wait + Sync, G: Gate + Sync>(
+fn all_trails<'a, R: Threads + Wait + Sync, G: Gate + Sync>(
     rt: &R,
     alloc: Global,
-    verified: &Verified,
+    verified: &'a Verified<'a>,
     places: u16,
     mail: &Mail,
     gate: &G,
-) -> Result<Vec<Trail>, Failure>
+) -> Result<Vec<Trail<'a>>, Failure>
     requires enough { verified.now.program.least_places ≤ places }
     requires few { places ≤ 64 }
     ensures { IfOk result (λ trails. AreTrailsOf verified.now places trails.items) }
@@ -130,7 +151,8 @@ fn all_trails<R: Threads + Wait + Sync, G: Gate + Sync>(
         gate,
     };
     let ends = make_all(rt, alloc, places, &workers)?;
-    gathered(alloc, ends)
+    let all = gathered(alloc, ends)?;
+    trails_from(alloc, verified, places, all)
 }
 
 /// The fault of a run that failed, with a report of the turns that were posted.

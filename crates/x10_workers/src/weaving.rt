@@ -2,11 +2,13 @@
 ghost use Rattle.std.specs.Prelude.{◌≡◌, ◌↔◌, ℕ, ◌+◌, ◌<◌, ◌^◌, ◌++◌, List, Option, Some, IsTrue, IsFalse, IfOk, IfErr, IfSome, IfNone, length, map, slice_get};
 ghost use Rattle.x10_hall.specs.Halls.{Frame, frame_of, told};
 ghost use Rattle.x10_place.specs.StandsFor.{line_as};
-ghost use Rattle.x10_verify.specs.Certified.{Certified};
+ghost use Rattle.x10_verify.specs.Certified.{Certified, IsCertified};
 ghost use Rattle.x10_world.specs.Endings.{lines_in};
 ghost use Rattle.x10_workers.specs.Plays.{IsPlayed};
-ghost use Rattle.x10_workers.specs.Trails.{AreTrails};
-ghost use Rattle.x10_workers.specs.Weaves.{Woven, IsTurnOf, TakesOff, TakesOffEach, IsNext, Weaves, WeavesAll, AreAllWoven, IsNotWoven, Explains, all_flying, nothing_woven};
+ghost use Rattle.x10_workers.specs.Trails.{IsTrail};
+ghost use Rattle.x10_workers.specs.Workings.{AreTrails};
+ghost use Rattle.x10_workers.specs.declared.trail.Trail as trail;
+ghost use Rattle.x10_workers.specs.Weaves.{Woven, IsTurnOf, TakesOff, TakesOffEach, IsNext, Weaves, WeavesAll, AreAllWoven, IsWovenWhole, IsNotWoven, Explains, all_flying, nothing_woven};
 ghost use Rattle.x10_workers.specs.Looms.{woven};
 ghost use Rattle.x10_workers.specs.declared.trail.OwnTurn as turn;
 
@@ -149,7 +151,7 @@ impl<'l> Loom<'l> {
             return None;
         }
         let cursor = self.cursors[place];
-        let turns = trails[place].turns.as_slice();
+        let turns = trails[place].turns();
         if cursor >= turns.len() {
             return None;
         }
@@ -193,9 +195,9 @@ impl<'l> Loom<'l> {
 
     /// Whether all turns of the trail with a number are in the log.
     fn is_at_end(&self, at: usize, trail: &Trail) -> bool
-        ensures { IsTrue result ↔ (slice_get self.now.cursors.items at ≡ Some (length trail.now.turns.items)) }
+        ensures { IsTrue result ↔ (slice_get self.now.cursors.items at ≡ Some (length trail.now.turns)) }
     {
-        at < self.cursors.len() && self.cursors[at] == trail.turns.len()
+        at < self.cursors.len() && self.cursors[at] == trail.turns().len()
     }
 
     /// Whether all turns of the trails are in the log.
@@ -213,25 +215,38 @@ impl<'l> Loom<'l> {
 
 /// A copy of the lines of each place.
 fn outputs_of(alloc: Global, trails: &[Trail]) -> Result<Vec<Vec<Line>>, AllocError>
-    ensures { IfOk result (λ outputs. lines_in outputs.items ≡ map (λ t. map line_as t.lines.items) trails.now) }
+    ensures { IfOk result (λ outputs. lines_in outputs.items ≡ map (λ t. map line_as t.lines) trails.now) }
 {
     let mut outputs = Vec::with_capacity(alloc, trails.len())?;
     for at in 0..trails.len() {
-        let lines = copied_lines(alloc, &trails[at].lines)?;
+        let lines = copied_lines(alloc, trails[at].lines())?;
         outputs.push(lines)?;
     }
     Ok(outputs)
+}
+
+/// All trails are trails, as each one is.
+fn assure(trails: &[Trail])
+    ensures { (id : ℕ) (t : trail.Trail) → slice_get trails.now id ≡ Some t → IsTrail t × IsCertified t.certified }
+{
+    for at in 0..trails.len() {
+        trails[at].assure();
+    }
 }
 
 /// Compares a log with the trails of its places, of which the first is that of place 0, and answers what each place printed.
 /// Each turn has to be the next one of its place's trail, and each frame that it took in has to be one that was posted earlier
 /// to this place under this number, with these bytes, and not taken before. It refuses the first turn that differs; then a
 /// trail with a turn that isn't in the log, by the number of turns that are; then trails after which some activity may be left.
-/// No step is made. Linear in the turns, with the bytes of their frames and lines.
+/// An Ok says that all turns of the log are in the trails and all turns of the trails in the log, whoever made them. No step is
+/// made. Linear in the turns, with the bytes of their frames and lines.
 pub fn weave(alloc: Global, log: &[Turn], trails: &[Trail]) -> Result<Vec<Vec<Line>>, AuditFault>
     ensures ok { (c : Certified) → AreTrails c trails.now → IfOk result (λ outputs. IsPlayed c (length trails.now) log.now (lines_in outputs.items)) }
+    ensures whole { IfOk result (λ _. IsWovenWhole trails.now log.now) }
+    ensures lines { IfOk result (λ outputs. lines_in outputs.items ≡ map (λ t. map line_as t.lines) trails.now) }
     ensures err { IfErr result (Explains trails.now log.now) }
 {
+    assure(trails);
     let Ok(mut loom) = Loom::new(alloc, trails.len()) else {
         return Err(AuditFault::Stop(Stop::Memory));
     };
@@ -240,7 +255,7 @@ pub fn weave(alloc: Global, log: &[Turn], trails: &[Trail]) -> Result<Vec<Vec<Li
         return Err(AuditFault::Differs(log.len()));
     }
     match trails.first() {
-        Some(trail) if trail.closed => {}
+        Some(trail) if trail.is_closed() => {}
         _ => return Err(AuditFault::Open),
     }
     match outputs_of(alloc, trails) {

@@ -1,13 +1,14 @@
 //! A worker: one place, and the turns that it makes.
 ghost use Rattle.std.specs.Prelude.{◌≡◌, ◌≢◌, ◌≤◌, ◌++◌, ◌∷◌, [], true, false, IfOk, map, replicate};
 ghost use Rattle.x10_hall.specs.Halls.{frame_of, told};
-ghost use Rattle.x10_workers.specs.Trails.{frame_in, frames_in, TakesIn, TakesEach, StepsEach, AddsSteps, GoesOn, IsWhole};
+ghost use Rattle.x10_workers.specs.Trails.{frame_in, frames_in, TakesIn, TakesEach, StepsEach};
+ghost use Rattle.x10_workers.specs.Workings.{AddsSteps, GoesOn, IsWhole};
 
 use crate::gate::Gate;
 use crate::halt::Halt;
 use crate::lines::{copied_lines, push_copies};
 use crate::rounds::Rounds;
-use crate::trail::{OwnTurn, Trail};
+use crate::trail::{Kept, OwnTurn};
 use std::alloc::{AllocError, Global};
 use std::mem;
 use std::sync::Arc;
@@ -202,14 +203,15 @@ impl<'a> Worker<'a> {
         Ok(())
     }
 
-    /// What was kept, at the end.
-    pub fn into_trail(self) -> Result<Trail, AllocError>
-        ensures { IfOk result (IsWhole self.entry.place self.entry.kept.items) }
+    /// What was kept of the place with a number, at the end.
+    pub fn into_kept(self, id: u16) -> Result<Kept, AllocError>
+        ensures { IfOk result (IsWhole id self.entry.place self.entry.kept.items) }
     {
         let lines = copied_lines(self.alloc, self.place.output())?;
         let closed = self.place.closed();
         let Worker { kept, .. } = self;
-        Ok(Trail {
+        Ok(Kept {
+            id,
             turns: kept,
             lines,
             closed,

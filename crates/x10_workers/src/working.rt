@@ -1,10 +1,10 @@
 //! The loop of a worker's thread.
 ghost use Rattle.std.specs.Prelude.{◌≢◌, ◌<◌, ◌≤◌, true, IfOk};
-ghost use Rattle.x10_workers.specs.Trails.{GoesOn, IsTrail};
+ghost use Rattle.x10_workers.specs.Workings.{GoesOn, IsKeptOf, IsTrailOf};
 
 use crate::gate::Gate;
 use crate::halt::Halt;
-use crate::trail::Trail;
+use crate::trail::{Kept, Trail};
 use crate::worker::{Went, Worker};
 use std::alloc::Global;
 use std::sync::Wait;
@@ -48,11 +48,11 @@ fn attend_all(
     places: u16,
     port: &impl Port,
     gate: &impl Gate,
-) -> Result<Trail, Halt>
+) -> Result<Kept, Halt>
     requires within { id < places }
     requires enough { verified.now.program.least_places ≤ places }
     requires few { places ≤ 64 }
-    ensures { IfOk result (IsTrail verified.now places id) }
+    ensures { IfOk result (IsKeptOf verified.now places id) }
 {
     let place = Place::new(alloc, verified, id, places)?;
     let mut worker = Worker::new(alloc, id, place)?;
@@ -60,7 +60,29 @@ fn attend_all(
         let _unposted = worker.post(port);
         return Err(halt);
     }
-    Ok(worker.into_trail()?)
+    Ok(worker.into_kept(id)?)
+}
+
+/// What the worker of a place keeps, at the end; where it can't go on, it stops the run for all.
+pub(crate) fn kept_of(
+    rt: &impl Wait,
+    alloc: Global,
+    verified: &Verified,
+    id: u16,
+    places: u16,
+    port: &impl Port,
+    gate: &impl Gate,
+) -> Result<Kept, Halt>
+    requires within { id < places }
+    requires enough { verified.now.program.least_places ≤ places }
+    requires few { places ≤ 64 }
+    ensures { IfOk result (IsKeptOf verified.now places id) }
+{
+    let kept = attend_all(rt, alloc, verified, id, places, port, gate);
+    if kept.is_err() {
+        port.end(End::Stopped);
+    }
+    kept
 }
 
 /// The work of one place, from its beginning to the end of the run: it takes frames, makes steps and posts its turns through a
@@ -69,24 +91,21 @@ fn attend_all(
 /// ends here, or no other one can move. A turn that did nothing isn't posted, and turns that send nothing are posted several at
 /// a time. Where all keys were tried since something moved, the worker waits. The gate is notified of each turn while no lock
 /// is held. Where the worker can't go on, it stops the run for all. No matter what the port answers, the turns of the trail,
-/// with the frames that they took, lead from the place's beginning to its end.
-pub fn work(
+/// with the frames that they took, lead from the place's beginning to its end, as they do in any trail.
+pub fn work<'a>(
     rt: &impl Wait,
     alloc: Global,
-    verified: &Verified,
+    verified: &'a Verified<'a>,
     id: u16,
     places: u16,
     port: &impl Port,
     gate: &impl Gate,
-) -> Result<Trail, Halt>
+) -> Result<Trail<'a>, Halt>
     requires within { id < places }
     requires enough { verified.now.program.least_places ≤ places }
     requires few { places ≤ 64 }
-    ensures { IfOk result (IsTrail verified.now places id) }
+    ensures { IfOk result (IsTrailOf verified.now places id) }
 {
-    let trail = attend_all(rt, alloc, verified, id, places, port, gate);
-    if trail.is_err() {
-        port.end(End::Stopped);
-    }
-    trail
+    let kept = kept_of(rt, alloc, verified, id, places, port, gate)?;
+    Ok(Trail::new(verified, places, kept))
 }

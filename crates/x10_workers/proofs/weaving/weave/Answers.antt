@@ -1,9 +1,9 @@
-use Rattle.std.proofs.Common.{sym, subst, arith, take_all}
+use Rattle.std.proofs.Common.{sym, subst, ◌∙◌, arith, take_all}
 use Rattle.std.specs.Prelude.{length, slice_get}
 use Rattle.std.proofs.lemmas.Option.{slice_get_past}
 use Rattle.x10_workers.specs.Looms.{woven}
 use Rattle.x10_workers.specs.Weaves.{WeavesAll, nothing_woven}
-use Rattle.x10_workers.proofs.Following.{woven_is_played}
+use Rattle.x10_workers.proofs.Following.{are_begun, woven_is_played}
 use Rattle.x10_workers.proofs.Leading.{when_none, true_false}
 use Rattle.x10_workers.proofs.weaving.weave.Goals as goal
 
@@ -18,5 +18,16 @@ returns-then-not-is_done-clause-err c = record {
 
 pub returns-in-Ok-outputs_of-clause-ok : goal.returns-in-Ok-outputs_of-clause-ok
 returns-in-Ok-outputs_of-clause-ok c cert are =
-    woven_is_played cert c.args.trails.now are.certified.verified.bounds_are (woven c.weave_all.new.self) c.args.log.now _ c.in-Some.trail.now are (subst (λ x. WeavesAll c.args.trails.now x c.args.log.now (woven c.weave_all.new.self)) c.in-Ok.ensures c.in_ok-weave_all.ensures.ok)
-    (c.is_done.ensures.0 c.if-not-is_done.false) (sym c.in-Some.ensures.value) c.if-trail.true c.in-Ok-outputs_of.ensures
+    let begun = are_begun cert c.args.trails.now c.in-Some.trail.now c.assure.ensures are (sym c.in-Some.ensures.value) in
+    woven_is_played cert c.args.trails.now begun.certified.verified.bounds_are (woven c.weave_all.new.self) c.args.log.now _ c.in-Some.trail.now begun (subst (λ x. WeavesAll c.args.trails.now x c.args.log.now (woven c.weave_all.new.self)) c.in-Ok.ensures c.in_ok-weave_all.ensures.ok)
+    (c.is_done.ensures.0 c.if-not-is_done.false) (sym c.in-Some.ensures.value) (sym c.is_closed.ensures ∙ c.if-is_closed.true) c.in-Ok-outputs_of.ensures
+
+pub returns-in-Ok-outputs_of-clause-whole : goal.returns-in-Ok-outputs_of-clause-whole
+returns-in-Ok-outputs_of-clause-whole c = record {
+  last = woven c.weave_all.new.self;
+  weaves = subst (λ x. WeavesAll c.args.trails.now x c.args.log.now (woven c.weave_all.new.self)) c.in-Ok.ensures c.in_ok-weave_all.ensures.ok;
+  all = c.is_done.ensures.0 c.if-not-is_done.false;
+  trail = c.in-Some.trail.now;
+  trail_is = sym c.in-Some.ensures.value;
+  closed = sym c.is_closed.ensures ∙ c.if-is_closed.true;
+}

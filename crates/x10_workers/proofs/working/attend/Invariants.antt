@@ -1,4 +1,4 @@
-use Rattle.x10_workers.specs.Trails.{GoesOn}
+use Rattle.x10_workers.specs.Workings.{GoesOn}
 use Rattle.x10_workers.proofs.working.attend.Given as goal
 
 abbrev pub invariant-loop : goal.invariant-loop

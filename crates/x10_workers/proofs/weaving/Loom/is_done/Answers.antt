@@ -18,7 +18,7 @@ loop-at-preserved c id t lt is =
       | inl before ↦ c.loop-at.invariant id t before is
       | inr past ↦ (let same : c.loop-at.at ≡ id = omega (arith, lt, past) in
           let trail = same_Some c.index-trails-at.result t (sym there ∙ ap (λ n. slice_get c.args.trails.now n) same ∙ is) in
-          subst (λ n. slice_get c.args.self.now.cursors.items n ≡ Some (length t.turns.items)) same (c.is_at_end.ensures.0 c.if-not-is_at_end.false ∙ ap (λ (u : Trail). Some (length u.turns.items)) trail))
+          subst (λ n. slice_get c.args.self.now.cursors.items n ≡ Some (length t.turns)) same (c.is_at_end.ensures.0 c.if-not-is_at_end.false ∙ ap (λ (u : Trail). Some (length u.turns)) trail))
     ]
 
 pub returns : goal.returns
