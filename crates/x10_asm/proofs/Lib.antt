@@ -18,8 +18,10 @@ pub mod ReadingAgain
 pub mod LinesAgain
 pub mod FunctionsAgain
 pub mod ListingAgain
+pub mod Commented
 pub mod Answered
 pub mod InRanges
 pub mod FittingLines
 pub mod FlawedLines
+pub mod SoundLines
 pub mod FittingSources

@@ -18,6 +18,11 @@ with_front front (Some p) = Some (front ++ p.0, p.1)
 pub record IsScanned (front : List ℕ) (after_backslash : Bool) (bytes all : List ℕ) : Type 0 where
   pub is : with_front front (scan after_backslash bytes) ≡ scan false all
 
+-- some bytes were read, whichever they are
+pub record IsWithin (after_backslash : Bool) (bytes all : List ℕ) : Type 0 where
+  pub front : List ℕ
+  pub scanned : IsScanned front after_backslash bytes all
+
 regroup : (front : List ℕ) (c : ℕ) (r : Option (List ℕ × List ℕ)) → with_front front (onto c r) ≡ with_front (front ++ c ∷ []) r
 regroup front c None = refl
 regroup front c (Some p) = ap (λ (t : List ℕ). Some (t, p.1)) (sym (append_assoc front (c ∷ []) p.0))
@@ -61,6 +66,26 @@ scan_nothing true = refl
 
 pub not_closed : (front bytes : List ℕ) (after_backslash : Bool) (at : ℕ) → IsScanned front after_backslash (drop at bytes) bytes → length bytes ≤ at → scan false bytes ≡ None
 not_closed front bytes b at s le = sym s.is ∙ ap (λ (t : List ℕ). with_front front (scan b t)) (drop_all at bytes le) ∙ ap (with_front front) (scan_nothing b)
+
+-- ---- of which only the place is kept
+
+pub escape_within : (bytes : List ℕ) (at meant : ℕ) → unescaped (get_or bytes at 0) ≡ Some meant → IsWithin true (drop at bytes) bytes → at < length bytes → IsWithin false (drop (at + 1) bytes) bytes
+escape_within bytes at meant is w lt = record { front = w.front ++ meant ∷ []; scanned = escape_scanned w.front (w.front ++ meant ∷ []) bytes at meant w.scanned lt is refl }
+
+pub bad_within : (bytes : List ℕ) (at : ℕ) → unescaped (get_or bytes at 0) ≡ None → IsWithin true (drop at bytes) bytes → at < length bytes → scan false bytes ≡ None
+bad_within bytes at is w lt = bad_escape w.front bytes at w.scanned lt is
+
+pub quote_within : (bytes : List ℕ) (at : ℕ) → IsWithin false (drop at bytes) bytes → at < length bytes → get_or bytes at 0 ≡ 34 → (text : List ℕ) × (scan false bytes ≡ Some (text, drop (at + 1) bytes))
+quote_within bytes at w lt e = (w.front, quote_scanned w.front bytes at w.scanned lt e)
+
+pub backslash_within : (bytes : List ℕ) (at : ℕ) → IsWithin false (drop at bytes) bytes → at < length bytes → get_or bytes at 0 ≡ 92 → IsWithin true (drop (at + 1) bytes) bytes
+backslash_within bytes at w lt e = record { front = w.front; scanned = backslash_scanned w.front bytes at w.scanned lt e }
+
+pub other_within : (bytes : List ℕ) (at : ℕ) → IsWithin false (drop at bytes) bytes → at < length bytes → get_or bytes at 0 ≢ 34 → get_or bytes at 0 ≢ 92 → IsWithin false (drop (at + 1) bytes) bytes
+other_within bytes at w lt q b = record { front = w.front ++ get_or bytes at 0 ∷ []; scanned = other_scanned w.front (w.front ++ get_or bytes at 0 ∷ []) bytes at w.scanned lt q b refl }
+
+pub none_within : (bytes : List ℕ) (after_backslash : Bool) (at : ℕ) → IsWithin after_backslash (drop at bytes) bytes → length bytes ≤ at → scan false bytes ≡ None
+none_within bytes b at w le = not_closed w.front bytes b at w.scanned le
 
 -- ---- the whole text
 

@@ -7,6 +7,7 @@ pub mod Labels
 pub mod Operands
 pub mod Tables
 pub mod Statements
+pub mod Comments
 pub mod LabelLines
 pub mod Reading
 pub mod Flaws

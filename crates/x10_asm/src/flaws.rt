@@ -1,6 +1,6 @@
 //! The word at which a line is faulty, whatever the other lines say.
 
-ghost use Rattle.std.specs.Prelude.{◌≡◌, ◌≤◌, ◌^◌, ℕ, List, Bool, true, false, Ok, Err, IfOk, IfErr, IfSome, MatchOption};
+ghost use Rattle.std.specs.Prelude.{◌≡◌, ◌≤◌, ◌^◌, ℕ, ℤ, List, Bool, true, false, Some, Ok, Err, IfOk, IfErr, MatchOption};
 ghost use Rattle.x10_asm.specs.declared.fault.AsmCause.TheVariants as cause;
 ghost use Rattle.x10_asm.specs.declared.stage.Stage.{Stage as StageOf};
 ghost use Rattle.x10_asm.specs.Lines.{words};
@@ -11,13 +11,18 @@ ghost use Rattle.x10_asm.specs.Kinds.{are_known, each};
 ghost use Rattle.x10_asm.specs.Labels as labels;
 ghost use Rattle.x10_asm.specs.Operands as operands;
 ghost use Rattle.x10_asm.specs.Reading as reading;
-ghost use Rattle.x10_asm.specs.Flaws.{IsFaultOf};
+ghost use Rattle.x10_asm.specs.Literals as literals;
+ghost use Rattle.x10_asm.specs.Flaws.{IsFaultOf, HasNoFault, HasOperands};
+ghost use Rattle.x10_kinds.specs.declared.kind.Kind.{Kind as KindOf};
+ghost use Rattle.x10_model.specs.declared.slot.Slot.{Slot as SlotOf};
+ghost use Rattle.x10_model.specs.Modules.{Function as FunctionOf};
 
 use crate::fault::AsmCause;
 use crate::kind::{field_of, result_is_known, result_of, slot_of};
+use crate::literal::behind;
 use crate::number::{int_of, no_more, number_at};
 use crate::operand::{last_at, operand_at};
-use crate::split::{after_spaces, next_word};
+use crate::split::{after_spaces, begins, next_word, stripped};
 use crate::statement::{Line, Statement, line_of};
 use x10_code::{Op, Operand, form};
 
@@ -59,6 +64,7 @@ fn past_number(line: &str, most: u64) -> Result<&str, Flaw<'_>>
 
 /// Nothing follows.
 fn past_all(line: &str) -> Result<(), Flaw<'_>>
+    ensures passed { IfOk result (λ _. checks.no_more (words line.now) ≡ Ok tt) }
     ensures flawed { IfErr result (λ flaw. checks.no_more (words line.now) ≡ Err flaw.cause) }
 {
     match no_more(line) {
@@ -70,6 +76,7 @@ fn past_all(line: &str) -> Result<(), Flaw<'_>>
 /// One number alone.
 fn past_one_number(line: &str, most: u64) -> Result<(), Flaw<'_>>
     requires { most ≤ 2 ^ 63 }
+    ensures passed { IfOk result (λ _. (n : ℕ) × (checks.one_number most (words line.now) ≡ Ok n)) }
     ensures flawed { IfErr result (λ flaw. checks.one_number most (words line.now) ≡ Err flaw.cause) }
 {
     let rest = past_number(line, most)?;
@@ -78,14 +85,15 @@ fn past_one_number(line: &str, most: u64) -> Result<(), Flaw<'_>>
 
 /// One number of 64 bits alone.
 fn past_one_int(line: &str) -> Result<(), Flaw<'_>>
+    ensures passed { IfOk result (λ _. (z : ℤ) × (reading.one_int (words line.now) ≡ Ok z)) }
     ensures flawed { IfErr result (λ flaw. reading.one_int (words line.now) ≡ Err flaw.cause) }
 {
     let Some((word, rest)) = next_word(line) else {
         return Err(at_next(line, AsmCause::Count));
     };
-    if int_of(word).is_none() {
+    let Some(_) = int_of(word) else {
         return Err(at_next(line, AsmCause::Number));
-    }
+    };
     past_all(rest)
 }
 
@@ -114,6 +122,7 @@ fn past_last(line: &str, operand: Operand) -> Result<&str, Flaw<'_>>
 /// The operands of an instruction alone.
 #[tactic(auto, unfolding(crate::specs::Operands::instruction_of))]
 fn past_operands(line: &str, op: Op) -> Result<(), Flaw<'_>>
+    ensures passed { IfOk result (λ _. HasOperands op (words line.now)) }
     ensures flawed { IfErr result (λ flaw. (all : List labels.Label) → (inside : Bool) → (count : ℕ) → operands.instruction_of all inside count op (words line.now) ≡ Err flaw.cause) }
 {
     let form = form(op);
@@ -154,6 +163,7 @@ fn unknown_slot(line: &str, classes: usize) -> Option<Flaw<'_>>
 
 /// Kinds of fields.
 fn past_kinds(line: &str, classes: usize) -> Result<(), Flaw<'_>>
+    ensures passed { IfOk result (λ _. (fields : List KindOf) × (each (kinds.field_of classes) (words line.now) ≡ Ok fields)) }
     ensures flawed { IfErr result (λ flaw. each (kinds.field_of classes) (words line.now) ≡ Err flaw.cause) }
 {
     let mut rest = line;
@@ -168,6 +178,7 @@ fn past_kinds(line: &str, classes: usize) -> Result<(), Flaw<'_>>
 
 /// Kinds of parameters.
 fn past_slots(line: &str, classes: usize) -> Result<(), Flaw<'_>>
+    ensures passed { IfOk result (λ _. (slots : List SlotOf) × (each (kinds.slot_of classes) (words line.now) ≡ Ok slots)) }
     ensures flawed { IfErr result (λ flaw. each (kinds.slot_of classes) (words line.now) ≡ Err flaw.cause) }
 {
     let mut rest = line;
@@ -183,6 +194,8 @@ fn past_slots(line: &str, classes: usize) -> Result<(), Flaw<'_>>
 /// The fields of a class alone.
 #[tactic(auto, unfolding(crate::specs::Reading::class_of))]
 fn past_class(line: &str, classes: usize) -> Result<(), Flaw<'_>>
+    ensures known { IfOk result (λ _. are_known (kinds.field_of classes) (words line.now) ≡ true) }
+    ensures passed { IfOk result (λ _. (fields : List KindOf) × (each (kinds.field_of classes) (words line.now) ≡ Ok fields)) }
     ensures flawed { IfErr result (λ flaw. (stage : StageOf) → (before : ℕ) → reading.class_of stage classes before (words line.now) ≡ Err flaw.cause) }
 {
     if let Some(flaw) = unknown_field(line, classes) {
@@ -206,6 +219,7 @@ fn unknown_kind(line: &str, classes: usize) -> Option<Flaw<'_>>
 
 /// The numbers, the result and the parameters of a function.
 fn past_signature(line: &str, classes: usize) -> Result<(), Flaw<'_>>
+    ensures passed { IfOk result (λ _. (f : FunctionOf) × (reading.signature_of classes (words line.now) ≡ Ok f)) }
     ensures flawed { IfErr result (λ flaw. reading.signature_of classes (words line.now) ≡ Err flaw.cause) }
 {
     let line = past_number(line, 255)?;
@@ -222,6 +236,8 @@ fn past_signature(line: &str, classes: usize) -> Result<(), Flaw<'_>>
 /// What the beginning of a function says, alone.
 #[tactic(auto, unfolding(crate::specs::Reading::func_of))]
 fn past_func(line: &str, classes: usize) -> Result<(), Flaw<'_>>
+    ensures known { IfOk result (λ _. reading.kinds_are_known classes (words line.now) ≡ true) }
+    ensures passed { IfOk result (λ _. (f : FunctionOf) × (reading.signature_of classes (words line.now) ≡ Ok f)) }
     ensures flawed { IfErr result (λ flaw. (stage : StageOf) → (before : ℕ) → reading.func_of stage classes before (words line.now) ≡ Err flaw.cause) }
 {
     if let Some(flaw) = unknown_kind(line, classes) {
@@ -230,20 +246,40 @@ fn past_func(line: &str, classes: usize) -> Result<(), Flaw<'_>>
     past_signature(line, classes)
 }
 
-/// Something between quotes, perhaps.
+/// What follows a quote: no word after the closing one, if there is one with a space behind it.
+fn past_quotes(quoted: &str) -> Result<(), Flaw<'_>>
+    ensures passed { IfOk result (λ _. reading.is_count (literals.unquoted (Some quoted.now)) ≡ false) }
+    ensures flawed { IfErr result (λ flaw. (flaw.cause ≡ cause.Count) × (literals.unquoted (Some quoted.now) ≡ Err cause.Count)) }
+{
+    let Some(rest) = behind(quoted) else {
+        return Ok(());
+    };
+    if !rest.is_empty() && !begins(rest, b' ') {
+        return Ok(());
+    }
+    past_all(rest)
+}
+
+/// Something, and if it is a text between quotes, nothing after it.
 #[tactic(auto, unfolding(crate::specs::Reading::text_of, crate::specs::Literals::literal))]
 fn past_text(line: &str) -> Result<(), Flaw<'_>>
+    ensures passed { IfOk result (λ _. reading.is_count (literals.literal (spec.after_spaces line.now)) ≡ false) }
     ensures flawed { IfErr result (λ flaw. (stage : StageOf) → (before : ℕ) → reading.text_of stage before (spec.after_spaces line.now) ≡ Err flaw.cause) }
 {
-    if after_spaces(line).is_empty() {
+    let text = after_spaces(line);
+    if text.is_empty() {
         return Err(at_next(line, AsmCause::Count));
     }
-    Ok(())
+    match stripped(text, "\"") {
+        Some(quoted) => past_quotes(quoted),
+        None => Ok(()),
+    }
 }
 
 /// A line whose words are those that may be there.
 fn past_line(line: &str, classes: usize) -> Result<(), Flaw<'_>>
-    ensures { IfErr result (λ flaw. IsFaultOf classes line.now flaw.cause) }
+    ensures passed { IfOk result (λ _. HasNoFault classes line.now) }
+    ensures flawed { IfErr result (λ flaw. IsFaultOf classes line.now flaw.cause) }
 {
     let parts = line_of(line);
     match parts.statement {
@@ -263,10 +299,11 @@ fn past_line(line: &str, classes: usize) -> Result<(), Flaw<'_>>
 
 /// The first word at which a line of a text with `classes` classes is faulty, whatever the other lines say: one that is
 /// unknown, that is not a number or not one in its range, that is one too many, or one that is missing. Its cause is the line's
-/// in each text with `classes` classes. Faults in quotes, and those that depend on other lines, are none of these: order,
-/// labels, limits and the entry. One pass over the line, or two.
+/// in each text with `classes` classes. Nothing only where no cause is: whether the line is refused, and for which cause,
+/// depends on the lines before it and after it. So it is with faults in quotes, whose line may be out of order, which counts
+/// first, and with order, labels, limits and the entry. One pass over the line, or two.
 pub fn flaw_of(line: &str, classes: usize) -> Option<Flaw<'_>>
-    ensures { IfSome result (λ flaw. IsFaultOf classes line.now flaw.cause) }
+    ensures { MatchOption result (HasNoFault classes line.now) (λ flaw. IsFaultOf classes line.now flaw.cause) }
 {
     past_line(line, classes).err()
 }

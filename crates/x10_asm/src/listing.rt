@@ -17,8 +17,9 @@ use std::alloc::{AllocError, Global};
 use x10_code::{Instr, Operand, form, name};
 use x10_image::{ClassView, ImageView, SigView};
 
+/// Pushes the first line: the least number of places.
 #[tactic(auto, unfolding(crate::specs::Listing::places_line))]
-fn push_places(out: &mut String, places: u16) -> Result<(), AllocError>
+pub fn push_places(out: &mut String, places: u16) -> Result<(), AllocError>
     ensures { OnOk result (string_bytes out.new ≡ string_bytes out.old ++ places_line places) }
 {
     out.push_str("places")?;
@@ -27,8 +28,9 @@ fn push_places(out: &mut String, places: u16) -> Result<(), AllocError>
     Ok(())
 }
 
+/// Pushes the last line: the number of the entry function.
 #[tactic(auto, unfolding(crate::specs::Listing::entry_line))]
-fn push_entry(out: &mut String, entry: u16) -> Result<(), AllocError>
+pub fn push_entry(out: &mut String, entry: u16) -> Result<(), AllocError>
     ensures { OnOk result (string_bytes out.new ≡ string_bytes out.old ++ entry_line entry) }
 {
     out.push_str("entry")?;
@@ -46,8 +48,9 @@ fn push_kinds(out: &mut String, class: &ClassView<'_>) -> Result<(), AllocError>
     Ok(())
 }
 
+/// Pushes the line of a class.
 #[tactic(auto, unfolding(crate::specs::Listing::class_line))]
-fn push_class(out: &mut String, class: &ClassView<'_>) -> Result<(), AllocError>
+pub fn push_class(out: &mut String, class: &ClassView<'_>) -> Result<(), AllocError>
     ensures { OnOk result (string_bytes out.new ≡ string_bytes out.old ++ class_line class.now) }
 {
     out.push_str("class")?;
@@ -56,8 +59,9 @@ fn push_class(out: &mut String, class: &ClassView<'_>) -> Result<(), AllocError>
     Ok(())
 }
 
+/// Pushes the line of a constant number.
 #[tactic(auto, unfolding(crate::specs::Listing::int_line))]
-fn push_int_line(out: &mut String, int: i64) -> Result<(), AllocError>
+pub fn push_int_line(out: &mut String, int: i64) -> Result<(), AllocError>
     ensures { OnOk result (string_bytes out.new ≡ string_bytes out.old ++ int_line int) }
 {
     out.push_str("int")?;
@@ -66,8 +70,9 @@ fn push_int_line(out: &mut String, int: i64) -> Result<(), AllocError>
     Ok(())
 }
 
+/// Pushes the line of a constant text.
 #[tactic(auto, unfolding(crate::specs::Listing::text_line))]
-fn push_text(out: &mut String, text: &str) -> Result<(), AllocError>
+pub fn push_text_line(out: &mut String, text: &str) -> Result<(), AllocError>
     ensures { OnOk result (string_bytes out.new ≡ string_bytes out.old ++ text_line text.now) }
 {
     out.push_str("text")?;
@@ -85,8 +90,9 @@ fn push_slots(out: &mut String, signature: &SigView<'_>) -> Result<(), AllocErro
     Ok(())
 }
 
+/// Pushes the line that begins a function.
 #[tactic(auto, unfolding(crate::specs::Listing::func_line))]
-fn push_func(out: &mut String, signature: &SigView<'_>) -> Result<(), AllocError>
+pub fn push_func(out: &mut String, signature: &SigView<'_>) -> Result<(), AllocError>
     ensures { OnOk result (string_bytes out.new ≡ string_bytes out.old ++ func_line signature.now.registers signature.now.loops signature.now.result signature.now.parameters) }
 {
     out.push_str("func")?;
@@ -140,8 +146,9 @@ fn push_code(out: &mut String, image: &ImageView<'_>, f: usize) -> Result<(), Al
     Ok(())
 }
 
+/// Pushes the line that ends a function.
 #[tactic(auto, unfolding(crate::specs::Listing::end_line))]
-fn push_end(out: &mut String) -> Result<(), AllocError>
+pub fn push_end(out: &mut String) -> Result<(), AllocError>
     ensures { OnOk result (string_bytes out.new ≡ string_bytes out.old ++ end_line) }
 {
     out.push_str("end\n")?;
@@ -188,7 +195,7 @@ fn push_texts(out: &mut String, image: &ImageView<'_>) -> Result<(), AllocError>
     ensures { OnOk result (string_bytes out.new ≡ string_bytes out.old ++ flat_map text_line image.now.texts) }
 {
     for i in 0..image.texts() {
-        push_text(out, image.text(i))?;
+        push_text_line(out, image.text(i))?;
     }
     Ok(())
 }

@@ -1,6 +1,6 @@
 //! Texts between quotes.
 
-ghost use Rattle.std.specs.Prelude.{◌≡◌, false, ◌≢◌};
+ghost use Rattle.std.specs.Prelude.{◌≡◌, false, ◌≢◌, ℕ, List, Some, None, MatchOption};
 ghost use Rattle.std.specs.String.{string_bytes};
 ghost use Rattle.x10_asm.specs.declared.fault.AsmCause.TheVariants.{Text};
 ghost use Rattle.x10_asm.specs.Literals as literals;
@@ -48,6 +48,28 @@ fn scan(alloc: Global, quoted: &str) -> Result<(Vec<u8>, &str), AsmCause>
         }
     }
     Err(AsmCause::Text)
+}
+
+/// What follows the closing quote; nothing where there is none. Takes no memory.
+pub fn behind(quoted: &str) -> Option<&str>
+    ensures { MatchOption result (literals.scan false quoted.now ≡ None) (λ rest. (text : List ℕ) × (literals.scan false quoted.now ≡ Some (text, rest.now))) }
+{
+    let bytes = quoted.as_bytes();
+    let mut after_backslash = false;
+    for at in 0..bytes.len() {
+        let byte = bytes[at];
+        if after_backslash {
+            let Some(_) = unescaped(byte) else {
+                return None;
+            };
+            after_backslash = false;
+        } else if byte == b'"' {
+            return Some(&quoted[at + 1..]);
+        } else if byte == b'\\' {
+            after_backslash = true;
+        }
+    }
+    None
 }
 
 /// A text of at most 65,535 bytes.

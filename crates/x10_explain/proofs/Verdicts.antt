@@ -18,7 +18,13 @@ use Rattle.x10_verify.specs.Verdict.{IsFirstOut, IsFirstWithout}
 use Rattle.x10_verify.specs.declared.fault.VerifyCause.{VerifyCause}
 use Rattle.x10_verify.specs.declared.fault.VerifyCause.TheVariants as cause
 use Rattle.x10_verify.specs.declared.fault.VerifyFault.{VerifyFault}
-use Rattle.x10_explain.specs.Verdicts.{IsGood, IsVerifiedImage, IsVerifiedText}
+use Rattle.x10_image.specs.Faults as images
+use Rattle.x10_image.specs.Faults.{IsFault, IsFaultOrMemory}
+use Rattle.x10_image.specs.declared.fault.ImageFault.{ImageFault as Fault}
+use Rattle.x10_image.specs.declared.fault.ImageFault.TheVariants as fault
+use Rattle.x10_explain.specs.declared.check.Refusal.{Refusal}
+use Rattle.x10_explain.specs.declared.check.Refusal.TheVariants as refusal
+use Rattle.x10_explain.specs.Verdicts.{IsGood, IsVerifiedImage, IsVerifiedText, Reports, RefusesImage, RefusesText}
 
 abbrev answer : Module → Result Module ImageFault
 answer m = Ok m
@@ -71,3 +77,24 @@ text_verdict text items slice b same (m, fits, read, spelled) h = (
       let one : v.0 ≡ m = cc in
       h.1 (m, same ∙ spelled, subst IsGood one v.2)),
 )
+
+-- ---- why not
+
+-- every fault but one is that of reading
+pub of_reading : (f : Fault) (read : Result Module ImageFault) → (f ≡ fault.Memory → ⊥) → IsFaultOrMemory (images.named f) read → IsFault (images.named f) read
+of_reading fault.Memory read other h = other refl
+of_reading fault.Short read other h = h
+of_reading _ read other h = h
+
+no_fault : (f : Option ImageFault) (read : Result Module ImageFault) (m : Module) → read ≡ Ok m → IsFault f read → ⊥
+no_fault None read m e h = h
+no_fault (Some f) read m e h = absurd (let c = sym h ∙ e in cc)
+
+-- what refuses the image of a text's module refuses the text
+pub text_why : (text items slice : List ℕ) (b : Bool) (r : Option Refusal) → slice ≡ items → IsImageOf items (module_of text) → Reports b r (RefusesImage slice) → Reports b r (RefusesText text)
+text_why text items slice b None same is h = h
+text_why text items slice b (Some (refusal.Asm f)) same is h = absurd h.1
+text_why text items slice b (Some (refusal.Image f)) same (m, fits, read, spelled) h = absurd (no_fault (images.named f) (module_at slice) m (ap module_at (same ∙ spelled) ∙ module_again m fits) h.1)
+text_why text items slice b (Some (refusal.Verify f)) same (m, fits, read, spelled) h =
+    let one : m ≡ h.1.0 = same_module m h.1.0 items fits spelled h.1.1 (sym same ∙ h.1.2) in
+    (h.0, (h.1.0, read ∙ ap (λ (n : Module). read_as n) one, h.1.1, h.1.3))

@@ -1,32 +1,16 @@
 //! Why the assembler refuses a text.
 ghost use Rattle.std.specs.Prelude.{◌≡◌, ◌++◌, List, ℕ, IfOk, OnOk, IsUtf8};
 ghost use Rattle.std.specs.String.{string_bytes};
-ghost use Rattle.x10_explain.specs.Heads.{asm_head, asm_word};
+ghost use Rattle.x10_explain.specs.Heads.{asm_head};
 
 use crate::caret::push_marks;
 use crate::expected::push_expected;
 use crate::hints::push_hints;
+use crate::names::asm_name;
 use crate::text::{front_of, line_at, missing, push_shown};
 use std::alloc::{AllocError, Global};
 use std::fmt::Write;
 use x10_asm::{AsmCause, AsmFault, Statement, classes_in, flaw_of, line_of, next_line};
-
-// The name of a cause.
-fn word(cause: AsmCause) -> &'static str
-    ensures { result.now ≡ asm_word cause }
-{
-    match cause {
-        AsmCause::Word => "Word",
-        AsmCause::Number => "Number",
-        AsmCause::Count => "Count",
-        AsmCause::Order => "Order",
-        AsmCause::Label => "Label",
-        AsmCause::Text => "Text",
-        AsmCause::Limit => "Limit",
-        AsmCause::Entry => "Entry",
-        AsmCause::Memory => "Memory",
-    }
-}
 
 /// Why a text spells no module, in at most 10 lines: the cause and the number of the line, with the line itself and marks
 /// beneath the word at fault; what the cause says about it, what such a line has to be, and hints for common mistakes. Linear
@@ -45,7 +29,7 @@ pub fn explain_asm(alloc: Global, text: &str, fault: AsmFault) -> Result<String,
 fn push_head(out: &mut String, fault: AsmFault) -> Result<(), AllocError>
     ensures { OnOk result (string_bytes out.new ≡ string_bytes out.old ++ asm_head fault) }
 {
-    let word = word(fault.cause);
+    let word = asm_name(fault.cause);
     let line = fault.line;
     write!(out, "{word}, line {line}: ")
 }

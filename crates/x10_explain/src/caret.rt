@@ -98,20 +98,19 @@ fn marked(line: &str, cause: AsmCause, classes: usize) -> Option<Span> {
     match cause {
         AsmCause::Order => Some(span_of(line, said.first, said.rest)),
         AsmCause::Label => label_word(line, said),
-        AsmCause::Text | AsmCause::Count => quoted(line, said, cause),
+        AsmCause::Text => quoted(line, said),
         AsmCause::Limit => Some(limit_word(line, said)),
         AsmCause::Entry => nth_word(line, 1),
-        AsmCause::Word | AsmCause::Number | AsmCause::Memory => None,
+        AsmCause::Word | AsmCause::Number | AsmCause::Count | AsmCause::Memory => None,
     }
 }
 
-// What is wrong with the quotes of a text line, or after them.
-fn quoted(line: &str, said: Line, cause: AsmCause) -> Option<Span> {
+// What is wrong with the quotes of a text line.
+fn quoted(line: &str, said: Line) -> Option<Span> {
     if said.statement != Statement::Text {
         return None;
     }
-    let (found, span) = in_quotes(line, line.len().saturating_sub(said.rest.len()))?;
-    if found == cause { Some(span) } else { None }
+    in_quotes(line, line.len().saturating_sub(said.rest.len()))
 }
 
 // The label that a line defines, or the one to which it jumps: the one word with an at sign in front.

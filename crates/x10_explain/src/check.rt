@@ -1,7 +1,7 @@
 //! All faults of a module that can be reported by themselves.
 ghost use Rattle.std.specs.Prelude.{◌≡◌, ◌↔◌, IfOk, IsTrue, List, ℕ};
 ghost use Rattle.x10_verify.specs.declared.fault.VerifyCause.TheVariants.{Memory};
-ghost use Rattle.x10_explain.specs.Verdicts.{IsVerifiedImage, IsVerifiedText};
+ghost use Rattle.x10_explain.specs.Verdicts.{IsVerifiedImage, IsVerifiedText, Reports, RefusesImage, RefusesText};
 
 use crate::asm::{explain_asm, push_others};
 use crate::faults::find;
@@ -41,7 +41,8 @@ const MOST_FAULTS: usize = 7;
 /// function that has one. Where it isn't verified this costs `verify` of all functions at most twice, and the explanations of
 /// at most 7 functions.
 pub fn check_image(alloc: Global, bytes: &[u8]) -> Result<Report, AllocError>
-    ensures { IfOk result (λ report. IsTrue report.verified ↔ IsVerifiedImage bytes.now) }
+    ensures verdict { IfOk result (λ report. IsTrue report.verified ↔ IsVerifiedImage bytes.now) }
+    ensures why { IfOk result (λ report. Reports report.verified report.refusal (RefusesImage bytes.now)) }
 {
     check_bytes(alloc, bytes, None)
 }
@@ -49,7 +50,8 @@ pub fn check_image(alloc: Global, bytes: &[u8]) -> Result<Report, AllocError>
 /// The same of the module that a text spells, each fault with its line of the text; or why it spells none: its first faulty
 /// line, and at most 6 more that are faulty wherever they stand.
 pub fn check_text(alloc: Global, text: &str) -> Result<Report, AllocError>
-    ensures { IfOk result (λ report. IsTrue report.verified ↔ IsVerifiedText text.now) }
+    ensures verdict { IfOk result (λ report. IsTrue report.verified ↔ IsVerifiedText text.now) }
+    ensures why { IfOk result (λ report. Reports report.verified report.refusal (RefusesText text.now)) }
 {
     match assemble(alloc, text) {
         Ok(bytes) => {
@@ -78,7 +80,8 @@ fn lines_of(alloc: Global, text: &str, fault: AsmFault) -> Result<String, AllocE
 }
 
 fn check_bytes(alloc: Global, bytes: &[u8], source: Option<&str>) -> Result<Report, AllocError>
-    ensures { IfOk result (λ report. IsTrue report.verified ↔ IsVerifiedImage bytes.now) }
+    ensures verdict { IfOk result (λ report. IsTrue report.verified ↔ IsVerifiedImage bytes.now) }
+    ensures why { IfOk result (λ report. Reports report.verified report.refusal (RefusesImage bytes.now)) }
 {
     let image = match ImageView::read(alloc, bytes) {
         Ok(image) => image,

@@ -2,35 +2,15 @@
 ghost use Rattle.std.specs.Prelude.{◌≡◌, ◌++◌, OnOk, IfOk, codes, decimal};
 ghost use Rattle.std.specs.String.{string_bytes};
 ghost use Rattle.x10_model.specs.Ranges.{instr_at};
-ghost use Rattle.x10_explain.specs.Heads.{head_line, line_if, position_of, word_of};
+ghost use Rattle.x10_explain.specs.Heads.{head_line, line_if, position_of};
 
+use crate::names::verify_name;
 use std::alloc::{AllocError, Global};
 use std::fmt::Write;
 use x10_asm::push_instruction;
-use x10_bounds::BoundCause;
 use x10_code::Instr;
 use x10_image::ImageView;
-use x10_verify::{VerifyCause, VerifyFault};
-
-// The rule that a fault names.
-fn word(cause: VerifyCause) -> &'static str
-    ensures { result.now ≡ word_of cause }
-{
-    match cause {
-        VerifyCause::Structure(BoundCause::Nesting) => "Nesting",
-        VerifyCause::Structure(BoundCause::Jump) => "Jump",
-        VerifyCause::Structure(BoundCause::LoopSlot) => "LoopSlot",
-        VerifyCause::Structure(BoundCause::CallOrder) => "CallOrder",
-        VerifyCause::Structure(BoundCause::TooLarge) => "TooLarge",
-        VerifyCause::Structure(BoundCause::Memory) => "Memory",
-        VerifyCause::Index => "Index",
-        VerifyCause::Unset => "Unset",
-        VerifyCause::Kind => "Kind",
-        VerifyCause::Home => "Home",
-        VerifyCause::Result => "Result",
-        VerifyCause::Memory => "Memory",
-    }
-}
+use x10_verify::VerifyFault;
 
 /// An instruction of a function, where there is one.
 pub(crate) fn instr_in(image: &ImageView, f: usize, pc: usize) -> Option<Instr>
@@ -57,7 +37,7 @@ fn push_line(out: &mut String, instr: Option<Instr>) -> Result<(), AllocError>
 fn push_position(out: &mut String, fault: VerifyFault) -> Result<(), AllocError>
     ensures { OnOk result (string_bytes out.new ≡ string_bytes out.old ++ position_of fault) }
 {
-    let word = word(fault.cause);
+    let word = verify_name(fault.cause);
     let (function, pc) = (fault.function, fault.pc);
     write!(out, "{word}, function {function}, instruction {pc}: ")
 }

@@ -1,32 +1,14 @@
 //! Why bytes are not an image.
 ghost use Rattle.std.specs.Prelude.{◌≡◌, ◌++◌, ◌<◌, List, ℕ, IfOk, OnOk, length};
 ghost use Rattle.std.specs.String.{string_bytes};
-ghost use Rattle.x10_explain.specs.Heads.{image_head, image_word};
+ghost use Rattle.x10_explain.specs.Heads.{image_head};
 
+use crate::names::image_name;
 use crate::position::push_position;
 use crate::text::is_text;
 use std::alloc::{AllocError, Global};
 use std::fmt::Write;
 use x10_image::ImageFault;
-
-// The name of a fault.
-fn word(fault: ImageFault) -> &'static str
-    ensures { result.now ≡ image_word fault }
-{
-    match fault {
-        ImageFault::Short => "Short",
-        ImageFault::Magic => "Magic",
-        ImageFault::Version => "Version",
-        ImageFault::Count => "Count",
-        ImageFault::Kind => "Kind",
-        ImageFault::Text => "Text",
-        ImageFault::Trailing => "Trailing",
-        ImageFault::Reserved => "Reserved",
-        ImageFault::Entry => "Entry",
-        ImageFault::Code(..) => "Code",
-        ImageFault::Memory => "Memory",
-    }
-}
 
 /// Why bytes are not an image, in at most 5 lines: the fault and how many bytes there are; where the fault is, the field that
 /// begins there and its bytes; what the fault says; what the header counts, where it is there; and whether the bytes are a text
@@ -45,7 +27,7 @@ pub fn explain_image(alloc: Global, bytes: &[u8], fault: ImageFault) -> Result<S
 fn push_head(out: &mut String, fault: ImageFault, len: usize) -> Result<(), AllocError>
     ensures { OnOk result (string_bytes out.new ≡ string_bytes out.old ++ image_head fault len) }
 {
-    let word = word(fault);
+    let word = image_name(fault);
     writeln!(out, "{word}, in {len} bytes")
 }
 

@@ -3,22 +3,21 @@
 ghost use Rattle.std.specs.Prelude.{◌<◌, length};
 
 use crate::caret::Span;
-use x10_asm::AsmCause;
 
 /// What is wrong with a text in quotes that begins after `from` bytes of a line: what isn't in quotes, an escape that isn't
-/// known, a quote that isn't closed, or what follows the closing one.
-pub(crate) fn in_quotes(line: &str, from: usize) -> Option<(AsmCause, Span)> {
+/// known, a quote that isn't closed, or what follows the closing one without a space between.
+pub(crate) fn in_quotes(line: &str, from: usize) -> Option<Span> {
     let bytes = line.as_bytes();
     let quote = past_spaces(bytes, from);
     if quote >= bytes.len() {
         return None;
     }
     if bytes[quote] != b'"' {
-        return Some((AsmCause::Text, word_from(bytes, quote)));
+        return Some(word_from(bytes, quote));
     }
     match closing(bytes, quote) {
         Ok(close) => behind(bytes, close),
-        Err(span) => Some((AsmCause::Text, span)),
+        Err(span) => Some(span),
     }
 }
 
@@ -71,19 +70,11 @@ fn closing(bytes: &[u8], quote: usize) -> Result<usize, Span>
     })
 }
 
-// What comes after a closing quote: directly after it, it is not a text, and after a space, a word too many.
-fn behind(bytes: &[u8], close: usize) -> Option<(AsmCause, Span)> {
+// What comes directly after a closing quote, which isn't part of a text.
+fn behind(bytes: &[u8], close: usize) -> Option<Span> {
     let from = close.saturating_add(1);
-    if from >= bytes.len() {
+    if from >= bytes.len() || bytes[from] == b' ' {
         return None;
     }
-    if bytes[from] != b' ' {
-        return Some((AsmCause::Text, word_from(bytes, from)));
-    }
-    let word = word_from(bytes, past_spaces(bytes, from));
-    if word.from < word.to {
-        Some((AsmCause::Count, word))
-    } else {
-        None
-    }
+    Some(word_from(bytes, from))
 }

@@ -1,7 +1,13 @@
 //! The listing that shows what the verifier knows.
-ghost use Rattle.std.specs.Prelude.{◌≡◌, ◌++◌, ◌<◌, List, ℕ, IfOk, OnOk, length};
+ghost use Rattle.std.specs.Prelude.{◌≡◌, ◌<◌, ◌++◌, ℤ, [], Some, Ok, IfOk, OnOk, length, slice_get};
+ghost use Rattle.std.specs.List.{flat_map};
 ghost use Rattle.std.specs.String.{string_bytes};
-ghost use Rattle.x10_asm.specs.Listing.{places_line};
+ghost use Rattle.x10_model.specs.Modules.{Function};
+ghost use Rattle.x10_model.specs.Ranges.{function_at};
+ghost use Rattle.x10_image.specs.Parts.{code_at};
+ghost use Rattle.x10_asm.specs.Comments.{Tells, said};
+ghost use Rattle.x10_asm.specs.Listing.{listing, class_line, int_line, text_line, instruction_line, function_lines};
+ghost use Rattle.x10_asm.specs.Reading.{module_of};
 
 use crate::commented::push_commented;
 use crate::faults::{Finding, find};
@@ -13,7 +19,8 @@ use crate::verify::explained;
 use std::alloc::{AllocError, Global};
 use std::fmt::Write;
 use x10_asm::{
-    push_instruction, push_int, push_kind, push_number, push_quoted, push_result, push_slot,
+    push_class, push_end, push_entry, push_func, push_instruction, push_int, push_int_line,
+    push_kind, push_places, push_quoted, push_result, push_slot, push_text_line,
 };
 use x10_code::{Instr, Operand, form};
 use x10_image::{ClassView, ImageView, SigView};
@@ -25,81 +32,98 @@ use x10_verify::VerifyCause;
 /// instruction, and no states after it. Without the comments it is the listing, so it assembles to the same image. Linear in
 /// the image, each function's flow aside; the memory is that of the text and of one function's states.
 pub fn list_verbose(alloc: Global, image: &ImageView) -> Result<String, AllocError>
-    ensures { IfOk result (λ s. (rest : List ℕ) × (string_bytes s ≡ places_line image.now.least_places ++ rest)) }
+    ensures says { IfOk result (λ s. said (string_bytes s) ≡ said (listing image.now)) }
+    ensures again { IfOk result (λ s. module_of (string_bytes s) ≡ Ok image.now) }
+{
+    image.fits();
+    let text = whole(alloc, image)?;
+    Ok(text)
+}
+
+/// The lines of the listing, with the comments between them.
+#[tactic(auto, unfolding(x10_asm::specs::Listing::listing))]
+fn whole(alloc: Global, image: &ImageView) -> Result<String, AllocError>
+    ensures { IfOk result (λ s. Tells [] (string_bytes s) (listing image.now)) }
 {
     let mut out = String::new(alloc);
     push_places(&mut out, image.least())?;
-    let rest = rest_of(alloc, image)?;
-    out.push_str(&rest)?;
-    Ok(out)
-}
-
-#[tactic(auto, unfolding(x10_asm::specs::Listing::places_line))]
-fn push_places(out: &mut String, places: u16) -> Result<(), AllocError>
-    ensures { OnOk result (string_bytes out.new ≡ string_bytes out.old ++ places_line places) }
-{
-    out.push_str("places")?;
-    push_number(out, u64::from(places))?;
-    out.push_str("\n")?;
-    Ok(())
-}
-
-// What comes below the first line.
-fn rest_of(alloc: Global, image: &ImageView) -> Result<String, AllocError> {
-    let mut out = String::new(alloc);
-    push_constants(&mut out, image)?;
+    push_classes(alloc, &mut out, image)?;
+    push_ints(alloc, &mut out, image)?;
+    push_texts(alloc, &mut out, image)?;
     push_functions(alloc, &mut out, image)?;
-    out.push_str("; a run begins with function")?;
-    push_number(&mut out, u64::from(image.entry()))?;
-    out.push_str("\nentry")?;
-    push_number(&mut out, u64::from(image.entry()))?;
-    out.push_str("\n")?;
+    push_numbered(
+        alloc,
+        &mut out,
+        "a run begins with function",
+        usize::from(image.entry()),
+    )?;
+    push_entry(&mut out, image.entry())?;
     Ok(out)
 }
 
-// The classes, numbers and texts, each with its number.
-fn push_constants(out: &mut String, image: &ImageView) -> Result<(), AllocError> {
+/// A comment of words and a number.
+fn push_numbered(
+    alloc: Global,
+    out: &mut String,
+    words: &str,
+    number: usize,
+) -> Result<(), AllocError>
+    ensures { OnOk result (Tells (string_bytes out.old) (string_bytes out.new) []) }
+{
+    let note = format!(in alloc; "{words} {number}")?;
+    push_commented(out, note.as_str())
+}
+
+fn push_classes(alloc: Global, out: &mut String, image: &ImageView) -> Result<(), AllocError>
+    ensures { OnOk result (Tells (string_bytes out.old) (string_bytes out.new) (flat_map class_line image.now.classes)) }
+{
     for c in 0..image.classes() {
-        writeln!(out, "; class {c}")?;
-        out.push_str("class")?;
-        push_kinds(out, &image.class(c))?;
-        out.push_str("\n")?;
+        push_numbered(alloc, out, "class", c)?;
+        push_class(out, &image.class(c))?;
     }
+    Ok(())
+}
+
+fn push_ints(alloc: Global, out: &mut String, image: &ImageView) -> Result<(), AllocError>
+    ensures { OnOk result (Tells (string_bytes out.old) (string_bytes out.new) (flat_map int_line image.now.ints)) }
+{
     for i in 0..image.ints() {
-        writeln!(out, "; int {i}")?;
-        out.push_str("int")?;
-        push_int(out, image.int(i))?;
-        out.push_str("\n")?;
+        push_numbered(alloc, out, "int", i)?;
+        push_int_at(out, image, i)?;
     }
+    Ok(())
+}
+
+fn push_int_at(out: &mut String, image: &ImageView, i: usize) -> Result<(), AllocError>
+    requires { i < length image.now.ints }
+    ensures { OnOk result ((z : ℤ) × (slice_get image.now.ints i ≡ Some z) × (string_bytes out.new ≡ string_bytes out.old ++ int_line z)) }
+{
+    push_int_line(out, image.int(i))
+}
+
+fn push_texts(alloc: Global, out: &mut String, image: &ImageView) -> Result<(), AllocError>
+    ensures { OnOk result (Tells (string_bytes out.old) (string_bytes out.new) (flat_map text_line image.now.texts)) }
+{
     for t in 0..image.texts() {
-        writeln!(out, "; text {t}")?;
-        out.push_str("text")?;
-        push_quoted(out, image.text(t))?;
-        out.push_str("\n")?;
+        push_numbered(alloc, out, "text", t)?;
+        push_text_line(out, image.text(t))?;
     }
     Ok(())
 }
 
-fn push_kinds(out: &mut String, fields: &ClassView) -> Result<(), AllocError> {
-    for n in 0..fields.len() {
-        push_kind(out, fields.field(n))?;
-    }
-    Ok(())
-}
-
-fn push_functions(alloc: Global, out: &mut String, image: &ImageView) -> Result<(), AllocError> {
+fn push_functions(alloc: Global, out: &mut String, image: &ImageView) -> Result<(), AllocError>
+    ensures { OnOk result (Tells (string_bytes out.old) (string_bytes out.new) (flat_map function_lines image.now.functions)) }
+{
     let mut bounds = Vec::new(alloc);
-    for _ in 0..image.functions() {
-        let f = bounds.len();
-        if f < image.functions() {
-            let finding = find(alloc, image, f, &bounds)?;
-            push_function(alloc, out, image, f, &bounds, &finding)?;
-            bounds.push(finding.bound)?;
-        }
+    for f in 0..image.functions() {
+        let finding = find(alloc, image, f, &bounds)?;
+        push_function(alloc, out, image, f, &bounds, &finding)?;
+        bounds.push(finding.bound)?;
     }
     Ok(())
 }
 
+#[tactic(auto, unfolding(x10_asm::specs::Listing::function_lines))]
 fn push_function(
     alloc: Global,
     out: &mut String,
@@ -109,35 +133,46 @@ fn push_function(
     finding: &Finding,
 ) -> Result<(), AllocError>
     requires { f < length image.now.functions }
+    ensures { OnOk result ((g : Function) × (function_at image.now f ≡ Some g) × Tells (string_bytes out.old) (string_bytes out.new) (function_lines g)) }
 {
-    let signature = image.signature(f);
-    let bound = finding.bound;
-    write!(out, "; function {f}")?;
+    push_heading(alloc, out, f, finding.bound)?;
+    push_func(out, &image.signature(f))?;
+    push_code(alloc, out, image, f, bounds, finding)?;
+    push_end(out)?;
+    Ok(())
+}
+
+/// The comment before a function.
+fn push_heading(alloc: Global, out: &mut String, f: usize, bound: u64) -> Result<(), AllocError>
+    ensures { OnOk result (Tells (string_bytes out.old) (string_bytes out.new) []) }
+{
+    let mut note = format!(in alloc; "function {f}")?;
     if bound != 0 {
-        write!(out, ", at most {bound} steps")?;
+        write!(note, ", at most {bound} steps")?;
     }
-    out.push_str("\nfunc")?;
-    push_number(out, u64::from(signature.registers()))?;
-    push_number(out, u64::from(signature.loops()))?;
-    push_result(out, signature.result())?;
-    push_slots(out, &signature)?;
-    out.push_str("\n")?;
+    push_commented(out, note.as_str())
+}
+
+fn push_code(
+    alloc: Global,
+    out: &mut String,
+    image: &ImageView,
+    f: usize,
+    bounds: &[u64],
+    finding: &Finding,
+) -> Result<(), AllocError>
+    requires { f < length image.now.functions }
+    ensures { OnOk result (Tells (string_bytes out.old) (string_bytes out.new) (flat_map instruction_line (code_at image.now f))) }
+{
     let left = steps_left(alloc, image, f, bounds)?;
     for pc in 0..image.code_len(f) {
         push_notes(alloc, out, image, f, pc, &left, finding)?;
         push_instruction(out, image.instr(f, pc))?;
     }
-    out.push_str("end\n")
-}
-
-fn push_slots(out: &mut String, signature: &SigView) -> Result<(), AllocError> {
-    for n in 0..signature.parameters() {
-        push_slot(out, signature.parameter(n))?;
-    }
     Ok(())
 }
 
-// The comments before an instruction.
+/// The comments before an instruction.
 fn push_notes(
     alloc: Global,
     out: &mut String,
@@ -148,31 +183,51 @@ fn push_notes(
     finding: &Finding,
 ) -> Result<(), AllocError>
     requires { f < length image.now.functions }
+    ensures { OnOk result (Tells (string_bytes out.old) (string_bytes out.new) []) }
+{
+    let note = note(alloc, image, f, pc, left, finding)?;
+    push_commented(out, note.as_str())?;
+    let Some(fault) = finding.fault else {
+        return Ok(());
+    };
+    if usize::from(fault.pc) != pc {
+        return Ok(());
+    }
+    let head = head(alloc, image, fault)?;
+    push_commented(out, head.as_str())?;
+    let reasons = explained(alloc, image, &finding.flow, fault)?;
+    push_commented(out, reasons.as_str())?;
+    Ok(())
+}
+
+/// What is known before an instruction, in one line.
+fn note(
+    alloc: Global,
+    image: &ImageView,
+    f: usize,
+    pc: usize,
+    left: &[u64],
+    finding: &Finding,
+) -> Result<String, AllocError>
+    requires { f < length image.now.functions }
 {
     let flow = &finding.flow;
-    write!(out, "; {pc}:")?;
+    let mut note = format!(in alloc; "{pc}:")?;
     if !is_past(finding, pc) {
         if flow.is_reached(pc) {
-            push_state(out, image, flow, pc, image.signature(f).registers())?;
+            push_state(&mut note, image, flow, pc, image.signature(f).registers())?;
         } else {
-            out.push_str(" no way leads here")?;
+            note.push_str(" no way leads here")?;
         }
         if finding.bound != 0 && pc < left.len() {
             let steps = left[pc];
-            write!(out, "; at most {steps} steps left")?;
+            write!(note, "; at most {steps} steps left")?;
         }
     }
     if let Some(instr) = instr_in(image, f, pc) {
-        push_named(out, image, instr)?;
+        push_named(&mut note, image, instr)?;
     }
-    out.push_str("\n")?;
-    match finding.fault {
-        Some(fault) if usize::from(fault.pc) == pc => {
-            push_commented(out, &head(alloc, image, fault)?)?;
-            push_commented(out, &explained(alloc, image, flow, fault)?)
-        }
-        _ => Ok(()),
-    }
+    Ok(note)
 }
 
 // Whether an instruction is where no states are shown: after a fault of the flow, or anywhere where what is named isn't there,
@@ -182,6 +237,20 @@ fn is_past(finding: &Finding, pc: usize) -> bool {
         None => false,
         Some(fault) => fault.cause == VerifyCause::Index || pc > usize::from(fault.pc),
     }
+}
+
+fn push_kinds(out: &mut String, fields: &ClassView) -> Result<(), AllocError> {
+    for n in 0..fields.len() {
+        push_kind(out, fields.field(n))?;
+    }
+    Ok(())
+}
+
+fn push_slots(out: &mut String, signature: &SigView) -> Result<(), AllocError> {
+    for n in 0..signature.parameters() {
+        push_slot(out, signature.parameter(n))?;
+    }
+    Ok(())
 }
 
 // What x names: a constant, a class or a function.

@@ -1,7 +1,8 @@
 -- Which part of bytes is refused, and by which fault.
-use Rattle.std.specs.Prelude.{◌≡◌, ℕ, List, Option, Some, length, ◌<◌}
-use Rattle.x10_model.specs.Readers.{times, int}
-use Rattle.x10_model.specs.ReadingImages.{Short, Trailing, header_at, class_at, text_at, function_at}
+use Rattle.std.specs.Prelude.{◌≡◌, ℕ, List, Some, Ok, length, ◌<◌}
+use Rattle.x10_model.specs.Readers.{times, int, all_of}
+use Rattle.x10_model.specs.Modules.{Module}
+use Rattle.x10_model.specs.ReadingImages.{Short, Trailing, header_at, class_at, text_at, function_at, parts_at}
 use Rattle.x10_image.specs.Faults.{named, IsFault}
 use Rattle.x10_image.specs.declared.fault.ImageFault.{ImageFault}
 use Rattle.x10_image.specs.declared.misfit.Item.{Item}
@@ -15,3 +16,7 @@ IsRefused classes (item.Ints count) from fault = IsFault (named fault) (times co
 IsRefused classes (item.Text t) from fault = IsFault (named fault) (text_at from)
 IsRefused classes (item.Function f) from fault = IsFault (named fault) (function_at classes f from)
 IsRefused classes item.Behind from fault = (named fault ≡ Some Trailing) × (0 < length from)
+
+-- the bytes are those of a header and of all the parts that it counts, each in order, and nothing behind; the entry aside
+abbrev pub HasWholeParts : List ℕ → Type 0
+HasWholeParts bytes = (m : Module) × (all_of parts_at Trailing bytes ≡ Ok m)

@@ -1,7 +1,12 @@
 //! Where bytes that are not an image are wrong: the first part that the reader refuses.
 
-ghost use Rattle.std.specs.Prelude.{ℕ, IfErr, IfSome};
-ghost use Rattle.x10_image.specs.Misfits.{IsRefused};
+ghost use Rattle.std.specs.Prelude.{◌≡◌, ℕ, ℤ, List, Ok, IfOk, IfErr, IfSome, MatchOption};
+ghost use Rattle.x10_kinds.specs.declared.kind.Kind.{Kind};
+ghost use Rattle.x10_model.specs.Modules as model;
+ghost use Rattle.x10_model.specs.Readers.{times, numbered, int};
+ghost use Rattle.x10_model.specs.ReadingImages.{Short, class_at, text_at, function_at, module_at};
+ghost use Rattle.x10_image.specs.Faults.{named, IsFault};
+ghost use Rattle.x10_image.specs.Misfits.{IsRefused, HasWholeParts};
 
 use crate::fault::ImageFault;
 use crate::field::{Field, class_field, function_field, header_field, int_field, text_field};
@@ -37,7 +42,9 @@ pub struct Misfit<'a> {
 
 /// The bytes after the classes.
 fn past_classes(bytes: &[u8], count: u16) -> Result<&[u8], Misfit<'_>>
-    ensures { IfErr result (λ m. IsRefused count m.item m.from.now m.fault) }
+    ensures part { IfErr result (λ m. IsRefused count m.item m.from.now m.fault) }
+    ensures passed { IfOk result (λ rest. (items : List (List Kind)) × (times count (class_at count) bytes.now ≡ Ok (items, rest.now))) }
+    ensures fault { IfErr result (λ m. IsFault (named m.fault) (times count (class_at count) bytes.now)) }
 {
     let mut rest = bytes;
     for class in 0..count {
@@ -58,7 +65,9 @@ fn past_classes(bytes: &[u8], count: u16) -> Result<&[u8], Misfit<'_>>
 
 /// The bytes after the constant numbers.
 fn past_numbers(bytes: &[u8], count: u16) -> Result<&[u8], Misfit<'_>>
-    ensures { IfErr result (λ m. (classes : ℕ) → IsRefused classes m.item m.from.now m.fault) }
+    ensures part { IfErr result (λ m. (classes : ℕ) → IsRefused classes m.item m.from.now m.fault) }
+    ensures passed { IfOk result (λ rest. (items : List ℤ) × (times count (int Short) bytes.now ≡ Ok (items, rest.now))) }
+    ensures fault { IfErr result (λ m. IsFault (named m.fault) (times count (int Short) bytes.now)) }
 {
     match past_ints(bytes, count) {
         Ok(rest) => Ok(rest),
@@ -73,7 +82,9 @@ fn past_numbers(bytes: &[u8], count: u16) -> Result<&[u8], Misfit<'_>>
 
 /// The bytes after the texts.
 fn past_texts(bytes: &[u8], count: u16) -> Result<&[u8], Misfit<'_>>
-    ensures { IfErr result (λ m. (classes : ℕ) → IsRefused classes m.item m.from.now m.fault) }
+    ensures part { IfErr result (λ m. (classes : ℕ) → IsRefused classes m.item m.from.now m.fault) }
+    ensures passed { IfOk result (λ rest. (items : List (List ℕ)) × (times count text_at bytes.now ≡ Ok (items, rest.now))) }
+    ensures fault { IfErr result (λ m. IsFault (named m.fault) (times count text_at bytes.now)) }
 {
     let mut rest = bytes;
     for text in 0..count {
@@ -94,7 +105,9 @@ fn past_texts(bytes: &[u8], count: u16) -> Result<&[u8], Misfit<'_>>
 
 /// The bytes after the functions.
 fn past_functions(bytes: &[u8], classes: u16, count: u16) -> Result<&[u8], Misfit<'_>>
-    ensures { IfErr result (λ m. IsRefused classes m.item m.from.now m.fault) }
+    ensures part { IfErr result (λ m. IsRefused classes m.item m.from.now m.fault) }
+    ensures passed { IfOk result (λ rest. (items : List model.Function) × (numbered count (function_at classes) bytes.now ≡ Ok (items, rest.now))) }
+    ensures fault { IfErr result (λ m. IsFault (named m.fault) (numbered count (function_at classes) bytes.now)) }
 {
     let mut rest = bytes;
     for function in 0..count {
@@ -115,7 +128,9 @@ fn past_functions(bytes: &[u8], classes: u16, count: u16) -> Result<&[u8], Misfi
 
 /// All parts one after the other.
 fn past_all(bytes: &[u8]) -> Result<(), Misfit<'_>>
-    ensures { IfErr result (λ m. (classes : ℕ) × IsRefused classes m.item m.from.now m.fault) }
+    ensures part { IfErr result (λ m. (classes : ℕ) × IsRefused classes m.item m.from.now m.fault) }
+    ensures whole { IfOk result (λ _. HasWholeParts bytes.now) }
+    ensures fault { IfErr result (λ m. IsFault (named m.fault) (module_at bytes.now)) }
 {
     let (header, rest) = match read_header(bytes) {
         Ok(read) => read,
@@ -143,11 +158,12 @@ fn past_all(bytes: &[u8]) -> Result<(), Misfit<'_>>
     })
 }
 
-/// The first part of bytes that is refused, with its fault, which is that of reading the part from there on, and the field of
-/// it that is wrong. Nothing where each part is whole and in order, even where the entry is wrong. One pass over the bytes;
-/// takes no memory.
+/// The first part of bytes that is refused, with its fault, which is that of reading the part from there on and that of the
+/// bytes, and the field of it that is wrong. Nothing only where each part is whole and in order, even where the entry is wrong.
+/// One pass over the bytes; takes no memory.
 pub fn misfit_in(bytes: &[u8]) -> Option<Misfit<'_>>
-    ensures { IfSome result (λ m. (classes : ℕ) × IsRefused classes m.item m.from.now m.fault) }
+    ensures part { IfSome result (λ m. (classes : ℕ) × IsRefused classes m.item m.from.now m.fault) }
+    ensures fault { MatchOption result (HasWholeParts bytes.now) (λ m. IsFault (named m.fault) (module_at bytes.now)) }
 {
     past_all(bytes).err()
 }

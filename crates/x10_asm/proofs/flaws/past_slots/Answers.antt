@@ -1,0 +1,6 @@
+use Rattle.std.proofs.Common.{[], ap}
+use Rattle.x10_asm.specs.Kinds.{each, slot_of}
+use Rattle.x10_asm.proofs.flaws.past_slots.Goals as goal
+
+pub returns-clause-passed : goal.returns-clause-passed
+returns-clause-passed c = c.loop-word.invariant.passed [] (ap (each (slot_of c.args.classes)) c.in_default.ensures.words)
