@@ -1,7 +1,7 @@
 -- What the commands' answers say of a file.
-use Rattle.std.proofs.Common.{◌≡◌, ℕ, ◌<◌, List, length, Option, Some, None, Result, Ok, refl, sym, ap, subst, ◌∙◌, inl, inr, slice_get, arith}
+use Rattle.std.proofs.Common.{◌≡◌, ℕ, ◌<◌, List, length, Option, Some, None, true, Result, Ok, refl, sym, ap, subst, ◌∙◌, inl, inr, slice_get, arith}
 use Rattle.std.specs.Prelude.{◌⊎◌}
-use Rattle.std.specs.Io.KnownBytes.{Appends}
+use Rattle.std.specs.Io.KnownBytes.{Appends, Keeps}
 use Rattle.x10_model.specs.Modules.{Module, FitsImage}
 use Rattle.x10_model.specs.Images.{spelling}
 use Rattle.x10_model.specs.ReadingImages.{ImageFault, module_at}
@@ -19,7 +19,10 @@ use Rattle.x10_verify.specs.Verdict.{IsFirstOut, IsFirstWithout}
 use Rattle.x10_verify.specs.declared.fault.VerifyCause.{VerifyCause}
 use Rattle.x10_verify.specs.declared.fault.VerifyCause.TheVariants as cause
 use Rattle.x10_verify.specs.declared.fault.VerifyFault.{VerifyFault}
-use Rattle.x10_world.specs.Endings.{IsImageOf}
+use Rattle.x10_world.specs.Endings.{IsImageOf, lines_in}
+use Rattle.x10_workers.specs.Reports.{AreLinesBy, IsTold}
+use Rattle.x10_cli.specs.Lines.{all_lines}
+use Rattle.x10_cli.proofs.Leaving.{none_appended}
 use Rattle.x10_world.specs.Opening.{IsForbidden}
 use Rattle.x10_kinds.specs.declared.stop.Stop.{Stop}
 use Rattle.x10_kinds.specs.declared.stop.Stop.TheVariants as stop
@@ -30,7 +33,7 @@ use Rattle.x10_world.specs.declared.fault.OpenFault.TheVariants as opened
 use Rattle.x10_cli.specs.declared.fault.Fault.{Fault}
 use Rattle.x10_cli.specs.declared.fault.Fault.TheVariants as fault
 use Rattle.x10_cli.specs.declared.task.Verb.TheVariants as verb
-use Rattle.x10_cli.specs.Answers.{IsImage, IsVerifiedImage, CanBeDone, IsStatus, Prints, verdict_line, places_for, of_verify, of_bounds, of_open, of_stop, of_work, status_of}
+use Rattle.x10_cli.specs.Answers.{IsImage, IsVerifiedImage, CanBeDone, IsStatus, LeavesStopped, Prints, lines_told, verdict_line, places_for, of_verify, of_bounds, of_open, of_stop, of_work, status_of}
 
 abbrev answer : Module → Result Module ImageFault
 answer m = Ok m
@@ -119,6 +122,19 @@ refused_by work.Thread is = absurd (omega (arith, is))
 pub not_worked : (bytes : List ℕ) (c : Certified) (places : Option ℕ) (n : ℕ) (f : WorkFault) (told : Fault) → IsImageOf bytes c → (f ≡ work.Places → IsForbidden c n) → n ≡ places_for places c → told ≡ of_work f → status_of told ≡ 1 → CanBeDone verb.Run places bytes → ⊥
 not_worked bytes c places n f told image forbids en e is done =
     not_permitted bytes c places n image (forbids (refused_by f (ap status_of (sym e) ∙ is))) en done
+
+-- what a run with threads left that didn't end
+pub work_left : (bytes : List ℕ) (v : Certified) (asked : Option ℕ) (n turns : ℕ) (f : WorkFault) (a b : Option (List ℕ)) → IsImageOf bytes v → n ≡ places_for asked v → IsTold n turns f → Appends a b (all_lines 0 (lines_told f)) → LeavesStopped verb.Run true asked bytes a b
+work_left bytes v asked n turns (work.Stop place why report) a b is en told p = inr (v, report.log.items, lines_in report.outputs.items, is, subst (λ k. AreLinesBy k report.log.items (lines_in report.outputs.items)) en told, p)
+work_left bytes v asked n turns (work.Turns report) a b is en told p = inr (v, report.log.items, lines_in report.outputs.items, is, subst (λ k. AreLinesBy k report.log.items (lines_in report.outputs.items)) en told.0, p)
+work_left bytes v asked n turns (work.Refused place why) a b is en told p = inl (none_appended a b p)
+work_left bytes v asked n turns (work.Differs turn) a b is en told p = inl (none_appended a b p)
+work_left bytes v asked n turns work.Memory a b is en told p = inl (none_appended a b p)
+work_left bytes v asked n turns work.Places a b is en told p = inl (none_appended a b p)
+work_left bytes v asked n turns work.Thread a b is en told p = inl (none_appended a b p)
+
+pub work_kept : (f : WorkFault) (told : Fault) (a b : Option (List ℕ)) → told ≡ of_work f → Appends a b (all_lines 0 (lines_told f)) → status_of told ≡ 1 → Keeps a b
+work_kept f told a b e p s = none_appended a b (subst (λ (g : WorkFault). Appends a b (all_lines 0 (lines_told g))) (refused_by f (ap status_of (sym e) ∙ s)) p)
 
 -- ---- statuses
 

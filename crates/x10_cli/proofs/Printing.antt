@@ -22,7 +22,7 @@ use Rattle.x10_trace.specs.Trace.{trace_lines, begins, goes_on}
 use Rattle.x10_world.proofs.Finishing.{map_length, lines_are}
 use Rattle.x10_cli.specs.declared.task.Verb.{Verb}
 use Rattle.x10_cli.specs.declared.task.Verb.TheVariants as verb
-use Rattle.x10_cli.specs.Answers.{HasRun, Prints, Traces}
+use Rattle.x10_cli.specs.Answers.{HasBegun, HasRun, Prints, Traces}
 use Rattle.x10_cli.specs.Lines.{numbered, place_lines, all_lines, bound_line, bound_lines}
 
 -- one item more of a list
@@ -108,6 +108,26 @@ has_run c count x y opened to ended = record {
     setting : setting_of x ≡ record { program = c.program; places = count }
     setting = ap (λ m. record { program = m; places = length x.places }) opened.program ∙ ap (λ n. record { program = c.program; places = n }) opened.places.count_is
 
+-- the same, as far as the run went
+pub has_begun : (c : Certified) (count : ℕ) (x y : WorldState) → IsOpenedWorld c count x → RunsTo x y → HasBegun c count (lines_at y.places)
+has_begun c count x y opened to = record {
+  key = key;
+  events = made.0;
+  last = made.1;
+  run = subst (λ s. Run Ideal s (WithinBounds c.bounds) (opening s key) made.0 made.1) setting (subst (λ bs. Run Ideal (setting_of x) (WithinBounds bs) (opening (setting_of x) key) made.0 made.1) opened.bounds made.2);
+  count = map_length (λ (q : PlaceState). map line_as q.lines) y.places ∙ to.kept.count ∙ opened.places.count_is;
+  lines = lines_are y made.1 made.3;
+}
+  where
+    key : ℕ
+    key = opened.stands.0
+
+    made : (events : List Event) × (v : World) × Run Ideal (setting_of x) (WithinBounds x.bounds) (opening (setting_of x) key) events v × StandsForWorld y v
+    made = to.runs (opening (setting_of x) key) opened.stands.1
+
+    setting : setting_of x ≡ record { program = c.program; places = count }
+    setting = ap (λ m. record { program = m; places = length x.places }) opened.program ∙ ap (λ n. record { program = c.program; places = n }) opened.places.count_is
+
 -- ---- a trace
 
 -- before the first event
@@ -122,7 +142,7 @@ traces_more x y z a b c event before one makes = (before.0 ++ trace_lines z even
 pub prints_kept : (v : Verb) (asked : Option ℕ) (bytes : List ℕ) (a b c : Option (List ℕ)) → Prints v asked bytes a b → Keeps b c → Prints v asked bytes a c
 prints_kept verb.Asm asked bytes a b c p k = (p.0, p.1, Appends-kept a b c _ p.2 k)
 prints_kept verb.List asked bytes a b c p k = (p.0, p.1, Appends-kept a b c _ p.2 k)
-prints_kept verb.ListVerbose asked bytes a b c p k = (p.0, p.1, p.2, Appends-kept a b c _ p.3 k)
+prints_kept verb.ListVerbose asked bytes a b c p k = (p.0, p.1, p.2, p.3, p.4, Appends-kept a b c _ p.5 k)
 prints_kept verb.Check asked bytes a b c p k = (p.0, p.1, Appends-kept a b c _ p.2 k)
 prints_kept verb.Verify asked bytes a b c p k = (p.0, p.1, p.2, p.3, Appends-kept a b c _ p.4 k)
 prints_kept verb.Bounds asked bytes a b c p k = (p.0, p.1, p.2, p.3, Appends-kept a b c _ p.4 k)

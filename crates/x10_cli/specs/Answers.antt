@@ -1,7 +1,7 @@
 -- What the program's answers say of a file, of a module and of a run.
 use Rattle.std.specs.List.{starts_with}
-use Rattle.std.specs.Prelude.{◌≡◌, ◌⊎◌, Bool, true, false, ◌==◌, ℕ, List, [], ◌∷◌, ◌++◌, length, Option, Some, None, Ok, IsSome, slice_get, codes, decimal}
-use Rattle.std.specs.Io.KnownBytes.{Appends}
+use Rattle.std.specs.Prelude.{◌≡◌, ◌⊎◌, Bool, true, false, ◌==◌, ℕ, List, [], ◌∷◌, ◌++◌, length, Option, Some, None, Ok, Err, IsSome, slice_get, codes, decimal}
+use Rattle.std.specs.Io.KnownBytes.{Appends, Keeps}
 use Rattle.std.specs.Prelude.{String}
 use Rattle.std.specs.Global.{Global}
 use Rattle.std.specs.String.{string_bytes}
@@ -11,11 +11,21 @@ use Rattle.x10_model.specs.declared.event.Event.{Event}
 use Rattle.x10_model.specs.Structure.{bounds_of}
 use Rattle.x10_model.specs.Places as machine
 use Rattle.x10_model.specs.Worlds.{World, Ideal, Run, WithinBounds, IsOver, opening}
-use Rattle.x10_asm.specs.Listing.{listing, places_line}
+use Rattle.x10_asm.specs.Comments.{said}
+use Rattle.x10_asm.specs.Listing.{listing}
 use Rattle.x10_asm.specs.Reading.{module_of}
 use Rattle.x10_explain.specs.Verdicts as verdict
+use Rattle.x10_explain.specs.declared.check.Refusal.{Refusal}
+use Rattle.x10_explain.specs.declared.check.Refusal.TheVariants as refusal
+use Rattle.x10_image.specs.Faults as images
+use Rattle.x10_image.specs.Faults.{IsFault}
+use Rattle.x10_model.specs.ReadingImages.{module_at}
+use Rattle.x10_bounds.specs.Faults as bounds
+use Rattle.x10_bounds.specs.Faults.{IsFaultOrMemory}
 use Rattle.x10_verify.specs.Certified.{Certified}
-use Rattle.x10_verify.specs.Faults.{HasBounds}
+use Rattle.x10_verify.specs.Faults.{HasBounds, Refutes}
+use Rattle.x10_hall.specs.declared.turn.Turn.{Turn}
+use Rattle.x10_workers.specs.Reports.{AreLinesBy}
 use Rattle.x10_workers.specs.declared.halt.WorkFault.{WorkFault}
 use Rattle.x10_workers.specs.declared.halt.WorkFault.TheVariants as work
 use Rattle.x10_world.specs.Endings.{IsImageOf, AreLinesOf, lines_in}
@@ -65,6 +75,11 @@ places_for (Some places) c = places
 -- whether a file is taken as an image: by its first four bytes, "X10P"
 abbrev pub begins_as_image : List ℕ → Bool
 begins_as_image bytes = starts_with (λ x y. x == y) bytes (codes "X10P")
+
+-- why a file isn't one of a verified module
+abbrev pub RefusesFile : Bool → List ℕ → Refusal → Type 0
+RefusesFile true bytes r = verdict.RefusesImage bytes r
+RefusesFile false bytes r = verdict.RefusesText bytes r
 
 abbrev pub is_good_file : Bool → List ℕ → Type 0
 is_good_file true bytes = verdict.IsVerifiedImage bytes
@@ -124,13 +139,13 @@ pub record HasDrawn (c : Certified) (places : ℕ) (picture : List ℕ) : Type 0
   pub ended : HasEnded last
   pub page : IsPage picture
 
--- what is appended to what is known to be written: the image of the text's module, the listing of the image's, the
--- verdict, the bounds of its functions, the lines of a run that has ended, or those of its events, or its picture, at as many
+-- what is appended to what is known to be written: the image of the text's module, the listing of the image's, perhaps
+-- with comments between, which is read as the module again, the verdict, the bounds of its functions, the lines of a run that has ended, or those of its events, or its picture, at as many
 -- places as were asked for
 abbrev pub Prints : Verb → Option ℕ → List ℕ → Option (List ℕ) → Option (List ℕ) → Type 0
 Prints verb.Asm asked bytes old new = (m : Module) × (module_of bytes ≡ Ok m) × Appends old new (spelling m)
 Prints verb.List asked bytes old new = (m : Module) × IsImage bytes m × Appends old new (listing m)
-Prints verb.ListVerbose asked bytes old new = (m : Module) × (rest : List ℕ) × IsImage bytes m × Appends old new (places_line m.least_places ++ rest)
+Prints verb.ListVerbose asked bytes old new = (m : Module) × (text : List ℕ) × IsImage bytes m × (said text ≡ said (listing m)) × (module_of text ≡ Ok m) × Appends old new text
 Prints verb.Check asked bytes old new = (text : List ℕ) × IsChecked bytes × Appends old new text
 Prints verb.Verify asked bytes old new = (c : Certified) × (bound : ℕ) × IsImageOf bytes c × (slice_get c.bounds c.program.entry ≡ Some bound)
     × Appends old new (verdict_line (length c.program.functions) bound)
@@ -140,6 +155,74 @@ Prints verb.Draw asked bytes old new = (c : Certified) × (picture : List ℕ) �
     × Appends old new picture
 Prints verb.Run asked bytes old new = (c : Certified) × (outputs : List (List machine.Line)) × IsImageOf bytes c × HasRun c (places_for asked c) outputs
     × Appends old new (all_lines 0 outputs)
+
+-- ---- where a command isn't done
+
+-- the lines of a run of the module, as far as it went: from the machine's opening at so many places, with no event that goes
+-- wrong and no activity that takes more steps than its bound
+pub record HasBegun (c : Certified) (places : ℕ) (outputs : List (List machine.Line)) : Type 0 where
+  pub key : ℕ
+  pub events : List Event
+  pub last : World
+  pub run : Run Ideal (record { program = c.program; places = places }) (WithinBounds c.bounds)
+      (opening (record { program = c.program; places = places }) key) events last
+  pub count : length outputs ≡ places
+  pub lines : AreLinesOf outputs last
+
+-- the lines of the first events of a run of the module, from its beginning
+pub record HasTracedSome (c : Certified) (places : ℕ) (old new : Option (List ℕ)) : Type 0 where
+  pub first : WorldState
+  pub last : WorldState
+  pub opened : IsOpenedWorld c places first
+  pub traces : Traces first last old new
+  pub runs : RunsTo first last
+
+-- lines of the first events that led on from a state of a world were appended
+abbrev pub TracesSome : WorldState → Option (List ℕ) → Option (List ℕ) → Type 0
+TracesSome x old new = (y : WorldState) × RunsTo x y × Traces x y old new
+
+-- the picture of a run of the module, as far as it went
+pub record HasDrawnSome (c : Certified) (places : ℕ) (picture : List ℕ) : Type 0 where
+  pub first : WorldState
+  pub last : WorldState
+  pub opened : IsOpenedWorld c places first
+  pub runs : RunsTo first last
+  pub page : IsPage picture
+
+-- what a refused command appends: for a check its report, for the others nothing
+abbrev pub LeavesRefused : Verb → Option (List ℕ) → Option (List ℕ) → Type 0
+LeavesRefused verb.Check old new = (text : List ℕ) × Appends old new text
+LeavesRefused _ old new = Keeps old new
+
+-- what a run leaves that stopped, if it began: the lines of its places; with threads those of a log
+abbrev pub LeavesRun : Bool → Option ℕ → List ℕ → Option (List ℕ) → Option (List ℕ) → Type 0
+LeavesRun false asked bytes old new = (c : Certified) × (outputs : List (List machine.Line)) × IsImageOf bytes c × HasBegun c (places_for asked c) outputs
+    × Appends old new (all_lines 0 outputs)
+LeavesRun true asked bytes old new = (c : Certified) × (log : List Turn) × (outputs : List (List machine.Line)) × IsImageOf bytes c
+    × AreLinesBy (places_for asked c) log outputs × Appends old new (all_lines 0 outputs)
+
+-- what a command that stopped appends: nothing, or what a run left until then; a check a report, which may be empty
+abbrev pub LeavesStopped : Verb → Bool → Option ℕ → List ℕ → Option (List ℕ) → Option (List ℕ) → Type 0
+LeavesStopped verb.Run threads asked bytes old new = Keeps old new ⊎ LeavesRun threads asked bytes old new
+LeavesStopped verb.Trace threads asked bytes old new = Keeps old new ⊎ ((c : Certified) × IsImageOf bytes c × HasTracedSome c (places_for asked c) old new)
+LeavesStopped verb.Draw threads asked bytes old new = Keeps old new ⊎ ((c : Certified) × (picture : List ℕ) × IsImageOf bytes c
+    × HasDrawnSome c (places_for asked c) picture × Appends old new picture)
+LeavesStopped verb.Check threads asked bytes old new = (text : List ℕ) × Appends old new text
+LeavesStopped _ threads asked bytes old new = Keeps old new
+
+-- the module of a file: the one whose image it is, or that it spells as a text
+abbrev pub IsModuleOf : List ℕ → Module → Type 0
+IsModuleOf bytes m = IsImage bytes m ⊎ ((begins_as_image bytes ≡ false) × (module_of bytes ≡ Ok m))
+
+-- a refusal is the one that is due: that of reading the text or the image, of the verifier, of the bounds, or of the number of
+-- places that was asked for
+abbrev pub IsDue : Option ℕ → List ℕ → Fault → Type 0
+IsDue asked bytes (fault.Asm f) = module_of bytes ≡ Err f
+IsDue asked bytes (fault.Image f) = IsFault (images.named f) (module_at bytes)
+IsDue asked bytes (fault.Verify f) = (m : Module) × IsModuleOf bytes m × Refutes m f
+IsDue asked bytes (fault.Bounds f) = (m : Module) × IsImage bytes m × IsFaultOrMemory (bounds.named f.cause) f (bounds_of m)
+IsDue asked bytes fault.Places = (c : Certified) × IsImageOf bytes c × IsForbidden c (places_for asked c)
+IsDue asked bytes _ = Unit {0}
 
 -- the commands that ask the verifier
 abbrev pub IsVerifying : Verb → Type 0
@@ -196,6 +279,11 @@ of_verify _ f = fault.Verify f
 abbrev pub of_bounds : BoundCause → BoundFault → Fault
 of_bounds bound.Memory f = fault.Memory
 of_bounds _ f = fault.Bounds f
+
+abbrev pub of_refusal : Refusal → Fault
+of_refusal (refusal.Asm f) = of_asm f.cause f
+of_refusal (refusal.Image f) = of_image f
+of_refusal (refusal.Verify f) = of_verify f.cause f
 
 abbrev pub of_open : OpenFault → Fault
 of_open opened.Places = fault.Places

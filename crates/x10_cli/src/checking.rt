@@ -1,7 +1,10 @@
 //! The command `check`: all that can be reported about a text or an image.
-ghost use Rattle.std.specs.Prelude.{◌≡◌, ◌≢◌, ◌↔◌, IfOk, IfErr, OnOk, IsTrue, None};
+ghost use Rattle.std.specs.Prelude.{◌≡◌, ◌≢◌, ◌↔◌, ◌⊎◌, ℕ, List, Option, IfOk, IfErr, OnOk, IsTrue, None};
+ghost use Rattle.std.specs.Io.KnownBytes.{Appends};
+ghost use Rattle.x10_explain.specs.Verdicts.{Reports};
+ghost use Rattle.x10_cli.specs.declared.fault.Fault.TheVariants as fault;
 ghost use Rattle.x10_cli.specs.declared.task.Verb.TheVariants as verb;
-ghost use Rattle.x10_cli.specs.Answers.{CanBeDone, Prints, IsChecked, begins_as_image, status_of};
+ghost use Rattle.x10_cli.specs.Answers.{CanBeDone, Prints, IsChecked, IsDue, RefusesFile, begins_as_image, of_refusal, status_of};
 
 use crate::fault::Fault;
 use std::alloc::Global;
@@ -13,13 +16,15 @@ pub(crate) fn print_check<O: Write>(alloc: Global, bytes: &[u8], out: &mut O) ->
     ensures done { IfOk result (λ _. CanBeDone verb.Check None bytes.now) }
     ensures printed { OnOk result (Prints verb.Check None bytes.now (O.contents out.old) (O.contents out.new)) }
     ensures refused { IfErr result (λ e. status_of e ≡ 1 → CanBeDone verb.Check None bytes.now → ⊥) }
+    ensures due { (asked : Option ℕ) → IfErr result (IsDue asked bytes.now) }
+    ensures reported { IfErr result (λ e. (e ≡ fault.File) ⊎ ((text : List ℕ) × Appends (O.contents out.old) (O.contents out.new) text)) }
 {
     let report = report_of(alloc, bytes)?;
     out.write_all(report.text.as_bytes())?;
-    if report.verified {
-        return Ok(());
+    match report.refusal {
+        None => Ok(()),
+        Some(refusal) => Err(fault_of(refusal)),
     }
-    Err(fault_of(report.refusal))
 }
 
 /// Whether a file is taken as an image, by its first four bytes; otherwise it is taken as a text.
@@ -31,7 +36,9 @@ pub fn is_image(bytes: &[u8]) -> bool
 
 fn report_of(alloc: Global, bytes: &[u8]) -> Result<Report, Fault>
     ensures verdict { IfOk result (λ report. IsTrue report.verified ↔ IsChecked bytes.now) }
+    ensures why { IfOk result (λ report. Reports report.verified report.refusal (RefusesFile (begins_as_image bytes.now) bytes.now)) }
     ensures status { IfErr result (λ e. status_of e ≢ 1) }
+    ensures due { (asked : Option ℕ) → IfErr result (IsDue asked bytes.now) }
 {
     if is_image(bytes) {
         return Ok(check_image(alloc, bytes)?);
@@ -43,11 +50,12 @@ fn report_of(alloc: Global, bytes: &[u8]) -> Result<Report, Fault>
 }
 
 /// The fault of a file that isn't a verified module, as the other commands report it.
-fn fault_of(refusal: Option<Refusal>) -> Fault {
+fn fault_of(refusal: Refusal) -> Fault
+    ensures { result ≡ of_refusal refusal }
+{
     match refusal {
-        Some(Refusal::Asm(fault)) => Fault::from(fault),
-        Some(Refusal::Image(fault)) => Fault::from(fault),
-        Some(Refusal::Verify(fault)) => Fault::from(fault),
-        None => Fault::Memory,
+        Refusal::Asm(fault) => Fault::from(fault),
+        Refusal::Image(fault) => Fault::from(fault),
+        Refusal::Verify(fault) => Fault::from(fault),
     }
 }

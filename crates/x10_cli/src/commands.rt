@@ -1,6 +1,6 @@
 //! What each command does, given an image's bytes and a writer.
-ghost use Rattle.std.specs.Prelude.{◌≡◌, ◌≢◌, ◌⊎◌, IfOk, IfErr, OnOk, None, map};
-ghost use Rattle.std.specs.Io.KnownBytes.{Appends};
+ghost use Rattle.std.specs.Prelude.{false, ◌≡◌, ◌≢◌, ◌⊎◌, ℕ, Option, IfOk, IfErr, OnOk, None, map};
+ghost use Rattle.std.specs.Io.KnownBytes.{Appends, Keeps};
 ghost use Rattle.x10_model.specs.Modules.{Module};
 ghost use Rattle.x10_place.specs.StandsFor.{line_as};
 ghost use Rattle.x10_world.specs.Endings.{IsImageOf, lines_at};
@@ -13,7 +13,8 @@ ghost use Rattle.x10_trace.specs.Trace.{trace_lines};
 ghost use Rattle.x10_cli.specs.Lines.{numbered, place_lines, all_lines};
 ghost use Rattle.x10_cli.specs.declared.task.Verb.TheVariants as verb;
 ghost use Rattle.x10_cli.specs.declared.fault.Fault.TheVariants as fault;
-ghost use Rattle.x10_cli.specs.Answers.{IsImage, IsVerifiedImage, IsVerifying, CanBeDone, IsStatus, Prints, Traces, places_for, status_of};
+ghost use Rattle.x10_cli.specs.Answers.{IsImage, IsVerifiedImage, IsVerifying, CanBeDone, IsStatus, IsDue, Prints, Traces, TracesSome, LeavesRefused, LeavesStopped, places_for, status_of};
+ghost use Rattle.x10_cli.specs.Telling.{SaysFault, Tells, fault_line};
 
 use crate::checking::print_check;
 use crate::explain::explanation;
@@ -36,11 +37,12 @@ use x10_verify::{Verified, verify};
 use x10_world::{Rounds, World, run_rounds};
 
 /// Does what a task asks for with the bytes of its file, and answers the exit status: 0 done, 1 refused, 2 stopped, 4 where a
-/// write failed or a text isn't UTF-8. What is printed goes to `out`: for `asm` the image, which is nothing where the text is
-/// refused, and for `draw` the picture. A fault is one line on `err`, `x10p: ` and its text, and after it, where the task says
-/// so, lines that explain it. Where a run stops, what it printed until then is on `out` before that; for a run with threads
-/// these are the lines of the turns in its log, where the fault is `Turns` or a stop, and none where it is another. With
-/// threads it may wait: nothing is promised about when, or whether, it returns then.
+/// write failed or a text isn't UTF-8. What is printed goes to `out`: for `asm` the image, and for `draw` the picture. At
+/// status 1 only a check has printed something, its report. A fault is one line on `err`, `x10p: ` and its text, and after it,
+/// where the task says so, lines that explain it; at status 1 it is the fault that is due. At status 2 a run has printed what
+/// it had printed until then, or nothing, and the other commands nothing; for a run with threads these are the lines of the
+/// turns in its log, where the fault is `Turns` or a stop, and none where it is another. With threads it may wait: nothing is
+/// promised about when, or whether, it returns then.
 pub fn execute<R: Threads + Wait + Sync, O: Write, E: Write>(
     rt: &R,
     alloc: Global,
@@ -54,6 +56,9 @@ pub fn execute<R: Threads + Wait + Sync, O: Write, E: Write>(
     ensures printed { result ≡ 0 → Prints task.now.verb task.now.places bytes.now (O.contents out.old) (O.contents out.new) }
     ensures verified { result ≡ 0 → IsVerifying task.now.verb → IsVerifiedImage bytes.now }
     ensures refused { result ≡ 1 → CanBeDone task.now.verb task.now.places bytes.now → ⊥ }
+    ensures left_refused { result ≡ 1 → LeavesRefused task.now.verb (O.contents out.old) (O.contents out.new) }
+    ensures left_stopped { result ≡ 2 → LeavesStopped task.now.verb task.now.threads task.now.places bytes.now (O.contents out.old) (O.contents out.new) }
+    ensures told { (result ≡ 1) ⊎ (result ≡ 2) → Tells task.now.explain task.now.places bytes.now result (E.contents err.old) (E.contents err.new) }
 {
     let done = perform(rt, alloc, task, bytes, out);
     if out.flush().is_err() {
@@ -67,7 +72,8 @@ pub fn execute<R: Threads + Wait + Sync, O: Write, E: Write>(
 
 /// Reports a fault, and what is asked for besides its line. Where there is no memory for that, its line has to do.
 fn refuse<E: Write>(alloc: Global, task: &Task, bytes: &[u8], fault: Fault, err: &mut E) -> u8
-    ensures { (result ≡ status_of fault) ⊎ (result ≡ 4) }
+    ensures status { (result ≡ status_of fault) ⊎ (result ≡ 4) }
+    ensures told { result ≢ 4 → SaysFault task.now.explain fault (E.contents err.old) (E.contents err.new) }
 {
     let status = tell(fault, err);
     if !task.explain {
@@ -84,7 +90,8 @@ fn refuse<E: Write>(alloc: Global, task: &Task, bytes: &[u8], fault: Fault, err:
 
 /// Reports a fault on a line, and answers the status that goes with it.
 pub fn tell<E: Write>(fault: Fault, err: &mut E) -> u8
-    ensures { (result ≡ status_of fault) ⊎ (result ≡ 4) }
+    ensures status { (result ≡ status_of fault) ⊎ (result ≡ 4) }
+    ensures told { result ≢ 4 → Appends (E.contents err.old) (E.contents err.new) (fault_line fault) }
 {
     match writeln!(err, "x10p: {fault}") {
         Ok(()) => fault.status(),
@@ -103,6 +110,9 @@ fn perform<R: Threads + Wait + Sync, O: Write>(
     ensures done { IfOk result (λ _. CanBeDone task.now.verb task.now.places bytes.now) }
     ensures printed { OnOk result (Prints task.now.verb task.now.places bytes.now (O.contents out.old) (O.contents out.new)) }
     ensures refused { IfErr result (λ e. status_of e ≡ 1 → CanBeDone task.now.verb task.now.places bytes.now → ⊥) }
+    ensures due { IfErr result (IsDue task.now.places bytes.now) }
+    ensures left_refused { IfErr result (λ e. status_of e ≡ 1 → LeavesRefused task.now.verb (O.contents out.old) (O.contents out.new)) }
+    ensures left_stopped { IfErr result (λ e. status_of e ≡ 2 → LeavesStopped task.now.verb task.now.threads task.now.places bytes.now (O.contents out.old) (O.contents out.new)) }
 {
     match task.verb {
         Verb::Asm => print_image(alloc, bytes, out),
@@ -121,6 +131,7 @@ fn perform<R: Threads + Wait + Sync, O: Write>(
 /// The view of an image.
 fn image_of<'a>(alloc: Global, bytes: &'a [u8]) -> Result<ImageView<'a>, Fault>
     ensures found { IfOk result (IsImage bytes.now) }
+    ensures due { (asked : Option ℕ) → IfErr result (IsDue asked bytes.now) }
     ensures refused { IfErr result (λ e. status_of e ≡ 1 → (m : Module) → IsImage bytes.now m → ⊥) }
 {
     Ok(ImageView::read(alloc, bytes)?)
@@ -129,6 +140,7 @@ fn image_of<'a>(alloc: Global, bytes: &'a [u8]) -> Result<ImageView<'a>, Fault>
 /// The module of an image, verified.
 pub(crate) fn verified_in<'a>(alloc: Global, bytes: &'a [u8]) -> Result<Verified<'a>, Fault>
     ensures found { IfOk result (IsImageOf bytes.now) }
+    ensures due { (asked : Option ℕ) → IfErr result (IsDue asked bytes.now) }
     ensures refused { IfErr result (λ e. status_of e ≡ 1 → IsVerifiedImage bytes.now → ⊥) }
 {
     let image = image_of(alloc, bytes)?;
@@ -140,6 +152,8 @@ fn print_image<O: Write>(alloc: Global, bytes: &[u8], out: &mut O) -> Result<(),
     ensures done { IfOk result (λ _. CanBeDone verb.Asm None bytes.now) }
     ensures printed { OnOk result (Prints verb.Asm None bytes.now (O.contents out.old) (O.contents out.new)) }
     ensures refused { IfErr result (λ e. status_of e ≡ 1 → CanBeDone verb.Asm None bytes.now → ⊥) }
+    ensures due { (asked : Option ℕ) → IfErr result (IsDue asked bytes.now) }
+    ensures kept { IfErr result (λ e. (e ≡ fault.File) ⊎ Keeps (O.contents out.old) (O.contents out.new)) }
 {
     let Ok(text) = str::from_utf8(bytes) else {
         return Err(Fault::File);
@@ -152,6 +166,8 @@ fn print_listing<O: Write>(alloc: Global, bytes: &[u8], out: &mut O) -> Result<(
     ensures done { IfOk result (λ _. CanBeDone verb.List None bytes.now) }
     ensures printed { OnOk result (Prints verb.List None bytes.now (O.contents out.old) (O.contents out.new)) }
     ensures refused { IfErr result (λ e. status_of e ≡ 1 → CanBeDone verb.List None bytes.now → ⊥) }
+    ensures due { (asked : Option ℕ) → IfErr result (IsDue asked bytes.now) }
+    ensures kept { IfErr result (λ e. (e ≡ fault.File) ⊎ Keeps (O.contents out.old) (O.contents out.new)) }
 {
     let image = image_of(alloc, bytes)?;
     let listing = list(alloc, &image)?;
@@ -164,6 +180,8 @@ fn print_verbose<O: Write>(alloc: Global, bytes: &[u8], out: &mut O) -> Result<(
     ensures done { IfOk result (λ _. CanBeDone verb.ListVerbose None bytes.now) }
     ensures printed { OnOk result (Prints verb.ListVerbose None bytes.now (O.contents out.old) (O.contents out.new)) }
     ensures refused { IfErr result (λ e. status_of e ≡ 1 → CanBeDone verb.ListVerbose None bytes.now → ⊥) }
+    ensures due { (asked : Option ℕ) → IfErr result (IsDue asked bytes.now) }
+    ensures kept { IfErr result (λ e. (e ≡ fault.File) ⊎ Keeps (O.contents out.old) (O.contents out.new)) }
 {
     let image = image_of(alloc, bytes)?;
     let listing = list_verbose(alloc, &image)?;
@@ -175,6 +193,8 @@ fn print_verdict<O: Write>(alloc: Global, bytes: &[u8], out: &mut O) -> Result<(
     ensures done { IfOk result (λ _. IsVerifiedImage bytes.now) }
     ensures printed { OnOk result (Prints verb.Verify None bytes.now (O.contents out.old) (O.contents out.new)) }
     ensures refused { IfErr result (λ e. status_of e ≡ 1 → IsVerifiedImage bytes.now → ⊥) }
+    ensures due { (asked : Option ℕ) → IfErr result (IsDue asked bytes.now) }
+    ensures kept { IfErr result (λ e. (e ≡ fault.File) ⊎ Keeps (O.contents out.old) (O.contents out.new)) }
 {
     let verified = verified_in(alloc, bytes)?;
     let image = verified.image();
@@ -188,6 +208,8 @@ fn print_bounds<O: Write>(alloc: Global, bytes: &[u8], out: &mut O) -> Result<()
     ensures done { IfOk result (λ _. CanBeDone verb.Bounds None bytes.now) }
     ensures printed { OnOk result (Prints verb.Bounds None bytes.now (O.contents out.old) (O.contents out.new)) }
     ensures refused { IfErr result (λ e. status_of e ≡ 1 → CanBeDone verb.Bounds None bytes.now → ⊥) }
+    ensures due { (asked : Option ℕ) → IfErr result (IsDue asked bytes.now) }
+    ensures kept { IfErr result (λ e. (e ≡ fault.File) ⊎ Keeps (O.contents out.old) (O.contents out.new)) }
 {
     let image = image_of(alloc, bytes)?;
     let bounds = bounds(alloc, &image)?;
@@ -203,6 +225,9 @@ fn print_run<O: Write>(alloc: Global, task: &Task, bytes: &[u8], out: &mut O) ->
     ensures done { IfOk result (λ _. CanBeDone verb.Run task.now.places bytes.now) }
     ensures printed { OnOk result (Prints verb.Run task.now.places bytes.now (O.contents out.old) (O.contents out.new)) }
     ensures refused { IfErr result (λ e. status_of e ≡ 1 → CanBeDone verb.Run task.now.places bytes.now → ⊥) }
+    ensures due { IfErr result (IsDue task.now.places bytes.now) }
+    ensures refused_early { IfErr result (λ e. status_of e ≡ 1 → Keeps (O.contents out.old) (O.contents out.new)) }
+    ensures stopped { IfErr result (λ e. status_of e ≡ 2 → LeavesStopped verb.Run false task.now.places bytes.now (O.contents out.old) (O.contents out.new)) }
 {
     let verified = verified_in(alloc, bytes)?;
     let places = places_of(task.places, &verified);
@@ -217,6 +242,9 @@ fn print_trace<O: Write>(alloc: Global, task: &Task, bytes: &[u8], out: &mut O) 
     ensures done { IfOk result (λ _. CanBeDone verb.Trace task.now.places bytes.now) }
     ensures printed { OnOk result (Prints verb.Trace task.now.places bytes.now (O.contents out.old) (O.contents out.new)) }
     ensures refused { IfErr result (λ e. status_of e ≡ 1 → CanBeDone verb.Trace task.now.places bytes.now → ⊥) }
+    ensures due { IfErr result (IsDue task.now.places bytes.now) }
+    ensures refused_early { IfErr result (λ e. status_of e ≡ 1 → Keeps (O.contents out.old) (O.contents out.new)) }
+    ensures stopped { IfErr result (λ e. status_of e ≡ 2 → LeavesStopped verb.Trace false task.now.places bytes.now (O.contents out.old) (O.contents out.new)) }
 {
     let verified = verified_in(alloc, bytes)?;
     let places = places_of(task.places, &verified);
@@ -228,6 +256,7 @@ fn print_trace<O: Write>(alloc: Global, task: &Task, bytes: &[u8], out: &mut O) 
 /// Makes the events of a program until the run has ended, at most `limit`, and prints the lines of each.
 fn trace<O: Write>(alloc: Global, world: &mut World, limit: u64, out: &mut O) -> Result<(), Fault>
     ensures traced { OnOk result (Traces world.old world.new (O.contents out.old) (O.contents out.new)) }
+    ensures some { IfErr result (λ e. (e ≡ fault.File) ⊎ TracesSome world.old (O.contents out.old) (O.contents out.new)) }
     ensures runs { RunsTo world.old world.new }
     ensures ended { OnOk result (HasEnded world.new) }
     ensures status { IfErr result (λ e. status_of e ≢ 1) }
@@ -253,6 +282,7 @@ fn print_event<O: Write>(
     out: &mut O,
 ) -> Result<(), Fault>
     ensures traced { OnOk result ((did : Done) × IsDone world.old event did world.new × Appends (O.contents out.old) (O.contents out.new) (trace_lines world.new event did)) }
+    ensures still { IfErr result (λ e. (e ≡ fault.File) ⊎ Keeps (O.contents out.old) (O.contents out.new)) }
     ensures made { OnOk result ((w : machine.World) → StandsForWorld world.old w → Makes world.old w event world.new) }
     ensures kept { KeepsSetting world.old world.new }
     ensures runs { RunsTo world.old world.new }

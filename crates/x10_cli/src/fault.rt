@@ -1,63 +1,51 @@
-ghost use Rattle.std.specs.Prelude.{◌≡◌};
+ghost use Rattle.std.specs.Prelude.{◌≡◌, Some};
+ghost use Rattle.std.specs.Fmt.{DisplaysOnOk};
+ghost use Rattle.x10_cli.specs.Telling.{fault_text};
 ghost use Rattle.x10_cli.specs.declared.fault.Fault.TheVariants as fault;
 ghost use Rattle.x10_cli.specs.Answers.{status_of, of_asm, of_image, of_verify, of_bounds, of_open, of_stop, of_halt, of_work};
 
 use std::alloc::{AllocError, AllocFailed};
-use std::io;
-use thiserror::Error;
+use std::{fmt, io};
 use x10_asm::{AsmCause, AsmFault};
 use x10_bounds::{BoundCause, BoundFault};
+use x10_explain::{asm_name, image_name, verify_name};
 use x10_image::ImageFault;
 use x10_kinds::Stop;
 use x10_verify::{VerifyCause, VerifyFault};
 use x10_workers::WorkFault;
 use x10_world::{Halt, OpenFault};
 
-/// Why a command was not done. Its text is what the program prints for it.
-#[derive(Clone, Copy, Debug, PartialEq, Eq, Error)]
+/// Why a command was not done. Its text is what the program prints for it, behind `x10p: `.
+#[derive(Clone, Copy, Debug, PartialEq, Eq)]
 pub enum Fault {
     /// The text spells no module.
-    #[error("asm: {0}")]
     Asm(AsmFault),
     /// The bytes are not an image.
-    #[error("image: {0}")]
     Image(ImageFault),
     /// The verifier refuses the module.
-    #[error("verify: {0}")]
     Verify(VerifyFault),
     /// A rule of structure is broken, so that there are no bounds.
-    #[error("verify: Structure {0}")]
     Bounds(BoundFault),
     /// The module does not run at the given number of places.
-    #[error("places")]
     Places,
     /// Memory was refused, outside a run.
-    #[error("memory")]
     Memory,
     /// Memory was refused to a place that ran.
-    #[error("stop: Memory")]
     StopMemory,
     /// A count of a place that ran would have passed its greatest value.
-    #[error("stop: Limit {0}")]
     StopLimit(u8),
     /// As many events were made as were allowed, and the run had not ended.
-    #[error("limit")]
     Limit,
     /// With threads, as many turns of workers were posted as were allowed, and a worker had one more.
-    #[error("turns")]
     Turns,
     /// With threads, a place refused a frame that was posted to it.
-    #[error("refused: place {0}")]
     Refused(u16),
     /// With threads, this turn of the log, from 0, isn't what the worker of its place did. The number is that of all turns
     /// where none differs, and a worker made another one, or the run is not over after them.
-    #[error("differs: turn {0}")]
     Differs(usize),
     /// The thread of a place could not be started.
-    #[error("thread")]
     Thread,
     /// A file can't be read, or what was printed can't be written.
-    #[error("file")]
     File,
 }
 
@@ -74,6 +62,68 @@ impl Fault {
             Fault::File => 4,
         }
     }
+}
+
+impl fmt::Display for Fault {
+    ghost output = { λ f. Some (fault_text f) };
+
+    fn fmt<W: fmt::Write>(&self, f: &mut fmt::Formatter<W>) -> fmt::Result {
+        match self {
+            Fault::Asm(fault) => write_asm(*fault, f),
+            Fault::Image(fault) => write_image(*fault, f),
+            Fault::Verify(fault) => write_verify(*fault, f),
+            Fault::Bounds(fault) => write_bounds(*fault, f),
+            Fault::Places => f.write_str("places"),
+            Fault::Memory => f.write_str("memory"),
+            Fault::StopMemory => f.write_str("stop: Memory"),
+            Fault::StopLimit(which) => write!(f, "stop: Limit {which}"),
+            Fault::Limit => f.write_str("limit"),
+            Fault::Turns => f.write_str("turns"),
+            Fault::Refused(place) => write!(f, "refused: place {place}"),
+            Fault::Differs(turn) => write!(f, "differs: turn {turn}"),
+            Fault::Thread => f.write_str("thread"),
+            Fault::File => f.write_str("file"),
+        }
+    }
+}
+
+impl std::error::Error for Fault {}
+
+fn write_asm<W: fmt::Write>(told: AsmFault, f: &mut fmt::Formatter<W>) -> fmt::Result
+    ensures { DisplaysOnOk W.write_str_gives f.old result (Some (fault_text (fault.Asm told))) f.new }
+{
+    let cause = asm_name(told.cause);
+    let line = told.line;
+    write!(f, "asm: line {line} {cause}")
+}
+
+fn write_image<W: fmt::Write>(told: ImageFault, f: &mut fmt::Formatter<W>) -> fmt::Result
+    ensures { DisplaysOnOk W.write_str_gives f.old result (Some (fault_text (fault.Image told))) f.new }
+{
+    if let ImageFault::Code(function, pc) = told {
+        return write!(f, "image: Code {function} {pc}");
+    }
+    let name = image_name(told);
+    write!(f, "image: {name}")
+}
+
+fn write_verify<W: fmt::Write>(told: VerifyFault, f: &mut fmt::Formatter<W>) -> fmt::Result
+    ensures { DisplaysOnOk W.write_str_gives f.old result (Some (fault_text (fault.Verify told))) f.new }
+{
+    let (function, pc) = (told.function, told.pc);
+    let rule = verify_name(told.cause);
+    match told.cause {
+        VerifyCause::Structure(_) => write!(f, "verify: Structure {rule} {function} {pc}"),
+        _ => write!(f, "verify: {rule} {function} {pc}"),
+    }
+}
+
+fn write_bounds<W: fmt::Write>(told: BoundFault, f: &mut fmt::Formatter<W>) -> fmt::Result
+    ensures { DisplaysOnOk W.write_str_gives f.old result (Some (fault_text (fault.Bounds told))) f.new }
+{
+    let (function, pc) = (told.function, told.pc);
+    let rule = verify_name(VerifyCause::Structure(told.cause));
+    write!(f, "verify: Structure {rule} {function} {pc}")
 }
 
 impl From<AsmFault> for Fault {

@@ -1,9 +1,10 @@
 //! The command `draw`: a run's picture.
-ghost use Rattle.std.specs.Prelude.{◌≡◌, ◌≢◌, IfOk, IfErr, OnOk};
+ghost use Rattle.std.specs.Prelude.{false, ◌≡◌, ◌≢◌, IfOk, IfErr, OnOk};
+ghost use Rattle.std.specs.Io.KnownBytes.{Keeps};
 ghost use Rattle.x10_world.specs.Rounds.{HasEnded, RunsTo};
 ghost use Rattle.x10_world.specs.StandsForWorld.{KeepsSetting};
 ghost use Rattle.x10_cli.specs.declared.task.Verb.TheVariants as verb;
-ghost use Rattle.x10_cli.specs.Answers.{CanBeDone, Prints, status_of};
+ghost use Rattle.x10_cli.specs.Answers.{CanBeDone, IsDue, LeavesStopped, Prints, status_of};
 
 use crate::commands::{places_of, verified_in};
 use crate::fault::Fault;
@@ -24,6 +25,9 @@ pub(crate) fn print_picture<O: Write>(
     ensures done { IfOk result (λ _. CanBeDone verb.Draw task.now.places bytes.now) }
     ensures printed { OnOk result (Prints verb.Draw task.now.places bytes.now (O.contents out.old) (O.contents out.new)) }
     ensures refused { IfErr result (λ e. status_of e ≡ 1 → CanBeDone verb.Draw task.now.places bytes.now → ⊥) }
+    ensures due { IfErr result (IsDue task.now.places bytes.now) }
+    ensures refused_early { IfErr result (λ e. status_of e ≡ 1 → Keeps (O.contents out.old) (O.contents out.new)) }
+    ensures stopped { IfErr result (λ e. status_of e ≡ 2 → LeavesStopped verb.Draw false task.now.places bytes.now (O.contents out.old) (O.contents out.new)) }
 {
     let verified = verified_in(alloc, bytes)?;
     let places = places_of(task.places, &verified);

@@ -1,11 +1,11 @@
 //! The command `run` with a thread for each place.
-ghost use Rattle.std.specs.Prelude.{◌≡◌, IfOk, IfErr, OnOk};
-ghost use Rattle.std.specs.Io.KnownBytes.{Appends};
+ghost use Rattle.std.specs.Prelude.{true, ◌≡◌, IfOk, IfErr, OnOk};
+ghost use Rattle.std.specs.Io.KnownBytes.{Appends, Keeps};
 ghost use Rattle.x10_world.specs.Endings.{lines_in};
 ghost use Rattle.x10_cli.specs.Lines.{all_lines};
 ghost use Rattle.x10_cli.specs.declared.task.Verb.TheVariants as verb;
 ghost use Rattle.x10_cli.specs.declared.fault.Fault.TheVariants as fault;
-ghost use Rattle.x10_cli.specs.Answers.{CanBeDone, Prints, lines_told, status_of};
+ghost use Rattle.x10_cli.specs.Answers.{CanBeDone, IsDue, LeavesStopped, Prints, lines_told, status_of};
 
 use crate::commands::{places_of, print_lines, verified_in};
 use crate::fault::Fault;
@@ -29,6 +29,9 @@ pub(crate) fn print_threaded<R: Threads + Wait + Sync, O: Write>(
     ensures done { IfOk result (λ _. CanBeDone verb.Run task.now.places bytes.now) }
     ensures printed { OnOk result (Prints verb.Run task.now.places bytes.now (O.contents out.old) (O.contents out.new)) }
     ensures refused { IfErr result (λ e. status_of e ≡ 1 → CanBeDone verb.Run task.now.places bytes.now → ⊥) }
+    ensures due { IfErr result (IsDue task.now.places bytes.now) }
+    ensures refused_early { IfErr result (λ e. status_of e ≡ 1 → Keeps (O.contents out.old) (O.contents out.new)) }
+    ensures stopped { IfErr result (λ e. status_of e ≡ 2 → LeavesStopped verb.Run true task.now.places bytes.now (O.contents out.old) (O.contents out.new)) }
 {
     let verified = verified_in(alloc, bytes)?;
     let places = places_of(task.places, &verified);

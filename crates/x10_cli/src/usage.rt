@@ -1,7 +1,9 @@
 //! The words of a command line.
-ghost use Rattle.std.specs.Prelude.{◌≡◌, ◌≢◌, IfOk, IfErr};
+ghost use Rattle.std.specs.Prelude.{◌≡◌, ◌≢◌, IfOk, IfErr, IfSome, IsTrue, None, true, is_some};
 ghost use Rattle.clap.specs.Words.{kind_of};
 ghost use Rattle.x10_cli.specs.Answers.{IsAnswer, text_of};
+ghost use Rattle.x10_cli.specs.Tasks.{IsOneTo, IsReadFrom, IsTask, has_output, verb_named};
+ghost use Rattle.x10_cli.specs.Tasks as tasks;
 
 use crate::help;
 use crate::task::{Task, Verb};
@@ -32,13 +34,21 @@ impl Usage {
     }
 }
 
+/// How many events a run has at most, where the words don't say so.
+const EVENTS: u64 = 1_000_000;
+
+/// The greatest number of events that can be asked for.
+const MOST_EVENTS: u64 = 1_000_000_000;
+
 const VERSION: &str = "0.1.0";
 
 const ABOUT: &str =
     "Runs programs that are spread over places, after it has proved that they can't go wrong";
 
-/// Reads the words of a command line, of which the program's name is the first.
+/// Reads the words of a command line, of which the program's name is the first. A task has what its command takes, and its
+/// numbers are in their ranges.
 pub fn parse<'a>(alloc: Global, words: &'a [String]) -> Result<Task<'a>, Usage>
+    ensures task { IfOk result IsTask }
     ensures answer { IfErr result IsAnswer }
 {
     match matched(alloc, words) {
@@ -86,7 +96,9 @@ fn refusal(alloc: Global, error: &Error) -> Usage
     }
 }
 
-fn matched<'a>(alloc: Global, words: &'a [String]) -> Result<Task<'a>, Error> {
+fn matched<'a>(alloc: Global, words: &'a [String]) -> Result<Task<'a>, Error>
+    ensures { IfOk result IsTask }
+{
     let mut command = program(alloc)?;
     let matches = command.try_get_matches_from_mut(words)?;
     match task_of(&matches) {
@@ -95,11 +107,36 @@ fn matched<'a>(alloc: Global, words: &'a [String]) -> Result<Task<'a>, Error> {
     }
 }
 
-fn task_of<'a>(matches: &ArgMatches<'a>) -> Option<Task<'a>> {
+/// The task that was asked for. What a command takes and the ranges of its numbers are looked at again here, so that they don't
+/// rest on how the command is put together.
+fn task_of<'a>(matches: &ArgMatches<'a>) -> Option<Task<'a>>
+    ensures { IfSome result IsTask }
+{
+    let task = task_in(matches)?;
+    if is_task(&task) { Some(task) } else { None }
+}
+
+fn task_in<'a>(matches: &ArgMatches<'a>) -> Option<Task<'a>>
+    ensures { IfSome result (IsReadFrom matches.now) }
+{
     let (name, matches) = matches.subcommand()?;
-    let verb = match name {
+    Some(Task {
+        verb: verb_of(name, matches.get_flag("verbose")),
+        input: matches.get_str("INPUT")?,
+        output: matches.get_str("OUTPUT"),
+        places: matches.get_one("places"),
+        limit: matches.get_one("limit").unwrap_or(EVENTS),
+        threads: matches.get_flag("threads"),
+        explain: matches.get_flag("explain"),
+    })
+}
+
+fn verb_of(name: &str, is_verbose: bool) -> Verb
+    ensures { result ≡ verb_named name.now is_verbose }
+{
+    match name {
         "asm" => Verb::Asm,
-        "list" if matches.get_flag("verbose") => Verb::ListVerbose,
+        "list" if is_verbose => Verb::ListVerbose,
         "list" => Verb::List,
         "check" => Verb::Check,
         "verify" => Verb::Verify,
@@ -107,16 +144,60 @@ fn task_of<'a>(matches: &ArgMatches<'a>) -> Option<Task<'a>> {
         "trace" => Verb::Trace,
         "draw" => Verb::Draw,
         _ => Verb::Run,
-    };
-    Some(Task {
-        verb,
-        input: matches.get_str("INPUT")?,
-        output: matches.get_str("OUTPUT"),
-        places: matches.get_one("places"),
-        limit: matches.get_one("limit").unwrap_or(1_000_000),
-        threads: matches.get_flag("threads"),
-        explain: matches.get_flag("explain"),
-    })
+    }
+}
+
+/// Whether a task has what its command takes, with its numbers in their ranges.
+fn is_task(task: &Task) -> bool
+    ensures { IsTrue result → IsTask task.now }
+{
+    writes_as_asked(task)
+        && is_place_count(task.places)
+        && is_event_count(task.limit)
+        && (is_run(task.verb) || has_no_numbers(task))
+        && threads_are_for_run(task)
+}
+
+fn writes_as_asked(task: &Task) -> bool
+    ensures { IsTrue result → is_some task.now.output ≡ has_output task.now.verb }
+{
+    match task.verb {
+        Verb::Asm | Verb::Draw => task.output.is_some(),
+        _ => task.output.is_none(),
+    }
+}
+
+fn is_place_count(places: Option<u16>) -> bool
+    ensures { IsTrue result → IfSome places (IsOneTo 64) }
+{
+    match places {
+        Some(places) => places >= 1 && places <= MOST_PLACES,
+        None => true,
+    }
+}
+
+fn is_event_count(limit: u64) -> bool
+    ensures { IsTrue result → IsOneTo 1000000000 limit }
+{
+    limit >= 1 && limit <= MOST_EVENTS
+}
+
+fn is_run(verb: Verb) -> bool
+    ensures { result ≡ tasks.is_run verb }
+{
+    matches!(verb, Verb::Run | Verb::Trace | Verb::Draw)
+}
+
+fn has_no_numbers(task: &Task) -> bool
+    ensures { IsTrue result → (task.now.places ≡ None) × (task.now.limit ≡ 1000000) }
+{
+    task.places.is_none() && task.limit == EVENTS
+}
+
+fn threads_are_for_run(task: &Task) -> bool
+    ensures { IsTrue result → task.now.threads ≡ true → task.now.verb ≡ Verb.Run }
+{
+    !task.threads || matches!(task.verb, Verb::Run)
 }
 
 fn program<'a>(alloc: Global) -> Result<Command<'a>, AllocError> {
@@ -262,7 +343,7 @@ fn run_words<'a>(
         .help("How many events at most, 1 to 1000000000")
         .default_value("1000000")
         .allow_negative_numbers(true)
-        .value_parser(value_parser!(u64).range(1..=1_000_000_000));
+        .value_parser(value_parser!(u64).range(1..=MOST_EVENTS as i64));
     Command::new(alloc, name)
         .about(about)
         .after_help(after)

@@ -1,6 +1,8 @@
 //! The program `x10p`: it reads its words and the file that they name, and does what they ask for.
 #![tactic(auto)]
 
+ghost use Rattle.std.specs.Prelude.{◌≡◌, IsTrue};
+
 mod input;
 mod output;
 mod trouble;
@@ -14,7 +16,7 @@ use std::process::ExitCode;
 use std::sync::Wait;
 use std::thread::Threads;
 use std::{env, io};
-use x10_cli::{Fault, Task, Usage, execute, no_text, parse, tell};
+use x10_cli::{Fault, Task, Usage, Verb, execute, no_text, parse, tell};
 
 /// Room for a fault's line.
 const FAULT_LINE: usize = 256;
@@ -101,8 +103,8 @@ fn speak(
     }
 }
 
-/// Does the work, and writes what it makes once that is whole, if there is anything; then what is said about a fault. A file
-/// that would be read and written is left as it is.
+/// Does the work, and writes what it makes once that is whole, if there is anything to write; then what is said about a fault.
+/// A file that would be read and written is left as it is.
 fn write<R: Threads + Wait + Sync>(
     rt: &HostRuntime,
     threads: &R,
@@ -121,12 +123,20 @@ fn write<R: Threads + Wait + Sync>(
         return Err(Trouble::Memory);
     };
     let status = execute(threads, rt.alloc(), task, &bytes, &mut made, &mut told);
-    if !made.is_empty()
+    if is_written(task.verb, status)
+        && !made.is_empty()
         && let Err(error) = whole::write(rt, output, &made)
     {
         return Err(Trouble::writing(error));
     }
     Ok(speak(rt, task, None, &told, status))
+}
+
+/// Whether a file is written at a status: an image only where the work is done; a picture also where the run stopped.
+fn is_written(verb: Verb, status: u8) -> bool
+    ensures { verb ≡ Verb.Asm → IsTrue result → status ≡ 0 }
+{
+    status == 0 || verb == Verb::Draw
 }
 
 /// Prints help on standard output, and what is wrong with the words on standard error.

@@ -1,3 +1,6 @@
+use Rattle.x10_cli.proofs.Leaving.{some_kept}
+use Rattle.std.proofs.Common.{inr}
+use Rattle.std.proofs.lemmas.Result.{err_from_is_err_and}
 use Rattle.x10_world.proofs.Rounding.{runs_self, runs_on}
 use Rattle.x10_cli.proofs.Printing.{traces_none, traces_more}
 use Rattle.x10_cli.proofs.commands.trace.Goals as goal
@@ -25,3 +28,13 @@ loop-preserved g = λ c. record {
   runs = runs_on c.args.world.now c.loop.world c.print_event.new.world c.loop.invariant.runs c.print_event.ensures.runs;
   traced = traces_more c.args.world.now c.loop.world c.print_event.new.world (g.O.Write.contents c.args.out.now) (g.O.Write.contents c.loop.out) (g.O.Write.contents c.print_event.new.out) c.in-Some.event c.loop.invariant.traced c.in_ok-print_event.ensures.traced c.in_ok-print_event.ensures.made;
 }
+
+pub returns-in_err-rounds-clause-some : goal.returns-in_err-rounds-clause-some
+returns-in_err-rounds-clause-some g = λ c.
+    let told = err_from_is_err_and c.from_residual.result c.from_residual.ensures.1 in
+    rw told.1 (inr (c.args.world.now, runs_self c.args.world.now, traces_none c.args.world.now (g.O.Write.contents c.args.out.now)))
+
+pub returns-in_err-print_event-clause-some : goal.returns-in_err-print_event-clause-some
+returns-in_err-print_event-clause-some g = λ c.
+    let told = err_from_is_err_and c.from_residual-in_err-print_event.result c.from_residual-in_err-print_event.ensures.1 in
+    rw (told.1, told.2) (some_kept c.in_err-print_event.field-0.0 c.args.world.now c.loop.world (g.O.Write.contents c.args.out.now) (g.O.Write.contents c.loop.out) (g.O.Write.contents c.print_event.new.out) c.loop.invariant.runs c.loop.invariant.traced c.in_err-print_event.ensures.still)

@@ -1,0 +1,25 @@
+use Rattle.std.proofs.Common.{sym}
+use Rattle.std.specs.Prelude.{codes}
+use Rattle.std.specs.Str.Parse.{ParsesUnsigned, ExplainsUnsignedError, HasUnsignedDigitsIfOk}
+use Rattle.clap.specs.Matches.{found_of, one_text}
+use Rattle.x10_cli.proofs.Tasking.{number_read}
+use Rattle.x10_cli.proofs.usage.task_in.Goals as goal
+
+pub returns : goal.returns
+returns c = record {
+  name = c.in_ok-name.name.now;
+  is_verbose = c.get_flag.result;
+  found = found_of c.in_ok-name.matches.now;
+  name_is = sym c.in_ok-name.ensures.name;
+  rows_are = sym c.in_ok-name.ensures.rows;
+  verbose_is = record { none = c.get_flag.ensures.none; yes = c.get_flag.ensures.value; no = c.get_flag.ensures.other };
+  verb_is = c.verb_of.ensures;
+  input_is = sym c.in_ok-get_str.ensures;
+  output_is = c.get_str-2.ensures;
+  places_is = number_read 16 (λ bs r. ParsesUnsigned 16 10 bs r × ExplainsUnsignedError 10 bs r × HasUnsignedDigitsIfOk bs r) (one_text (found_of c.in_ok-name.matches.now) (codes "places")) c.get_one.result (λ bs r g. g.0) c.get_one.ensures.none c.get_one.ensures.value;
+  asked = c.get_one-2.result;
+  is_asked = number_read 64 (λ bs r. ParsesUnsigned 64 10 bs r × ExplainsUnsignedError 10 bs r × HasUnsignedDigitsIfOk bs r) (one_text (found_of c.in_ok-name.matches.now) (codes "limit")) c.get_one-2.result (λ bs r g. g.0) c.get_one-2.ensures.none c.get_one-2.ensures.value;
+  limit_is = c.unwrap_or.ensures;
+  threads_is = record { none = c.get_flag-2.ensures.none; yes = c.get_flag-2.ensures.value; no = c.get_flag-2.ensures.other };
+  explain_is = record { none = c.get_flag-3.ensures.none; yes = c.get_flag-3.ensures.value; no = c.get_flag-3.ensures.other };
+}

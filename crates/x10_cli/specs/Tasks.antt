@@ -1,0 +1,83 @@
+-- Which tasks there are.
+use Rattle.std.specs.Prelude.{◌≡◌, ◌≤◌, ℕ, Bool, true, false, List, Option, Some, None, Err, Ok, IfSome, is_some, option_map, unwrap_or, if◌then◌else◌, codes}
+use Rattle.std.specs.Str.{bytes_eq}
+use Rattle.std.specs.Str.Parse.{ParsesUnsigned}
+use Rattle.std.specs.declared.num.ParseIntError.{ParseIntError}
+use Rattle.clap.specs.Matches.{first_value, one_text, subcommand_name_of}
+use Rattle.clap.specs.Simple.{subcommand_rows_of}
+use Rattle.clap.specs.Walk.{rows_of}
+use Rattle.clap.specs.declared.parser.matches.ArgMatches.{ArgMatches}
+use Rattle.clap.specs.declared.parser.matches.Found.{Found}
+use Rattle.x10_model.specs.declared.limits.TheConstants.{MOST_PLACES}
+use Rattle.x10_cli.specs.declared.task.Task.{Task}
+use Rattle.x10_cli.specs.declared.task.Verb.{Verb}
+use Rattle.x10_cli.specs.declared.task.Verb.TheVariants as verb
+
+abbrev pub IsOneTo : ℕ → ℕ → Type 0
+IsOneTo most n = (1 ≤ n) × (n ≤ most)
+
+-- the commands that write a file
+abbrev pub has_output : Verb → Bool
+has_output verb.Asm = true
+has_output verb.Draw = true
+has_output _ = false
+
+-- the commands that run a module
+abbrev pub is_run : Verb → Bool
+is_run verb.Run = true
+is_run verb.Trace = true
+is_run verb.Draw = true
+is_run _ = false
+
+-- a task has what its command takes: a file to write, a number of places, threads; the numbers are in their ranges
+pub record IsTask (t : Task) : Type 0 where
+  pub output : is_some t.output ≡ has_output t.verb
+  pub places : IfSome t.places (IsOneTo MOST_PLACES)
+  pub limit : IsOneTo 1000000000 t.limit
+  pub run : is_run t.verb ≡ false → (t.places ≡ None) × (t.limit ≡ 1000000)
+  pub threads : t.threads ≡ true → t.verb ≡ verb.Run
+
+-- ---- how a task is read
+
+-- the command of a name; `list` has two
+abbrev pub verb_named : List ℕ → Bool → Verb
+verb_named name is_verbose =
+    if bytes_eq name (codes "asm") then verb.Asm
+    else (if bytes_eq name (codes "list") then (if is_verbose then verb.ListVerbose else verb.List)
+    else (if bytes_eq name (codes "check") then verb.Check
+    else (if bytes_eq name (codes "verify") then verb.Verify
+    else (if bytes_eq name (codes "bounds") then verb.Bounds
+    else (if bytes_eq name (codes "trace") then verb.Trace
+    else (if bytes_eq name (codes "draw") then verb.Draw
+    else verb.Run))))))
+
+-- the number of so many bits that a text spells, if there is a text and it spells one
+abbrev pub IsNumberIn : ℕ → Option (List ℕ) → Option ℕ → Type 0
+IsNumberIn bits None answer = answer ≡ None
+IsNumberIn bits (Some text) None = (e : ParseIntError) × ParsesUnsigned bits 10 text (Err e)
+IsNumberIn bits (Some text) (Some n) = ParsesUnsigned {E = ParseIntError} bits 10 text (Ok n)
+
+-- whether an option is there, by the text that was found for it
+pub record IsFlagIn (text : Option (List ℕ)) (is_there : Bool) : Type 0 where
+  pub none : text ≡ None → is_there ≡ false
+  pub yes : text ≡ Some (codes "true") → is_there ≡ true
+  pub no : text ≡ Some (codes "false") → is_there ≡ false
+
+-- a task is what was found in the words: its command, the names of its files, its numbers and its options. What was found are
+-- the rows of the command that the parse met
+pub record IsReadFrom (m : ArgMatches) (t : Task) : Type 0 where
+  pub name : List ℕ
+  pub is_verbose : Bool
+  pub found : Found
+  pub name_is : subcommand_name_of m ≡ Some name
+  pub rows_are : option_map (λ p. p.1) (subcommand_rows_of m) ≡ Some (rows_of found)
+  pub verbose_is : IsFlagIn (one_text found (codes "verbose")) is_verbose
+  pub verb_is : t.verb ≡ verb_named name is_verbose
+  pub input_is : first_value found (codes "INPUT") ≡ Some t.input.now
+  pub output_is : option_map (λ s. s.now) t.output ≡ first_value found (codes "OUTPUT")
+  pub places_is : IsNumberIn 16 (one_text found (codes "places")) t.places
+  pub asked : Option ℕ
+  pub is_asked : IsNumberIn 64 (one_text found (codes "limit")) asked
+  pub limit_is : t.limit ≡ unwrap_or asked 1000000
+  pub threads_is : IsFlagIn (one_text found (codes "threads")) t.threads
+  pub explain_is : IsFlagIn (one_text found (codes "explain")) t.explain
