@@ -1,6 +1,6 @@
 -- The activities with which a place begins.
-use Rattle.std.specs.Prelude.{◌≡◌, ◌≢◌, ℕ, ◌<◌, ◌≤◌, Bool, false, ◌==◌, [], length, replicate, Some, None, if◌then◌else◌}
-use Rattle.slab.specs.Slab.{Slab, get}
+use Rattle.std.specs.Prelude.{◌≡◌, ◌≢◌, ℕ, ◌<◌, ◌≤◌, Bool, false, ◌==◌, List, [], length, map, replicate, Some, None, if◌then◌else◌}
+use Rattle.slab.specs.Slab.{Slab, get, entries}
 use Rattle.x10_model.specs.Modules.{Module, Function, IsEntry}
 use Rattle.x10_model.specs.Ranges.{function_at}
 use Rattle.x10_model.specs.Places as machine
@@ -65,3 +65,7 @@ pub record IsNextKey (slab : Slab StayState) (from key : ℕ) : Type 0 where
   pub least : from ≤ key
   pub used : (a : StayState) × (get slab key ≡ Some a)
   pub before : (k : ℕ) → from ≤ k → k < key → get slab k ≡ None
+
+-- the keys in use, by rising number
+abbrev pub keys_of : Slab StayState → List ℕ
+keys_of slab = map (λ e. e.0) (entries slab)

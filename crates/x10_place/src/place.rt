@@ -2,7 +2,7 @@ ghost use Rattle.std.specs.Prelude.{◌≡◌, ◌≢◌, ◌==◌, ◌<◌, ◌
 ghost use Rattle.slab.specs.Slab.{get, slab_len, ContainsKey};
 ghost use Rattle.x10_kinds.specs.declared.stop.Stop.TheVariants as stop;
 ghost use Rattle.x10_place.specs.StandsFor.{PlaceState, store_of, LeadsAll, Keeps, IsIdleAt, IsOverfull, IsHindered, IsAt, IsOperation};
-ghost use Rattle.x10_place.specs.Opening.{IsNew, IsNextKey, Opens};
+ghost use Rattle.x10_place.specs.Opening.{IsNew, IsNextKey, Opens, keys_of};
 ghost use Rattle.x10_place.specs.Stays.{StayState, IsDoneHere};
 ghost use Rattle.x10_place.specs.Messages.{no_sent};
 ghost use Rattle.x10_place.specs.Receiving.{IsTaken, IsRefusedBytes, IsOfFrame, stops};
@@ -195,6 +195,25 @@ impl<'a> Place<'a> {
             }
         }
         None
+    }
+
+    /// The keys in use, by rising number. Linear in the keys that were ever in use at once; takes memory for the list.
+    pub fn keys(&self, alloc: Global) -> Result<Vec<usize>, AllocError>
+        ensures { IfOk result (λ keys. keys.items ≡ keys_of self.now.stays) }
+    {
+        let mut keys = Vec::with_capacity(alloc, self.live())?;
+        for (key, _) in self.stays.iter() {
+            keys.push(key)?;
+        }
+        Ok(keys)
+    }
+
+    /// How many activities are here. Constant time.
+    #[inline(always)]
+    pub fn live(&self) -> usize
+        ensures { result ≡ slab_len self.now.stays }
+    {
+        self.stays.len()
     }
 
     /// Whether no activity is here. Constant time.

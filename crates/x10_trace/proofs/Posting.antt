@@ -1,6 +1,6 @@
 -- Lines of frames, one after another.
 use Rattle.std.proofs.Common.{◌≡◌, ℕ, suc, ◌+◌, ◌-◌, ◌<◌, List, ◌++◌, ap, ◌∙◌, append_assoc, arith}
-use Rattle.x10_world.specs.Flights.{FlightsState, flight_of}
+use Rattle.x10_flights.specs.Flights.{FlightsState, flight_of}
 use Rattle.x10_trace.specs.Trace.{flight_line, post_lines}
 
 -- a line more, and the lines after it

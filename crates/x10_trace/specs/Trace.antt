@@ -7,7 +7,7 @@ use Rattle.x10_model.specs.declared.event.Event.{Event}
 use Rattle.x10_model.specs.declared.event.Event.TheVariants.{Step, Deliver}
 use Rattle.x10_world.specs.declared.done.Done.{Done}
 use Rattle.x10_world.specs.declared.done.Done.TheVariants as done
-use Rattle.x10_world.specs.Flights.{Flight, FlightsState, flight_of}
+use Rattle.x10_flights.specs.Flights.{Flight, FlightsState, flight_of}
 use Rattle.x10_model.specs.Worlds.{World}
 use Rattle.x10_world.specs.Happenings.{IsDone}
 use Rattle.x10_world.specs.StandsForWorld.{WorldState, StandsForWorld, Makes}

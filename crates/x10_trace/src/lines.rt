@@ -2,7 +2,7 @@
 ghost use Rattle.std.specs.Prelude.{◌≡◌, ◌++◌, OnOk, IfOk};
 ghost use Rattle.std.specs.String.{string_bytes};
 ghost use Rattle.x10_model.specs.declared.event.Event.TheVariants.{Step};
-ghost use Rattle.x10_world.specs.Flights.{flight_of};
+ghost use Rattle.x10_flights.specs.Flights.{flight_of};
 ghost use Rattle.x10_trace.specs.Trace.{flight_line, post_lines, in_range, delivered_line, trace_lines};
 
 use std::alloc::{AllocError, Global};

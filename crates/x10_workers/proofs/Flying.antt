@@ -8,7 +8,7 @@ use Rattle.x10_place.specs.declared.sent.Sent.{Sent}
 use Rattle.x10_place.specs.declared.place.Stepped.{Stepped}
 use Rattle.x10_place.specs.declared.place.Stepped.TheVariants as stepped
 use Rattle.x10_hall.specs.Halls.{Frame}
-use Rattle.x10_world.specs.Flights.{Flight, FlightsState, flight_among, flight_of, without, taken_from, with_room}
+use Rattle.x10_flights.specs.Flights.{Flight, FlightsState, flight_among, flight_of, without, taken_from, with_room}
 use Rattle.x10_world.specs.StandsForWorld.{with_posted, with_sent, after_step}
 use Rattle.x10_workers.specs.Trails.{frame_in, frames_out}
 use Rattle.x10_workers.specs.Weaves.{all_flying}

@@ -13,7 +13,7 @@ use Rattle.x10_place.specs.StandsFor.{PlaceState, store_of, line_as}
 use Rattle.x10_place.specs.Stays.{IsDoneHere}
 use Rattle.x10_hall.specs.declared.turn.Turn.{Turn}
 use Rattle.x10_world.specs.Endings.{lines_at}
-use Rattle.x10_world.specs.Flights.{FlightsState}
+use Rattle.x10_flights.specs.Flights.{FlightsState}
 use Rattle.x10_world.specs.Opening.{IsOpened, AreOpened, IsOpenedWorld, IsForbidden}
 use Rattle.x10_world.specs.Queries.{IsClosed}
 use Rattle.x10_world.specs.StandsForWorld.{WorldState, StandsForWorld, world_of, IsWorld}

@@ -8,7 +8,7 @@ use Rattle.std.proofs.lemmas.Option.{same_Some, slice_get_within}
 use Rattle.x10_verify.specs.Certified.{Certified}
 use Rattle.x10_place.specs.StandsFor.{PlaceState, line_as}
 use Rattle.x10_hall.specs.declared.turn.Turn.{Turn}
-use Rattle.x10_world.specs.Flights.{Flight, flight_among, without}
+use Rattle.x10_flights.specs.Flights.{Flight, flight_among, without}
 use Rattle.x10_world.specs.Opening.{IsOpenedWorld}
 use Rattle.x10_world.specs.Queries.{HasPlace}
 use Rattle.x10_world.specs.StandsForWorld.{WorldState}

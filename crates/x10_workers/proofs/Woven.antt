@@ -21,7 +21,7 @@ use Rattle.x10_hall.specs.declared.turn.Turn.{Turn}
 use Rattle.x10_hall.specs.Halls.{Frame, Numbered, frame_of, told}
 use Rattle.x10_world.specs.declared.done.Done.{Done}
 use Rattle.x10_world.specs.declared.done.Done.TheVariants as done
-use Rattle.x10_world.specs.Flights.{Flight, FlightsState, flight_of, taken_from, with_room}
+use Rattle.x10_flights.specs.Flights.{Flight, FlightsState, flight_of, taken_from, with_room}
 use Rattle.x10_world.specs.Happenings.{Happened, IsDone, StandsAt, frames_in}
 use Rattle.x10_world.specs.StandsForWorld as world
 use Rattle.x10_world.specs.StandsForWorld.{WorldState, world_of, IsWorld, IsMade, IsStepped, after_step, far_in}

@@ -8,7 +8,7 @@ use Rattle.x10_verify.specs.Certified.{Certified}
 use Rattle.x10_place.specs.declared.line.Line as place_line
 use Rattle.x10_place.specs.StandsFor.{line_as}
 use Rattle.x10_hall.specs.declared.turn.Turn.{Turn}
-use Rattle.x10_world.specs.Flights.{Flight, flight_of}
+use Rattle.x10_flights.specs.Flights.{Flight, flight_of}
 use Rattle.x10_world.specs.Opening.{IsOpenedWorld}
 use Rattle.x10_world.specs.Queries.{IsNoPlace, HasPlace, IsClosed}
 use Rattle.x10_world.specs.Runs.{StopsAt}

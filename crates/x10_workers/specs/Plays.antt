@@ -15,7 +15,7 @@ use Rattle.x10_hall.specs.declared.turn.Turn.{Turn}
 use Rattle.x10_world.specs.declared.done.Done.{Done}
 use Rattle.x10_world.specs.declared.done.Done.TheVariants.{Taken}
 use Rattle.x10_world.specs.Endings.{AreLinesOf}
-use Rattle.x10_world.specs.Flights.{Flight, flight_of}
+use Rattle.x10_flights.specs.Flights.{Flight, flight_of}
 use Rattle.x10_world.specs.Happenings.{IsDone}
 use Rattle.x10_world.specs.Opening.{IsOpenedWorld}
 use Rattle.x10_world.specs.Queries.{IsClosed}

@@ -1,7 +1,7 @@
 //! Making the events of a turn in a world, and comparing what they do with what the turn says.
 ghost use Rattle.std.specs.Prelude.{◌≡◌, ◌≢◌, ◌↔◌, true, IsTrue, IsFalse, IfOk, IfErr, MatchOption, Some, length};
 ghost use Rattle.x10_model.specs.declared.event.Event.TheVariants.{Step, Deliver};
-ghost use Rattle.x10_world.specs.Flights.{flight_of};
+ghost use Rattle.x10_flights.specs.Flights.{flight_of};
 ghost use Rattle.x10_world.specs.Queries.{IsNoPlace, HasPlace};
 ghost use Rattle.x10_world.specs.StandsForWorld.{WorldState};
 ghost use Rattle.x10_workers.specs.Audits.{IsNotFor, HasPrinted, IsOther, IsHaltedAt, HaltsTaking, HaltsStepping, HaltsTurn};

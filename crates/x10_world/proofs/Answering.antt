@@ -11,7 +11,7 @@ use Rattle.x10_place.specs.Stays.{finish_at}
 use Rattle.x10_place.specs.StandsFor.{PlaceState}
 use Rattle.x10_world.specs.declared.done.Happening.{Happening}
 use Rattle.x10_world.specs.Happenings.{Happened}
-use Rattle.x10_world.specs.Flights.{FlightsState}
+use Rattle.x10_flights.specs.Flights.{FlightsState}
 use Rattle.x10_world.specs.Prompt.{MayEnd, WorksIn}
 use Rattle.x10_world.specs.StandsForWorld.{WorldState, world_of, IsWorld, KeepsSetting, StandsForWorld, Makes, IsIdleNow, BeganLast, SentLast}
 use Rattle.x10_world.specs.Runs.{StopsAt, RepeatsThrough, IsHaltedStretch, Repeats}

@@ -10,7 +10,7 @@ use Rattle.x10_finish.specs.Watching.{NothingFlies}
 use Rattle.x10_finish.proofs.Watching.{done_is_over, over_is_done}
 use Rattle.x10_place.specs.Stays.{IsDoneHere}
 use Rattle.x10_place.specs.StandsFor.{PlaceState, store_of}
-use Rattle.x10_world.specs.Flights.{Flight, flight_of, flight_among}
+use Rattle.x10_flights.specs.Flights.{Flight, flight_of, flight_among}
 use Rattle.x10_world.specs.StandsForWorld.{WorldState, BelongsTo, BelongTo, counts_in, StandsForWorld}
 use Rattle.x10_world.specs.Queries.{IsFlyingTo, IsReportTo}
 use Rattle.x10_world.proofs.Lists.{at_first}

@@ -16,7 +16,7 @@ use Rattle.x10_place.specs.StandsFor as place
 use Rattle.x10_place.specs.StandsFor.{PlaceState, Far, StandsFor}
 use Rattle.x10_place.specs.Opening.{opening_place}
 use Rattle.x10_world.specs.Budget.{IsWithinBudget}
-use Rattle.x10_world.specs.Flights.{Flight, FlightsState, RisingBy, flight_of, flight_among}
+use Rattle.x10_flights.specs.Flights.{Flight, FlightsState, RisingBy, flight_of, flight_among}
 use Rattle.x10_world.specs.StandsForWorld.{WorldState, world_of, IsWorld, setting_of, totals_at, kept_at, counts_in, far_in, StandsForWorld}
 use Rattle.x10_world.proofs.LinkingDeliveries.{answered_at_opening}
 use Rattle.x10_world.specs.Opening.{IsOpened, AreOpened}

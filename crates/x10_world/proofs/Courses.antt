@@ -13,7 +13,7 @@ use Rattle.x10_place.specs.declared.sent.Sent.{Sent}
 use Rattle.x10_place.specs.StandsFor.{PlaceState}
 use Rattle.x10_world.specs.declared.done.Happening.{Happening}
 use Rattle.x10_world.specs.declared.done.Happening.TheVariants as happening
-use Rattle.x10_world.specs.Flights.{FlightsState, RisingBy, flight_among, taken_from, without}
+use Rattle.x10_flights.specs.Flights.{FlightsState, RisingBy, flight_among, taken_from, without}
 use Rattle.x10_world.specs.Happenings.{AreUnchanged, Happened}
 use Rattle.x10_world.specs.Prompt.{IsPrompt}
 use Rattle.x10_world.specs.StandsForWorld.{WorldState, KeepsSetting, StandsForWorld, AllStandFor, Flies, with_posted, with_sent}

@@ -30,7 +30,7 @@ use Rattle.x10_place.specs.Stays.{HasBook, books_of, kept_in}
 use Rattle.x10_place.specs.StandsFor as place
 use Rattle.x10_place.specs.StandsFor.{PlaceState, Far, store_of, context_of, AreBooked, StandsFor}
 use Rattle.x10_place.proofs.Received.{report_stands}
-use Rattle.x10_world.specs.Flights.{Flight, FlightsState, flight_of, taken_from}
+use Rattle.x10_flights.specs.Flights.{Flight, FlightsState, flight_of, taken_from}
 use Rattle.x10_world.specs.Links.{AreAnswered}
 use Rattle.x10_world.specs.Prompt.{IsPrompt}
 use Rattle.x10_world.specs.StandsForWorld.{BelongsTo, BelongTo, setting_in, totals_at, kept_at, counts_in, far_in, FliesAsMessage, FliesAsReport, Flies, AllStandFor, DeliveryLeads}

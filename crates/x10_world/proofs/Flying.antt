@@ -15,10 +15,10 @@ use Rattle.x10_model.proofs.Lists.{none_some}
 use Rattle.x10_model.proofs.Maps.{at_key, off_key}
 use Rattle.x10_copy.specs.References.{OfReference, OfReferences}
 use Rattle.x10_finish.specs.Detection.{Told}
-use Rattle.x10_world.specs.Flights.{Flight, FlightsState, flight_among, flight_of, posted_to, taken_from, without}
+use Rattle.x10_flights.specs.Flights.{Flight, FlightsState, flight_among, flight_of, posted_to, taken_from, without}
 use Rattle.x10_world.specs.StandsForWorld.{is_export, exported_at, far_in, FliesAsMessage, FliesAsReport, Flies}
-use Rattle.x10_world.proofs.FlightsRising.{rising_push, rising_filter}
-use Rattle.x10_world.proofs.FlightsLookups.{among_push, among_new, among_none, among_without, among_others}
+use Rattle.x10_flights.proofs.FlightsRising.{rising_push, rising_filter}
+use Rattle.x10_flights.proofs.FlightsLookups.{among_push, among_new, among_none, among_without, among_others}
 use Rattle.x10_world.proofs.Exporting.{AreExported, exports_same}
 use Rattle.x10_place.proofs.Knowing.{IsKnown}
 

@@ -25,7 +25,7 @@ use Rattle.x10_place.specs.StandsFor.{PlaceState, Far, StandsFor, Keeps, Answers
 use Rattle.x10_world.specs.declared.done.Happening.{Happening}
 use Rattle.x10_world.specs.declared.done.Happening.TheVariants as happening
 use Rattle.x10_world.specs.Happenings.{AreUnchanged, Happened}
-use Rattle.x10_world.specs.Flights.{Flight, FlightsState, with_room, flight_of, taken_from}
+use Rattle.x10_flights.specs.Flights.{Flight, FlightsState, with_room, flight_of, taken_from}
 use Rattle.x10_world.specs.Prompt.{MayEnd, IsPrompt}
 use Rattle.x10_world.specs.StandsForWorld.{BelongTo, IsWorld, setting_in, far_in, AllStandFor, with_posted, with_sent, after_step, GoesBelow, IsMade, IsStepped, StepsOne, IsRoomless, IsForRoom, stop_for_refusal}
 use Rattle.x10_world.specs.Runs.{AreHalted}

@@ -5,6 +5,7 @@ pub mod BudgetMoves
 pub mod BudgetDeliveries
 pub mod BudgetRuns
 pub mod Lists
+pub mod Living
 pub mod Linking
 pub mod LinkingMoves
 pub mod LinkingDeliveries
@@ -31,10 +32,6 @@ pub mod Repeating
 pub mod Answering
 pub mod Asking
 pub mod Quiet
+pub mod Turning
 pub mod Rounding
 pub mod Finishing
-mod FlightsRising
-mod FlightsSlots
-mod FlightsQueues
-pub mod FlightsLookups
-mod FlightsFiling

@@ -32,12 +32,12 @@ use Rattle.x10_place.specs.Messages.{SendsReport, IsReportSent, PutsOut, no_sent
 use Rattle.x10_place.specs.Stays.{IsDoneHere, finish_at, books_of, kept_in, totals_in}
 use Rattle.x10_place.specs.StandsFor as place
 use Rattle.x10_place.specs.StandsFor.{PlaceState, store_of, context_of, StandsFor, IsCountedBy, Answers, Leads}
-use Rattle.x10_world.specs.Flights.{FlightsState}
+use Rattle.x10_flights.specs.Flights.{FlightsState}
 use Rattle.x10_world.specs.Links.{AreAnswered}
 use Rattle.x10_world.specs.StandsForWorld.{BelongsTo, BelongTo, setting_in, totals_at, kept_at, counts_in, far_in, Flies, with_posted, with_sent, after_step, AllStandFor, StepLeads}
 use Rattle.x10_world.proofs.BudgetMoves.{budget_after_move}
 use Rattle.x10_world.proofs.Exporting.{move_exports}
-use Rattle.x10_world.proofs.FlightsLookups.{among_none}
+use Rattle.x10_flights.proofs.FlightsLookups.{among_none}
 use Rattle.x10_world.proofs.Flying.{far_after}
 use Rattle.x10_place.proofs.Knowing.{IsKnown, far_grows}
 use Rattle.x10_world.proofs.LinkingMoves.{answered_after_move}

@@ -20,9 +20,9 @@ use Rattle.x10_place.specs.declared.sent.Outgoing.{Outgoing}
 use Rattle.x10_place.specs.Messages.{Carries, CarriesReport, SendsMessage, IsReportSent}
 use Rattle.x10_place.specs.Stays.{StoreState}
 use Rattle.x10_place.specs.StandsFor.{PlaceState, Far, context_of}
-use Rattle.x10_world.specs.Flights.{FlightsState}
+use Rattle.x10_flights.specs.Flights.{FlightsState}
 use Rattle.x10_world.specs.StandsForWorld.{is_export, exported_at, far_in, Flies, with_posted}
-use Rattle.x10_world.proofs.FlightsLookups.{among_none}
+use Rattle.x10_flights.proofs.FlightsLookups.{among_none}
 use Rattle.x10_place.proofs.Knowing.{IsKnown, receiver_is}
 use Rattle.x10_world.proofs.Flying.{references_on, flies_on, flies_more}
 

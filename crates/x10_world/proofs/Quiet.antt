@@ -1,12 +1,10 @@
 -- Where no activity is at any place and no frame flies, the run has ended, and place 0 knows it.
-use Rattle.std.proofs.Common.{◌≡◌, ◌↔◌, ℕ, ◌+◌, ◌<◌, ◌≤◌, ◌==◌, Bool, true, false, List, [], ◌∷◌, length, Option, Some, None, refl, sym, ap, subst, ◌∙◌, inl, inr, arith}
+use Rattle.std.proofs.Common.{◌≡◌, ◌↔◌, ℕ, ◌<◌, ◌==◌, Bool, true, false, List, [], ◌∷◌, length, Option, Some, None, refl, sym, ap, subst, ◌∙◌}
 use Rattle.std.specs.Prelude.{IsTrue, slice_get}
-use Rattle.std.proofs.lemmas.Bool.{cond-true, eq-eqb, eqb-true, both_ways, cases_eq}
+use Rattle.std.proofs.lemmas.Bool.{cond-true, eq-eqb, both_ways}
 use Rattle.std.proofs.lemmas.Option.{same_Some, slice_get_within}
 use Rattle.slab.specs.Slab.{get}
 use Rattle.x10_model.specs.Modules.{Module}
-use Rattle.x10_model.specs.declared.event.Event.{Event}
-use Rattle.x10_model.specs.declared.event.Event.TheVariants.{Deliver}
 use Rattle.x10_model.specs.Places.{Stay, root}
 use Rattle.x10_model.specs.Worlds.{World, IsOver, stays, flies}
 use Rattle.x10_model.proofs.Lists.{none_some}
@@ -16,9 +14,9 @@ use Rattle.x10_finish.specs.Nesting.{stays_in, stays_of}
 use Rattle.x10_finish.proofs.Watching.{over_is_done}
 use Rattle.x10_place.specs.Stays.{IsDoneHere}
 use Rattle.x10_place.specs.StandsFor.{PlaceState, store_of}
-use Rattle.x10_world.specs.Flights.{Flight, flight_of, flight_among, goes_to, flies_to, IsNext}
-use Rattle.x10_world.specs.Queries.{IsClosed, HasNoKey}
-use Rattle.x10_world.specs.Rounds.{IsQuiet, IsThereAt}
+use Rattle.x10_flights.specs.Flights.{Flight, flight_of, flight_among, goes_to, flies_to}
+use Rattle.x10_world.specs.Queries.{IsClosed}
+use Rattle.x10_world.specs.Rounds.{IsQuiet}
 use Rattle.x10_world.specs.StandsForWorld.{WorldState, BelongTo, IsWorld, StandsForWorld, counts_in}
 use Rattle.x10_world.proofs.Handling.{flight_below}
 use Rattle.x10_world.proofs.Moving.{done_by}
@@ -80,41 +78,3 @@ closed_is x z program bounds p b seen belong is closed = subst (λ (t : WorldSta
 -- a world without places has nothing that is open
 pub closed_none : (x z : WorldState) → x ≡ z → slice_get x.places 0 ≡ None → IsClosed z.places
 closed_none x z seen none = subst (λ (t : WorldState). IsClosed t.places) seen (λ p is. absurd (none_some (slice_get x.places 0) p none is))
-
--- ---- place after place
-
--- nothing flies to the places below a number, and nobody is there
-abbrev pub IsSearched : WorldState → ℕ → Type 0
-IsSearched x n = (id : ℕ) → id < n → IsNext (flies_to x.flights.flying id) 0 None × HasNoKey x.places id 0
-
-pub searched_more : (x : WorldState) (n : ℕ) → IsSearched x n → IsNext (flies_to x.flights.flying n) 0 None → HasNoKey x.places n 0 → IsSearched x (n + 1)
-searched_more x n far none keys id less = elim (cases_eq id n) [
-  | inl same ↦ subst (λ i. IsNext (flies_to x.flights.flying i) 0 None × HasNoKey x.places i 0) (sym same) (none, keys)
-  | inr other ↦ far id (omega (arith, less, other))
-]
-
-pub searched_quiet : (x z : WorldState) → x ≡ z → IsWorld x.program x.bounds x.places x.flights x.stopped → (n : ℕ) → length z.places ≤ n → IsSearched z n → IsQuiet z
-searched_quiet x z seen world n all far = subst (λ t. IsQuiet t) seen (quiet_is x world
-    (λ id p is key. (searched id (slice_get_within x.places id p is)).1 p is key (omega arith))
-    (none_flies x world.world world.stands (λ id less number. (searched id less).0 number (omega arith))))
-  where
-    enough : length x.places ≤ n
-    enough = subst (λ (t : WorldState). length t.places ≤ n) (sym seen) all
-
-    searched : (id : ℕ) → id < length x.places → IsNext (flies_to x.flights.flying id) 0 None × HasNoKey x.places id 0
-    searched id less = subst (λ t. IsSearched t n) (sym seen) far id (omega (arith, less, enough))
-
--- ---- what is there
-
--- whether a frame in flight goes to a place
-pub flies_there : (x z : WorldState) (number to place : ℕ) (bytes : List ℕ) (event : Event) → x ≡ z → flight_of x.flights number ≡ Some (record { number = number; to = to; bytes = bytes }) → event ≡ Deliver number → IsTrue (to == place) ↔ IsThereAt z place event
-flies_there x z number to place bytes event seen is names = subst (λ e. IsTrue (to == place) ↔ IsThereAt z place e) (sym names) (
-  (λ t. (flight, found, eqb-true to place t)),
-  (λ h. eq-eqb to place (ap (λ (f : Flight). f.to) (same_Some flight h.0 (sym found ∙ h.1)) ∙ h.2)),
-)
-  where
-    flight : Flight
-    flight = record { number = number; to = to; bytes = bytes }
-
-    found : flight_of z.flights number ≡ Some flight
-    found = subst (λ (t : WorldState). flight_of t.flights number ≡ Some flight) seen is

@@ -30,7 +30,7 @@ use Rattle.x10_place.specs.Stays.{HasBook, books_of}
 use Rattle.x10_place.specs.StandsFor.{PlaceState, setting_of, StandsFor}
 use Rattle.x10_place.specs.Receiving.{Seat, IsSeat, LacksSeat, IsShut, IsUnopened, OverfillsArrival, IsRefusedFrame, IsRefusedBytes}
 use Rattle.x10_place.specs.Sending.{slots_of}
-use Rattle.x10_world.specs.Flights.{Flight, FlightsState}
+use Rattle.x10_flights.specs.Flights.{Flight, FlightsState}
 use Rattle.x10_world.specs.Links.{AreAnswered}
 use Rattle.x10_world.specs.StandsForWorld.{BelongsTo, BelongTo, far_in, FliesAsMessage, FliesAsReport, AllStandFor, IsDeliveryLimit, IsForRoom, NoneIsRefused}
 use Rattle.x10_world.proofs.Delivering.{held_book}

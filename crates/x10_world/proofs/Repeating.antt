@@ -20,7 +20,7 @@ use Rattle.x10_place.specs.Messages.{no_sent}
 use Rattle.x10_place.specs.Stays.{finish_at}
 use Rattle.x10_place.specs.StandsFor.{PlaceState, Keeps, IsIdleAt}
 use Rattle.x10_place.specs.Stretches.{IsStride, Strides, at_once, onward, StridesTo, nowhere, finally}
-use Rattle.x10_world.specs.Flights.{FlightsState, with_room}
+use Rattle.x10_flights.specs.Flights.{FlightsState, with_room}
 use Rattle.x10_world.specs.Prompt.{MayEnd, WorksIn}
 use Rattle.x10_world.specs.StandsForWorld.{WorldState, world_of, BelongTo, IsWorld, setting_in, far_in, AllStandFor, StandsForWorld, with_posted, with_sent, GoesBelow, IsRunOn, RunsOne, IsIdleNow, BeganLast, IsRoomless}
 use Rattle.x10_world.specs.declared.done.Happening.TheVariants as happening

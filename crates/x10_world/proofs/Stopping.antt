@@ -12,7 +12,7 @@ use Rattle.x10_model.proofs.Lists.{none_some, set_off}
 use Rattle.x10_finish.specs.Detection.{Told}
 use Rattle.x10_finish.specs.Watching.{IsWatched}
 use Rattle.x10_place.specs.StandsFor.{PlaceState, Far, StandsFor}
-use Rattle.x10_world.specs.Flights.{FlightsState, with_room}
+use Rattle.x10_flights.specs.Flights.{FlightsState, with_room}
 use Rattle.x10_world.specs.Links.{AreAnswered}
 use Rattle.x10_world.specs.StandsForWorld.{totals_at, kept_at, counts_in, far_in, Flies, AllStandFor}
 use Rattle.x10_world.proofs.Lists.{set_here, set_either}

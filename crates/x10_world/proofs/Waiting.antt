@@ -13,7 +13,7 @@ use Rattle.x10_finish.specs.Nesting.{stays_in, stays_of}
 use Rattle.x10_finish.proofs.Watching.{ended_is_done}
 use Rattle.x10_place.specs.Stays.{StayState, IsDoneHere, finish_at}
 use Rattle.x10_place.specs.StandsFor.{PlaceState, store_of, IsIdleAt, nobody, away, waits}
-use Rattle.x10_world.specs.Flights.{FlightsState, flight_among}
+use Rattle.x10_flights.specs.Flights.{FlightsState, flight_among}
 use Rattle.x10_world.specs.Prompt.{MayEnd, WorksIn}
 use Rattle.x10_world.specs.StandsForWorld.{BelongTo, setting_in, counts_in, AllStandFor, EndedIsDoneHere}
 use Rattle.x10_model.proofs.NotWrong.{situation}

@@ -7,7 +7,7 @@ use Rattle.x10_model.specs.Worlds.{World}
 use Rattle.x10_verify.specs.Certified.{Certified}
 use Rattle.x10_place.specs.StandsFor.{PlaceState}
 use Rattle.x10_world.specs.declared.done.Happening.{Happening}
-use Rattle.x10_world.specs.Flights.{FlightsState}
+use Rattle.x10_flights.specs.Flights.{FlightsState}
 use Rattle.x10_world.specs.StandsForWorld.{world_of, IsWorld, AllStandFor, Makes, IsIdleNow, BeganLast}
 use Rattle.x10_world.specs.Happenings.{Happened}
 use Rattle.x10_world.specs.Runs.{RepeatsThrough, StopsAt, IsHaltedStretch}

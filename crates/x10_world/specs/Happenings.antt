@@ -13,7 +13,7 @@ use Rattle.x10_world.specs.declared.done.Done.{Done}
 use Rattle.x10_world.specs.declared.done.Done.TheVariants as done
 use Rattle.x10_world.specs.declared.done.Happening.{Happening}
 use Rattle.x10_world.specs.declared.done.Happening.TheVariants as happening
-use Rattle.x10_world.specs.Flights.{Flight, FlightsState, flight_of, taken_from}
+use Rattle.x10_flights.specs.Flights.{Flight, FlightsState, flight_of, taken_from}
 use Rattle.x10_world.specs.StandsForWorld.{WorldState, with_sent}
 
 -- how many frames there are, none or one

@@ -1,7 +1,7 @@
 pub mod Budget
 pub mod Prompt
 pub mod Links
-pub mod Flights
+pub mod Living
 pub mod StandsForWorld
 pub mod Opening
 pub mod Queries

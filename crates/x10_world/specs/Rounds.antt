@@ -1,5 +1,5 @@
 -- What rounds lead to.
-use Rattle.std.specs.Prelude.{◌≡◌, ◌≢◌, ℕ, ◌≤◌, List, [], Some, None, Result, MatchResult, length, true, slice_get}
+use Rattle.std.specs.Prelude.{◌≡◌, ◌≢◌, ◌⊎◌, ℕ, ◌+◌, ◌<◌, ◌≤◌, List, [], Option, Some, None, Result, MatchResult, length, take, drop, true, slice_get}
 use Rattle.slab.specs.Slab.{get, ContainsKey}
 use Rattle.x10_kinds.specs.declared.stop.Stop.{Stop}
 use Rattle.x10_model.specs.declared.event.Event.{Event}
@@ -8,7 +8,10 @@ use Rattle.x10_model.specs.Worlds.{World, Ideal, Run, WithinBounds, IsOver}
 use Rattle.x10_place.specs.StandsFor.{PlaceState}
 use Rattle.x10_world.specs.declared.rounds.Halt.{Halt}
 use Rattle.x10_world.specs.declared.rounds.Halt.TheVariants as halt
-use Rattle.x10_world.specs.Flights.{Flight, flight_of}
+use Rattle.x10_world.specs.declared.rounds.Phase.{Phase}
+use Rattle.x10_world.specs.declared.rounds.Phase.TheVariants as phase
+use Rattle.x10_flights.specs.Flights.{flies_to, IsNext}
+use Rattle.x10_world.specs.Living.{keys_at}
 use Rattle.x10_world.specs.Queries.{HasPlace, IsClosed}
 use Rattle.x10_world.specs.Runs.{StopsAt, RunsThrough}
 use Rattle.x10_world.specs.StandsForWorld.{WorldState, KeepsSetting, setting_of, StandsForWorld}
@@ -26,17 +29,90 @@ pub record RunsTo (x y : WorldState) : Type 0 where
 
 -- ---- what there is
 
--- the event names an activity that is at a place, or a frame that is in flight to it
-abbrev pub IsThereAt : WorldState → ℕ → Event → Type 0
-IsThereAt x here (Step place key) = (place ≡ here) × HasPlace x.places here (λ p. ContainsKey p.stays key)
-IsThereAt x here (Deliver number) = (flight : Flight) × (flight_of x.flights number ≡ Some flight) × (flight.to ≡ here)
-
 -- No activity is at any place, and no frame flies. So the run has ended, and place 0 knows it.
 pub record IsQuiet (x : WorldState) : Type 0 where
   pub nobody : (id : ℕ) (p : PlaceState) → slice_get x.places id ≡ Some p → (key : ℕ) → get p.stays key ≡ None
   pub flying : x.flights.flying ≡ []
   pub ended : HasEnded x
   pub closed : IsClosed x.places
+
+-- an activity with the key is at the place
+abbrev pub IsPresent : WorldState → ℕ → ℕ → Type 0
+IsPresent x id key = HasPlace x.places id (λ p. ContainsKey p.stays key)
+
+-- an activity is at the place, or a frame is in flight to it
+abbrev pub IsBusy : WorldState → ℕ → Type 0
+IsBusy x id = ((key : ℕ) × IsPresent x id key) ⊎ ((number : ℕ) × (flies_to x.flights.flying id number ≡ true))
+
+-- ---- the rounds
+
+-- whose turn it is, and what is left of it: the keys of those that have still to make their step, by rising number; none
+-- while the place takes in frames
+pub record Turn : Type 0 where
+  pub place : ℕ
+  pub left : Option (List ℕ)
+
+-- the keys that are left, of all those of the turn
+abbrev pub left_of : Phase → List ℕ → Option (List ℕ)
+left_of phase.TakesIn keys = None
+left_of (phase.Steps from) keys = Some (drop from keys)
+left_of phase.Over keys = Some []
+
+-- Those that have still to make their step, in a turn: all that are in use, where no more frames are to be taken in.
+abbrev pub AreLeft : WorldState → Turn → List ℕ → Type 0
+AreLeft x t keys = (t.left ≡ Some keys) ⊎ ((t.left ≡ None) × (IsNext (flies_to x.flights.flying t.place) 0 None × (keys ≡ keys_at x.places t.place)))
+
+-- no activity has one of these keys
+abbrev pub AreGone : WorldState → ℕ → List ℕ → Type 0
+AreGone x id keys = (at key : ℕ) → slice_get keys at ≡ Some key → IsPresent x id key → ⊥
+
+-- The event is a step of the first of these activities that is there, and those behind it are left.
+pub record NamesStep (x : WorldState) (id : ℕ) (keys : List ℕ) (event : Event) (new : Turn) : Type 0 where
+  pub at : ℕ
+  pub key : ℕ
+  pub is_first : slice_get keys at ≡ Some key
+  pub gone : AreGone x id (take at keys)
+  pub there : IsPresent x id key
+  pub event_is : event ≡ Step id key
+  pub new_is : new ≡ record { place = id; left = Some (drop (at + 1) keys) }
+
+-- The event is the next one of a turn, and what is left of it then: the delivery of the first frame in flight to the place,
+-- while it takes in frames; where none is in flight to it, a step of its activities.
+abbrev pub Names : WorldState → Turn → Event → Turn → Type 0
+Names x t (Deliver number) new = (t.left ≡ None) × (IsNext (flies_to x.flights.flying t.place) 0 (Some number) × (new ≡ t))
+Names x t (Step id key) new = (keys : List ℕ) × (AreLeft x t keys × NamesStep x t.place keys (Step id key) new)
+
+-- no frame is to be taken in, and no step is left
+abbrev pub IsTurnOver : WorldState → Turn → Type 0
+IsTurnOver x t = (keys : List ℕ) × (AreLeft x t keys × AreGone x t.place keys)
+
+-- going up from a place, and from the first one on behind the last one, one comes by this place before another
+abbrev pub IsBetween : ℕ → ℕ → ℕ → Type 0
+IsBetween from to id = ((from < id) × ((to ≤ from) ⊎ (id < to))) ⊎ ((to ≤ from) × (id < to))
+
+-- the next busy place so
+pub record IsTurnAfter (x : WorldState) (from to : ℕ) : Type 0 where
+  pub busy : IsBusy x to
+  pub between : (id : ℕ) → IsBetween from to id → IsBusy x id → ⊥
+
+-- the turn goes on, or it is over and that of the next busy place begins
+abbrev pub Passes : WorldState → Turn → Turn → Type 0
+Passes x old new = (new ≡ old) ⊎ (IsTurnOver x old × (IsTurnAfter x old.place new.place × (new.left ≡ None)))
+
+-- the event comes next in the rounds, and what is left of the turn then
+abbrev pub IsNextEvent : WorldState → Turn → Event → Turn → Type 0
+IsNextEvent x old event new = (t : Turn) × (Passes x old t × Names x t event new)
+
+-- a step that is left, if there is one
+abbrev pub IsStepOf : WorldState → ℕ → List ℕ → Option Event → Turn → Type 0
+IsStepOf x id keys None new = AreGone x id keys × (new.place ≡ id)
+IsStepOf x id keys (Some event) new = NamesStep x id keys event new
+
+-- from a position on, the first of the keys that is in use is at this one
+pub record IsFirstInUse (x : WorldState) (id : ℕ) (keys : List ℕ) (from at : ℕ) : Type 0 where
+  pub within : at ≤ length keys
+  pub gone : (i key : ℕ) → from ≤ i → i < at → slice_get keys i ≡ Some key → IsPresent x id key → ⊥
+  pub there : (key : ℕ) → slice_get keys at ≡ Some key → (from ≤ at) × IsPresent x id key
 
 -- ---- how many events were made
 

@@ -27,10 +27,10 @@ use Rattle.x10_place.specs.declared.sent.Sent.{Sent}
 use Rattle.x10_place.specs.Stays.{StayState, IsDoneHere, finish_at, books_of, kept_in}
 use Rattle.x10_place.specs.Messages.{Carries, CarriesReport, no_sent}
 use Rattle.x10_place.specs.StandsFor.{PlaceState, store_of, Far, StandsFor, LeadsAll, Answers, Keeps, IsIdleAt, IsHindered}
-use Rattle.x10_place.specs.Receiving.{IsTaken, IsRefusedBytes}
+use Rattle.x10_place.specs.Receiving.{IsTaken, IsRefusedBytes, stops}
 use Rattle.x10_place.specs.Stretches.{Strides, StridesTo, BeginsLast}
 use Rattle.x10_world.specs.Budget.{IsWithinBudget}
-use Rattle.x10_world.specs.Flights.{Flight, FlightsState, RisingBy, flight_of, posted_to, taken_from}
+use Rattle.x10_flights.specs.Flights.{Flight, FlightsState, RisingBy, flight_of, posted_to, taken_from}
 use Rattle.x10_world.specs.Links.{AreAnswered}
 use Rattle.x10_world.specs.Prompt.{MayEnd, WorksIn, IsPrompt}
 
@@ -247,6 +247,20 @@ pub record IsRunOn (p q : PlaceState) (key most n : ℕ) (result : Result Sent S
 pub record RunsOne (old new : List PlaceState) (id key most n : ℕ) (result : Result Sent Stop) : Type 0 where
   pub gone : slice_get old id ≡ None → (n ≡ 0) × (result ≡ Ok no_sent) × (new ≡ old)
   pub there : (p : PlaceState) → slice_get old id ≡ Some p → (q : PlaceState) × (new ≡ slice_set old id q) × IsRunOn p q key most n result
+
+-- ---- a frame at one place
+
+-- what a place does with a frame: it takes it in, or refuses it, and has stopped then or is as it was
+pub record IsReceived {T : Type 0} (p q : PlaceState) (bytes : List ℕ) (result : Result T Refusal) : Type 0 where
+  pub kept : Keeps p q
+  pub taken : IfOk result (λ _. IsTaken p bytes q)
+  pub goes : IfOk result (λ _. q.stopped ≢ true)
+  pub left : IfErr result (λ why. q ≡ record p { stopped = stops why })
+  pub refused : p.stopped ≢ true → IfErr result (IsRefusedBytes p bytes)
+
+-- what a place of a list does
+abbrev pub ReceivesOne : {T : Type 0} → List PlaceState → List PlaceState → ℕ → List ℕ → Result T Refusal → Type 0
+ReceivesOne old new id bytes result = (p : PlaceState) × (q : PlaceState) × (slice_get old id ≡ Some p) × (new ≡ slice_set old id q) × IsReceived p q bytes result
 
 -- ---- why a world stops
 

@@ -2,41 +2,17 @@
 ghost use Rattle.std.specs.Prelude.{◌≡◌, ◌<◌, Some, None, IfOk, IfErr, false};
 ghost use Rattle.x10_place.specs.declared.sent.Outgoing as outgoing;
 ghost use Rattle.x10_model.specs.declared.event.Event.TheVariants.{Step, Deliver};
-ghost use Rattle.x10_world.specs.StandsForWorld.{IsWorld, StepsOne, RunsOne, with_posted, with_sent, GoesBelow, stop_for_refusal};
+ghost use Rattle.x10_world.specs.StandsForWorld.{IsWorld, with_posted, with_sent, GoesBelow, stop_for_refusal};
 ghost use Rattle.x10_world.specs.Handling.{Handles, Stretches};
 
 use crate::done::Happening;
-use crate::flights::Flights;
+use crate::places::Places;
 use x10_copy::Refusal;
+use x10_flights::Flights;
 use x10_kinds::Stop;
 use x10_model::Event;
-use x10_place::{Outgoing, Place, Sent, Stepped};
+use x10_place::{Outgoing, Sent, Stepped};
 use x10_verify::Verified;
-
-/// One step of the activity with a key at a place, if they are there.
-#[inline(always)]
-fn step_one(places: &mut Vec<Place>, id: usize, key: usize) -> Result<Stepped, Stop>
-    ensures { StepsOne places.old.items places.new.items id key result }
-{
-    if id < places.len() {
-        return places[id].step(key);
-    }
-    Ok(Stepped::Idle)
-}
-
-/// Up to `most` steps of the activity with a key at a place, if they are there, and what the last one put out.
-fn run_one(places: &mut Vec<Place>, id: usize, key: usize, most: u64) -> (u64, Result<Sent, Stop>)
-    ensures { RunsOne places.old.items places.new.items id key most result.0 result.1 }
-{
-    if id < places.len() {
-        return places[id].run(key, most);
-    }
-    let nothing = Sent {
-        message: None,
-        report: None,
-    };
-    (0, Ok(nothing))
-}
 
 /// Puts a frame out, if there is one.
 #[inline(always)]
@@ -64,17 +40,17 @@ fn post_all(flights: &mut Flights, sent: Sent)
 #[inline(always)]
 fn step(
     verified: &Verified,
-    places: &mut Vec<Place>,
+    places: &mut Places,
     flights: &mut Flights,
-    id: usize,
+    id: u16,
     key: usize,
 ) -> Result<Happening, Stop>
-    requires { IsWorld verified.now.program verified.now.bounds places.old.items flights.old false }
-    ensures { Handles verified.now places.old.items flights.old (Step id key) result places.new.items flights.new }
+    requires { IsWorld verified.now.program verified.now.bounds places.old flights.old false }
+    ensures { Handles verified.now places.old flights.old (Step id key) result places.new flights.new }
 {
     verified.certificate();
     flights.make_room()?;
-    match step_one(places, id, key) {
+    match places.step(id, key) {
         Ok(Stepped::Idle) => Ok(Happening::Idle),
         Ok(Stepped::Moved(sent)) => {
             post_all(flights, sent);
@@ -87,20 +63,20 @@ fn step(
 /// At most `most` steps of the activity with a key at a place, up to one that puts something out: how many were made.
 pub(crate) fn stretch(
     verified: &Verified,
-    places: &mut Vec<Place>,
+    places: &mut Places,
     flights: &mut Flights,
-    id: usize,
+    id: u16,
     key: usize,
     most: u64,
 ) -> Result<u64, Stop>
-    requires { IsWorld verified.now.program verified.now.bounds places.old.items flights.old false }
-    ensures { Stretches verified.now places.old.items flights.old id key most result places.new.items flights.new }
+    requires { IsWorld verified.now.program verified.now.bounds places.old flights.old false }
+    ensures { Stretches verified.now places.old flights.old id key most result places.new flights.new }
 {
     verified.certificate();
     if let Err(why) = flights.make_room() {
         return Err(why);
     }
-    let (done, last) = run_one(places, id, key, most);
+    let (done, last) = places.run(id, key, most);
     match last {
         Ok(out) => {
             post_all(flights, out);
@@ -124,18 +100,18 @@ fn stop_for(why: Refusal) -> Stop
 #[inline(never)]
 fn deliver(
     verified: &Verified,
-    places: &mut Vec<Place>,
+    places: &mut Places,
     flights: &mut Flights,
     number: u64,
 ) -> Result<Happening, Stop>
-    requires { IsWorld verified.now.program verified.now.bounds places.old.items flights.old false }
-    ensures { Handles verified.now places.old.items flights.old (Deliver number) result places.new.items flights.new }
+    requires { IsWorld verified.now.program verified.now.bounds places.old flights.old false }
+    ensures { Handles verified.now places.old flights.old (Deliver number) result places.new flights.new }
 {
     verified.certificate();
     let Some((to, bytes)) = flights.get(number) else {
         return Ok(Happening::Idle);
     };
-    match places[usize::from(to)].receive(bytes) {
+    match places.receive(to, bytes) {
         Ok(()) => {
             flights.take(number);
             Ok(Happening::Taken(to))
@@ -148,15 +124,15 @@ fn deliver(
 #[inline(always)]
 pub(crate) fn handle(
     verified: &Verified,
-    places: &mut Vec<Place>,
+    places: &mut Places,
     flights: &mut Flights,
     event: Event,
 ) -> Result<Happening, Stop>
-    requires { IsWorld verified.now.program verified.now.bounds places.old.items flights.old false }
-    ensures { Handles verified.now places.old.items flights.old event result places.new.items flights.new }
+    requires { IsWorld verified.now.program verified.now.bounds places.old flights.old false }
+    ensures { Handles verified.now places.old flights.old event result places.new flights.new }
 {
     match event {
-        Event::Step(id, key) => step(verified, places, flights, usize::from(id), key),
+        Event::Step(id, key) => step(verified, places, flights, id, key),
         Event::Deliver(number) => deliver(verified, places, flights, number),
     }
 }

@@ -1,4 +1,4 @@
-//! The keys of a place's activities, as rounds know them.
+//! The keys that a place's activities may have, as rounds remember them. No clause speaks of them: they save a search.
 use crate::world::World;
 use std::alloc::{AllocError, Global};
 use std::mem;
@@ -10,37 +10,26 @@ pub(crate) struct Keys {
     pub known: Vec<usize>,
     /// Those of activities that began since, in no particular order.
     pub fresh: Vec<usize>,
-    /// The frames for the place with numbers below this one were taken in.
-    pub taken: u64,
-    /// At most this many frames are in flight to it.
-    pub waiting: u64,
     /// Room in which the next list is made.
     spare: Vec<usize>,
 }
 
 impl Keys {
-    /// The keys that are in use at a place.
-    pub fn of_place(alloc: Global, world: &World, place: u16) -> Result<Keys, AllocError> {
-        let mut known = Vec::new(alloc);
-        let mut from = 0;
-        while let Some(key) = world.next_key(place, from) {
-            known.push(key)?;
-            let Some(next) = key.checked_add(1) else {
-                break;
-            };
-            from = next;
-        }
-        Ok(Keys {
+    /// The keys of a list.
+    pub fn new(alloc: Global, known: Vec<usize>) -> Keys {
+        Keys {
             known,
             fresh: Vec::new(alloc),
-            taken: 0,
-            waiting: world.posted(),
             spare: Vec::new(alloc),
-        })
+        }
     }
 
-    /// Makes the keys in use now the known ones. Linear in the keys, except that new ones are sorted.
+    /// Makes the keys in use now the known ones. Linear in the keys, except that new ones are sorted; constant time where no
+    /// activity began or ended.
     pub fn refresh(&mut self, world: &World, place: u16) -> Result<(), AllocError> {
+        if self.fresh.is_empty() && self.known.len() == world.live(place) {
+            return Ok(());
+        }
         self.known.retain(|key| world.has_key(place, *key));
         if self.fresh.is_empty() {
             return Ok(());
@@ -52,18 +41,13 @@ impl Keys {
         Ok(())
     }
 
-    /// The one key that is in use, if there is one and no other.
-    pub fn single(&self, world: &World, place: u16) -> Option<usize> {
-        let mut found = None;
-        for key in self.known.iter().chain(self.fresh.iter()) {
-            if world.has_key(place, *key) && found != Some(*key) {
-                if found.is_some() {
-                    return None;
-                }
-                found = Some(*key);
-            }
-        }
-        found
+    /// The first of the keys that is in use.
+    pub fn first(&self, world: &World, place: u16) -> Option<usize> {
+        self.known
+            .iter()
+            .chain(self.fresh.iter())
+            .copied()
+            .find(|key| world.has_key(place, *key))
     }
 }
 

@@ -5,10 +5,10 @@ mod done;
 mod ending;
 mod events;
 mod fault;
-mod flights;
 mod keys;
 pub mod laws;
 mod opening;
+mod places;
 mod rounds;
 mod world;
 

@@ -1,18 +1,19 @@
 //! The order in which a program makes events: round after round, place after place, key after key.
-ghost use Rattle.std.specs.Prelude.{◌≡◌, ◌≢◌, ◌≤◌, ℕ, true, IfOk, IfErr, IfSome, Err, None};
+ghost use Rattle.std.specs.Prelude.{◌≡◌, ◌≢◌, ◌≤◌, ℕ, true, IsTrue, IfOk, IfErr, IfSome, Err, Some, None, List, length};
 ghost use Rattle.x10_kinds.specs.declared.stop.Stop.TheVariants as stop;
 ghost use Rattle.x10_world.specs.declared.rounds.Halt.TheVariants as halt;
 ghost use Rattle.x10_world.specs.Queries.{IsClosed};
-ghost use Rattle.x10_world.specs.Rounds.{HasEnded, RunsTo, IsThereAt, IsQuiet, IsHalted, GoesOn, Advances, AdvancesOrEnds};
+ghost use Rattle.x10_world.specs.Living.{keys_at};
+ghost use Rattle.x10_world.specs.Rounds.{HasEnded, RunsTo, Turn, Names, IsTurnOver, Passes, IsNextEvent, IsStepOf, IsFirstInUse, IsQuiet, IsHalted, GoesOn, Advances, AdvancesOrEnds};
 
 use crate::keys::Keys;
 use crate::world::World;
 use std::alloc::{AllocError, Global};
 use std::marker::Model;
+use std::mem;
 use thiserror::Error;
 use x10_kinds::Stop;
 use x10_model::Event;
-use x10_model::limits::MOST_PLACES;
 
 /// Why no more rounds were made before the run had ended.
 #[derive(Clone, Copy, Debug, PartialEq, Eq, Error)]
@@ -44,101 +45,224 @@ impl From<AllocError> for Halt {
     }
 }
 
-/// Where a place is in its turn.
+/// How far a place is in its turn.
 #[derive(Clone, Copy)]
-enum Turn {
-    /// It takes in the frames that are in flight to it, from this number on.
-    TakesIn(u64),
-    /// Its activities make their steps, from this position in the list of keys on.
+enum Phase {
+    /// It takes in the frames that are in flight to it.
+    TakesIn,
+    /// Its activities make their steps, from this position in the turn's list of keys on.
     Steps(usize),
+    /// It is over, and no list of keys was taken for it: one activity was alone.
+    Over,
 }
 
-/// What comes next.
-#[derive(Clone, Copy)]
-enum Work {
-    /// Steps of the one activity that there is, at a place and with a key.
-    Stretch(u16, usize),
-    /// One event.
-    Event(Event),
-}
-
-/// The order of a program's events; contracts see the place whose turn it is. In a round each place, by rising number, takes in the frames that are in flight to it
+/// The order of a program's events. In a round each place, by rising number, takes in the frames that are in flight to it
 /// when its turn comes, by rising number, and then makes a step of each of its activities that are there, by rising key;
 /// what these begin waits for the next round. It isn't notified of the events: it looks at the world before each one, so
-/// nothing else may happen to the world meanwhile. A round takes time for its events and for the places that have some.
+/// nothing else may happen to the world meanwhile. A round takes time for its events alone. Contracts see the place whose
+/// turn it is, and the keys whose steps are left.
 #[derive(Drop)]
 pub struct Rounds {
-    /// The keys of each place.
+    alloc: Global,
+    /// The keys that each place may have in use.
     lists: Vec<Keys>,
-    /// The places that may have an activity, or a frame in flight to them: bit p stands for place p.
-    busy: u64,
-    /// The frames with numbers below this one were looked at.
-    posted: u64,
     /// A place, and the key that an activity has that the last event may have begun there.
     next_key: Option<(u16, usize)>,
     /// The place whose turn it is.
     place: u16,
-    turn: Turn,
+    phase: Phase,
+    /// The keys of the turn, while its steps are made; otherwise empty.
+    keys: Vec<usize>,
 }
 
 impl Model for Rounds {
-    ghost Value = { ℕ };
+    ghost use Rattle.x10_world.specs.Rounds.{Turn, left_of};
 
-    ghost view = { λ a. a.place };
+    ghost Value = { Turn };
+
+    ghost view = { λ a. record { place = a.place; left = left_of a.phase a.keys.items } };
+}
+
+/// Whether a list is that of the keys in use at a place, by rising number. Linear in the list.
+fn is_exact(keys: &[usize], world: &World, place: u16) -> bool
+    ensures { IsTrue result → keys.now ≡ keys_at world.now.places place }
+{
+    let mut least = 0;
+    for key in keys {
+        if *key < least || !world.has_key(place, *key) {
+            return false;
+        }
+        let Some(next) = key.checked_add(1) else {
+            return false;
+        };
+        least = next;
+    }
+    keys.len() == world.live(place)
+}
+
+/// The first position from one on at which a list has a key that is in use at a place; the list's length where there is none.
+#[inline(always)]
+fn next_in_use(keys: &[usize], from: usize, world: &World, place: u16) -> usize
+    ensures { IsFirstInUse world.now place keys.now from result }
+{
+    for position in from..keys.len() {
+        if world.has_key(place, keys[position]) {
+            return position;
+        }
+    }
+    keys.len()
 }
 
 impl Rounds {
-    /// The rounds of a world from now on. Takes time and memory for the keys that were ever in use at once.
-    pub fn new(alloc: Global, world: &World) -> Result<Rounds, AllocError> {
+    /// The rounds of a world from now on: the turn of place 0 begins. Takes time and memory for the keys that were ever in
+    /// use at once.
+    pub fn new(alloc: Global, world: &World) -> Result<Rounds, AllocError>
+        ensures { IfOk result (λ rounds. rounds ≡ record { place = 0; left = None }) }
+    {
         let mut lists = Vec::with_capacity(alloc, usize::from(world.count()))?;
-        let mut busy = 0;
         for place in 0..world.count() {
-            let keys = Keys::of_place(alloc, world, place)?;
+            let keys = Keys::new(alloc, world.keys(alloc, place)?);
             lists.push(keys)?;
-            busy |= bit(place);
         }
         Ok(Rounds {
+            alloc,
             lists,
-            busy,
-            posted: world.posted(),
             next_key: None,
             place: 0,
-            turn: Turn::TakesIn(0),
+            phase: Phase::TakesIn,
+            keys: Vec::new(alloc),
         })
     }
 
-    /// The next event, of an activity at the place whose turn it then is, or of a frame in flight to it; none only where no
-    /// frame is in flight and no activity is anywhere. Takes memory for keys.
+    /// The event that comes next in the rounds, and no other one; none only where no frame is in flight and no activity is
+    /// anywhere. Takes memory for keys; where that is refused, the turn has not gone on.
     pub fn next(&mut self, world: &World) -> Result<Option<Event>, AllocError>
-        ensures there { IfOk result (λ event. IfSome event (IsThereAt world.now self.new)) }
+        ensures next { IfOk result (λ event. IfSome event (λ e. IsNextEvent world.now self.old e self.new)) }
         ensures none { IfOk result (λ event. event ≡ None → IsQuiet world.now) }
+        ensures refused { IfErr result (λ _. Passes world.now self.old self.new) }
     {
         self.look(world)?;
-        for _ in 0..=MOST_PLACES {
-            let Some(event) = self.next_here(world)? else {
-                self.pass(self.place.saturating_add(1));
-                continue;
-            };
-            if world.names_at(self.place, event) {
-                self.watch(world, self.place);
-                return Ok(Some(event));
-            }
+        let event = self.find(world)?;
+        self.watch(world, self.place);
+        Ok(event)
+    }
+
+    /// The event that comes next: of this turn, or of the next one where it is over.
+    fn find(&mut self, world: &World) -> Result<Option<Event>, AllocError>
+        ensures next { IfOk result (λ event. IfSome event (λ e. IsNextEvent world.now self.old e self.new)) }
+        ensures none { IfOk result (λ event. event ≡ None → IsQuiet world.now) }
+        ensures refused { IfErr result (λ _. Passes world.now self.old self.new) }
+    {
+        if let Some(event) = self.in_turn(world)? {
+            return Ok(Some(event));
         }
-        match world.any_event() {
-            Some((place, event)) => {
-                self.place = place;
-                Ok(Some(event))
-            }
-            None => Ok(None),
+        let Some(place) = world.busy_after(self.place) else {
+            return Ok(None);
+        };
+        self.begin_turn(place);
+        self.in_turn(world)
+    }
+
+    /// The next event of the turn, if it isn't over.
+    fn in_turn(&mut self, world: &World) -> Result<Option<Event>, AllocError>
+        ensures some { IfOk result (λ event. IfSome event (λ e. Names world.now self.old e self.new)) }
+        ensures none { IfOk result (λ event. event ≡ None → IsTurnOver world.now self.old × (self.new.place ≡ self.old.place)) }
+        ensures refused { IfErr result (λ _. self.new ≡ self.old) }
+    {
+        match self.phase {
+            Phase::TakesIn => self.first_in_turn(world),
+            Phase::Steps(_) => Ok(self.step(world)),
+            Phase::Over => Ok(None),
         }
     }
 
-    /// Looks at what the last events put out and began.
-    #[inline(always)]
-    fn look(&mut self, world: &World) -> Result<(), AllocError> {
-        if world.posted() != self.posted {
-            self.look_at_frames(world);
+    /// The next event of a turn that takes in frames: the delivery of the first one, or a step where there is none.
+    fn first_in_turn(&mut self, world: &World) -> Result<Option<Event>, AllocError>
+        requires { self.old.left ≡ None }
+        ensures some { IfOk result (λ event. IfSome event (λ e. Names world.now self.old e self.new)) }
+        ensures none { IfOk result (λ event. event ≡ None → IsTurnOver world.now self.old × (self.new.place ≡ self.old.place)) }
+        ensures refused { IfErr result (λ _. self.new ≡ self.old) }
+    {
+        if let Some(number) = world.first_frame(self.place) {
+            return Ok(Some(Event::Deliver(number)));
         }
+        self.begin_steps(world)?;
+        Ok(self.step(world))
+    }
+
+    /// Makes the list of the keys that are in use at the place whose turn it is, which has taken in all frames.
+    fn begin_steps(&mut self, world: &World) -> Result<(), AllocError>
+        requires { self.old.left ≡ None }
+        ensures ok { IfOk result (λ _. self.new ≡ record { place = self.old.place; left = Some (keys_at world.now.places self.old.place) }) }
+        ensures refused { IfErr result (λ _. self.new ≡ self.old) }
+    {
+        self.recall(world)?;
+        if !is_exact(&self.keys, world, self.place) {
+            self.keys = world.keys(self.alloc, self.place)?;
+        }
+        self.phase = Phase::Steps(0);
+        Ok(())
+    }
+
+    /// Takes the list of the keys that the place whose turn it is may have in use.
+    fn recall(&mut self, world: &World) -> Result<(), AllocError>
+        requires { self.old.left ≡ None }
+        ensures { self.new ≡ self.old }
+    {
+        if let Some(list) = self.lists.get_mut(usize::from(self.place)) {
+            list.refresh(world, self.place)?;
+            mem::swap(&mut self.keys, &mut list.known);
+        }
+        Ok(())
+    }
+
+    /// The step of the first activity whose step is left, if there is one.
+    #[inline(always)]
+    fn step(&mut self, world: &World) -> Option<Event>
+        ensures { (keys : List ℕ) → self.old.left ≡ Some keys → IsStepOf world.now self.old.place keys result self.new }
+    {
+        let Phase::Steps(from) = self.phase else {
+            return None;
+        };
+        let at = next_in_use(&self.keys, from, world, self.place);
+        if at >= self.keys.len() {
+            self.phase = Phase::Steps(at);
+            return None;
+        }
+        self.phase = Phase::Steps(at + 1);
+        Some(Event::Step(self.place, self.keys[at]))
+    }
+
+    /// Begins the turn of a place, and puts the list of keys of the last one back.
+    fn begin_turn(&mut self, place: u16)
+        ensures { self.new ≡ record { place = place; left = None } }
+    {
+        if let (Phase::Steps(_), Some(list)) = (
+            self.phase,
+            self.lists.get_mut(usize::from(self.place)),
+        ) {
+            mem::swap(&mut self.keys, &mut list.known);
+        }
+        self.place = place;
+        self.phase = Phase::TakesIn;
+    }
+
+    /// Where the turn is over, begins that of the next busy place, if there is one.
+    #[inline(always)]
+    fn pass(&mut self, world: &World) {
+        if let Phase::TakesIn = self.phase {
+            return;
+        }
+        if let Some(place) = world.busy_after(self.place) {
+            self.begin_turn(place);
+        }
+    }
+
+    /// Looks at whether the last event began an activity, and remembers its key.
+    #[inline(always)]
+    fn look(&mut self, world: &World) -> Result<(), AllocError>
+        ensures { self.new ≡ self.old }
+    {
         let Some((place, key)) = self.next_key else {
             return Ok(());
         };
@@ -149,33 +273,15 @@ impl Rounds {
         self.begun(place, key)
     }
 
-    /// Looks at what was put out since the last look.
-    #[inline(never)]
-    fn look_at_frames(&mut self, world: &World) {
-        for number in self.posted..world.posted() {
-            if let Some((to, _)) = world.frame(number) {
-                self.await_frame(to);
-            }
-        }
-        self.posted = world.posted();
-    }
-
     /// Remembers that an activity with a key began at a place.
     #[inline(never)]
-    fn begun(&mut self, place: u16, key: usize) -> Result<(), AllocError> {
-        self.busy |= bit(place);
-        if let Some(keys) = self.lists.get_mut(usize::from(place)) {
-            keys.fresh.push(key)?;
+    fn begun(&mut self, place: u16, key: usize) -> Result<(), AllocError>
+        ensures { self.new ≡ self.old }
+    {
+        if let Some(list) = self.lists.get_mut(usize::from(place)) {
+            list.fresh.push(key)?;
         }
         Ok(())
-    }
-
-    /// Remembers that a frame is in flight to a place.
-    fn await_frame(&mut self, to: u16) {
-        self.busy |= bit(to);
-        if let Some(keys) = self.lists.get_mut(usize::from(to)) {
-            keys.waiting = keys.waiting.saturating_add(1);
-        }
     }
 
     /// Remembers which key the next activity that begins at a place gets.
@@ -189,86 +295,17 @@ impl Rounds {
         };
     }
 
-    /// The next event of the place whose turn it is, if its turn isn't over.
-    fn next_here(&mut self, world: &World) -> Result<Option<Event>, AllocError> {
-        match self.turn {
-            Turn::Steps(position) => Ok(self.step(position)),
-            Turn::TakesIn(from) => match self.next_frame(world, from) {
-                Some(number) => {
-                    self.turn = Turn::TakesIn(number.saturating_add(1));
-                    Ok(Some(Event::Deliver(number)))
-                }
-                None => {
-                    self.begin_steps(world)?;
-                    Ok(self.step(0))
-                }
-            },
-        }
-    }
-
-    /// The next frame that is in flight to the place whose turn it is, from a number on.
-    fn next_frame(&mut self, world: &World, from: u64) -> Option<u64> {
-        let keys = self.lists.get_mut(usize::from(self.place))?;
-        if keys.waiting == 0 {
-            return None;
-        }
-        keys.waiting -= 1;
-        world.next_frame(self.place, from)
-    }
-
-    /// Makes the list of the keys that are in use at the place whose turn it is, which has taken in all frames.
-    fn begin_steps(&mut self, world: &World) -> Result<(), AllocError> {
-        let Some(keys) = self.lists.get_mut(usize::from(self.place)) else {
-            return Ok(());
-        };
-        keys.taken = world.posted();
-        keys.waiting = 0;
-        keys.refresh(world, self.place)?;
-        if keys.known.is_empty() {
-            self.busy &= !bit(self.place);
-        }
-        Ok(())
-    }
-
-    /// The step of the activity at a position in the list of keys, if the list is that long.
-    fn step(&mut self, position: usize) -> Option<Event> {
-        self.turn = Turn::Steps(position.saturating_add(1));
-        let keys = self.lists.get(usize::from(self.place))?;
-        let key = keys.known.get(position)?;
-        Some(Event::Step(self.place, *key))
-    }
-
-    /// Ends a turn. The next one is that of the first busy place from a number on, or else of the first one in a new round.
-    fn pass(&mut self, from: u16) {
-        self.place = match first_from(self.busy, from) {
-            Some(place) => place,
-            None => first_from(self.busy, 0).unwrap_or(0),
-        };
-        self.turn = Turn::TakesIn(self.taken());
-    }
-
-    /// The frames with numbers below this one for the place whose turn it is were taken in before.
-    fn taken(&self) -> u64 {
-        match self.lists.get(usize::from(self.place)) {
-            Some(keys) => keys.taken,
-            None => 0,
-        }
-    }
-
     /// The one activity that there is, by its place and key, where the place's turn has nothing to take in; none where there
     /// are others, or where a frame is in flight.
     fn lone(&self, world: &World) -> Option<(u16, usize)> {
-        let Turn::TakesIn(_) = self.turn else {
+        let Phase::TakesIn = self.phase else {
             return None;
         };
-        if self.busy.count_ones() > 1 {
+        if !world.has_only_one(self.place) {
             return None;
         }
-        let keys = self.lists.get(usize::from(self.place))?;
-        if keys.waiting > 0 {
-            return None;
-        }
-        let key = keys.single(world, self.place)?;
+        let list = self.lists.get(usize::from(self.place))?;
+        let key = list.first(world, self.place)?;
         Some((self.place, key))
     }
 
@@ -281,15 +318,9 @@ impl Rounds {
         ensures made { AdvancesOrEnds world.old left result world.new }
     {
         self.look(world)?;
-        match self.turn {
-            Turn::TakesIn(_) => self.go_on(world, left),
-            Turn::Steps(position) if position < self.known() => {
-                self.steps_or_more(world, position, left)
-            }
-            Turn::Steps(_) => {
-                self.pass(self.place.saturating_add(1));
-                self.go_on(world, left)
-            }
+        match self.phase {
+            Phase::Steps(from) if from < self.keys.len() => self.steps_or_more(world, from, left),
+            _ => self.go_on(world, left),
         }
     }
 
@@ -304,48 +335,19 @@ impl Rounds {
         if made > 0 {
             return Ok(made);
         }
-        self.pass(self.place.saturating_add(1));
         self.go_on(world, left)
     }
 
-    /// Makes what comes next where a turn begins or goes on, and answers how many events.
+    /// Makes what comes next where a turn begins or is over, and answers how many events.
     fn go_on(&mut self, world: &mut World, left: u64) -> Result<u64, Halt>
         requires going { world.old.stopped ≢ true }
         requires some { 1 ≤ left }
         ensures made { AdvancesOrEnds world.old left result world.new }
     {
-        match self.find(world)? {
-            Some(Work::Stretch(place, key)) => self.stretch(world, place, key, left),
-            Some(Work::Event(event)) => make(world, event),
-            None => Ok(0),
-        }
-    }
-
-    /// What comes next where a turn begins or goes on; nothing only where nothing is in flight and no activity is anywhere.
-    fn find(&mut self, world: &World) -> Result<Option<Work>, AllocError>
-        ensures none { IfOk result (λ work. work ≡ None → IsQuiet world.now) }
-    {
-        for _ in 0..=MOST_PLACES {
-            if let Some((place, key)) = self.lone(world) {
-                return Ok(Some(Work::Stretch(place, key)));
-            }
-            if let Some(event) = self.next_here(world)? {
-                self.watch(world, self.place);
-                return Ok(Some(Work::Event(event)));
-            }
-            self.pass(self.place.saturating_add(1));
-        }
-        match world.any_event() {
-            Some((_, event)) => Ok(Some(Work::Event(event))),
-            None => Ok(None),
-        }
-    }
-
-    /// How many activities make a step in the turn.
-    fn known(&self) -> usize {
-        match self.lists.get(usize::from(self.place)) {
-            Some(keys) => keys.known.len(),
-            None => 0,
+        self.pass(world);
+        match self.lone(world) {
+            Some((place, key)) => self.stretch(world, place, key, left),
+            None => self.event(world),
         }
     }
 
@@ -356,8 +358,8 @@ impl Rounds {
         ensures made { Advances world.old left result world.new }
     {
         let mut made = 0;
-        for position in from..self.known() {
-            let Some(event) = self.step(position) else {
+        for _ in from..self.keys.len() {
+            let Some(event) = self.step(world) else {
                 return Ok(made);
             };
             self.watch(world, self.place);
@@ -382,7 +384,7 @@ impl Rounds {
         if made == 0 {
             return self.event(world);
         }
-        self.turn = Turn::Steps(self.known());
+        self.phase = Phase::Over;
         Ok(made)
     }
 
@@ -439,18 +441,4 @@ pub fn run_rounds(alloc: Global, world: &mut World, limit: u64) -> Result<(), Ha
         }
     }
     Err(Halt::Limit)
-}
-
-/// The bit that stands for a place.
-fn bit(place: u16) -> u64 {
-    1_u64.checked_shl(u32::from(place)).unwrap_or(0)
-}
-
-/// The first place from a number on whose bit is set.
-fn first_from(places: u64, from: u16) -> Option<u16> {
-    let later = places.checked_shr(u32::from(from)).unwrap_or(0);
-    if later == 0 {
-        return None;
-    }
-    Some(from.saturating_add(later.trailing_zeros() as u16))
 }

@@ -9,30 +9,32 @@ ghost use Rattle.x10_world.specs.Queries.{IsNoPlace, HasPlace, HasNoKey, IsNotFl
 ghost use Rattle.x10_world.specs.Opening.{IsOpenedWorld, IsForbidden};
 ghost use Rattle.x10_world.specs.StandsForWorld.{StandsForWorld, KeepsSetting, Makes, IsIdleNow, BeganLast, SentLast};
 ghost use Rattle.x10_world.specs.Runs.{Runs, Reaches, StopsAt, IsHaltedAt, IsHaltedRun, Repeats, RepeatsThrough, IsHaltedStretch};
-ghost use Rattle.x10_world.specs.Rounds.{IsThereAt, IsQuiet};
+ghost use Rattle.x10_flights.specs.PlaceSets.{has_place};
+ghost use Rattle.x10_world.specs.Living.{keys_at, live_at};
+ghost use Rattle.x10_world.specs.Rounds.{IsBusy, IsTurnAfter, IsQuiet};
 ghost use Rattle.x10_world.specs.Happenings.{Happened, IsStood, IsDone};
-ghost use Rattle.x10_world.specs.Flights.{flight_of, flies_to, IsNext};
+ghost use Rattle.x10_flights.specs.Flights.{flight_of, flies_to, IsNext};
 ghost use Rattle.x10_world.specs.Prompt.{MayEnd, WorksIn};
 
 use crate::done::{Done, Happening};
 use crate::ending::copied_outputs;
 use crate::events::{handle, stretch};
 use crate::fault::OpenFault;
-use crate::flights::Flights;
-use crate::opening::places_of;
+use crate::places::Places;
 use std::alloc::{AllocError, Global};
 use std::marker::Model;
 use x10_code::Op;
+use x10_flights::{Flights, PlaceSet};
 use x10_kinds::Stop;
 use x10_model::Event;
-use x10_place::{Line, Place};
+use x10_place::Line;
 use x10_verify::Verified;
 
 /// A world: the places of a run, and the frames between them that are in flight.
 #[derive(Drop)]
 pub struct World<'a> {
     verified: &'a Verified<'a>,
-    places: Vec<Place<'a>>,
+    places: Places<'a>,
     flights: Flights,
     stopped: bool,
 }
@@ -42,9 +44,9 @@ impl<'a> Model for World<'a> {
 
     ghost Value = { WorldState };
 
-    ghost view = { λ a. world_of a.verified.now a.places.items a.flights a.stopped };
+    ghost view = { λ a. world_of a.verified.now a.places a.flights a.stopped };
 
-    ghost invariant = { λ a. IsWorld a.verified.now.program a.verified.now.bounds a.places.items a.flights a.stopped };
+    ghost invariant = { λ a. IsWorld a.verified.now.program a.verified.now.bounds a.places a.flights a.stopped };
 }
 
 impl<'a> World<'a> {
@@ -111,7 +113,7 @@ impl<'a> World<'a> {
         if places < verified.image().least() || places > 64 {
             return Err(OpenFault::Places);
         }
-        let list = places_of(alloc, verified, places)?;
+        let list = Places::open(alloc, verified, places)?;
         let flights = Flights::new(alloc, places)?;
         Ok(World {
             verified,
@@ -153,7 +155,7 @@ impl<'a> World<'a> {
         let Event::Step(place, key) = event else {
             return None;
         };
-        self.places.get(usize::from(place))?.at(key)
+        self.places.list().get(usize::from(place))?.at(key)
     }
 
     /// One event, made as `run` makes it, and what it did. After a Stop, which comes as `run` says, the world stands for what
@@ -214,7 +216,7 @@ impl<'a> World<'a> {
             self.verified,
             &mut self.places,
             &mut self.flights,
-            usize::from(place),
+            place,
             key,
             most,
         );
@@ -228,14 +230,14 @@ impl<'a> World<'a> {
     pub fn count(&self) -> u16
         ensures { result ≡ length self.now.places }
     {
-        self.places.len() as u16
+        self.places.list().len() as u16
     }
 
     /// The lines of a place so far; none where there is no such place.
     pub fn output(&self, place: u16) -> Option<&[Line]>
         ensures { MatchOption result (IsNoPlace self.now.places place) (λ lines. HasPlace self.now.places place (λ p. lines.now ≡ p.lines)) }
     {
-        let place = self.places.get(usize::from(place))?;
+        let place = self.places.list().get(usize::from(place))?;
         Some(place.output())
     }
 
@@ -243,21 +245,21 @@ impl<'a> World<'a> {
     pub fn outputs(&self, alloc: Global) -> Result<Vec<Vec<Line>>, AllocError>
         ensures { IfOk result (λ outputs. lines_in outputs.items ≡ lines_at self.now.places) }
     {
-        copied_outputs(alloc, &self.places)
+        copied_outputs(alloc, self.places.list())
     }
 
     /// The least key in use at a place that is not below a number; none where there is no such key, or no such place.
     pub fn next_key(&self, place: u16, from: usize) -> Option<usize>
         ensures { MatchOption result (HasNoKey self.now.places place from) (λ key. HasPlace self.now.places place (λ p. IsNextKey p.stays from key)) }
     {
-        let place = self.places.get(usize::from(place))?;
+        let place = self.places.list().get(usize::from(place))?;
         place.next_key(from)
     }
 
     /// Whether no activity is at place 0, as is so where the run has ended. Constant time.
     #[inline(always)]
     pub(crate) fn home_is_empty(&self) -> bool {
-        match self.places.first() {
+        match self.places.list().first() {
             Some(place) => place.is_empty(),
             None => true,
         }
@@ -268,7 +270,7 @@ impl<'a> World<'a> {
     pub fn has_key(&self, place: u16, key: usize) -> bool
         ensures { IsTrue result ↔ HasPlace self.now.places place (λ p. ContainsKey p.stays key) }
     {
-        match self.places.get(usize::from(place)) {
+        match self.places.list().get(usize::from(place)) {
             Some(place) => place.contains(key),
             None => false,
         }
@@ -279,7 +281,7 @@ impl<'a> World<'a> {
     pub(crate) fn vacant_key(&self, place: u16) -> Option<usize>
         ensures { MatchOption result (IsNoPlace self.now.places place) (λ key. HasPlace self.now.places place (λ p. key ≡ p.stays.vacant_key)) }
     {
-        let place = self.places.get(usize::from(place))?;
+        let place = self.places.list().get(usize::from(place))?;
         Some(place.vacant_key())
     }
 
@@ -309,47 +311,66 @@ impl<'a> World<'a> {
         self.flights.next_to(place, from)
     }
 
-    /// Whether an event names an activity at a place, or a frame in flight to it.
+    /// The least number of a frame in flight to a place; none where there is none, or no such place. Constant time.
     #[inline(always)]
-    pub(crate) fn names_at(&self, place: u16, event: Event) -> bool
-        ensures { IsTrue result ↔ IsThereAt self.now place event }
+    pub(crate) fn first_frame(&self, place: u16) -> Option<u64>
+        ensures { IsNext (flies_to self.now.flights.flying place) 0 result }
     {
-        match event {
-            Event::Step(at, key) => at == place && self.has_key(place, key),
-            Event::Deliver(number) => match self.flights.get(number) {
-                Some((to, _)) => to == place,
-                None => false,
-            },
+        self.flights.first_to(place)
+    }
+
+    /// How many activities are at a place. Constant time.
+    #[inline(always)]
+    pub(crate) fn live(&self, place: u16) -> usize
+        ensures { result ≡ live_at self.now.places place }
+    {
+        match self.places.list().get(usize::from(place)) {
+            Some(place) => place.live(),
+            None => 0,
         }
     }
 
-    /// An event that names an activity at a place or a frame in flight to it, and that place; none where there is none.
-    /// Linear in the place's keys.
-    fn event_at(&self, place: u16) -> Option<Event>
-        ensures some { IfSome result (IsThereAt self.now place) }
-        ensures none { result ≡ None → IsNext (flies_to self.now.flights.flying place) 0 None × HasNoKey self.now.places place 0 }
+    /// The keys in use at a place, by rising number. Linear in the keys that were ever in use at once.
+    pub(crate) fn keys(&self, alloc: Global, place: u16) -> Result<Vec<usize>, AllocError>
+        ensures { IfOk result (λ keys. keys.items ≡ keys_at self.now.places place) }
     {
-        match (self.next_frame(place, 0), self.next_key(place, 0)) {
-            (Some(number), _) => Some(Event::Deliver(number)),
-            (None, Some(key)) => Some(Event::Step(place, key)),
-            (None, None) => None,
+        match self.places.list().get(usize::from(place)) {
+            Some(place) => place.keys(alloc),
+            None => Ok(Vec::new(alloc)),
         }
     }
 
-    /// A place, and an event that names an activity there or a frame in flight to it; none where no frame is in flight and no
-    /// activity is anywhere. Linear in places and keys.
-    #[inline(never)]
-    pub(crate) fn any_event(&self) -> Option<(u16, Event)>
-        ensures some { IfSome result (λ at. IsThereAt self.now at.0 at.1) }
+    /// The places that have an activity, or a frame in flight to them. Constant time.
+    #[inline(always)]
+    fn busy(&self) -> PlaceSet
+        ensures { (id : ℕ) → has_place result id ≡ true ↔ IsBusy self.now id }
+    {
+        self.places.living().union(self.flights.awaited())
+    }
+
+    /// The next place behind one, and behind the last one the first, that has an activity or a frame in flight to it; none
+    /// where no activity is anywhere and no frame is in flight. Constant time.
+    #[inline(always)]
+    pub(crate) fn busy_after(&self, place: u16) -> Option<u16>
+        ensures some { IfSome result (IsTurnAfter self.now place) }
         ensures none { result ≡ None → IsQuiet self.now }
     {
         let _ = &self.verified;
-        for place in 0..self.count() {
-            if let Some(event) = self.event_at(place) {
-                return Some((place, event));
-            }
+        let busy = self.busy();
+        match busy.first_from(place.saturating_add(1)) {
+            Some(next) => Some(next),
+            None => busy.first_from(0),
         }
-        None
+    }
+
+    /// Whether one activity is at a place, none is anywhere else, and no frame is in flight. Constant time.
+    #[inline(always)]
+    pub(crate) fn has_only_one(&self, place: u16) -> bool {
+        let living = self.places.living();
+        self.live(place) == 1
+            && living.first_from(0) == Some(place)
+            && living.first_from(place.saturating_add(1)).is_none()
+            && self.flights.awaited().first_from(0).is_none()
     }
 
     /// Whether the run has ended, as place 0 sees it by its own counts and by what was reported to it: then no activity lives.
@@ -359,7 +380,7 @@ impl<'a> World<'a> {
         ensures ended { (w : machine.World) → StandsForWorld self.now w → IsTrue result → machine.IsOver w }
         ensures over { (w : machine.World) → StandsForWorld self.now w → machine.IsOver w → self.now.flights.flying ≡ [] → IsTrue result }
     {
-        match self.places.first() {
+        match self.places.list().first() {
             Some(place) => place.closed(),
             None => true,
         }

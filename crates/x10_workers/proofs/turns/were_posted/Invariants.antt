@@ -1,6 +1,6 @@
 use Rattle.std.specs.Prelude.{◌≡◌, ◌+◌, ◌<◌, ℕ, Some, slice_get}
 use Rattle.x10_workers.specs.Plays.{flight_as}
-use Rattle.x10_world.specs.Flights.{flight_of}
+use Rattle.x10_flights.specs.Flights.{flight_of}
 use Rattle.x10_hall.specs.declared.turn.Posted.{Posted}
 use Rattle.x10_workers.proofs.turns.were_posted.Given as goal
 

@@ -4,14 +4,14 @@ use Rattle.x10_world.specs.declared.rounds.Halt.TheVariants as halt
 use Rattle.x10_world.proofs.Rounding.{err_is, in_none, in_on, cut_on}
 use Rattle.x10_world.proofs.rounds.Rounds.steps.Goals as goal
 
-pub loop-position-init : goal.loop-position-init
-loop-position-init c = record { less = omega (arith, c.requires.some); runs = in_none c.args.world.now; goes = c.requires.going }
+pub loop-init : goal.loop-init
+loop-init c = record { less = omega (arith, c.requires.some); runs = in_none c.args.world.now; goes = c.requires.going }
 
 pub returns-in_err-made : goal.returns-in_err-made
 returns-in_err-made c = record {
   made = err_is c.from_residual.result c.in_err-made.field-0.0 _ _ c.from_residual.ensures.1
-      (cut_on c.args.world.now c.loop-position.world c.make.new.world c.loop-position.made (c.args.left - c.loop-position.made) c.args.left c.in_err-made.field-0.0 c.loop-position.invariant.runs
-      (c.in_err-made.ensures.made (c.args.left - c.loop-position.made) (omega (arith, c.loop-position.invariant.less))) (omega (arith, c.loop-position.invariant.less)));
+      (cut_on c.args.world.now c.loop.world c.make.new.world c.loop.made (c.args.left - c.loop.made) c.args.left c.in_err-made.field-0.0 c.loop.invariant.runs
+      (c.in_err-made.ensures.made (c.args.left - c.loop.made) (omega (arith, c.loop.invariant.less))) (omega (arith, c.loop.invariant.less)));
 }
 
 pub returns-in_err-look : goal.returns-in_err-look
@@ -19,7 +19,7 @@ returns-in_err-look c =
     let made = c.in_ok-made.ensures.made 1 (omega arith) in
     record {
       made = err_is c.from_residual-in_err-look.result halt.Memory _ _ c.from_residual-in_err-look.ensures.1
-          (_, omega (arith, c.loop-position.invariant.less, made.few), in_on c.args.world.now c.loop-position.world c.make.new.world c.loop-position.made c.in_ok-made.field-0 c.loop-position.invariant.runs made.runs, made.goes);
+          (_, omega (arith, c.loop.invariant.less, made.few), in_on c.args.world.now c.loop.world c.make.new.world c.loop.made c.in_ok-made.field-0 c.loop.invariant.runs made.runs, made.goes);
     }
 
 pub returns-then-made-left : goal.returns-then-made-left
@@ -27,17 +27,17 @@ returns-then-made-left c =
     let made = c.in_ok-made.ensures.made 1 (omega arith) in
     record {
       made = record {
-        few = omega (arith, c.loop-position.invariant.less, made.few);
-        runs = in_on c.args.world.now c.loop-position.world c.make.new.world c.loop-position.made c.in_ok-made.field-0 c.loop-position.invariant.runs made.runs;
+        few = omega (arith, c.loop.invariant.less, made.few);
+        runs = in_on c.args.world.now c.loop.world c.make.new.world c.loop.made c.in_ok-made.field-0 c.loop.invariant.runs made.runs;
         goes = made.goes;
       };
     }
 
-pub loop-position-preserved : goal.loop-position-preserved
-loop-position-preserved c =
+pub loop-preserved : goal.loop-preserved
+loop-preserved c =
     let made = c.in_ok-made.ensures.made 1 (omega arith) in
     record {
-      less = omega (arith, c.loop-position.invariant.less, made.few, c.if-made-left.false);
-      runs = in_on c.args.world.now c.loop-position.world c.make.new.world c.loop-position.made c.in_ok-made.field-0 c.loop-position.invariant.runs made.runs;
+      less = omega (arith, c.loop.invariant.less, made.few, c.if-made-left.false);
+      runs = in_on c.args.world.now c.loop.world c.make.new.world c.loop.made c.in_ok-made.field-0 c.loop.invariant.runs made.runs;
       goes = made.goes;
     }

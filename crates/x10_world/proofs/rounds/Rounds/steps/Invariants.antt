@@ -2,8 +2,8 @@ use Rattle.std.specs.Prelude.{◌≢◌, ◌<◌, true}
 use Rattle.x10_world.specs.Rounds.{RunsIn}
 use Rattle.x10_world.proofs.rounds.Rounds.steps.Given as goal
 
-abbrev pub invariant-loop-position : goal.invariant-loop-position
-invariant-loop-position l = record {
+abbrev pub invariant-loop : goal.invariant-loop
+invariant-loop l = record {
   less : l.made < l.left;
   runs : RunsIn l.initial.world l.made l.world;
   goes : l.world.stopped ≢ true;

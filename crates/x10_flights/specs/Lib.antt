@@ -1,0 +1,2 @@
+pub mod PlaceSets
+pub mod Flights
