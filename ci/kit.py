@@ -19,11 +19,11 @@ KNOWN = ("rattle-kit-13b", "rattle-kit-13f")
 # how each check is made
 FLAGS = ["--jobs", "1"]
 
-# Values of the module `rt`, by their paths, and their types.
-VALUES = {
-    # the file of the prover
-    "rtlib.RATTLE": str,
-}
+# Files that the module `rt` names, by their paths there, each a string or a path.
+FILES = [
+    # the prover
+    "rtlib.RATTLE",
+]
 # Functions of the module `rt`, by their paths, and how many values they are given, `self` among them.
 CALLS = {
     # (): has to be called in the main thread before must_fail is called in another one
@@ -42,7 +42,7 @@ CALLS = {
     # 13b: True where the edit is refused, else False. 13f: one of the words below, a string
     "must_fail": 3,
 }
-# What each crate has, as a string: its name, its folder, and the folder of its library.
+# What each crate has, as a string or a path: its name, its folder, and the folder of its library.
 FIELDS = ("name", "folder", "rlib")
 # The words that must_fail answers, by their names in the module `rt`, and whether they mean that the edit is refused. 13b: there
 # are none. 13f: strings.
@@ -77,8 +77,8 @@ class Kit:
         """The crates at or below a folder, lowest first."""
         crates = self.rt.rtlib.crates_below(folder)
         for field in FIELDS:
-            if any(type(getattr(it, field, None)) is not str for it in crates):
-                raise Unknown(f"{self.command}: a crate has no {field} that is a string; {what_is_known()}")
+            if not all(isinstance(getattr(it, field, None), (str, os.PathLike)) for it in crates):
+                raise Unknown(f"{self.command}: a crate has no {field} that is a string or a path; {what_is_known()}")
         return crates
 
     def check_words(self, crate, only, kept):
@@ -140,7 +140,7 @@ def load(file):
 
 def lacking(rt):
     """What the module `rt` doesn't have in a known shape, each in a few words."""
-    found = [f"{path} that is a {kind.__name__}" for path, kind in VALUES.items() if type(at(rt, path)) is not kind]
+    found = [f"{path} that is a path" for path in FILES if not isinstance(at(rt, path), (str, os.PathLike))]
     found += [f"{path} that takes {count} values" for path, count in CALLS.items() if not takes(at(rt, path), count)]
     return found if answers_of(rt) else [*found, f"known answers of must_fail, which are {', '.join(WORDS)} as strings"]
 
