@@ -26,17 +26,25 @@ impl Keys {
 
     /// Makes the keys in use now the known ones. Linear in the keys, except that new ones are sorted; constant time where no
     /// activity began or ended.
+    #[inline(always)]
     pub fn refresh(&mut self, world: &World, place: u16) -> Result<(), AllocError> {
         if self.fresh.is_empty() && self.known.len() == world.live(place) {
             return Ok(());
         }
+        self.renew(world, place)
+    }
+
+    /// Drops the known keys that are no longer in use, and puts those of activities that began among them.
+    #[inline(never)]
+    fn renew(&mut self, world: &World, place: u16) -> Result<(), AllocError> {
         self.known.retain(|key| world.has_key(place, *key));
-        if self.fresh.is_empty() {
-            return Ok(());
-        }
         self.fresh.sort_unstable();
-        merge(&self.known, &self.fresh, &mut self.spare)?;
-        mem::swap(&mut self.known, &mut self.spare);
+        if self.known.is_empty() {
+            mem::swap(&mut self.known, &mut self.fresh);
+        } else if !self.fresh.is_empty() {
+            merge(&self.known, &self.fresh, &mut self.spare)?;
+            mem::swap(&mut self.known, &mut self.spare);
+        }
         self.fresh.clear();
         Ok(())
     }

@@ -148,6 +148,7 @@ impl Rounds {
     }
 
     /// The event that comes next: of this turn, or of the next one where it is over.
+    #[inline(always)]
     fn find(&mut self, world: &World) -> Result<Option<Event>, AllocError>
         ensures next { IfOk result (λ event. IfSome event (λ e. IsNextEvent world.now self.old e self.new)) }
         ensures none { IfOk result (λ event. event ≡ None → IsQuiet world.now) }
@@ -164,6 +165,7 @@ impl Rounds {
     }
 
     /// The next event of the turn, if it isn't over.
+    #[inline(always)]
     fn in_turn(&mut self, world: &World) -> Result<Option<Event>, AllocError>
         ensures some { IfOk result (λ event. IfSome event (λ e. Names world.now self.old e self.new)) }
         ensures none { IfOk result (λ event. event ≡ None → IsTurnOver world.now self.old × (self.new.place ≡ self.old.place)) }
@@ -177,6 +179,7 @@ impl Rounds {
     }
 
     /// The next event of a turn that takes in frames: the delivery of the first one, or a step where there is none.
+    #[inline(always)]
     fn first_in_turn(&mut self, world: &World) -> Result<Option<Event>, AllocError>
         requires { self.old.left ≡ None }
         ensures some { IfOk result (λ event. IfSome event (λ e. Names world.now self.old e self.new)) }
@@ -191,6 +194,7 @@ impl Rounds {
     }
 
     /// Makes the list of the keys that are in use at the place whose turn it is, which has taken in all frames.
+    #[inline(always)]
     fn begin_steps(&mut self, world: &World) -> Result<(), AllocError>
         requires { self.old.left ≡ None }
         ensures ok { IfOk result (λ _. self.new ≡ record { place = self.old.place; left = Some (keys_at world.now.places self.old.place) }) }
@@ -205,6 +209,7 @@ impl Rounds {
     }
 
     /// Takes the list of the keys that the place whose turn it is may have in use.
+    #[inline(always)]
     fn recall(&mut self, world: &World) -> Result<(), AllocError>
         requires { self.old.left ≡ None }
         ensures { self.new ≡ self.old }
@@ -234,6 +239,7 @@ impl Rounds {
     }
 
     /// Begins the turn of a place, and puts the list of keys of the last one back.
+    #[inline(always)]
     fn begin_turn(&mut self, place: u16)
         ensures { self.new ≡ record { place = place; left = None } }
     {
@@ -297,6 +303,7 @@ impl Rounds {
 
     /// The one activity that there is, by its place and key, where the place's turn has nothing to take in; none where there
     /// are others, or where a frame is in flight.
+    #[inline(always)]
     fn lone(&self, world: &World) -> Option<(u16, usize)> {
         let Phase::TakesIn = self.phase else {
             return None;
@@ -389,6 +396,7 @@ impl Rounds {
     }
 
     /// The next event.
+    #[inline(always)]
     fn event(&mut self, world: &mut World) -> Result<u64, Halt>
         requires going { world.old.stopped ≢ true }
         ensures made { (limit : ℕ) → 1 ≤ limit → AdvancesOrEnds world.old limit result world.new }
