@@ -1,22 +1,20 @@
 -- Which places have activities, and which keys are in use there.
-use Rattle.std.proofs.Common.{◌≡◌, ◌≢◌, ℕ, suc, ◌+◌, ◌<◌, ◌≤◌, ◌==◌, true, false, not, List, [], ◌∷◌, ◌++◌, length, map, get_or, Option, Some, None, is_some, count_by, cond, refl, sym, ap, subst, ◌∙◌, inl, inr, add-zero, zero-add, arith, Contains}
-use Rattle.std.specs.Prelude.{◌-◌, IsSome, slice_get, slice_set}
+use Rattle.std.proofs.Common.{◌≡◌, ℕ, suc, ◌+◌, ◌<◌, ◌≤◌, ◌==◌, true, false, not, List, [], ◌∷◌, ◌++◌, length, map, get_or, Option, Some, None, is_some, count_by, cond, refl, sym, ap, subst, ◌∙◌, inl, inr, add-zero, zero-add, arith, Contains}
+use Rattle.std.specs.Prelude.{◌-◌, IsSome, slice_get}
 use Rattle.std.proofs.lemmas.Bool.{both_ways, eq-eqb, ne_eqb, not_from_true, not_from_false, cases_Bool, cases_eq}
-use Rattle.std.proofs.lemmas.List.{get_or-map, nil_from_length, length-map, length-set}
+use Rattle.std.proofs.lemmas.List.{get_or-map, nil_from_length, length-map}
 use Rattle.std.proofs.lemmas.List.Sums.{sum_by-cons}
 use Rattle.std.proofs.lemmas.Option.{same_Some, slice_get-get_or}
 use Rattle.slab.specs.Slab.{get, slab_len, entries, entries_from, ContainsKey}
 use Rattle.slab.proofs.SlabLemmas.{Contains-entries, length-entries, length-entries_from}
-use Rattle.x10_model.proofs.Lists.{none_some, set_off}
+use Rattle.x10_model.proofs.Lists.{none_some}
 use Rattle.x10_flights.specs.Flights.{RisingBy}
-use Rattle.x10_flights.specs.PlaceSets.{has_place}
 use Rattle.x10_place.specs.Opening.{keys_of}
 use Rattle.x10_place.specs.Stays.{StayState}
 use Rattle.x10_place.specs.StandsFor.{PlaceState}
 use Rattle.x10_place.proofs.Openings.{is_some_is}
-use Rattle.x10_world.specs.Living.{has_activity, lives_in, lives_at, keys_in, keys_at, live_in, live_at, AreLiving}
+use Rattle.x10_world.specs.Living.{has_activity, lives_in, lives_at, keys_in, keys_at, live_in, live_at}
 use Rattle.x10_world.specs.Queries.{HasPlace}
-use Rattle.x10_world.proofs.Lists.{set_here}
 
 -- ---- one place
 
@@ -62,17 +60,6 @@ is_lives places id key there = elim (cases_Bool (lives_at places id)) [
   | inl t ↦ t
   | inr f ↦ absurd (nobody_in there.0 (sym (ap lives_in there.1) ∙ f) key there.2)
 ]
-
--- one place has changed, and what the set says of it is so now
-pub living_after : (places : List PlaceState) (id old new : ℕ) (p q : PlaceState) → AreLiving places old → slice_get places id ≡ Some p → has_place new id ≡ has_activity q
-    → ((other : ℕ) → other ≢ id → has_place new other ≡ has_place old other) → AreLiving (slice_set places id q) new
-living_after places id old new p q living is here others = record {
-  few = subst (λ n. n ≤ 64) (sym (length-set places id q)) living.few;
-  each = λ other. elim (cases_eq other id) [
-    | inl e ↦ ap (has_place new) e ∙ here ∙ sym (ap lives_in (ap (λ k. slice_get (slice_set places id q) k) e ∙ set_here places id q p is))
-    | inr ne ↦ others other ne ∙ living.each other ∙ sym (ap lives_in (set_off places id other q ne))
-  ];
-}
 
 -- ---- lists of keys
 

@@ -146,9 +146,6 @@ pub step_over : (x : WorldState) (t : Turn) (keys : List ℕ) (event : Option Ev
 step_over x t keys None new left is e = ((keys, (left, is.0)), is.1)
 step_over x t keys (Some event) new left is e = absurd cc
 
-pub over_is_over : (x : WorldState) (t : Turn) → t.left ≡ Some [] → IsTurnOver x t
-over_is_over x t e = ([], (inl e, λ at key there. absurd (none_some (slice_get [] at) key refl there)))
-
 -- Where no frame is to be taken in any more, the steps of all that are there are left.
 pub by_steps : (x : WorldState) (t mid new : Turn) (event : Option Event) → t.left ≡ None → IsNext (flies_to x.flights.flying t.place) 0 None → mid ≡ record { place = t.place; left = Some (keys_at x.places t.place) }
     → ((keys : List ℕ) → mid.left ≡ Some keys → IsStepOf x mid.place keys event new) → AreLeft x t (keys_at x.places t.place) × IsStepOf x t.place (keys_at x.places t.place) event new
