@@ -118,14 +118,18 @@ fn write<R: Threads + Wait + Sync>(
         Err(error) => return Err(Trouble::reading(error)),
     }
     let bytes = input::read(rt, task.verb, file)?;
-    let mut made = Vec::new(rt.alloc());
+    let mut made = Output::new(Vec::new(rt.alloc()));
     let Ok(mut told) = Vec::with_capacity(rt.alloc(), FAULT_LINE) else {
         return Err(Trouble::Memory);
     };
     let status = execute(threads, rt.alloc(), task, &bytes, &mut made, &mut told);
+    if made.wants_memory() {
+        return Err(Trouble::Memory);
+    }
+    let made = made.writer();
     if is_written(task.verb, status)
         && !made.is_empty()
-        && let Err(error) = whole::write(rt, output, &made)
+        && let Err(error) = whole::write(rt, output, made)
     {
         return Err(Trouble::writing(error));
     }

@@ -1,17 +1,17 @@
-//! Standard output, which knows whether anybody reads it.
-use std::io::{self, ErrorKind, Stdout, Write};
+//! Where output goes, with why it couldn't be written.
+use std::io::{self, ErrorKind, Write};
 
+/// A writer that keeps why its last write failed that did.
 #[derive(Drop)]
-pub struct Output {
-    stdout: Stdout,
-    /// Why the last write failed that did.
+pub struct Output<W> {
+    writer: W,
     failure: Option<io::Error>,
 }
 
-impl Output {
-    pub fn new(stdout: Stdout) -> Output {
+impl<W> Output<W> {
+    pub fn new(writer: W) -> Output<W> {
         Output {
-            stdout,
+            writer,
             failure: None,
         }
     }
@@ -20,11 +20,23 @@ impl Output {
     pub fn failure(&self) -> Option<&io::Error> {
         self.failure.as_ref()
     }
+
+    /// Whether that is for lack of memory.
+    pub fn wants_memory(&self) -> bool {
+        match &self.failure {
+            Some(error) => error.kind() == ErrorKind::OutOfMemory,
+            None => false,
+        }
+    }
+
+    pub fn writer(&self) -> &W {
+        &self.writer
+    }
 }
 
-impl Write for Output {
+impl<W: Write> Write for Output<W> {
     fn write(&mut self, buf: &[u8]) -> io::Result<usize> {
-        match self.stdout.write(buf) {
+        match self.writer.write(buf) {
             Ok(written) => Ok(written),
             Err(error) => {
                 let kind = error.kind();
@@ -35,6 +47,6 @@ impl Write for Output {
     }
 
     fn flush(&mut self) -> io::Result<()> {
-        self.stdout.flush()
+        self.writer.flush()
     }
 }

@@ -5,7 +5,7 @@ use x10_cli::{Fault, Task, tell};
 /// Why a file can't be used.
 #[derive(Drop)]
 pub enum Trouble {
-    /// No memory for what is in it.
+    /// No memory for what is in it, or is to be.
     Memory,
     /// The file to read can't be opened or read.
     Read(io::Error),
