@@ -61,17 +61,6 @@ impl PlaceSet {
         }
     }
 
-    /// Whether a place is in the set.
-    #[inline(always)]
-    pub fn contains(self, place: u16) -> bool
-        ensures { result ≡ has_place self place }
-    {
-        match self.bits.checked_shr(u32::from(place)) {
-            Some(rest) => rest & 1 == 1,
-            None => false,
-        }
-    }
-
     /// The least place of the set, from `from` on.
     #[inline(always)]
     pub fn first_from(self, from: u16) -> Option<u16>

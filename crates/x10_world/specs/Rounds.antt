@@ -53,10 +53,10 @@ pub record Turn : Type 0 where
   pub left : Option (List ℕ)
 
 -- the keys that are left, of all those of the turn
-abbrev pub left_of : Phase → List ℕ → Option (List ℕ)
-left_of phase.TakesIn keys = None
-left_of (phase.Steps from) keys = Some (drop from keys)
-left_of phase.Over keys = Some []
+abbrev pub keys_left : Phase → List ℕ → Option (List ℕ)
+keys_left phase.TakesIn keys = None
+keys_left (phase.Steps from) keys = Some (drop from keys)
+keys_left phase.Over keys = Some []
 
 -- Those that have still to make their step, in a turn: all that are in use, where no more frames are to be taken in.
 abbrev pub AreLeft : WorldState → Turn → List ℕ → Type 0

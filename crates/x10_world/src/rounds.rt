@@ -76,11 +76,11 @@ pub struct Rounds {
 }
 
 impl Model for Rounds {
-    ghost use Rattle.x10_world.specs.Rounds.{Turn, left_of};
+    ghost use Rattle.x10_world.specs.Rounds.{Turn, keys_left};
 
     ghost Value = { Turn };
 
-    ghost view = { λ a. record { place = a.place; left = left_of a.phase a.keys.items } };
+    ghost view = { λ a. record { place = a.place; left = keys_left a.phase a.keys.items } };
 }
 
 /// Whether a list is that of the keys in use at a place, by rising number. Linear in the list.
