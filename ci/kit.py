@@ -58,6 +58,9 @@ UNPROVED = re.compile(r"fn (\S+): (?:not proved|no proof)")
 ENDED = re.compile(r"^only=\d+ proved=\d+", re.M)
 # an error, and how the file begins in which a proof has one
 ERROR, PROOFS = ": error: ", "./proofs/"
+# the name of a goal that isn't proved, in such a line or in such an error; what it is called begins so where it is a clause of an
+# `ensures`
+NAME, ENSURED = re.compile(r"\(`([^`\s]+)`\)|: error: `([^`\s]+)`: "), "returns-clause-"
 # words of an error that come of a name which the edit took away, and tell little of a contract
 GONE = re.compile(r"has no field|is not in scope|has no `|was not admitted|is no name")
 
@@ -69,8 +72,10 @@ class Unknown(Exception):
 class Kit:
     """A known kit: its command's file, and the command as a module."""
 
-    def __init__(self, command, rt):
+    def __init__(self, command, rt, version):
         self.command, self.rt, self.answers = command, rt, answers_of(rt)
+        # whether its goals have the names that the edits' files give
+        self.names_goals = version == KNOWN[-1]
         rt.rtlib.guarded()
 
     def crates_below(self, folder):
@@ -103,7 +108,7 @@ def open_kit(command):
     lacks = lacking(rt)
     if lacks:
         raise Unknown(f"{file}, of {version}, has no {', no '.join(lacks)}; {what_is_known()}")
-    return Kit(file, rt)
+    return Kit(file, rt, version)
 
 
 def what_is_known():
