@@ -9,7 +9,7 @@ use Rattle.x10_heap.specs.Words.{Context, AreWordsOf, HoldsHeap}
 use Rattle.x10_model.specs.declared.slot.Slot.{Slot}
 use Rattle.x10_model.specs.Maps.{IsIn, AreDistinct}
 use Rattle.x10_model.specs.Values.{Value, Cells}
-use Rattle.x10_model.specs.Frames.{Graph, FitsGraph, spelling}
+use Rattle.x10_model.specs.Frames.{Narrow, Graph, FitsGraph, spelling}
 use Rattle.x10_model.specs.Copies.{Node, Snapshot, IsOfKindIn, Captures}
 use Rattle.x10_model.specs.Signatures.{AreOfKinds}
 use Rattle.x10_model.specs.Marshalling.{snapshot_of}
@@ -34,16 +34,16 @@ pub record IsCaptured (classes : List (List Kind)) (places : ℕ) (heap : HeapSt
   pub names : Names
   pub once : AreOnce names
   pub there : AreThere heap names
-  pub fits : FitsGraph places (most_roots head) (graph_of classes heap names kinds words)
-  pub spelled : bytes ≡ spelling (with_graph head (graph_of classes heap names kinds words))
+  pub fits : FitsGraph Narrow places (most_roots head) (graph_of classes heap names kinds words)
+  pub spelled : bytes ≡ spelling Narrow (with_graph head (graph_of classes heap names kinds words))
   pub of_kinds : FitTheirKinds classes kinds (snapshot_of (graph_of classes heap names kinds words))
 
 -- The same by the machine's definitions, where cells stand for the heap and values for the words: the frame's graph is a
 -- snapshot of the values, with sharing and cycles kept, and each global reference in it names an object.
 pub record IsSnapshot (x : Context) (cells : Cells) (kinds : List Kind) (values : List Value) (head : Head) (bytes : List ℕ) : Type 0 where
   pub graph : Graph
-  pub fits : FitsGraph x.places (most_roots head) graph
-  pub spelled : bytes ≡ spelling (with_graph head graph)
+  pub fits : FitsGraph Narrow x.places (most_roots head) graph
+  pub spelled : bytes ≡ spelling Narrow (with_graph head graph)
   pub of_kinds : FitTheirKinds x.classes kinds (snapshot_of graph)
   pub captures : Captures cells values (snapshot_of graph)
   pub named : AreNamed x (snapshot_of graph)

@@ -3,7 +3,7 @@
 ghost use Rattle.std.specs.Prelude.{◌≡◌, ◌<◌, ◌≤◌, ◌^◌, IfOk, IfErr, length, map};
 ghost use Rattle.std.specs.List.{AllByRecursion};
 ghost use Rattle.x10_model.specs.Modules.{FitsText};
-ghost use Rattle.x10_model.specs.Frames.{FitsRail, spelling};
+ghost use Rattle.x10_model.specs.Frames.{Narrow, FitsRail, spelling};
 ghost use Rattle.x10_frame.specs.Heads.{IsGraphHead, with_graph, most_roots};
 ghost use Rattle.x10_copy.specs.Names.{AreWords, AreFound, AreSound};
 ghost use Rattle.x10_copy.specs.Graphs.{AreThere, text_at, rail_at, graph_of, AreWordy, IsSoundHeap};
@@ -75,7 +75,7 @@ fn written(
     requires there { AreThere heap.now marks.now }
     requires objects { AreWordy image.now.classes heap.now marks.now }
     requires done { AllFound image.now.classes heap.now marks.now marks.now.objects }
-    ensures value { IfOk result (λ bytes. bytes.items ≡ spelling (with_graph head.now (graph_of image.now.classes heap.now marks.now (kinds_of slots.now) words.now))) }
+    ensures value { IfOk result (λ bytes. bytes.items ≡ spelling Narrow (with_graph head.now (graph_of image.now.classes heap.now marks.now (kinds_of slots.now) words.now))) }
     ensures few { (length marks.now.texts < 2 ^ 16) × (length marks.now.rails < 2 ^ 16) × (length marks.now.objects < 2 ^ 16) }
     ensures texts { IfOk result (λ _. AllByRecursion FitsText (map (text_at heap.now) marks.now.texts)) }
     ensures rails { IfOk result (λ _. AllByRecursion FitsRail (map (rail_at heap.now) marks.now.rails)) }

@@ -1,7 +1,7 @@
 -- What follows the head of a frame, and where its parts stand.
 use Rattle.std.proofs.Common.{◌≡◌, ℕ, ◌-◌, ◌^◌, List, [], ◌++◌, length, drop, Option, Result, Ok, Err, refl, ◌∙◌}
 use Rattle.std.specs.Int.{w32}
-use Rattle.x10_model.specs.Frames.{Graph, Frame, counts_bytes}
+use Rattle.x10_model.specs.Frames.{Narrow, Graph, Frame, counts_bytes}
 use Rattle.x10_model.specs.Frames as frames
 use Rattle.x10_model.specs.Readers.{Reader, IsBytes, bind, done, number, times}
 use Rattle.x10_model.specs.ReadingFrames.{FrameFault, Short, graph_at}
@@ -35,13 +35,13 @@ with_graph_is (head.Shift from to waiting home number function) g i = record { h
 with_graph_is (head.Back from to waiting) g i = record { head_is = refl; graph_is = refl; sent_is = refl; received_is = refl }
 with_graph_is (head.Report from to number) g i = absurd i
 
-pub graph_body : (places : ℕ) (h : Head) (frame : List ℕ) (start count : ℕ) (texts rails nodes bytes rest : List ℕ) → IsGraphHead h → IsGraph frame start count texts rails nodes rest (graph_at places (most_roots h) bytes) → IsBody frame h start count texts rails nodes rest (graph_after places h bytes)
+pub graph_body : (places : ℕ) (h : Head) (frame : List ℕ) (start count : ℕ) (texts rails nodes bytes rest : List ℕ) → IsGraphHead h → IsGraph frame start count texts rails nodes rest (graph_at Narrow places (most_roots h) bytes) → IsBody frame h start count texts rails nodes rest (graph_after places h bytes)
 unfolding done
 graph_body places h frame start count texts rails nodes bytes rest i g =
     let w = with_graph_is h g.graph i in
     record {
       frame = with_graph h g.graph;
-      reads = bind_is (graph_at places (most_roots h)) (λ graph. done (with_graph h graph)) bytes g.graph rest g.reads;
+      reads = bind_is (graph_at Narrow places (most_roots h)) (λ graph. done (with_graph h graph)) bytes g.graph rest g.reads;
       head_is = w.head_is;
       has = record {
         graph_at = rw w.graph_is g.has;
@@ -49,9 +49,9 @@ graph_body places h frame start count texts rails nodes bytes rest i g =
       };
     }
 
-pub of_graph : {X : Type 0} (places : ℕ) (h : Head) (frame bytes : List ℕ) (body : X → Body) (rest : X → List ℕ) (r : Result X RustFault) → IsGraphHead h → GivesGraph frame body rest r (graph_at places (most_roots h) bytes) → GivesBody frame h body rest r (graph_after places h bytes)
+pub of_graph : {X : Type 0} (places : ℕ) (h : Head) (frame bytes : List ℕ) (body : X → Body) (rest : X → List ℕ) (r : Result X RustFault) → IsGraphHead h → GivesGraph frame body rest r (graph_at Narrow places (most_roots h) bytes) → GivesBody frame h body rest r (graph_after places h bytes)
 of_graph places h frame bytes body rest (Ok x) i g = graph_body places h frame (body x).start (body x).roots (body x).texts.items (body x).rails.items (body x).nodes.items bytes (rest x) i g
-of_graph places h frame bytes body rest (Err e) i g = early (graph_at places (most_roots h)) (λ graph. done (with_graph h graph)) bytes (named e) g
+of_graph places h frame bytes body rest (Err e) i g = early (graph_at Narrow places (most_roots h)) (λ graph. done (with_graph h graph)) bytes (named e) g
 
 -- ---- the counts of a report
 

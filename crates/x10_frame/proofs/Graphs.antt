@@ -1,11 +1,12 @@
 -- Reading a graph: what each step gives, and what they make together.
 use Rattle.std.proofs.Common.{◌≡◌, ℕ, ◌-◌, ◌^◌, ◌<◌, Bool, true, false, List, length, Option, Ok, Err, refl, sym, ap, ◌∙◌, flat_map}
-use Rattle.x10_model.specs.Frames.{Item, Node, Graph, Tables, tables, none, uses, used_after, turn, next_turn, used_in_all, item_bytes, blob_bytes, node_bytes}
+use Rattle.x10_model.specs.Frames.{Narrow, Item, Node, Graph, Tables, tables, none, uses, used_after, turn, next_turn, used_in_all, item_bytes, blob_bytes, node_bytes}
 use Rattle.x10_model.specs.Readers.{Reader, IsBytes, bind, done, such_that, many, times, after_all}
 use Rattle.x10_model.specs.ReadingFrames.{FrameFault, Order, item_at, text_at, rail_at, node_at, same_tables, graph_at}
 use Rattle.x10_model.proofs.ReaderLaws.{Takes, bind_is}
 use Rattle.x10_model.proofs.PartLaws.{number_reads, many_reads, wide16}
 use Rattle.x10_model.proofs.ItemLaws.{Few, item_reads}
+use Rattle.x10_model.proofs.GraphLaws.{count_reads}
 use Rattle.x10_model.specs.Offsets.{EndsWith}
 use Rattle.x10_model.proofs.Offsets.{place_is, still_ends}
 use Rattle.x10_frame.specs.Faults.{IsFault, IsFaultOrMemory}
@@ -20,15 +21,15 @@ pub counts_drop : (most : ℕ) → Drops (counts_at most)
 unfolding counts_at
 counts_drop most =
     drops_bind _ _ (drops_such_that _ _ _ (drops_reads (number_reads _ (2 ^ 16) wide16 _))) (λ roots.
-    drops_bind _ _ (drops_reads (number_reads _ (2 ^ 16) wide16 _)) (λ texts.
-    drops_bind _ _ (drops_reads (number_reads _ (2 ^ 16) wide16 _)) (λ rails.
-    drops_bind _ _ (drops_reads (number_reads _ (2 ^ 16) wide16 _)) (λ nodes.
+    drops_bind _ _ (drops_reads (count_reads Narrow)) (λ texts.
+    drops_bind _ _ (drops_reads (count_reads Narrow)) (λ rails.
+    drops_bind _ _ (drops_reads (count_reads Narrow)) (λ nodes.
     drops_done (roots, tables texts rails nodes)))))
 
 abbrev pub graph_of_counts : ℕ → ℕ × Tables → Reader FrameFault Graph
 graph_of_counts places k = graph_from places k.0 k.1
 
-pub graph_is : (places most : ℕ) (bytes : List ℕ) → graph_at places most bytes ≡ bind (counts_at most) (graph_of_counts places) bytes
+pub graph_is : (places most : ℕ) (bytes : List ℕ) → graph_at Narrow places most bytes ≡ bind (counts_at most) (graph_of_counts places) bytes
 unfolding graph_at counts_at graph_from done
 graph_is places most bytes =
     split _ _ _ (graph_of_counts places) (λ roots.
@@ -42,7 +43,7 @@ abbrev pub graph_with : List Item → List (List ℕ) → List (List ℕ) → Li
 graph_with roots texts rails nodes = record { roots = roots; texts = texts; rails = rails; nodes = nodes }
 
 abbrev nodes_at : ℕ → Tables → List Item → Reader FrameFault (List Node)
-nodes_at places all roots = many (node_at places all) next_turn all.nodes (turn 0 (used_after none roots))
+nodes_at places all roots = many (node_at Narrow places all) next_turn all.nodes (turn 0 (used_after none roots))
 
 abbrev whole_nodes_at : ℕ → Tables → List Item → Reader FrameFault (List Node)
 whole_nodes_at places all roots = such_that (nodes_at places all roots) (λ nodes. same_tables (used_in_all roots nodes) all) Order
@@ -56,14 +57,14 @@ from_texts places all roots texts = bind (times all.rails rail_at) (from_rails p
 abbrev from_roots : ℕ → Tables → List Item → Reader FrameFault Graph
 from_roots places all roots = bind (times all.texts text_at) (from_texts places all roots)
 
-graph_from_is : (places count : ℕ) (all : Tables) (bytes : List ℕ) → graph_from places count all bytes ≡ bind (many (item_at places all) uses count none) (from_roots places all) bytes
+graph_from_is : (places count : ℕ) (all : Tables) (bytes : List ℕ) → graph_from places count all bytes ≡ bind (many (item_at Narrow places all) uses count none) (from_roots places all) bytes
 unfolding graph_from
 graph_from_is places count all bytes = refl
 
 -- ---- what the steps give
 
 abbrev pub AreRoots : (places count : ℕ) → Tables → (used : Tables) → (from rest : List ℕ) → Type 0
-AreRoots places count all used from rest = IsWalk uses none used rest (many (item_at places all) uses count none from)
+AreRoots places count all used from rest = IsWalk uses none used rest (many (item_at Narrow places all) uses count none from)
 
 abbrev pub AreTexts : List ℕ → Tables → (table from rest : List ℕ) → Type 0
 AreTexts frame all table from rest = IsTable blob_bytes frame table rest (times all.texts text_at from)
@@ -72,10 +73,10 @@ abbrev pub AreRails : List ℕ → Tables → (table from rest : List ℕ) → T
 AreRails frame all table from rest = IsTable blob_bytes frame table rest (times all.rails rail_at from)
 
 abbrev pub AreNodes : ℕ → List ℕ → (all used last : Tables) → (table from rest : List ℕ) → Type 0
-AreNodes places frame all used last table from rest = IsNodeTable used last node_bytes frame table rest (many (node_at places all) next_turn all.nodes (turn 0 used) from)
+AreNodes places frame all used last table from rest = IsNodeTable used last (node_bytes Narrow) frame table rest (many (node_at Narrow places all) next_turn all.nodes (turn 0 used) from)
 
 at_roots : (places count : ℕ) (all used : Tables) (from rest : List ℕ) → (w : AreRoots places count all used from rest) → graph_from places count all from ≡ from_roots places all w.items rest
-at_roots places count all used from rest w = graph_from_is places count all from ∙ bind_is (many (item_at places all) uses count none) (from_roots places all) from w.items rest w.reads
+at_roots places count all used from rest w = graph_from_is places count all from ∙ bind_is (many (item_at Narrow places all) uses count none) (from_roots places all) from w.items rest w.reads
 
 at_texts : (places : ℕ) (frame : List ℕ) (all : Tables) (roots : List Item) (table from rest : List ℕ) → (t : AreTexts frame all table from rest) → from_roots places all roots from ≡ from_texts places all roots t.items rest
 at_texts places frame all roots table from rest t = bind_is (times all.texts text_at) (from_texts places all roots) from t.items rest t.reads
@@ -85,8 +86,8 @@ at_rails places frame all roots texts table from rest t = bind_is (times all.rai
 
 -- ---- faults
 
-pub roots_fault : (places count : ℕ) (all : Tables) (from : List ℕ) (f : Option FrameFault) → IsFault f (many (item_at places all) uses count none from) → IsFaultOrMemory f (graph_from places count all from)
-roots_fault places count all from f e = rw graph_from_is (early (many (item_at places all) uses count none) (from_roots places all) from f (lenient f (many (item_at places all) uses count none from) e))
+pub roots_fault : (places count : ℕ) (all : Tables) (from : List ℕ) (f : Option FrameFault) → IsFault f (many (item_at Narrow places all) uses count none from) → IsFaultOrMemory f (graph_from places count all from)
+roots_fault places count all from f e = rw graph_from_is (early (many (item_at Narrow places all) uses count none) (from_roots places all) from f (lenient f (many (item_at Narrow places all) uses count none from) e))
 
 pub texts_fault : (places count : ℕ) (all used : Tables) (b0 b1 : List ℕ) (f : Option FrameFault) → AreRoots places count all used b0 b1 → IsFaultOrMemory f (times all.texts text_at b1) → IsFaultOrMemory f (graph_from places count all b0)
 texts_fault places count all used b0 b1 f w e = rw (at_roots places count all used b0 b1 w) (early (times all.texts text_at) (from_texts places all w.items) b1 f e)
@@ -97,11 +98,11 @@ rails_fault places count frame all used b0 b1 t1 b2 f w t e = rw (at_roots place
 at_nodes : (places count : ℕ) (frame : List ℕ) (all used : Tables) (b0 b1 t1 b2 t2 b3 : List ℕ) → (w : AreRoots places count all used b0 b1) → (t : AreTexts frame all t1 b1 b2) → (r : AreRails frame all t2 b2 b3) → graph_from places count all b0 ≡ from_rails places all w.items t.items r.items b3
 at_nodes places count frame all used b0 b1 t1 b2 t2 b3 w t r = at_roots places count all used b0 b1 w ∙ at_texts places frame all w.items t1 b1 b2 t ∙ at_rails places frame all w.items t.items t2 b2 b3 r
 
-nodes_read : (places : ℕ) (all used : Tables) (roots : List Item) (from : List ℕ) → used ≡ used_after none roots → many (node_at places all) next_turn all.nodes (turn 0 used) from ≡ nodes_at places all roots from
-nodes_read places all used roots from e = ap (λ (u : Tables). many (node_at places all) next_turn all.nodes (turn 0 u) from) e
+nodes_read : (places : ℕ) (all used : Tables) (roots : List Item) (from : List ℕ) → used ≡ used_after none roots → many (node_at Narrow places all) next_turn all.nodes (turn 0 used) from ≡ nodes_at places all roots from
+nodes_read places all used roots from e = ap (λ (u : Tables). many (node_at Narrow places all) next_turn all.nodes (turn 0 u) from) e
 
 pub nodes_fault : (places count : ℕ) (frame : List ℕ) (all used : Tables) (b0 b1 t1 b2 t2 b3 : List ℕ) (f : Option FrameFault) → AreRoots places count all used b0 b1 → AreTexts frame all t1 b1 b2 → AreRails frame all t2 b2 b3
-    → IsFaultOrMemory f (many (node_at places all) next_turn all.nodes (turn 0 used) b3) → IsFaultOrMemory f (graph_from places count all b0)
+    → IsFaultOrMemory f (many (node_at Narrow places all) next_turn all.nodes (turn 0 used) b3) → IsFaultOrMemory f (graph_from places count all b0)
 nodes_fault places count frame all used b0 b1 t1 b2 t2 b3 f w t r e =
     rw (at_nodes places count frame all used b0 b1 t1 b2 t2 b3 w t r)
     (early (whole_nodes_at places all w.items) (λ nodes. done (graph_with w.items t.items r.items nodes)) b3 f
@@ -143,13 +144,13 @@ graph_read places count frame all used last b0 b1 t1 b2 t2 b3 t3 b4 s e =
     ∙ bind_is (whole_nodes_at places all s.roots.items) (λ nodes. done (graph_with s.roots.items s.texts.items s.rails.items nodes)) b3 s.nodes.known.items b4
     (such_that_is (nodes_at places all s.roots.items) (λ nodes. same_tables (used_in_all s.roots.items nodes) all) Order b3 s.nodes.known.items b4 (nodes_are places count frame all used last b0 b1 t1 b2 t2 b3 t3 b4 s) (test_is places count frame all used last b0 b1 t1 b2 t2 b3 t3 b4 true s e))
 
-pub roots_take : (places count : ℕ) (all used : Tables) (from rest : List ℕ) → places < 2 ^ 16 → Few all → IsBytes from → (w : AreRoots places count all used from rest) → Takes from (flat_map item_bytes w.items) rest × (length w.items ≡ count)
-roots_take places count all used from rest few ok b w = let t = (many_reads uses (item_reads places all few ok) count none).takes from w.items rest b w.reads in (t.0, t.1.0)
+pub roots_take : (places count : ℕ) (all used : Tables) (from rest : List ℕ) → places < 2 ^ 16 → Few Narrow all → IsBytes from → (w : AreRoots places count all used from rest) → Takes from (flat_map (item_bytes Narrow) w.items) rest × (length w.items ≡ count)
+roots_take places count all used from rest few ok b w = let t = (many_reads uses (item_reads Narrow places all few ok) count none).takes from w.items rest b w.reads in (t.0, t.1.0)
 
-pub roots_end : (places count : ℕ) (frame : List ℕ) (all used : Tables) (from rest : List ℕ) → places < 2 ^ 16 → Few all → IsBytes from → EndsWith frame from → AreRoots places count all used from rest → EndsWith frame rest
-roots_end places count frame all used from rest few ok b e w = still_ends frame from (flat_map item_bytes w.items) rest e (roots_take places count all used from rest few ok b w).0.parts
+pub roots_end : (places count : ℕ) (frame : List ℕ) (all used : Tables) (from rest : List ℕ) → places < 2 ^ 16 → Few Narrow all → IsBytes from → EndsWith frame from → AreRoots places count all used from rest → EndsWith frame rest
+roots_end places count frame all used from rest few ok b e w = still_ends frame from (flat_map (item_bytes Narrow) w.items) rest e (roots_take places count all used from rest few ok b w).0.parts
 
-pub graph_given : (places count : ℕ) (frame : List ℕ) (all used last : Tables) (b0 b1 t1 b2 t2 b3 t3 b4 : List ℕ) → places < 2 ^ 16 → Few all → IsBytes b0 → EndsWith frame b0
+pub graph_given : (places count : ℕ) (frame : List ℕ) (all used last : Tables) (b0 b1 t1 b2 t2 b3 t3 b4 : List ℕ) → places < 2 ^ 16 → Few Narrow all → IsBytes b0 → EndsWith frame b0
     → Steps places count frame all used last b0 b1 t1 b2 t2 b3 t3 b4 → same_tables last all ≡ true → IsGraph frame (length frame - length b0) count t1 t2 t3 b4 (graph_from places count all b0)
 graph_given places count frame all used last b0 b1 t1 b2 t2 b3 t3 b4 few ok b e s h =
     let took = roots_take places count all used b0 b1 few ok b s.roots in
@@ -158,7 +159,7 @@ graph_given places count frame all used last b0 b1 t1 b2 t2 b3 t3 b4 few ok b e 
       reads = graph_read places count frame all used last b0 b1 t1 b2 t2 b3 t3 b4 s h;
       has = record {
         count_is = took.1;
-        roots_at = place_is frame b0 (flat_map item_bytes s.roots.items) b1 e took.0.parts;
+        roots_at = place_is frame b0 (flat_map (item_bytes Narrow) s.roots.items) b1 e took.0.parts;
         texts_at = s.texts.places;
         rails_at = s.rails.places;
         nodes_at = s.nodes.known.places;

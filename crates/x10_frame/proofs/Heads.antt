@@ -1,7 +1,7 @@
 -- A frame is read as its head, and then what follows.
 use Rattle.std.proofs.Common.{◌≡◌, ℕ, zero, suc, ◌^◌, ◌<◌, List, None, refl}
 use Rattle.std.specs.Int.{w16, w32}
-use Rattle.x10_model.specs.Frames.{Launch, launch, Frame, Spawn, Shift}
+use Rattle.x10_model.specs.Frames.{Narrow, Launch, launch, Frame, Spawn, Shift}
 use Rattle.x10_model.specs.Readers.{bind, done, given, number}
 use Rattle.x10_model.specs.ReadingFrames.{FrameFault, Short, Version, FrameType, Place, place_at, graph_at, launch_at, body_at, parts_at}
 use Rattle.x10_model.proofs.PartLaws.{byte_reads, number_reads, wide16, wide32}
@@ -14,31 +14,31 @@ use Rattle.x10_frame.proofs.Readers.{split, alike, done_next, made_twice, Drops,
 abbrev spawned : ℕ → ℕ → Launch → Frame
 spawned from to l = Spawn from to l.home l.number l.function l.graph
 
-spawn_is : (places from to : ℕ) (bytes : List ℕ) → body_at places 1 from to bytes ≡ bind (spawn_at places from to) (after_head places) bytes
+spawn_is : (places from to : ℕ) (bytes : List ℕ) → body_at Narrow places 1 from to bytes ≡ bind (spawn_at places from to) (after_head places) bytes
 unfolding body_at launch_at spawn_at
 spawn_is places from to bytes =
     alike _ _ (λ l. done (spawned from to l)) _ (after_head places) (λ home.
     alike _ _ (λ l. done (spawned from to l)) _ (after_head places) (λ number.
     alike _ _ (λ l. done (spawned from to l)) _ (after_head places) (λ function rest.
-    made_twice (graph_at places 16) (launch home number function) (spawned from to) (head.Spawn from to home number function) (after_head places) rest refl))) bytes
+    made_twice (graph_at Narrow places 16) (launch home number function) (spawned from to) (head.Spawn from to home number function) (after_head places) rest refl))) bytes
 
 abbrev shifted : ℕ → ℕ → ℕ → Launch → Frame
 shifted from to waiting l = Shift from to waiting l.home l.number l.function l.graph
 
-shift_is : (places from to : ℕ) (bytes : List ℕ) → body_at places 2 from to bytes ≡ bind (shift_at places from to) (after_head places) bytes
+shift_is : (places from to : ℕ) (bytes : List ℕ) → body_at Narrow places 2 from to bytes ≡ bind (shift_at places from to) (after_head places) bytes
 unfolding body_at launch_at shift_at
 shift_is places from to bytes =
     split _ _ _ (after_head places) (λ waiting.
     alike _ _ (λ l. done (shifted from to waiting l)) _ (after_head places) (λ home.
     alike _ _ (λ l. done (shifted from to waiting l)) _ (after_head places) (λ number.
     alike _ _ (λ l. done (shifted from to waiting l)) _ (after_head places) (λ function rest.
-    made_twice (graph_at places 16) (launch home number function) (shifted from to waiting) (head.Shift from to waiting home number function) (after_head places) rest refl)))) bytes
+    made_twice (graph_at Narrow places 16) (launch home number function) (shifted from to waiting) (head.Shift from to waiting home number function) (after_head places) rest refl)))) bytes
 
-back_is : (places from to : ℕ) (bytes : List ℕ) → body_at places 3 from to bytes ≡ bind (back_at from to) (after_head places) bytes
+back_is : (places from to : ℕ) (bytes : List ℕ) → body_at Narrow places 3 from to bytes ≡ bind (back_at from to) (after_head places) bytes
 unfolding body_at back_at
 back_is places from to bytes = split _ _ _ (after_head places) (λ waiting rest. done_next (head.Back from to waiting) (after_head places) rest) bytes
 
-report_is : (places from to : ℕ) (bytes : List ℕ) → body_at places 4 from to bytes ≡ bind (report_at places from to) (after_head places) bytes
+report_is : (places from to : ℕ) (bytes : List ℕ) → body_at Narrow places 4 from to bytes ≡ bind (report_at places from to) (after_head places) bytes
 unfolding body_at report_at counts_at
 report_is places from to bytes = split _ _ _ (after_head places) (λ finish. split _ _ _ (after_head places) (λ u rest. done_next (head.Report from to finish) (after_head places) rest)) bytes
 
@@ -46,7 +46,7 @@ none_is : (places type from to : ℕ) (bytes : List ℕ) → given {A = Frame} N
 unfolding bind given
 none_is places type from to bytes = refl
 
-body_is : (places type from to : ℕ) (bytes : List ℕ) → body_at places type from to bytes ≡ bind (numbers_at places type from to) (after_head places) bytes
+body_is : (places type from to : ℕ) (bytes : List ℕ) → body_at Narrow places type from to bytes ≡ bind (numbers_at places type from to) (after_head places) bytes
 unfolding body_at numbers_at
 body_is places zero from to bytes = none_is places 0 from to bytes
 body_is places (suc zero) from to bytes = spawn_is places from to bytes

@@ -1,6 +1,6 @@
 -- Reading a whole frame: what its two steps make together.
 use Rattle.std.proofs.Common.{◌≡◌, ◌≢◌, ℕ, ◌^◌, ◌<◌, List, [], ◌∷◌, length, Option, Some, None, Result, Ok, Err, IfOk, refl, sym, ap, subst, ◌∙◌, arith}
-use Rattle.x10_model.specs.Frames.{Frame, FitsFrame, spelling}
+use Rattle.x10_model.specs.Frames.{Narrow, Frame, FitsFrame, spelling}
 use Rattle.x10_model.specs.Readers.{IsBytes, all_of, ended}
 use Rattle.x10_model.specs.ReadingFrames.{FrameFault, Trailing, parts_at, frame_at}
 use Rattle.x10_model.proofs.ReaderLaws.{bind_is}
@@ -76,8 +76,8 @@ is_view places bytes h r1 start count texts rails nodes r2 s end =
     let law = frame_takes places s.few bytes s.body.frame s.small e in
     record {
       few = s.few;
-      fits = subst (FitsFrame places) (sym is) law.0;
-      spelled = law.1 ∙ ap spelling (sym is);
+      fits = subst (FitsFrame Narrow places) (sym is) law.0;
+      spelled = law.1 ∙ ap (spelling Narrow) (sym is);
       head_is = ap head_of is ∙ s.body.head_is;
       has = subst (HasBody bytes start count texts rails nodes) (sym is) s.body.has;
     }
@@ -87,9 +87,9 @@ is_in places bytes f e = e ∙ ap read_frame (sym (frame_in_is places bytes f e)
 
 -- ---- the clauses of reading
 
-pub found : (places : ℕ) (bytes : List ℕ) (r : Result Frame RustFault) → places < 2 ^ 16 → IsBytes bytes → Gives (λ v. v) r (frame_at places bytes) → IfOk r (λ f. FitsFrame places f × (bytes ≡ spelling f))
+pub found : (places : ℕ) (bytes : List ℕ) (r : Result Frame RustFault) → places < 2 ^ 16 → IsBytes bytes → Gives (λ v. v) r (frame_at places bytes) → IfOk r (λ f. FitsFrame Narrow places f × (bytes ≡ spelling Narrow f))
 found places bytes (Ok f) few b e = frame_takes places few bytes f b e
 found places bytes (Err f) few b e = tt
 
-pub only : (places : ℕ) (bytes : List ℕ) (r : Result Frame RustFault) (f : Frame) → places < 2 ^ 16 → Gives (λ v. v) r (frame_at places bytes) → FitsFrame places f → bytes ≡ spelling f → Gives (λ v. v) r (read_frame f)
+pub only : (places : ℕ) (bytes : List ℕ) (r : Result Frame RustFault) (f : Frame) → places < 2 ^ 16 → Gives (λ v. v) r (frame_at places bytes) → FitsFrame Narrow places f → bytes ≡ spelling Narrow f → Gives (λ v. v) r (read_frame f)
 only places bytes r f few e fits is = subst (λ (o : Result Frame FrameFault). Gives (λ v. v) r o) (ap (frame_at places) is ∙ frame_again places few f fits) e

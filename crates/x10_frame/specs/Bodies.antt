@@ -1,7 +1,7 @@
 -- Where the parts of a frame stand in its bytes.
 use Rattle.std.specs.Prelude.{◌≡◌, ℕ, List, ◌++◌, length, Result, Ok, Err}
 use Rattle.std.specs.List.{flat_map}
-use Rattle.x10_model.specs.Frames.{Graph, Frame, item_bytes, blob_bytes, node_bytes, counts_bytes}
+use Rattle.x10_model.specs.Frames.{Narrow, Graph, Frame, item_bytes, blob_bytes, node_bytes, counts_bytes}
 use Rattle.x10_model.specs.ReadingFrames as reading
 use Rattle.x10_model.specs.Offsets.{StandsAt, AreAt}
 use Rattle.x10_frame.specs.declared.fault.FrameFault.{FrameFault}
@@ -13,10 +13,10 @@ use Rattle.x10_frame.specs.Heads.{head_of, graph_of, sent_of, received_of}
 -- the parts of the graph stand there: the roots, so many, from one place on, and each text, rail and node at its own
 pub record HasGraph (frame : List ℕ) (start count : ℕ) (texts rails nodes : List ℕ) (g : Graph) : Type 0 where
   pub count_is : length g.roots ≡ count
-  pub roots_at : StandsAt frame start (flat_map item_bytes g.roots)
+  pub roots_at : StandsAt frame start (flat_map (item_bytes Narrow) g.roots)
   pub texts_at : AreAt blob_bytes frame texts g.texts
   pub rails_at : AreAt blob_bytes frame rails g.rails
-  pub nodes_at : AreAt node_bytes frame nodes g.nodes
+  pub nodes_at : AreAt (node_bytes Narrow) frame nodes g.nodes
 
 -- what reading gives, with the places of its parts
 pub record IsGraph (frame : List ℕ) (start count : ℕ) (texts rails nodes rest : List ℕ) (read : Result (Graph × List ℕ) reading.FrameFault) : Type 0 where

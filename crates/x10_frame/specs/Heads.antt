@@ -1,7 +1,7 @@
 -- The numbers that stand before the graph of a frame, or before the counts of a report.
 use Rattle.std.specs.Prelude.{ℕ, zero, suc, ◌&&◌, nat_le, List, [], None}
 use Rattle.std.specs.Int.{w16, w32}
-use Rattle.x10_model.specs.Frames.{Graph, Frame}
+use Rattle.x10_model.specs.Frames.{Narrow, Graph, Frame}
 use Rattle.x10_model.specs.Frames as frames
 use Rattle.x10_model.specs.Readers.{Reader, ◌>>=◌, ◌>>◌, done, such_that, expect, given, byte, number, times}
 use Rattle.x10_model.specs.ReadingFrames.{FrameFault, Short, Version, FrameType, Place, place_at, graph_at}
@@ -104,7 +104,7 @@ counts_at places from to finish = do
   done (frames.Report from to finish sent received)
 
 abbrev pub graph_after : ℕ → Head → Reader FrameFault Frame
-graph_after places h = graph_at places (most_roots h) >>= (λ graph. done (with_graph h graph))
+graph_after places h = graph_at Narrow places (most_roots h) >>= (λ graph. done (with_graph h graph))
 
 abbrev pub after_head : ℕ → Head → Reader FrameFault Frame
 after_head places (head.Report from to number) = counts_at places from to number

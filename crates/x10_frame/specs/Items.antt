@@ -1,6 +1,6 @@
 -- Values and numbers used as the program keeps them.
 use Rattle.std.specs.Prelude.{◌≡◌, ℕ, List, [], Result, Ok, Err}
-use Rattle.x10_model.specs.Frames.{IntItem, PlaceItem, TextItem, RailItem, ObjectItem, NullItem, RefItem, tables}
+use Rattle.x10_model.specs.Frames.{Narrow, IntItem, PlaceItem, TextItem, RailItem, ObjectItem, NullItem, RefItem, tables}
 use Rattle.x10_model.specs.Frames as frames
 use Rattle.x10_model.specs.Readers.{times}
 use Rattle.x10_model.specs.ReadingFrames.{FrameFault, item_at}
@@ -34,10 +34,10 @@ items_of (Err fault) = []
 
 -- so many values at the front of the bytes
 unfoldable pub items_in : ℕ → ℕ → List ℕ → List frames.Item
-items_in places n bytes = items_of (times n (item_at places full full) bytes)
+items_in places n bytes = items_of (times n (item_at Narrow places full full) bytes)
 
 -- so many values stand at the front of the bytes
 pub record HasItems (places n : ℕ) (bytes : List ℕ) : Type 0 where
   pub items : List frames.Item
   pub rest : List ℕ
-  pub reads : times n (item_at places full full) bytes ≡ Ok (items, rest)
+  pub reads : times n (item_at Narrow places full full) bytes ≡ Ok (items, rest)

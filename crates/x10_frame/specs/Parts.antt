@@ -1,7 +1,7 @@
 -- Where the parts of a frame stand in its spelling.
 use Rattle.std.specs.Prelude.{ℕ, ◌+◌, ◌*◌, length, take}
 use Rattle.std.specs.List.{flat_map}
-use Rattle.x10_model.specs.Frames.{Frame, item_bytes, blob_bytes, node_bytes}
+use Rattle.x10_model.specs.Frames.{Narrow, Frame, item_bytes, blob_bytes, node_bytes}
 use Rattle.x10_frame.specs.Heads.{head_of, graph_of, sent_of}
 use Rattle.x10_frame.specs.Writing.{head_bytes}
 
@@ -11,7 +11,7 @@ roots_from f = length (head_bytes (head_of f)) + 8
 
 -- where the texts, the rails and the nodes begin
 abbrev pub texts_from : Frame → ℕ
-texts_from f = roots_from f + length (flat_map item_bytes (graph_of f).roots)
+texts_from f = roots_from f + length (flat_map (item_bytes Narrow) (graph_of f).roots)
 
 abbrev pub rails_from : Frame → ℕ
 rails_from f = texts_from f + length (flat_map blob_bytes (graph_of f).texts)
@@ -21,7 +21,7 @@ nodes_from f = rails_from f + length (flat_map blob_bytes (graph_of f).rails)
 
 -- where the bytes of root i begin
 abbrev pub place_of_root : Frame → ℕ → ℕ
-place_of_root f i = roots_from f + length (flat_map item_bytes (take i (graph_of f).roots))
+place_of_root f i = roots_from f + length (flat_map (item_bytes Narrow) (take i (graph_of f).roots))
 
 -- where the bytes of text i begin: behind its length, in four bytes
 abbrev pub place_of_text : Frame → ℕ → ℕ
@@ -33,7 +33,7 @@ place_of_rail f i = rails_from f + length (flat_map blob_bytes (take i (graph_of
 
 -- where the bytes of node i begin: its class, how many fields it has, and these
 abbrev pub place_of_node : Frame → ℕ → ℕ
-place_of_node f i = nodes_from f + length (flat_map node_bytes (take i (graph_of f).nodes))
+place_of_node f i = nodes_from f + length (flat_map (node_bytes Narrow) (take i (graph_of f).nodes))
 
 -- where the counts of a report begin: behind its head and the number of places, in two bytes
 abbrev pub counts_from : Frame → ℕ

@@ -2,7 +2,7 @@
 use Rattle.std.specs.Prelude.{ℕ, List, [], ◌∷◌, ◌++◌, length, map}
 use Rattle.std.specs.List.{flat_map}
 use Rattle.std.specs.Int.{w16, w32, to_be_bytes}
-use Rattle.x10_model.specs.Frames.{Graph, item_bytes, blob_bytes, node_bytes}
+use Rattle.x10_model.specs.Frames.{Narrow, Graph, item_bytes, blob_bytes, node_bytes}
 use Rattle.x10_model.specs.Frames as frames
 use Rattle.x10_frame.specs.declared.head.Head.{Head}
 use Rattle.x10_frame.specs.declared.head.Head.TheVariants as head
@@ -25,7 +25,7 @@ sizes_bytes roots texts rails nodes = to_be_bytes w16 roots ++ (to_be_bytes w16 
 
 -- the values, one after another
 abbrev pub values_bytes : List Item → List ℕ
-values_bytes items = flat_map item_bytes (map item_of items)
+values_bytes items = flat_map (item_bytes Narrow) (map item_of items)
 
 -- a node of these fields
 abbrev pub node_of : ℕ → List Item → frames.Node
@@ -35,7 +35,7 @@ node_of class fields = record { class = class; fields = map item_of fields }
 abbrev pub draft : Head → Graph → List ℕ
 draft h g =
     ((((head_bytes h ++ sizes_bytes (length g.roots) (length g.texts) (length g.rails) (length g.nodes))
-    ++ flat_map item_bytes g.roots)
+    ++ flat_map (item_bytes Narrow) g.roots)
     ++ flat_map blob_bytes g.texts)
     ++ flat_map blob_bytes g.rails)
-    ++ flat_map node_bytes g.nodes
+    ++ flat_map (node_bytes Narrow) g.nodes

@@ -1,5 +1,6 @@
 //! Fields at the front of bytes.
 
+ghost use Rattle.x10_model.specs.Frames.{Narrow};
 ghost use Rattle.x10_model.specs.ReadingFrames.{Short, place_at, index_at, length_at};
 ghost use Rattle.x10_model.specs.ReadingFrames as reading;
 ghost use Rattle.x10_frame.specs.Faults.{named, Answers};
@@ -37,7 +38,7 @@ pub fn place_at(bytes: &[u8], places: u16) -> Result<(u16, &[u8]), FrameFault>
 #[tactic(auto, unfolding(x10_model::specs::ReadingFrames::index_at, x10_model::specs::Readers::such_that, x10_model::specs::Readers::bind, x10_model::specs::Readers::check, x10_model::specs::Readers::done))]
 #[inline(always)]
 pub fn index_at(bytes: &[u8], used: u32, table: u32) -> Result<(u16, &[u8]), FrameFault>
-    ensures exact { Answers (λ x. (x.0, x.1.now)) result (index_at used table bytes.now) }
+    ensures exact { Answers (λ x. (x.0, x.1.now)) result (index_at Narrow used table bytes.now) }
 {
     let (index, bytes) = u16_at::<FrameFault>(bytes)?;
     if u32::from(index) > used || u32::from(index) >= table {

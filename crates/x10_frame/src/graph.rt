@@ -1,7 +1,8 @@
 //! The graph of a frame: where its parts are.
 
-ghost use Rattle.std.specs.Prelude.{◌^◌, ◌<◌, IfOk, nat_le};
+ghost use Rattle.std.specs.Prelude.{◌≤◌, IfOk, nat_le};
 ghost use Rattle.std.specs.Int.{w16};
+ghost use Rattle.x10_model.specs.Frames.{Narrow, most_of};
 ghost use Rattle.x10_model.specs.Readers.{number, such_that};
 ghost use Rattle.x10_model.specs.ReadingFrames.{Short, Order, graph_at};
 ghost use Rattle.x10_model.specs.Offsets.{EndsWith};
@@ -37,11 +38,11 @@ fn root_count_at(bytes: &[u8], most: u16) -> Result<(u16, &[u8]), FrameFault>
     Ok((count, bytes))
 }
 
-#[tactic(auto, unfolding(crate::specs::Graphs::counts_at, x10_model::specs::Readers::bind, x10_model::specs::Readers::done))]
+#[tactic(auto, unfolding(crate::specs::Graphs::counts_at, x10_model::specs::ReadingFrames::count_at, x10_model::specs::Readers::bind, x10_model::specs::Readers::done))]
 #[inline(always)]
 fn counts_at(bytes: &[u8], most: u16) -> Result<(Counts, &[u8]), FrameFault>
     ensures exact { Answers (λ x. ((x.0.roots, tables_in x.0.all), x.1.now)) result (counts_at most bytes.now) }
-    ensures few { IfOk result (λ x. (x.0.all.texts < 2 ^ 16) × (x.0.all.rails < 2 ^ 16) × (x.0.all.nodes < 2 ^ 16)) }
+    ensures few { IfOk result (λ x. (x.0.all.texts ≤ most_of Narrow) × (x.0.all.rails ≤ most_of Narrow) × (x.0.all.nodes ≤ most_of Narrow)) }
 {
     let (roots, bytes) = root_count_at(bytes, most)?;
     let (texts, bytes) = u16_at::<FrameFault>(bytes)?;
@@ -64,9 +65,9 @@ fn parts_of<'a>(
     all: &Used,
 ) -> Result<(Body, &'a [u8]), FrameFault>
     requires ends { EndsWith frame.now bytes.now }
-    requires texts { all.now.texts < 2 ^ 16 }
-    requires rails { all.now.rails < 2 ^ 16 }
-    requires nodes { all.now.nodes < 2 ^ 16 }
+    requires texts { all.now.texts ≤ most_of Narrow }
+    requires rails { all.now.rails ≤ most_of Narrow }
+    requires nodes { all.now.nodes ≤ most_of Narrow }
     ensures exact { GivesGraph frame.now (λ x. x.0) (λ x. x.1.now) result (graph_from places roots (tables_in all.now) bytes.now) }
 {
     let start = frame.len() - bytes.len();
@@ -96,7 +97,7 @@ pub fn read_graph<'a>(
     most: u16,
 ) -> Result<(Body, &'a [u8]), FrameFault>
     requires { EndsWith frame.now bytes.now }
-    ensures exact { GivesGraph frame.now (λ x. x.0) (λ x. x.1.now) result (graph_at places most bytes.now) }
+    ensures exact { GivesGraph frame.now (λ x. x.0) (λ x. x.1.now) result (graph_at Narrow places most bytes.now) }
 {
     let (counts, rest) = counts_at(bytes, most)?;
     parts_of(alloc, frame, rest, places, counts.roots, &counts.all)

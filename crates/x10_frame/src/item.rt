@@ -2,7 +2,7 @@
 
 ghost use Rattle.x10_model.specs.Readers.{byte, such_that};
 ghost use Rattle.x10_model.specs.ReadingFrames.{Short, Tag, item_at, untagged_at};
-ghost use Rattle.x10_model.specs.Frames.{Tables};
+ghost use Rattle.x10_model.specs.Frames.{Narrow, Tables};
 ghost use Rattle.std.specs.Prelude.{◌≡◌, ◌<◌, ◌&&◌, Some, nat_le, slice_get};
 ghost use Rattle.x10_frame.specs.Faults.{Answers};
 ghost use Rattle.x10_frame.specs.Items.{item_of, tables_in, items_in, HasItems};
@@ -41,7 +41,7 @@ fn tag_at(bytes: &[u8]) -> Result<(u8, &[u8]), FrameFault>
 #[tactic(auto, unfolding(x10_model::specs::ReadingFrames::untagged_at, x10_model::specs::Readers::bind, x10_model::specs::Readers::done))]
 #[inline(always)]
 fn ref_at(bytes: &[u8], places: u16) -> Result<(Item, &[u8]), FrameFault>
-    ensures exact { (all : Tables) (used : Tables) → Answers (λ x. (item_of x.0, x.1.now)) result (untagged_at places all used 7 bytes.now) }
+    ensures exact { (all : Tables) (used : Tables) → Answers (λ x. (item_of x.0, x.1.now)) result (untagged_at Narrow places all used 7 bytes.now) }
 {
     let (home, bytes) = place_at(bytes, places)?;
     let (id, bytes) = u32_at::<FrameFault>(bytes)?;
@@ -58,7 +58,7 @@ fn untagged_at<'a>(
     all: &Used,
     used: &Used,
 ) -> Result<(Item, &'a [u8]), FrameFault>
-    ensures exact { Answers (λ x. (item_of x.0, x.1.now)) result (untagged_at places (tables_in all.now) (tables_in used.now) tag bytes.now) }
+    ensures exact { Answers (λ x. (item_of x.0, x.1.now)) result (untagged_at Narrow places (tables_in all.now) (tables_in used.now) tag bytes.now) }
 {
     match tag {
         1 => {
@@ -96,7 +96,7 @@ pub fn item_at<'a>(
     all: &Used,
     used: &Used,
 ) -> Result<(Item, &'a [u8]), FrameFault>
-    ensures exact { Answers (λ x. (item_of x.0, x.1.now)) result (item_at places (tables_in all.now) (tables_in used.now) bytes.now) }
+    ensures exact { Answers (λ x. (item_of x.0, x.1.now)) result (item_at Narrow places (tables_in all.now) (tables_in used.now) bytes.now) }
 {
     let (tag, bytes) = tag_at(bytes)?;
     untagged_at(bytes, tag, places, all, used)

@@ -2,7 +2,7 @@
 
 ghost use Rattle.std.specs.Prelude.{◌≡◌, ◌≤◌, ℕ, Ok, IsOk, length, take, drop, slice_index};
 ghost use Rattle.std.specs.Int.{w16, w32, w64, from_be_bytes, cast_signed};
-ghost use Rattle.x10_model.specs.Frames.{IntItem, RefItem};
+ghost use Rattle.x10_model.specs.Frames.{Narrow, IntItem, RefItem};
 ghost use Rattle.x10_model.specs.ReadingFrames.{item_at};
 ghost use Rattle.x10_frame.specs.Items.{item_of, full};
 
@@ -59,8 +59,8 @@ fn first_ref(bytes: &[u8]) -> (Item, &[u8])
 /// A value, and the bytes after it.
 #[inline(always)]
 pub fn known_item(bytes: &[u8]) -> (Item, &[u8])
-    requires { (places : ℕ) × IsOk (item_at places full full bytes.now) }
-    ensures { (places : ℕ) → IsOk (item_at places full full bytes.now) → item_at places full full bytes.now ≡ Ok (item_of result.0, result.1.now) }
+    requires { (places : ℕ) × IsOk (item_at Narrow places full full bytes.now) }
+    ensures { (places : ℕ) → IsOk (item_at Narrow places full full bytes.now) → item_at Narrow places full full bytes.now ≡ Ok (item_of result.0, result.1.now) }
 {
     let (tag, rest) = first_byte(bytes);
     match tag {

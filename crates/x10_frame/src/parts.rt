@@ -2,7 +2,7 @@
 
 ghost use Rattle.std.specs.Int.{w32};
 ghost use Rattle.std.specs.Prelude.{nat_le};
-ghost use Rattle.x10_model.specs.Frames.{uses, turn};
+ghost use Rattle.x10_model.specs.Frames.{Narrow, uses, turn};
 ghost use Rattle.x10_model.specs.Readers.{byte, such_that, many, times};
 ghost use Rattle.x10_model.specs.Readers as readers;
 ghost use Rattle.x10_model.specs.ReadingFrames.{Short, Order, item_at, node_at, text_at, rail_at};
@@ -27,7 +27,7 @@ pub fn past_items<'a>(
     all: &Used,
     used: &Used,
 ) -> Result<(Used, &'a [u8]), FrameFault>
-    ensures exact { Walks named uses (tables_in used.now) (λ x. tables_in x.0) (λ x. x.1.now) result (many (item_at places (tables_in all.now)) uses count (tables_in used.now) bytes.now) }
+    ensures exact { Walks named uses (tables_in used.now) (λ x. tables_in x.0) (λ x. x.1.now) result (many (item_at Narrow places (tables_in all.now)) uses count (tables_in used.now) bytes.now) }
 {
     let mut met = *used;
     let mut rest = bytes;
@@ -61,7 +61,7 @@ pub fn past_node<'a>(
     all: &Used,
     used: &Used,
 ) -> Result<(Used, &'a [u8]), FrameFault>
-    ensures exact { PassesNode (tables_in used.now) (λ x. tables_in x.0) (λ x. x.1.now) result (node_at places (tables_in all.now) (turn number (tables_in used.now)) bytes.now) }
+    ensures exact { PassesNode (tables_in used.now) (λ x. tables_in x.0) (λ x. x.1.now) result (node_at Narrow places (tables_in all.now) (turn number (tables_in used.now)) bytes.now) }
 {
     let (_, bytes) = u16_at::<FrameFault>(bytes)?;
     if number >= used.nodes {

@@ -4,7 +4,7 @@ ghost use Rattle.std.specs.Prelude.{◌≡◌, [], ◌∷◌, ◌++◌, ◌^◌,
 ghost use Rattle.std.specs.List.{flat_map};
 ghost use Rattle.std.specs.Int.{w16, w32, to_be_bytes};
 ghost use Rattle.x10_model.specs.Images.{int_bytes};
-ghost use Rattle.x10_model.specs.Frames.{item_bytes, blob_bytes, node_bytes, counts_bytes};
+ghost use Rattle.x10_model.specs.Frames.{Narrow, item_bytes, blob_bytes, node_bytes, counts_bytes};
 ghost use Rattle.x10_frame.specs.declared.head.Head.TheVariants as head;
 ghost use Rattle.x10_frame.specs.Items.{item_of};
 ghost use Rattle.x10_frame.specs.Heads.{IsGraphHead};
@@ -44,7 +44,7 @@ fn put_ref(out: &mut Vec<u8>, home: u16, id: u32, class: u16) -> Result<(), Allo
 #[tactic(auto, unfolding(x10_model::specs::Frames::item_bytes))]
 #[inline(always)]
 pub fn put_item(out: &mut Vec<u8>, item: &Item) -> Result<(), AllocError>
-    ensures { OnOk result (out.new.items ≡ out.old.items ++ item_bytes (item_of item.now)) }
+    ensures { OnOk result (out.new.items ≡ out.old.items ++ item_bytes Narrow (item_of item.now)) }
 {
     match *item {
         Item::Int(number) => put_int(out, number),
@@ -90,7 +90,7 @@ pub fn put_begin(out: &mut Vec<u8>, class: u16, fields: u8) -> Result<(), AllocE
 #[tactic(auto, unfolding(x10_model::specs::Frames::node_bytes))]
 pub fn put_node(out: &mut Vec<u8>, class: u16, fields: &[Item]) -> Result<(), AllocError>
     requires { length fields.now ≤ 16 }
-    ensures { OnOk result (out.new.items ≡ out.old.items ++ node_bytes (node_of class fields.now)) }
+    ensures { OnOk result (out.new.items ≡ out.old.items ++ node_bytes Narrow (node_of class fields.now)) }
 {
     put_begin(out, class, fields.len() as u8)?;
     put_items(out, fields)

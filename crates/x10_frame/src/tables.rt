@@ -1,7 +1,7 @@
 //! The positions of the texts, rails and nodes of a frame.
 
-ghost use Rattle.std.specs.Prelude.{◌^◌, ◌<◌};
-ghost use Rattle.x10_model.specs.Frames.{blob_bytes, node_bytes, next_turn, turn};
+ghost use Rattle.std.specs.Prelude.{◌≤◌};
+ghost use Rattle.x10_model.specs.Frames.{Narrow, most_of, blob_bytes, node_bytes, next_turn, turn};
 ghost use Rattle.x10_model.specs.Readers.{many, times};
 ghost use Rattle.x10_model.specs.ReadingFrames.{text_at, rail_at, node_at};
 ghost use Rattle.x10_model.specs.ReadingFrames as reading;
@@ -67,10 +67,10 @@ pub fn node_table<'a>(
     used: &Used,
 ) -> Result<(Vec<usize>, Used, &'a [u8]), FrameFault>
     requires ends { EndsWith frame.now bytes.now }
-    requires texts { all.now.texts < 2 ^ 16 }
-    requires rails { all.now.rails < 2 ^ 16 }
-    requires nodes { all.now.nodes < 2 ^ 16 }
-    ensures exact { GivesNodes (tables_in used.now) node_bytes frame.now (λ x. x.0.items) (λ x. tables_in x.1) (λ x. x.2.now) result (many (reading.node_at places (tables_in all.now)) next_turn count (turn 0 (tables_in used.now)) bytes.now) }
+    requires texts { all.now.texts ≤ most_of Narrow }
+    requires rails { all.now.rails ≤ most_of Narrow }
+    requires nodes { all.now.nodes ≤ most_of Narrow }
+    ensures exact { GivesNodes (tables_in used.now) (node_bytes Narrow) frame.now (λ x. x.0.items) (λ x. tables_in x.1) (λ x. x.2.now) result (many (reading.node_at Narrow places (tables_in all.now)) next_turn count (turn 0 (tables_in used.now)) bytes.now) }
 {
     let mut table = Vec::new(alloc);
     let mut met = *used;

@@ -1,7 +1,7 @@
 ghost use Rattle.std.specs.Prelude.{◌≡◌, ◌^◌, ◌<◌, ◌≤◌, IfOk, Ok, Some, length, slice_get};
 ghost use Rattle.std.specs.Int.{w32, to_be_bytes};
 ghost use Rattle.x10_model.specs.Modules.{FitsText};
-ghost use Rattle.x10_model.specs.Frames.{Frame, FitsFrame, FitsRail, item_bytes, node_bytes, spelling};
+ghost use Rattle.x10_model.specs.Frames.{Narrow, Frame, FitsFrame, FitsRail, item_bytes, node_bytes, spelling};
 ghost use Rattle.x10_model.specs.ReadingFrames.{frame_at};
 ghost use Rattle.x10_frame.specs.Faults.{Gives};
 ghost use Rattle.x10_frame.specs.Heads.{head_of, graph_of, sent_of, received_of};
@@ -62,8 +62,8 @@ impl<'a> FrameView<'a> {
     /// The view of a frame where there are `places` places. A fault is the first one from front to back. One pass over the
     /// bytes; the memory taken is 8 bytes for each text, rail and node that is there.
     pub fn read(alloc: Global, bytes: &'a [u8], places: u16) -> Result<FrameView<'a>, FrameFault>
-        ensures found { IfOk result (λ f. FitsFrame places f × (bytes.now ≡ spelling f)) }
-        ensures only { (f : Frame) → FitsFrame places f → bytes.now ≡ spelling f → Gives (λ v. v) result (Ok f) }
+        ensures found { IfOk result (λ f. FitsFrame Narrow places f × (bytes.now ≡ spelling Narrow f)) }
+        ensures only { (f : Frame) → FitsFrame Narrow places f → bytes.now ≡ spelling Narrow f → Gives (λ v. v) result (Ok f) }
         ensures exact { Gives (λ v. v) result (frame_at places bytes.now) }
     {
         whole(alloc, bytes, places)
@@ -73,7 +73,7 @@ impl<'a> FrameView<'a> {
     /// that follow except for a walk over at most 16 values, and no memory.
     pub fn head(&self) -> Head
         ensures value { result ≡ head_of self.now }
-        ensures part { IsPart (spelling self.now) 0 (head_bytes result) }
+        ensures part { IsPart (spelling Narrow self.now) 0 (head_bytes result) }
     {
         self.head
     }
@@ -97,7 +97,7 @@ impl<'a> FrameView<'a> {
     pub fn sent(&self, place: usize) -> u32
         requires { place < length (sent_of self.now) }
         ensures value { slice_get (sent_of self.now) place ≡ Some result }
-        ensures part { IsPart (spelling self.now) (place_of_sent self.now place) (to_be_bytes w32 result) }
+        ensures part { IsPart (spelling Narrow self.now) (place_of_sent self.now place) (to_be_bytes w32 result) }
     {
         count_in(self.bytes, self.body.start, place)
     }
@@ -107,7 +107,7 @@ impl<'a> FrameView<'a> {
     pub fn received(&self, place: usize) -> u32
         requires { place < length (received_of self.now) }
         ensures value { slice_get (received_of self.now) place ≡ Some result }
-        ensures part { IsPart (spelling self.now) (place_of_received self.now place) (to_be_bytes w32 result) }
+        ensures part { IsPart (spelling Narrow self.now) (place_of_received self.now place) (to_be_bytes w32 result) }
     {
         count_in(
             self.bytes,
@@ -155,7 +155,7 @@ impl<'a> FrameView<'a> {
     pub fn root(&self, i: usize) -> Item
         requires { i < length (graph_of self.now).roots }
         ensures value { slice_get (graph_of self.now).roots i ≡ Some (item_of result) }
-        ensures part { IsPart (spelling self.now) (place_of_root self.now i) (item_bytes (item_of result)) }
+        ensures part { IsPart (spelling Narrow self.now) (place_of_root self.now i) (item_bytes Narrow (item_of result)) }
     {
         nth_item(
             bytes_from(self.bytes, self.body.start),
@@ -170,7 +170,7 @@ impl<'a> FrameView<'a> {
         requires { i < length (graph_of self.now).texts }
         ensures value { slice_get (graph_of self.now).texts i ≡ Some result.now }
         ensures fits { FitsText result.now }
-        ensures part { IsPart (spelling self.now) (place_of_text self.now i) result.now }
+        ensures part { IsPart (spelling Narrow self.now) (place_of_text self.now i) result.now }
     {
         let bytes = self.bytes;
         let text = blob_in(bytes, self.body.texts[i]);
@@ -182,7 +182,7 @@ impl<'a> FrameView<'a> {
         requires { i < length (graph_of self.now).rails }
         ensures value { slice_get (graph_of self.now).rails i ≡ Some result.now }
         ensures fits { FitsRail result.now }
-        ensures part { IsPart (spelling self.now) (place_of_rail self.now i) result.now }
+        ensures part { IsPart (spelling Narrow self.now) (place_of_rail self.now i) result.now }
     {
         let bytes = self.bytes;
         blob_in(bytes, self.body.rails[i])
@@ -194,7 +194,7 @@ impl<'a> FrameView<'a> {
         requires { i < length (graph_of self.now).nodes }
         ensures value { slice_get (graph_of self.now).nodes i ≡ Some result }
         ensures few { length result.fields ≤ 16 }
-        ensures part { IsPart (spelling self.now) (place_of_node self.now i) (node_bytes result) }
+        ensures part { IsPart (spelling Narrow self.now) (place_of_node self.now i) (node_bytes Narrow result) }
     {
         let bytes = self.bytes;
         node_in(bytes, self.body.nodes[i], self.places)

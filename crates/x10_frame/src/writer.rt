@@ -3,7 +3,7 @@
 ghost use Rattle.std.specs.Prelude.{◌≡◌, [], ◌∷◌, ◌++◌, ◌^◌, ◌<◌, ◌≤◌, IfOk, OnOk, length};
 ghost use Rattle.x10_model.specs.Frames as frames;
 ghost use Rattle.std.specs.Int.{w16, to_be_bytes};
-ghost use Rattle.x10_model.specs.Frames.{Graph, item_bytes, blob_bytes, node_bytes, spelling};
+ghost use Rattle.x10_model.specs.Frames.{Narrow, Graph, item_bytes, blob_bytes, node_bytes, spelling};
 ghost use Rattle.x10_frame.specs.declared.head.Head.{Head as head};
 ghost use Rattle.x10_frame.specs.Heads.{IsGraphHead, with_graph};
 ghost use Rattle.x10_frame.specs.Items.{item_of};
@@ -91,7 +91,7 @@ impl FrameWriter {
     /// The next value: one that is passed, or the next field of an object that was begun.
     #[inline(always)]
     pub fn value(self, value: &Item) -> Result<FrameWriter, AllocError>
-        ensures value { IfOk result (λ w. w ≡ self ++ item_bytes (item_of value.now)) }
+        ensures value { IfOk result (λ w. w ≡ self ++ item_bytes Narrow (item_of value.now)) }
     {
         let mut bytes = self.bytes;
         put_item(&mut bytes, value)?;
@@ -140,7 +140,7 @@ impl FrameWriter {
     /// The next object: the number of its class, and its fields.
     pub fn node(self, class: u16, fields: &[Item]) -> Result<FrameWriter, AllocError>
         requires { length fields.now ≤ 16 }
-        ensures value { IfOk result (λ w. w ≡ self ++ node_bytes (node_of class fields.now)) }
+        ensures value { IfOk result (λ w. w ≡ self ++ node_bytes Narrow (node_of class fields.now)) }
     {
         let mut bytes = self.bytes;
         put_node(&mut bytes, class, fields)?;
@@ -150,7 +150,7 @@ impl FrameWriter {
     /// The bytes. Where all of a graph was written they spell its frame.
     pub fn finish(self) -> Vec<u8>
         ensures value { result.items ≡ self }
-        ensures spelled { (h : head) (g : Graph) → IsGraphHead h → self ≡ draft h g → result.items ≡ spelling (with_graph h g) }
+        ensures spelled { (h : head) (g : Graph) → IsGraphHead h → self ≡ draft h g → result.items ≡ spelling Narrow (with_graph h g) }
     {
         self.bytes
     }
@@ -167,7 +167,7 @@ pub fn write_counts(
     received: &[u32],
 ) -> Result<Vec<u8>, AllocError>
     requires { length sent.now < 2 ^ 16 }
-    ensures value { IfOk result (λ bytes. bytes.items ≡ spelling (frames.Report from to number sent.now received.now)) }
+    ensures value { IfOk result (λ bytes. bytes.items ≡ spelling Narrow (frames.Report from to number sent.now received.now)) }
 {
     let mut bytes = Vec::with_capacity(alloc, 16 + 8 * sent.len())?;
     put_head(&mut bytes, &Head::Report { from, to, number })?;
@@ -181,7 +181,7 @@ pub fn write_counts(
 /// The frame that takes a report to the home of its finish.
 pub fn write_report(alloc: Global, to: u16, report: &Report) -> Result<Vec<u8>, AllocError>
     requires { length report.now.sent.items < 2 ^ 16 }
-    ensures value { IfOk result (λ bytes. bytes.items ≡ spelling (frames.Report report.now.place to report.now.number report.now.sent.items report.now.received.items)) }
+    ensures value { IfOk result (λ bytes. bytes.items ≡ spelling Narrow (frames.Report report.now.place to report.now.number report.now.sent.items report.now.received.items)) }
 {
     write_counts(
         alloc,

@@ -2,7 +2,7 @@
 use Rattle.std.proofs.Common.{◌≡◌, ℕ, zero, suc, ◌^◌, ◌<◌, ◌≤◌, ◌&&◌, leb, List, [], ◌++◌, Result, Ok, refl, sym, ap, subst, ◌∙◌, arith, leb-true, le-leb}
 use Rattle.std.specs.Int.{w16, w32, to_be_bytes}
 use Rattle.std.proofs.lemmas.Bool.{and_from, and_parts}
-use Rattle.x10_model.specs.Frames.{Graph, Launch, launch, Frame, Spawn, Shift, Back, Report, FitsGraph, FitsLaunch, FitsCounts, FitsBody, FitsFrame, graph_bytes, launch_bytes, counts_bytes, type_of, from_of, to_of, body_bytes, spelling}
+use Rattle.x10_model.specs.Frames.{FrameVersion, Narrow, Graph, Launch, launch, Frame, Spawn, Shift, Back, Report, FitsGraph, FitsLaunch, FitsCounts, FitsBody, FitsFrame, graph_bytes, launch_bytes, counts_bytes, type_of, from_of, to_of, body_bytes, spelling}
 use Rattle.x10_model.specs.Readers.{IsBytes, number, times}
 use Rattle.x10_model.specs.ReadingFrames.{FrameFault, Short, Version, FrameType, Place, Trailing, launch_at, body_at, parts_at, frame_at}
 use Rattle.x10_model.proofs.ReaderLaws.{Reads, then_reads, last_reads, made_reads, such_that_reads, expect_reads, spelled_where}
@@ -13,36 +13,36 @@ use Rattle.x10_model.proofs.GraphLaws.{graph_reads}
 same_launch : (home number function : ℕ) (l : Launch) → l.home ≡ home → l.number ≡ number → l.function ≡ function → launch home number function l.graph ≡ l
 same_launch home number function l h n f = rw (← h, ← n, ← f) refl
 
-launch_reads : (places : ℕ) → places < 2 ^ 16 → Reads (launch_at places) launch_bytes (FitsLaunch places)
+launch_reads : (v : FrameVersion) (places : ℕ) → places < 2 ^ 16 → Reads (launch_at v places) (launch_bytes v) (FitsLaunch v places)
 unfolding launch_at launch_bytes
-launch_reads places few =
-    then_reads (λ l. l.home) (λ l. to_be_bytes w32 l.number ++ (to_be_bytes w16 l.function ++ graph_bytes l.graph)) (place_reads places few) (λ l g. g.home) (λ home hh.
-    then_reads (λ l. l.number) (λ l. to_be_bytes w16 l.function ++ graph_bytes l.graph) (number_reads w32 (2 ^ 32) wide32 Short) (λ l g. g.1.number) (λ finish hn.
-    then_reads (λ l. l.function) (λ l. graph_bytes l.graph) (number_reads w16 (2 ^ 16) wide16 Short) (λ l g. g.1.1.function) (λ function hf.
-    last_reads (launch home finish function) (λ l. l.graph) (graph_reads places 16 few (omega arith))
+launch_reads v places few =
+    then_reads (λ l. l.home) (λ l. to_be_bytes w32 l.number ++ (to_be_bytes w16 l.function ++ graph_bytes v l.graph)) (place_reads places few) (λ l g. g.home) (λ home hh.
+    then_reads (λ l. l.number) (λ l. to_be_bytes w16 l.function ++ graph_bytes v l.graph) (number_reads w32 (2 ^ 32) wide32 Short) (λ l g. g.1.number) (λ finish hn.
+    then_reads (λ l. l.function) (λ l. graph_bytes v l.graph) (number_reads w16 (2 ^ 16) wide16 Short) (λ l g. g.1.1.function) (λ function hf.
+    last_reads (launch home finish function) (λ l. l.graph) (graph_reads v places 16 few (omega arith))
     (λ l g. (g.1.1.1.graph, same_launch home finish function l g.1.1.0 g.1.0 g.0))
     (λ graph hg. (refl, (refl, (refl, (refl, record { home = hh; number = hn; function = hf; graph = hg }))))))))
 
 -- a frame that fits, of a type, from one place to another
-abbrev Headed : (places type from to : ℕ) → Frame → Type 0
-Headed places type from to y = (to_of y ≡ to) × ((from_of y ≡ from) × ((type_of y ≡ type) × FitsFrame places y))
+abbrev Headed : FrameVersion → (places type from to : ℕ) → Frame → Type 0
+Headed v places type from to y = (to_of y ≡ to) × ((from_of y ≡ from) × ((type_of y ≡ type) × FitsFrame v places y))
 
-headed : (places from to : ℕ) (y : Frame) → from < places → to < places → from_of y ≡ from → to_of y ≡ to → FitsBody places y → Headed places (type_of y) from to y
-headed places from to y hf ht f t b = (t, (f, (refl, record { from = rw f hf; to = rw t ht; body = b })))
+headed : (v : FrameVersion) (places from to : ℕ) (y : Frame) → from < places → to < places → from_of y ≡ from → to_of y ≡ to → FitsBody v places y → Headed v places (type_of y) from to y
+headed v places from to y hf ht f t b = (t, (f, (refl, record { from = rw f hf; to = rw t ht; body = b })))
 
 -- ---- a new activity
 
 spawn : (from to : ℕ) → Launch → Frame
 spawn from to l = Spawn from to l.home l.number l.function l.graph
 
-spawn_case : (places from to : ℕ) (y : Frame) → Headed places 1 from to y → (l : Launch) × (spawn from to l ≡ y) × FitsLaunch places l
+spawn_case : (v : FrameVersion) (places from to : ℕ) (y : Frame) → Headed v places 1 from to y → (l : Launch) × (spawn from to l ≡ y) × FitsLaunch v places l
 unfolding spawn
-spawn_case places from to (Spawn f t home number function graph) h = (launch home number function graph, rw (← h.0, ← h.1.0) refl, h.1.1.1.body)
-spawn_case places from to _ h = absurd (omega (arith, h.1.1.0))
+spawn_case v places from to (Spawn f t home number function graph) h = (launch home number function graph, rw (← h.0, ← h.1.0) refl, h.1.1.1.body)
+spawn_case v places from to _ h = absurd (omega (arith, h.1.1.0))
 
-spawn_reads : (places from to : ℕ) → places < 2 ^ 16 → from < places → to < places → Reads (body_at places 1 from to) body_bytes (Headed places 1 from to)
+spawn_reads : (v : FrameVersion) (places from to : ℕ) → places < 2 ^ 16 → from < places → to < places → Reads (body_at v places 1 from to) (body_bytes v) (Headed v places 1 from to)
 unfolding body_at spawn
-spawn_reads places from to few hf ht = made_reads (spawn from to) (launch_reads places few) (λ l h. headed places from to (spawn from to l) hf ht refl refl h) (spawn_case places from to) (λ l. refl)
+spawn_reads v places from to few hf ht = made_reads (spawn from to) (launch_reads v places few) (λ l h. headed v places from to (spawn from to l) hf ht refl refl h) (spawn_case v places from to) (λ l. refl)
 
 -- ---- an activity that goes on elsewhere, and its way back
 
@@ -51,44 +51,44 @@ waiting_of (Shift from to waiting home number function graph) = waiting
 waiting_of (Back from to waiting graph) = waiting
 waiting_of _ = 0
 
-abbrev after_waiting : Frame → List ℕ
-after_waiting (Shift from to waiting home number function graph) = launch_bytes (launch home number function graph)
-after_waiting (Back from to waiting graph) = graph_bytes graph
-after_waiting _ = []
+abbrev after_waiting : FrameVersion → Frame → List ℕ
+after_waiting v (Shift from to waiting home number function graph) = launch_bytes v (launch home number function graph)
+after_waiting v (Back from to waiting graph) = graph_bytes v graph
+after_waiting v _ = []
 
 shift : (from to waiting : ℕ) → Launch → Frame
 shift from to waiting l = Shift from to waiting l.home l.number l.function l.graph
 
-shift_case : (places from to waiting : ℕ) (y : Frame) → (waiting_of y ≡ waiting) × Headed places 2 from to y → (l : Launch) × (shift from to waiting l ≡ y) × FitsLaunch places l
+shift_case : (v : FrameVersion) (places from to waiting : ℕ) (y : Frame) → (waiting_of y ≡ waiting) × Headed v places 2 from to y → (l : Launch) × (shift from to waiting l ≡ y) × FitsLaunch v places l
 unfolding shift
-shift_case places from to waiting (Shift f t w home number function graph) h = (launch home number function graph, rw (← h.0, ← h.1.0, ← h.1.1.0) refl, h.1.1.1.1.body.1)
-shift_case places from to waiting _ h = absurd (omega (arith, h.1.1.1.0))
+shift_case v places from to waiting (Shift f t w home number function graph) h = (launch home number function graph, rw (← h.0, ← h.1.0, ← h.1.1.0) refl, h.1.1.1.1.body.1)
+shift_case v places from to waiting _ h = absurd (omega (arith, h.1.1.1.0))
 
-shift_waits : (places from to : ℕ) (y : Frame) → Headed places 2 from to y → (waiting_of y < 2 ^ 32) × (to_be_bytes w32 (waiting_of y) ++ after_waiting y ≡ body_bytes y)
-shift_waits places from to (Shift f t w home number function graph) h = (h.1.1.1.body.0, refl)
-shift_waits places from to _ h = absurd (omega (arith, h.1.1.0))
+shift_waits : (v : FrameVersion) (places from to : ℕ) (y : Frame) → Headed v places 2 from to y → (waiting_of y < 2 ^ 32) × (to_be_bytes w32 (waiting_of y) ++ after_waiting v y ≡ body_bytes v y)
+shift_waits v places from to (Shift f t w home number function graph) h = (h.1.1.1.body.0, refl)
+shift_waits v places from to _ h = absurd (omega (arith, h.1.1.0))
 
-shift_reads : (places from to : ℕ) → places < 2 ^ 16 → from < places → to < places → Reads (body_at places 2 from to) body_bytes (Headed places 2 from to)
+shift_reads : (v : FrameVersion) (places from to : ℕ) → places < 2 ^ 16 → from < places → to < places → Reads (body_at v places 2 from to) (body_bytes v) (Headed v places 2 from to)
 unfolding body_at shift
-shift_reads places from to few hf ht = spelled_where
-    (then_reads waiting_of after_waiting (number_reads w32 (2 ^ 32) wide32 Short) (λ y g. (shift_waits places from to y g).0) (λ waiting hw.
-    made_reads (shift from to waiting) (launch_reads places few) (λ l h. (refl, headed places from to (shift from to waiting l) hf ht refl refl (hw, h))) (shift_case places from to waiting) (λ l. refl)))
-    (λ y g. (shift_waits places from to y g).1)
+shift_reads v places from to few hf ht = spelled_where
+    (then_reads waiting_of (after_waiting v) (number_reads w32 (2 ^ 32) wide32 Short) (λ y g. (shift_waits v places from to y g).0) (λ waiting hw.
+    made_reads (shift from to waiting) (launch_reads v places few) (λ l h. (refl, headed v places from to (shift from to waiting l) hf ht refl refl (hw, h))) (shift_case v places from to waiting) (λ l. refl)))
+    (λ y g. (shift_waits v places from to y g).1)
 
-back_case : (places from to waiting : ℕ) (y : Frame) → (waiting_of y ≡ waiting) × Headed places 3 from to y → (g : Graph) × (Back from to waiting g ≡ y) × FitsGraph places 1 g
-back_case places from to waiting (Back f t w graph) h = (graph, rw (← h.0, ← h.1.0, ← h.1.1.0) refl, h.1.1.1.1.body.1)
-back_case places from to waiting _ h = absurd (omega (arith, h.1.1.1.0))
+back_case : (v : FrameVersion) (places from to waiting : ℕ) (y : Frame) → (waiting_of y ≡ waiting) × Headed v places 3 from to y → (g : Graph) × (Back from to waiting g ≡ y) × FitsGraph v places 1 g
+back_case v places from to waiting (Back f t w graph) h = (graph, rw (← h.0, ← h.1.0, ← h.1.1.0) refl, h.1.1.1.1.body.1)
+back_case v places from to waiting _ h = absurd (omega (arith, h.1.1.1.0))
 
-back_waits : (places from to : ℕ) (y : Frame) → Headed places 3 from to y → (waiting_of y < 2 ^ 32) × (to_be_bytes w32 (waiting_of y) ++ after_waiting y ≡ body_bytes y)
-back_waits places from to (Back f t w graph) h = (h.1.1.1.body.0, refl)
-back_waits places from to _ h = absurd (omega (arith, h.1.1.0))
+back_waits : (v : FrameVersion) (places from to : ℕ) (y : Frame) → Headed v places 3 from to y → (waiting_of y < 2 ^ 32) × (to_be_bytes w32 (waiting_of y) ++ after_waiting v y ≡ body_bytes v y)
+back_waits v places from to (Back f t w graph) h = (h.1.1.1.body.0, refl)
+back_waits v places from to _ h = absurd (omega (arith, h.1.1.0))
 
-back_reads : (places from to : ℕ) → places < 2 ^ 16 → from < places → to < places → Reads (body_at places 3 from to) body_bytes (Headed places 3 from to)
+back_reads : (v : FrameVersion) (places from to : ℕ) → places < 2 ^ 16 → from < places → to < places → Reads (body_at v places 3 from to) (body_bytes v) (Headed v places 3 from to)
 unfolding body_at
-back_reads places from to few hf ht = spelled_where
-    (then_reads waiting_of after_waiting (number_reads w32 (2 ^ 32) wide32 Short) (λ y g. (back_waits places from to y g).0) (λ waiting hw.
-    made_reads (Back from to waiting) (graph_reads places 1 few (omega arith)) (λ graph h. (refl, headed places from to (Back from to waiting graph) hf ht refl refl (hw, h))) (back_case places from to waiting) (λ graph. refl)))
-    (λ y g. (back_waits places from to y g).1)
+back_reads v places from to few hf ht = spelled_where
+    (then_reads waiting_of (after_waiting v) (number_reads w32 (2 ^ 32) wide32 Short) (λ y g. (back_waits v places from to y g).0) (λ waiting hw.
+    made_reads (Back from to waiting) (graph_reads v places 1 few (omega arith)) (λ graph h. (refl, headed v places from to (Back from to waiting graph) hf ht refl refl (hw, h))) (back_case v places from to waiting) (λ graph. refl)))
+    (λ y g. (back_waits v places from to y g).1)
 
 -- ---- a report
 
@@ -104,22 +104,22 @@ abbrev received_of : Frame → List ℕ
 received_of (Report from to number sent received) = received
 received_of _ = []
 
-record IsReport (places from to : ℕ) (y : Frame) : Type 0 where
+record IsReport (v : FrameVersion) (places from to : ℕ) (y : Frame) : Type 0 where
   number : number_of y < 2 ^ 32
   sent : FitsCounts places (sent_of y)
   received : FitsCounts places (received_of y)
   same : Report from to (number_of y) (sent_of y) (received_of y) ≡ y
-  spelled : to_be_bytes w32 (number_of y) ++ (to_be_bytes w16 places ++ (counts_bytes (sent_of y) ++ counts_bytes (received_of y))) ≡ body_bytes y
+  spelled : to_be_bytes w32 (number_of y) ++ (to_be_bytes w16 places ++ (counts_bytes (sent_of y) ++ counts_bytes (received_of y))) ≡ body_bytes v y
 
-is_report : (places from to : ℕ) (y : Frame) → Headed places 4 from to y → IsReport places from to y
-is_report places from to (Report f t number sent received) h = record {
+is_report : (v : FrameVersion) (places from to : ℕ) (y : Frame) → Headed v places 4 from to y → IsReport v places from to y
+is_report v places from to (Report f t number sent received) h = record {
   number = h.1.1.1.body.0;
   sent = h.1.1.1.body.1;
   received = h.1.1.1.body.2;
   same = rw (← h.0, ← h.1.0) refl;
   spelled = rw h.1.1.1.body.1.0 refl;
 }
-is_report places from to _ h = absurd (omega (arith, h.1.1.0))
+is_report v places from to _ h = absurd (omega (arith, h.1.1.0))
 
 report_is : (from to finish : ℕ) (sent : List ℕ) (y : Frame) → Report from to (number_of y) (sent_of y) (received_of y) ≡ y → number_of y ≡ finish → sent_of y ≡ sent → Report from to finish sent (received_of y) ≡ y
 report_is from to finish sent y e n s = subst (λ (k : ℕ). Report from to k sent (received_of y) ≡ y) n (subst (λ (c : List ℕ). Report from to (number_of y) c (received_of y) ≡ y) s e)
@@ -127,49 +127,49 @@ report_is from to finish sent y e n s = subst (λ (k : ℕ). Report from to k se
 counts_read : (places : ℕ) → Reads (times places (number w32 Short)) counts_bytes (FitsCounts places)
 counts_read places = each_reads (λ s _. s) (λ _. number_reads w32 (2 ^ 32) wide32 Short) places 0
 
-report_reads : (places from to : ℕ) → places < 2 ^ 16 → from < places → to < places → Reads (body_at places 4 from to) body_bytes (Headed places 4 from to)
+report_reads : (v : FrameVersion) (places from to : ℕ) → places < 2 ^ 16 → from < places → to < places → Reads (body_at v places 4 from to) (body_bytes v) (Headed v places 4 from to)
 unfolding body_at
-report_reads places from to few hf ht = spelled_where
-    (then_reads number_of (λ y. to_be_bytes w16 places ++ (counts_bytes (sent_of y) ++ counts_bytes (received_of y))) (number_reads w32 (2 ^ 32) wide32 Short) (λ y g. (is_report places from to y g).number) (λ finish hn.
+report_reads v places from to few hf ht = spelled_where
+    (then_reads number_of (λ y. to_be_bytes w16 places ++ (counts_bytes (sent_of y) ++ counts_bytes (received_of y))) (number_reads w32 (2 ^ 32) wide32 Short) (λ y g. (is_report v places from to y g).number) (λ finish hn.
     expect_reads places Place (number_reads w16 (2 ^ 16) wide16 Short) few
-    (then_reads sent_of (λ y. counts_bytes (received_of y)) (counts_read places) (λ y g. (is_report places from to y g.1).sent) (λ sent hs.
+    (then_reads sent_of (λ y. counts_bytes (received_of y)) (counts_read places) (λ y g. (is_report v places from to y g.1).sent) (λ sent hs.
     last_reads (Report from to finish sent) received_of (counts_read places)
-    (λ y g. let r = is_report places from to y g.1.1 in (r.received, report_is from to finish sent y r.same g.1.0 g.0))
-    (λ received hr. (refl, (refl, (refl, headed places from to (Report from to finish sent received) hf ht refl refl (hn, hs, hr)))))))))
-    (λ y g. (is_report places from to y g).spelled)
+    (λ y g. let r = is_report v places from to y g.1.1 in (r.received, report_is from to finish sent y r.same g.1.0 g.0))
+    (λ received hr. (refl, (refl, (refl, headed v places from to (Report from to finish sent received) hf ht refl refl (hn, hs, hr)))))))))
+    (λ y g. (is_report v places from to y g).spelled)
 
 -- ---- the whole
 
-body_reads : (places : ℕ) → places < 2 ^ 16 → (type from to : ℕ) → 1 ≤ type → type ≤ 4 → from < places → to < places → Reads (body_at places type from to) body_bytes (Headed places type from to)
-body_reads places few zero from to low high hf ht = absurd (omega (arith, low))
-body_reads places few (suc zero) from to low high hf ht = spawn_reads places from to few hf ht
-body_reads places few (suc (suc zero)) from to low high hf ht = shift_reads places from to few hf ht
-body_reads places few (suc (suc (suc zero))) from to low high hf ht = back_reads places from to few hf ht
-body_reads places few (suc (suc (suc (suc zero)))) from to low high hf ht = report_reads places from to few hf ht
-body_reads places few (suc (suc (suc (suc (suc type))))) from to low high hf ht = absurd (omega (arith, high))
+body_reads : (v : FrameVersion) (places : ℕ) → places < 2 ^ 16 → (type from to : ℕ) → 1 ≤ type → type ≤ 4 → from < places → to < places → Reads (body_at v places type from to) (body_bytes v) (Headed v places type from to)
+body_reads v places few zero from to low high hf ht = absurd (omega (arith, low))
+body_reads v places few (suc zero) from to low high hf ht = spawn_reads v places from to few hf ht
+body_reads v places few (suc (suc zero)) from to low high hf ht = shift_reads v places from to few hf ht
+body_reads v places few (suc (suc (suc zero))) from to low high hf ht = back_reads v places from to few hf ht
+body_reads v places few (suc (suc (suc (suc zero)))) from to low high hf ht = report_reads v places from to few hf ht
+body_reads v places few (suc (suc (suc (suc (suc type))))) from to low high hf ht = absurd (omega (arith, high))
 
 type_small : (y : Frame) → (1 ≤ type_of y) × (type_of y ≤ 4)
 type_small (Spawn from to home number function graph) = (omega arith, omega arith)
 type_small _ = (omega arith, omega arith)
 
-parts_read : (places : ℕ) → places < 2 ^ 16 → Reads (parts_at places) spelling (FitsFrame places)
+parts_read : (places : ℕ) → places < 2 ^ 16 → Reads (parts_at places) (spelling Narrow) (FitsFrame Narrow places)
 unfolding parts_at spelling
 parts_read places few =
     expect_reads 1 Version (byte_reads Short) (omega arith)
-    (then_reads type_of (λ y. to_be_bytes w16 (from_of y) ++ (to_be_bytes w16 (to_of y) ++ body_bytes y)) (such_that_reads (λ n. leb 1 n && leb n 4) FrameType (byte_reads Short))
+    (then_reads type_of (λ y. to_be_bytes w16 (from_of y) ++ (to_be_bytes w16 (to_of y) ++ body_bytes Narrow y)) (such_that_reads (λ n. leb 1 n && leb n 4) FrameType (byte_reads Short))
     (λ y g. let s = type_small y in (omega (arith, s), and_from (leb 1 (type_of y)) (leb (type_of y) 4) (le-leb 1 (type_of y) s.0) (le-leb (type_of y) 4 s.1))) (λ type h.
-    then_reads from_of (λ y. to_be_bytes w16 (to_of y) ++ body_bytes y) (place_reads places few) (λ y g. g.1.from) (λ from hf.
-    then_reads to_of body_bytes (place_reads places few) (λ y g. g.1.1.to) (λ to ht.
+    then_reads from_of (λ y. to_be_bytes w16 (to_of y) ++ body_bytes Narrow y) (place_reads places few) (λ y g. g.1.from) (λ from hf.
+    then_reads to_of (body_bytes Narrow) (place_reads places few) (λ y g. g.1.1.to) (λ to ht.
     let b = and_parts (leb 1 type) (leb type 4) h.1 in
-    body_reads places few type from to (leb-true 1 type b.0) (leb-true type 4 b.1) hf ht))))
+    body_reads Narrow places few type from to (leb-true 1 type b.0) (leb-true type 4 b.1) hf ht))))
 
 -- what is spelled is read again
-pub frame_again : (places : ℕ) → places < 2 ^ 16 → (f : Frame) → FitsFrame places f → frame_at places (spelling f) ≡ Ok f
+pub frame_again : (places : ℕ) → places < 2 ^ 16 → (f : Frame) → FitsFrame Narrow places f → frame_at places (spelling Narrow f) ≡ Ok f
 unfolding frame_at
 frame_again places few f fits = all_again (parts_read places few) Trailing f fits
 
 -- what is read is spelled so
-pub frame_takes : (places : ℕ) → places < 2 ^ 16 → (bytes : List ℕ) (f : Frame) → IsBytes bytes → frame_at places bytes ≡ Ok f → FitsFrame places f × (bytes ≡ spelling f)
+pub frame_takes : (places : ℕ) → places < 2 ^ 16 → (bytes : List ℕ) (f : Frame) → IsBytes bytes → frame_at places bytes ≡ Ok f → FitsFrame Narrow places f × (bytes ≡ spelling Narrow f)
 unfolding frame_at
 frame_takes places few bytes f b e = all_takes (parts_read places few) Trailing bytes f b e
 
@@ -180,5 +180,5 @@ ok_same : (f g : Frame) → read_frame f ≡ read_frame g → f ≡ g
 ok_same f g e = cc
 
 -- no two frames share a spelling
-pub one_frame : (places : ℕ) → places < 2 ^ 16 → (f g : Frame) → FitsFrame places f → FitsFrame places g → spelling f ≡ spelling g → f ≡ g
+pub one_frame : (places : ℕ) → places < 2 ^ 16 → (f g : Frame) → FitsFrame Narrow places f → FitsFrame Narrow places g → spelling Narrow f ≡ spelling Narrow g → f ≡ g
 one_frame places few f g hf hg e = ok_same f g (sym (frame_again places few f hf) ∙ ap (frame_at places) e ∙ frame_again places few g hg)

@@ -1,8 +1,8 @@
--- Frames: what places send one another, and the one spelling of each. Numbers stand with the highest byte first.
+-- Frames: what places send one another, and the one spelling of each in each version. Numbers stand with the highest byte first.
 use Rattle.std.specs.Prelude.{◌≡◌, ℕ, ℤ, suc, ◌+◌, ◌<◌, ◌≤◌, ◌^◌, max, List, [], ◌∷◌, ◌++◌, length, FitsSigned}
 use Rattle.std.specs.List.{flat_map, AllByRecursion}
-use Rattle.std.specs.Int.{w16, w32, w64, to_be_bytes}
-use Rattle.x10_model.specs.declared.limits.TheConstants.{MOST_FIELDS, MOST_PARAMETERS}
+use Rattle.std.specs.Int.{Width, w16, w32, w64, to_be_bytes}
+use Rattle.x10_model.specs.declared.limits.TheConstants.{MOST_FIELDS, MOST_PARAMETERS, MOST_NARROW, MOST_WIDE}
 use Rattle.x10_model.specs.Modules.{FitsText}
 use Rattle.x10_model.specs.Images.{int_bytes}
 use Rattle.x10_model.specs.Readers.{IsBytes, FitsEach, after_all}
@@ -54,6 +54,26 @@ pub data Frame : Type 0 where
 
 -- ---- spelling
 
+-- how a frame is spelled: its version
+pub data FrameVersion : Type 0 where
+  Narrow : FrameVersion
+  Wide : FrameVersion
+
+-- its first byte
+abbrev pub byte_of : FrameVersion → ℕ
+byte_of Narrow = 1
+byte_of Wide = 2
+
+-- how wide are the numbers of texts, rails and nodes, and how many there are of each
+abbrev pub width_of : FrameVersion → Width
+width_of Narrow = w16
+width_of Wide = w32
+
+-- the most texts, rails or nodes that a frame has
+abbrev pub most_of : FrameVersion → ℕ
+most_of Narrow = MOST_NARROW
+most_of Wide = MOST_WIDE
+
 abbrev pub tag_of_item : Item → ℕ
 tag_of_item (IntItem z) = 1
 tag_of_item (PlaceItem p) = 2
@@ -63,38 +83,38 @@ tag_of_item (ObjectItem i) = 5
 tag_of_item NullItem = 6
 tag_of_item (RefItem home id class) = 7
 
-abbrev pub untagged : Item → List ℕ
-untagged (IntItem z) = int_bytes z
-untagged (PlaceItem p) = to_be_bytes w16 p
-untagged (TextItem i) = to_be_bytes w16 i
-untagged (RailItem i) = to_be_bytes w16 i
-untagged (ObjectItem i) = to_be_bytes w16 i
-untagged NullItem = []
-untagged (RefItem home id class) = to_be_bytes w16 home ++ (to_be_bytes w32 id ++ to_be_bytes w16 class)
+abbrev pub untagged : FrameVersion → Item → List ℕ
+untagged v (IntItem z) = int_bytes z
+untagged v (PlaceItem p) = to_be_bytes w16 p
+untagged v (TextItem i) = to_be_bytes (width_of v) i
+untagged v (RailItem i) = to_be_bytes (width_of v) i
+untagged v (ObjectItem i) = to_be_bytes (width_of v) i
+untagged v NullItem = []
+untagged v (RefItem home id class) = to_be_bytes w16 home ++ (to_be_bytes w32 id ++ to_be_bytes w16 class)
 
-unfoldable pub item_bytes : Item → List ℕ
-item_bytes i = tag_of_item i ∷ untagged i
+unfoldable pub item_bytes : FrameVersion → Item → List ℕ
+item_bytes v i = tag_of_item i ∷ untagged v i
 
 -- a text or a rail
 unfoldable pub blob_bytes : List ℕ → List ℕ
 blob_bytes bytes = to_be_bytes w32 (length bytes) ++ bytes
 
-unfoldable pub node_bytes : Node → List ℕ
-node_bytes n = to_be_bytes w16 n.class ++ (length n.fields ∷ flat_map item_bytes n.fields)
+unfoldable pub node_bytes : FrameVersion → Node → List ℕ
+node_bytes v n = to_be_bytes w16 n.class ++ (length n.fields ∷ flat_map (item_bytes v) n.fields)
 
-unfoldable pub graph_bytes : Graph → List ℕ
-graph_bytes g =
+unfoldable pub graph_bytes : FrameVersion → Graph → List ℕ
+graph_bytes v g =
     to_be_bytes w16 (length g.roots)
-    ++ (to_be_bytes w16 (length g.texts)
-    ++ (to_be_bytes w16 (length g.rails)
-    ++ (to_be_bytes w16 (length g.nodes)
-    ++ (flat_map item_bytes g.roots
+    ++ (to_be_bytes (width_of v) (length g.texts)
+    ++ (to_be_bytes (width_of v) (length g.rails)
+    ++ (to_be_bytes (width_of v) (length g.nodes)
+    ++ (flat_map (item_bytes v) g.roots
     ++ (flat_map blob_bytes g.texts
     ++ (flat_map blob_bytes g.rails
-    ++ flat_map node_bytes g.nodes))))))
+    ++ flat_map (node_bytes v) g.nodes))))))
 
-unfoldable pub launch_bytes : Launch → List ℕ
-launch_bytes l = to_be_bytes w16 l.home ++ (to_be_bytes w32 l.number ++ (to_be_bytes w16 l.function ++ graph_bytes l.graph))
+unfoldable pub launch_bytes : FrameVersion → Launch → List ℕ
+launch_bytes v l = to_be_bytes w16 l.home ++ (to_be_bytes w32 l.number ++ (to_be_bytes w16 l.function ++ graph_bytes v l.graph))
 
 abbrev pub counts_bytes : List ℕ → List ℕ
 counts_bytes counts = flat_map (to_be_bytes w32) counts
@@ -117,14 +137,14 @@ to_of (Shift from to waiting home number function graph) = to
 to_of (Back from to waiting graph) = to
 to_of (Report from to number sent received) = to
 
-abbrev pub body_bytes : Frame → List ℕ
-body_bytes (Spawn from to home number function graph) = launch_bytes (launch home number function graph)
-body_bytes (Shift from to waiting home number function graph) = to_be_bytes w32 waiting ++ launch_bytes (launch home number function graph)
-body_bytes (Back from to waiting graph) = to_be_bytes w32 waiting ++ graph_bytes graph
-body_bytes (Report from to number sent received) = to_be_bytes w32 number ++ (to_be_bytes w16 (length sent) ++ (counts_bytes sent ++ counts_bytes received))
+abbrev pub body_bytes : FrameVersion → Frame → List ℕ
+body_bytes v (Spawn from to home number function graph) = launch_bytes v (launch home number function graph)
+body_bytes v (Shift from to waiting home number function graph) = to_be_bytes w32 waiting ++ launch_bytes v (launch home number function graph)
+body_bytes v (Back from to waiting graph) = to_be_bytes w32 waiting ++ graph_bytes v graph
+body_bytes v (Report from to number sent received) = to_be_bytes w32 number ++ (to_be_bytes w16 (length sent) ++ (counts_bytes sent ++ counts_bytes received))
 
-unfoldable pub spelling : Frame → List ℕ
-spelling f = (1 ∷ type_of f ∷ []) ++ (to_be_bytes w16 (from_of f) ++ (to_be_bytes w16 (to_of f) ++ body_bytes f))
+unfoldable pub spelling : FrameVersion → Frame → List ℕ
+spelling v f = (byte_of v ∷ type_of f ∷ []) ++ (to_be_bytes w16 (from_of f) ++ (to_be_bytes w16 (to_of f) ++ body_bytes v f))
 
 -- ---- what has a spelling
 
@@ -198,32 +218,32 @@ abbrev pub used_in_all : List Item → List Node → Tables
 used_in_all roots nodes = (after_all next_turn (turn 0 (used_after none roots)) nodes).used
 
 -- texts, rails and nodes are numbered by first use, first in the roots, then in the nodes in turn; and all are used
-pub record FitsGraph (places most : ℕ) (g : Graph) : Type 0 where
+pub record FitsGraph (v : FrameVersion) (places most : ℕ) (g : Graph) : Type 0 where
   pub count : length g.roots ≤ most
   pub roots : FitsItems places (tables_of g) none g.roots
-  pub texts : (length g.texts < 2 ^ 16) × AllByRecursion FitsText g.texts
-  pub rails : (length g.rails < 2 ^ 16) × AllByRecursion FitsRail g.rails
-  pub nodes : (length g.nodes < 2 ^ 16) × FitsEach (FitsNode places (tables_of g)) next_turn (turn 0 (used_after none g.roots)) g.nodes
+  pub texts : (length g.texts ≤ most_of v) × AllByRecursion FitsText g.texts
+  pub rails : (length g.rails ≤ most_of v) × AllByRecursion FitsRail g.rails
+  pub nodes : (length g.nodes ≤ most_of v) × FitsEach (FitsNode places (tables_of g)) next_turn (turn 0 (used_after none g.roots)) g.nodes
   pub used : used_in_all g.roots g.nodes ≡ tables_of g
 
-pub record FitsLaunch (places : ℕ) (l : Launch) : Type 0 where
+pub record FitsLaunch (v : FrameVersion) (places : ℕ) (l : Launch) : Type 0 where
   pub home : l.home < places
   pub number : l.number < 2 ^ 32
   pub function : l.function < 2 ^ 16
-  pub graph : FitsGraph places MOST_PARAMETERS l.graph
+  pub graph : FitsGraph v places MOST_PARAMETERS l.graph
 
 -- one for each place
 abbrev pub FitsCounts : ℕ → List ℕ → Type 0
 FitsCounts places counts = (length counts ≡ places) × AllByRecursion (λ n. n < 2 ^ 32) counts
 
-abbrev pub FitsBody : ℕ → Frame → Type 0
-FitsBody places (Spawn from to home number function graph) = FitsLaunch places (launch home number function graph)
-FitsBody places (Shift from to waiting home number function graph) = (waiting < 2 ^ 32) × FitsLaunch places (launch home number function graph)
-FitsBody places (Back from to waiting graph) = (waiting < 2 ^ 32) × FitsGraph places 1 graph
-FitsBody places (Report from to number sent received) = (number < 2 ^ 32) × FitsCounts places sent × FitsCounts places received
+abbrev pub FitsBody : FrameVersion → ℕ → Frame → Type 0
+FitsBody v places (Spawn from to home number function graph) = FitsLaunch v places (launch home number function graph)
+FitsBody v places (Shift from to waiting home number function graph) = (waiting < 2 ^ 32) × FitsLaunch v places (launch home number function graph)
+FitsBody v places (Back from to waiting graph) = (waiting < 2 ^ 32) × FitsGraph v places 1 graph
+FitsBody v places (Report from to number sent received) = (number < 2 ^ 32) × FitsCounts places sent × FitsCounts places received
 
--- the frames that have a spelling where there are so many places
-pub record FitsFrame (places : ℕ) (f : Frame) : Type 0 where
+-- the frames that have a spelling in a version where there are so many places
+pub record FitsFrame (v : FrameVersion) (places : ℕ) (f : Frame) : Type 0 where
   pub from : from_of f < places
   pub to : to_of f < places
-  pub body : FitsBody places f
+  pub body : FitsBody v places f

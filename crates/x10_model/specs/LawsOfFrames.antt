@@ -1,26 +1,26 @@
 -- Laws of frames, and worked examples. The number of places is any that 16 bits hold.
 use Rattle.std.specs.Prelude.{◌≡◌, ℕ, ◌<◌, ◌^◌, List, [], ◌∷◌, ◌++◌, Ok, Err, slice_index}
-use Rattle.x10_model.specs.Frames.{ObjectItem, RailItem, RefItem, Node, Graph, Frame, Spawn, Report, FitsFrame, spelling}
+use Rattle.x10_model.specs.Frames.{Narrow, ObjectItem, RailItem, RefItem, Node, Graph, Frame, Spawn, Report, FitsFrame, spelling}
 use Rattle.x10_model.specs.ReadingFrames.{FrameFault, Short, Version, FrameType, Place, Tag, Text, Order, Trailing, frame_at}
 
 -- what is spelled is read again
 abbrev pub IsReadAgain : Type 0
-IsReadAgain = (places : ℕ) → places < 2 ^ 16 → (f : Frame) → FitsFrame places f → frame_at places (spelling f) ≡ Ok f
+IsReadAgain = (places : ℕ) → places < 2 ^ 16 → (f : Frame) → FitsFrame Narrow places f → frame_at places (spelling Narrow f) ≡ Ok f
 
 -- no two frames share a spelling
 abbrev pub IsOneFrame : Type 0
-IsOneFrame = (places : ℕ) → places < 2 ^ 16 → (f g : Frame) → FitsFrame places f → FitsFrame places g → spelling f ≡ spelling g → f ≡ g
+IsOneFrame = (places : ℕ) → places < 2 ^ 16 → (f g : Frame) → FitsFrame Narrow places f → FitsFrame Narrow places g → spelling Narrow f ≡ spelling Narrow g → f ≡ g
 
 -- what is read has a spelling, and is spelled so
 abbrev pub IsSpelledSo : Type 0
 IsSpelledSo = (places : ℕ) → places < 2 ^ 16 → (bytes : List ℕ) (f : Frame) → ((k : ℕ) → slice_index bytes k < 256) → frame_at places bytes ≡ Ok f
-    → FitsFrame places f × (bytes ≡ spelling f)
+    → FitsFrame Narrow places f × (bytes ≡ spelling Narrow f)
 
 -- ---- examples
 
 -- the bytes are the frame, both ways, where there are so many places
 pub record Spells (places : ℕ) (bytes : List ℕ) (f : Frame) : Type 0 where
-  pub spelled : spelling f ≡ bytes
+  pub spelled : spelling Narrow f ≡ bytes
   pub read : frame_at places bytes ≡ Ok f
 
 abbrev empty : Graph

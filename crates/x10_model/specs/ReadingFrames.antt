@@ -2,9 +2,9 @@
 use Rattle.std.specs.Prelude.{ℕ, zero, suc, Bool, ◌&&◌, ◌==◌, nat_lt, nat_le, List, None, Result}
 use Rattle.std.specs.Int.{w16, w32}
 use Rattle.std.specs.Str.{is_utf8}
-use Rattle.x10_model.specs.declared.limits.TheConstants.{MOST_BYTES, MOST_FIELDS, MOST_PARAMETERS}
+use Rattle.x10_model.specs.declared.limits.TheConstants.{MOST_BYTES, MOST_FIELDS, MOST_PARAMETERS, MOST_WIDE}
 use Rattle.x10_model.specs.Frames.{Item, IntItem, PlaceItem, TextItem, RailItem, ObjectItem, NullItem, RefItem, Node, Graph, Launch, launch, Frame}
-use Rattle.x10_model.specs.Frames.{Spawn, Shift, Back, Report, Tables, tables, none, uses, used_after, Turn, turn, next_turn, used_in_all}
+use Rattle.x10_model.specs.Frames.{FrameVersion, Narrow, Wide, width_of, Spawn, Shift, Back, Report, Tables, tables, none, uses, used_after, Turn, turn, next_turn, used_in_all}
 use Rattle.x10_model.specs.Readers.{Reader, ◌>>=◌, ◌>>◌, done, check, such_that, expect, given, part, byte, number, int, many, times, all_of}
 
 pub data FrameFault : Type 0 where
@@ -25,39 +25,39 @@ unfoldable pub place_at : ℕ → Reader FrameFault ℕ
 place_at places = such_that (number w16 Short) (λ p. nat_lt p places) Place
 
 -- an index that was used before or is the next new one, and is in its table
-unfoldable pub index_at : ℕ → ℕ → Reader FrameFault ℕ
-index_at used table = such_that (number w16 Short) (λ i. nat_le i used && nat_lt i table) Order
+unfoldable pub index_at : FrameVersion → ℕ → ℕ → Reader FrameFault ℕ
+index_at v used table = such_that (number (width_of v) Short) (λ i. nat_le i used && nat_lt i table) Order
 
-unfoldable pub untagged_at : ℕ → Tables → Tables → ℕ → Reader FrameFault Item
-untagged_at places all used zero = given None Tag
-untagged_at places all used (suc zero) = do
+unfoldable pub untagged_at : FrameVersion → ℕ → Tables → Tables → ℕ → Reader FrameFault Item
+untagged_at v places all used zero = given None Tag
+untagged_at v places all used (suc zero) = do
   z ← int Short
   done (IntItem z)
-untagged_at places all used (suc (suc zero)) = do
+untagged_at v places all used (suc (suc zero)) = do
   p ← place_at places
   done (PlaceItem p)
-untagged_at places all used (suc (suc (suc zero))) = do
-  i ← index_at used.texts all.texts
+untagged_at v places all used (suc (suc (suc zero))) = do
+  i ← index_at v used.texts all.texts
   done (TextItem i)
-untagged_at places all used (suc (suc (suc (suc zero)))) = do
-  i ← index_at used.rails all.rails
+untagged_at v places all used (suc (suc (suc (suc zero)))) = do
+  i ← index_at v used.rails all.rails
   done (RailItem i)
-untagged_at places all used (suc (suc (suc (suc (suc zero))))) = do
-  i ← index_at used.nodes all.nodes
+untagged_at v places all used (suc (suc (suc (suc (suc zero))))) = do
+  i ← index_at v used.nodes all.nodes
   done (ObjectItem i)
-untagged_at places all used (suc (suc (suc (suc (suc (suc zero)))))) = done NullItem
-untagged_at places all used (suc (suc (suc (suc (suc (suc (suc zero))))))) = do
+untagged_at v places all used (suc (suc (suc (suc (suc (suc zero)))))) = done NullItem
+untagged_at v places all used (suc (suc (suc (suc (suc (suc (suc zero))))))) = do
   home ← place_at places
   id ← number w32 Short
   class ← number w16 Short
   done (RefItem home id class)
-untagged_at places all used (suc (suc (suc (suc (suc (suc (suc (suc tag)))))))) = given None Tag
+untagged_at v places all used (suc (suc (suc (suc (suc (suc (suc (suc tag)))))))) = given None Tag
 
 -- an item, by what was used before it
-unfoldable pub item_at : ℕ → Tables → Tables → Reader FrameFault Item
-item_at places all used = do
+unfoldable pub item_at : FrameVersion → ℕ → Tables → Tables → Reader FrameFault Item
+item_at v places all used = do
   tag ← such_that (byte Short) (λ n. nat_le 1 n && nat_le n 7) Tag
-  untagged_at places all used tag
+  untagged_at v places all used tag
 
 unfoldable pub length_at : Reader FrameFault ℕ
 length_at = such_that (number w32 Short) (λ n. nat_le n MOST_BYTES) Order
@@ -73,68 +73,74 @@ rail_at = do
   part length Short
 
 -- a node whose turn it is
-unfoldable pub node_at : ℕ → Tables → Turn → Reader FrameFault Node
-node_at places all t = do
+unfoldable pub node_at : FrameVersion → ℕ → Tables → Turn → Reader FrameFault Node
+node_at v places all t = do
   class ← number w16 Short
   check (nat_lt t.number t.used.nodes) Order
   count ← such_that (byte Short) (λ n. nat_le n MOST_FIELDS) Order
-  fields ← many (item_at places all) uses count t.used
+  fields ← many (item_at v places all) uses count t.used
   done (record { class = class; fields = fields })
 
 abbrev pub same_tables : Tables → Tables → Bool
 same_tables a b = (a.texts == b.texts) && ((a.rails == b.rails) && (a.nodes == b.nodes))
 
+-- how many texts, rails or nodes there are: any number of 16 bits, or one of 32 bits that is not too large
+unfoldable pub count_at : FrameVersion → Reader FrameFault ℕ
+count_at Narrow = number w16 Short
+count_at Wide = such_that (number w32 Short) (λ n. nat_le n MOST_WIDE) Order
+
 -- a graph of so many roots at most
-unfoldable pub graph_at : ℕ → ℕ → Reader FrameFault Graph
-graph_at places most = do
+unfoldable pub graph_at : FrameVersion → ℕ → ℕ → Reader FrameFault Graph
+graph_at v places most = do
   root_count ← such_that (number w16 Short) (λ n. nat_le n most) Order
-  text_count ← number w16 Short
-  rail_count ← number w16 Short
-  node_count ← number w16 Short
+  text_count ← count_at v
+  rail_count ← count_at v
+  node_count ← count_at v
   let all = tables text_count rail_count node_count
-  roots ← many (item_at places all) uses root_count none
+  roots ← many (item_at v places all) uses root_count none
   texts ← times text_count text_at
   rails ← times rail_count rail_at
-  nodes ← such_that (many (node_at places all) next_turn node_count (turn 0 (used_after none roots))) (λ nodes. same_tables (used_in_all roots nodes) all) Order
+  nodes ← such_that (many (node_at v places all) next_turn node_count (turn 0 (used_after none roots))) (λ nodes. same_tables (used_in_all roots nodes) all) Order
   done (record { roots = roots; texts = texts; rails = rails; nodes = nodes })
 
-unfoldable pub launch_at : ℕ → Reader FrameFault Launch
-launch_at places = do
+unfoldable pub launch_at : FrameVersion → ℕ → Reader FrameFault Launch
+launch_at v places = do
   home ← place_at places
   finish ← number w32 Short
   function ← number w16 Short
-  graph ← graph_at places MOST_PARAMETERS
+  graph ← graph_at v places MOST_PARAMETERS
   done (launch home finish function graph)
 
 -- what follows the head of a frame of a type
-unfoldable pub body_at : ℕ → (type from to : ℕ) → Reader FrameFault Frame
-body_at places zero from to = given None FrameType
-body_at places (suc zero) from to = do
-  l ← launch_at places
+unfoldable pub body_at : FrameVersion → ℕ → (type from to : ℕ) → Reader FrameFault Frame
+body_at v places zero from to = given None FrameType
+body_at v places (suc zero) from to = do
+  l ← launch_at v places
   done (Spawn from to l.home l.number l.function l.graph)
-body_at places (suc (suc zero)) from to = do
+body_at v places (suc (suc zero)) from to = do
   waiting ← number w32 Short
-  l ← launch_at places
+  l ← launch_at v places
   done (Shift from to waiting l.home l.number l.function l.graph)
-body_at places (suc (suc (suc zero))) from to = do
+body_at v places (suc (suc (suc zero))) from to = do
   waiting ← number w32 Short
-  graph ← graph_at places 1
+  graph ← graph_at v places 1
   done (Back from to waiting graph)
-body_at places (suc (suc (suc (suc zero)))) from to = do
+body_at v places (suc (suc (suc (suc zero)))) from to = do
   finish ← number w32 Short
   expect (number w16 Short) places Place
   sent ← times places (number w32 Short)
   received ← times places (number w32 Short)
   done (Report from to finish sent received)
-body_at places (suc (suc (suc (suc (suc type))))) from to = given None FrameType
+body_at v places (suc (suc (suc (suc (suc type))))) from to = given None FrameType
 
+-- (a frame of another version than the first isn't read yet)
 unfoldable pub parts_at : ℕ → Reader FrameFault Frame
 parts_at places = do
   expect (byte Short) 1 Version
   type ← such_that (byte Short) (λ n. nat_le 1 n && nat_le n 4) FrameType
   from ← place_at places
   to ← place_at places
-  body_at places type from to
+  body_at Narrow places type from to
 
 -- the frame that the bytes spell where there are so many places, or their first fault
 unfoldable pub frame_at : ℕ → List ℕ → Result Frame FrameFault

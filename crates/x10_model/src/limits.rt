@@ -32,3 +32,9 @@ pub const MOST_TURNS: u16 = 65_535;
 
 /// The most bytes of a text or a rail.
 pub const MOST_BYTES: u16 = 65_535;
+
+/// The most texts, rails or objects of a frame of version 1, whose numbers have 16 bits.
+pub const MOST_NARROW: u16 = 65_535;
+
+/// The most texts, rails or objects of a frame of version 2, whose numbers have 32 bits.
+pub const MOST_WIDE: u32 = 1_048_576;

@@ -3,7 +3,7 @@ use Rattle.std.proofs.Common.{◌≡◌, ℕ, Bool, true, false, List, Option, S
 use Rattle.std.proofs.lemmas.Bool.{cases_eq}
 use Rattle.slab.specs.Slab.{Slab}
 use Rattle.x10_model.specs.Frames as frames
-use Rattle.x10_model.specs.Frames.{Frame, FitsFrame, spelling}
+use Rattle.x10_model.specs.Frames.{Narrow, Frame, FitsFrame, spelling}
 use Rattle.x10_model.specs.Places as machine
 use Rattle.x10_model.specs.Places.{Message, Stay}
 use Rattle.x10_model.specs.Totals.{Cut, Report, merged}
@@ -117,7 +117,7 @@ fault_told fault.Trailing read ne h = h
 fault_told fault.Memory read ne h = absurd (ne refl)
 
 module _ (v : Certified) (old : Slab StayState) (s : StoreState) (bytes : List ℕ) where
-  pub taken_bytes : (new : Slab StayState) (t : StoreState) (f : Frame) → (FitsFrame s.places f × (bytes ≡ spelling f)) → ((g : Frame) → FitsFrame s.places g → bytes ≡ spelling g → f ≡ g) → IsTakenFrame v old s f new t → (stopped : Bool) → IsTaken (place_of v old s stopped) bytes (place_of v new t stopped)
+  pub taken_bytes : (new : Slab StayState) (t : StoreState) (f : Frame) → (FitsFrame Narrow s.places f × (bytes ≡ spelling Narrow f)) → ((g : Frame) → FitsFrame Narrow s.places g → bytes ≡ spelling Narrow g → f ≡ g) → IsTakenFrame v old s f new t → (stopped : Bool) → IsTaken (place_of v old s stopped) bytes (place_of v new t stopped)
   taken_bytes new t f spelled only h stopped = record {
     frame = f;
     fits = spelled.0;
@@ -127,10 +127,10 @@ module _ (v : Certified) (old : Slab StayState) (s : StoreState) (bytes : List �
     takes = λ g fits same. subst (λ q. TakesFrame (place_of v old s stopped) q (place_of v new t stopped)) (only g fits same) (h.takes stopped);
   }
 
-  refused_as : (f : Frame) (why : Refusal) (stopped : Bool) → ((g : Frame) → FitsFrame s.places g → bytes ≡ spelling g → f ≡ g) → IsRefusedFrame (place_of v old s stopped) f why → (g : Frame) → FitsFrame s.places g → bytes ≡ spelling g → IsRefusedFrame (place_of v old s stopped) g why
+  refused_as : (f : Frame) (why : Refusal) (stopped : Bool) → ((g : Frame) → FitsFrame Narrow s.places g → bytes ≡ spelling Narrow g → f ≡ g) → IsRefusedFrame (place_of v old s stopped) f why → (g : Frame) → FitsFrame Narrow s.places g → bytes ≡ spelling Narrow g → IsRefusedFrame (place_of v old s stopped) g why
   refused_as f why stopped only h g fits same = subst (λ q. IsRefusedFrame (place_of v old s stopped) q why) (only g fits same) h
 
-  pub refused_bytes : (f : Frame) → ((g : Frame) → FitsFrame s.places g → bytes ≡ spelling g → f ≡ g) → (why : Refusal) → ((stopped : Bool) → IsRefusedFrame (place_of v old s stopped) f why) → (stopped : Bool) → IsRefusedBytes (place_of v old s stopped) bytes why
+  pub refused_bytes : (f : Frame) → ((g : Frame) → FitsFrame Narrow s.places g → bytes ≡ spelling Narrow g → f ≡ g) → (why : Refusal) → ((stopped : Bool) → IsRefusedFrame (place_of v old s stopped) f why) → (stopped : Bool) → IsRefusedBytes (place_of v old s stopped) bytes why
   refused_bytes f only (refusal.Frame fault) h stopped = absurd (h stopped)
   refused_bytes f only refusal.NotHere h stopped = refused_as f refusal.NotHere stopped only (h stopped)
   refused_bytes f only refusal.Function h stopped = refused_as f refusal.Function stopped only (h stopped)
@@ -153,7 +153,7 @@ module _ (v : Certified) (old : Slab StayState) (s : StoreState) (bytes : List �
   unread_none refusal.Memory h = tt
   unread_none _ h = absurd h
 
-  pub read_first : (f : Frame) → (FitsFrame s.places f × (bytes ≡ spelling f)) → (why : Refusal) → IsOfFrame s.places bytes why
+  pub read_first : (f : Frame) → (FitsFrame Narrow s.places f × (bytes ≡ spelling Narrow f)) → (why : Refusal) → IsOfFrame s.places bytes why
   read_first f h (refusal.Frame fault) = tt
   read_first f h refusal.Memory = tt
   read_first f h refusal.NotHere = (f, h.0, h.1)
@@ -166,7 +166,7 @@ module _ (v : Certified) (old : Slab StayState) (s : StoreState) (bytes : List �
   read_first f h (refusal.Limit limit) = (f, h.0, h.1)
   read_first f h refusal.Stopped = (f, h.0, h.1)
 
-  pub read_before : {T : Type 0} (f : Frame) → (FitsFrame s.places f × (bytes ≡ spelling f)) → (r : Result T Refusal) → IfErr r (IsOfFrame s.places bytes)
+  pub read_before : {T : Type 0} (f : Frame) → (FitsFrame Narrow s.places f × (bytes ≡ spelling Narrow f)) → (r : Result T Refusal) → IfErr r (IsOfFrame s.places bytes)
   read_before f h (Ok x) = tt
   read_before f h (Err why) = read_first f h why
 

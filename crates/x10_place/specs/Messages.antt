@@ -5,7 +5,7 @@ use Rattle.x10_model.specs.Places.{Finish, Message, Effect, receiver}
 use Rattle.x10_model.specs.Deliveries.{FitsClasses}
 use Rattle.x10_model.specs.Wrong.{graph_of}
 use Rattle.x10_model.specs.Frames as frames
-use Rattle.x10_model.specs.Frames.{Frame, FitsFrame, spelling}
+use Rattle.x10_model.specs.Frames.{Narrow, Frame, FitsFrame, spelling}
 use Rattle.x10_model.specs.Marshalling.{message_of}
 use Rattle.x10_model.specs.Totals.{Did, Report, entry_of, reported, is_reported}
 use Rattle.x10_model.specs.Worlds.{sent}
@@ -19,8 +19,8 @@ use Rattle.x10_place.specs.Stays.{StoreState, totals_in}
 -- classes.
 pub record Carries (program : Module) (places : ℕ) (bytes : List ℕ) (message : Message) : Type 0 where
   pub frame : Frame
-  pub fits : FitsFrame places frame
-  pub spelled : bytes ≡ spelling frame
+  pub fits : FitsFrame Narrow places frame
+  pub spelled : bytes ≡ spelling Narrow frame
   pub message_is : message_of frame ≡ Some message
   pub classes : FitsClasses program (graph_of message)
 
@@ -30,8 +30,8 @@ report_frame home r = frames.Report r.place home r.number r.sent r.received
 
 -- the bytes spell the frame of a report that goes to a place
 pub record CarriesReport (places : ℕ) (bytes : List ℕ) (to : ℕ) (report : Report) : Type 0 where
-  pub fits : FitsFrame places (report_frame to report)
-  pub spelled : bytes ≡ spelling (report_frame to report)
+  pub fits : FitsFrame Narrow places (report_frame to report)
+  pub spelled : bytes ≡ spelling Narrow (report_frame to report)
 
 -- ---- what a step puts out
 

@@ -1,6 +1,5 @@
 //! An activity that comes from a place begins: a new one, or one that goes on here.
 ghost use Rattle.std.specs.Prelude.{◌≡◌, ◌<◌, ◌≤◌, ℕ, IfErr, IfOk, OnErr, OnOk, List, None, length, slice_index};
-ghost use Rattle.x10_model.specs.Frames.{FitsFrame};
 ghost use Rattle.x10_model.specs.Marshalling.{snapshot_of};
 ghost use Rattle.x10_model.specs.Modules.{Module, Function};
 ghost use Rattle.x10_model.specs.declared.slot.Slot.{Slot};

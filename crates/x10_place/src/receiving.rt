@@ -1,6 +1,6 @@
 //! What comes in: bytes that should be the frame of a message or of a report.
 ghost use Rattle.std.specs.Prelude.{◌≡◌, Bool, true, false, Ok, IfErr, IfOk, OnErr, OnOk};
-ghost use Rattle.x10_model.specs.Frames.{Frame, FitsFrame, spelling};
+ghost use Rattle.x10_model.specs.Frames.{Narrow, Frame, FitsFrame, spelling};
 ghost use Rattle.x10_copy.specs.declared.refusal.Refusal.TheVariants as refusal;
 ghost use Rattle.x10_place.specs.Arrivals.{IsUnread, IsTakenFrame, to_in};
 ghost use Rattle.x10_place.specs.Receiving.{IsTaken, TakesFrame, IsShut, IsRefusedFrame, IsRefusedBytes, IsOfFrame, stops};
@@ -22,8 +22,8 @@ use x10_verify::Verified;
 
 /// The frame that bytes spell.
 fn read<'a>(alloc: Global, bytes: &'a [u8], places: u16) -> Result<FrameView<'a>, Refusal>
-    ensures found { IfOk result (λ f. FitsFrame places f × (bytes.now ≡ spelling f)) }
-    ensures only { IfOk result (λ v. (f : Frame) → FitsFrame places f → bytes.now ≡ spelling f → v ≡ f) }
+    ensures found { IfOk result (λ f. FitsFrame Narrow places f × (bytes.now ≡ spelling Narrow f)) }
+    ensures only { IfOk result (λ v. (f : Frame) → FitsFrame Narrow places f → bytes.now ≡ spelling Narrow f → v ≡ f) }
     ensures err { IfErr result (IsUnread places bytes.now) }
 {
     match FrameView::read(alloc, bytes, places) {
@@ -54,7 +54,7 @@ fn take(
     view: &FrameView,
 ) -> Result<(), Refusal>
     requires standing { IsStanding (place_of verified.now stays.old store.old false) }
-    requires fits { FitsFrame store.old.places view.now }
+    requires fits { FitsFrame Narrow store.old.places view.now }
     ensures ok { OnOk result (IsTakenFrame verified.now stays.old store.old view.now stays.new store.new) }
     ensures err { OnErr result (IsUntouched stays.old store.old stays.new store.new) }
     ensures refused { IfErr result (λ why. (stopped : Bool) → IsRefusedFrame (place_of verified.now stays.old store.old stopped) view.now why) }

@@ -9,7 +9,7 @@ use Rattle.x10_model.specs.Maps.{with_entry}
 use Rattle.x10_model.specs.Modules.{Module}
 use Rattle.x10_model.specs.Structure.{bounds_of}
 use Rattle.x10_model.specs.Frames as frames
-use Rattle.x10_model.specs.Frames.{Frame, FitsFrame}
+use Rattle.x10_model.specs.Frames.{Narrow, Frame, FitsFrame}
 use Rattle.x10_model.specs.Marshalling.{message_of}
 use Rattle.x10_model.specs.Places as machine
 use Rattle.x10_model.specs.Places.{Finish, Message, root}
@@ -240,8 +240,8 @@ module _ (program : Module) (bounds : List ℕ) (places : List PlaceState) (flig
 
   -- ---- either
 
-  fits_here : (f : Frame) → FitsFrame (length places) f → FitsFrame p.places f
-  fits_here f fits = subst (λ n. FitsFrame n f) (sym belongs.places_are) fits
+  fits_here : (f : Frame) → FitsFrame Narrow (length places) f → FitsFrame Narrow p.places f
+  fits_here f fits = subst (λ n. FitsFrame Narrow n f) (sym belongs.places_are) fits
 
   admitted : (taken-in : IsTaken p flight.bytes q) (h : FliesAsMessage program (length places) w stand.told number flight) (m : machine.Place) → StandsFor (far_in w) p m → Admits (far_in w) p m h.message q
   admitted taken-in h m old =

@@ -8,7 +8,7 @@ use Rattle.x10_model.specs.Modules.{Module}
 use Rattle.x10_model.specs.Places as machine
 use Rattle.x10_model.specs.Places.{Finish, Message, receiver}
 use Rattle.x10_model.specs.Frames as frames
-use Rattle.x10_model.specs.Frames.{Frame, Graph, FitsFrame, spelling, to_of}
+use Rattle.x10_model.specs.Frames.{Narrow, Frame, Graph, FitsFrame, spelling, to_of}
 use Rattle.x10_model.specs.ReadingFrames as reading
 use Rattle.x10_model.specs.ReadingFrames.{frame_at}
 use Rattle.x10_model.specs.Marshalling.{snapshot_of, message_of}
@@ -81,7 +81,7 @@ no_fault : {Y : Type 0} (o : Option reading.FrameFault) (read : _) (y : Y) → r
 no_fault None read y e h = h
 no_fault (Some f) read y e h = (let x = sym e ∙ h in absurd cc)
 
-bytes_for_room : (p : PlaceState) (bytes : List ℕ) (f : Frame) → p.places < 2 ^ 16 → FitsFrame p.places f → bytes ≡ spelling f → IsRight p f → (why : Refusal) → IsRefusedBytes p bytes why → IsForRoom why
+bytes_for_room : (p : PlaceState) (bytes : List ℕ) (f : Frame) → p.places < 2 ^ 16 → FitsFrame Narrow p.places f → bytes ≡ spelling Narrow f → IsRight p f → (why : Refusal) → IsRefusedBytes p bytes why → IsForRoom why
 bytes_for_room p bytes f few fits spelled r (refusal.Frame fault) h = absurd (no_fault (named fault) (frame_at p.places bytes) f (ap (frame_at p.places) spelled ∙ frame_again p.places few f fits) h)
 bytes_for_room p bytes f few fits spelled r refusal.NotHere h = right_for_room p f r refusal.NotHere (h f fits spelled)
 bytes_for_room p bytes f few fits spelled r refusal.Function h = right_for_room p f r refusal.Function (h f fits spelled)
@@ -157,8 +157,8 @@ module _ (program : Module) (bounds : List ℕ) (places : List PlaceState) (flig
   }
 
   -- its frame fits the place's run
-  fits_here : (f : Frame) → FitsFrame (length places) f → FitsFrame p.places f
-  fits_here f fits = subst (λ n. FitsFrame n f) (sym belongs.places_are) fits
+  fits_here : (f : Frame) → FitsFrame Narrow (length places) f → FitsFrame Narrow p.places f
+  fits_here f fits = subst (λ n. FitsFrame Narrow n f) (sym belongs.places_are) fits
 
   report_right : (h : FliesAsReport (length places) w stand.told number flight) (m : machine.Place) → w.net.places flight.to ≡ Some m → StandsFor (far_in w) p m → IsRight p (report_frame flight.to h.report)
   report_right h m there old = record {

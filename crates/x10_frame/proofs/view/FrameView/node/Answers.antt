@@ -1,5 +1,5 @@
 use Rattle.std.proofs.Common.{arith}
-use Rattle.x10_model.specs.Frames.{node_bytes}
+use Rattle.x10_model.specs.Frames.{Narrow, node_bytes}
 use Rattle.x10_model.proofs.Offsets.{same_length}
 use Rattle.x10_frame.proofs.Shows.{shows, graph_fits, few_of, node_fits, node_at}
 use Rattle.x10_bytes.proofs.Parts.{item_in}
@@ -14,7 +14,7 @@ index-requires c =
 pub node_in-requires-clause-room : goal.node_in-requires-clause-room
 node_in-requires-clause-room c =
     let v = shows _ _ _ _ _ _ _ _ _ c.self.invariant c.self.view_is in
-    let found = item_in node_bytes _ _ _ c.args.i c.index.result.now v.has.graph_at.nodes_at c.requires c.index.ensures in
+    let found = item_in (node_bytes Narrow) _ _ _ c.args.i c.index.result.now v.has.graph_at.nodes_at c.requires c.index.ensures in
     let fits = node_fits _ _ c.args.i found.0 (graph_fits _ _ v.fits) found.1 in
     let n = node_at _ _ _ _ fits.0 found.0 v.few (few_of _ _ (graph_fits _ _ v.fits)) fits.1 found.2 in
     n.room
@@ -22,7 +22,7 @@ node_in-requires-clause-room c =
 pub node_in-requires-clause-there : goal.node_in-requires-clause-there
 node_in-requires-clause-there c =
     let v = shows _ _ _ _ _ _ _ _ _ c.self.invariant c.self.view_is in
-    let found = item_in node_bytes _ _ _ c.args.i c.index.result.now v.has.graph_at.nodes_at c.requires c.index.ensures in
+    let found = item_in (node_bytes Narrow) _ _ _ c.args.i c.index.result.now v.has.graph_at.nodes_at c.requires c.index.ensures in
     let fits = node_fits _ _ c.args.i found.0 (graph_fits _ _ v.fits) found.1 in
     let n = node_at _ _ _ _ fits.0 found.0 v.few (few_of _ _ (graph_fits _ _ v.fits)) fits.1 found.2 in
     n.there
@@ -30,7 +30,7 @@ node_in-requires-clause-there c =
 pub returns-clause-value : goal.returns-clause-value
 returns-clause-value c =
     let v = shows _ _ _ _ _ _ _ _ _ c.self.invariant c.self.view_is in
-    let found = item_in node_bytes _ _ _ c.args.i c.index.result.now v.has.graph_at.nodes_at c.requires c.index.ensures in
+    let found = item_in (node_bytes Narrow) _ _ _ c.args.i c.index.result.now v.has.graph_at.nodes_at c.requires c.index.ensures in
     let fits = node_fits _ _ c.args.i found.0 (graph_fits _ _ v.fits) found.1 in
     let n = node_at _ _ _ _ fits.0 found.0 v.few (few_of _ _ (graph_fits _ _ v.fits)) fits.1 found.2 in
     rw (c.node_in.ensures, n.class, n.fields) found.1
@@ -38,7 +38,7 @@ returns-clause-value c =
 pub returns-clause-few : goal.returns-clause-few
 returns-clause-few c =
     let v = shows _ _ _ _ _ _ _ _ _ c.self.invariant c.self.view_is in
-    let found = item_in node_bytes _ _ _ c.args.i c.index.result.now v.has.graph_at.nodes_at c.requires c.index.ensures in
+    let found = item_in (node_bytes Narrow) _ _ _ c.args.i c.index.result.now v.has.graph_at.nodes_at c.requires c.index.ensures in
     let fits = node_fits _ _ c.args.i found.0 (graph_fits _ _ v.fits) found.1 in
     let n = node_at _ _ _ _ fits.0 found.0 v.few (few_of _ _ (graph_fits _ _ v.fits)) fits.1 found.2 in
     rw (c.node_in.ensures, n.fields) fits.1.count
