@@ -40,6 +40,7 @@ look marks.svg >.found || fail "marks.svg can't be read"
 # a run that stops is drawn until then, and the fault is told
 printf 'places 1\nint 7\nfunc 1 0 none\nINTK 0 0\nPRINT 0\nRET 0\nend\nentry 0\n' >seven.asm
 x10p asm seven.asm seven.x10
+cp seven.asm seven.txt
 does 2 "" "x10p: limit" x10p draw seven.x10 part.svg --limit 2
 look part.svg >.found || fail "part.svg can't be read"
 ! grep -q '0:2 RET' part.svg || fail "part.svg has more events than the limit"
@@ -47,9 +48,12 @@ look part.svg >.found || fail "part.svg can't be read"
 # what is refused writes nothing, and what can't be written is told
 rm -f new.svg
 does 1 "" "x10p: places" x10p draw ring.x10 new.svg --places 1
-does 1 "" "x10p: image: Magic" x10p draw seven.asm new.svg
+does 1 "" "x10p: image: Magic" x10p draw seven.txt new.svg
 does 4 "" "x10p: file" x10p draw nowhere.x10 new.svg
 [ ! -e new.svg ] || fail "a refused module has a picture"
+cp seven.asm kept.asm
+does 4 "" "x10p: file" x10p draw seven.x10 seven.asm
+same seven.asm kept.asm
 does 4 "" "x10p: file" x10p draw seven.x10 nowhere/new.svg
 cp seven.x10 kept.x10
 does 4 "" "x10p: file" x10p draw seven.x10 seven.x10

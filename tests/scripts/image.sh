@@ -38,6 +38,12 @@ does 1 "" "x10p: asm: line 1 Word" x10p asm refused.asm image.x10
 same image.x10 seven.x10
 rm long.asm refused.asm
 
+# no image is written over what is a text by its name
+does 4 "" "x10p: file" x10p asm seven.asm eight.asm
+does 4 "" "x10p: file" x10p asm seven.asm new.asm
+[ "$(x10p run eight.asm)" = "0: 8" ] || fail "a text was overwritten"
+[ ! -e new.asm ] || fail "an image has the name of a text"
+
 # names that are taken are passed over, and left alone
 echo mine >image.x10.0.tmp
 mkdir image.x10.1.tmp

@@ -26,6 +26,9 @@ use x10_code::{Instr, Operand, form};
 use x10_image::{ClassView, ImageView, SigView};
 use x10_verify::VerifyCause;
 
+/// How many bytes a comment shows of a text at most.
+const SHOWN: usize = 64;
+
 /// The listing of an image for people: the canonical listing, with comments in lines of their own. They number classes,
 /// constants and functions, and say before each instruction its number, what the verifier knows there and how many steps are
 /// left at most, and what the instruction names. A function that is refused has its first fault explained before the faulty
@@ -253,6 +256,17 @@ fn push_slots(out: &mut String, signature: &SigView) -> Result<(), AllocError> {
     Ok(())
 }
 
+// A text in quotes; of a long one the beginning, and how many bytes it has.
+fn push_beginning(out: &mut String, text: &str) -> Result<(), AllocError> {
+    let shown = text.get(..text.floor_char_boundary(SHOWN)).unwrap_or("");
+    push_quoted(out, shown)?;
+    if shown.len() < text.len() {
+        let bytes = text.len();
+        write!(out, " and so on, {bytes} bytes")?;
+    }
+    Ok(())
+}
+
 // What x names: a constant, a class or a function.
 fn push_named(out: &mut String, image: &ImageView, instr: Instr) -> Result<(), AllocError> {
     let x = instr.x as usize;
@@ -263,7 +277,7 @@ fn push_named(out: &mut String, image: &ImageView, instr: Instr) -> Result<(), A
         }
         Operand::Text if x < image.texts() => {
             write!(out, "; text {x} is")?;
-            push_quoted(out, image.text(x))
+            push_beginning(out, image.text(x))
         }
         Operand::Class => match fields_of(image, x) {
             None => Ok(()),

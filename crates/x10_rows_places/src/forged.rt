@@ -1,14 +1,13 @@
 //! Frames that no place sends: which fault is reported for each, and that the place is as before.
 use crate::places::{opened, program, ran};
-use crate::receiving::{is_used, printed, refused, spawn, takes};
-use crate::travels::ALONG;
+use crate::receiving::{is_used, refused, spawn, takes};
 use std::process::Abort;
 use std::test::*;
 use x10_asm::assemble;
 use x10_copy::Refusal;
 use x10_frame::FrameFault;
 use x10_place::Place;
-use x10_samples::{AWAY, BACK, CYCLE};
+use x10_samples::{AWAY, BACK};
 
 /// A function wants a reference whose home is here, and another one. Main makes a reference.
 const REFERENCES: &str = "places 2
@@ -122,84 +121,5 @@ fn at_home(rt: HostRuntime) -> Result<(), Fail> {
     elsewhere[7] = 2;
     assert!(rt; takes(&mut place, &elsewhere) && is_used(&place, 1));
     assert!(rt; takes(&mut place, &BACK));
-    Ok(())
-}
-
-/// The least key in use.
-fn first_key(place: &Place) -> usize {
-    place.next_key(0).unwrap_or(0)
-}
-
-/// Takes the frame of a cycle in, whose activity takes its ten steps.
-fn takes_cycle(rt: &impl Abort, place: &mut Place) {
-    assert!(rt; takes(place, &CYCLE));
-    let key = first_key(place);
-    assert!(rt; ran(place, key, 100) == Some(10));
-}
-
-#[test]
-fn beginnings(rt: HostRuntime) -> Result<(), Fail> {
-    let bytes = assemble(rt.alloc(), ALONG)?;
-    let verified = program(rt.alloc(), &bytes)?;
-    let mut place = opened(rt.alloc(), &verified, 1, 2)?;
-    let short = Refusal::Frame(FrameFault::Short);
-    for length in 0..67usize {
-        assert!(rt; refused(&mut place, &CYCLE[..length]) == Some(short));
-    }
-    takes_cycle(&rt, &mut place);
-    assert!(rt; printed(&place, 9));
-    Ok(())
-}
-
-/// Whether a step of a key is made, or finds nothing to do.
-fn goes(place: &mut Place, key: usize) -> bool {
-    place.step(key).is_ok()
-}
-
-/// Up to forty steps of what is there, of which none is stopped.
-fn goes_on(rt: &impl Abort, place: &mut Place) {
-    for _ in 0..40 {
-        let key = first_key(place);
-        assert!(rt; goes(place, key));
-    }
-}
-
-/// Whether a place stops after a refusal, which then is no fault of the bytes.
-fn stops(why: Refusal) -> bool {
-    matches!(why, Refusal::Memory | Refusal::Limit(_) | Refusal::Stopped)
-}
-
-/// The frame of a cycle with each value in place of one byte: how many of them are taken in.
-fn other_values(rt: &impl Abort, place: &mut Place, at: usize) -> u32 {
-    let mut taken = 0u32;
-    let mut frame = CYCLE;
-    for value in 0..=255u8 {
-        if let Some(byte) = frame.get_mut(at) {
-            *byte = value;
-        }
-        match refused(place, &frame) {
-            None => {
-                goes_on(rt, place);
-                taken = taken.saturating_add(1);
-            }
-            Some(why) => assert!(rt; !stops(why)),
-        }
-    }
-    taken
-}
-
-/// Any value is good in 14 of the bytes: the number of the finish, those of the rail, and the numbers of the two references,
-/// whose home is elsewhere. Two are good for the sender, and for the last field that names an object; one in each other.
-#[test]
-fn changed_bytes(rt: HostRuntime) -> Result<(), Fail> {
-    let bytes = assemble(rt.alloc(), ALONG)?;
-    let verified = program(rt.alloc(), &bytes)?;
-    let mut taken = 0u32;
-    for at in 0..67usize {
-        let mut place = opened(rt.alloc(), &verified, 1, 2)?;
-        taken = taken.saturating_add(other_values(&rt, &mut place, at));
-        takes_cycle(&rt, &mut place);
-    }
-    assert_eq!(rt; taken, 3_639);
     Ok(())
 }

@@ -1,13 +1,12 @@
 //! What a place takes in and what it refuses, after which it goes on.
 use crate::places::{idles, opened, program, ran};
-use crate::travels::ALONG;
 use std::process::Abort;
 use std::test::*;
 use x10_asm::assemble;
 use x10_copy::Refusal;
 use x10_frame::FrameFault;
 use x10_place::{Line, Place, Stepped};
-use x10_samples::{AWAY, BACK, CYCLE, OTHER_REPORT, REPORT};
+use x10_samples::{ALONG, AWAY, BACK, CYCLE, OTHER_REPORT, REPORT};
 
 /// Main starts an activity at place 1 and one at place 2 in a finish.
 const TWO: &str = "places 3

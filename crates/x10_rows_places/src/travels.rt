@@ -5,50 +5,8 @@ use std::process::Abort;
 use std::test::*;
 use x10_model::Event;
 use x10_place::Line;
-use x10_samples::{ALONE, AWAY, BACK, CYCLE, OTHER_REPORT, REPORT, SHIFT, SPAWN};
+use x10_samples::{ALONE, ALONG, AWAY, BACK, CYCLE, OTHER_REPORT, REPORT, SHIFT, SPAWN};
 use x10_world::World;
-
-/// Two objects, each of which holds the other, a rail that both hold and a global reference go to place 1. There the rail
-/// is changed, and its byte printed. Then main prints the byte of its own rail.
-pub(crate) const ALONG: &str = "places 2
-class opt:0 rail gref:1
-class
-int 2
-int 0
-int 9
-func 4 0 none obj:0
-GET 1 0 1
-INTK 2 1
-INTK 3 2
-RSET 1 2 3 9
-GET 0 0 0
-IFOBJ 0 0 9
-GET 1 0 1
-RGET 3 1 2 9
-PRINT 3
-RET 0
-end
-func 7 0 none
-NEW 3 0 1
-GNEW 2 3
-INTK 5 0
-RAIL 1 5 16
-NULL 0 0
-NEW 3 0 0
-MOVE 0 3
-NEW 4 0 0
-PUT 3 4 0
-FINB
-PLACEK 6 1
-ATA 4 6 0
-FINE
-INTK 5 1
-RGET 5 1 5 16
-PRINT 5
-RET 0
-end
-entry 1
-";
 
 /// Main starts an activity at the place after the last, which is its own.
 const AROUND: &str = "places 1

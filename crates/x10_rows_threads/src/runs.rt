@@ -8,31 +8,9 @@ use x10_asm::assemble;
 use x10_hall::Turn;
 use x10_image::ImageView;
 use x10_place::Line;
-use x10_samples::AWAY;
+use x10_samples::{AWAY, RELAY};
 use x10_verify::{Verified, verify};
 use x10_workers::{AuditFault, Open, RunReport, WorkFault, audit, run_threads};
-
-/// A number goes round four places, one less at each; each prints it.
-const RELAY: &str = "places 4
-int 10
-int 1
-func 3 0 none int
-JZ 0 7
-PRINT 0
-INTK 1 1
-SUB 0 0 1
-HERE 2
-NEXTP 2 2
-ATA 0 2 0
-RET 0
-end
-func 1 0 none
-INTK 0 0
-ASYNC 0 0
-RET 0
-end
-entry 1
-";
 
 /// Main starts an activity that prints, and starts another of its kind, without end.
 const ENDLESS: &str = "places 1

@@ -9,4 +9,4 @@ mod programs;
 pub use chance::random;
 pub use frames::{ALONE, BACK, CYCLE, OTHER_REPORT, REPORT, SHIFT, SPAWN};
 pub use images::{SEVEN, with_byte};
-pub use programs::AWAY;
+pub use programs::{ALONG, AWAY, RELAY};

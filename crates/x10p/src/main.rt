@@ -5,10 +5,14 @@ ghost use Rattle.std.specs.Prelude.{◌≡◌, IsTrue};
 
 mod input;
 mod output;
+mod text;
+mod told;
 mod trouble;
 mod whole;
 
 use crate::output::Output;
+use crate::text::{Given, is_text, read};
+use crate::told::Told;
 use crate::trouble::Trouble;
 use std::fs::{self, File};
 use std::io::{BufWriter, ErrorKind, Write};
@@ -17,9 +21,6 @@ use std::sync::Wait;
 use std::thread::Threads;
 use std::{env, io};
 use x10_cli::{Fault, Task, Usage, Verb, execute, no_text, parse, tell};
-
-/// Room for a fault's line.
-const FAULT_LINE: usize = 256;
 
 fn main(rt: HostRuntime) -> ExitCode {
     match words(&rt) {
@@ -69,15 +70,18 @@ fn print<R: Threads + Wait + Sync>(
     task: &Task,
     file: &mut File,
 ) -> Result<u8, Trouble> {
-    let bytes = input::read(rt, task.verb, file)?;
+    let bytes = match read(rt, threads, task, file)? {
+        Given::Bytes(bytes) => bytes,
+        Given::Refused(told, status) => return Ok(speak(rt, task, None, told.bytes(), status)),
+    };
     let Ok(mut out) = BufWriter::new(rt.alloc(), Output::new(rt.stdout())) else {
         return Err(Trouble::Memory);
     };
-    let Ok(mut told) = Vec::with_capacity(rt.alloc(), FAULT_LINE) else {
+    let Ok(mut told) = Told::new(rt.alloc()) else {
         return Err(Trouble::Memory);
     };
     let status = execute(threads, rt.alloc(), task, &bytes, &mut out, &mut told);
-    Ok(speak(rt, task, out.get_ref().failure(), &told, status))
+    Ok(speak(rt, task, out.get_ref().failure(), told.bytes(), status))
 }
 
 /// Prints what was said about a fault, and answers the exit status. Where the reader of a pipe has gone, nothing is printed.
@@ -117,9 +121,15 @@ fn write<R: Threads + Wait + Sync>(
         Ok(true) => return Err(Trouble::OneFile),
         Err(error) => return Err(Trouble::reading(error)),
     }
-    let bytes = input::read(rt, task.verb, file)?;
+    if is_text(output) {
+        return Err(Trouble::OverText);
+    }
+    let bytes = match read(rt, threads, task, file)? {
+        Given::Bytes(bytes) => bytes,
+        Given::Refused(told, status) => return Ok(speak(rt, task, None, told.bytes(), status)),
+    };
     let mut made = Output::new(Vec::new(rt.alloc()));
-    let Ok(mut told) = Vec::with_capacity(rt.alloc(), FAULT_LINE) else {
+    let Ok(mut told) = Told::new(rt.alloc()) else {
         return Err(Trouble::Memory);
     };
     let status = execute(threads, rt.alloc(), task, &bytes, &mut made, &mut told);
@@ -133,7 +143,7 @@ fn write<R: Threads + Wait + Sync>(
     {
         return Err(Trouble::writing(error));
     }
-    Ok(speak(rt, task, None, &told, status))
+    Ok(speak(rt, task, None, told.bytes(), status))
 }
 
 /// Whether a file is written at a status: an image only where the work is done; a picture also where the run stopped.

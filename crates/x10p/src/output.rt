@@ -32,6 +32,10 @@ impl<W> Output<W> {
     pub fn writer(&self) -> &W {
         &self.writer
     }
+
+    pub fn into_writer(self) -> W {
+        self.writer
+    }
 }
 
 impl<W: Write> Write for Output<W> {

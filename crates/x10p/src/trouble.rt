@@ -15,6 +15,8 @@ pub enum Trouble {
     TooLong,
     /// The files to read and to write are one.
     OneFile,
+    /// The file to write has the name of a text.
+    OverText,
 }
 
 impl Trouble {
@@ -67,6 +69,13 @@ impl Trouble {
             Trouble::OneFile => {
                 let output = task.output.unwrap_or_default();
                 writeln!(err, "{output} is the same file as {input}.")
+            }
+            Trouble::OverText => {
+                let output = task.output.unwrap_or_default();
+                writeln!(
+                    err,
+                    "{output} has the name of a text, which nothing is written over."
+                )
             }
         }
     }

@@ -1,0 +1,213 @@
+//! Halls and workers where memory is refused: what was posted stays, and nothing else is told.
+use crate::begin::{assembled, have_first, program};
+use std::alloc::{AllocError, Global};
+use std::process::Abort;
+use std::sync::{Arc, Wait};
+use std::test::*;
+use std::thread::Threads;
+use x10_hall::{Desk, Hall, Keys, Mail, Posted, Turn};
+use x10_kinds::Stop;
+use x10_place::Line;
+use x10_samples::RELAY;
+use x10_verify::Verified;
+use x10_workers::{AuditFault, Halt, Open, RunReport, Trail, WorkFault, run_threads, weave, work};
+
+/// What each place prints.
+const PRINTS: [&[i64]; 4] = [&[10, 6, 2], &[9, 5, 1], &[8, 4], &[7, 3]];
+
+/// Main sends an activity with a number to its own place, which prints it.
+const OWN: &str = "places 1
+int 5
+func 1 0 none int
+PRINT 0
+RET 0
+end
+func 2 0 none
+INTK 0 0
+HERE 1
+ATA 0 1 0
+RET 0
+end
+entry 1
+";
+
+/// A turn of place 0 that puts out a frame to each of these places; its byte is the place's number.
+fn turn_to(alloc: Global, places: &[u16]) -> Result<Turn, AllocError> {
+    let mut frames = Vec::new(alloc);
+    for to in places {
+        let bytes = Arc::new(alloc, Vec::from_slice(alloc, &[(*to % 256) as u8])?)?;
+        frames.push(Posted { to: *to, bytes })?;
+    }
+    Ok(Turn {
+        place: 0,
+        taken: Vec::new(alloc),
+        keys: Keys::new(alloc, &[])?,
+        frames,
+        lines: Vec::new(alloc),
+    })
+}
+
+/// Whether a turn is posted; where it isn't, memory was refused.
+fn is_posted(rt: &impl Abort, hall: &mut Hall, turn: Turn) -> bool {
+    match hall.post(turn) {
+        Ok(()) => true,
+        Err(why) => {
+            assert!(rt; why == Stop::Memory);
+            false
+        }
+    }
+}
+
+/// The numbers of the next frames for a place, up to four, which then are taken.
+fn taken(hall: &mut Hall, place: u16) -> [Option<u64>; 4] {
+    let mut numbers = [None; 4];
+    for number in numbers.iter_mut() {
+        *number = hall.take(place).map(|frame| frame.number);
+    }
+    numbers
+}
+
+/// How many turns the log has.
+fn turns(hall: &Hall) -> usize {
+    hall.log().len()
+}
+
+/// Two turns are posted, of which the second may be refused: then the log, the rows and what was taken of them are as before.
+fn are_posted(alloc: Global, rt: &impl Abort) -> Option<()> {
+    let mut hall = Hall::new(alloc, 2).ok()?;
+    let first = turn_to(alloc, &[1, 0, 1]).ok()?;
+    let second = turn_to(alloc, &[1, 0]).ok()?;
+    if !is_posted(rt, &mut hall, first) {
+        assert!(rt;
+            turns(&hall) == 0
+                && taken(&mut hall, 0) == [None; 4]
+                && taken(&mut hall, 1) == [None; 4]
+        );
+        return None;
+    }
+    assert!(rt; hall.take(1).map(|frame| frame.number) == Some(0));
+    if !is_posted(rt, &mut hall, second) {
+        assert!(rt; turns(&hall) == 1);
+        assert!(rt; taken(&mut hall, 1) == [Some(2), None, None, None]);
+        assert!(rt; taken(&mut hall, 0) == [Some(1), None, None, None]);
+        return None;
+    }
+    assert!(rt; turns(&hall) == 2);
+    assert!(rt; taken(&mut hall, 1) == [Some(2), Some(3), None, None]);
+    assert!(rt; taken(&mut hall, 0) == [Some(1), Some(4), None, None]);
+    Some(())
+}
+
+/// What the worker of the only place keeps. Nothing where memory was refused.
+fn worked<'a, R: Wait + Abort>(
+    rt: &R,
+    alloc: Global,
+    verified: &'a Verified<'a>,
+    desk: &Desk<R>,
+) -> Option<Trail<'a>> {
+    if verified.image().least() > 1 {
+        return None;
+    }
+    match work(rt, alloc, verified, 0, 1, desk, &Open) {
+        Ok(trail) => Some(trail),
+        Err(why) => {
+            assert!(rt; why == Halt::Stop(Stop::Memory));
+            None
+        }
+    }
+}
+
+/// Whether a log and the trails of its workers come to the number 5. Nothing where memory was refused.
+fn prints_five(alloc: Global, rt: &impl Abort, log: &[Turn], trails: &[Trail]) -> Option<bool> {
+    match weave(alloc, log, trails) {
+        Ok(outputs) => Some(have_first(&outputs, &[&[5]], true)),
+        Err(why) => {
+            assert!(rt; why == AuditFault::Stop(Stop::Memory));
+            None
+        }
+    }
+}
+
+/// The only worker's turns are compared with its log. Nothing where memory was refused.
+fn is_woven<R: Wait + Abort>(alloc: Global, rt: &R) -> Option<()> {
+    let bytes = assembled(alloc, rt, OWN)?;
+    let verified = program(alloc, rt, &bytes)?;
+    let mail = Mail::new(alloc, 1, 1_000).ok()?;
+    let trail = worked(rt, alloc, &verified, &Desk::new(rt, &mail))?;
+    let mut trails = Vec::new(alloc);
+    trails.push(trail).ok()?;
+    let log = mail.into_hall().into_log();
+    assert!(rt; prints_five(alloc, rt, &log, &trails)?);
+    Some(())
+}
+
+/// How many lines the turns of a log have.
+fn lines_in(log: &[Turn]) -> usize {
+    let mut count = 0usize;
+    for turn in log {
+        count = count.saturating_add(turn.lines.len());
+    }
+    count
+}
+
+/// How many lines places have together.
+fn lines_of(outputs: &[Vec<Line>]) -> usize {
+    let mut count = 0usize;
+    for lines in outputs {
+        count = count.saturating_add(lines.len());
+    }
+    count
+}
+
+/// Whether a report tells a beginning of what each place prints, which is what the turns of its log have.
+fn is_beginning(report: &RunReport) -> bool {
+    lines_in(&report.log) == lines_of(&report.outputs)
+        && have_first(&report.outputs, &PRINTS, false)
+}
+
+/// Whether a run that didn't come to its end lacked memory.
+fn lacked_memory(fault: &WorkFault) -> bool {
+    match fault {
+        WorkFault::Stop(_, why, report) => *why == Stop::Memory && is_beginning(report),
+        WorkFault::Memory | WorkFault::Thread => true,
+        _ => false,
+    }
+}
+
+/// A run with a thread for each of four places. Nothing where memory was refused.
+fn runs<R: Threads + Wait + Sync + Abort>(alloc: Global, rt: &R) -> Option<()> {
+    let bytes = assembled(alloc, rt, RELAY)?;
+    let verified = program(alloc, rt, &bytes)?;
+    match run_threads(rt, alloc, &verified, 4, 1_000, &Open) {
+        Ok(report) => {
+            assert!(rt; have_first(&report.outputs, &PRINTS, true) && is_beginning(&report));
+            Some(())
+        }
+        Err(fault) => {
+            assert!(rt; lacked_memory(&fault));
+            None
+        }
+    }
+}
+
+#[test]
+fn with_memory(rt: HostRuntime) {
+    assert!(rt; are_posted(rt.alloc(), &rt).is_some());
+    assert!(rt; is_woven(rt.alloc(), &rt).is_some());
+    assert!(rt; runs(rt.alloc(), &rt).is_some());
+}
+
+#[test]
+fn memory_refused_to_a_turn(rt: HostRuntime) {
+    are_posted(rt.alloc(), &rt);
+}
+
+#[test]
+fn memory_refused_by_weaving(rt: HostRuntime) {
+    is_woven(rt.alloc(), &rt);
+}
+
+#[test]
+fn memory_refused_by_threads(rt: HostRuntime) {
+    runs(rt.alloc(), &rt);
+}
