@@ -165,8 +165,8 @@ fn new_activity(rt: HostRuntime) -> Result<(), Fail> {
     Ok(())
 }
 
-/// Any value is good in the eight bytes of the stay that waits elsewhere and of the number of the finish, a few in those of the
-/// places, and one in each other.
+/// Any value is good in the eight bytes of the stay that waits elsewhere and of the number of the finish. Three are good as the
+/// sender and as the function, two as the finish's home, which has to be another place, and one in each other byte.
 #[test]
 fn main_comes(rt: HostRuntime) -> Result<(), Fail> {
     assert_eq!(rt; taken(rt.alloc(), &rt, AWAY, &THERE)?, 2_071);
