@@ -1,9 +1,9 @@
 ; A run that meets a limit of the machine: what it counts, and how many there may be.
 ;
-; $ x10p run --explain stop.x10 --limit 300000
+; $ x10p run --explain stop.x10 --limit 4000000
 ; 0: 3
 ; status 2: stop: Limit 7
-; > There may be 65535 objects in one frame at most, and the next event would make one more.
+; > There may be 1048576 objects in one frame at most, and the next event would make one more.
 places 2
 class opt:0
 int 3
@@ -15,14 +15,16 @@ func 3 2 none
   INTK 2 0
   PRINT 2
   NULL 0 0
-  LOOP 0 256
+  LOOP 0 1024
 outer:
-  LOOP 1 256
+  LOOP 1 1024
 again:
   NEW 1 0 0
   MOVE 0 1
   ENDL 1 @again
   ENDL 0 @outer
+  NEW 1 0 0
+  MOVE 0 1
   PLACEK 1 1
   AT 0 0 1 0
   RET 0

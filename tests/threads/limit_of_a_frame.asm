@@ -1,17 +1,17 @@
-; A frame takes along 65,535 objects at most. With threads too the run stops at an AT of one more, by limit 7. What main
+; A frame takes along 1,048,576 objects at most. With threads too the run stops at an AT of one more, by limit 7. What main
 ; printed in an earlier turn is told. The 7 is printed in the turn in which the place stops: this turn isn't posted.
 ;
 ; $ x10p run limit_of_a_frame.x10 --threads
 ; 0: 3
 ; status 2: stop: Limit 7
-; $ x10p run limit_of_a_frame.x10 --limit 300000
+; $ x10p run limit_of_a_frame.x10 --limit 4000000
 ; 0: 3
 ; 0: 7
 ; status 2: stop: Limit 7
 ; $ x10p run limit_of_a_frame.x10 --threads --explain
 ; 0: 3
 ; status 2: stop: Limit 7
-; > There may be 65535 objects in one frame at most, and the next event would make one more.
+; > There may be 1048576 objects in one frame at most, and the next event would make one more.
 places 2
 class opt:0
 int 3
@@ -24,14 +24,16 @@ func 3 2 none
   INTK 2 0
   PRINT 2
   NULL 0 0
-  LOOP 0 256
+  LOOP 0 1024
 outer:
-  LOOP 1 256
+  LOOP 1 1024
 again:
   NEW 1 0 0
   MOVE 0 1
   ENDL 1 @again
   ENDL 0 @outer
+  NEW 1 0 0
+  MOVE 0 1
   INTK 2 1
   PRINT 2
   PLACEK 1 1

@@ -7,6 +7,7 @@ use x10_asm::AsmFault;
 use x10_bounds::{BoundFault, bounds};
 use x10_explain::{explain_asm, explain_image, explain_verify};
 use x10_image::ImageView;
+use x10_model::limits::MOST_WIDE;
 use x10_verify::{VerifyCause, VerifyFault};
 
 /// Sentences on a fault of a task over the bytes of its file, a line each; none where there is nothing to add.
@@ -105,22 +106,22 @@ fn of_count(alloc: Global, which: u8) -> Result<String, AllocError> {
 }
 
 /// What a limit of the machine counts, and how many there may be.
-fn counted(which: u8) -> (&'static str, &'static str) {
+fn counted(which: u8) -> (&'static str, u64) {
     match which {
-        1 => ("objects at one place", "4294967295"),
-        2 => ("texts at one place", "4294967295"),
-        3 => ("rails at one place", "4294967295"),
-        4 => ("global references at one place", "4294967295"),
-        5 => ("finishes at one place", "4294967295"),
+        1 => ("objects at one place", u64::from(u32::MAX)),
+        2 => ("texts at one place", u64::from(u32::MAX)),
+        3 => ("rails at one place", u64::from(u32::MAX)),
+        4 => ("global references at one place", u64::from(u32::MAX)),
+        5 => ("finishes at one place", u64::from(u32::MAX)),
         6 => (
             "activities under one finish, at one place or from one place to another,",
-            "4294967295",
+            u64::from(u32::MAX),
         ),
-        7 => ("objects in one frame", "65535"),
-        8 => ("texts in one frame", "65535"),
-        9 => ("rails in one frame", "65535"),
-        10 => ("keys of activities at one place", "4294967295"),
-        _ => ("frames in one run", "18446744073709551615"),
+        7 => ("objects in one frame", u64::from(MOST_WIDE)),
+        8 => ("texts in one frame", u64::from(MOST_WIDE)),
+        9 => ("rails in one frame", u64::from(MOST_WIDE)),
+        10 => ("keys of activities at one place", u64::from(u32::MAX)),
+        _ => ("frames in one run", u64::MAX),
     }
 }
 

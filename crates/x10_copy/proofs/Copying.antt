@@ -13,7 +13,8 @@ use Rattle.x10_model.specs.Copies as copies
 use Rattle.x10_model.specs.Copies.{named, AreNamesOf, IsCopy}
 use Rattle.x10_model.specs.Marshalling as marshalling
 use Rattle.x10_model.specs.Marshalling.{text_or_empty, value_of, snapshot_of}
-use Rattle.x10_model.specs.Frames.{Narrow, Node, Tables, tables_of, none, uses, turn, used_after, FitsItem, FitsItems, FitsGraph}
+use Rattle.x10_model.specs.declared.version.FrameVersion.TheVariants.{Wide}
+use Rattle.x10_model.specs.Frames.{Node, Tables, tables_of, none, uses, turn, used_after, FitsItem, FitsItems, FitsGraph}
 use Rattle.x10_copy.specs.Names.{Names, number, item_of, items_of, IsFound, AreFound}
 use Rattle.x10_copy.specs.Graphs.{kinds_at, no_object, object_at, text_at, rail_at, node_of, nodes_of, graph_of, AreOnce, AreThere}
 use Rattle.x10_copy.proofs.Position.{number_there}
@@ -129,7 +130,7 @@ mapped texts ns k node m e f =
 
 pub is_copy : (x : Context) (cells : Cells) (n : Names) (kinds : List Kind) (words : List ℕ) (values : List Value) (most : ℕ) → HoldsHeap x cells
     → AreWordsOf x kinds words values → AreOnce n → AreThere x.heap n
-    → FitsGraph Narrow x.places most (graph_of x.classes x.heap n kinds words)
+    → FitsGraph Wide x.places most (graph_of x.classes x.heap n kinds words)
     → IsCopy cells values (snapshot_of (graph_of x.classes x.heap n kinds words)) (names_of n)
 is_copy x cells n kinds words values most holds stand once there fits =
     let g = graph_of x.classes x.heap n kinds words in

@@ -2,10 +2,12 @@
 use Rattle.std.proofs.Common.{◌≡◌, ℕ, ◌<◌, ◌≤◌, ◌^◌, List, ◌++◌, length, take, map, refl, sym, ap, subst, ◌∙◌, arith, flat_map}
 use Rattle.std.specs.List.{AllByRecursion}
 use Rattle.std.proofs.lemmas.List.{take_all, length-map}
+use Rattle.x10_model.specs.declared.limits.TheConstants.{MOST_WIDE}
 use Rattle.x10_kinds.specs.declared.kind.Kind.{Kind}
 use Rattle.x10_heap.specs.Heaps.{HeapState}
 use Rattle.x10_model.specs.Modules.{FitsText}
-use Rattle.x10_model.specs.Frames.{Narrow, Tables, tables_of, none, Turn, turn, next_turn, FitsItems, FitsRail, FitsNode, FitsGraph, spelling, item_bytes, blob_bytes, node_bytes}
+use Rattle.x10_model.specs.declared.version.FrameVersion.TheVariants.{Wide}
+use Rattle.x10_model.specs.Frames.{Tables, tables_of, none, Turn, turn, next_turn, FitsItems, FitsRail, FitsNode, FitsGraph, spelling, item_bytes, blob_bytes, node_bytes}
 use Rattle.x10_model.specs.Readers.{FitsEach, after_all}
 use Rattle.x10_frame.specs.declared.head.Head.{Head}
 use Rattle.x10_frame.specs.Heads.{with_graph, most_roots}
@@ -19,10 +21,10 @@ use Rattle.x10_copy.proofs.OfKinds.{fit_their_kinds}
 
 pub drafted : (h : Head) (classes : List (List Kind)) (heap : HeapState) (n : Names) (kinds : List Kind) (words : List ℕ) (roots texts rails nodes : ℕ) (w1 w2 w3 w4 w5 : List ℕ) → AreWords kinds words
     → roots ≡ length words → texts ≡ length n.texts → rails ≡ length n.rails → nodes ≡ length n.objects
-    → w1 ≡ head_bytes h ++ sizes_bytes roots texts rails nodes → w2 ≡ w1 ++ flat_map (item_bytes Narrow) (items_of n kinds words)
+    → w1 ≡ head_bytes Wide h ++ sizes_bytes Wide roots texts rails nodes → w2 ≡ w1 ++ flat_map (item_bytes Wide) (items_of n kinds words)
     → w3 ≡ w2 ++ flat_map blob_bytes (map (text_at heap) n.texts)
-    → w4 ≡ w3 ++ flat_map blob_bytes (map (rail_at heap) n.rails) → w5 ≡ w4 ++ flat_map (node_bytes Narrow) (nodes_of classes heap n n.objects)
-    → w5 ≡ draft h (graph_of classes heap n kinds words)
+    → w4 ≡ w3 ++ flat_map blob_bytes (map (rail_at heap) n.rails) → w5 ≡ w4 ++ flat_map (node_bytes Wide) (nodes_of classes heap n n.objects)
+    → w5 ≡ draft Wide h (graph_of classes heap n kinds words)
 drafted h classes heap n kinds words roots texts rails nodes w1 w2 w3 w4 w5 ok er et el en e1 e2 e3 e4 e5 =
     let g = graph_of classes heap n kinds words in
     let fr : roots ≡ length g.roots = er ∙ sym (items_count n kinds words ok) in
@@ -37,9 +39,9 @@ tables_are classes heap n kinds words = rw (length-map n.texts (text_at heap), l
 
 graph_fits : (classes : List (List Kind)) (places : ℕ) (heap : HeapState) (kinds : List Kind) (words : List ℕ) (most : ℕ) (n : Names) → AreWords kinds words
     → length words ≤ most
-    → length n.texts < 2 ^ 16 → length n.rails < 2 ^ 16 → length n.objects < 2 ^ 16 → AllByRecursion FitsText (map (text_at heap) n.texts)
+    → length n.texts ≤ MOST_WIDE → length n.rails ≤ MOST_WIDE → length n.objects ≤ MOST_WIDE → AllByRecursion FitsText (map (text_at heap) n.texts)
     → AllByRecursion FitsRail (map (rail_at heap) n.rails)
-    → Walked classes places heap kinds words (length n.objects) n → FitsGraph Narrow places most (graph_of classes heap n kinds words)
+    → Walked classes places heap kinds words (length n.objects) n → FitsGraph Wide places most (graph_of classes heap n kinds words)
 graph_fits classes places heap kinds words most n ok few ft fl fo texts rails h =
     let e = tables_are classes heap n kinds words in
     let all : take (length n.objects) n.objects ≡ n.objects = take_all (length n.objects) n.objects (omega arith) in
@@ -61,9 +63,9 @@ graph_fits classes places heap kinds words most n ok few ft fl fo texts rails h 
 
 pub captured_is : (classes : List (List Kind)) (places : ℕ) (heap : HeapState) (kinds : List Kind) (words : List ℕ) (head : Head) (bytes : List ℕ) (n : Names)
     → AreWords kinds words → length words ≤ most_roots head
-    → (length n.texts < 2 ^ 16) × (length n.rails < 2 ^ 16) × (length n.objects < 2 ^ 16) → AllByRecursion FitsText (map (text_at heap) n.texts)
+    → (length n.texts ≤ MOST_WIDE) × (length n.rails ≤ MOST_WIDE) × (length n.objects ≤ MOST_WIDE) → AllByRecursion FitsText (map (text_at heap) n.texts)
     → AllByRecursion FitsRail (map (rail_at heap) n.rails)
-    → Walked classes places heap kinds words (length n.objects) n → bytes ≡ spelling Narrow (with_graph head (graph_of classes heap n kinds words))
+    → Walked classes places heap kinds words (length n.objects) n → bytes ≡ spelling Wide (with_graph head (graph_of classes heap n kinds words))
     → AreSound places heap kinds words → ((p : ℕ) → p < length heap.objects → IsSoundAt classes places heap p)
     → IsCaptured classes places heap kinds words head bytes
 captured_is classes places heap kinds words head bytes n ok most few texts rails h e sound all = record {

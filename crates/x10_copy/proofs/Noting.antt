@@ -4,6 +4,7 @@ use Rattle.x10_kinds.specs.declared.kind.Kind.{Kind}
 use Rattle.x10_kinds.specs.declared.kind.Kind.TheVariants as kind
 use Rattle.x10_kinds.specs.declared.stop.Stop.{Stop}
 use Rattle.std.proofs.lemmas.List.{drop_all, length-map}
+use Rattle.x10_model.specs.declared.limits.TheConstants.{MOST_WIDE}
 use Rattle.x10_model.specs.declared.slot.Slot.{Slot}
 use Rattle.x10_copy.specs.Names.{Names, with_new, noted, noted_all, IsWord, AreWords}
 use Rattle.x10_copy.specs.Captured.{IsOver, kinds_of}
@@ -123,7 +124,7 @@ all_extend n [] (w ∷ ws) = extends_same n
 all_extend n (k ∷ ks) [] = extends_same n
 all_extend n (k ∷ ks) (w ∷ ws) = extends_on n (noted n k w) (noted_all (noted n k w) ks ws) (noted_extends n k w) (all_extend (noted n k w) ks ws)
 
-more_long : (xs ys more : List ℕ) → ys ≡ xs ++ more → 65535 < length xs → 65535 < length ys
+more_long : (xs ys more : List ℕ) → ys ≡ xs ++ more → MOST_WIDE < length xs → MOST_WIDE < length ys
 more_long xs ys more e lt = omega (arith, ap length e, length-append xs more)
 
 pub over_more : (n m : Names) (why : Stop) → Extends n m → IsOver n why → IsOver m why

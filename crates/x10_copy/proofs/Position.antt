@@ -2,6 +2,7 @@
 use Rattle.std.proofs.Common.{◌≡◌, ℕ, zero, suc, ◌+◌, ◌<◌, ◌≤◌, Bool, false, eqb, ltb, List, [], ◌∷◌, ◌++◌, length, get_or, set, max, refl, sym, ap, subst, ◌∙◌, inl, inr, arith, append-nil, eq-eqb, lt-ltb, le-ltb}
 use Rattle.std.proofs.lemmas.Bool.{cases_lt, cases_eq, ne_eqb, ltb-false}
 use Rattle.std.proofs.lemmas.List.{get_or_append_left, get_or_push, length_push, get_or-set_same, get_or-set_other, length-set}
+use Rattle.x10_model.specs.declared.limits.TheConstants.{MOST_WIDE}
 use Rattle.x10_copy.specs.Names.{number, with_new}
 use Rattle.x10_copy.specs.Numbered.{AreNumbered}
 
@@ -118,7 +119,7 @@ still_numbered places parts more h le same_there = record {
 }
 
 -- a new part gets the next number
-pub numbered_more : (places parts : List ℕ) (part : ℕ) → AreNumbered places parts → length parts < 65535 → part < length places
+pub numbered_more : (places parts : List ℕ) (part : ℕ) → AreNumbered places parts → length parts < MOST_WIDE → part < length places
     → length parts ≤ number parts part → AreNumbered (set places part (length parts)) (parts ++ part ∷ [])
 numbered_more places parts part h few at new = record {
   few = omega (arith, length_push parts part);
@@ -137,7 +138,7 @@ numbered_more places parts part h few at new = record {
 -- the same by what the calls answered
 pub numbered_next : (places grown parts new : List ℕ) (part count : ℕ) → AreNumbered places parts → length places ≤ length grown
     → ((k : ℕ) → k < length places → get_or grown k 0 ≡ get_or places k 0)
-    → count ≡ length parts → count < 65535 → part < length grown → ltb (number parts part) (length parts) ≡ false → new ≡ parts ++ part ∷ []
+    → count ≡ length parts → count < MOST_WIDE → part < length grown → ltb (number parts part) (length parts) ≡ false → new ≡ parts ++ part ∷ []
     → AreNumbered (set grown part count) new
 numbered_next places grown parts new part count h longer kept is few at new_part e =
     rw (e, is) (numbered_more grown parts part (still_numbered places parts grown h longer kept) (omega (arith, is, few)) at

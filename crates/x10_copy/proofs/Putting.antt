@@ -5,7 +5,8 @@ use Rattle.std.specs.Int.{w16, to_be_bytes}
 use Rattle.std.proofs.lemmas.List.{drop_more, drop_all}
 use Rattle.x10_kinds.specs.declared.kind.Kind.{Kind}
 use Rattle.x10_heap.specs.Heaps.{HeapState}
-use Rattle.x10_model.specs.Frames.{Narrow, Item, item_bytes, node_bytes}
+use Rattle.x10_model.specs.declared.version.FrameVersion.TheVariants.{Wide}
+use Rattle.x10_model.specs.Frames.{Item, item_bytes, node_bytes}
 use Rattle.x10_copy.specs.Names.{Names, item_of, items_of, IsFound, AreFound, AreWords}
 use Rattle.x10_copy.specs.Graphs.{kinds_at, object_at, node_of}
 use Rattle.x10_copy.specs.Walks.{AllFound}
@@ -64,12 +65,12 @@ found_at n (j ∷ ks) (v ∷ ws) zero k w h e f =
 found_at n (j ∷ ks) (v ∷ ws) (suc i) k w h e f = found_at n ks ws i k w h.1 e f
 
 pub one_item : (n : Names) (ks : List Kind) (ws : List ℕ) (i : ℕ) (k : Kind) (w : ℕ) (start now new : List ℕ) (x : Item)
-    → IsLeft (item_bytes Narrow) start (items_of n ks ws) now (items_of n (drop i ks) (drop i ws))
-    → slice_get ks i ≡ Some k → slice_get ws i ≡ Some w → x ≡ item_of n k w → new ≡ now ++ item_bytes Narrow x
-    → IsLeft (item_bytes Narrow) start (items_of n ks ws) new (items_of n (drop (i + 1) ks) (drop (i + 1) ws))
+    → IsLeft (item_bytes Wide) start (items_of n ks ws) now (items_of n (drop i ks) (drop i ws))
+    → slice_get ks i ≡ Some k → slice_get ws i ≡ Some w → x ≡ item_of n k w → new ≡ now ++ item_bytes Wide x
+    → IsLeft (item_bytes Wide) start (items_of n ks ws) new (items_of n (drop (i + 1) ks) (drop (i + 1) ws))
 one_item n ks ws i k w start now new x h e f is new_is =
-    left_next (item_bytes Narrow) start (items_of n ks ws) now new (items_of n (drop i ks) (drop i ws)) (items_of n (drop (i + 1) ks) (drop (i + 1) ws))
-    (item_of n k w) h (items_step n ks ws i k w e f) (new_is ∙ ap (λ (y : Item). now ++ item_bytes Narrow y) is)
+    left_next (item_bytes Wide) start (items_of n ks ws) now new (items_of n (drop i ks) (drop i ws)) (items_of n (drop (i + 1) ks) (drop (i + 1) ws))
+    (item_of n k w) h (items_step n ks ws i k w e f) (new_is ∙ ap (λ (y : Item). now ++ item_bytes Wide y) is)
 
 -- ---- parts by their names
 
@@ -107,14 +108,14 @@ items_count n (k ∷ ks) (w ∷ ws) h = ap suc (items_count n ks ws h.1)
 pub node_written : (classes : List (List Kind)) (heap : HeapState) (n : Names) (p class count : ℕ) (start begun new : List ℕ)
     → AreWords (kinds_at classes (object_at heap p).class) (object_at heap p).fields
     → class ≡ (object_at heap p).class → count ≡ length (object_at heap p).fields → begun ≡ start ++ (to_be_bytes w16 class ++ count ∷ [])
-    → new ≡ begun ++ flat_map (item_bytes Narrow) (items_of n (kinds_at classes (object_at heap p).class) (object_at heap p).fields)
-    → new ≡ start ++ node_bytes Narrow (node_of classes n (object_at heap p))
+    → new ≡ begun ++ flat_map (item_bytes Wide) (items_of n (kinds_at classes (object_at heap p).class) (object_at heap p).fields)
+    → new ≡ start ++ node_bytes Wide (node_of classes n (object_at heap p))
 unfolding node_bytes
 node_written classes heap n p class count start begun new words ce le be ne =
     let o = object_at heap p in
     let is = items_of n (kinds_at classes o.class) o.fields in
     let long : length is ≡ count = items_count n (kinds_at classes o.class) o.fields words ∙ sym le in
-    ne ∙ ap (λ (l : List ℕ). l ++ flat_map (item_bytes Narrow) is) be ∙ append_assoc start (to_be_bytes w16 class ++ count ∷ []) (flat_map (item_bytes Narrow) is)
-    ∙ ap (λ (l : List ℕ). start ++ l) (append_assoc (to_be_bytes w16 class) (count ∷ []) (flat_map (item_bytes Narrow) is))
-    ∙ ap (λ (c : ℕ). start ++ (to_be_bytes w16 c ++ (count ∷ flat_map (item_bytes Narrow) is))) ce
-    ∙ ap (λ (m : ℕ). start ++ (to_be_bytes w16 o.class ++ (m ∷ flat_map (item_bytes Narrow) is))) (sym long)
+    ne ∙ ap (λ (l : List ℕ). l ++ flat_map (item_bytes Wide) is) be ∙ append_assoc start (to_be_bytes w16 class ++ count ∷ []) (flat_map (item_bytes Wide) is)
+    ∙ ap (λ (l : List ℕ). start ++ l) (append_assoc (to_be_bytes w16 class) (count ∷ []) (flat_map (item_bytes Wide) is))
+    ∙ ap (λ (c : ℕ). start ++ (to_be_bytes w16 c ++ (count ∷ flat_map (item_bytes Wide) is))) ce
+    ∙ ap (λ (m : ℕ). start ++ (to_be_bytes w16 o.class ++ (m ∷ flat_map (item_bytes Wide) is))) (sym long)

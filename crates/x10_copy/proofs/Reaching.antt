@@ -7,7 +7,8 @@ use Rattle.x10_model.specs.Values.{Value, Rail, Object}
 use Rattle.x10_model.specs.Copies as copies
 use Rattle.x10_model.specs.Copies.{Snapshot, IsReached, root, field, IsInside, IsWhole}
 use Rattle.x10_model.specs.Marshalling.{value_of, node_of, snapshot_of}
-use Rattle.x10_model.specs.Frames.{Narrow, Item, IntItem, PlaceItem, TextItem, RailItem, ObjectItem, NullItem, RefItem, Node, Graph, Tables, tables_of, none, uses, used_after, Turn, turn, next_turn, FitsItem, FitsItems, FitsNode, FitsGraph}
+use Rattle.x10_model.specs.declared.version.FrameVersion.TheVariants.{Wide}
+use Rattle.x10_model.specs.Frames.{Item, IntItem, PlaceItem, TextItem, RailItem, ObjectItem, NullItem, RefItem, Node, Graph, Tables, tables_of, none, uses, used_after, Turn, turn, next_turn, FitsItem, FitsItems, FitsNode, FitsGraph}
 use Rattle.x10_model.specs.Readers.{FitsEach, after_all}
 
 -- what was used so far is reached
@@ -90,7 +91,7 @@ nodes_inside g places t (n ∷ ns) f zero node v e is =
     items_inside g places t.used n.fields f.0.fields is.0 v (ap (λ (m : copies.Node). slice_get m.fields is.0) same ∙ is.1)
 nodes_inside g places t (n ∷ ns) f (suc k) node v e is = nodes_inside g places (next_turn t n) ns f.1 k node v e is
 
-pub whole : (places most : ℕ) (g : Graph) → FitsGraph Narrow places most g → IsWhole (snapshot_of g)
+pub whole : (places most : ℕ) (g : Graph) → FitsGraph Wide places most g → IsWhole (snapshot_of g)
 whole places most g h =
     let s = snapshot_of g in
     let nothing : Upto s none = record { nodes = λ k lt. absurd (omega (arith, lt)); rails = λ i lt. absurd (omega (arith, lt)) } in

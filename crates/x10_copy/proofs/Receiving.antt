@@ -11,6 +11,7 @@ use Rattle.x10_model.specs.Copies.{Snapshot}
 use Rattle.x10_model.specs.Deliveries.{IsExported, NamesExports}
 use Rattle.x10_model.specs.Marshalling.{snapshot_of}
 use Rattle.x10_model.specs.Frames.{Frame}
+use Rattle.x10_model.specs.declared.version.FrameVersion.TheVariants.{Wide}
 use Rattle.x10_frame.specs.Heads.{graph_of}
 use Rattle.x10_frame.proofs.Shows.{graph_fits}
 use Rattle.x10_copy.specs.Captured.{kinds_of, FitTheirKinds}
@@ -69,5 +70,5 @@ taken m here home heap slots f roots new h few x cells classes_are here_is heap_
     let kinds = of_classes m x slots (snapshot_of g) classes_are k.fits.kinds in
     let named = all_named x (snapshot_of g) k.fits.exports elsewhere in
     rw (k.roots_are, k.heap_is)
-    (takes_in x g cells holds (kinds_of slots) 16 places (graph_fits x.places f fits) kinds named (omega (arith, within.objects_few)) (omega (arith, within.texts_few))
+    (takes_in x g cells holds (kinds_of slots) 16 places (graph_fits Wide x.places f fits) kinds named (omega (arith, within.objects_few)) (omega (arith, within.texts_few))
     (omega (arith, within.rails_few)))

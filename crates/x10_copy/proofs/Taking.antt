@@ -17,7 +17,8 @@ use Rattle.x10_model.specs.Copies as copies
 use Rattle.x10_model.specs.Copies.{Snapshot, named, IsNodeOf, IsOfKindIn, AreNamesOf, IsCopy, IsName, Arrives}
 use Rattle.x10_model.specs.Marshalling as marshalling
 use Rattle.x10_model.specs.Marshalling.{text_or_empty, value_of, snapshot_of}
-use Rattle.x10_model.specs.Frames.{Narrow, Item, IntItem, PlaceItem, TextItem, RailItem, ObjectItem, NullItem, RefItem, Node, Graph, Tables, tables_of, none, uses, turn, used_after, FitsItem, FitsItems, FitsGraph}
+use Rattle.x10_model.specs.declared.version.FrameVersion.TheVariants.{Wide}
+use Rattle.x10_model.specs.Frames.{Item, IntItem, PlaceItem, TextItem, RailItem, ObjectItem, NullItem, RefItem, Node, Graph, Tables, tables_of, none, uses, turn, used_after, FitsItem, FitsItems, FitsGraph}
 use Rattle.x10_model.proofs.Decided.{get_below}
 use Rattle.x10_copy.specs.Names.{Names}
 use Rattle.x10_copy.specs.Captured.{FitTheirKinds}
@@ -339,7 +340,7 @@ module _ (x : Context) (g : Graph) where
 
       -- ---- the heap
 
-      module _ (kinds : List Kind) (most : ℕ) (few : x.places ≤ 2 ^ 16) (fits : FitsGraph Narrow x.places most g)
+      module _ (kinds : List Kind) (most : ℕ) (few : x.places ≤ 2 ^ 16) (fits : FitsGraph Wide x.places most g)
           (of_kinds : FitTheirKinds x.classes kinds s) (are_named : AreNamed x s) where
         abbrev Holds : ℕ → Type 0
         Holds m = HoldsObject y (slice_get new.objects m) (after (2 * m))

@@ -2,6 +2,7 @@
 use Rattle.std.proofs.Common.{◌≡◌, ℕ, zero, suc, ◌+◌, ◌-◌, ◌<◌, ◌≤◌, ◌^◌, List, [], ◌∷◌, ◌++◌, length, get_or, take, Some, slice_get, refl, sym, ap, subst, ◌∙◌, inl, inr, arith, length-append, add-one}
 use Rattle.std.proofs.lemmas.List.{get_or_append_left, take-append-le, take_more, map_push}
 use Rattle.std.proofs.lemmas.Option.{slice_get-get_or, slice_get_within, get_or_from_slice_get}
+use Rattle.x10_model.specs.declared.limits.TheConstants.{MOST_WIDE}
 use Rattle.x10_kinds.specs.declared.kind.Kind.{Kind}
 use Rattle.x10_kinds.specs.declared.kind.Kind.TheVariants as kind
 use Rattle.x10_kinds.specs.declared.stop.Stop.{Stop}
@@ -89,7 +90,7 @@ module _ (classes : List (List Kind)) (heap : HeapState) (kinds : List Kind) (wo
   abbrev Met : Names → Type 0
   Met n = EachPart (MeetsText classes heap kinds words) (MeetsRail classes heap kinds words) (MeetsObject classes heap kinds words) n
 
-  many : (P : ℕ → Type 0) (xs : List ℕ) → AreDistinct xs → 65535 < length xs → ((i : ℕ) → i < length xs → P (get_or xs i 0)) → AreMany P
+  many : (P : ℕ → Type 0) (xs : List ℕ) → AreDistinct xs → MOST_WIDE < length xs → ((i : ℕ) → i < length xs → P (get_or xs i 0)) → AreMany P
   many P xs d lt h = record {
     parts = xs;
     distinct = d;

@@ -1,5 +1,6 @@
 -- What a capture answers.
 use Rattle.std.specs.Prelude.{◌≡◌, ℕ, ◌+◌, ◌<◌, ◌⊎◌, List, map, length, Some, slice_get}
+use Rattle.x10_model.specs.declared.limits.TheConstants.{MOST_WIDE}
 use Rattle.x10_kinds.specs.declared.kind.Kind.{Kind}
 use Rattle.x10_kinds.specs.declared.kind.Kind.TheVariants as kind
 use Rattle.x10_kinds.specs.declared.stop.Stop.{Stop}
@@ -9,7 +10,8 @@ use Rattle.x10_heap.specs.Words.{Context, AreWordsOf, HoldsHeap}
 use Rattle.x10_model.specs.declared.slot.Slot.{Slot}
 use Rattle.x10_model.specs.Maps.{IsIn, AreDistinct}
 use Rattle.x10_model.specs.Values.{Value, Cells}
-use Rattle.x10_model.specs.Frames.{Narrow, Graph, FitsGraph, spelling}
+use Rattle.x10_model.specs.declared.version.FrameVersion.TheVariants.{Wide}
+use Rattle.x10_model.specs.Frames.{Graph, FitsGraph, spelling}
 use Rattle.x10_model.specs.Copies.{Node, Snapshot, IsOfKindIn, Captures}
 use Rattle.x10_model.specs.Signatures.{AreOfKinds}
 use Rattle.x10_model.specs.Marshalling.{snapshot_of}
@@ -34,16 +36,16 @@ pub record IsCaptured (classes : List (List Kind)) (places : ℕ) (heap : HeapSt
   pub names : Names
   pub once : AreOnce names
   pub there : AreThere heap names
-  pub fits : FitsGraph Narrow places (most_roots head) (graph_of classes heap names kinds words)
-  pub spelled : bytes ≡ spelling Narrow (with_graph head (graph_of classes heap names kinds words))
+  pub fits : FitsGraph Wide places (most_roots head) (graph_of classes heap names kinds words)
+  pub spelled : bytes ≡ spelling Wide (with_graph head (graph_of classes heap names kinds words))
   pub of_kinds : FitTheirKinds classes kinds (snapshot_of (graph_of classes heap names kinds words))
 
 -- The same by the machine's definitions, where cells stand for the heap and values for the words: the frame's graph is a
 -- snapshot of the values, with sharing and cycles kept, and each global reference in it names an object.
 pub record IsSnapshot (x : Context) (cells : Cells) (kinds : List Kind) (values : List Value) (head : Head) (bytes : List ℕ) : Type 0 where
   pub graph : Graph
-  pub fits : FitsGraph Narrow x.places (most_roots head) graph
-  pub spelled : bytes ≡ spelling Narrow (with_graph head graph)
+  pub fits : FitsGraph Wide x.places (most_roots head) graph
+  pub spelled : bytes ≡ spelling Wide (with_graph head graph)
   pub of_kinds : FitTheirKinds x.classes kinds (snapshot_of graph)
   pub captures : Captures cells values (snapshot_of graph)
   pub named : AreNamed x (snapshot_of graph)
@@ -83,15 +85,15 @@ MeetsObject classes heap kinds words p = (holder : Kind) × Leads holder × IsMe
 abbrev pub IsOver : Names → Stop → Type 0
 IsOver n why =
     (why ≡ stop.Memory)
-    ⊎ ((why ≡ stop.Limit 7) × (65535 < length n.objects))
-    ⊎ ((why ≡ stop.Limit 8) × (65535 < length n.texts))
-    ⊎ ((why ≡ stop.Limit 9) × (65535 < length n.rails))
+    ⊎ ((why ≡ stop.Limit 7) × (MOST_WIDE < length n.objects))
+    ⊎ ((why ≡ stop.Limit 8) × (MOST_WIDE < length n.texts))
+    ⊎ ((why ≡ stop.Limit 9) × (MOST_WIDE < length n.rails))
 
--- more than 65,535 parts
+-- more parts than a frame may have of them
 pub record AreMany (Meets : ℕ → Type 0) : Type 0 where
   pub parts : List ℕ
   pub distinct : AreDistinct parts
-  pub many : 65535 < length parts
+  pub many : MOST_WIDE < length parts
   pub met : (p : ℕ) → IsIn p parts → Meets p
 
 -- Why there is no frame: memory was refused, or the words meet more nodes, texts or rails than a frame may have.

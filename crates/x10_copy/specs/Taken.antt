@@ -8,7 +8,8 @@ use Rattle.x10_model.specs.Modules.{Module}
 use Rattle.x10_model.specs.Values.{Value, Cells}
 use Rattle.x10_model.specs.Copies.{Snapshot, Arrives}
 use Rattle.x10_model.specs.Marshalling.{snapshot_of}
-use Rattle.x10_model.specs.Frames.{Narrow, Frame, FitsFrame}
+use Rattle.x10_model.specs.declared.version.FrameVersion.TheVariants.{Wide}
+use Rattle.x10_model.specs.Frames.{Frame, FitsFrame}
 use Rattle.x10_frame.specs.Heads.{graph_of}
 use Rattle.x10_copy.specs.Captured.{kinds_of}
 use Rattle.x10_copy.specs.References.{AreNamedElsewhere}
@@ -31,6 +32,6 @@ pub record TakesIn (x : Context) (old : Cells) (s : Snapshot) (kinds : List Kind
 -- among them.
 abbrev pub IsTakenIn : Module → (here : ℕ) → HeapState → List Slot → Frame → (roots : List ℕ) → HeapState → Type 0
 IsTakenIn m here heap slots f roots new =
-    (x : Context) (cells : Cells) → x.classes ≡ m.classes → x.here ≡ here → x.heap ≡ heap → x.places ≤ 2 ^ 16 → FitsFrame Narrow x.places f
+    (x : Context) (cells : Cells) → x.classes ≡ m.classes → x.here ≡ here → x.heap ≡ heap → x.places ≤ 2 ^ 16 → FitsFrame Wide x.places f
     → AreNamedElsewhere x (snapshot_of (graph_of f)) → HoldsHeap x cells
     → TakesIn x cells (snapshot_of (graph_of f)) (kinds_of slots) roots new

@@ -1,9 +1,11 @@
 //! What a message takes along, as the bytes of a frame.
 
-ghost use Rattle.std.specs.Prelude.{◌≡◌, ◌<◌, ◌≤◌, ◌^◌, IfOk, IfErr, length, map};
+ghost use Rattle.std.specs.Prelude.{◌≡◌, ◌<◌, ◌≤◌, IfOk, IfErr, length, map};
 ghost use Rattle.std.specs.List.{AllByRecursion};
+ghost use Rattle.x10_model.specs.declared.limits.TheConstants.{MOST_WIDE};
 ghost use Rattle.x10_model.specs.Modules.{FitsText};
-ghost use Rattle.x10_model.specs.Frames.{Narrow, FitsRail, spelling};
+ghost use Rattle.x10_model.specs.declared.version.FrameVersion.TheVariants.{Wide};
+ghost use Rattle.x10_model.specs.Frames.{FitsRail, spelling};
 ghost use Rattle.x10_frame.specs.Heads.{IsGraphHead, with_graph, most_roots};
 ghost use Rattle.x10_copy.specs.Names.{AreWords, AreFound, AreSound};
 ghost use Rattle.x10_copy.specs.Graphs.{AreThere, text_at, rail_at, graph_of, AreWordy, IsSoundHeap};
@@ -21,7 +23,7 @@ use x10_kinds::Stop;
 use x10_model::Slot;
 
 /// The most bytes before the roots, in a frame with a graph.
-const HEAD: usize = 26;
+const HEAD: usize = 32;
 
 /// How many bytes come before each text's or rail's bytes.
 const LENGTH: usize = 4;
@@ -75,16 +77,16 @@ fn written(
     requires there { AreThere heap.now marks.now }
     requires objects { AreWordy image.now.classes heap.now marks.now }
     requires done { AllFound image.now.classes heap.now marks.now marks.now.objects }
-    ensures value { IfOk result (λ bytes. bytes.items ≡ spelling Narrow (with_graph head.now (graph_of image.now.classes heap.now marks.now (kinds_of slots.now) words.now))) }
-    ensures few { (length marks.now.texts < 2 ^ 16) × (length marks.now.rails < 2 ^ 16) × (length marks.now.objects < 2 ^ 16) }
+    ensures value { IfOk result (λ bytes. bytes.items ≡ spelling Wide (with_graph head.now (graph_of image.now.classes heap.now marks.now (kinds_of slots.now) words.now))) }
+    ensures few { (length marks.now.texts ≤ MOST_WIDE) × (length marks.now.rails ≤ MOST_WIDE) × (length marks.now.objects ≤ MOST_WIDE) }
     ensures texts { IfOk result (λ _. AllByRecursion FitsText (map (text_at heap.now) marks.now.texts)) }
     ensures rails { IfOk result (λ _. AllByRecursion FitsRail (map (rail_at heap.now) marks.now.rails)) }
 {
     let sizes = Sizes {
         roots: words.len() as u16,
-        texts: marks.texts() as u16,
-        rails: marks.rails() as u16,
-        nodes: marks.objects() as u16,
+        texts: marks.texts() as u32,
+        rails: marks.rails() as u32,
+        nodes: marks.objects() as u32,
     };
     let writer = FrameWriter::with_room(alloc, head, &sizes, room(marks, heap, words.len()))?;
     let writer = put_roots(writer, marks, slots, words)?;
@@ -96,7 +98,7 @@ fn written(
 
 /// The frame with a head that takes the words along, and all that they lead to: each object, each rail and each text of the
 /// heap once, numbered by first use. What a global reference names is not taken along. `slots` says which kinds the words have.
-/// Refused with Limit 7, 8 or 9 where there are more than 65,535 objects, texts or rails. Linear in what is taken along,
+/// Refused with Limit 7, 8 or 9 where there are more than 1,048,576 objects, texts or rails. Linear in what is taken along,
 /// without recursion; `marks` grows to the number of parts that the heap has, and keeps that memory.
 pub fn capture(
     alloc: Global,

@@ -14,13 +14,13 @@ use x10_model::Slot;
 
 /// Whether there is such an object, and of the class.
 #[inline(always)]
-fn of_class(view: &FrameView, object: u16, class: u16) -> bool
+fn of_class(view: &FrameView, object: u32, class: u16) -> bool
     ensures { result ≡ spec.of_class (slice_get (graph_of view.now).nodes object) class }
 {
-    if usize::from(object) >= view.nodes() {
+    if object as usize >= view.nodes() {
         return false;
     }
-    view.node(usize::from(object)).class() == class
+    view.node(object as usize).class() == class
 }
 
 /// Whether a value is of a kind.
@@ -32,7 +32,7 @@ fn item_fits(view: &FrameView, kind: Kind, item: &Item) -> bool
         (Kind::Int, Item::Int(_)) => true,
         (Kind::Place, Item::Place(_)) => true,
         (Kind::Text, Item::Text(_)) => true,
-        (Kind::Rail, Item::Rail(i)) => usize::from(i) < view.rails(),
+        (Kind::Rail, Item::Rail(i)) => (i as usize) < view.rails(),
         (Kind::Obj(class), Item::Object(k)) => of_class(view, k, class),
         (Kind::Opt(class), Item::Object(k)) => of_class(view, k, class),
         (Kind::Opt(_), Item::Null) => true,

@@ -1,5 +1,6 @@
 ghost use Rattle.std.specs.Prelude.{◌≡◌, ◌<◌, ◌≤◌, IfOk, IfErr, length, slice_index};
 ghost use Rattle.x10_kinds.specs.declared.stop.Stop.TheVariants as stop;
+ghost use Rattle.x10_model.specs.declared.limits.TheConstants.{MOST_WIDE};
 ghost use Rattle.x10_frame.specs.Items.{item_of as item_is};
 ghost use Rattle.x10_copy.specs.Names.{no_names, item_of, noted, IsWord, IsFound};
 ghost use Rattle.x10_copy.specs.Captured.{IsOver};
@@ -41,8 +42,9 @@ impl Model for Marks {
 fn untagged_size(kind: Kind, word: u64) -> usize {
     match kind {
         Kind::Int | Kind::GRef(_) => 8,
+        Kind::Place => 2,
         Kind::Opt(_) if word == 0 => 0,
-        _ => 2,
+        _ => 4,
     }
 }
 
@@ -84,14 +86,14 @@ impl Marks {
 
     pub(crate) fn texts(&self) -> usize
         ensures value { result ≡ length self.now.texts }
-        ensures few { result ≤ 65535 }
+        ensures few { result ≤ MOST_WIDE }
     {
         self.texts.len()
     }
 
     pub(crate) fn rails(&self) -> usize
         ensures value { result ≡ length self.now.rails }
-        ensures few { result ≤ 65535 }
+        ensures few { result ≤ MOST_WIDE }
     {
         self.rails.len()
     }
@@ -99,7 +101,7 @@ impl Marks {
     #[inline(always)]
     pub(crate) fn objects(&self) -> usize
         ensures value { result ≡ length self.now.objects }
-        ensures few { result ≤ 65535 }
+        ensures few { result ≤ MOST_WIDE }
     {
         self.objects.len()
     }

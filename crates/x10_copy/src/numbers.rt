@@ -1,11 +1,13 @@
 ghost use Rattle.std.specs.Prelude.{◌≡◌, ℕ, ◌⊎◌, ◌<◌, ◌≤◌, IfOk, IfErr, [], length, nat_lt, slice_index};
 ghost use Rattle.x10_kinds.specs.declared.stop.Stop.TheVariants as stop;
+ghost use Rattle.x10_model.specs.declared.limits.TheConstants.{MOST_WIDE};
 ghost use Rattle.x10_copy.specs.Names.{number, with_new};
 ghost use Rattle.x10_copy.specs.Numbered.{AreNumbered};
 
 use std::alloc::Global;
 use std::marker::Model;
 use x10_kinds::Stop;
+use x10_model::limits::MOST_WIDE;
 
 /// Some parts of a heap, each with a number of its own, from 0. Clauses see the list of the parts.
 ///
@@ -13,7 +15,7 @@ use x10_kinds::Stop;
 /// has it under the number at its position. So nothing has to be cleared for another message.
 #[derive(Drop)]
 pub struct Numbers {
-    places: Vec<u16>,
+    places: Vec<u32>,
     parts: Vec<u32>,
 }
 
@@ -30,14 +32,14 @@ impl Model for Numbers {
 
 /// Whether a part has a number: `parts` has it under the number at its position.
 #[inline(always)]
-fn is_numbered(places: &[u16], parts: &[u32], part: u32) -> bool
+fn is_numbered(places: &[u32], parts: &[u32], part: u32) -> bool
     requires { AreNumbered places.now parts.now }
     ensures { result ≡ nat_lt (number parts.now part) (length parts.now) }
 {
     if part as usize >= places.len() {
         return false;
     }
-    let k = usize::from(places[part as usize]);
+    let k = places[part as usize] as usize;
     if k >= parts.len() {
         return false;
     }
@@ -46,7 +48,7 @@ fn is_numbered(places: &[u16], parts: &[u32], part: u32) -> bool
 
 /// A position for a part, where there is none yet.
 #[inline(always)]
-fn make_place(places: &mut Vec<u16>, part: u32) -> Result<(), Stop>
+fn make_place(places: &mut Vec<u32>, part: u32) -> Result<(), Stop>
     ensures ok { IfOk result (λ _. part < length places.new.items) }
     ensures err { IfErr result (λ why. why ≡ stop.Memory) }
     ensures longer { length places.old.items ≤ length places.new.items }
@@ -83,7 +85,7 @@ impl Numbers {
     #[inline(always)]
     pub fn len(&self) -> usize
         ensures value { result ≡ length self.now }
-        ensures few { result ≤ 65535 }
+        ensures few { result ≤ MOST_WIDE }
     {
         self.parts.len()
     }
@@ -99,31 +101,31 @@ impl Numbers {
 
     /// The number of a part that has one.
     #[inline(always)]
-    pub fn number(&self, part: u32) -> u16
+    pub fn number(&self, part: u32) -> u32
         requires { number self.now part < length self.now }
         ensures { result ≡ number self.now part }
     {
         self.places[part as usize]
     }
 
-    /// Gives a part the next number, where it has none. Refused where 65,535 have one already, and for lack of memory.
+    /// Gives a part the next number, where it has none. Refused where 1,048,576 have one already, and for lack of memory.
     #[inline(always)]
     pub fn note(&mut self, part: u32, limit: u8) -> Result<(), Stop>
         ensures ok { IfOk result (λ _. self.new ≡ with_new self.old part) }
-        ensures err { IfErr result (λ why. (why ≡ stop.Memory) ⊎ ((why ≡ stop.Limit limit) × (65535 < length (with_new self.old part)))) }
+        ensures err { IfErr result (λ why. (why ≡ stop.Memory) ⊎ ((why ≡ stop.Limit limit) × (MOST_WIDE < length (with_new self.old part)))) }
     {
         if is_numbered(&self.places, &self.parts, part) {
             return Ok(());
         }
         let count = self.parts.len();
-        if count >= 65_535 {
+        if count >= MOST_WIDE as usize {
             return Err(Stop::Limit(limit));
         }
         make_place(&mut self.places, part)?;
         let Ok(()) = self.parts.push(part) else {
             return Err(Stop::Memory);
         };
-        self.places[part as usize] = count as u16;
+        self.places[part as usize] = count as u32;
         Ok(())
     }
 }

@@ -3,7 +3,8 @@
 ghost use Rattle.std.specs.Prelude.{◌≡◌, ℕ, ◌<◌, ◌≤◌, ◌++◌, IfOk, length, map, slice_index};
 ghost use Rattle.std.specs.List.{AllByRecursion, flat_map};
 ghost use Rattle.x10_model.specs.Modules.{FitsText};
-ghost use Rattle.x10_model.specs.Frames.{Narrow, FitsRail, item_bytes, blob_bytes, node_bytes};
+ghost use Rattle.x10_model.specs.declared.version.FrameVersion.TheVariants.{Wide};
+ghost use Rattle.x10_model.specs.Frames.{FitsRail, item_bytes, blob_bytes, node_bytes};
 ghost use Rattle.x10_copy.specs.Names.{items_of, AreWords, AreFound};
 ghost use Rattle.x10_copy.specs.Graphs.{AreThere, kinds_at, object_at, text_at, rail_at, node_of, nodes_of, IsWordy, AreWordy};
 ghost use Rattle.x10_copy.specs.Captured.{kinds_of};
@@ -26,7 +27,7 @@ pub fn put_roots(
 ) -> Result<FrameWriter, AllocError>
     requires words { AreWords (kinds_of slots.now) words.now }
     requires found { AreFound marks.now (kinds_of slots.now) words.now }
-    ensures { IfOk result (λ w. w ≡ writer ++ flat_map (item_bytes Narrow) (items_of marks.now (kinds_of slots.now) words.now)) }
+    ensures { IfOk result (λ w. w ≡ writer ++ flat_map (item_bytes Wide) (items_of marks.now (kinds_of slots.now) words.now)) }
 {
     let mut writer = writer;
     for i in 0..words.len() {
@@ -71,7 +72,7 @@ fn put_fields(
 ) -> Result<FrameWriter, AllocError>
     requires words { AreWords class.now words.now }
     requires found { AreFound marks.now class.now words.now }
-    ensures { IfOk result (λ w. w ≡ writer ++ flat_map (item_bytes Narrow) (items_of marks.now class.now words.now)) }
+    ensures { IfOk result (λ w. w ≡ writer ++ flat_map (item_bytes Wide) (items_of marks.now class.now words.now)) }
 {
     let mut writer = writer;
     for j in 0..words.len() {
@@ -92,7 +93,7 @@ fn put_object(
     requires words { IsWordy image.now.classes heap.now object }
     requires few { length (kinds_at image.now.classes (object_at heap.now object).class) ≤ 16 }
     requires found { AreFound marks.now (kinds_at image.now.classes (object_at heap.now object).class) (object_at heap.now object).fields }
-    ensures { IfOk result (λ w. w ≡ writer ++ node_bytes Narrow (node_of image.now.classes marks.now (object_at heap.now object))) }
+    ensures { IfOk result (λ w. w ≡ writer ++ node_bytes Wide (node_of image.now.classes marks.now (object_at heap.now object))) }
 {
     let number = heap.class(object);
     let class = image.class(usize::from(number));
@@ -130,7 +131,7 @@ pub fn put_objects(
 ) -> Result<FrameWriter, AllocError>
     requires words { AreWordy image.now.classes heap.now marks.now }
     requires found { AllFound image.now.classes heap.now marks.now marks.now.objects }
-    ensures { IfOk result (λ w. w ≡ writer ++ flat_map (node_bytes Narrow) (nodes_of image.now.classes heap.now marks.now marks.now.objects)) }
+    ensures { IfOk result (λ w. w ≡ writer ++ flat_map (node_bytes Wide) (nodes_of image.now.classes heap.now marks.now marks.now.objects)) }
 {
     let mut writer = writer;
     for k in 0..marks.objects() {

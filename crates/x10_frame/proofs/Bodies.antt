@@ -1,7 +1,8 @@
 -- What follows the head of a frame, and where its parts stand.
 use Rattle.std.proofs.Common.{◌≡◌, ℕ, ◌-◌, ◌^◌, List, [], ◌++◌, length, drop, Option, Result, Ok, Err, refl, ◌∙◌}
 use Rattle.std.specs.Int.{w32}
-use Rattle.x10_model.specs.Frames.{Narrow, Graph, Frame, counts_bytes}
+use Rattle.x10_model.specs.declared.version.FrameVersion.{FrameVersion}
+use Rattle.x10_model.specs.Frames.{Graph, Frame, counts_bytes}
 use Rattle.x10_model.specs.Frames as frames
 use Rattle.x10_model.specs.Readers.{Reader, IsBytes, bind, done, number, times}
 use Rattle.x10_model.specs.ReadingFrames.{FrameFault, Short, graph_at}
@@ -35,13 +36,13 @@ with_graph_is (head.Shift from to waiting home number function) g i = record { h
 with_graph_is (head.Back from to waiting) g i = record { head_is = refl; graph_is = refl; sent_is = refl; received_is = refl }
 with_graph_is (head.Report from to number) g i = absurd i
 
-pub graph_body : (places : ℕ) (h : Head) (frame : List ℕ) (start count : ℕ) (texts rails nodes bytes rest : List ℕ) → IsGraphHead h → IsGraph frame start count texts rails nodes rest (graph_at Narrow places (most_roots h) bytes) → IsBody frame h start count texts rails nodes rest (graph_after places h bytes)
+pub graph_body : (v : FrameVersion) (places : ℕ) (h : Head) (frame : List ℕ) (start count : ℕ) (texts rails nodes bytes rest : List ℕ) → IsGraphHead h → IsGraph v frame start count texts rails nodes rest (graph_at v places (most_roots h) bytes) → IsBody v frame h start count texts rails nodes rest (graph_after v places h bytes)
 unfolding done
-graph_body places h frame start count texts rails nodes bytes rest i g =
+graph_body v places h frame start count texts rails nodes bytes rest i g =
     let w = with_graph_is h g.graph i in
     record {
       frame = with_graph h g.graph;
-      reads = bind_is (graph_at Narrow places (most_roots h)) (λ graph. done (with_graph h graph)) bytes g.graph rest g.reads;
+      reads = bind_is (graph_at v places (most_roots h)) (λ graph. done (with_graph h graph)) bytes g.graph rest g.reads;
       head_is = w.head_is;
       has = record {
         graph_at = rw w.graph_is g.has;
@@ -49,9 +50,9 @@ graph_body places h frame start count texts rails nodes bytes rest i g =
       };
     }
 
-pub of_graph : {X : Type 0} (places : ℕ) (h : Head) (frame bytes : List ℕ) (body : X → Body) (rest : X → List ℕ) (r : Result X RustFault) → IsGraphHead h → GivesGraph frame body rest r (graph_at Narrow places (most_roots h) bytes) → GivesBody frame h body rest r (graph_after places h bytes)
-of_graph places h frame bytes body rest (Ok x) i g = graph_body places h frame (body x).start (body x).roots (body x).texts.items (body x).rails.items (body x).nodes.items bytes (rest x) i g
-of_graph places h frame bytes body rest (Err e) i g = early (graph_at Narrow places (most_roots h)) (λ graph. done (with_graph h graph)) bytes (named e) g
+pub of_graph : {X : Type 0} (v : FrameVersion) (places : ℕ) (h : Head) (frame bytes : List ℕ) (body : X → Body) (rest : X → List ℕ) (r : Result X RustFault) → IsGraphHead h → GivesGraph v frame body rest r (graph_at v places (most_roots h) bytes) → GivesBody v frame h body rest r (graph_after v places h bytes)
+of_graph v places h frame bytes body rest (Ok x) i g = graph_body v places h frame (body x).start (body x).roots (body x).texts.items (body x).rails.items (body x).nodes.items bytes (rest x) i g
+of_graph v places h frame bytes body rest (Err e) i g = early (graph_at v places (most_roots h)) (λ graph. done (with_graph h graph)) bytes (named e) g
 
 -- ---- the counts of a report
 
@@ -77,10 +78,10 @@ received_fault places from to finish b0 b1 f s e = rw (at_sent places from to fi
 counts_take : (places : ℕ) (from rest : List ℕ) → IsBytes from → (s : AreCounts places from rest) → Takes from (counts_bytes s.0) rest
 counts_take places from rest b s = ((each_reads (λ s _. s) (λ (_ : ℕ). number_reads w32 (2 ^ 32) wide32 Short) places 0).takes from s.0 rest b s.1).0
 
-pub counts_body : (places from to finish : ℕ) (frame b0 b1 b2 texts rails nodes : List ℕ) → IsBytes b0 → EndsWith frame b0 → texts ≡ [] → rails ≡ [] → nodes ≡ [] → AreCounts places b0 b1 → AreCounts places b1 b2
-    → IsBody frame (head.Report from to finish) (length frame - length b0) 0 texts rails nodes b2 (counts_at places from to finish b0)
+pub counts_body : (v : FrameVersion) (places from to finish : ℕ) (frame b0 b1 b2 texts rails nodes : List ℕ) → IsBytes b0 → EndsWith frame b0 → texts ≡ [] → rails ≡ [] → nodes ≡ [] → AreCounts places b0 b1 → AreCounts places b1 b2
+    → IsBody v frame (head.Report from to finish) (length frame - length b0) 0 texts rails nodes b2 (counts_at places from to finish b0)
 unfolding done
-counts_body places from to finish frame b0 b1 b2 texts rails nodes b e ht hr hn s r =
+counts_body v places from to finish frame b0 b1 b2 texts rails nodes b e ht hr hn s r =
     let one = counts_take places b0 b1 b s in
     let two = counts_take places b1 b2 one.rest_fits r in
     let both = Takes-then b0 (counts_bytes s.0) b1 (counts_bytes r.0) b2 one two in

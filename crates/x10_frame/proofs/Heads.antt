@@ -1,9 +1,10 @@
 -- A frame is read as its head, and then what follows.
-use Rattle.std.proofs.Common.{◌≡◌, ℕ, zero, suc, ◌^◌, ◌<◌, List, None, refl}
+use Rattle.std.proofs.Common.{◌≡◌, ℕ, zero, suc, ◌^◌, ◌<◌, List, Option, Some, None, refl}
 use Rattle.std.specs.Int.{w16, w32}
-use Rattle.x10_model.specs.Frames.{Narrow, Launch, launch, Frame, Spawn, Shift}
+use Rattle.x10_model.specs.declared.version.FrameVersion.{FrameVersion}
+use Rattle.x10_model.specs.Frames.{Launch, launch, Frame, Spawn, Shift}
 use Rattle.x10_model.specs.Readers.{bind, done, given, number}
-use Rattle.x10_model.specs.ReadingFrames.{FrameFault, Short, Version, FrameType, Place, place_at, graph_at, launch_at, body_at, parts_at}
+use Rattle.x10_model.specs.ReadingFrames.{FrameFault, Short, Version, FrameType, Place, place_at, graph_at, launch_at, body_at, version_of, version_at, after_version}
 use Rattle.x10_model.proofs.PartLaws.{byte_reads, number_reads, wide16, wide32}
 use Rattle.x10_model.proofs.ItemLaws.{place_reads}
 use Rattle.x10_frame.specs.declared.head.Head.{Head}
@@ -14,54 +15,53 @@ use Rattle.x10_frame.proofs.Readers.{split, alike, done_next, made_twice, Drops,
 abbrev spawned : ℕ → ℕ → Launch → Frame
 spawned from to l = Spawn from to l.home l.number l.function l.graph
 
-spawn_is : (places from to : ℕ) (bytes : List ℕ) → body_at Narrow places 1 from to bytes ≡ bind (spawn_at places from to) (after_head places) bytes
+spawn_is : (v : FrameVersion) (places from to : ℕ) (bytes : List ℕ) → body_at v places 1 from to bytes ≡ bind (spawn_at places from to) (after_head v places) bytes
 unfolding body_at launch_at spawn_at
-spawn_is places from to bytes =
-    alike _ _ (λ l. done (spawned from to l)) _ (after_head places) (λ home.
-    alike _ _ (λ l. done (spawned from to l)) _ (after_head places) (λ number.
-    alike _ _ (λ l. done (spawned from to l)) _ (after_head places) (λ function rest.
-    made_twice (graph_at Narrow places 16) (launch home number function) (spawned from to) (head.Spawn from to home number function) (after_head places) rest refl))) bytes
+spawn_is v places from to bytes =
+    alike _ _ (λ l. done (spawned from to l)) _ (after_head v places) (λ home.
+    alike _ _ (λ l. done (spawned from to l)) _ (after_head v places) (λ number.
+    alike _ _ (λ l. done (spawned from to l)) _ (after_head v places) (λ function rest.
+    made_twice (graph_at v places 16) (launch home number function) (spawned from to) (head.Spawn from to home number function) (after_head v places) rest refl))) bytes
 
 abbrev shifted : ℕ → ℕ → ℕ → Launch → Frame
 shifted from to waiting l = Shift from to waiting l.home l.number l.function l.graph
 
-shift_is : (places from to : ℕ) (bytes : List ℕ) → body_at Narrow places 2 from to bytes ≡ bind (shift_at places from to) (after_head places) bytes
+shift_is : (v : FrameVersion) (places from to : ℕ) (bytes : List ℕ) → body_at v places 2 from to bytes ≡ bind (shift_at places from to) (after_head v places) bytes
 unfolding body_at launch_at shift_at
-shift_is places from to bytes =
-    split _ _ _ (after_head places) (λ waiting.
-    alike _ _ (λ l. done (shifted from to waiting l)) _ (after_head places) (λ home.
-    alike _ _ (λ l. done (shifted from to waiting l)) _ (after_head places) (λ number.
-    alike _ _ (λ l. done (shifted from to waiting l)) _ (after_head places) (λ function rest.
-    made_twice (graph_at Narrow places 16) (launch home number function) (shifted from to waiting) (head.Shift from to waiting home number function) (after_head places) rest refl)))) bytes
+shift_is v places from to bytes =
+    split _ _ _ (after_head v places) (λ waiting.
+    alike _ _ (λ l. done (shifted from to waiting l)) _ (after_head v places) (λ home.
+    alike _ _ (λ l. done (shifted from to waiting l)) _ (after_head v places) (λ number.
+    alike _ _ (λ l. done (shifted from to waiting l)) _ (after_head v places) (λ function rest.
+    made_twice (graph_at v places 16) (launch home number function) (shifted from to waiting) (head.Shift from to waiting home number function) (after_head v places) rest refl)))) bytes
 
-back_is : (places from to : ℕ) (bytes : List ℕ) → body_at Narrow places 3 from to bytes ≡ bind (back_at from to) (after_head places) bytes
+back_is : (v : FrameVersion) (places from to : ℕ) (bytes : List ℕ) → body_at v places 3 from to bytes ≡ bind (back_at from to) (after_head v places) bytes
 unfolding body_at back_at
-back_is places from to bytes = split _ _ _ (after_head places) (λ waiting rest. done_next (head.Back from to waiting) (after_head places) rest) bytes
+back_is v places from to bytes = split _ _ _ (after_head v places) (λ waiting rest. done_next (head.Back from to waiting) (after_head v places) rest) bytes
 
-report_is : (places from to : ℕ) (bytes : List ℕ) → body_at Narrow places 4 from to bytes ≡ bind (report_at places from to) (after_head places) bytes
+report_is : (v : FrameVersion) (places from to : ℕ) (bytes : List ℕ) → body_at v places 4 from to bytes ≡ bind (report_at places from to) (after_head v places) bytes
 unfolding body_at report_at counts_at
-report_is places from to bytes = split _ _ _ (after_head places) (λ finish. split _ _ _ (after_head places) (λ u rest. done_next (head.Report from to finish) (after_head places) rest)) bytes
+report_is v places from to bytes = split _ _ _ (after_head v places) (λ finish. split _ _ _ (after_head v places) (λ u rest. done_next (head.Report from to finish) (after_head v places) rest)) bytes
 
-none_is : (places type from to : ℕ) (bytes : List ℕ) → given {A = Frame} None FrameType bytes ≡ bind (given {A = Head} None FrameType) (after_head places) bytes
+none_is : (v : FrameVersion) (places type from to : ℕ) (bytes : List ℕ) → given {A = Frame} None FrameType bytes ≡ bind (given {A = Head} None FrameType) (after_head v places) bytes
 unfolding bind given
-none_is places type from to bytes = refl
+none_is v places type from to bytes = refl
 
-body_is : (places type from to : ℕ) (bytes : List ℕ) → body_at Narrow places type from to bytes ≡ bind (numbers_at places type from to) (after_head places) bytes
+body_is : (v : FrameVersion) (places type from to : ℕ) (bytes : List ℕ) → body_at v places type from to bytes ≡ bind (numbers_at places type from to) (after_head v places) bytes
 unfolding body_at numbers_at
-body_is places zero from to bytes = none_is places 0 from to bytes
-body_is places (suc zero) from to bytes = spawn_is places from to bytes
-body_is places (suc (suc zero)) from to bytes = shift_is places from to bytes
-body_is places (suc (suc (suc zero))) from to bytes = back_is places from to bytes
-body_is places (suc (suc (suc (suc zero)))) from to bytes = report_is places from to bytes
-body_is places (suc (suc (suc (suc (suc type))))) from to bytes = none_is places (suc (suc (suc (suc (suc type))))) from to bytes
+body_is v places zero from to bytes = none_is v places 0 from to bytes
+body_is v places (suc zero) from to bytes = spawn_is v places from to bytes
+body_is v places (suc (suc zero)) from to bytes = shift_is v places from to bytes
+body_is v places (suc (suc (suc zero))) from to bytes = back_is v places from to bytes
+body_is v places (suc (suc (suc (suc zero)))) from to bytes = report_is v places from to bytes
+body_is v places (suc (suc (suc (suc (suc type))))) from to bytes = none_is v places (suc (suc (suc (suc (suc type))))) from to bytes
 
-pub parts_is : (places : ℕ) (bytes : List ℕ) → parts_at places bytes ≡ bind (head_at places) (after_head places) bytes
-unfolding parts_at head_at
-parts_is places bytes =
-    split _ _ _ (after_head places) (λ u.
-    split _ _ _ (after_head places) (λ type.
-    split _ _ _ (after_head places) (λ from.
-    split _ _ _ (after_head places) (λ to rest. body_is places type from to rest)))) bytes
+pub after_is : (v : FrameVersion) (places : ℕ) (bytes : List ℕ) → after_version v places bytes ≡ bind (head_at places) (after_head v places) bytes
+unfolding after_version head_at
+after_is v places bytes =
+    split _ _ _ (after_head v places) (λ type.
+    split _ _ _ (after_head v places) (λ from.
+    split _ _ _ (after_head v places) (λ to rest. body_is v places type from to rest))) bytes
 
 -- ---- what a head leaves
 
@@ -92,7 +92,15 @@ drops_numbers places few (suc (suc (suc (suc (suc type))))) from to = drops_none
 pub head_drops : (places : ℕ) → places < 2 ^ 16 → Drops (head_at places)
 unfolding head_at
 head_drops places few =
-    drops_bind _ _ (drops_expect _ 1 Version (drops_reads (byte_reads Short))) (λ u.
     drops_bind _ _ (drops_such_that _ _ FrameType (drops_reads (byte_reads Short))) (λ type.
     drops_bind _ _ (drops_place places few) (λ from.
-    drops_bind _ _ (drops_place places few) (λ to. drops_numbers places few type from to))))
+    drops_bind _ _ (drops_place places few) (λ to. drops_numbers places few type from to)))
+
+drops_given : {A : Type 0} (o : Option A) (fault : FrameFault) → Drops (given o fault)
+unfolding given done
+drops_given (Some y) fault bytes x rest b e = drops_done {E = FrameFault} y bytes x rest b e
+drops_given None fault bytes x rest b e = absurd cc
+
+pub version_drops : Drops version_at
+unfolding version_at
+version_drops = drops_bind _ _ (drops_reads (byte_reads Short)) (λ first. drops_given (version_of first) Version)

@@ -1,7 +1,9 @@
 -- Where a frame's parts stand in its spelling, by how the spelling is put together.
 use Rattle.std.proofs.Common.{◌≡◌, ℕ, ◌+◌, ◌*◌, ◌<◌, List, [], ◌++◌, length, Some, refl, sym, subst, ◌∙◌, append-nil, arith, drop, flat_map, slice_get}
 use Rattle.std.specs.Int.{w16, w32, to_be_bytes}
-use Rattle.x10_model.specs.Frames.{Narrow, Item, Node, Graph, Frame, Spawn, Shift, Back, Report, item_bytes, blob_bytes, node_bytes, graph_bytes, launch_bytes, counts_bytes, spelling}
+use Rattle.x10_model.specs.declared.version.FrameVersion.{FrameVersion}
+use Rattle.x10_model.specs.declared.version.FrameVersion.TheVariants.{Narrow, Wide}
+use Rattle.x10_model.specs.Frames.{Item, Node, Graph, Frame, Spawn, Shift, Back, Report, item_bytes, blob_bytes, node_bytes, graph_bytes, launch_bytes, counts_bytes, spelling}
 use Rattle.x10_model.proofs.ImageParts.{length-items}
 use Rattle.x10_model.specs.Offsets.{StandsAt}
 use Rattle.x10_model.proofs.Offsets.{later, narrow}
@@ -10,60 +12,69 @@ use Rattle.x10_frame.specs.declared.head.Head.{Head}
 use Rattle.x10_frame.specs.declared.head.Head.TheVariants as head
 use Rattle.x10_frame.specs.Heads.{head_of, graph_of, sent_of, received_of}
 use Rattle.x10_frame.specs.Writing.{head_bytes, sizes_bytes}
-use Rattle.x10_frame.specs.Parts.{roots_from, texts_from, rails_from, nodes_from, place_of_root, place_of_text, place_of_rail, place_of_node, counts_from, place_of_sent, place_of_received}
+use Rattle.x10_frame.specs.Parts.{length_of_sizes, roots_from, texts_from, rails_from, nodes_from, place_of_root, place_of_text, place_of_rail, place_of_node, counts_from, place_of_sent, place_of_received}
 use Rattle.x10_bytes.specs.Tables.{IsPart}
 
 -- ---- the head, and what follows it
 
-abbrev rest_of : Frame → List ℕ
-rest_of (Spawn from to home number function graph) = graph_bytes Narrow graph
-rest_of (Shift from to waiting home number function graph) = graph_bytes Narrow graph
-rest_of (Back from to waiting graph) = graph_bytes Narrow graph
-rest_of (Report from to number sent received) = to_be_bytes w16 (length sent) ++ (counts_bytes sent ++ counts_bytes received)
+abbrev rest_of : FrameVersion → Frame → List ℕ
+rest_of v (Spawn from to home number function graph) = graph_bytes v graph
+rest_of v (Shift from to waiting home number function graph) = graph_bytes v graph
+rest_of v (Back from to waiting graph) = graph_bytes v graph
+rest_of v (Report from to number sent received) = to_be_bytes w16 (length sent) ++ (counts_bytes sent ++ counts_bytes received)
 
-spelled : (f : Frame) → spelling Narrow f ≡ head_bytes (head_of f) ++ rest_of f
+spelled : (v : FrameVersion) (f : Frame) → spelling v f ≡ head_bytes v (head_of f) ++ rest_of v f
 unfolding spelling launch_bytes
-spelled (Spawn from to home number function graph) = refl
-spelled (Shift from to waiting home number function graph) = refl
-spelled (Back from to waiting graph) = refl
-spelled (Report from to number sent received) = refl
+spelled v (Spawn from to home number function graph) = refl
+spelled v (Shift from to waiting home number function graph) = refl
+spelled v (Back from to waiting graph) = refl
+spelled v (Report from to number sent received) = refl
 
-some_head : (h : Head) → 0 < length (head_bytes h)
-some_head (head.Spawn from to home number function) = omega arith
-some_head (head.Shift from to waiting home number function) = omega arith
-some_head (head.Back from to waiting) = omega arith
-some_head (head.Report from to number) = omega arith
+some_head : (v : FrameVersion) (h : Head) → 0 < length (head_bytes v h)
+some_head v (head.Spawn from to home number function) = omega arith
+some_head v (head.Shift from to waiting home number function) = omega arith
+some_head v (head.Back from to waiting) = omega arith
+some_head v (head.Report from to number) = omega arith
 
-all_of : (f : Frame) → StandsAt (spelling Narrow f) 0 (head_bytes (head_of f) ++ rest_of f)
-all_of f = record { rest = []; is = spelled f ∙ sym (append-nil (head_bytes (head_of f) ++ rest_of f)) }
+all_of : (v : FrameVersion) (f : Frame) → StandsAt (spelling v f) 0 (head_bytes v (head_of f) ++ rest_of v f)
+all_of v f = record { rest = []; is = spelled v f ∙ sym (append-nil (head_bytes v (head_of f) ++ rest_of v f)) }
 
-after_head : (f : Frame) → StandsAt (spelling Narrow f) (length (head_bytes (head_of f))) (rest_of f)
-after_head f = later (spelling Narrow f) 0 (length (head_bytes (head_of f))) (length (head_bytes (head_of f))) (head_bytes (head_of f)) (rest_of f) refl (omega arith) (all_of f)
+after_head : (v : FrameVersion) (f : Frame) → StandsAt (spelling v f) (length (head_bytes v (head_of f))) (rest_of v f)
+after_head v f = later (spelling v f) 0 (length (head_bytes v (head_of f))) (length (head_bytes v (head_of f))) (head_bytes v (head_of f)) (rest_of v f) refl (omega arith) (all_of v f)
 
-pub head_part : (f : Frame) (h : Head) → h ≡ head_of f → IsPart (spelling Narrow f) 0 (head_bytes h)
-head_part f h e = rw e (part_at (spelling Narrow f) 0 (head_bytes (head_of f)) (some_head (head_of f)) (narrow (spelling Narrow f) 0 (head_bytes (head_of f)) (rest_of f) (all_of f)))
+pub head_part : (v : FrameVersion) (f : Frame) (h : Head) → h ≡ head_of f → IsPart (spelling v f) 0 (head_bytes v h)
+head_part v f h e = rw e (part_at (spelling v f) 0 (head_bytes v (head_of f)) (some_head v (head_of f)) (narrow (spelling v f) 0 (head_bytes v (head_of f)) (rest_of v f) (all_of v f)))
 
 -- ---- the graph
 
 -- the parts of a graph stand from a place on, behind its sizes
-record HasGraphAt (bytes : List ℕ) (at : ℕ) (g : Graph) : Type 0 where
-  roots : StandsAt bytes (at + 8) (flat_map (item_bytes Narrow) g.roots)
-  texts : StandsAt bytes (at + 8 + length (flat_map (item_bytes Narrow) g.roots)) (flat_map blob_bytes g.texts)
-  rails : StandsAt bytes (at + 8 + length (flat_map (item_bytes Narrow) g.roots) + length (flat_map blob_bytes g.texts)) (flat_map blob_bytes g.rails)
-  nodes : StandsAt bytes (at + 8 + length (flat_map (item_bytes Narrow) g.roots) + length (flat_map blob_bytes g.texts) + length (flat_map blob_bytes g.rails)) (flat_map (node_bytes Narrow) g.nodes)
+record HasGraphAt (v : FrameVersion) (bytes : List ℕ) (at : ℕ) (g : Graph) : Type 0 where
+  roots : StandsAt bytes (at + length_of_sizes v) (flat_map (item_bytes v) g.roots)
+  texts : StandsAt bytes (at + length_of_sizes v + length (flat_map (item_bytes v) g.roots)) (flat_map blob_bytes g.texts)
+  rails : StandsAt bytes (at + length_of_sizes v + length (flat_map (item_bytes v) g.roots) + length (flat_map blob_bytes g.texts)) (flat_map blob_bytes g.rails)
+  nodes : StandsAt bytes (at + length_of_sizes v + length (flat_map (item_bytes v) g.roots) + length (flat_map blob_bytes g.texts) + length (flat_map blob_bytes g.rails)) (flat_map (node_bytes v) g.nodes)
 
-graph_at : (bytes : List ℕ) (at : ℕ) (g : Graph) → StandsAt bytes at (graph_bytes Narrow g) → HasGraphAt bytes at g
+sizes_long : (v : FrameVersion) (roots texts rails nodes : ℕ) → length_of_sizes v ≡ length (sizes_bytes v roots texts rails nodes)
+sizes_long Narrow roots texts rails nodes = refl
+sizes_long Wide roots texts rails nodes = refl
+
+-- the sizes of a graph, and what follows them
+graph_is : (v : FrameVersion) (g : Graph) → graph_bytes v g ≡ sizes_bytes v (length g.roots) (length g.texts) (length g.rails) (length g.nodes) ++ (flat_map (item_bytes v) g.roots ++ (flat_map blob_bytes g.texts ++ (flat_map blob_bytes g.rails ++ flat_map (node_bytes v) g.nodes)))
 unfolding graph_bytes
-graph_at bytes at g s =
-    let roots = flat_map (item_bytes Narrow) g.roots in
+graph_is Narrow g = refl
+graph_is Wide g = refl
+
+graph_at : (v : FrameVersion) (bytes : List ℕ) (at : ℕ) (g : Graph) → StandsAt bytes at (graph_bytes v g) → HasGraphAt v bytes at g
+graph_at v bytes at g s =
+    let roots = flat_map (item_bytes v) g.roots in
     let texts = flat_map blob_bytes g.texts in
     let rails = flat_map blob_bytes g.rails in
-    let nodes = flat_map (node_bytes Narrow) g.nodes in
-    let first = at + 8 in
+    let nodes = flat_map (node_bytes v) g.nodes in
+    let first = at + length_of_sizes v in
     let second = first + length roots in
     let third = second + length texts in
-    let sizes = sizes_bytes (length g.roots) (length g.texts) (length g.rails) (length g.nodes) in
-    let behind = later bytes at 8 first sizes (roots ++ (texts ++ (rails ++ nodes))) refl refl s in
+    let sizes = sizes_bytes v (length g.roots) (length g.texts) (length g.rails) (length g.nodes) in
+    let behind = later bytes at (length_of_sizes v) first sizes (roots ++ (texts ++ (rails ++ nodes))) (sizes_long v (length g.roots) (length g.texts) (length g.rails) (length g.nodes)) refl (subst (StandsAt bytes at) (graph_is v g) s) in
     let from_texts = later bytes first (length roots) second roots (texts ++ (rails ++ nodes)) refl refl behind in
     let from_rails = later bytes second (length texts) third texts (rails ++ nodes) refl refl from_texts in
     record {
@@ -76,19 +87,19 @@ graph_at bytes at g s =
 nothing_at : (bytes : List ℕ) (at : ℕ) → StandsAt bytes at []
 nothing_at bytes at = record { rest = drop at bytes; is = refl }
 
-graph_stands : (f : Frame) → HasGraphAt (spelling Narrow f) (length (head_bytes (head_of f))) (graph_of f)
-graph_stands (Spawn from to home number function graph) = graph_at _ _ graph (after_head (Spawn from to home number function graph))
-graph_stands (Shift from to waiting home number function graph) = graph_at _ _ graph (after_head (Shift from to waiting home number function graph))
-graph_stands (Back from to waiting graph) = graph_at _ _ graph (after_head (Back from to waiting graph))
-graph_stands (Report from to number sent received) = record { roots = nothing_at _ _; texts = nothing_at _ _; rails = nothing_at _ _; nodes = nothing_at _ _ }
+graph_stands : (v : FrameVersion) (f : Frame) → HasGraphAt v (spelling v f) (length (head_bytes v (head_of f))) (graph_of f)
+graph_stands v (Spawn from to home number function graph) = graph_at v _ _ graph (after_head v (Spawn from to home number function graph))
+graph_stands v (Shift from to waiting home number function graph) = graph_at v _ _ graph (after_head v (Shift from to waiting home number function graph))
+graph_stands v (Back from to waiting graph) = graph_at v _ _ graph (after_head v (Back from to waiting graph))
+graph_stands v (Report from to number sent received) = record { roots = nothing_at _ _; texts = nothing_at _ _; rails = nothing_at _ _; nodes = nothing_at _ _ }
 
 -- ---- the counts
 
-counts_stand : (f : Frame) → StandsAt (spelling Narrow f) (counts_from f) (counts_bytes (sent_of f) ++ counts_bytes (received_of f))
-counts_stand (Spawn from to home number function graph) = nothing_at _ _
-counts_stand (Shift from to waiting home number function graph) = nothing_at _ _
-counts_stand (Back from to waiting graph) = nothing_at _ _
-counts_stand (Report from to number sent received) = later _ _ 2 _ (to_be_bytes w16 (length sent)) (counts_bytes sent ++ counts_bytes received) refl refl (after_head (Report from to number sent received))
+counts_stand : (v : FrameVersion) (f : Frame) → StandsAt (spelling v f) (counts_from v f) (counts_bytes (sent_of f) ++ counts_bytes (received_of f))
+counts_stand v (Spawn from to home number function graph) = nothing_at _ _
+counts_stand v (Shift from to waiting home number function graph) = nothing_at _ _
+counts_stand v (Back from to waiting graph) = nothing_at _ _
+counts_stand v (Report from to number sent received) = later _ _ 2 _ (to_be_bytes w16 (length sent)) (counts_bytes sent ++ counts_bytes received) refl refl (after_head v (Report from to number sent received))
 
 count_part : (bytes : List ℕ) (at i n : ℕ) (counts : List ℕ) → StandsAt bytes at (counts_bytes counts) → slice_get counts i ≡ Some n → IsPart bytes (at + 4 * i) (to_be_bytes w32 n)
 count_part bytes at i n counts s e =
@@ -97,36 +108,36 @@ count_part bytes at i n counts s e =
 
 -- ---- what the accessors hand out
 
-item_some : (x : Item) → 0 < length (item_bytes Narrow x)
+item_some : (v : FrameVersion) (x : Item) → 0 < length (item_bytes v x)
 unfolding item_bytes
-item_some x = omega arith
+item_some v x = omega arith
 
-node_some : (n : Node) → 0 < length (node_bytes Narrow n)
+node_some : (v : FrameVersion) (n : Node) → 0 < length (node_bytes v n)
 unfolding node_bytes
-node_some n = omega arith
+node_some v n = omega arith
 
 -- a text or a rail, behind its length
 blob_part : (bytes : List ℕ) (at : ℕ) (blob : List ℕ) → StandsAt bytes at (blob_bytes blob) → IsPart bytes (at + 4) blob
 unfolding blob_bytes
 blob_part bytes at blob s = part_behind bytes at 4 (to_be_bytes w32 (length blob)) blob refl (omega arith) s
 
-pub root_part : (f : Frame) (i : ℕ) (x : Item) → slice_get (graph_of f).roots i ≡ Some x → IsPart (spelling Narrow f) (place_of_root f i) (item_bytes Narrow x)
-root_part f i x e = part_at (spelling Narrow f) (place_of_root f i) (item_bytes Narrow x) (item_some x) (item_here (item_bytes Narrow) (spelling Narrow f) (roots_from f) (graph_of f).roots i x (graph_stands f).roots e)
+pub root_part : (v : FrameVersion) (f : Frame) (i : ℕ) (x : Item) → slice_get (graph_of f).roots i ≡ Some x → IsPart (spelling v f) (place_of_root v f i) (item_bytes v x)
+root_part v f i x e = part_at (spelling v f) (place_of_root v f i) (item_bytes v x) (item_some v x) (item_here (item_bytes v) (spelling v f) (roots_from v f) (graph_of f).roots i x (graph_stands v f).roots e)
 
-pub text_part : (f : Frame) (i : ℕ) (text : List ℕ) → slice_get (graph_of f).texts i ≡ Some text → IsPart (spelling Narrow f) (place_of_text f i) text
-text_part f i text e = blob_part (spelling Narrow f) _ text (item_here blob_bytes (spelling Narrow f) (texts_from f) (graph_of f).texts i text (graph_stands f).texts e)
+pub text_part : (v : FrameVersion) (f : Frame) (i : ℕ) (text : List ℕ) → slice_get (graph_of f).texts i ≡ Some text → IsPart (spelling v f) (place_of_text v f i) text
+text_part v f i text e = blob_part (spelling v f) _ text (item_here blob_bytes (spelling v f) (texts_from v f) (graph_of f).texts i text (graph_stands v f).texts e)
 
-pub rail_part : (f : Frame) (i : ℕ) (rail : List ℕ) → slice_get (graph_of f).rails i ≡ Some rail → IsPart (spelling Narrow f) (place_of_rail f i) rail
-rail_part f i rail e = blob_part (spelling Narrow f) _ rail (item_here blob_bytes (spelling Narrow f) (rails_from f) (graph_of f).rails i rail (graph_stands f).rails e)
+pub rail_part : (v : FrameVersion) (f : Frame) (i : ℕ) (rail : List ℕ) → slice_get (graph_of f).rails i ≡ Some rail → IsPart (spelling v f) (place_of_rail v f i) rail
+rail_part v f i rail e = blob_part (spelling v f) _ rail (item_here blob_bytes (spelling v f) (rails_from v f) (graph_of f).rails i rail (graph_stands v f).rails e)
 
-pub node_part : (f : Frame) (i : ℕ) (n : Node) → slice_get (graph_of f).nodes i ≡ Some n → IsPart (spelling Narrow f) (place_of_node f i) (node_bytes Narrow n)
-node_part f i n e = part_at (spelling Narrow f) (place_of_node f i) (node_bytes Narrow n) (node_some n) (item_here (node_bytes Narrow) (spelling Narrow f) (nodes_from f) (graph_of f).nodes i n (graph_stands f).nodes e)
+pub node_part : (v : FrameVersion) (f : Frame) (i : ℕ) (n : Node) → slice_get (graph_of f).nodes i ≡ Some n → IsPart (spelling v f) (place_of_node v f i) (node_bytes v n)
+node_part v f i n e = part_at (spelling v f) (place_of_node v f i) (node_bytes v n) (node_some v n) (item_here (node_bytes v) (spelling v f) (nodes_from v f) (graph_of f).nodes i n (graph_stands v f).nodes e)
 
-pub sent_part : (f : Frame) (place n : ℕ) → slice_get (sent_of f) place ≡ Some n → IsPart (spelling Narrow f) (place_of_sent f place) (to_be_bytes w32 n)
-sent_part f place n e = count_part (spelling Narrow f) (counts_from f) place n (sent_of f) (narrow (spelling Narrow f) (counts_from f) (counts_bytes (sent_of f)) (counts_bytes (received_of f)) (counts_stand f)) e
+pub sent_part : (v : FrameVersion) (f : Frame) (place n : ℕ) → slice_get (sent_of f) place ≡ Some n → IsPart (spelling v f) (place_of_sent v f place) (to_be_bytes w32 n)
+sent_part v f place n e = count_part (spelling v f) (counts_from v f) place n (sent_of f) (narrow (spelling v f) (counts_from v f) (counts_bytes (sent_of f)) (counts_bytes (received_of f)) (counts_stand v f)) e
 
-pub received_part : (f : Frame) (place n : ℕ) → slice_get (received_of f) place ≡ Some n → IsPart (spelling Narrow f) (place_of_received f place) (to_be_bytes w32 n)
-received_part f place n e =
+pub received_part : (v : FrameVersion) (f : Frame) (place n : ℕ) → slice_get (received_of f) place ≡ Some n → IsPart (spelling v f) (place_of_received v f place) (to_be_bytes w32 n)
+received_part v f place n e =
     let long : 4 * length (sent_of f) ≡ length (counts_bytes (sent_of f)) = sym (length-items (to_be_bytes w32) 4 (λ m. refl) (sent_of f)) in
-    let there = later (spelling Narrow f) (counts_from f) (4 * length (sent_of f)) (counts_from f + 4 * length (sent_of f)) (counts_bytes (sent_of f)) (counts_bytes (received_of f)) long refl (counts_stand f) in
-    count_part (spelling Narrow f) (counts_from f + 4 * length (sent_of f)) place n (received_of f) there e
+    let there = later (spelling v f) (counts_from v f) (4 * length (sent_of f)) (counts_from v f + 4 * length (sent_of f)) (counts_bytes (sent_of f)) (counts_bytes (received_of f)) long refl (counts_stand v f) in
+    count_part (spelling v f) (counts_from v f + 4 * length (sent_of f)) place n (received_of f) there e

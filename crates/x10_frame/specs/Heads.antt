@@ -1,10 +1,11 @@
 -- The numbers that stand before the graph of a frame, or before the counts of a report.
 use Rattle.std.specs.Prelude.{ℕ, zero, suc, ◌&&◌, nat_le, List, [], None}
 use Rattle.std.specs.Int.{w16, w32}
-use Rattle.x10_model.specs.Frames.{Narrow, Graph, Frame}
+use Rattle.x10_model.specs.declared.version.FrameVersion.{FrameVersion}
+use Rattle.x10_model.specs.Frames.{Graph, Frame}
 use Rattle.x10_model.specs.Frames as frames
 use Rattle.x10_model.specs.Readers.{Reader, ◌>>=◌, ◌>>◌, done, such_that, expect, given, byte, number, times}
-use Rattle.x10_model.specs.ReadingFrames.{FrameFault, Short, Version, FrameType, Place, place_at, graph_at}
+use Rattle.x10_model.specs.ReadingFrames.{FrameFault, Short, FrameType, Place, place_at, graph_at}
 use Rattle.x10_frame.specs.declared.head.Head.{Head}
 use Rattle.x10_frame.specs.declared.head.Head.TheVariants as head
 
@@ -71,10 +72,9 @@ numbers_at places (suc (suc (suc zero))) from to = back_at from to
 numbers_at places (suc (suc (suc (suc zero)))) from to = report_at places from to
 numbers_at places (suc (suc (suc (suc (suc type))))) from to = given None FrameType
 
--- the numbers before the graph or the counts
+-- what follows the version: the numbers before the graph or the counts
 unfoldable pub head_at : ℕ → Reader FrameFault Head
 head_at places = do
-  expect (byte Short) 1 Version
   type ← such_that (byte Short) (λ n. nat_le 1 n && nat_le n 4) FrameType
   from ← place_at places
   to ← place_at places
@@ -103,9 +103,9 @@ counts_at places from to finish = do
   received ← times places (number w32 Short)
   done (frames.Report from to finish sent received)
 
-abbrev pub graph_after : ℕ → Head → Reader FrameFault Frame
-graph_after places h = graph_at Narrow places (most_roots h) >>= (λ graph. done (with_graph h graph))
+abbrev pub graph_after : FrameVersion → ℕ → Head → Reader FrameFault Frame
+graph_after v places h = graph_at v places (most_roots h) >>= (λ graph. done (with_graph h graph))
 
-abbrev pub after_head : ℕ → Head → Reader FrameFault Frame
-after_head places (head.Report from to number) = counts_at places from to number
-after_head places h = graph_after places h
+abbrev pub after_head : FrameVersion → ℕ → Head → Reader FrameFault Frame
+after_head v places (head.Report from to number) = counts_at places from to number
+after_head v places h = graph_after v places h

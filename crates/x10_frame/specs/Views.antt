@@ -1,6 +1,7 @@
--- A view of a frame: its bytes, the number of places, and where its parts begin.
+-- A view of a frame: its bytes and their version, the number of places, and where its parts begin.
 use Rattle.std.specs.Prelude.{◌≡◌, ℕ, ◌^◌, ◌<◌, List, [], Result, Ok, Err}
-use Rattle.x10_model.specs.Frames.{Narrow, Frame, Report, FitsFrame, spelling}
+use Rattle.x10_model.specs.declared.version.FrameVersion.{FrameVersion}
+use Rattle.x10_model.specs.Frames.{Frame, Report, FitsFrame, spelling}
 use Rattle.x10_model.specs.ReadingFrames.{FrameFault, frame_at}
 use Rattle.x10_frame.specs.declared.head.Head.{Head}
 use Rattle.x10_frame.specs.Heads.{head_of}
@@ -15,9 +16,9 @@ unfoldable pub frame_in : ℕ → List ℕ → Frame
 frame_in places bytes = read_or_empty (frame_at places bytes)
 
 -- the bytes are a frame, and the tables say where its parts begin
-pub record IsView (bytes : List ℕ) (places : ℕ) (head : Head) (start count : ℕ) (texts rails nodes : List ℕ) : Type 0 where
+pub record IsView (v : FrameVersion) (bytes : List ℕ) (places : ℕ) (head : Head) (start count : ℕ) (texts rails nodes : List ℕ) : Type 0 where
   pub few : places < 2 ^ 16
-  pub fits : FitsFrame Narrow places (frame_in places bytes)
-  pub spelled : bytes ≡ spelling Narrow (frame_in places bytes)
+  pub fits : FitsFrame v places (frame_in places bytes)
+  pub spelled : bytes ≡ spelling v (frame_in places bytes)
   pub head_is : head_of (frame_in places bytes) ≡ head
-  pub has : HasBody bytes start count texts rails nodes (frame_in places bytes)
+  pub has : HasBody v bytes start count texts rails nodes (frame_in places bytes)

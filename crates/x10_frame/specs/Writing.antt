@@ -1,8 +1,10 @@
--- The bytes of a frame as they are written, part after part.
+-- The bytes of a frame part after part. They are written in version 2.
 use Rattle.std.specs.Prelude.{ℕ, List, [], ◌∷◌, ◌++◌, length, map}
 use Rattle.std.specs.List.{flat_map}
 use Rattle.std.specs.Int.{w16, w32, to_be_bytes}
-use Rattle.x10_model.specs.Frames.{Narrow, Graph, item_bytes, blob_bytes, node_bytes}
+use Rattle.x10_model.specs.declared.version.FrameVersion.{FrameVersion}
+use Rattle.x10_model.specs.declared.version.FrameVersion.TheVariants.{Wide}
+use Rattle.x10_model.specs.Frames.{byte_of, width_of, Graph, item_bytes, blob_bytes, node_bytes}
 use Rattle.x10_model.specs.Frames as frames
 use Rattle.x10_frame.specs.declared.head.Head.{Head}
 use Rattle.x10_frame.specs.declared.head.Head.TheVariants as head
@@ -10,32 +12,32 @@ use Rattle.x10_frame.specs.declared.item.Item.{Item}
 use Rattle.x10_frame.specs.Items.{item_of}
 
 -- the head of a frame with a graph
-abbrev pub head_bytes : Head → List ℕ
-head_bytes (head.Spawn from to home number function) = (1 ∷ 1 ∷ [])
+abbrev pub head_bytes : FrameVersion → Head → List ℕ
+head_bytes v (head.Spawn from to home number function) = (byte_of v ∷ 1 ∷ [])
     ++ (to_be_bytes w16 from ++ (to_be_bytes w16 to ++ (to_be_bytes w16 home ++ (to_be_bytes w32 number ++ to_be_bytes w16 function))))
-head_bytes (head.Shift from to waiting home number function) = (1 ∷ 2 ∷ []) ++
+head_bytes v (head.Shift from to waiting home number function) = (byte_of v ∷ 2 ∷ []) ++
     (to_be_bytes w16 from ++ (to_be_bytes w16 to ++
     (to_be_bytes w32 waiting ++ (to_be_bytes w16 home ++ (to_be_bytes w32 number ++ to_be_bytes w16 function)))))
-head_bytes (head.Back from to waiting) = (1 ∷ 3 ∷ []) ++ (to_be_bytes w16 from ++ (to_be_bytes w16 to ++ to_be_bytes w32 waiting))
-head_bytes (head.Report from to number) = (1 ∷ 4 ∷ []) ++ (to_be_bytes w16 from ++ (to_be_bytes w16 to ++ to_be_bytes w32 number))
+head_bytes v (head.Back from to waiting) = (byte_of v ∷ 3 ∷ []) ++ (to_be_bytes w16 from ++ (to_be_bytes w16 to ++ to_be_bytes w32 waiting))
+head_bytes v (head.Report from to number) = (byte_of v ∷ 4 ∷ []) ++ (to_be_bytes w16 from ++ (to_be_bytes w16 to ++ to_be_bytes w32 number))
 
 -- how much of everything the graph has
-abbrev pub sizes_bytes : (roots texts rails nodes : ℕ) → List ℕ
-sizes_bytes roots texts rails nodes = to_be_bytes w16 roots ++ (to_be_bytes w16 texts ++ (to_be_bytes w16 rails ++ to_be_bytes w16 nodes))
+abbrev pub sizes_bytes : FrameVersion → (roots texts rails nodes : ℕ) → List ℕ
+sizes_bytes v roots texts rails nodes = to_be_bytes w16 roots ++ (to_be_bytes (width_of v) texts ++ (to_be_bytes (width_of v) rails ++ to_be_bytes (width_of v) nodes))
 
--- the values, one after another
+-- the values as they are written, one after another
 abbrev pub values_bytes : List Item → List ℕ
-values_bytes items = flat_map (item_bytes Narrow) (map item_of items)
+values_bytes items = flat_map (item_bytes Wide) (map item_of items)
 
 -- a node of these fields
 abbrev pub node_of : ℕ → List Item → frames.Node
 node_of class fields = record { class = class; fields = map item_of fields }
 
 -- the head, the sizes, the roots, the texts, the rails and the nodes, appended one after another
-abbrev pub draft : Head → Graph → List ℕ
-draft h g =
-    ((((head_bytes h ++ sizes_bytes (length g.roots) (length g.texts) (length g.rails) (length g.nodes))
-    ++ flat_map (item_bytes Narrow) g.roots)
+abbrev pub draft : FrameVersion → Head → Graph → List ℕ
+draft v h g =
+    ((((head_bytes v h ++ sizes_bytes v (length g.roots) (length g.texts) (length g.rails) (length g.nodes))
+    ++ flat_map (item_bytes v) g.roots)
     ++ flat_map blob_bytes g.texts)
     ++ flat_map blob_bytes g.rails)
-    ++ flat_map (node_bytes Narrow) g.nodes
+    ++ flat_map (node_bytes v) g.nodes

@@ -2,6 +2,7 @@
 
 ghost use Rattle.std.specs.Prelude.{ℕ};
 ghost use Rattle.x10_model.specs.Offsets.{EndsWith};
+ghost use Rattle.x10_model.specs.declared.version.FrameVersion.{FrameVersion};
 ghost use Rattle.x10_frame.specs.declared.head.Head.TheVariants as variant;
 ghost use Rattle.x10_frame.specs.Heads.{counts_at, after_head};
 ghost use Rattle.x10_frame.specs.Bodies.{GivesBody};
@@ -11,6 +12,7 @@ use crate::graph::read_graph;
 use crate::head::Head;
 use crate::parts::past_counts;
 use std::alloc::Global;
+use x10_model::FrameVersion;
 use x10_model::limits::MOST_ROOTS;
 
 /// Where the roots begin, how many there are, and where each text, rail and node begins. In a report
@@ -32,7 +34,7 @@ fn read_counts<'a>(
     places: u16,
 ) -> Result<(Body, &'a [u8]), FrameFault>
     requires { EndsWith frame.now bytes.now }
-    ensures exact { (from : ℕ) (to : ℕ) (finish : ℕ) → GivesBody frame.now (variant.Report from to finish) (λ x. x.0) (λ x. x.1.now) result (counts_at places from to finish bytes.now) }
+    ensures exact { (v : FrameVersion) (from : ℕ) (to : ℕ) (finish : ℕ) → GivesBody v frame.now (variant.Report from to finish) (λ x. x.0) (λ x. x.1.now) result (counts_at places from to finish bytes.now) }
 {
     let start = frame.len() - bytes.len();
     let rest = past_counts(bytes, places)?;
@@ -53,16 +55,17 @@ pub fn read_body<'a>(
     alloc: Global,
     frame: &[u8],
     bytes: &'a [u8],
+    version: FrameVersion,
     places: u16,
     head: &Head,
 ) -> Result<(Body, &'a [u8]), FrameFault>
     requires { EndsWith frame.now bytes.now }
-    ensures exact { GivesBody frame.now head.now (λ x. x.0) (λ x. x.1.now) result (after_head places head.now bytes.now) }
+    ensures exact { GivesBody version frame.now head.now (λ x. x.0) (λ x. x.1.now) result (after_head version places head.now bytes.now) }
 {
     match *head {
-        Head::Spawn { .. } => read_graph(alloc, frame, bytes, places, MOST_ROOTS),
-        Head::Shift { .. } => read_graph(alloc, frame, bytes, places, MOST_ROOTS),
-        Head::Back { .. } => read_graph(alloc, frame, bytes, places, 1),
+        Head::Spawn { .. } => read_graph(alloc, frame, bytes, version, places, MOST_ROOTS),
+        Head::Shift { .. } => read_graph(alloc, frame, bytes, version, places, MOST_ROOTS),
+        Head::Back { .. } => read_graph(alloc, frame, bytes, version, places, 1),
         Head::Report { .. } => read_counts(alloc, frame, bytes, places),
     }
 }

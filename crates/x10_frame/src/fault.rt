@@ -10,7 +10,7 @@ pub enum FrameFault {
     /// The bytes end inside a field.
     #[error("Short")]
     Short,
-    /// The version isn't 1.
+    /// The version isn't 1 or 2.
     #[error("Version")]
     Version,
     /// The type isn't 1 to 4.

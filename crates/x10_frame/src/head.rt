@@ -3,7 +3,7 @@
 ghost use Rattle.std.specs.Prelude.{nat_le, ◌&&◌};
 ghost use Rattle.std.specs.Int.{w16};
 ghost use Rattle.x10_model.specs.Readers.{byte, number, such_that, expect};
-ghost use Rattle.x10_model.specs.ReadingFrames.{Short, Version, FrameType, Place};
+ghost use Rattle.x10_model.specs.ReadingFrames.{Short, FrameType, Place, version_at};
 ghost use Rattle.x10_frame.specs.Faults.{Answers};
 ghost use Rattle.x10_frame.specs.Heads.{head_at, numbers_at};
 ghost use Rattle.x10_frame.specs.Heads as spec;
@@ -11,6 +11,7 @@ ghost use Rattle.x10_frame.specs.Heads as spec;
 use crate::fault::FrameFault;
 use crate::fields::place_at;
 use x10_bytes::{byte_at, u16_at, u32_at};
+use x10_model::FrameVersion;
 
 /// What a frame is, from which place to which, and its other numbers.
 #[derive(Clone, Copy, Debug, PartialEq, Eq)]
@@ -46,16 +47,18 @@ pub enum Head {
     },
 }
 
-#[tactic(auto, unfolding(x10_model::specs::Readers::expect, x10_model::specs::Readers::bind, x10_model::specs::Readers::check))]
+/// The version of a frame, and the bytes after it.
+#[tactic(auto, unfolding(x10_model::specs::ReadingFrames::version_at, x10_model::specs::Readers::given, x10_model::specs::Readers::bind))]
 #[inline(always)]
-fn after_version(bytes: &[u8]) -> Result<&[u8], FrameFault>
-    ensures exact { Answers (λ x. (tt, x.now)) result (expect (byte Short) 1 Version bytes.now) }
+pub fn version_at(bytes: &[u8]) -> Result<(FrameVersion, &[u8]), FrameFault>
+    ensures exact { Answers (λ x. (x.0, x.1.now)) result (version_at bytes.now) }
 {
-    let (version, bytes) = byte_at::<FrameFault>(bytes)?;
-    if version != 1 {
-        return Err(FrameFault::Version);
+    let (first, bytes) = byte_at::<FrameFault>(bytes)?;
+    match first {
+        1 => Ok((FrameVersion::Narrow, bytes)),
+        2 => Ok((FrameVersion::Wide, bytes)),
+        _ => Err(FrameFault::Version),
     }
-    Ok(bytes)
 }
 
 #[tactic(auto, unfolding(x10_model::specs::Readers::such_that, x10_model::specs::Readers::bind, x10_model::specs::Readers::check, x10_model::specs::Readers::done))]
@@ -160,14 +163,13 @@ fn numbers_at(
     }
 }
 
-/// The numbers before the graph of a frame, or before the counts of a report, and the bytes after
+/// What follows the version: the numbers before the graph of a frame, or before the counts of a report, and the bytes after
 /// them.
 #[tactic(auto, unfolding(crate::specs::Heads::head_at, x10_model::specs::Readers::bind))]
 #[inline(always)]
 pub fn read_head(bytes: &[u8], places: u16) -> Result<(Head, &[u8]), FrameFault>
     ensures exact { Answers (λ x. (x.0, x.1.now)) result (head_at places bytes.now) }
 {
-    let bytes = after_version(bytes)?;
     let (kind, bytes) = type_at(bytes)?;
     let (from, bytes) = place_at(bytes, places)?;
     let (to, bytes) = place_at(bytes, places)?;

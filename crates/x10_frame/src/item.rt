@@ -2,25 +2,27 @@
 
 ghost use Rattle.x10_model.specs.Readers.{byte, such_that};
 ghost use Rattle.x10_model.specs.ReadingFrames.{Short, Tag, item_at, untagged_at};
-ghost use Rattle.x10_model.specs.Frames.{Narrow, Tables};
-ghost use Rattle.std.specs.Prelude.{◌≡◌, ◌<◌, ◌&&◌, Some, nat_le, slice_get};
+ghost use Rattle.x10_model.specs.declared.version.FrameVersion.{FrameVersion};
+ghost use Rattle.x10_model.specs.Frames.{Tables};
+ghost use Rattle.std.specs.Prelude.{◌≡◌, ◌<◌, ◌&&◌, IfOk, Some, nat_le, slice_get};
 ghost use Rattle.x10_frame.specs.Faults.{Answers};
-ghost use Rattle.x10_frame.specs.Items.{item_of, tables_in, items_in, HasItems};
+ghost use Rattle.x10_frame.specs.Items.{item_of, tables_in, items_in, HasItems, HasNext};
 
 use crate::fault::FrameFault;
 use crate::fields::{index_at, place_at};
 use crate::known::known_item;
 use crate::used::Used;
 use x10_bytes::{byte_at, i64_at, u16_at, u32_at};
+use x10_model::FrameVersion;
 
 /// A value as a frame spells it: texts, rails and objects by their numbers in the frame's tables.
 #[derive(Clone, Copy, Debug, PartialEq, Eq)]
 pub enum Item {
     Int(i64),
     Place(u16),
-    Text(u16),
-    Rail(u16),
-    Object(u16),
+    Text(u32),
+    Rail(u32),
+    Object(u32),
     Null,
     /// A global reference: its home, its number there, and the class of its object.
     Ref { home: u16, id: u32, class: u16 },
@@ -41,7 +43,8 @@ fn tag_at(bytes: &[u8]) -> Result<(u8, &[u8]), FrameFault>
 #[tactic(auto, unfolding(x10_model::specs::ReadingFrames::untagged_at, x10_model::specs::Readers::bind, x10_model::specs::Readers::done))]
 #[inline(always)]
 fn ref_at(bytes: &[u8], places: u16) -> Result<(Item, &[u8]), FrameFault>
-    ensures exact { (all : Tables) (used : Tables) → Answers (λ x. (item_of x.0, x.1.now)) result (untagged_at Narrow places all used 7 bytes.now) }
+    ensures exact { (v : FrameVersion) (all : Tables) (used : Tables) → Answers (λ x. (item_of x.0, x.1.now)) result (untagged_at v places all used 7 bytes.now) }
+    ensures next { IfOk result (λ x. HasNext x.0) }
 {
     let (home, bytes) = place_at(bytes, places)?;
     let (id, bytes) = u32_at::<FrameFault>(bytes)?;
@@ -54,11 +57,13 @@ fn ref_at(bytes: &[u8], places: u16) -> Result<(Item, &[u8]), FrameFault>
 fn untagged_at<'a>(
     bytes: &'a [u8],
     tag: u8,
+    version: FrameVersion,
     places: u16,
     all: &Used,
     used: &Used,
 ) -> Result<(Item, &'a [u8]), FrameFault>
-    ensures exact { Answers (λ x. (item_of x.0, x.1.now)) result (untagged_at Narrow places (tables_in all.now) (tables_in used.now) tag bytes.now) }
+    ensures exact { Answers (λ x. (item_of x.0, x.1.now)) result (untagged_at version places (tables_in all.now) (tables_in used.now) tag bytes.now) }
+    ensures next { IfOk result (λ x. HasNext x.0) }
 {
     match tag {
         1 => {
@@ -70,15 +75,15 @@ fn untagged_at<'a>(
             Ok((Item::Place(place), bytes))
         }
         3 => {
-            let (index, bytes) = index_at(bytes, used.texts, all.texts)?;
+            let (index, bytes) = index_at(bytes, version, used.texts, all.texts)?;
             Ok((Item::Text(index), bytes))
         }
         4 => {
-            let (index, bytes) = index_at(bytes, used.rails, all.rails)?;
+            let (index, bytes) = index_at(bytes, version, used.rails, all.rails)?;
             Ok((Item::Rail(index), bytes))
         }
         5 => {
-            let (index, bytes) = index_at(bytes, used.nodes, all.nodes)?;
+            let (index, bytes) = index_at(bytes, version, used.nodes, all.nodes)?;
             Ok((Item::Object(index), bytes))
         }
         6 => Ok((Item::Null, bytes)),
@@ -92,27 +97,35 @@ fn untagged_at<'a>(
 #[inline(always)]
 pub fn item_at<'a>(
     bytes: &'a [u8],
+    version: FrameVersion,
     places: u16,
     all: &Used,
     used: &Used,
 ) -> Result<(Item, &'a [u8]), FrameFault>
-    ensures exact { Answers (λ x. (item_of x.0, x.1.now)) result (item_at Narrow places (tables_in all.now) (tables_in used.now) bytes.now) }
+    ensures exact { Answers (λ x. (item_of x.0, x.1.now)) result (item_at version places (tables_in all.now) (tables_in used.now) bytes.now) }
+    ensures next { IfOk result (λ x. HasNext x.0) }
 {
     let (tag, bytes) = tag_at(bytes)?;
-    untagged_at(bytes, tag, places, all, used)
+    untagged_at(bytes, tag, version, places, all, used)
 }
 
 /// One of `count` values that were read before.
-pub fn nth_item(bytes: &[u8], places: u16, count: u16, i: usize) -> Item
-    requires there { HasItems places count bytes.now }
+pub fn nth_item(
+    bytes: &[u8],
+    version: FrameVersion,
+    places: u16,
+    count: u16,
+    i: usize,
+) -> Item
+    requires there { HasItems version places count bytes.now }
     requires below { i < count }
-    ensures { slice_get (items_in places count bytes.now) i ≡ Some (item_of result) }
+    ensures { slice_get (items_in version places count bytes.now) i ≡ Some (item_of result) }
 {
     let mut rest = bytes;
     for _ in 0..i {
-        let (_, after) = known_item(rest);
+        let (_, after) = known_item(rest, version);
         rest = after;
     }
-    let (item, _) = known_item(rest);
+    let (item, _) = known_item(rest, version);
     item
 }

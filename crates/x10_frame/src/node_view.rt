@@ -4,10 +4,12 @@ ghost use Rattle.x10_frame.specs.Items.{item_of};
 use crate::item::{Item, nth_item};
 use crate::values::Values;
 use std::marker::Model;
+use x10_model::FrameVersion;
 
 /// An object of a frame, in its bytes. Clauses see the node.
 #[derive(Debug, Drop)]
 pub struct NodeView<'a> {
+    pub(crate) version: FrameVersion,
     pub(crate) places: u16,
     pub(crate) class: u16,
     pub(crate) count: u8,
@@ -21,9 +23,9 @@ impl<'a> Model for NodeView<'a> {
 
     ghost use Rattle.x10_frame.specs.Items.{items_in, HasItems};
 
-    ghost view = { λ a. record { class = a.class; fields = items_in a.places a.count a.values.now } };
+    ghost view = { λ a. record { class = a.class; fields = items_in a.version a.places a.count a.values.now } };
 
-    ghost invariant = { λ a. HasItems a.places a.count a.values.now };
+    ghost invariant = { λ a. HasItems a.version a.places a.count a.values.now };
 }
 
 impl<'a> NodeView<'a> {
@@ -49,7 +51,13 @@ impl<'a> NodeView<'a> {
         requires { j < length self.now.fields }
         ensures value { slice_get self.now.fields j ≡ Some (item_of result) }
     {
-        nth_item(self.values, self.places, u16::from(self.count), j)
+        nth_item(
+            self.values,
+            self.version,
+            self.places,
+            u16::from(self.count),
+            j,
+        )
     }
 
     /// The fields, from the first on. Constant time.
@@ -58,6 +66,7 @@ impl<'a> NodeView<'a> {
         ensures value { result ≡ self.now.fields }
     {
         Values {
+            version: self.version,
             places: self.places,
             count: u16::from(self.count),
             bytes: self.values,

@@ -7,6 +7,7 @@ ghost use Rattle.x10_frame.specs.Items.{items_in, HasItems};
 
 use crate::node_view::NodeView;
 use x10_bytes::{u16_in, u32_in};
+use x10_model::FrameVersion;
 
 /// One of the counts of four bytes each that begin at `start`.
 #[inline(always)]
@@ -30,15 +31,16 @@ pub fn blob_in(bytes: &[u8], at: usize) -> &[u8]
 
 /// The node at a position: its class in two bytes, its number of fields in one, and their values.
 #[inline(always)]
-pub fn node_in(bytes: &[u8], at: usize, places: u16) -> NodeView<'_>
+pub fn node_in(bytes: &[u8], at: usize, version: FrameVersion, places: u16) -> NodeView<'_>
     requires room { at + 3 ≤ length bytes.now }
-    requires there { HasItems places (slice_index bytes.now (at + 2)) (drop (at + 3) bytes.now) }
+    requires there { HasItems version places (slice_index bytes.now (at + 2)) (drop (at + 3) bytes.now) }
     ensures { result ≡ record {
       class = from_be_bytes w16 (slice_range bytes.now at (at + 2));
-      fields = items_in places (slice_index bytes.now (at + 2)) (drop (at + 3) bytes.now);
+      fields = items_in version places (slice_index bytes.now (at + 2)) (drop (at + 3) bytes.now);
     } }
 {
     NodeView {
+        version,
         places,
         class: u16_in(bytes, at),
         count: bytes[at + 2],

@@ -2,7 +2,7 @@
 
 ghost use Rattle.std.specs.Int.{w32};
 ghost use Rattle.std.specs.Prelude.{nat_le};
-ghost use Rattle.x10_model.specs.Frames.{Narrow, uses, turn};
+ghost use Rattle.x10_model.specs.Frames.{uses, turn};
 ghost use Rattle.x10_model.specs.Readers.{byte, such_that, many, times};
 ghost use Rattle.x10_model.specs.Readers as readers;
 ghost use Rattle.x10_model.specs.ReadingFrames.{Short, Order, item_at, node_at, text_at, rail_at};
@@ -16,6 +16,7 @@ use crate::fields::length_at;
 use crate::item::item_at;
 use crate::used::Used;
 use x10_bytes::{byte_at, past, u16_at};
+use x10_model::FrameVersion;
 use x10_model::limits::MOST_FIELDS;
 
 /// What was used after `count` values, and the bytes after them.
@@ -23,16 +24,17 @@ use x10_model::limits::MOST_FIELDS;
 pub fn past_items<'a>(
     bytes: &'a [u8],
     count: u16,
+    version: FrameVersion,
     places: u16,
     all: &Used,
     used: &Used,
 ) -> Result<(Used, &'a [u8]), FrameFault>
-    ensures exact { Walks named uses (tables_in used.now) (λ x. tables_in x.0) (λ x. x.1.now) result (many (item_at Narrow places (tables_in all.now)) uses count (tables_in used.now) bytes.now) }
+    ensures exact { Walks named uses (tables_in used.now) (λ x. tables_in x.0) (λ x. x.1.now) result (many (item_at version places (tables_in all.now)) uses count (tables_in used.now) bytes.now) }
 {
     let mut met = *used;
     let mut rest = bytes;
     for _ in 0..count {
-        let (item, after) = item_at(rest, places, all, &met)?;
+        let (item, after) = item_at(rest, version, places, all, &met)?;
         met = met.with(&item);
         rest = after;
     }
@@ -57,18 +59,19 @@ fn field_count_at(bytes: &[u8]) -> Result<(u8, &[u8]), FrameFault>
 pub fn past_node<'a>(
     bytes: &'a [u8],
     number: u32,
+    version: FrameVersion,
     places: u16,
     all: &Used,
     used: &Used,
 ) -> Result<(Used, &'a [u8]), FrameFault>
-    ensures exact { PassesNode (tables_in used.now) (λ x. tables_in x.0) (λ x. x.1.now) result (node_at Narrow places (tables_in all.now) (turn number (tables_in used.now)) bytes.now) }
+    ensures exact { PassesNode (tables_in used.now) (λ x. tables_in x.0) (λ x. x.1.now) result (node_at version places (tables_in all.now) (turn number (tables_in used.now)) bytes.now) }
 {
     let (_, bytes) = u16_at::<FrameFault>(bytes)?;
     if number >= used.nodes {
         return Err(FrameFault::Order);
     }
     let (count, bytes) = field_count_at(bytes)?;
-    past_items(bytes, u16::from(count), places, all, used)
+    past_items(bytes, u16::from(count), version, places, all, used)
 }
 
 /// The bytes after a text.

@@ -1,10 +1,11 @@
-//! Parts of a frame at the end of bytes.
+//! Parts of a frame of version 2 at the end of bytes.
 
 ghost use Rattle.std.specs.Prelude.{◌≡◌, [], ◌∷◌, ◌++◌, ◌^◌, ◌<◌, ◌≤◌, OnOk, length};
 ghost use Rattle.std.specs.List.{flat_map};
 ghost use Rattle.std.specs.Int.{w16, w32, to_be_bytes};
 ghost use Rattle.x10_model.specs.Images.{int_bytes};
-ghost use Rattle.x10_model.specs.Frames.{Narrow, item_bytes, blob_bytes, node_bytes, counts_bytes};
+ghost use Rattle.x10_model.specs.declared.version.FrameVersion.TheVariants.{Wide};
+ghost use Rattle.x10_model.specs.Frames.{item_bytes, blob_bytes, node_bytes, counts_bytes};
 ghost use Rattle.x10_frame.specs.declared.head.Head.TheVariants as head;
 ghost use Rattle.x10_frame.specs.Items.{item_of};
 ghost use Rattle.x10_frame.specs.Heads.{IsGraphHead};
@@ -15,13 +16,21 @@ use crate::item::Item;
 use byteorder::{BigEndian, ByteOrder};
 use std::alloc::AllocError;
 
-/// A tag, and a number of two bytes.
 #[inline(always)]
-fn put_tagged(out: &mut Vec<u8>, tag: u8, number: u16) -> Result<(), AllocError>
-    ensures { OnOk result (out.new.items ≡ out.old.items ++ tag ∷ to_be_bytes w16 number) }
+fn put_place(out: &mut Vec<u8>, place: u16) -> Result<(), AllocError>
+    ensures { OnOk result (out.new.items ≡ out.old.items ++ 2 ∷ to_be_bytes w16 place) }
+{
+    let p = place.to_be_bytes();
+    out.extend_from_slice(&[2, p[0], p[1]])
+}
+
+/// A tag, and the number of a text, a rail or an object.
+#[inline(always)]
+fn put_number(out: &mut Vec<u8>, tag: u8, number: u32) -> Result<(), AllocError>
+    ensures { OnOk result (out.new.items ≡ out.old.items ++ tag ∷ to_be_bytes w32 number) }
 {
     let n = number.to_be_bytes();
-    out.extend_from_slice(&[tag, n[0], n[1]])
+    out.extend_from_slice(&[tag, n[0], n[1], n[2], n[3]])
 }
 
 #[inline(always)]
@@ -44,14 +53,14 @@ fn put_ref(out: &mut Vec<u8>, home: u16, id: u32, class: u16) -> Result<(), Allo
 #[tactic(auto, unfolding(x10_model::specs::Frames::item_bytes))]
 #[inline(always)]
 pub fn put_item(out: &mut Vec<u8>, item: &Item) -> Result<(), AllocError>
-    ensures { OnOk result (out.new.items ≡ out.old.items ++ item_bytes Narrow (item_of item.now)) }
+    ensures { OnOk result (out.new.items ≡ out.old.items ++ item_bytes Wide (item_of item.now)) }
 {
     match *item {
         Item::Int(number) => put_int(out, number),
-        Item::Place(place) => put_tagged(out, 2, place),
-        Item::Text(index) => put_tagged(out, 3, index),
-        Item::Rail(index) => put_tagged(out, 4, index),
-        Item::Object(index) => put_tagged(out, 5, index),
+        Item::Place(place) => put_place(out, place),
+        Item::Text(index) => put_number(out, 3, index),
+        Item::Rail(index) => put_number(out, 4, index),
+        Item::Object(index) => put_number(out, 5, index),
         Item::Null => out.extend_from_slice(&[6]),
         Item::Ref { home, id, class } => put_ref(out, home, id, class),
     }
@@ -90,7 +99,7 @@ pub fn put_begin(out: &mut Vec<u8>, class: u16, fields: u8) -> Result<(), AllocE
 #[tactic(auto, unfolding(x10_model::specs::Frames::node_bytes))]
 pub fn put_node(out: &mut Vec<u8>, class: u16, fields: &[Item]) -> Result<(), AllocError>
     requires { length fields.now ≤ 16 }
-    ensures { OnOk result (out.new.items ≡ out.old.items ++ node_bytes Narrow (node_of class fields.now)) }
+    ensures { OnOk result (out.new.items ≡ out.old.items ++ node_bytes Wide (node_of class fields.now)) }
 {
     put_begin(out, class, fields.len() as u8)?;
     put_items(out, fields)
@@ -115,12 +124,12 @@ fn put_spawn(
     number: u32,
     function: u16,
 ) -> Result<(), AllocError>
-    ensures { OnOk result (out.new.items ≡ out.old.items ++ head_bytes (head.Spawn from to home number function)) }
+    ensures { OnOk result (out.new.items ≡ out.old.items ++ head_bytes Wide (head.Spawn from to home number function)) }
 {
     let (f, t, h) = (from.to_be_bytes(), to.to_be_bytes(), home.to_be_bytes());
     let (n, u) = (number.to_be_bytes(), function.to_be_bytes());
     out.extend_from_slice(&[
-        1, 1, f[0], f[1], t[0], t[1], h[0], h[1], n[0], n[1], n[2], n[3], u[0], u[1],
+        2, 1, f[0], f[1], t[0], t[1], h[0], h[1], n[0], n[1], n[2], n[3], u[0], u[1],
     ])
 }
 
@@ -134,7 +143,7 @@ fn put_shift(
     number: u32,
     function: u16,
 ) -> Result<(), AllocError>
-    ensures { OnOk result (out.new.items ≡ out.old.items ++ head_bytes (head.Shift from to waiting home number function)) }
+    ensures { OnOk result (out.new.items ≡ out.old.items ++ head_bytes Wide (head.Shift from to waiting home number function)) }
 {
     let (f, t, w) = (from.to_be_bytes(), to.to_be_bytes(), waiting.to_be_bytes());
     let (h, n, u) = (
@@ -143,7 +152,7 @@ fn put_shift(
         function.to_be_bytes(),
     );
     out.extend_from_slice(&[
-        1, 2, f[0], f[1], t[0], t[1], w[0], w[1], w[2], w[3], h[0], h[1], n[0], n[1], n[2], n[3],
+        2, 2, f[0], f[1], t[0], t[1], w[0], w[1], w[2], w[3], h[0], h[1], n[0], n[1], n[2], n[3],
         u[0], u[1],
     ])
 }
@@ -151,16 +160,16 @@ fn put_shift(
 /// The head of a frame of two places and a number: type 3 or 4.
 #[inline(always)]
 fn put_short(out: &mut Vec<u8>, kind: u8, from: u16, to: u16, number: u32) -> Result<(), AllocError>
-    ensures { OnOk result (out.new.items ≡ out.old.items ++ ((1 ∷ kind ∷ []) ++ (to_be_bytes w16 from ++ (to_be_bytes w16 to ++ to_be_bytes w32 number)))) }
+    ensures { OnOk result (out.new.items ≡ out.old.items ++ ((2 ∷ kind ∷ []) ++ (to_be_bytes w16 from ++ (to_be_bytes w16 to ++ to_be_bytes w32 number)))) }
 {
     let (f, t, n) = (from.to_be_bytes(), to.to_be_bytes(), number.to_be_bytes());
-    out.extend_from_slice(&[1, kind, f[0], f[1], t[0], t[1], n[0], n[1], n[2], n[3]])
+    out.extend_from_slice(&[2, kind, f[0], f[1], t[0], t[1], n[0], n[1], n[2], n[3]])
 }
 
 /// What comes before the graph of a frame, or before the number of places of a report.
 #[inline(always)]
 pub fn put_head(out: &mut Vec<u8>, head: &Head) -> Result<(), AllocError>
-    ensures { OnOk result (out.new.items ≡ out.old.items ++ head_bytes head.now) }
+    ensures { OnOk result (out.new.items ≡ out.old.items ++ head_bytes Wide head.now) }
 {
     match *head {
         Head::Spawn {

@@ -1,7 +1,7 @@
 //! The positions of the texts, rails and nodes of a frame.
 
 ghost use Rattle.std.specs.Prelude.{◌≤◌};
-ghost use Rattle.x10_model.specs.Frames.{Narrow, most_of, blob_bytes, node_bytes, next_turn, turn};
+ghost use Rattle.x10_model.specs.Frames.{most_of, blob_bytes, node_bytes, next_turn, turn};
 ghost use Rattle.x10_model.specs.Readers.{many, times};
 ghost use Rattle.x10_model.specs.ReadingFrames.{text_at, rail_at, node_at};
 ghost use Rattle.x10_model.specs.ReadingFrames as reading;
@@ -15,6 +15,7 @@ use crate::fault::FrameFault;
 use crate::parts::{past_node, past_rail, past_text};
 use crate::used::Used;
 use std::alloc::Global;
+use x10_model::FrameVersion;
 
 /// Where each of `count` texts begins in `frame`, of which `bytes` is the rest, and the bytes after them.
 pub fn text_table<'a>(
@@ -57,27 +58,29 @@ pub fn rail_table<'a>(
 }
 
 /// Where each node begins in `frame`, of which `bytes` is the rest, what was used after them, and the bytes after them.
+#[inline(always)]
 pub fn node_table<'a>(
     alloc: Global,
     frame: &[u8],
     bytes: &'a [u8],
     count: u32,
+    version: FrameVersion,
     places: u16,
     all: &Used,
     used: &Used,
 ) -> Result<(Vec<usize>, Used, &'a [u8]), FrameFault>
     requires ends { EndsWith frame.now bytes.now }
-    requires texts { all.now.texts ≤ most_of Narrow }
-    requires rails { all.now.rails ≤ most_of Narrow }
-    requires nodes { all.now.nodes ≤ most_of Narrow }
-    ensures exact { GivesNodes (tables_in used.now) (node_bytes Narrow) frame.now (λ x. x.0.items) (λ x. tables_in x.1) (λ x. x.2.now) result (many (reading.node_at Narrow places (tables_in all.now)) next_turn count (turn 0 (tables_in used.now)) bytes.now) }
+    requires texts { all.now.texts ≤ most_of version }
+    requires rails { all.now.rails ≤ most_of version }
+    requires nodes { all.now.nodes ≤ most_of version }
+    ensures exact { GivesNodes (tables_in used.now) (node_bytes version) frame.now (λ x. x.0.items) (λ x. tables_in x.1) (λ x. x.2.now) result (many (reading.node_at version places (tables_in all.now)) next_turn count (turn 0 (tables_in used.now)) bytes.now) }
 {
     let mut table = Vec::new(alloc);
     let mut met = *used;
     let mut rest = bytes;
     for number in 0..count {
         let at = frame.len() - rest.len();
-        let (after, left) = past_node(rest, number, places, all, &met)?;
+        let (after, left) = past_node(rest, number, version, places, all, &met)?;
         met = after;
         rest = left;
         table.push(at)?;

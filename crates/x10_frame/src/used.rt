@@ -1,7 +1,7 @@
 ghost use Rattle.std.specs.Prelude.{◌≡◌};
 ghost use Rattle.x10_model.specs.Frames.{uses, none};
 ghost use Rattle.x10_model.specs.ReadingFrames.{same_tables};
-ghost use Rattle.x10_frame.specs.Items.{item_of, tables_in};
+ghost use Rattle.x10_frame.specs.Items.{item_of, tables_in, HasNext};
 
 use crate::item::Item;
 
@@ -37,6 +37,7 @@ impl Used {
     /// What was used once a value was met.
     #[inline(always)]
     pub fn with(&self, item: &Item) -> Used
+        requires { HasNext item.now }
         ensures { tables_in result ≡ uses (tables_in self.now) (item_of item.now) }
     {
         let Used {
@@ -46,19 +47,19 @@ impl Used {
         } = *self;
         match *item {
             Item::Text(i) => Used {
-                texts: texts.max(u32::from(i) + 1),
+                texts: texts.max(i + 1),
                 rails,
                 nodes,
             },
             Item::Rail(i) => Used {
                 texts,
-                rails: rails.max(u32::from(i) + 1),
+                rails: rails.max(i + 1),
                 nodes,
             },
             Item::Object(i) => Used {
                 texts,
                 rails,
-                nodes: nodes.max(u32::from(i) + 1),
+                nodes: nodes.max(i + 1),
             },
             _ => *self,
         }

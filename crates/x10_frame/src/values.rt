@@ -4,11 +4,13 @@ ghost use Rattle.x10_frame.specs.Items.{item_of};
 use crate::item::Item;
 use crate::known::known_item;
 use std::marker::Model;
+use x10_model::FrameVersion;
 
 /// Values of a frame in its bytes, one after another: those that are passed, or the fields of an object. Clauses see the
 /// list of those that are left.
 #[derive(Debug, Drop)]
 pub struct Values<'a> {
+    pub(crate) version: FrameVersion,
     pub(crate) places: u16,
     pub(crate) count: u16,
     pub(crate) bytes: &'a [u8],
@@ -22,9 +24,9 @@ impl<'a> Model for Values<'a> {
 
     ghost use Rattle.x10_frame.specs.Items.{items_in, HasItems};
 
-    ghost view = { λ a. items_in a.places a.count a.bytes.now };
+    ghost view = { λ a. items_in a.version a.places a.count a.bytes.now };
 
-    ghost invariant = { λ a. HasItems a.places a.count a.bytes.now };
+    ghost invariant = { λ a. HasItems a.version a.places a.count a.bytes.now };
 }
 
 impl<'a> Values<'a> {
@@ -42,7 +44,7 @@ impl<'a> Values<'a> {
         requires { 0 < length self.old }
         ensures { self.old ≡ item_of result ∷ self.new }
     {
-        let (item, rest) = known_item(self.bytes);
+        let (item, rest) = known_item(self.bytes, self.version);
         self.bytes = rest;
         self.count -= 1;
         item

@@ -1,7 +1,9 @@
 ghost use Rattle.std.specs.Prelude.{◌≡◌, ◌^◌, ◌<◌, ◌≤◌, IfOk, Ok, Some, length, slice_get};
 ghost use Rattle.std.specs.Int.{w32, to_be_bytes};
+ghost use Rattle.x10_model.specs.declared.limits.TheConstants.{MOST_WIDE};
 ghost use Rattle.x10_model.specs.Modules.{FitsText};
-ghost use Rattle.x10_model.specs.Frames.{Narrow, Frame, FitsFrame, FitsRail, item_bytes, node_bytes, spelling};
+ghost use Rattle.x10_model.specs.declared.version.FrameVersion.{FrameVersion};
+ghost use Rattle.x10_model.specs.Frames.{Frame, FitsRail, IsSpelled, item_bytes, node_bytes, spelling};
 ghost use Rattle.x10_model.specs.ReadingFrames.{frame_at};
 ghost use Rattle.x10_frame.specs.Faults.{Gives};
 ghost use Rattle.x10_frame.specs.Heads.{head_of, graph_of, sent_of, received_of};
@@ -12,18 +14,20 @@ ghost use Rattle.x10_bytes.specs.Tables.{IsPart};
 
 use crate::body::{Body, read_body};
 use crate::fault::FrameFault;
-use crate::head::{Head, read_head};
+use crate::head::{Head, read_head, version_at};
 use crate::item::{Item, nth_item};
 use crate::node_view::NodeView;
 use crate::offsets::{blob_in, count_in, node_in};
 use std::alloc::Global;
 use std::marker::Model;
 use x10_bytes::bytes_from;
+use x10_model::FrameVersion;
 
 /// A frame, read in place: the bytes themselves, and where its parts begin. Clauses see the frame.
 #[derive(Drop)]
 pub struct FrameView<'a> {
     bytes: &'a [u8],
+    version: FrameVersion,
     places: u16,
     head: Head,
     body: Body,
@@ -38,20 +42,22 @@ impl<'a> Model for FrameView<'a> {
 
     ghost view = { λ a. frame_in a.places a.bytes.now };
 
-    ghost invariant = { λ a. IsView a.bytes.now a.places a.head a.body.start a.body.roots a.body.texts.items a.body.rails.items a.body.nodes.items };
+    ghost invariant = { λ a. IsView a.version a.bytes.now a.places a.head a.body.start a.body.roots a.body.texts.items a.body.rails.items a.body.nodes.items };
 }
 
 #[inline(always)]
 fn whole<'a>(alloc: Global, bytes: &'a [u8], places: u16) -> Result<FrameView<'a>, FrameFault>
     ensures exact { Gives (λ v. v) result (frame_at places bytes.now) }
 {
-    let (head, rest) = read_head(bytes, places)?;
-    let (body, rest) = read_body(alloc, bytes, rest, places, &head)?;
+    let (version, rest) = version_at(bytes)?;
+    let (head, rest) = read_head(rest, places)?;
+    let (body, rest) = read_body(alloc, bytes, rest, version, places, &head)?;
     if !rest.is_empty() {
         return Err(FrameFault::Trailing);
     }
     Ok(FrameView {
         bytes,
+        version,
         places,
         head,
         body,
@@ -59,21 +65,22 @@ fn whole<'a>(alloc: Global, bytes: &'a [u8], places: u16) -> Result<FrameView<'a
 }
 
 impl<'a> FrameView<'a> {
-    /// The view of a frame where there are `places` places. A fault is the first one from front to back. One pass over the
-    /// bytes; the memory taken is 8 bytes for each text, rail and node that is there.
+    /// The view of a frame of either version where there are `places` places. A fault is the first one from front to back. One
+    /// pass over the bytes; the memory taken is 8 bytes for each text, rail and node that is there, whatever the counts say.
     pub fn read(alloc: Global, bytes: &'a [u8], places: u16) -> Result<FrameView<'a>, FrameFault>
-        ensures found { IfOk result (λ f. FitsFrame Narrow places f × (bytes.now ≡ spelling Narrow f)) }
-        ensures only { (f : Frame) → FitsFrame Narrow places f → bytes.now ≡ spelling Narrow f → Gives (λ v. v) result (Ok f) }
+        ensures found { IfOk result (λ f. IsSpelled places f bytes.now) }
+        ensures only { (f : Frame) → IsSpelled places f bytes.now → Gives (λ v. v) result (Ok f) }
         ensures exact { Gives (λ v. v) result (frame_at places bytes.now) }
     {
         whole(alloc, bytes, places)
     }
 
-    /// What the frame is, and the numbers that come before its graph or its counts: its first bytes. Constant time, like all
+    /// What the frame is, and the numbers that come before its graph or its counts: its first bytes. As of all parts, the
+    /// clause says where they are in the frame's spelling in each version, one of which is its bytes. Constant time, like all
     /// that follow except for a walk over at most 16 values, and no memory.
     pub fn head(&self) -> Head
         ensures value { result ≡ head_of self.now }
-        ensures part { IsPart (spelling Narrow self.now) 0 (head_bytes result) }
+        ensures part { (v : FrameVersion) → IsPart (spelling v self.now) 0 (head_bytes v result) }
     {
         self.head
     }
@@ -97,7 +104,7 @@ impl<'a> FrameView<'a> {
     pub fn sent(&self, place: usize) -> u32
         requires { place < length (sent_of self.now) }
         ensures value { slice_get (sent_of self.now) place ≡ Some result }
-        ensures part { IsPart (spelling Narrow self.now) (place_of_sent self.now place) (to_be_bytes w32 result) }
+        ensures part { (v : FrameVersion) → IsPart (spelling v self.now) (place_of_sent v self.now place) (to_be_bytes w32 result) }
     {
         count_in(self.bytes, self.body.start, place)
     }
@@ -107,7 +114,7 @@ impl<'a> FrameView<'a> {
     pub fn received(&self, place: usize) -> u32
         requires { place < length (received_of self.now) }
         ensures value { slice_get (received_of self.now) place ≡ Some result }
-        ensures part { IsPart (spelling Narrow self.now) (place_of_received self.now place) (to_be_bytes w32 result) }
+        ensures part { (v : FrameVersion) → IsPart (spelling v self.now) (place_of_received v self.now place) (to_be_bytes w32 result) }
     {
         count_in(
             self.bytes,
@@ -128,7 +135,7 @@ impl<'a> FrameView<'a> {
     /// How many texts there are.
     pub fn texts(&self) -> usize
         ensures value { result ≡ length (graph_of self.now).texts }
-        ensures few { result < 2 ^ 16 }
+        ensures few { result ≤ MOST_WIDE }
     {
         self.body.texts.len()
     }
@@ -136,7 +143,7 @@ impl<'a> FrameView<'a> {
     /// How many rails there are.
     pub fn rails(&self) -> usize
         ensures value { result ≡ length (graph_of self.now).rails }
-        ensures few { result < 2 ^ 16 }
+        ensures few { result ≤ MOST_WIDE }
     {
         self.body.rails.len()
     }
@@ -145,7 +152,7 @@ impl<'a> FrameView<'a> {
     #[inline(always)]
     pub fn nodes(&self) -> usize
         ensures value { result ≡ length (graph_of self.now).nodes }
-        ensures few { result < 2 ^ 16 }
+        ensures few { result ≤ MOST_WIDE }
     {
         self.body.nodes.len()
     }
@@ -155,10 +162,11 @@ impl<'a> FrameView<'a> {
     pub fn root(&self, i: usize) -> Item
         requires { i < length (graph_of self.now).roots }
         ensures value { slice_get (graph_of self.now).roots i ≡ Some (item_of result) }
-        ensures part { IsPart (spelling Narrow self.now) (place_of_root self.now i) (item_bytes Narrow (item_of result)) }
+        ensures part { (v : FrameVersion) → IsPart (spelling v self.now) (place_of_root v self.now i) (item_bytes v (item_of result)) }
     {
         nth_item(
             bytes_from(self.bytes, self.body.start),
+            self.version,
             self.places,
             self.body.roots,
             i,
@@ -170,7 +178,7 @@ impl<'a> FrameView<'a> {
         requires { i < length (graph_of self.now).texts }
         ensures value { slice_get (graph_of self.now).texts i ≡ Some result.now }
         ensures fits { FitsText result.now }
-        ensures part { IsPart (spelling Narrow self.now) (place_of_text self.now i) result.now }
+        ensures part { (v : FrameVersion) → IsPart (spelling v self.now) (place_of_text v self.now i) result.now }
     {
         let bytes = self.bytes;
         let text = blob_in(bytes, self.body.texts[i]);
@@ -182,7 +190,7 @@ impl<'a> FrameView<'a> {
         requires { i < length (graph_of self.now).rails }
         ensures value { slice_get (graph_of self.now).rails i ≡ Some result.now }
         ensures fits { FitsRail result.now }
-        ensures part { IsPart (spelling Narrow self.now) (place_of_rail self.now i) result.now }
+        ensures part { (v : FrameVersion) → IsPart (spelling v self.now) (place_of_rail v self.now i) result.now }
     {
         let bytes = self.bytes;
         blob_in(bytes, self.body.rails[i])
@@ -194,9 +202,9 @@ impl<'a> FrameView<'a> {
         requires { i < length (graph_of self.now).nodes }
         ensures value { slice_get (graph_of self.now).nodes i ≡ Some result }
         ensures few { length result.fields ≤ 16 }
-        ensures part { IsPart (spelling Narrow self.now) (place_of_node self.now i) (node_bytes Narrow result) }
+        ensures part { (v : FrameVersion) → IsPart (spelling v self.now) (place_of_node v self.now i) (node_bytes v result) }
     {
         let bytes = self.bytes;
-        node_in(bytes, self.body.nodes[i], self.places)
+        node_in(bytes, self.body.nodes[i], self.version, self.places)
     }
 }

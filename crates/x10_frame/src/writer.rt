@@ -1,9 +1,10 @@
-//! Writing frames.
+//! Writing frames, in version 2.
 
 ghost use Rattle.std.specs.Prelude.{◌≡◌, [], ◌∷◌, ◌++◌, ◌^◌, ◌<◌, ◌≤◌, IfOk, OnOk, length};
 ghost use Rattle.x10_model.specs.Frames as frames;
 ghost use Rattle.std.specs.Int.{w16, to_be_bytes};
-ghost use Rattle.x10_model.specs.Frames.{Narrow, Graph, item_bytes, blob_bytes, node_bytes, spelling};
+ghost use Rattle.x10_model.specs.declared.version.FrameVersion.TheVariants.{Wide};
+ghost use Rattle.x10_model.specs.Frames.{Graph, item_bytes, blob_bytes, node_bytes, spelling};
 ghost use Rattle.x10_frame.specs.declared.head.Head.{Head as head};
 ghost use Rattle.x10_frame.specs.Heads.{IsGraphHead, with_graph};
 ghost use Rattle.x10_frame.specs.Items.{item_of};
@@ -20,9 +21,9 @@ use std::marker::Model;
 #[derive(Clone, Copy, Debug, PartialEq, Eq)]
 pub struct Sizes {
     pub roots: u16,
-    pub texts: u16,
-    pub rails: u16,
-    pub nodes: u16,
+    pub texts: u32,
+    pub rails: u32,
+    pub nodes: u32,
 }
 
 /// A frame that is being written: the head and the sizes, and then the roots, the texts, the rails and
@@ -42,18 +43,20 @@ impl Model for FrameWriter {
 
 #[inline(always)]
 fn put_sizes(out: &mut Vec<u8>, sizes: &Sizes) -> Result<(), AllocError>
-    ensures { OnOk result (out.new.items ≡ out.old.items ++ sizes_bytes sizes.now.roots sizes.now.texts sizes.now.rails sizes.now.nodes) }
+    ensures { OnOk result (out.new.items ≡ out.old.items ++ sizes_bytes Wide sizes.now.roots sizes.now.texts sizes.now.rails sizes.now.nodes) }
 {
     let (r, t) = (sizes.roots.to_be_bytes(), sizes.texts.to_be_bytes());
     let (l, n) = (sizes.rails.to_be_bytes(), sizes.nodes.to_be_bytes());
-    out.extend_from_slice(&[r[0], r[1], t[0], t[1], l[0], l[1], n[0], n[1]])
+    out.extend_from_slice(&[
+        r[0], r[1], t[0], t[1], t[2], t[3], l[0], l[1], l[2], l[3], n[0], n[1], n[2], n[3],
+    ])
 }
 
 impl FrameWriter {
     /// A frame with this head, which is not a report's, and with these sizes.
     pub fn new(alloc: Global, head: &Head, sizes: &Sizes) -> Result<FrameWriter, AllocError>
         requires graph { IsGraphHead head.now }
-        ensures value { IfOk result (λ w. w ≡ head_bytes head.now ++ sizes_bytes sizes.now.roots sizes.now.texts sizes.now.rails sizes.now.nodes) }
+        ensures value { IfOk result (λ w. w ≡ head_bytes Wide head.now ++ sizes_bytes Wide sizes.now.roots sizes.now.texts sizes.now.rails sizes.now.nodes) }
     {
         let mut bytes = Vec::new(alloc);
         put_head(&mut bytes, head)?;
@@ -70,7 +73,7 @@ impl FrameWriter {
         room: usize,
     ) -> Result<FrameWriter, AllocError>
         requires graph { IsGraphHead head.now }
-        ensures value { IfOk result (λ w. w ≡ head_bytes head.now ++ sizes_bytes sizes.now.roots sizes.now.texts sizes.now.rails sizes.now.nodes) }
+        ensures value { IfOk result (λ w. w ≡ head_bytes Wide head.now ++ sizes_bytes Wide sizes.now.roots sizes.now.texts sizes.now.rails sizes.now.nodes) }
     {
         let mut bytes = Vec::with_capacity(alloc, room)?;
         put_head(&mut bytes, head)?;
@@ -91,7 +94,7 @@ impl FrameWriter {
     /// The next value: one that is passed, or the next field of an object that was begun.
     #[inline(always)]
     pub fn value(self, value: &Item) -> Result<FrameWriter, AllocError>
-        ensures value { IfOk result (λ w. w ≡ self ++ item_bytes Narrow (item_of value.now)) }
+        ensures value { IfOk result (λ w. w ≡ self ++ item_bytes Wide (item_of value.now)) }
     {
         let mut bytes = self.bytes;
         put_item(&mut bytes, value)?;
@@ -140,7 +143,7 @@ impl FrameWriter {
     /// The next object: the number of its class, and its fields.
     pub fn node(self, class: u16, fields: &[Item]) -> Result<FrameWriter, AllocError>
         requires { length fields.now ≤ 16 }
-        ensures value { IfOk result (λ w. w ≡ self ++ node_bytes Narrow (node_of class fields.now)) }
+        ensures value { IfOk result (λ w. w ≡ self ++ node_bytes Wide (node_of class fields.now)) }
     {
         let mut bytes = self.bytes;
         put_node(&mut bytes, class, fields)?;
@@ -150,7 +153,7 @@ impl FrameWriter {
     /// The bytes. Where all of a graph was written they spell its frame.
     pub fn finish(self) -> Vec<u8>
         ensures value { result.items ≡ self }
-        ensures spelled { (h : head) (g : Graph) → IsGraphHead h → self ≡ draft h g → result.items ≡ spelling Narrow (with_graph h g) }
+        ensures spelled { (h : head) (g : Graph) → IsGraphHead h → self ≡ draft Wide h g → result.items ≡ spelling Wide (with_graph h g) }
     {
         self.bytes
     }
@@ -167,7 +170,7 @@ pub fn write_counts(
     received: &[u32],
 ) -> Result<Vec<u8>, AllocError>
     requires { length sent.now < 2 ^ 16 }
-    ensures value { IfOk result (λ bytes. bytes.items ≡ spelling Narrow (frames.Report from to number sent.now received.now)) }
+    ensures value { IfOk result (λ bytes. bytes.items ≡ spelling Wide (frames.Report from to number sent.now received.now)) }
 {
     let mut bytes = Vec::with_capacity(alloc, 16 + 8 * sent.len())?;
     put_head(&mut bytes, &Head::Report { from, to, number })?;
@@ -181,7 +184,7 @@ pub fn write_counts(
 /// The frame that takes a report to the home of its finish.
 pub fn write_report(alloc: Global, to: u16, report: &Report) -> Result<Vec<u8>, AllocError>
     requires { length report.now.sent.items < 2 ^ 16 }
-    ensures value { IfOk result (λ bytes. bytes.items ≡ spelling Narrow (frames.Report report.now.place to report.now.number report.now.sent.items report.now.received.items)) }
+    ensures value { IfOk result (λ bytes. bytes.items ≡ spelling Wide (frames.Report report.now.place to report.now.number report.now.sent.items report.now.received.items)) }
 {
     write_counts(
         alloc,

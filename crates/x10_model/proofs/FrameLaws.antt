@@ -1,10 +1,10 @@
 -- A frame is read again, and what is read is spelled so.
-use Rattle.std.proofs.Common.{◌≡◌, ℕ, zero, suc, ◌^◌, ◌<◌, ◌≤◌, ◌&&◌, leb, List, [], ◌++◌, Result, Ok, refl, sym, ap, subst, ◌∙◌, arith, leb-true, le-leb}
+use Rattle.std.proofs.Common.{◌≡◌, ℕ, zero, suc, ◌^◌, ◌<◌, ◌≤◌, ◌&&◌, leb, List, [], ◌∷◌, ◌++◌, Result, Ok, refl, sym, ap, subst, ◌∙◌, arith, leb-true, le-leb}
 use Rattle.std.specs.Int.{w16, w32, to_be_bytes}
 use Rattle.std.proofs.lemmas.Bool.{and_from, and_parts}
-use Rattle.x10_model.specs.Frames.{FrameVersion, Narrow, Graph, Launch, launch, Frame, Spawn, Shift, Back, Report, FitsGraph, FitsLaunch, FitsCounts, FitsBody, FitsFrame, graph_bytes, launch_bytes, counts_bytes, type_of, from_of, to_of, body_bytes, spelling}
-use Rattle.x10_model.specs.Readers.{IsBytes, number, times}
-use Rattle.x10_model.specs.ReadingFrames.{FrameFault, Short, Version, FrameType, Place, Trailing, launch_at, body_at, parts_at, frame_at}
+use Rattle.x10_model.specs.Frames.{FrameVersion, Narrow, Wide, byte_of, most_of, IsSpelled, Graph, Launch, launch, Frame, Spawn, Shift, Back, Report, FitsGraph, FitsLaunch, FitsCounts, FitsBody, FitsFrame, graph_bytes, launch_bytes, counts_bytes, type_of, from_of, to_of, body_bytes, spelling}
+use Rattle.x10_model.specs.Readers.{IsBytes, bind, given, byte, number, times, all_of}
+use Rattle.x10_model.specs.ReadingFrames.{FrameFault, Short, Version, FrameType, Place, Trailing, launch_at, body_at, version_at, after_version, parts_at, frame_at}
 use Rattle.x10_model.proofs.ReaderLaws.{Reads, then_reads, last_reads, made_reads, such_that_reads, expect_reads, spelled_where}
 use Rattle.x10_model.proofs.PartLaws.{byte_reads, number_reads, each_reads, all_again, all_takes, wide16, wide32}
 use Rattle.x10_model.proofs.ItemLaws.{place_reads}
@@ -152,26 +152,49 @@ type_small : (y : Frame) → (1 ≤ type_of y) × (type_of y ≤ 4)
 type_small (Spawn from to home number function graph) = (omega arith, omega arith)
 type_small _ = (omega arith, omega arith)
 
-parts_read : (places : ℕ) → places < 2 ^ 16 → Reads (parts_at places) (spelling Narrow) (FitsFrame Narrow places)
-unfolding parts_at spelling
-parts_read places few =
-    expect_reads 1 Version (byte_reads Short) (omega arith)
-    (then_reads type_of (λ y. to_be_bytes w16 (from_of y) ++ (to_be_bytes w16 (to_of y) ++ body_bytes Narrow y)) (such_that_reads (λ n. leb 1 n && leb n 4) FrameType (byte_reads Short))
+-- what follows the first byte
+abbrev after_first : FrameVersion → Frame → List ℕ
+after_first v y = type_of y ∷ (to_be_bytes w16 (from_of y) ++ (to_be_bytes w16 (to_of y) ++ body_bytes v y))
+
+after_reads : (v : FrameVersion) (places : ℕ) → places < 2 ^ 16 → Reads (after_version v places) (after_first v) (FitsFrame v places)
+unfolding after_version
+after_reads v places few =
+    then_reads type_of (λ y. to_be_bytes w16 (from_of y) ++ (to_be_bytes w16 (to_of y) ++ body_bytes v y)) (such_that_reads (λ n. leb 1 n && leb n 4) FrameType (byte_reads Short))
     (λ y g. let s = type_small y in (omega (arith, s), and_from (leb 1 (type_of y)) (leb (type_of y) 4) (le-leb 1 (type_of y) s.0) (le-leb (type_of y) 4 s.1))) (λ type h.
-    then_reads from_of (λ y. to_be_bytes w16 (to_of y) ++ body_bytes Narrow y) (place_reads places few) (λ y g. g.1.from) (λ from hf.
-    then_reads to_of (body_bytes Narrow) (place_reads places few) (λ y g. g.1.1.to) (λ to ht.
+    then_reads from_of (λ y. to_be_bytes w16 (to_of y) ++ body_bytes v y) (place_reads places few) (λ y g. g.1.from) (λ from hf.
+    then_reads to_of (body_bytes v) (place_reads places few) (λ y g. g.1.1.to) (λ to ht.
     let b = and_parts (leb 1 type) (leb type 4) h.1 in
-    body_reads Narrow places few type from to (leb-true 1 type b.0) (leb-true type 4 b.1) hf ht))))
+    body_reads v places few type from to (leb-true 1 type b.0) (leb-true type 4 b.1) hf ht)))
+
+-- the first byte says how the others are read
+by_first : (v : FrameVersion) (places : ℕ) (rest : List ℕ) → frame_at places (byte_of v ∷ rest) ≡ all_of (after_version v places) Trailing rest
+unfolding frame_at all_of parts_at version_at bind given byte
+by_first Narrow places rest = refl
+by_first Wide places rest = refl
+
+spelled_first : (v : FrameVersion) (f : Frame) → spelling v f ≡ byte_of v ∷ after_first v f
+unfolding spelling
+spelled_first v f = refl
 
 -- what is spelled is read again
-pub frame_again : (places : ℕ) → places < 2 ^ 16 → (f : Frame) → FitsFrame Narrow places f → frame_at places (spelling Narrow f) ≡ Ok f
-unfolding frame_at
-frame_again places few f fits = all_again (parts_read places few) Trailing f fits
+pub frame_again : (v : FrameVersion) (places : ℕ) → places < 2 ^ 16 → (f : Frame) → FitsFrame v places f → frame_at places (spelling v f) ≡ Ok f
+frame_again v places few f fits = ap (frame_at places) (spelled_first v f) ∙ by_first v places (after_first v f) ∙ all_again (after_reads v places few) Trailing f fits
 
 -- what is read is spelled so
-pub frame_takes : (places : ℕ) → places < 2 ^ 16 → (bytes : List ℕ) (f : Frame) → IsBytes bytes → frame_at places bytes ≡ Ok f → FitsFrame Narrow places f × (bytes ≡ spelling Narrow f)
-unfolding frame_at
-frame_takes places few bytes f b e = all_takes (parts_read places few) Trailing bytes f b e
+after_takes : (v : FrameVersion) (places : ℕ) → places < 2 ^ 16 → (rest : List ℕ) (f : Frame) → IsBytes (byte_of v ∷ rest) → frame_at places (byte_of v ∷ rest) ≡ Ok f → IsSpelled places f (byte_of v ∷ rest)
+after_takes v places few rest f b e =
+    let t = all_takes (after_reads v places few) Trailing rest f (λ k. b (suc k)) (sym (by_first v places rest) ∙ e) in
+    record { version = v; fits = t.0; is = ap (λ (l : List ℕ). byte_of v ∷ l) t.1 ∙ sym (spelled_first v f) }
+
+pub frame_takes : (places : ℕ) → places < 2 ^ 16 → (bytes : List ℕ) (f : Frame) → IsBytes bytes → frame_at places bytes ≡ Ok f → IsSpelled places f bytes
+unfolding frame_at all_of parts_at version_at bind given byte
+frame_takes places few [] f b e = absurd cc
+frame_takes places few (zero ∷ rest) f b e = absurd cc
+frame_takes places few (suc zero ∷ rest) f b e = after_takes Narrow places few rest f b e
+frame_takes places few (suc (suc zero) ∷ rest) f b e = after_takes Wide places few rest f b e
+frame_takes places few (suc (suc (suc n)) ∷ rest) f b e = absurd cc
+
+-- ---- one frame
 
 abbrev read_frame : Frame → Result Frame FrameFault
 read_frame f = Ok f
@@ -179,6 +202,46 @@ read_frame f = Ok f
 ok_same : (f g : Frame) → read_frame f ≡ read_frame g → f ≡ g
 ok_same f g e = cc
 
+same_version : (v w : FrameVersion) → byte_of v ≡ byte_of w → v ≡ w
+same_version Narrow Narrow e = refl
+same_version Narrow Wide e = absurd (omega (arith, e))
+same_version Wide Narrow e = absurd (omega (arith, e))
+same_version Wide Wide e = refl
+
+same_first : (m n : ℕ) (xs ys : List ℕ) → m ∷ xs ≡ n ∷ ys → m ≡ n
+same_first m n xs ys e = cc
+
 -- no two frames share a spelling
-pub one_frame : (places : ℕ) → places < 2 ^ 16 → (f g : Frame) → FitsFrame Narrow places f → FitsFrame Narrow places g → spelling Narrow f ≡ spelling Narrow g → f ≡ g
-one_frame places few f g hf hg e = ok_same f g (sym (frame_again places few f hf) ∙ ap (frame_at places) e ∙ frame_again places few g hg)
+pub one_frame : (v w : FrameVersion) (places : ℕ) → places < 2 ^ 16 → (f g : Frame) → FitsFrame v places f → FitsFrame w places g → spelling v f ≡ spelling w g → (v ≡ w) × (f ≡ g)
+one_frame v w places few f g hf hg e = (
+  same_version v w (same_first (byte_of v) (byte_of w) (after_first v f) (after_first w g) (sym (spelled_first v f) ∙ e ∙ spelled_first w g)),
+  ok_same f g (sym (frame_again v places few f hf) ∙ ap (frame_at places) e ∙ frame_again w places few g hg),
+)
+
+-- ---- what fits version 1 fits version 2
+
+pub most_wide : (v : FrameVersion) → most_of v ≤ most_of Wide
+most_wide Narrow = omega arith
+most_wide Wide = omega arith
+
+pub graph_wider : (v : FrameVersion) (places most : ℕ) (g : Graph) → FitsGraph v places most g → FitsGraph Wide places most g
+graph_wider v places most g h = record {
+  count = h.count;
+  roots = h.roots;
+  texts = (omega (arith, h.texts.0, most_wide v), h.texts.1);
+  rails = (omega (arith, h.rails.0, most_wide v), h.rails.1);
+  nodes = (omega (arith, h.nodes.0, most_wide v), h.nodes.1);
+  used = h.used;
+}
+
+launch_wider : (v : FrameVersion) (places : ℕ) (l : Launch) → FitsLaunch v places l → FitsLaunch Wide places l
+launch_wider v places l h = record { home = h.home; number = h.number; function = h.function; graph = graph_wider v places 16 l.graph h.graph }
+
+body_wider : (v : FrameVersion) (places : ℕ) (f : Frame) → FitsBody v places f → FitsBody Wide places f
+body_wider v places (Spawn from to home number function graph) h = launch_wider v places (launch home number function graph) h
+body_wider v places (Shift from to waiting home number function graph) h = (h.0, launch_wider v places (launch home number function graph) h.1)
+body_wider v places (Back from to waiting graph) h = (h.0, graph_wider v places 1 graph h.1)
+body_wider v places (Report from to number sent received) h = h
+
+pub wider : (v : FrameVersion) (places : ℕ) (f : Frame) → FitsFrame v places f → FitsFrame Wide places f
+wider v places f h = record { from = h.from; to = h.to; body = body_wider v places f h.body }

@@ -6,6 +6,8 @@ use Rattle.x10_model.specs.declared.limits.TheConstants.{MOST_FIELDS, MOST_PARAM
 use Rattle.x10_model.specs.Modules.{FitsText}
 use Rattle.x10_model.specs.Images.{int_bytes}
 use Rattle.x10_model.specs.Readers.{IsBytes, FitsEach, after_all}
+pub use Rattle.x10_model.specs.declared.version.FrameVersion.{FrameVersion}
+pub use Rattle.x10_model.specs.declared.version.FrameVersion.TheVariants.{Narrow, Wide}
 
 -- A value as a frame spells it: texts, rails and objects by their number in the frame's tables.
 pub data Item : Type 0 where
@@ -54,17 +56,12 @@ pub data Frame : Type 0 where
 
 -- ---- spelling
 
--- how a frame is spelled: its version
-pub data FrameVersion : Type 0 where
-  Narrow : FrameVersion
-  Wide : FrameVersion
-
--- its first byte
+-- the first byte of a frame
 abbrev pub byte_of : FrameVersion → ℕ
 byte_of Narrow = 1
 byte_of Wide = 2
 
--- how wide are the numbers of texts, rails and nodes, and how many there are of each
+-- how wide the counts and the numbers of texts, rails and nodes are
 abbrev pub width_of : FrameVersion → Width
 width_of Narrow = w16
 width_of Wide = w32
@@ -247,3 +244,9 @@ pub record FitsFrame (v : FrameVersion) (places : ℕ) (f : Frame) : Type 0 wher
   pub from : from_of f < places
   pub to : to_of f < places
   pub body : FitsBody v places f
+
+-- the bytes are the frame, in one version or the other, where there are so many places
+pub record IsSpelled (places : ℕ) (f : Frame) (bytes : List ℕ) : Type 0 where
+  pub version : FrameVersion
+  pub fits : FitsFrame version places f
+  pub is : bytes ≡ spelling version f

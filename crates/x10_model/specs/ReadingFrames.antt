@@ -1,5 +1,5 @@
 -- Reading a frame field by field from front to back, with the first fault that is met: a field that isn't there whole is short, and then comes its rule.
-use Rattle.std.specs.Prelude.{ℕ, zero, suc, Bool, ◌&&◌, ◌==◌, nat_lt, nat_le, List, None, Result}
+use Rattle.std.specs.Prelude.{ℕ, zero, suc, Bool, ◌&&◌, ◌==◌, nat_lt, nat_le, List, Option, Some, None, Result}
 use Rattle.std.specs.Int.{w16, w32}
 use Rattle.std.specs.Str.{is_utf8}
 use Rattle.x10_model.specs.declared.limits.TheConstants.{MOST_BYTES, MOST_FIELDS, MOST_PARAMETERS, MOST_WIDE}
@@ -133,15 +133,31 @@ body_at v places (suc (suc (suc (suc zero)))) from to = do
   done (Report from to finish sent received)
 body_at v places (suc (suc (suc (suc (suc type))))) from to = given None FrameType
 
--- (a frame of another version than the first isn't read yet)
-unfoldable pub parts_at : ℕ → Reader FrameFault Frame
-parts_at places = do
-  expect (byte Short) 1 Version
+-- the version that a first byte says
+abbrev pub version_of : ℕ → Option FrameVersion
+version_of zero = None
+version_of (suc zero) = Some Narrow
+version_of (suc (suc zero)) = Some Wide
+version_of (suc (suc (suc n))) = None
+
+unfoldable pub version_at : Reader FrameFault FrameVersion
+version_at = do
+  first ← byte Short
+  given (version_of first) Version
+
+-- what follows the version
+unfoldable pub after_version : FrameVersion → ℕ → Reader FrameFault Frame
+after_version v places = do
   type ← such_that (byte Short) (λ n. nat_le 1 n && nat_le n 4) FrameType
   from ← place_at places
   to ← place_at places
-  body_at Narrow places type from to
+  body_at v places type from to
 
--- the frame that the bytes spell where there are so many places, or their first fault
+unfoldable pub parts_at : ℕ → Reader FrameFault Frame
+parts_at places = do
+  v ← version_at
+  after_version v places
+
+-- the frame that the bytes spell, in either version, where there are so many places, or their first fault
 unfoldable pub frame_at : ℕ → List ℕ → Result Frame FrameFault
 frame_at places bytes = all_of (parts_at places) Trailing bytes

@@ -9,6 +9,8 @@ pub mod images;
 pub mod laws;
 pub mod limits;
 mod slot;
+mod version;
 
 pub use event::Event;
 pub use slot::Slot;
+pub use version::FrameVersion;

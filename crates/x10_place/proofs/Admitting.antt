@@ -15,7 +15,8 @@ use Rattle.x10_model.specs.Values.{IsOfKind}
 use Rattle.x10_model.specs.Copies.{Snapshot}
 use Rattle.x10_model.specs.Deliveries.{Begins, Receives}
 use Rattle.x10_model.specs.Frames as frames
-use Rattle.x10_model.specs.Frames.{Narrow, Graph, Frame, FitsFrame}
+use Rattle.x10_model.specs.declared.version.FrameVersion.TheVariants.{Wide}
+use Rattle.x10_model.specs.Frames.{Graph, Frame, FitsFrame}
 use Rattle.x10_model.specs.Marshalling.{snapshot_of}
 use Rattle.x10_model.specs.Totals.{Took, totals_after}
 use Rattle.x10_frame.specs.Heads.{graph_of}
@@ -78,7 +79,7 @@ pub record IsOfLaunch (places : ℕ) (l : Launch) : Type 0 where
   pub under : ((finish_as l.under).home < places) × ((finish_as l.under).number < 2 ^ 32)
   pub back : (o : Origin) → origin_as l.back ≡ Some o → (o.place < places) × (o.key < 2 ^ 32)
 
-module _ (far : Far) (p : PlaceState) (m : machine.Place) (stands : StandsFor far p m) (slab : Slab StayState) (t : StoreState) (f : Frame) (l : Launch) (h : Launches p.program p.stays (store_of p) f l slab t) (image : FitsImage p.program) (fits : FitsFrame Narrow p.places f) (named : AreNamedElsewhere (context_of far p) (snapshot_of (graph_of f))) (run : IsOfLaunch p.places l) where
+module _ (far : Far) (p : PlaceState) (m : machine.Place) (stands : StandsFor far p m) (slab : Slab StayState) (t : StoreState) (f : Frame) (l : Launch) (h : Launches p.program p.stays (store_of p) f l slab t) (image : FitsImage p.program) (fits : FitsFrame Wide p.places f) (named : AreNamedElsewhere (context_of far p) (snapshot_of (graph_of f))) (run : IsOfLaunch p.places l) where
   abbrev x : Context
   x = context_of far p
 
@@ -159,7 +160,7 @@ module _ (v : Certified) (old new : Slab StayState) (s t : StoreState) (stopped 
   abbrev spawn : Frame
   spawn = frames.Spawn from to home number function g
 
-  pub takes_spawn : FitsFrame Narrow s.places spawn → Launches v.program old s spawn spawned new t → TakesFrame (place_of v old s stopped) spawn (place_of v new t stopped)
+  pub takes_spawn : FitsFrame Wide s.places spawn → Launches v.program old s spawn spawned new t → TakesFrame (place_of v old s stopped) spawn (place_of v new t stopped)
   takes_spawn fits h = (
     message,
     refl,
@@ -180,7 +181,7 @@ module _ (v : Certified) (old new : Slab StayState) (s t : StoreState) (stopped 
     abbrev shift : Frame
     shift = frames.Shift from to waiting home number function g
 
-    pub takes_shift : FitsFrame Narrow s.places shift → Launches v.program old s shift shifted new t → TakesFrame (place_of v old s stopped) shift (place_of v new t stopped)
+    pub takes_shift : FitsFrame Wide s.places shift → Launches v.program old s shift shifted new t → TakesFrame (place_of v old s stopped) shift (place_of v new t stopped)
     takes_shift fits h = (
       message,
       refl,

@@ -15,7 +15,8 @@ use Rattle.x10_model.specs.Assignments.{State, GivesResult, gives, like_if, Perm
 use Rattle.x10_model.specs.Copies.{Snapshot, IsOfKindIn}
 use Rattle.x10_model.specs.Deliveries.{FitsResultAt, first_of, WaitsFor, Resumes, Receives}
 use Rattle.x10_model.specs.Frames as frames
-use Rattle.x10_model.specs.Frames.{Narrow, Graph, Frame, FitsFrame}
+use Rattle.x10_model.specs.declared.version.FrameVersion.TheVariants.{Wide}
+use Rattle.x10_model.specs.Frames.{Graph, Frame, FitsFrame}
 use Rattle.x10_model.specs.Maps.{with_entry, IsIn}
 use Rattle.x10_model.specs.Marshalling.{snapshot_of}
 use Rattle.x10_model.specs.Modules.{Module, Function}
@@ -156,7 +157,7 @@ result_fits s from (Some slot) (v ∷ (u ∷ vs)) h = absurd h.1
 
 -- ---- the place
 
-module _ (far : Far) (p : PlaceState) (m : machine.Place) (stands : StandsFor far p m) (slab : Slab StayState) (t : StoreState) (f : Frame) (from key : ℕ) (h : ComesBack p.program p.stays (store_of p) f from key slab t) (checks : IsChecked p.program) (fits : FitsFrame Narrow p.places f) (few : key < 2 ^ 32) (named : AreNamedElsewhere (context_of far p) (snapshot_of (graph_of f))) where
+module _ (far : Far) (p : PlaceState) (m : machine.Place) (stands : StandsFor far p m) (slab : Slab StayState) (t : StoreState) (f : Frame) (from key : ℕ) (h : ComesBack p.program p.stays (store_of p) f from key slab t) (checks : IsChecked p.program) (fits : FitsFrame Wide p.places f) (few : key < 2 ^ 32) (named : AreNamedElsewhere (context_of far p) (snapshot_of (graph_of f))) where
   abbrev x : Context
   x = context_of far p
 
@@ -260,7 +261,7 @@ module _ (v : Certified) (old new : Slab StayState) (s t : StoreState) (stopped 
   abbrev back : Frame
   back = frames.Back from to waiting g
 
-  pub takes_back : FitsFrame Narrow s.places back → ComesBack v.program old s back from waiting new t → TakesFrame (place_of v old s stopped) back (place_of v new t stopped)
+  pub takes_back : FitsFrame Wide s.places back → ComesBack v.program old s back from waiting new t → TakesFrame (place_of v old s stopped) back (place_of v new t stopped)
   takes_back fits h = (
     message,
     refl,

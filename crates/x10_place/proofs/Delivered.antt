@@ -2,7 +2,8 @@
 use Rattle.std.proofs.Common.{◌≡◌, ℕ, Bool, List, Some, None, Result, Ok, Err, OnOk, IfErr, refl, sym, ap, subst, inl}
 use Rattle.slab.specs.Slab.{Slab}
 use Rattle.x10_model.specs.Frames as frames
-use Rattle.x10_model.specs.Frames.{Narrow, Graph, Frame, FitsFrame}
+use Rattle.x10_model.specs.declared.version.FrameVersion.TheVariants.{Wide}
+use Rattle.x10_model.specs.Frames.{Graph, Frame, FitsFrame}
 use Rattle.x10_model.specs.Modules.{FitsImage}
 use Rattle.x10_frame.specs.declared.head.Head.TheVariants as head
 use Rattle.x10_frame.specs.Heads.{head_of, graph_of}
@@ -78,7 +79,7 @@ module _ (v : Certified) (old : Slab StayState) (s : StoreState) where
     pub spawn_refused : (f : Frame) → f ≡ frames.Spawn from to home number function (graph_of f) → (why : Refusal) → IsLaunchRefused v.program old s f new_one why → (stopped : Bool) → IsRefusedFrame (place stopped) f why
     spawn_refused f e why h stopped = subst (λ q. IsRefusedFrame (place stopped) q why) (sym e) (spawn_refused_by (graph_of f) why stopped (subst (λ q. IsLaunchRefused v.program old s q new_one why) e h))
 
-    spawn_taken_by : (g : Graph) (new : Slab StayState) (t : StoreState) → FitsImage v.program → FitsFrame Narrow s.places (frames.Spawn from to home number function g) → Launches v.program old s (frames.Spawn from to home number function g) new_one new t → IsTakenFrame v old s (frames.Spawn from to home number function g) new t
+    spawn_taken_by : (g : Graph) (new : Slab StayState) (t : StoreState) → FitsImage v.program → FitsFrame Wide s.places (frames.Spawn from to home number function g) → Launches v.program old s (frames.Spawn from to home number function g) new_one new t → IsTakenFrame v old s (frames.Spawn from to home number function g) new t
     spawn_taken_by g new t image fits h = record {
       takes = λ stopped. takes_spawn v old new s t stopped image from to home number function g here fits h;
       is_open = λ stopped shut. shut.1 (h.is_open shut.0);
@@ -87,8 +88,8 @@ module _ (v : Certified) (old : Slab StayState) (s : StoreState) where
       places = h.settles.counted.places_are;
     }
 
-    pub spawn_taken : (f : Frame) → f ≡ frames.Spawn from to home number function (graph_of f) → (new : Slab StayState) (t : StoreState) → FitsImage v.program → FitsFrame Narrow s.places f → Launches v.program old s f new_one new t → IsTakenFrame v old s f new t
-    spawn_taken f e new t image fits h = subst (λ q. IsTakenFrame v old s q new t) (sym e) (spawn_taken_by (graph_of f) new t image (subst (λ q. FitsFrame Narrow s.places q) e fits) (subst (λ q. Launches v.program old s q new_one new t) e h))
+    pub spawn_taken : (f : Frame) → f ≡ frames.Spawn from to home number function (graph_of f) → (new : Slab StayState) (t : StoreState) → FitsImage v.program → FitsFrame Wide s.places f → Launches v.program old s f new_one new t → IsTakenFrame v old s f new t
+    spawn_taken f e new t image fits h = subst (λ q. IsTakenFrame v old s q new t) (sym e) (spawn_taken_by (graph_of f) new t image (subst (λ q. FitsFrame Wide s.places q) e fits) (subst (λ q. Launches v.program old s q new_one new t) e h))
 
     -- ---- one that goes on here
 
@@ -115,7 +116,7 @@ module _ (v : Certified) (old : Slab StayState) (s : StoreState) where
       pub shift_refused : (f : Frame) → f ≡ frames.Shift from to waiting home number function (graph_of f) → (why : Refusal) → IsLaunchRefused v.program old s f moved_one why → (stopped : Bool) → IsRefusedFrame (place stopped) f why
       shift_refused f e why h stopped = subst (λ q. IsRefusedFrame (place stopped) q why) (sym e) (shift_refused_by (graph_of f) why stopped (subst (λ q. IsLaunchRefused v.program old s q moved_one why) e h))
 
-      shift_taken_by : (g : Graph) (new : Slab StayState) (t : StoreState) → FitsImage v.program → FitsFrame Narrow s.places (frames.Shift from to waiting home number function g) → Launches v.program old s (frames.Shift from to waiting home number function g) moved_one new t
+      shift_taken_by : (g : Graph) (new : Slab StayState) (t : StoreState) → FitsImage v.program → FitsFrame Wide s.places (frames.Shift from to waiting home number function g) → Launches v.program old s (frames.Shift from to waiting home number function g) moved_one new t
           → IsTakenFrame v old s (frames.Shift from to waiting home number function g) new t
       shift_taken_by g new t image fits h = record {
         takes = λ stopped. takes_shift v old new s t stopped image from to home number function g here waiting fits h;
@@ -125,8 +126,8 @@ module _ (v : Certified) (old : Slab StayState) (s : StoreState) where
         places = h.settles.counted.places_are;
       }
 
-      pub shift_taken : (f : Frame) → f ≡ frames.Shift from to waiting home number function (graph_of f) → (new : Slab StayState) (t : StoreState) → FitsImage v.program → FitsFrame Narrow s.places f → Launches v.program old s f moved_one new t → IsTakenFrame v old s f new t
-      shift_taken f e new t image fits h = subst (λ q. IsTakenFrame v old s q new t) (sym e) (shift_taken_by (graph_of f) new t image (subst (λ q. FitsFrame Narrow s.places q) e fits) (subst (λ q. Launches v.program old s q moved_one new t) e h))
+      pub shift_taken : (f : Frame) → f ≡ frames.Shift from to waiting home number function (graph_of f) → (new : Slab StayState) (t : StoreState) → FitsImage v.program → FitsFrame Wide s.places f → Launches v.program old s f moved_one new t → IsTakenFrame v old s f new t
+      shift_taken f e new t image fits h = subst (λ q. IsTakenFrame v old s q new t) (sym e) (shift_taken_by (graph_of f) new t image (subst (λ q. FitsFrame Wide s.places q) e fits) (subst (λ q. Launches v.program old s q moved_one new t) e h))
 
   -- ---- a result that comes back
 
@@ -168,7 +169,7 @@ module _ (v : Certified) (old : Slab StayState) (s : StoreState) where
     pub back_refused_so : (f : Frame) → f ≡ frames.Back from to waiting (graph_of f) → (why : Refusal) → IsBackRefused v.program old s f from waiting why → (stopped : Bool) → IsRefusedFrame (place stopped) f why
     back_refused_so f e why h stopped = subst (λ q. IsRefusedFrame (place stopped) q why) (sym e) (back_refused_by (graph_of f) why stopped (subst (λ q. IsBackRefused v.program old s q from waiting why) e h))
 
-    back_taken_by : (g : Graph) (new : Slab StayState) (t : StoreState) → IsChecked v.program → FitsFrame Narrow s.places (frames.Back from to waiting g) → ComesBack v.program old s (frames.Back from to waiting g) from waiting new t → IsTakenFrame v old s (frames.Back from to waiting g) new t
+    back_taken_by : (g : Graph) (new : Slab StayState) (t : StoreState) → IsChecked v.program → FitsFrame Wide s.places (frames.Back from to waiting g) → ComesBack v.program old s (frames.Back from to waiting g) from waiting new t → IsTakenFrame v old s (frames.Back from to waiting g) new t
     back_taken_by g new t checks fits h = record {
       takes = λ stopped. takes_back v old new s t stopped checks from to waiting g here fits h;
       is_open = λ stopped shut. shut;
@@ -177,5 +178,5 @@ module _ (v : Certified) (old : Slab StayState) (s : StoreState) where
       places = ap (λ (u : StoreState). u.places) h.store;
     }
 
-    pub back_taken : (f : Frame) → f ≡ frames.Back from to waiting (graph_of f) → (new : Slab StayState) (t : StoreState) → IsChecked v.program → FitsFrame Narrow s.places f → ComesBack v.program old s f from waiting new t → IsTakenFrame v old s f new t
-    back_taken f e new t checks fits h = subst (λ q. IsTakenFrame v old s q new t) (sym e) (back_taken_by (graph_of f) new t checks (subst (λ q. FitsFrame Narrow s.places q) e fits) (subst (λ q. ComesBack v.program old s q from waiting new t) e h))
+    pub back_taken : (f : Frame) → f ≡ frames.Back from to waiting (graph_of f) → (new : Slab StayState) (t : StoreState) → IsChecked v.program → FitsFrame Wide s.places f → ComesBack v.program old s f from waiting new t → IsTakenFrame v old s f new t
+    back_taken f e new t checks fits h = subst (λ q. IsTakenFrame v old s q new t) (sym e) (back_taken_by (graph_of f) new t checks (subst (λ q. FitsFrame Wide s.places q) e fits) (subst (λ q. ComesBack v.program old s q from waiting new t) e h))

@@ -20,7 +20,8 @@ use Rattle.x10_heap.specs.Words.{Context, AreWordsOf, HoldsHeap}
 use Rattle.x10_heap.proofs.Growing.{Grows, grows_not}
 use Rattle.std.specs.List.{AllByRecursion}
 use Rattle.x10_finish.specs.Ledgers.{gives_report, AreDue}
-use Rattle.x10_model.specs.Frames.{Narrow, spelling}
+use Rattle.x10_model.specs.declared.version.FrameVersion.TheVariants.{Wide}
+use Rattle.x10_model.specs.Frames.{spelling}
 use Rattle.x10_frame.specs.declared.head.Head.TheVariants as head
 use Rattle.x10_copy.specs.Captured.{kinds_of, IsSnapshot}
 use Rattle.x10_place.specs.declared.place.Stepped.TheVariants as stepped
@@ -62,7 +63,7 @@ reports_none s f here none = subst (λ n. is_last f.home n (totals_in s f) ≡ f
 -- one is due, and goes to the home of the finish
 pub reports_one : (s : StoreState) (f : Finish) (sent received : List ℕ) (bytes : Vec ℕ Global) → s.ledger.place ≡ s.here → s.ledger.places ≡ s.places → s.here < s.places → f.home < s.places → f.number < 2 ^ 32
     → (gives_report s.ledger f ≡ true) × AreDue s.ledger f sent received → AllByRecursion (λ n. n < 2 ^ 32) sent → AllByRecursion (λ n. n < 2 ^ 32) received
-    → bytes.items ≡ spelling Narrow (frames.Report s.here f.home f.number sent received) → Reports s f (Some (record { to = f.home; bytes = bytes }))
+    → bytes.items ≡ spelling Wide (frames.Report s.here f.home f.number sent received) → Reports s f (Some (record { to = f.home; bytes = bytes }))
 reports_one s f sent received bytes here places within home few due small less spelled = (
   subst (λ n. is_last f.home n (totals_in s f) ≡ true) here due.0,
   record {

@@ -3,12 +3,14 @@ use Rattle.std.proofs.Common.{◌≡◌, ℕ, Bool, true, false, List, Option, S
 use Rattle.std.proofs.lemmas.Bool.{cases_eq}
 use Rattle.slab.specs.Slab.{Slab}
 use Rattle.x10_model.specs.Frames as frames
-use Rattle.x10_model.specs.Frames.{Narrow, Frame, FitsFrame, spelling}
+use Rattle.x10_model.specs.declared.version.FrameVersion.TheVariants.{Wide}
+use Rattle.x10_model.specs.Frames.{Frame, FitsFrame, IsSpelled}
 use Rattle.x10_model.specs.Places as machine
 use Rattle.x10_model.specs.Places.{Message, Stay}
 use Rattle.x10_model.specs.Totals.{Cut, Report, merged}
 use Rattle.x10_model.specs.Wrong as wrong
 use Rattle.x10_model.specs.ReadingFrames as reading
+use Rattle.x10_model.proofs.FrameLaws.{wider}
 use Rattle.x10_frame.specs.declared.fault.FrameFault.{FrameFault}
 use Rattle.x10_frame.specs.declared.fault.FrameFault.TheVariants as fault
 use Rattle.x10_frame.specs.Faults.{named, IsFault, IsFaultOrMemory}
@@ -116,21 +118,23 @@ fault_told fault.Order read ne h = h
 fault_told fault.Trailing read ne h = h
 fault_told fault.Memory read ne h = absurd (ne refl)
 
+pub fits_wide : (places : ℕ) (f : Frame) (bytes : List ℕ) → IsSpelled places f bytes → FitsFrame Wide places f
+fits_wide places f bytes s = wider s.version places f s.fits
+
 module _ (v : Certified) (old : Slab StayState) (s : StoreState) (bytes : List ℕ) where
-  pub taken_bytes : (new : Slab StayState) (t : StoreState) (f : Frame) → (FitsFrame Narrow s.places f × (bytes ≡ spelling Narrow f)) → ((g : Frame) → FitsFrame Narrow s.places g → bytes ≡ spelling Narrow g → f ≡ g) → IsTakenFrame v old s f new t → (stopped : Bool) → IsTaken (place_of v old s stopped) bytes (place_of v new t stopped)
+  pub taken_bytes : (new : Slab StayState) (t : StoreState) (f : Frame) → IsSpelled s.places f bytes → ((g : Frame) → IsSpelled s.places g bytes → f ≡ g) → IsTakenFrame v old s f new t → (stopped : Bool) → IsTaken (place_of v old s stopped) bytes (place_of v new t stopped)
   taken_bytes new t f spelled only h stopped = record {
     frame = f;
-    fits = spelled.0;
-    spelled = spelled.1;
+    spelled = spelled;
     is_open = h.is_open stopped;
     texts = h.texts;
-    takes = λ g fits same. subst (λ q. TakesFrame (place_of v old s stopped) q (place_of v new t stopped)) (only g fits same) (h.takes stopped);
+    takes = λ g same. subst (λ q. TakesFrame (place_of v old s stopped) q (place_of v new t stopped)) (only g same) (h.takes stopped);
   }
 
-  refused_as : (f : Frame) (why : Refusal) (stopped : Bool) → ((g : Frame) → FitsFrame Narrow s.places g → bytes ≡ spelling Narrow g → f ≡ g) → IsRefusedFrame (place_of v old s stopped) f why → (g : Frame) → FitsFrame Narrow s.places g → bytes ≡ spelling Narrow g → IsRefusedFrame (place_of v old s stopped) g why
-  refused_as f why stopped only h g fits same = subst (λ q. IsRefusedFrame (place_of v old s stopped) q why) (only g fits same) h
+  refused_as : (f : Frame) (why : Refusal) (stopped : Bool) → ((g : Frame) → IsSpelled s.places g bytes → f ≡ g) → IsRefusedFrame (place_of v old s stopped) f why → (g : Frame) → IsSpelled s.places g bytes → IsRefusedFrame (place_of v old s stopped) g why
+  refused_as f why stopped only h g same = subst (λ q. IsRefusedFrame (place_of v old s stopped) q why) (only g same) h
 
-  pub refused_bytes : (f : Frame) → ((g : Frame) → FitsFrame Narrow s.places g → bytes ≡ spelling Narrow g → f ≡ g) → (why : Refusal) → ((stopped : Bool) → IsRefusedFrame (place_of v old s stopped) f why) → (stopped : Bool) → IsRefusedBytes (place_of v old s stopped) bytes why
+  pub refused_bytes : (f : Frame) → ((g : Frame) → IsSpelled s.places g bytes → f ≡ g) → (why : Refusal) → ((stopped : Bool) → IsRefusedFrame (place_of v old s stopped) f why) → (stopped : Bool) → IsRefusedBytes (place_of v old s stopped) bytes why
   refused_bytes f only (refusal.Frame fault) h stopped = absurd (h stopped)
   refused_bytes f only refusal.NotHere h stopped = refused_as f refusal.NotHere stopped only (h stopped)
   refused_bytes f only refusal.Function h stopped = refused_as f refusal.Function stopped only (h stopped)
@@ -145,7 +149,7 @@ module _ (v : Certified) (old : Slab StayState) (s : StoreState) (bytes : List �
 
   pub unread_refused : (why : Refusal) → IsUnread s.places bytes why → (stopped : Bool) → IsRefusedBytes (place_of v old s stopped) bytes why
   unread_refused (refusal.Frame fault) h stopped = h
-  unread_refused refusal.Memory h stopped = λ g fits same. tt
+  unread_refused refusal.Memory h stopped = λ g same. tt
   unread_refused _ h stopped = absurd h
 
   pub unread_none : (why : Refusal) → IsUnread s.places bytes why → IsOfFrame s.places bytes why
@@ -153,20 +157,20 @@ module _ (v : Certified) (old : Slab StayState) (s : StoreState) (bytes : List �
   unread_none refusal.Memory h = tt
   unread_none _ h = absurd h
 
-  pub read_first : (f : Frame) → (FitsFrame Narrow s.places f × (bytes ≡ spelling Narrow f)) → (why : Refusal) → IsOfFrame s.places bytes why
+  pub read_first : (f : Frame) → IsSpelled s.places f bytes → (why : Refusal) → IsOfFrame s.places bytes why
   read_first f h (refusal.Frame fault) = tt
   read_first f h refusal.Memory = tt
-  read_first f h refusal.NotHere = (f, h.0, h.1)
-  read_first f h refusal.Function = (f, h.0, h.1)
-  read_first f h refusal.Kind = (f, h.0, h.1)
-  read_first f h refusal.Home = (f, h.0, h.1)
-  read_first f h refusal.Ref = (f, h.0, h.1)
-  read_first f h refusal.Finish = (f, h.0, h.1)
-  read_first f h refusal.Segment = (f, h.0, h.1)
-  read_first f h (refusal.Limit limit) = (f, h.0, h.1)
-  read_first f h refusal.Stopped = (f, h.0, h.1)
+  read_first f h refusal.NotHere = (f, h)
+  read_first f h refusal.Function = (f, h)
+  read_first f h refusal.Kind = (f, h)
+  read_first f h refusal.Home = (f, h)
+  read_first f h refusal.Ref = (f, h)
+  read_first f h refusal.Finish = (f, h)
+  read_first f h refusal.Segment = (f, h)
+  read_first f h (refusal.Limit limit) = (f, h)
+  read_first f h refusal.Stopped = (f, h)
 
-  pub read_before : {T : Type 0} (f : Frame) → (FitsFrame Narrow s.places f × (bytes ≡ spelling Narrow f)) → (r : Result T Refusal) → IfErr r (IsOfFrame s.places bytes)
+  pub read_before : {T : Type 0} (f : Frame) → IsSpelled s.places f bytes → (r : Result T Refusal) → IfErr r (IsOfFrame s.places bytes)
   read_before f h (Ok x) = tt
   read_before f h (Err why) = read_first f h why
 

@@ -5,7 +5,8 @@ use Rattle.x10_model.specs.Places.{Finish, Message, Effect, receiver}
 use Rattle.x10_model.specs.Deliveries.{FitsClasses}
 use Rattle.x10_model.specs.Wrong.{graph_of}
 use Rattle.x10_model.specs.Frames as frames
-use Rattle.x10_model.specs.Frames.{Narrow, Frame, FitsFrame, spelling}
+use Rattle.x10_model.specs.declared.version.FrameVersion.TheVariants.{Wide}
+use Rattle.x10_model.specs.Frames.{Frame, FitsFrame, spelling}
 use Rattle.x10_model.specs.Marshalling.{message_of}
 use Rattle.x10_model.specs.Totals.{Did, Report, entry_of, reported, is_reported}
 use Rattle.x10_model.specs.Worlds.{sent}
@@ -15,12 +16,12 @@ use Rattle.x10_place.specs.declared.sent.Outgoing.{Outgoing}
 use Rattle.x10_place.specs.declared.sent.Sent.{Sent}
 use Rattle.x10_place.specs.Stays.{StoreState, totals_in}
 
--- The bytes spell a frame that carries the message, one of so many places. The objects in it have the fields of their
+-- The bytes spell a frame of version 2 that carries the message, one of so many places. The objects in it have the fields of their
 -- classes.
 pub record Carries (program : Module) (places : ℕ) (bytes : List ℕ) (message : Message) : Type 0 where
   pub frame : Frame
-  pub fits : FitsFrame Narrow places frame
-  pub spelled : bytes ≡ spelling Narrow frame
+  pub fits : FitsFrame Wide places frame
+  pub spelled : bytes ≡ spelling Wide frame
   pub message_is : message_of frame ≡ Some message
   pub classes : FitsClasses program (graph_of message)
 
@@ -28,10 +29,10 @@ pub record Carries (program : Module) (places : ℕ) (bytes : List ℕ) (message
 abbrev pub report_frame : ℕ → Report → Frame
 report_frame home r = frames.Report r.place home r.number r.sent r.received
 
--- the bytes spell the frame of a report that goes to a place
+-- the bytes spell the frame of a report that goes to a place, in version 2
 pub record CarriesReport (places : ℕ) (bytes : List ℕ) (to : ℕ) (report : Report) : Type 0 where
-  pub fits : FitsFrame Narrow places (report_frame to report)
-  pub spelled : bytes ≡ spelling Narrow (report_frame to report)
+  pub fits : FitsFrame Wide places (report_frame to report)
+  pub spelled : bytes ≡ spelling Wide (report_frame to report)
 
 -- ---- what a step puts out
 

@@ -12,7 +12,7 @@ use Rattle.x10_model.specs.Deliveries.{Receives}
 use Rattle.x10_model.specs.Totals.{Cut, Report, Took, totals_after, merged}
 use Rattle.x10_model.specs.Wrong as wrong
 use Rattle.x10_model.specs.Frames as frames
-use Rattle.x10_model.specs.Frames.{Narrow, Frame, FitsFrame, spelling, to_of}
+use Rattle.x10_model.specs.Frames.{Frame, IsSpelled, to_of}
 use Rattle.x10_model.specs.Marshalling.{snapshot_of, message_of}
 use Rattle.x10_model.specs.ReadingFrames.{frame_at}
 use Rattle.x10_frame.specs.Heads.{graph_of}
@@ -78,14 +78,13 @@ IsShut p (frames.Spawn from to home number function graph) = (home ≡ p.id) × 
 IsShut p (frames.Shift from to waiting home number function graph) = (home ≡ p.id) × (HasBook (books_of p.books) number → ⊥)
 IsShut p f = ⊥
 
--- The bytes are those of a frame, and the place takes it in: one whose finish is open, if it is one of this place. The texts
+-- The bytes are those of a frame of either version, and the place takes it in: one whose finish is open, if it is one of this place. The texts
 -- of the frame are added to the heap, and no others.
 pub record IsTaken (p : PlaceState) (bytes : List ℕ) (q : PlaceState) : Type 0 where
   pub frame : Frame
-  pub fits : FitsFrame Narrow p.places frame
-  pub spelled : bytes ≡ spelling Narrow frame
+  pub spelled : IsSpelled p.places frame bytes
   pub is_open : IsShut p frame → ⊥
-  pub takes : (f : Frame) → FitsFrame Narrow p.places f → bytes ≡ spelling Narrow f → TakesFrame p f q
+  pub takes : (f : Frame) → IsSpelled p.places f bytes → TakesFrame p f q
   pub texts : q.heap.texts ≡ p.heap.texts ++ (graph_of frame).texts
 
 -- ---- what is refused
@@ -172,13 +171,13 @@ IsRefusedFrame p f (refusal.Frame fault) = ⊥
 -- Why bytes are refused: they are no frame of a run of so many places, or their frame is refused.
 abbrev pub IsRefusedBytes : PlaceState → List ℕ → Refusal → Type 0
 IsRefusedBytes p bytes (refusal.Frame fault) = IsFault (named fault) (frame_at p.places bytes)
-IsRefusedBytes p bytes why = (f : Frame) → FitsFrame Narrow p.places f → bytes ≡ spelling Narrow f → IsRefusedFrame p f why
+IsRefusedBytes p bytes why = (f : Frame) → IsSpelled p.places f bytes → IsRefusedFrame p f why
 
 -- The bytes are those of a frame, unless it is told that they are none. Of memory nothing is said.
 abbrev pub IsOfFrame : ℕ → List ℕ → Refusal → Type 0
 IsOfFrame places bytes (refusal.Frame fault) = Unit {0}
 IsOfFrame places bytes refusal.Memory = Unit {0}
-IsOfFrame places bytes why = (f : Frame) × FitsFrame Narrow places f × (bytes ≡ spelling Narrow f)
+IsOfFrame places bytes why = (f : Frame) × IsSpelled places f bytes
 
 -- the place has stopped where memory was refused, or at a limit
 abbrev pub stops : Refusal → Bool

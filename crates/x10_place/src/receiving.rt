@@ -1,6 +1,7 @@
 //! What comes in: bytes that should be the frame of a message or of a report.
 ghost use Rattle.std.specs.Prelude.{◌≡◌, Bool, true, false, Ok, IfErr, IfOk, OnErr, OnOk};
-ghost use Rattle.x10_model.specs.Frames.{Narrow, Frame, FitsFrame, spelling};
+ghost use Rattle.x10_model.specs.declared.version.FrameVersion.TheVariants.{Wide};
+ghost use Rattle.x10_model.specs.Frames.{Frame, FitsFrame, IsSpelled};
 ghost use Rattle.x10_copy.specs.declared.refusal.Refusal.TheVariants as refusal;
 ghost use Rattle.x10_place.specs.Arrivals.{IsUnread, IsTakenFrame, to_in};
 ghost use Rattle.x10_place.specs.Receiving.{IsTaken, TakesFrame, IsShut, IsRefusedFrame, IsRefusedBytes, IsOfFrame, stops};
@@ -20,10 +21,10 @@ use x10_finish::Finish;
 use x10_frame::{FrameFault, FrameView, Head};
 use x10_verify::Verified;
 
-/// The frame that bytes spell.
+/// The frame that bytes spell, in either version.
 fn read<'a>(alloc: Global, bytes: &'a [u8], places: u16) -> Result<FrameView<'a>, Refusal>
-    ensures found { IfOk result (λ f. FitsFrame Narrow places f × (bytes.now ≡ spelling Narrow f)) }
-    ensures only { IfOk result (λ v. (f : Frame) → FitsFrame Narrow places f → bytes.now ≡ spelling Narrow f → v ≡ f) }
+    ensures found { IfOk result (λ f. IsSpelled places f bytes.now) }
+    ensures only { IfOk result (λ v. (f : Frame) → IsSpelled places f bytes.now → v ≡ f) }
     ensures err { IfErr result (IsUnread places bytes.now) }
 {
     match FrameView::read(alloc, bytes, places) {
@@ -54,7 +55,7 @@ fn take(
     view: &FrameView,
 ) -> Result<(), Refusal>
     requires standing { IsStanding (place_of verified.now stays.old store.old false) }
-    requires fits { FitsFrame Narrow store.old.places view.now }
+    requires fits { FitsFrame Wide store.old.places view.now }
     ensures ok { OnOk result (IsTakenFrame verified.now stays.old store.old view.now stays.new store.new) }
     ensures err { OnErr result (IsUntouched stays.old store.old stays.new store.new) }
     ensures refused { IfErr result (λ why. (stopped : Bool) → IsRefusedFrame (place_of verified.now stays.old store.old stopped) view.now why) }

@@ -7,7 +7,7 @@ use std::test::*;
 use x10_copy::Refusal;
 use x10_frame::FrameFault;
 use x10_place::Place;
-use x10_samples::{ALONG, AWAY, BACK, CYCLE, REPORT, SHIFT};
+use x10_samples::{ALONG, AWAY, BACK, CYCLE, NARROW_CYCLE, NARROW_SHIFT, REPORT, SHIFT};
 use x10_verify::Verified;
 
 /// A frame that a place takes in, once its first activity has made some steps.
@@ -27,9 +27,24 @@ const NEW: Arrival = Arrival {
     steps: 0,
 };
 
+/// The same in version 1.
+const NARROW_NEW: Arrival = Arrival {
+    frame: &NARROW_CYCLE,
+    place: 1,
+    places: 2,
+    steps: 0,
+};
+
 /// Main comes to place 1, comes back from there, and what place 1 counted of its finish.
 const THERE: Arrival = Arrival {
     frame: &SHIFT,
+    place: 1,
+    places: 3,
+    steps: 0,
+};
+
+const NARROW_THERE: Arrival = Arrival {
+    frame: &NARROW_SHIFT,
     place: 1,
     places: 3,
     steps: 0,
@@ -161,7 +176,14 @@ fn taken(alloc: Global, rt: &impl Abort, text: &str, arrival: &Arrival) -> Resul
 /// whose home is elsewhere. Two are good for the sender, and for the last field that names an object; one in each other.
 #[test]
 fn new_activity(rt: HostRuntime) -> Result<(), Fail> {
-    assert_eq!(rt; taken(rt.alloc(), &rt, ALONG, &NEW)?, 3_639);
+    assert_eq!(rt; taken(rt.alloc(), &rt, ALONG, &NEW)?, 3_655);
+    Ok(())
+}
+
+/// Any value is good in the same bytes, where the numbers of parts have two bytes.
+#[test]
+fn new_activity_in_version_1(rt: HostRuntime) -> Result<(), Fail> {
+    assert_eq!(rt; taken(rt.alloc(), &rt, ALONG, &NARROW_NEW)?, 3_639);
     Ok(())
 }
 
@@ -169,21 +191,22 @@ fn new_activity(rt: HostRuntime) -> Result<(), Fail> {
 /// sender and as the function, two as the finish's home, which has to be another place, and one in each other byte.
 #[test]
 fn main_comes(rt: HostRuntime) -> Result<(), Fail> {
-    assert_eq!(rt; taken(rt.alloc(), &rt, AWAY, &THERE)?, 2_071);
+    assert_eq!(rt; taken(rt.alloc(), &rt, AWAY, &THERE)?, 2_077);
     Ok(())
 }
 
 /// One value is good in each byte.
 #[test]
 fn main_comes_back(rt: HostRuntime) -> Result<(), Fail> {
-    assert_eq!(rt; taken(rt.alloc(), &rt, AWAY, &HOME)?, 18);
+    assert_eq!(rt; taken(rt.alloc(), &rt, AWAY, &HOME)?, 24);
     Ok(())
 }
 
-/// Any value is good in the 24 bytes of the counts, the three places as the sender, and the root beside the finish.
+/// Any value is good in the 24 bytes of the counts, the three places as the sender, the root beside the finish, and both
+/// versions, which are the same for a report.
 #[test]
 fn report(rt: HostRuntime) -> Result<(), Fail> {
-    assert_eq!(rt; taken(rt.alloc(), &rt, AWAY, &COUNTED)?, 6_159);
+    assert_eq!(rt; taken(rt.alloc(), &rt, AWAY, &COUNTED)?, 6_160);
     Ok(())
 }
 
@@ -203,8 +226,10 @@ fn are_short(alloc: Global, rt: &impl Abort, text: &str, arrival: &Arrival) -> R
 
 #[test]
 fn beginnings(rt: HostRuntime) -> Result<(), Fail> {
-    are_short(rt.alloc(), &rt, ALONG, &NEW)?;
-    for arrival in [THERE, HOME, COUNTED] {
+    for arrival in [NEW, NARROW_NEW] {
+        are_short(rt.alloc(), &rt, ALONG, &arrival)?;
+    }
+    for arrival in [THERE, NARROW_THERE, HOME, COUNTED] {
         are_short(rt.alloc(), &rt, AWAY, &arrival)?;
     }
     Ok(())

@@ -8,33 +8,42 @@ use std::test::*;
 use x10_frame::{
     FrameFault, FrameView, FrameWriter, Head, Item, NodeView, Report, Sizes, write_report,
 };
-use x10_samples::{ALONE, BACK, CYCLE, OTHER_REPORT, REPORT, SHIFT, SPAWN};
+use x10_samples::{
+    ALONE, BACK, CYCLE, NARROW_BACK, NARROW_CYCLE, NARROW_REPORT, NARROW_SHIFT, OTHER_REPORT, REPORT,
+    SHIFT, SPAWN,
+};
 
 /// A new activity with an empty text, a rail of two bytes, -2, place 1, null and a text of one
 /// character.
-const VALUES: [u8; 61] = [
-    1, 1, 0, 0, 0, 1, 0, 0, 0, 0, 0, 1, 0, 0, 0, 6, 0, 2, 0, 1, 0, 0, 3, 0, 0, 4, 0, 0, 1, 255,
-    255, 255, 255, 255, 255, 255, 254, 2, 0, 1, 6, 3, 0, 1, 0, 0, 0, 0, 0, 0, 0, 3, 226, 130, 172,
-    0, 0, 0, 2, 128, 0,
+const VALUES: [u8; 73] = [
+    2, 1, 0, 0, 0, 1, 0, 0, 0, 0, 0, 1, 0, 0, 0, 6, 0, 0, 0, 2, 0, 0, 0, 1, 0, 0, 0, 0, 3, 0, 0, 0,
+    0, 4, 0, 0, 0, 0, 1, 255, 255, 255, 255, 255, 255, 255, 254, 2, 0, 1, 6, 3, 0, 0, 0, 1, 0, 0, 0,
+    0, 0, 0, 0, 3, 226, 130, 172, 0, 0, 0, 2, 128, 0,
 ];
 
-/// What comes before the counts of a graph, in a frame for a new activity at place 1.
-const HEAD: [u8; 14] = [1, 1, 0, 0, 0, 1, 0, 0, 0, 0, 0, 1, 0, 0];
-
-/// The frame for a new activity at place 1 with a graph.
-pub(crate) fn spawned(alloc: Global, graph: &[u8]) -> Result<Vec<u8>, AllocError> {
-    let mut bytes = Vec::from_slice(alloc, &HEAD)?;
+/// The frame of a version, 1 or 2, for a new activity at place 1 with a graph.
+fn spawned_in(alloc: Global, version: u8, graph: &[u8]) -> Result<Vec<u8>, AllocError> {
+    let head = [version, 1, 0, 0, 0, 1, 0, 0, 0, 0, 0, 1, 0, 0];
+    let mut bytes = Vec::from_slice(alloc, &head)?;
     bytes.extend_from_slice(graph)?;
     Ok(bytes)
+}
+
+pub(crate) fn spawned(alloc: Global, graph: &[u8]) -> Result<Vec<u8>, AllocError> {
+    spawned_in(alloc, 2, graph)
 }
 
 fn fault(alloc: Global, bytes: &[u8], places: u16) -> Option<FrameFault> {
     FrameView::read(alloc, bytes, places).err()
 }
 
-/// The fault of a frame with a graph, where there are two places.
-fn graph_fault(alloc: Global, graph: &[u8]) -> Result<Option<FrameFault>, AllocError> {
-    Ok(fault(alloc, &spawned(alloc, graph)?, 2))
+/// The fault of a frame of a version with a graph, where there are two places.
+fn graph_fault(
+    alloc: Global,
+    version: u8,
+    graph: &[u8],
+) -> Result<Option<FrameFault>, AllocError> {
+    Ok(fault(alloc, &spawned_in(alloc, version, graph)?, 2))
 }
 
 /// The fields of a node, one after another and each by its number.
@@ -72,9 +81,9 @@ fn graph_again(
 {
     let sizes = Sizes {
         roots: view.roots() as u16,
-        texts: view.texts() as u16,
-        rails: view.rails() as u16,
-        nodes: view.nodes() as u16,
+        texts: view.texts() as u32,
+        rails: view.rails() as u32,
+        nodes: view.nodes() as u32,
     };
     let mut roots = Vec::new(alloc);
     for i in 0..view.roots() {
@@ -154,29 +163,48 @@ fn each_frame_both_ways(rt: HostRuntime) -> Result<(), Fail> {
     is_written_again(alloc, &rt, &VALUES, 2)
 }
 
+/// A frame of version 1 is the same frame as one of version 2, as which it is written again.
+#[test]
+fn frames_of_version_1(rt: HostRuntime) -> Result<(), Fail> {
+    let pairs: [(&[u8], &[u8], u16); 4] = [
+        (&NARROW_SHIFT, &SHIFT, 3),
+        (&NARROW_BACK, &BACK, 3),
+        (&NARROW_REPORT, &REPORT, 3),
+        (&NARROW_CYCLE, &CYCLE, 2),
+    ];
+    for (narrow, wide, places) in pairs {
+        let view = view_of(rt.alloc(), narrow, places)?;
+        assert!(rt; is_again(rt.alloc(), &rt, &view, wide)?);
+    }
+    Ok(())
+}
+
 #[test]
 fn most_roots_and_fields(rt: HostRuntime) -> Result<(), Fail> {
-    let mut bytes = spawned(rt.alloc(), &[0, 16, 0, 0, 0, 0, 0, 1, 5, 0, 0])?;
+    let graph = [0, 16, 0, 0, 0, 0, 0, 0, 0, 0, 0, 0, 0, 1, 5, 0, 0, 0, 0];
+    let mut bytes = spawned(rt.alloc(), &graph)?;
     bytes.extend_from_slice(&[6; 15])?;
     bytes.extend_from_slice(&[0, 0, 16])?;
     bytes.extend_from_slice(&[6; 16])?;
     is_written_again(rt.alloc(), &rt, &bytes, 2)
 }
 
-/// The fields of an object among 8,738, each of which names the next: 15 of 65,535 texts and 65,535 rails, one after
-/// another.
-fn fields_of(alloc: Global, object: u16) -> Result<Vec<Item>, Fail> {
+/// The most texts, and the most rails, of a frame.
+const MOST: u32 = 1_048_576;
+
+/// The fields of an object among 139,811, each of which names the next: 15 of the most texts and the most rails, one after
+/// another, or what is left of them.
+fn fields_of(alloc: Global, object: u32) -> Result<Vec<Item>, Fail> {
     let mut fields = Vec::new(alloc);
     for j in 0..15u32 {
-        let used = u32::from(object) * 15 + j;
-        let number = (used % 65_535) as u16;
-        fields.push(if used < 65_535 {
-            Item::Text(number)
-        } else {
-            Item::Rail(number)
-        })?;
+        let used = object.saturating_mul(15).saturating_add(j);
+        if used < MOST {
+            fields.push(Item::Text(used))?;
+        } else if used < 2 * MOST {
+            fields.push(Item::Rail(used - MOST))?;
+        }
     }
-    if object < 8_737 {
+    if object < 139_810 {
         fields.push(Item::Object(object + 1))?;
     }
     Ok(fields)
@@ -186,11 +214,11 @@ fn fields_of(alloc: Global, object: u16) -> Result<Vec<Item>, Fail> {
 fn texts_and_rails(rt: &impl Abort, writer: FrameWriter, long: &str) -> Result<FrameWriter, Fail> {
     assert!(rt; long.len() == 65_535);
     let mut writer = writer;
-    for _ in 1..65_535u32 {
+    for _ in 1..MOST {
         writer = writer.text("")?;
     }
     writer = writer.text(long)?;
-    for _ in 1..65_535u32 {
+    for _ in 1..MOST {
         writer = writer.rail(&[])?;
     }
     Ok(writer.rail(long.as_bytes())?)
@@ -205,16 +233,16 @@ fn greatest(alloc: Global, rt: &impl Abort) -> Result<Vec<u8>, Fail> {
     };
     let sizes = Sizes {
         roots: 1,
-        texts: 65_535,
-        rails: 65_535,
-        nodes: 8_738,
+        texts: MOST,
+        rails: MOST,
+        nodes: 139_811,
     };
     let writer = FrameWriter::new(alloc, &head, &sizes)?.roots(&[Item::Object(0)])?;
     let mut writer = texts_and_rails(rt, writer, &long(alloc, 65_535)?)?;
-    for object in 0..8_738u16 {
+    for object in 0..139_811u32 {
         let fields = fields_of(alloc, object)?;
         assert!(rt; fields.len() <= 16);
-        writer = writer.node(object, &fields)?;
+        writer = writer.node((object % 65_536) as u16, &fields)?;
     }
     Ok(writer.finish())
 }
@@ -234,20 +262,29 @@ fn last_lengths(view: &FrameView) -> Option<(usize, usize)> {
 fn most_texts_and_rails(rt: HostRuntime) -> Result<(), Fail> {
     let bytes = greatest(rt.alloc(), &rt)?;
     let view = view_of(rt.alloc(), &bytes, 2)?;
-    assert!(rt; sizes_of(&view) == (1, 65_535, 65_535, 8_738));
+    assert!(rt; sizes_of(&view) == (1, 1_048_576, 1_048_576, 139_811));
     assert!(rt; last_lengths(&view) == Some((65_535, 65_535)));
     is_written_again(rt.alloc(), &rt, &bytes, 2)
 }
 
 // Takes no memory at all, as `rt try --test --fail-alloc 1` shows: the tables grow with what is there.
 #[test]
-fn counts_without_bytes(rt: HostRuntime) {
-    for at in [17usize, 19, 21] {
-        let mut bytes = SPAWN;
-        bytes[at - 1] = 255;
-        bytes[at] = 255;
-        assert_eq!(rt; fault(rt.alloc(), &bytes, 3), Some(FrameFault::Short));
+fn counts_without_bytes(rt: HostRuntime) -> Result<(), Fail> {
+    let short = Some(FrameFault::Short);
+    for at in [2usize, 4, 6] {
+        let mut graph = [0u8; 8];
+        (graph[at], graph[at + 1]) = (255, 255);
+        assert!(rt; graph_fault(rt.alloc(), 1, &graph)? == short);
     }
+    for at in [2usize, 6, 10] {
+        // the most, and one more
+        let mut graph = [0u8; 14];
+        graph[at + 1] = 16;
+        assert!(rt; graph_fault(rt.alloc(), 2, &graph)? == short);
+        graph[at + 3] = 1;
+        assert!(rt; graph_fault(rt.alloc(), 2, &graph)? == Some(FrameFault::Order));
+    }
+    Ok(())
 }
 
 /// Whether the first root and the first rail are these.
@@ -268,9 +305,8 @@ fn has_first(
     Ok(node.class() == class && fields_again(alloc, rt, &node)?.as_slice() == fields)
 }
 
-#[test]
-fn parts_of_a_cycle(rt: HostRuntime) -> Result<(), Fail> {
-    let view = view_of(rt.alloc(), &CYCLE, 2)?;
+/// A view has the parts of a cycle.
+fn has_a_cycle(alloc: Global, rt: &impl Abort, view: &FrameView) -> Result<(), Fail> {
     let head = Head::Spawn {
         from: 0,
         to: 1,
@@ -284,11 +320,21 @@ fn parts_of_a_cycle(rt: HostRuntime) -> Result<(), Fail> {
         class: 1,
     };
     assert!(rt; view.head() == head && view.counts() == 0);
-    assert!(rt; sizes_of(&view) == (1, 0, 1, 2));
-    assert!(rt; begins_with(&view, Item::Object(0), &[0, 0]));
+    assert!(rt; sizes_of(view) == (1, 0, 1, 2));
+    assert!(rt; begins_with(view, Item::Object(0), &[0, 0]));
     let fields = [Item::Object(1), Item::Rail(0), here];
-    assert!(rt; has_first(rt.alloc(), &rt, &view, 0, &fields)?);
+    assert!(rt; has_first(alloc, rt, view, 0, &fields)?);
     Ok(())
+}
+
+#[test]
+fn parts_of_a_cycle(rt: HostRuntime) -> Result<(), Fail> {
+    let (wide, narrow) = (
+        view_of(rt.alloc(), &CYCLE, 2)?,
+        view_of(rt.alloc(), &NARROW_CYCLE, 2)?,
+    );
+    has_a_cycle(rt.alloc(), &rt, &wide)?;
+    has_a_cycle(rt.alloc(), &rt, &narrow)
 }
 
 /// Whether a report has these counts.
@@ -315,45 +361,77 @@ fn parts_of_a_report(rt: HostRuntime) -> Result<(), Fail> {
     Ok(())
 }
 
-#[test]
-fn each_beginning_is_short(rt: HostRuntime) {
-    for length in 0..67usize {
+/// Each proper beginning of a frame is `Short`.
+fn are_short(alloc: Global, rt: &impl Abort, frame: &[u8]) {
+    for length in 0..frame.len() {
         assert_eq!(rt;
-            fault(rt.alloc(), &CYCLE[..length], 2),
+            fault(alloc, &frame[..length], 2),
             Some(FrameFault::Short),
             "of {length} bytes"
         );
     }
 }
 
-/// Whether bytes are refused, which the frame of a cycle isn't, or are a frame that is written again as they are.
-fn is_refused_or_written(alloc: Global, rt: &impl Abort, bytes: &[u8]) -> Result<bool, Fail> {
+#[test]
+fn each_beginning_is_short(rt: HostRuntime) {
+    are_short(rt.alloc(), &rt, &CYCLE);
+    are_short(rt.alloc(), &rt, &NARROW_CYCLE);
+}
+
+/// Whether bytes are a frame of version 2 that is written again as they are, or one of version 1 that is written in version 2,
+/// and then again as that is.
+fn is_written(alloc: Global, rt: &impl Abort, view: &FrameView, bytes: &[u8]) -> Result<bool, Fail> {
+    let written = again(alloc, rt, view)?;
+    if bytes.first() == Some(&2) {
+        return Ok(written.as_slice() == bytes);
+    }
+    is_written_again(alloc, rt, &written, 2)?;
+    Ok(bytes.first() == Some(&1))
+}
+
+/// Whether bytes are refused, which the frame itself isn't, or are a frame that is written again.
+fn is_refused_or_written(
+    alloc: Global,
+    rt: &impl Abort,
+    bytes: &[u8],
+    frame: &[u8],
+) -> Result<bool, Fail> {
     match FrameView::read(alloc, bytes, 2) {
-        Ok(view) => is_again(alloc, rt, &view, bytes),
-        Err(fault) => Ok(fault != FrameFault::Memory && bytes != CYCLE.as_slice()),
+        Ok(view) => is_written(alloc, rt, &view, bytes),
+        Err(fault) => Ok(fault != FrameFault::Memory && bytes != frame),
     }
 }
 
-#[test]
-fn each_other_byte(rt: HostRuntime) -> Result<(), Fail> {
-    for place in 0..67usize {
-        let mut bytes = CYCLE;
+/// Each value in place of each byte of a frame.
+fn are_refused_or_written(alloc: Global, rt: &impl Abort, frame: &[u8]) -> Result<(), Fail> {
+    for place in 0..frame.len() {
+        let mut bytes = Vec::from_slice(alloc, frame)?;
         for value in 0..=255u8 {
-            bytes[place] = value;
-            assert!(rt; is_refused_or_written(rt.alloc(), &rt, &bytes)?);
+            if let Some(byte) = bytes.get_mut(place) {
+                *byte = value;
+            }
+            assert!(rt; is_refused_or_written(alloc, rt, &bytes, frame)?);
         }
     }
     Ok(())
 }
 
 #[test]
+fn each_other_byte(rt: HostRuntime) -> Result<(), Fail> {
+    are_refused_or_written(rt.alloc(), &rt, &CYCLE)?;
+    are_refused_or_written(rt.alloc(), &rt, &NARROW_CYCLE)
+}
+
+#[test]
 fn refusals_of_heads(rt: HostRuntime) {
-    let heads: [(&[u8], u16, FrameFault); 7] = [
+    let heads: [(&[u8], u16, FrameFault); 9] = [
         (&[], 2, FrameFault::Short),
-        (&[2], 2, FrameFault::Version),
+        (&[0], 2, FrameFault::Version),
+        (&[3], 2, FrameFault::Version),
         (&[1, 0], 2, FrameFault::FrameType),
-        (&[1, 5], 2, FrameFault::FrameType),
+        (&[2, 5], 2, FrameFault::FrameType),
         (&[1, 1, 0, 2], 2, FrameFault::Place),
+        (&[2, 1, 0, 2], 2, FrameFault::Place),
         (&REPORT, 2, FrameFault::Place),
         (&REPORT, 4, FrameFault::Place),
     ];
@@ -362,9 +440,34 @@ fn refusals_of_heads(rt: HostRuntime) {
     }
 }
 
+/// Graphs of a version, each of which is refused for its fault.
+fn are_refused(
+    alloc: Global,
+    rt: &impl Abort,
+    version: u8,
+    graphs: &[(&[u8], FrameFault)],
+) -> Result<(), Fail> {
+    for (graph, fault) in graphs {
+        assert!(rt; graph_fault(alloc, version, graph)? == Some(*fault));
+    }
+    Ok(())
+}
+
+fn are_out_of_order(
+    alloc: Global,
+    rt: &impl Abort,
+    version: u8,
+    graphs: &[&[u8]],
+) -> Result<(), Fail> {
+    for graph in graphs {
+        assert!(rt; graph_fault(alloc, version, graph)? == Some(FrameFault::Order));
+    }
+    Ok(())
+}
+
 #[test]
 fn refused_for_their_order(rt: HostRuntime) -> Result<(), Fail> {
-    let graphs: [&[u8]; 7] = [
+    let narrow: [&[u8]; 7] = [
         &[0, 17, 0, 0, 0, 0, 0, 0],
         &[0, 1, 0, 0, 0, 0, 0, 1, 5, 0, 1],
         &[0, 1, 0, 0, 0, 0, 0, 2, 5, 0, 1],
@@ -373,30 +476,44 @@ fn refused_for_their_order(rt: HostRuntime) -> Result<(), Fail> {
         &[0, 1, 0, 1, 0, 0, 0, 0, 3, 0, 0, 0, 1, 0, 0],
         &[0, 0, 0, 1, 0, 0, 0, 0, 0, 0, 0, 0],
     ];
-    for graph in graphs {
-        assert_eq!(rt; graph_fault(rt.alloc(), graph)?, Some(FrameFault::Order));
-    }
-    Ok(())
+    let wide: [&[u8]; 7] = [
+        &[0, 17, 0, 0, 0, 0, 0, 0, 0, 0, 0, 0, 0, 0],
+        &[0, 1, 0, 0, 0, 0, 0, 0, 0, 0, 0, 0, 0, 1, 5, 0, 0, 0, 1],
+        &[0, 1, 0, 0, 0, 0, 0, 0, 0, 0, 0, 0, 0, 2, 5, 0, 0, 0, 1],
+        &[0, 0, 0, 0, 0, 0, 0, 0, 0, 0, 0, 0, 0, 1, 0, 0],
+        &[0, 1, 0, 0, 0, 0, 0, 0, 0, 0, 0, 0, 0, 1, 5, 0, 0, 0, 0, 0, 0, 17],
+        &[0, 1, 0, 0, 0, 1, 0, 0, 0, 0, 0, 0, 0, 0, 3, 0, 0, 0, 0, 0, 1, 0, 0],
+        &[0, 0, 0, 0, 0, 1, 0, 0, 0, 0, 0, 0, 0, 0, 0, 0, 0, 0],
+    ];
+    are_out_of_order(rt.alloc(), &rt, 1, &narrow)?;
+    are_out_of_order(rt.alloc(), &rt, 2, &wide)
 }
 
 #[test]
 fn refused_for_other_faults(rt: HostRuntime) -> Result<(), Fail> {
-    let graphs: [(&[u8], FrameFault); 7] = [
+    let narrow: [(&[u8], FrameFault); 7] = [
         (&[0, 0, 0, 0, 0, 0, 0, 1, 0], FrameFault::Short),
         (&[0, 0, 0, 0, 0, 0, 255, 255], FrameFault::Short),
         (&[0, 1, 0, 0, 0, 0, 0, 0, 8], FrameFault::Tag),
         (&[0, 1, 0, 0, 0, 0, 0, 0, 2, 0, 2], FrameFault::Place),
         (&[0, 1, 0, 0, 0, 0, 0, 0, 7, 0, 2], FrameFault::Place),
         (&[0, 0, 0, 0, 0, 0, 0, 0, 0], FrameFault::Trailing),
+        (&[0, 1, 0, 1, 0, 0, 0, 0, 3, 0, 0, 0, 0, 0, 1, 255], FrameFault::Text),
+    ];
+    let wide: [(&[u8], FrameFault); 7] = [
+        (&[0, 0, 0, 0, 0, 0, 0, 0, 0, 0, 0, 0, 0, 1, 0], FrameFault::Short),
+        (&[0, 0, 0, 0, 0, 0, 0, 0, 0, 0, 0, 0, 255, 255], FrameFault::Short),
+        (&[0, 1, 0, 0, 0, 0, 0, 0, 0, 0, 0, 0, 0, 0, 8], FrameFault::Tag),
+        (&[0, 1, 0, 0, 0, 0, 0, 0, 0, 0, 0, 0, 0, 0, 2, 0, 2], FrameFault::Place),
+        (&[0, 1, 0, 0, 0, 0, 0, 0, 0, 0, 0, 0, 0, 0, 7, 0, 2], FrameFault::Place),
+        (&[0, 0, 0, 0, 0, 0, 0, 0, 0, 0, 0, 0, 0, 0, 0], FrameFault::Trailing),
         (
-            &[0, 1, 0, 1, 0, 0, 0, 0, 3, 0, 0, 0, 0, 0, 1, 255],
+            &[0, 1, 0, 0, 0, 1, 0, 0, 0, 0, 0, 0, 0, 0, 3, 0, 0, 0, 0, 0, 0, 0, 1, 255],
             FrameFault::Text,
         ),
     ];
-    for (graph, fault) in graphs {
-        assert_eq!(rt; graph_fault(rt.alloc(), graph)?, Some(fault));
-    }
-    Ok(())
+    are_refused(rt.alloc(), &rt, 1, &narrow)?;
+    are_refused(rt.alloc(), &rt, 2, &wide)
 }
 
 #[test]

@@ -21,6 +21,9 @@ end
 entry 0
 ";
 
+/// How many objects, texts or rails a frame has at most.
+const MOST: u32 = 1_048_576;
+
 /// How many texts or rails an object names.
 const EACH: u32 = 15;
 
@@ -148,15 +151,15 @@ fn meets(
     }
 }
 
-/// A frame takes 65,535 objects along and no more; as many texts, and as many rails.
+/// A frame takes 1,048,576 objects along and no more; as many texts, and as many rails.
 #[test]
 fn the_most_objects(rt: HostRuntime) -> Result<(), Fail> {
     let bytes = assembled(rt.alloc(), LISTS)?;
     let image = image_of(rt.alloc(), &bytes)?;
-    let frame = frame_of(rt.alloc(), &rt, &list(rt.alloc(), 65_535)?, &image, 0)?;
-    assert!(rt; frame.len() == 393_233);
-    assert!(rt; arrived(rt.alloc(), &image, &frame, 0) == (65_535, 0, 0));
-    let more = list(rt.alloc(), 65_536)?;
+    let frame = frame_of(rt.alloc(), &rt, &list(rt.alloc(), MOST)?, &image, 0)?;
+    assert!(rt; frame.len() == 8_388_637);
+    assert!(rt; arrived(rt.alloc(), &image, &frame, 0) == (1_048_576, 0, 0));
+    let more = list(rt.alloc(), MOST + 1)?;
     assert!(rt; meets(rt.alloc(), &rt, &image, &more, 0, Stop::Limit(7)));
     Ok(())
 }
@@ -165,9 +168,9 @@ fn the_most_objects(rt: HostRuntime) -> Result<(), Fail> {
 fn the_most_texts(rt: HostRuntime) -> Result<(), Fail> {
     let bytes = assembled(rt.alloc(), LISTS)?;
     let image = image_of(rt.alloc(), &bytes)?;
-    let most = texts(rt.alloc(), 65_535)?;
-    assert!(rt; that_go(rt.alloc(), &rt, &image, &most, 1)? == (4_369, 65_535, 0));
-    let more = texts(rt.alloc(), 65_536)?;
+    let most = texts(rt.alloc(), MOST)?;
+    assert!(rt; that_go(rt.alloc(), &rt, &image, &most, 1)? == (69_906, 1_048_576, 0));
+    let more = texts(rt.alloc(), MOST + 1)?;
     assert!(rt; meets(rt.alloc(), &rt, &image, &more, 1, Stop::Limit(8)));
     Ok(())
 }
@@ -176,9 +179,9 @@ fn the_most_texts(rt: HostRuntime) -> Result<(), Fail> {
 fn the_most_rails(rt: HostRuntime) -> Result<(), Fail> {
     let bytes = assembled(rt.alloc(), LISTS)?;
     let image = image_of(rt.alloc(), &bytes)?;
-    let most = rails(rt.alloc(), 65_535)?;
-    assert!(rt; that_go(rt.alloc(), &rt, &image, &most, 2)? == (4_369, 0, 65_535));
-    let more = rails(rt.alloc(), 65_536)?;
+    let most = rails(rt.alloc(), MOST)?;
+    assert!(rt; that_go(rt.alloc(), &rt, &image, &most, 2)? == (69_906, 0, 1_048_576));
+    let more = rails(rt.alloc(), MOST + 1)?;
     assert!(rt; meets(rt.alloc(), &rt, &image, &more, 2, Stop::Limit(9)));
     Ok(())
 }

@@ -24,40 +24,43 @@ entry 1
 ";
 
 /// A new activity with two references, of which nothing is right.
-const WRONG: [u8; 40] = [
-    2, 1, 0, 1, 0, 1, 0, 0, 0, 0, 0, 5, 0, 9, 0, 2, 0, 0, 0, 0, 0, 0, // version to function
+const WRONG: [u8; 46] = [
+    3, 1, 0, 1, 0, 1, 0, 0, 0, 0, 0, 5, 0, 9, // version to function
+    0, 2, 0, 0, 0, 0, 0, 0, 0, 0, 0, 0, 0, 0, // counts
     7, 0, 1, 0, 0, 0, 0, 0, 1, // the first one's home and class
     7, 0, 0, 0, 0, 0, 1, 0, 0, // the second one's number
 ];
 
 /// What puts one fault after another right, and the fault that is reported then.
 const RIGHT: [(usize, u8, Refusal); 6] = [
-    (0, 1, Refusal::NotHere),
+    (0, 2, Refusal::NotHere),
     (5, 0, Refusal::Function),
     (13, 0, Refusal::Kind),
-    (30, 0, Refusal::Home),
-    (24, 0, Refusal::Ref),
-    (37, 0, Refusal::Finish),
+    (36, 0, Refusal::Home),
+    (30, 0, Refusal::Ref),
+    (43, 0, Refusal::Finish),
 ];
 
 /// The way back from place 1 with the number 5, and a new activity with it.
-const BACK_WITH_FIVE: [u8; 27] = [
-    1, 3, 0, 1, 0, 0, 0, 0, 0, 0, 0, 1, 0, 0, 0, 0, 0, 0, 1, 0, 0, 0, 0, 0, 0, 0, 5,
+const BACK_WITH_FIVE: [u8; 33] = [
+    2, 3, 0, 1, 0, 0, 0, 0, 0, 0, 0, 1, 0, 0, 0, 0, 0, 0, 0, 0, 0, 0, 0, 0, 1, 0, 0, 0, 0, 0, 0, 0,
+    5,
 ];
 
-const SPAWN_WITH_FIVE: [u8; 31] = [
-    1, 1, 0, 1, 0, 0, 0, 0, 0, 0, 0, 1, 0, 0, 0, 1, 0, 0, 0, 0, 0, 0, 1, 0, 0, 0, 0, 0, 0, 0, 5,
+const SPAWN_WITH_FIVE: [u8; 37] = [
+    2, 1, 0, 1, 0, 0, 0, 0, 0, 0, 0, 1, 0, 0, 0, 1, 0, 0, 0, 0, 0, 0, 0, 0, 0, 0, 0, 0, 1, 0, 0, 0,
+    0, 0, 0, 0, 5,
 ];
 
 /// Nothing was sent and nothing received of the seventh finish, as one of three places says.
 const REPORT_OF_SEVENTH: [u8; 36] = [
-    1, 4, 0, 1, 0, 0, 0, 0, 0, 7, 0, 3, 0, 0, 0, 0, 0, 0, 0, 0, 0, 0, 0, 0, 0, 0, 0, 0, 0, 0, 0, 0,
+    2, 4, 0, 1, 0, 0, 0, 0, 0, 7, 0, 3, 0, 0, 0, 0, 0, 0, 0, 0, 0, 0, 0, 0, 0, 0, 0, 0, 0, 0, 0, 0,
     0, 0, 0, 0,
 ];
 
 /// The same of the first, as one of two places says.
 const REPORT_OF_TWO_PLACES: [u8; 28] = [
-    1, 4, 0, 1, 0, 0, 0, 0, 0, 1, 0, 2, 0, 0, 0, 0, 0, 0, 0, 0, 0, 0, 0, 0, 0, 0, 0, 0,
+    2, 4, 0, 1, 0, 0, 0, 0, 0, 1, 0, 2, 0, 0, 0, 0, 0, 0, 0, 0, 0, 0, 0, 0, 0, 0, 0, 0,
 ];
 
 /// Each fault is reported in its turn, and the frame that has none is taken in.
@@ -91,8 +94,8 @@ fn are_refused(rt: &impl Abort, place: &mut Place) {
     let mut back = BACK;
     back[3] = 2;
     let mut short = spawn(1, 0);
-    short[20] = 255;
-    short[21] = 255;
+    short[26] = 255;
+    short[27] = 255;
     let (unknown, unmet) = (spawn(1, 3), spawn(2, 0));
     let frames: [(&[u8], Refusal); 8] = [
         (&back, Refusal::Segment),

@@ -26,18 +26,22 @@ entry 1
 ";
 
 /// The way back from place 0 to the first key of place 1, with no result.
-const BACK_TO_ONE: [u8; 18] = [1, 3, 0, 0, 0, 1, 0, 0, 0, 0, 0, 0, 0, 0, 0, 0, 0, 0];
+const BACK_TO_ONE: [u8; 24] = [
+    2, 3, 0, 0, 0, 1, 0, 0, 0, 0, 0, 0, 0, 0, 0, 0, 0, 0, 0, 0, 0, 0, 0, 0,
+];
 
 /// A new activity at place 1 with a text that isn't UTF-8.
-const NO_TEXT: [u8; 30] = [
-    1, 1, 0, 0, 0, 1, 0, 0, 0, 0, 0, 1, 0, 0, 0, 1, 0, 1, 0, 0, 0, 0, 3, 0, 0, 0, 0, 0, 1, 255,
+const NO_TEXT: [u8; 38] = [
+    2, 1, 0, 0, 0, 1, 0, 0, 0, 0, 0, 1, 0, 0, 0, 1, 0, 0, 0, 1, 0, 0, 0, 0, 0, 0, 0, 0, 3, 0, 0, 0,
+    0, 0, 0, 0, 1, 255,
 ];
 
 /// A new activity from place 1 at place 0, under a finish of place 0, with nothing passed.
-pub(crate) fn spawn(finish: u8, function: u8) -> [u8; 22] {
-    [
-        1, 1, 0, 1, 0, 0, 0, 0, 0, 0, 0, finish, 0, function, 0, 0, 0, 0, 0, 0, 0, 0,
-    ]
+pub(crate) fn spawn(finish: u8, function: u8) -> [u8; 28] {
+    let mut bytes = [0u8; 28];
+    (bytes[0], bytes[1], bytes[3]) = (2, 1, 1);
+    (bytes[11], bytes[13]) = (finish, function);
+    bytes
 }
 
 /// What a place has sent to three places under the first finish of place 0, and received from them.
@@ -52,7 +56,7 @@ fn report(from: u8, sent: [u8; 3], received: [u8; 3]) -> [u8; 36] {
 }
 
 /// The frame of a cycle, with another byte at one position.
-fn cycle_with(at: usize, byte: u8) -> [u8; 67] {
+fn cycle_with(at: usize, byte: u8) -> [u8; 83] {
     let mut bytes = CYCLE;
     if let Some(place) = bytes.get_mut(at) {
         *place = byte;
@@ -123,7 +127,7 @@ fn reports_in_another_order(rt: HostRuntime) -> Result<(), Fail> {
 
 /// What place 1 refuses to take in, and why.
 fn are_refused(rt: &impl Abort, place: &mut Place) {
-    let (no_ref, no_function) = (cycle_with(42, 1), cycle_with(13, 2));
+    let (no_ref, no_function) = (cycle_with(54, 1), cycle_with(13, 2));
     let elsewhere = cycle_with(5, 0);
     let frames: [(&[u8], Refusal); 5] = [
         (&no_ref, Refusal::Ref),

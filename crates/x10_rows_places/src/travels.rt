@@ -26,7 +26,7 @@ entry 1
 
 /// What place 1 has counted of main's finish in `ALONG`: one received from place 0.
 const REPORT_OF_TWO: [u8; 28] = [
-    1, 4, 0, 1, 0, 0, 0, 0, 0, 1, 0, 2, 0, 0, 0, 0, 0, 0, 0, 0, 0, 0, 0, 1, 0, 0, 0, 0,
+    2, 4, 0, 1, 0, 0, 0, 0, 0, 1, 0, 2, 0, 0, 0, 0, 0, 0, 0, 0, 0, 0, 0, 1, 0, 0, 0, 0,
 ];
 
 /// Steps of the first key, which are made, whether they move or not.

@@ -9,7 +9,8 @@ use Rattle.x10_model.specs.Maps.{with_entry}
 use Rattle.x10_model.specs.Modules.{Module}
 use Rattle.x10_model.specs.Structure.{bounds_of}
 use Rattle.x10_model.specs.Frames as frames
-use Rattle.x10_model.specs.Frames.{Narrow, Frame, FitsFrame}
+use Rattle.x10_model.specs.declared.version.FrameVersion.TheVariants.{Wide}
+use Rattle.x10_model.specs.Frames.{Frame, FitsFrame}
 use Rattle.x10_model.specs.Marshalling.{message_of}
 use Rattle.x10_model.specs.Places as machine
 use Rattle.x10_model.specs.Places.{Finish, Message, root}
@@ -240,15 +241,15 @@ module _ (program : Module) (bounds : List ℕ) (places : List PlaceState) (flig
 
   -- ---- either
 
-  fits_here : (f : Frame) → FitsFrame Narrow (length places) f → FitsFrame Narrow p.places f
-  fits_here f fits = subst (λ n. FitsFrame Narrow n f) (sym belongs.places_are) fits
+  fits_here : (f : Frame) → FitsFrame Wide (length places) f → FitsFrame Wide p.places f
+  fits_here f fits = subst (λ n. FitsFrame Wide n f) (sym belongs.places_are) fits
 
   admitted : (taken-in : IsTaken p flight.bytes q) (h : FliesAsMessage program (length places) w stand.told number flight) (m : machine.Place) → StandsFor (far_in w) p m → Admits (far_in w) p m h.message q
   admitted taken-in h m old =
       let f = h.carries.frame in
       let elsewhere : AreNamedElsewhere (context_of (far_in w) p) (wrong.graph_of h.message) =
       references_on (λ home id class. IsTrue (far_in w home id class)) (λ home id class. (home ≡ p.id → ⊥) → IsTrue (far_in w home id class)) (λ home id class x n. x) (wrong.graph_of h.message) h.named in
-      takes_message p q f h.message h.carries.message_is (taken-in.takes f (fits_here f h.carries.fits) h.carries.spelled) (far_in w) m old elsewhere
+      takes_message p q f h.message h.carries.message_is (taken-in.takes f (record { version = Wide; fits = fits_here f h.carries.fits; is = h.carries.spelled })) (far_in w) m old elsewhere
 
   pub delivery_from : IsTaken p flight.bytes q → FliesAsMessage program (length places) w stand.told number flight ⊎ FliesAsReport (length places) w stand.told number flight → LeadsOn
   delivery_from taken-in (inl h) =
@@ -256,7 +257,7 @@ module _ (program : Module) (bounds : List ℕ) (places : List PlaceState) (flig
       message_leads h old.0 old.1 (admitted taken-in h old.0 old.2)
   delivery_from taken-in (inr h) =
       let old = stand.some here p is in
-      report_leads h old.0 old.1 old.2 (taken-in.takes (report_frame here h.report) (fits_here (report_frame here h.report) h.carries.fits) h.carries.spelled)
+      report_leads h old.0 old.1 old.2 (taken-in.takes (report_frame here h.report) (record { version = Wide; fits = fits_here (report_frame here h.report) h.carries.fits; is = h.carries.spelled }))
 
 pub delivery_leads : DeliveryLeads
 delivery_leads program bounds places flights w number flight p q bounds-are belong stand flies is taken-in =

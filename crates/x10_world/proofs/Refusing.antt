@@ -8,7 +8,8 @@ use Rattle.x10_model.specs.Modules.{Module}
 use Rattle.x10_model.specs.Places as machine
 use Rattle.x10_model.specs.Places.{Finish, Message, receiver}
 use Rattle.x10_model.specs.Frames as frames
-use Rattle.x10_model.specs.Frames.{Narrow, Frame, Graph, FitsFrame, spelling, to_of}
+use Rattle.x10_model.specs.declared.version.FrameVersion.TheVariants.{Wide}
+use Rattle.x10_model.specs.Frames.{Frame, Graph, FitsFrame, IsSpelled, to_of}
 use Rattle.x10_model.specs.ReadingFrames as reading
 use Rattle.x10_model.specs.ReadingFrames.{frame_at}
 use Rattle.x10_model.specs.Marshalling.{snapshot_of, message_of}
@@ -81,18 +82,18 @@ no_fault : {Y : Type 0} (o : Option reading.FrameFault) (read : _) (y : Y) → r
 no_fault None read y e h = h
 no_fault (Some f) read y e h = (let x = sym e ∙ h in absurd cc)
 
-bytes_for_room : (p : PlaceState) (bytes : List ℕ) (f : Frame) → p.places < 2 ^ 16 → FitsFrame Narrow p.places f → bytes ≡ spelling Narrow f → IsRight p f → (why : Refusal) → IsRefusedBytes p bytes why → IsForRoom why
-bytes_for_room p bytes f few fits spelled r (refusal.Frame fault) h = absurd (no_fault (named fault) (frame_at p.places bytes) f (ap (frame_at p.places) spelled ∙ frame_again p.places few f fits) h)
-bytes_for_room p bytes f few fits spelled r refusal.NotHere h = right_for_room p f r refusal.NotHere (h f fits spelled)
-bytes_for_room p bytes f few fits spelled r refusal.Function h = right_for_room p f r refusal.Function (h f fits spelled)
-bytes_for_room p bytes f few fits spelled r refusal.Segment h = right_for_room p f r refusal.Segment (h f fits spelled)
-bytes_for_room p bytes f few fits spelled r refusal.Kind h = right_for_room p f r refusal.Kind (h f fits spelled)
-bytes_for_room p bytes f few fits spelled r refusal.Home h = right_for_room p f r refusal.Home (h f fits spelled)
-bytes_for_room p bytes f few fits spelled r refusal.Ref h = right_for_room p f r refusal.Ref (h f fits spelled)
-bytes_for_room p bytes f few fits spelled r refusal.Finish h = right_for_room p f r refusal.Finish (h f fits spelled)
-bytes_for_room p bytes f few fits spelled r (refusal.Limit limit) h = right_for_room p f r (refusal.Limit limit) (h f fits spelled)
-bytes_for_room p bytes f few fits spelled r refusal.Memory h = right_for_room p f r refusal.Memory (h f fits spelled)
-bytes_for_room p bytes f few fits spelled r refusal.Stopped h = right_for_room p f r refusal.Stopped (h f fits spelled)
+bytes_for_room : (p : PlaceState) (bytes : List ℕ) (f : Frame) → p.places < 2 ^ 16 → IsSpelled p.places f bytes → IsRight p f → (why : Refusal) → IsRefusedBytes p bytes why → IsForRoom why
+bytes_for_room p bytes f few spelled r (refusal.Frame fault) h = absurd (no_fault (named fault) (frame_at p.places bytes) f (ap (frame_at p.places) spelled.is ∙ frame_again spelled.version p.places few f spelled.fits) h)
+bytes_for_room p bytes f few spelled r refusal.NotHere h = right_for_room p f r refusal.NotHere (h f spelled)
+bytes_for_room p bytes f few spelled r refusal.Function h = right_for_room p f r refusal.Function (h f spelled)
+bytes_for_room p bytes f few spelled r refusal.Segment h = right_for_room p f r refusal.Segment (h f spelled)
+bytes_for_room p bytes f few spelled r refusal.Kind h = right_for_room p f r refusal.Kind (h f spelled)
+bytes_for_room p bytes f few spelled r refusal.Home h = right_for_room p f r refusal.Home (h f spelled)
+bytes_for_room p bytes f few spelled r refusal.Ref h = right_for_room p f r refusal.Ref (h f spelled)
+bytes_for_room p bytes f few spelled r refusal.Finish h = right_for_room p f r refusal.Finish (h f spelled)
+bytes_for_room p bytes f few spelled r (refusal.Limit limit) h = right_for_room p f r (refusal.Limit limit) (h f spelled)
+bytes_for_room p bytes f few spelled r refusal.Memory h = right_for_room p f r refusal.Memory (h f spelled)
+bytes_for_room p bytes f few spelled r refusal.Stopped h = right_for_room p f r refusal.Stopped (h f spelled)
 
 -- ---- nothing is wrong of a message that flies
 
@@ -157,8 +158,8 @@ module _ (program : Module) (bounds : List ℕ) (places : List PlaceState) (flig
   }
 
   -- its frame fits the place's run
-  fits_here : (f : Frame) → FitsFrame Narrow (length places) f → FitsFrame Narrow p.places f
-  fits_here f fits = subst (λ n. FitsFrame Narrow n f) (sym belongs.places_are) fits
+  fits_here : (f : Frame) → FitsFrame Wide (length places) f → FitsFrame Wide p.places f
+  fits_here f fits = subst (λ n. FitsFrame Wide n f) (sym belongs.places_are) fits
 
   report_right : (h : FliesAsReport (length places) w stand.told number flight) (m : machine.Place) → w.net.places flight.to ≡ Some m → StandsFor (far_in w) p m → IsRight p (report_frame flight.to h.report)
   report_right h m there old = record {
@@ -179,10 +180,10 @@ module _ (program : Module) (bounds : List ℕ) (places : List PlaceState) (flig
   refused_from (inl h) why refused =
       let old = stand.some flight.to p is in
       let there : w.net.places p.id ≡ Some old.0 = ap w.net.places belongs.id_is ∙ old.1 in
-      bytes_for_room p flight.bytes h.carries.frame (few old.0 old.2) (fits_here h.carries.frame h.carries.fits) h.carries.spelled (message_right w p old.0 there old.2 h.carries.frame h.message h.carries.message_is (is_for h)) why refused
+      bytes_for_room p flight.bytes h.carries.frame (few old.0 old.2) (record { version = Wide; fits = fits_here h.carries.frame h.carries.fits; is = h.carries.spelled }) (message_right w p old.0 there old.2 h.carries.frame h.message h.carries.message_is (is_for h)) why refused
   refused_from (inr h) why refused =
       let old = stand.some flight.to p is in
-      bytes_for_room p flight.bytes (report_frame flight.to h.report) (few old.0 old.2) (fits_here (report_frame flight.to h.report) h.carries.fits) h.carries.spelled (report_right h old.0 old.1 old.2) why refused
+      bytes_for_room p flight.bytes (report_frame flight.to h.report) (few old.0 old.2) (record { version = Wide; fits = fits_here (report_frame flight.to h.report) h.carries.fits; is = h.carries.spelled }) (report_right h old.0 old.1 old.2) why refused
 
 pub none_is_refused : NoneIsRefused
 none_is_refused program bounds places flights w number flight p why belong stand flies is refused =

@@ -6,7 +6,7 @@ pub returns-then-part-places : goal.returns-then-part-places
 returns-then-part-places c = past_places c.args.places.now c.args.parts.now c.args.part c.requires c.if-part-places.true
 
 pub returns-then-k-parts : goal.returns-then-k-parts
-returns-then-k-parts c = past_parts c.args.places.now c.args.parts.now c.args.part c.from-k.result c.requires c.from-k.ensures c.if-k-parts.true
+returns-then-k-parts c = past_parts c.args.places.now c.args.parts.now c.args.part _ c.requires refl c.if-k-parts.true
 
 pub returns : goal.returns
-returns c = tells c.args.places.now c.args.parts.now c.args.part c.from-k.result _ c.requires c.from-k.ensures c.if-k-parts.false refl
+returns c = tells c.args.places.now c.args.parts.now c.args.part _ _ c.requires refl c.if-k-parts.false refl

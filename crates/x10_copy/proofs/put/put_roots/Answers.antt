@@ -1,5 +1,6 @@
 use Rattle.std.proofs.lemmas.Option.{slice_get-get_or}
-use Rattle.x10_model.specs.Frames.{Narrow, item_bytes}
+use Rattle.x10_model.specs.declared.version.FrameVersion.TheVariants.{Wide}
+use Rattle.x10_model.specs.Frames.{item_bytes}
 use Rattle.x10_copy.specs.Names.{items_of}
 use Rattle.x10_copy.specs.Captured.{kinds_of}
 use Rattle.x10_copy.proofs.Noting.{word_at, kind_at, slot_there}
@@ -26,5 +27,5 @@ loop-i-preserved c = one_item c.args.marks.now (kinds_of c.args.slots.now) c.arg
     (slice_get-get_or c.args.words.now c.loop-i.i 0 c.loop-i-test.true) c.item.ensures c.in_ok-writer.ensures.value
 
 pub returns : goal.returns
-returns c = left_end (item_bytes Narrow) c.args.writer (items_of c.args.marks.now (kinds_of c.args.slots.now) c.args.words.now) c.loop-i.writer _ c.loop-i.invariant
+returns c = left_end (item_bytes Wide) c.args.writer (items_of c.args.marks.now (kinds_of c.args.slots.now) c.args.words.now) c.loop-i.writer _ c.loop-i.invariant
     (items_end c.args.marks.now (kinds_of c.args.slots.now) c.args.words.now c.loop-i.i c.loop-i-test.false)

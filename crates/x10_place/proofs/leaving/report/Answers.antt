@@ -1,6 +1,7 @@
 use Rattle.std.proofs.Common.{◌≡◌, ◌<◌, ◌^◌, ℕ, rules, subst}
 use Rattle.x10_model.specs.Frames as frames
-use Rattle.x10_model.specs.Frames.{Narrow, spelling}
+use Rattle.x10_model.specs.declared.version.FrameVersion.TheVariants.{Wide}
+use Rattle.x10_model.specs.Frames.{spelling}
 use Rattle.x10_place.specs.Stays.{finish_as}
 use Rattle.x10_place.proofs.Leavings.{reports_none, reports_one, report_short}
 use Rattle.x10_place.proofs.leaving.report.Goals as goal
@@ -14,4 +15,4 @@ write_counts-requires c = report_short c.args.store.now (finish_as c.args.finish
 pub returns-in-Ok-clause-ok : goal.returns-in-Ok-clause-ok
 returns-in-Ok-clause-ok c =
     reports_one c.args.store.now (finish_as c.args.finish) c.in-Some.sent.now c.in-Some.received.now c.in-Ok.bytes c.due.ensures.here c.due.ensures.places c.requires.within c.requires.home (let few : c.args.finish.number < 2 ^ 32 = search rules in few)
-    c.in-Some.ensures.some c.counts_are_small.ensures c.counts_are_small-2.ensures (subst (λ (here : ℕ). c.in-Ok.bytes.items ≡ spelling Narrow (frames.Report here c.args.finish.home c.args.finish.number c.in-Some.sent.now c.in-Some.received.now)) c.spot-here.ensures.here c.in-Ok.ensures.value)
+    c.in-Some.ensures.some c.counts_are_small.ensures c.counts_are_small-2.ensures (subst (λ (here : ℕ). c.in-Ok.bytes.items ≡ spelling Wide (frames.Report here c.args.finish.home c.args.finish.number c.in-Some.sent.now c.in-Some.received.now)) c.spot-here.ensures.here c.in-Ok.ensures.value)

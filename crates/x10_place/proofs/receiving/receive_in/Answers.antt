@@ -1,10 +1,11 @@
 use Rattle.std.proofs.Common.{◌≡◌, Bool, subst, rules}
-use Rattle.x10_model.specs.Frames.{Narrow, Frame, FitsFrame, spelling}
+use Rattle.x10_model.specs.declared.version.FrameVersion.TheVariants.{Wide}
+use Rattle.x10_model.specs.Frames.{Frame, FitsFrame, IsSpelled}
 use Rattle.x10_place.specs.Arrivals.{IsUnread}
 use Rattle.x10_place.specs.Receiving.{IsRefusedBytes, IsOfFrame}
 use Rattle.x10_place.specs.StandsFor.{place_of}
 use Rattle.x10_place.proofs.Delivered.{ok_then, err_then}
-use Rattle.x10_place.proofs.Received.{taken_bytes, refused_bytes, unread_refused, unread_none, read_before, standing_after}
+use Rattle.x10_place.proofs.Received.{taken_bytes, refused_bytes, unread_refused, unread_none, read_before, standing_after, fits_wide}
 use Rattle.x10_place.proofs.receiving.receive_in.Goals as goal
 
 pub returns-in_err-view-clause-refused : goal.returns-in_err-view-clause-refused
@@ -22,18 +23,23 @@ returns-in_err-view-clause-read c =
 pub returns-clause-read : goal.returns-clause-read
 returns-clause-read c =
     let places : c.spot-places.result.places ≡ c.args.store.now.places = c.spot-places.ensures.places in
-    read_before c.args.verified.now c.args.stays.now c.args.store.now c.args.bytes.now c.in_ok-view.view (subst (λ n. FitsFrame Narrow n c.in_ok-view.view × (c.args.bytes.now ≡ spelling Narrow c.in_ok-view.view)) places c.in_ok-view.ensures.found) c.take.result
+    read_before c.args.verified.now c.args.stays.now c.args.store.now c.args.bytes.now c.in_ok-view.view (subst (λ n. IsSpelled n c.in_ok-view.view c.args.bytes.now) places c.in_ok-view.ensures.found) c.take.result
 
 pub returns-clause-ok : goal.returns-clause-ok
 returns-clause-ok c =
     let places : c.spot-places.result.places ≡ c.args.store.now.places = c.spot-places.ensures.places in
     ok_then c.take.result (taken_bytes c.args.verified.now c.args.stays.now c.args.store.now c.args.bytes.now c.take.new.stays c.take.new.store c.in_ok-view.view
-    (subst (λ n. FitsFrame Narrow n c.in_ok-view.view × (c.args.bytes.now ≡ spelling Narrow c.in_ok-view.view)) places c.in_ok-view.ensures.found) (subst (λ n. (f : Frame) → FitsFrame Narrow n f → c.args.bytes.now ≡ spelling Narrow f → c.in_ok-view.view ≡ f) places c.in_ok-view.ensures.only)) c.take.ensures.ok
+    (subst (λ n. IsSpelled n c.in_ok-view.view c.args.bytes.now) places c.in_ok-view.ensures.found) (subst (λ n. (f : Frame) → IsSpelled n f c.args.bytes.now → c.in_ok-view.view ≡ f) places c.in_ok-view.ensures.only)) c.take.ensures.ok
 
 pub returns-clause-refused : goal.returns-clause-refused
 returns-clause-refused c =
     let places : c.spot-places.result.places ≡ c.args.store.now.places = c.spot-places.ensures.places in
-    err_then c.take.result (refused_bytes c.args.verified.now c.args.stays.now c.args.store.now c.args.bytes.now c.in_ok-view.view (subst (λ n. (f : Frame) → FitsFrame Narrow n f → c.args.bytes.now ≡ spelling Narrow f → c.in_ok-view.view ≡ f) places c.in_ok-view.ensures.only)) c.take.ensures.refused
+    err_then c.take.result (refused_bytes c.args.verified.now c.args.stays.now c.args.store.now c.args.bytes.now c.in_ok-view.view (subst (λ n. (f : Frame) → IsSpelled n f c.args.bytes.now → c.in_ok-view.view ≡ f) places c.in_ok-view.ensures.only)) c.take.ensures.refused
 
 pub returns-clause-standing : goal.returns-clause-standing
 returns-clause-standing c = standing_after c.args.verified.now c.args.stays.now c.args.store.now c.args.bytes.now c.take.new.stays c.take.new.store c.in_ok-view.view c.take.result c.requires c.take.ensures.ok c.take.ensures.err
+
+pub take-requires-clause-fits : goal.take-requires-clause-fits
+take-requires-clause-fits c =
+    let places : c.spot-places.result.places ≡ c.args.store.now.places = c.spot-places.ensures.places in
+    subst (λ n. FitsFrame Wide n c.in_ok-view.view) places (fits_wide c.spot-places.result.places c.in_ok-view.view c.args.bytes.now c.in_ok-view.ensures.found)

@@ -1,7 +1,7 @@
-; The most objects that a frame takes along: a list of 65,535 of them goes to place 1. With one more the run stops
-; (`frame_of_65536_objects.asm`).
+; The most objects that a frame takes along: a list of 1,048,576 of them goes to place 1. With one more the run stops
+; (`frame_of_1048577_objects.asm`).
 ;
-; $ x10p run frame_of_65535_objects.x10 --limit 300000
+; $ x10p run frame_of_1048576_objects.x10 --limit 4000000
 ; 1: 1
 places 2
 class opt:0
@@ -17,9 +17,9 @@ end
 ; main
 func 3 2 none
   NULL 0 0
-  LOOP 0 257
+  LOOP 0 1024
 outer:
-  LOOP 1 255
+  LOOP 1 1024
 again:
   NEW 1 0 0
   MOVE 0 1

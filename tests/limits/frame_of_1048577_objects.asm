@@ -1,6 +1,6 @@
-; A frame takes along 65,535 objects at most. This list has 65,536: the run stops at the AT, by limit 7.
+; A frame takes along 1,048,576 objects at most. This list has one more: the run stops at the AT, by limit 7.
 ;
-; $ x10p run frame_of_65536_objects.x10 --limit 300000
+; $ x10p run frame_of_1048577_objects.x10 --limit 4000000
 ; 0: 3
 ; status 2: stop: Limit 7
 places 2
@@ -14,14 +14,16 @@ func 3 2 none
   INTK 2 0
   PRINT 2
   NULL 0 0
-  LOOP 0 256
+  LOOP 0 1024
 outer:
-  LOOP 1 256
+  LOOP 1 1024
 again:
   NEW 1 0 0
   MOVE 0 1
   ENDL 1 @again
   ENDL 0 @outer
+  NEW 1 0 0
+  MOVE 0 1
   PLACEK 1 1
   AT 0 0 1 0
   RET 0
