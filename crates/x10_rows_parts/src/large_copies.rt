@@ -3,8 +3,9 @@ use crate::sources::{assembled, image_of};
 use std::alloc::Global;
 use std::process::Abort;
 use std::test::*;
-use x10_copy::{Marks, arrive, capture, heap_is_sound, words_are_sound};
-use x10_frame::{FrameView, Head};
+use x10_asm::assemble;
+use x10_copy::{Marks, Refusal, arrive, capture, heap_is_sound, words_are_sound};
+use x10_frame::{FrameFault, FrameView, Head};
 use x10_heap::Heap;
 use x10_image::ImageView;
 use x10_kinds::{Kind, Stop};
@@ -184,4 +185,54 @@ fn the_most_rails(rt: HostRuntime) -> Result<(), Fail> {
     let more = rails(rt.alloc(), MOST + 1)?;
     assert!(rt; meets(rt.alloc(), &rt, &image, &more, 2, Stop::Limit(9)));
     Ok(())
+}
+
+/// A list with more objects than numbers of two bytes tell apart.
+const LONG: u32 = 70_000;
+
+/// Whether a frame is the one of the long list, or memory was refused to it.
+fn long_frame(alloc: Global, rt: &impl Abort, heap: &Heap, image: &ImageView) -> Option<Vec<u8>> {
+    match frame_of(alloc, rt, heap, image, 0) {
+        Ok(frame) => {
+            assert!(rt; frame.len() == 560_029);
+            Some(frame)
+        }
+        Err(why) => {
+            assert!(rt; why == Stop::Memory);
+            None
+        }
+    }
+}
+
+/// The frame of a list goes to a heap, which is as it was where memory is refused.
+fn goes_there(alloc: Global, rt: &impl Abort, image: &ImageView, frame: &[u8]) {
+    let view = match FrameView::read(alloc, frame, 2) {
+        Ok(view) => view,
+        Err(why) => {
+            assert!(rt; why == FrameFault::Memory);
+            return;
+        }
+    };
+    let mut heap = Heap::new(alloc);
+    match arrive(alloc, &view, &mut heap, image, 1, 1, &first_of(0)) {
+        Ok(_) => assert!(rt; heap.objects() == 70_000),
+        Err(why) => assert!(rt; why == Refusal::Memory && heap.objects() == 0),
+    }
+}
+
+/// Every answer is right, or it is that memory was refused and all is as before.
+#[test]
+fn memory_refused_to_a_large_copy(rt: HostRuntime) {
+    let Ok(bytes) = assemble(rt.alloc(), LISTS) else {
+        return;
+    };
+    let Ok(image) = ImageView::read(rt.alloc(), &bytes) else {
+        return;
+    };
+    let Ok(heap) = list(rt.alloc(), LONG) else {
+        return;
+    };
+    if let Some(frame) = long_frame(rt.alloc(), &rt, &heap, &image) {
+        goes_there(rt.alloc(), &rt, &image, &frame);
+    }
 }

@@ -6,7 +6,7 @@ use x10_asm::assemble;
 use x10_copy::Refusal;
 use x10_frame::FrameFault;
 use x10_place::{Line, Place, Stepped};
-use x10_samples::{ALONG, AWAY, BACK, CYCLE, OTHER_REPORT, REPORT};
+use x10_samples::{ALONG, AWAY, BACK, CYCLE, NARROW_CYCLE, OTHER_REPORT, REPORT};
 
 /// Main starts an activity at place 1 and one at place 2 in a finish.
 const TWO: &str = "places 3
@@ -141,13 +141,18 @@ fn are_refused(rt: &impl Abort, place: &mut Place) {
     }
 }
 
+/// Place 1 takes the frame of a cycle in, and the activity prints 9.
+fn prints_nine(rt: &impl Abort, place: &mut Place, cycle: &[u8]) {
+    assert!(rt; takes(place, cycle));
+    assert!(rt; ran(place, 0, 100) == Some(10));
+    assert!(rt; printed(place, 9));
+}
+
 /// Place 1 goes on after what it refuses.
 fn goes_on(rt: &impl Abort, place: &mut Place) {
     are_refused(rt, place);
     assert!(rt; !is_used(place, 0));
-    assert!(rt; takes(place, &CYCLE));
-    assert!(rt; ran(place, 0, 100) == Some(10));
-    assert!(rt; printed(place, 9));
+    prints_nine(rt, place, &CYCLE);
 }
 
 #[test]
@@ -156,6 +161,15 @@ fn refused_and_then_taken(rt: HostRuntime) -> Result<(), Fail> {
     let verified = program(rt.alloc(), &bytes)?;
     let mut place = opened(rt.alloc(), &verified, 1, 2)?;
     goes_on(&rt, &mut place);
+    Ok(())
+}
+
+#[test]
+fn version_1_is_taken(rt: HostRuntime) -> Result<(), Fail> {
+    let bytes = assemble(rt.alloc(), ALONG)?;
+    let verified = program(rt.alloc(), &bytes)?;
+    let mut place = opened(rt.alloc(), &verified, 1, 2)?;
+    prints_nine(&rt, &mut place, &NARROW_CYCLE);
     Ok(())
 }
 
