@@ -64,11 +64,7 @@ fn count_at(bytes: &[u8], version: FrameVersion) -> Result<(u32, &[u8]), FrameFa
 
 #[tactic(auto, unfolding(crate::specs::Graphs::counts_at, x10_model::specs::Readers::bind, x10_model::specs::Readers::done))]
 #[inline(always)]
-fn counts_at(
-    bytes: &[u8],
-    version: FrameVersion,
-    most: u16,
-) -> Result<(Counts, &[u8]), FrameFault>
+fn counts_at(bytes: &[u8], version: FrameVersion, most: u16) -> Result<(Counts, &[u8]), FrameFault>
     ensures exact { Answers (λ x. ((x.0.roots, tables_in x.0.all), x.1.now)) result (counts_at version most bytes.now) }
     ensures few { IfOk result (λ x. (x.0.all.texts ≤ most_of version) × (x.0.all.rails ≤ most_of version) × (x.0.all.nodes ≤ most_of version)) }
 {
@@ -104,7 +100,9 @@ fn parts_of<'a>(
     let (used, rest) = past_items(bytes, roots, version, places, all, &Used::none())?;
     let (texts, rest) = text_table(alloc, frame, rest, all.texts)?;
     let (rails, rest) = rail_table(alloc, frame, rest, all.rails)?;
-    let (nodes, used, rest) = node_table(alloc, frame, rest, all.nodes, version, places, all, &used)?;
+    let (nodes, used, rest) = node_table(
+        alloc, frame, rest, all.nodes, version, places, all, &used,
+    )?;
     if !used.is_all(all) {
         return Err(FrameFault::Order);
     }

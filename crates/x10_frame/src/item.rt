@@ -110,13 +110,7 @@ pub fn item_at<'a>(
 }
 
 /// One of `count` values that were read before.
-pub fn nth_item(
-    bytes: &[u8],
-    version: FrameVersion,
-    places: u16,
-    count: u16,
-    i: usize,
-) -> Item
+pub fn nth_item(bytes: &[u8], version: FrameVersion, places: u16, count: u16, i: usize) -> Item
     requires there { HasItems version places count bytes.now }
     requires below { i < count }
     ensures { slice_get (items_in version places count bytes.now) i ≡ Some (item_of result) }

@@ -9,16 +9,16 @@ use x10_frame::{
     FrameFault, FrameView, FrameWriter, Head, Item, NodeView, Report, Sizes, write_report,
 };
 use x10_samples::{
-    ALONE, BACK, CYCLE, NARROW_BACK, NARROW_CYCLE, NARROW_REPORT, NARROW_SHIFT, OTHER_REPORT, REPORT,
-    SHIFT, SPAWN,
+    ALONE, BACK, CYCLE, NARROW_BACK, NARROW_CYCLE, NARROW_REPORT, NARROW_SHIFT, OTHER_REPORT,
+    REPORT, SHIFT, SPAWN,
 };
 
 /// A new activity with an empty text, a rail of two bytes, -2, place 1, null and a text of one
 /// character.
 const VALUES: [u8; 73] = [
     2, 1, 0, 0, 0, 1, 0, 0, 0, 0, 0, 1, 0, 0, 0, 6, 0, 0, 0, 2, 0, 0, 0, 1, 0, 0, 0, 0, 3, 0, 0, 0,
-    0, 4, 0, 0, 0, 0, 1, 255, 255, 255, 255, 255, 255, 255, 254, 2, 0, 1, 6, 3, 0, 0, 0, 1, 0, 0, 0,
-    0, 0, 0, 0, 3, 226, 130, 172, 0, 0, 0, 2, 128, 0,
+    0, 4, 0, 0, 0, 0, 1, 255, 255, 255, 255, 255, 255, 255, 254, 2, 0, 1, 6, 3, 0, 0, 0, 1, 0, 0,
+    0, 0, 0, 0, 0, 3, 226, 130, 172, 0, 0, 0, 2, 128, 0,
 ];
 
 /// The frame of a version, 1 or 2, for a new activity at place 1 with a graph.
@@ -38,11 +38,7 @@ fn fault(alloc: Global, bytes: &[u8], places: u16) -> Option<FrameFault> {
 }
 
 /// The fault of a frame of a version with a graph, where there are two places.
-fn graph_fault(
-    alloc: Global,
-    version: u8,
-    graph: &[u8],
-) -> Result<Option<FrameFault>, AllocError> {
+fn graph_fault(alloc: Global, version: u8, graph: &[u8]) -> Result<Option<FrameFault>, AllocError> {
     Ok(fault(alloc, &spawned_in(alloc, version, graph)?, 2))
 }
 
@@ -380,7 +376,12 @@ fn each_beginning_is_short(rt: HostRuntime) {
 
 /// Whether bytes are a frame of version 2 that is written again as they are, or one of version 1 that is written in version 2,
 /// and then again as that is.
-fn is_written(alloc: Global, rt: &impl Abort, view: &FrameView, bytes: &[u8]) -> Result<bool, Fail> {
+fn is_written(
+    alloc: Global,
+    rt: &impl Abort,
+    view: &FrameView,
+    bytes: &[u8],
+) -> Result<bool, Fail> {
     let written = again(alloc, rt, view)?;
     if bytes.first() == Some(&2) {
         return Ok(written.as_slice() == bytes);
@@ -481,8 +482,12 @@ fn refused_for_their_order(rt: HostRuntime) -> Result<(), Fail> {
         &[0, 1, 0, 0, 0, 0, 0, 0, 0, 0, 0, 0, 0, 1, 5, 0, 0, 0, 1],
         &[0, 1, 0, 0, 0, 0, 0, 0, 0, 0, 0, 0, 0, 2, 5, 0, 0, 0, 1],
         &[0, 0, 0, 0, 0, 0, 0, 0, 0, 0, 0, 0, 0, 1, 0, 0],
-        &[0, 1, 0, 0, 0, 0, 0, 0, 0, 0, 0, 0, 0, 1, 5, 0, 0, 0, 0, 0, 0, 17],
-        &[0, 1, 0, 0, 0, 1, 0, 0, 0, 0, 0, 0, 0, 0, 3, 0, 0, 0, 0, 0, 1, 0, 0],
+        &[
+            0, 1, 0, 0, 0, 0, 0, 0, 0, 0, 0, 0, 0, 1, 5, 0, 0, 0, 0, 0, 0, 17,
+        ],
+        &[
+            0, 1, 0, 0, 0, 1, 0, 0, 0, 0, 0, 0, 0, 0, 3, 0, 0, 0, 0, 0, 1, 0, 0,
+        ],
         &[0, 0, 0, 0, 0, 1, 0, 0, 0, 0, 0, 0, 0, 0, 0, 0, 0, 0],
     ];
     are_out_of_order(rt.alloc(), &rt, 1, &narrow)?;
@@ -498,17 +503,40 @@ fn refused_for_other_faults(rt: HostRuntime) -> Result<(), Fail> {
         (&[0, 1, 0, 0, 0, 0, 0, 0, 2, 0, 2], FrameFault::Place),
         (&[0, 1, 0, 0, 0, 0, 0, 0, 7, 0, 2], FrameFault::Place),
         (&[0, 0, 0, 0, 0, 0, 0, 0, 0], FrameFault::Trailing),
-        (&[0, 1, 0, 1, 0, 0, 0, 0, 3, 0, 0, 0, 0, 0, 1, 255], FrameFault::Text),
+        (
+            &[0, 1, 0, 1, 0, 0, 0, 0, 3, 0, 0, 0, 0, 0, 1, 255],
+            FrameFault::Text,
+        ),
     ];
     let wide: [(&[u8], FrameFault); 7] = [
-        (&[0, 0, 0, 0, 0, 0, 0, 0, 0, 0, 0, 0, 0, 1, 0], FrameFault::Short),
-        (&[0, 0, 0, 0, 0, 0, 0, 0, 0, 0, 0, 0, 255, 255], FrameFault::Short),
-        (&[0, 1, 0, 0, 0, 0, 0, 0, 0, 0, 0, 0, 0, 0, 8], FrameFault::Tag),
-        (&[0, 1, 0, 0, 0, 0, 0, 0, 0, 0, 0, 0, 0, 0, 2, 0, 2], FrameFault::Place),
-        (&[0, 1, 0, 0, 0, 0, 0, 0, 0, 0, 0, 0, 0, 0, 7, 0, 2], FrameFault::Place),
-        (&[0, 0, 0, 0, 0, 0, 0, 0, 0, 0, 0, 0, 0, 0, 0], FrameFault::Trailing),
         (
-            &[0, 1, 0, 0, 0, 1, 0, 0, 0, 0, 0, 0, 0, 0, 3, 0, 0, 0, 0, 0, 0, 0, 1, 255],
+            &[0, 0, 0, 0, 0, 0, 0, 0, 0, 0, 0, 0, 0, 1, 0],
+            FrameFault::Short,
+        ),
+        (
+            &[0, 0, 0, 0, 0, 0, 0, 0, 0, 0, 0, 0, 255, 255],
+            FrameFault::Short,
+        ),
+        (
+            &[0, 1, 0, 0, 0, 0, 0, 0, 0, 0, 0, 0, 0, 0, 8],
+            FrameFault::Tag,
+        ),
+        (
+            &[0, 1, 0, 0, 0, 0, 0, 0, 0, 0, 0, 0, 0, 0, 2, 0, 2],
+            FrameFault::Place,
+        ),
+        (
+            &[0, 1, 0, 0, 0, 0, 0, 0, 0, 0, 0, 0, 0, 0, 7, 0, 2],
+            FrameFault::Place,
+        ),
+        (
+            &[0, 0, 0, 0, 0, 0, 0, 0, 0, 0, 0, 0, 0, 0, 0],
+            FrameFault::Trailing,
+        ),
+        (
+            &[
+                0, 1, 0, 0, 0, 1, 0, 0, 0, 0, 0, 0, 0, 0, 3, 0, 0, 0, 0, 0, 0, 0, 1, 255,
+            ],
             FrameFault::Text,
         ),
     ];

@@ -9,7 +9,9 @@ pub const SPAWN: [u8; 28] = [
 ];
 
 /// The way back, with no result.
-pub const BACK: [u8; 24] = [2, 3, 0, 1, 0, 0, 0, 0, 0, 0, 0, 0, 0, 0, 0, 0, 0, 0, 0, 0, 0, 0, 0, 0];
+pub const BACK: [u8; 24] = [
+    2, 3, 0, 1, 0, 0, 0, 0, 0, 0, 0, 0, 0, 0, 0, 0, 0, 0, 0, 0, 0, 0, 0, 0,
+];
 
 /// One sent to place 2, one received from place 0.
 pub const REPORT: [u8; 36] = [

@@ -8,8 +8,8 @@ mod programs;
 
 pub use chance::random;
 pub use frames::{
-    ALONE, BACK, CYCLE, NARROW_BACK, NARROW_CYCLE, NARROW_REPORT, NARROW_SHIFT, OTHER_REPORT, REPORT,
-    SHIFT, SPAWN,
+    ALONE, BACK, CYCLE, NARROW_BACK, NARROW_CYCLE, NARROW_REPORT, NARROW_SHIFT, OTHER_REPORT,
+    REPORT, SHIFT, SPAWN,
 };
 pub use images::{SEVEN, with_byte};
 pub use programs::{ALONG, AWAY, RELAY};
