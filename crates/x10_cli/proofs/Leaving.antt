@@ -5,8 +5,8 @@ use Rattle.std.specs.Io.KnownBytes.{Appends, Keeps}
 use Rattle.std.proofs.KnownBytes.{Appends-kept, Keeps-refl, Keeps-trans}
 use Rattle.x10_cli.specs.declared.fault.Fault.{Fault}
 use Rattle.x10_cli.specs.declared.fault.Fault.TheVariants as fault
-use Rattle.x10_cli.specs.declared.task.Verb.{Verb}
-use Rattle.x10_cli.specs.declared.task.Verb.TheVariants as verb
+use Rattle.x10_task.specs.declared.task.Verb.{Verb}
+use Rattle.x10_task.specs.declared.task.Verb.TheVariants as verb
 use Rattle.x10_cli.specs.Answers.{LeavesRefused, LeavesRun, LeavesStopped, HasTracedSome, Traces, TracesSome, places_for, status_of}
 use Rattle.x10_verify.specs.Certified.{Certified}
 use Rattle.x10_world.specs.Endings.{IsImageOf}

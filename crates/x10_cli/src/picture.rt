@@ -3,16 +3,16 @@ ghost use Rattle.std.specs.Prelude.{false, ◌≡◌, ◌≢◌, IfOk, IfErr, On
 ghost use Rattle.std.specs.Io.KnownBytes.{Keeps};
 ghost use Rattle.x10_world.specs.Rounds.{HasEnded, RunsTo};
 ghost use Rattle.x10_world.specs.StandsForWorld.{KeepsSetting};
-ghost use Rattle.x10_cli.specs.declared.task.Verb.TheVariants as verb;
+ghost use Rattle.x10_task.specs.declared.task.Verb.TheVariants as verb;
 ghost use Rattle.x10_cli.specs.Answers.{CanBeDone, IsDue, LeavesStopped, Prints, status_of};
 
 use crate::commands::{places_of, verified_in};
 use crate::fault::Fault;
-use crate::task::Task;
 use std::alloc::Global;
 use std::io::Write;
 use x10_draw::Drawing;
 use x10_model::Event;
+use x10_task::Task;
 use x10_world::{Rounds, World};
 
 /// Runs a module, and prints the picture of what happened, even where the run stops before its end.

@@ -20,7 +20,9 @@ use std::process::ExitCode;
 use std::sync::Wait;
 use std::thread::Threads;
 use std::{env, io};
-use x10_cli::{Fault, Task, Usage, Verb, execute, no_text, parse, tell};
+use x10_cli::{Fault, execute, tell};
+use x10_task::{Task, Verb};
+use x10_usage::{Usage, no_text, parse};
 
 fn main(rt: HostRuntime) -> ExitCode {
     match words(&rt) {

@@ -6,7 +6,8 @@ use crate::trouble::Trouble;
 use std::fs::File;
 use std::sync::Wait;
 use std::thread::Threads;
-use x10_cli::{Task, Verb, execute};
+use x10_cli::execute;
+use x10_task::{Task, Verb};
 
 /// How the name of a text ends.
 const TEXT: &str = ".asm";
