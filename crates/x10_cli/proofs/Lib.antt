@@ -2,3 +2,4 @@ pub mod Answered
 pub mod Printing
 pub mod Leaving
 pub mod Dues
+pub mod Running

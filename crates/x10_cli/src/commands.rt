@@ -1,9 +1,10 @@
 //! What each command does, given an image's bytes and a writer.
-ghost use Rattle.std.specs.Prelude.{false, ◌≡◌, ◌≢◌, ◌⊎◌, ℕ, Option, IfOk, IfErr, OnOk, None, map};
+ghost use Rattle.std.specs.Prelude.{false, ◌≡◌, ◌≢◌, ◌⊎◌, ℕ, List, Option, IfOk, IfErr, OnOk, None, map};
 ghost use Rattle.std.specs.Io.KnownBytes.{Appends, Keeps};
 ghost use Rattle.x10_model.specs.Modules.{Module};
 ghost use Rattle.x10_place.specs.StandsFor.{line_as};
 ghost use Rattle.x10_world.specs.Endings.{IsImageOf, lines_at};
+ghost use Rattle.x10_world.specs.Opening.{IsForbidden, IsOpenedWorld};
 ghost use Rattle.x10_model.specs.Worlds as machine;
 ghost use Rattle.x10_world.specs.declared.done.Done.{Done};
 ghost use Rattle.x10_world.specs.Happenings.{IsDone};
@@ -230,10 +231,41 @@ fn print_run<O: Write>(alloc: Global, task: &Task, bytes: &[u8], out: &mut O) ->
     ensures stopped { IfErr result (λ e. status_of e ≡ 2 → LeavesStopped verb.Run false task.now.places bytes.now (O.contents out.old) (O.contents out.new)) }
 {
     let verified = verified_in(alloc, bytes)?;
-    let places = places_of(task.places, &verified);
-    let mut world = World::open(alloc, &verified, places)?;
-    let ended = run_rounds(alloc, &mut world, task.limit);
-    print_outputs(&world, out)?;
+    let mut world = opened(alloc, task.places, &verified)?;
+    print_rounds(alloc, &mut world, task.limit, out)
+}
+
+/// The world in which a run begins, at as many places as were asked for.
+pub(crate) fn opened<'a>(
+    alloc: Global,
+    asked: Option<u16>,
+    verified: &'a Verified<'a>,
+) -> Result<World<'a>, Fault>
+    ensures opened { IfOk result (IsOpenedWorld verified.now (places_for asked verified.now)) }
+    ensures permitted { IfOk result (λ _. IsForbidden verified.now (places_for asked verified.now) → ⊥) }
+    ensures due { (bytes : List ℕ) → IsImageOf bytes verified.now → IfErr result (IsDue asked bytes) }
+    ensures refused { (bytes : List ℕ) → IsImageOf bytes verified.now → IfErr result (λ e. status_of e ≡ 1 → CanBeDone verb.Run asked bytes → ⊥) }
+{
+    let places = places_of(asked, verified);
+    let world = World::open(alloc, verified, places)?;
+    Ok(world)
+}
+
+/// Makes the events of a program until the run has ended, at most `limit`, and prints what its places printed until then.
+fn print_rounds<O: Write>(
+    alloc: Global,
+    world: &mut World,
+    limit: u64,
+    out: &mut O,
+) -> Result<(), Fault>
+    ensures runs { RunsTo world.old world.new }
+    ensures ended { OnOk result (HasEnded world.new) }
+    ensures printed { OnOk result (Appends (O.contents out.old) (O.contents out.new) (all_lines 0 (lines_at world.new.places))) }
+    ensures stopped { IfErr result (λ e. (e ≡ fault.File) ⊎ Appends (O.contents out.old) (O.contents out.new) (all_lines 0 (lines_at world.new.places))) }
+    ensures status { IfErr result (λ e. status_of e ≢ 1) }
+{
+    let ended = run_rounds(alloc, world, limit);
+    print_outputs(world, out)?;
     Ok(ended?)
 }
 
@@ -247,10 +279,8 @@ fn print_trace<O: Write>(alloc: Global, task: &Task, bytes: &[u8], out: &mut O) 
     ensures stopped { IfErr result (λ e. status_of e ≡ 2 → LeavesStopped verb.Trace false task.now.places bytes.now (O.contents out.old) (O.contents out.new)) }
 {
     let verified = verified_in(alloc, bytes)?;
-    let places = places_of(task.places, &verified);
-    let mut world = World::open(alloc, &verified, places)?;
-    trace(alloc, &mut world, task.limit, out)?;
-    Ok(())
+    let mut world = opened(alloc, task.places, &verified)?;
+    trace(alloc, &mut world, task.limit, out)
 }
 
 /// Makes the events of a program until the run has ended, at most `limit`, and prints the lines of each.
