@@ -4,15 +4,10 @@
 ghost use Rattle.std.specs.Prelude.{◌≡◌, IsTrue};
 
 mod input;
-mod output;
 mod text;
-mod told;
 mod trouble;
-mod whole;
 
-use crate::output::Output;
 use crate::text::{Given, is_text, read};
-use crate::told::Told;
 use crate::trouble::Trouble;
 use std::fs::{self, File};
 use std::io::{BufWriter, ErrorKind, Write};
@@ -21,6 +16,7 @@ use std::sync::Wait;
 use std::thread::Threads;
 use std::{env, io};
 use x10_cli::{Fault, execute, tell};
+use x10_files::{Output, Told, whole};
 use x10_task::{Task, Verb};
 use x10_usage::{Usage, no_text, parse};
 
