@@ -32,7 +32,7 @@ use Rattle.x10_world.specs.declared.fault.OpenFault.{OpenFault}
 use Rattle.x10_world.specs.declared.fault.OpenFault.TheVariants as opened
 use Rattle.x10_cli.specs.declared.fault.Fault.{Fault}
 use Rattle.x10_cli.specs.declared.fault.Fault.TheVariants as fault
-use Rattle.x10_cli.specs.declared.task.Verb.TheVariants as verb
+use Rattle.x10_task.specs.declared.task.Verb.TheVariants as verb
 use Rattle.x10_cli.specs.Answers.{IsImage, IsVerifiedImage, CanBeDone, IsStatus, LeavesStopped, Prints, lines_told, verdict_line, places_for, of_verify, of_bounds, of_open, of_stop, of_work, status_of}
 
 abbrev answer : Module → Result Module ImageFault

@@ -5,12 +5,9 @@ use Rattle.std.specs.Io.KnownBytes.{Appends, Keeps}
 use Rattle.std.proofs.KnownBytes.{Appends-kept, Keeps-refl, Keeps-trans}
 use Rattle.x10_cli.specs.declared.fault.Fault.{Fault}
 use Rattle.x10_cli.specs.declared.fault.Fault.TheVariants as fault
-use Rattle.x10_cli.specs.declared.task.Verb.{Verb}
-use Rattle.x10_cli.specs.declared.task.Verb.TheVariants as verb
-use Rattle.x10_cli.specs.Answers.{LeavesRefused, LeavesRun, LeavesStopped, HasTracedSome, Traces, TracesSome, places_for, status_of}
-use Rattle.x10_verify.specs.Certified.{Certified}
-use Rattle.x10_world.specs.Endings.{IsImageOf}
-use Rattle.x10_world.specs.Opening.{IsOpenedWorld}
+use Rattle.x10_task.specs.declared.task.Verb.{Verb}
+use Rattle.x10_task.specs.declared.task.Verb.TheVariants as verb
+use Rattle.x10_cli.specs.Answers.{LeavesRefused, LeavesRun, LeavesStopped, Traces, TracesSome, status_of}
 use Rattle.x10_world.specs.Rounds.{RunsTo}
 use Rattle.x10_world.specs.StandsForWorld.{WorldState}
 
@@ -105,15 +102,6 @@ run_stopped (Err e) v w threads told asked bytes a b is same k = λ s. subst (λ
 pub some_kept : (e : Fault) (x y : WorldState) (a b c : Option (List ℕ)) → RunsTo x y → Traces x y a b → (e ≡ fault.File) ⊎ Keeps b c → (e ≡ fault.File) ⊎ TracesSome x a c
 some_kept e x y a b c to traced (inl f) = inl f
 some_kept e x y a b c to traced (inr k) = inr (y, to, (traced.0, traced.1, Appends-kept a b c traced.0 traced.2 k))
-
-pub traced_some : (e : Fault) (bytes : List ℕ) (v : Certified) (asked : Option ℕ) (n : ℕ) (x : WorldState) (a b : Option (List ℕ)) → IsImageOf bytes v → n ≡ places_for asked v → IsOpenedWorld v n x → (e ≡ fault.File) ⊎ TracesSome x a b → status_of e ≡ 2
-    → Keeps a b ⊎ ((c : Certified) × IsImageOf bytes c × HasTracedSome c (places_for asked c) a b)
-traced_some e bytes v asked n x a b is en opened (inl f) s = absurd (let h : 4 ≡ 2 = sym (ap status_of f) ∙ s in omega (arith, h))
-traced_some e bytes v asked n x a b is en opened (inr t) s = inr (v, is, subst (λ k. HasTracedSome v k a b) en (record { first = x; last = t.0; opened = opened; traces = t.2; runs = t.1 }))
-
--- no status 1 of a stop
-pub not_refused : (e : Fault) (A : Type 0) → (status_of e ≡ 1 → ⊥) → status_of e ≡ 1 → A
-not_refused e A other s = absurd (other s)
 
 -- ---- statuses
 

@@ -1,5 +1,5 @@
 pub mod Answered
 pub mod Printing
-pub mod Tasking
 pub mod Leaving
 pub mod Dues
+pub mod Running

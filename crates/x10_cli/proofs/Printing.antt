@@ -20,8 +20,8 @@ use Rattle.x10_world.specs.Happenings.{IsDone}
 use Rattle.x10_world.specs.StandsForWorld.{WorldState, setting_of, StandsForWorld, Makes}
 use Rattle.x10_trace.specs.Trace.{trace_lines, begins, goes_on}
 use Rattle.x10_world.proofs.Finishing.{map_length, lines_are}
-use Rattle.x10_cli.specs.declared.task.Verb.{Verb}
-use Rattle.x10_cli.specs.declared.task.Verb.TheVariants as verb
+use Rattle.x10_task.specs.declared.task.Verb.{Verb}
+use Rattle.x10_task.specs.declared.task.Verb.TheVariants as verb
 use Rattle.x10_cli.specs.Answers.{HasBegun, HasRun, Prints, Traces}
 use Rattle.x10_cli.specs.Lines.{numbered, place_lines, all_lines, bound_line, bound_lines}
 

@@ -1,10 +1,7 @@
 -- What the program's answers say of a file, of a module and of a run.
 use Rattle.std.specs.List.{starts_with}
-use Rattle.std.specs.Prelude.{◌≡◌, ◌⊎◌, Bool, true, false, ◌==◌, ℕ, List, [], ◌∷◌, ◌++◌, length, Option, Some, None, Ok, Err, IsSome, slice_get, codes, decimal}
+use Rattle.std.specs.Prelude.{◌≡◌, ◌⊎◌, Bool, true, false, ◌==◌, ℕ, List, [], ◌∷◌, ◌++◌, length, Option, Some, None, Ok, Err, slice_get, codes, decimal}
 use Rattle.std.specs.Io.KnownBytes.{Appends, Keeps}
-use Rattle.std.specs.Prelude.{String}
-use Rattle.std.specs.Global.{Global}
-use Rattle.std.specs.String.{string_bytes}
 use Rattle.x10_model.specs.Modules.{Module, FitsImage}
 use Rattle.x10_model.specs.Images.{spelling}
 use Rattle.x10_model.specs.declared.event.Event.{Event}
@@ -52,9 +49,8 @@ use Rattle.x10_verify.specs.declared.fault.VerifyCause.TheVariants as verify
 use Rattle.x10_verify.specs.declared.fault.VerifyFault.{VerifyFault}
 use Rattle.x10_world.specs.declared.fault.OpenFault.{OpenFault}
 use Rattle.x10_world.specs.declared.fault.OpenFault.TheVariants as opened
-use Rattle.x10_cli.specs.declared.task.Verb.{Verb}
-use Rattle.x10_cli.specs.declared.task.Verb.TheVariants as verb
-use Rattle.x10_cli.specs.declared.usage.Usage.{Usage}
+use Rattle.x10_task.specs.declared.task.Verb.{Verb}
+use Rattle.x10_task.specs.declared.task.Verb.TheVariants as verb
 use Rattle.x10_cli.specs.declared.fault.Fault.{Fault}
 use Rattle.x10_cli.specs.declared.fault.Fault.TheVariants as fault
 
@@ -252,15 +248,6 @@ status_of fault.File = 4
 -- the exit status of something done, or of a fault
 abbrev pub IsStatus : ℕ → Type 0
 IsStatus n = (n ≡ 0) ⊎ ((f : Fault) × (n ≡ status_of f))
-
--- the text of an answer: what it has, or where there was no memory for that, the line that says so
-abbrev pub text_of : Option (String Global) → List ℕ
-text_of None = codes "x10p: memory" ++ 10 ∷ []
-text_of (Some text) = string_bytes text
-
--- what is answered in place of a task: a text with status 0 or 3, or status 2 and no text, where memory was refused
-abbrev pub IsAnswer : Usage → Type 0
-IsAnswer u = ((u.status ≡ 0) × IsSome u.text) ⊎ ((u.status ≡ 2) × (u.text ≡ None)) ⊎ ((u.status ≡ 3) × IsSome u.text)
 
 -- ---- faults of the parts, as the program tells them
 

@@ -3,7 +3,7 @@ ghost use Rattle.std.specs.Prelude.{◌≡◌, ◌≢◌, ◌↔◌, ◌⊎◌, 
 ghost use Rattle.std.specs.Io.KnownBytes.{Appends};
 ghost use Rattle.x10_explain.specs.Verdicts.{Reports};
 ghost use Rattle.x10_cli.specs.declared.fault.Fault.TheVariants as fault;
-ghost use Rattle.x10_cli.specs.declared.task.Verb.TheVariants as verb;
+ghost use Rattle.x10_task.specs.declared.task.Verb.TheVariants as verb;
 ghost use Rattle.x10_cli.specs.Answers.{CanBeDone, Prints, IsChecked, IsDue, RefusesFile, begins_as_image, of_refusal, status_of};
 
 use crate::fault::Fault;

@@ -1,9 +1,10 @@
 //! What each command does, given an image's bytes and a writer.
-ghost use Rattle.std.specs.Prelude.{false, ◌≡◌, ◌≢◌, ◌⊎◌, ℕ, Option, IfOk, IfErr, OnOk, None, map};
+ghost use Rattle.std.specs.Prelude.{false, ◌≡◌, ◌≢◌, ◌⊎◌, ℕ, List, Option, IfOk, IfErr, OnOk, None, map};
 ghost use Rattle.std.specs.Io.KnownBytes.{Appends, Keeps};
 ghost use Rattle.x10_model.specs.Modules.{Module};
 ghost use Rattle.x10_place.specs.StandsFor.{line_as};
 ghost use Rattle.x10_world.specs.Endings.{IsImageOf, lines_at};
+ghost use Rattle.x10_world.specs.Opening.{IsForbidden, IsOpenedWorld};
 ghost use Rattle.x10_model.specs.Worlds as machine;
 ghost use Rattle.x10_world.specs.declared.done.Done.{Done};
 ghost use Rattle.x10_world.specs.Happenings.{IsDone};
@@ -11,7 +12,7 @@ ghost use Rattle.x10_world.specs.Rounds.{HasEnded, RunsTo};
 ghost use Rattle.x10_world.specs.StandsForWorld.{StandsForWorld, KeepsSetting, Makes};
 ghost use Rattle.x10_trace.specs.Trace.{trace_lines};
 ghost use Rattle.x10_cli.specs.Lines.{numbered, place_lines, all_lines};
-ghost use Rattle.x10_cli.specs.declared.task.Verb.TheVariants as verb;
+ghost use Rattle.x10_task.specs.declared.task.Verb.TheVariants as verb;
 ghost use Rattle.x10_cli.specs.declared.fault.Fault.TheVariants as fault;
 ghost use Rattle.x10_cli.specs.Answers.{IsImage, IsVerifiedImage, IsVerifying, CanBeDone, IsStatus, IsDue, Prints, Traces, TracesSome, LeavesRefused, LeavesStopped, places_for, status_of};
 ghost use Rattle.x10_cli.specs.Telling.{SaysFault, Tells, fault_line};
@@ -20,7 +21,6 @@ use crate::checking::print_check;
 use crate::explain::explanation;
 use crate::fault::Fault;
 use crate::picture::print_picture;
-use crate::task::{Task, Verb};
 use crate::threads::print_threaded;
 use std::alloc::Global;
 use std::io::Write;
@@ -32,6 +32,7 @@ use x10_explain::list_verbose;
 use x10_image::ImageView;
 use x10_model::Event;
 use x10_place::Line;
+use x10_task::{Task, Verb};
 use x10_trace::trace_line;
 use x10_verify::{Verified, verify};
 use x10_world::{Rounds, World, run_rounds};
@@ -230,10 +231,41 @@ fn print_run<O: Write>(alloc: Global, task: &Task, bytes: &[u8], out: &mut O) ->
     ensures stopped { IfErr result (λ e. status_of e ≡ 2 → LeavesStopped verb.Run false task.now.places bytes.now (O.contents out.old) (O.contents out.new)) }
 {
     let verified = verified_in(alloc, bytes)?;
-    let places = places_of(task.places, &verified);
-    let mut world = World::open(alloc, &verified, places)?;
-    let ended = run_rounds(alloc, &mut world, task.limit);
-    print_outputs(&world, out)?;
+    let mut world = opened(alloc, task.places, &verified)?;
+    print_rounds(alloc, &mut world, task.limit, out)
+}
+
+/// The world in which a run begins, at as many places as were asked for.
+pub(crate) fn opened<'a>(
+    alloc: Global,
+    asked: Option<u16>,
+    verified: &'a Verified<'a>,
+) -> Result<World<'a>, Fault>
+    ensures opened { IfOk result (IsOpenedWorld verified.now (places_for asked verified.now)) }
+    ensures permitted { IfOk result (λ _. IsForbidden verified.now (places_for asked verified.now) → ⊥) }
+    ensures due { (bytes : List ℕ) → IsImageOf bytes verified.now → IfErr result (IsDue asked bytes) }
+    ensures refused { (bytes : List ℕ) → IsImageOf bytes verified.now → IfErr result (λ e. status_of e ≡ 1 → CanBeDone verb.Run asked bytes → ⊥) }
+{
+    let places = places_of(asked, verified);
+    let world = World::open(alloc, verified, places)?;
+    Ok(world)
+}
+
+/// Makes the events of a program until the run has ended, at most `limit`, and prints what its places printed until then.
+fn print_rounds<O: Write>(
+    alloc: Global,
+    world: &mut World,
+    limit: u64,
+    out: &mut O,
+) -> Result<(), Fault>
+    ensures runs { RunsTo world.old world.new }
+    ensures ended { OnOk result (HasEnded world.new) }
+    ensures printed { OnOk result (Appends (O.contents out.old) (O.contents out.new) (all_lines 0 (lines_at world.new.places))) }
+    ensures stopped { IfErr result (λ e. (e ≡ fault.File) ⊎ Appends (O.contents out.old) (O.contents out.new) (all_lines 0 (lines_at world.new.places))) }
+    ensures status { IfErr result (λ e. status_of e ≢ 1) }
+{
+    let ended = run_rounds(alloc, world, limit);
+    print_outputs(world, out)?;
     Ok(ended?)
 }
 
@@ -247,10 +279,8 @@ fn print_trace<O: Write>(alloc: Global, task: &Task, bytes: &[u8], out: &mut O) 
     ensures stopped { IfErr result (λ e. status_of e ≡ 2 → LeavesStopped verb.Trace false task.now.places bytes.now (O.contents out.old) (O.contents out.new)) }
 {
     let verified = verified_in(alloc, bytes)?;
-    let places = places_of(task.places, &verified);
-    let mut world = World::open(alloc, &verified, places)?;
-    trace(alloc, &mut world, task.limit, out)?;
-    Ok(())
+    let mut world = opened(alloc, task.places, &verified)?;
+    trace(alloc, &mut world, task.limit, out)
 }
 
 /// Makes the events of a program until the run has ended, at most `limit`, and prints the lines of each.

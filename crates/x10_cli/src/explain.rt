@@ -1,13 +1,13 @@
 //! What is said about a fault besides its line, for people.
 
 use crate::fault::Fault;
-use crate::task::{Task, Verb};
 use std::alloc::{AllocError, Global};
 use x10_asm::AsmFault;
 use x10_bounds::{BoundFault, bounds};
 use x10_explain::{explain_asm, explain_image, explain_verify};
 use x10_image::ImageView;
 use x10_model::limits::MOST_WIDE;
+use x10_task::{Task, Verb};
 use x10_verify::{VerifyCause, VerifyFault};
 
 /// Sentences on a fault of a task over the bytes of its file, a line each; none where there is nothing to add.

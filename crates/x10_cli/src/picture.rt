@@ -1,18 +1,20 @@
 //! The command `draw`: a run's picture.
-ghost use Rattle.std.specs.Prelude.{false, ◌≡◌, ◌≢◌, IfOk, IfErr, OnOk};
-ghost use Rattle.std.specs.Io.KnownBytes.{Keeps};
+ghost use Rattle.std.specs.Prelude.{false, ◌≡◌, ◌≢◌, ◌⊎◌, ℕ, List, IfOk, IfErr, OnOk};
+ghost use Rattle.std.specs.Io.KnownBytes.{Appends, Keeps};
+ghost use Rattle.x10_draw.specs.Pages.{IsPage};
 ghost use Rattle.x10_world.specs.Rounds.{HasEnded, RunsTo};
 ghost use Rattle.x10_world.specs.StandsForWorld.{KeepsSetting};
-ghost use Rattle.x10_cli.specs.declared.task.Verb.TheVariants as verb;
+ghost use Rattle.x10_task.specs.declared.task.Verb.TheVariants as verb;
+ghost use Rattle.x10_cli.specs.declared.fault.Fault.TheVariants as fault;
 ghost use Rattle.x10_cli.specs.Answers.{CanBeDone, IsDue, LeavesStopped, Prints, status_of};
 
-use crate::commands::{places_of, verified_in};
+use crate::commands::{opened, verified_in};
 use crate::fault::Fault;
-use crate::task::Task;
 use std::alloc::Global;
 use std::io::Write;
 use x10_draw::Drawing;
 use x10_model::Event;
+use x10_task::Task;
 use x10_world::{Rounds, World};
 
 /// Runs a module, and prints the picture of what happened, even where the run stops before its end.
@@ -30,13 +32,28 @@ pub(crate) fn print_picture<O: Write>(
     ensures stopped { IfErr result (λ e. status_of e ≡ 2 → LeavesStopped verb.Draw false task.now.places bytes.now (O.contents out.old) (O.contents out.new)) }
 {
     let verified = verified_in(alloc, bytes)?;
-    let places = places_of(task.places, &verified);
-    let mut world = World::open(alloc, &verified, places)?;
-    let mut drawing = Drawing::new(alloc, places)?;
-    let ended = draw(alloc, &mut world, task.limit, &mut drawing);
+    let mut world = opened(alloc, task.places, &verified)?;
+    print_drawn(alloc, &mut world, task.limit, out)
+}
+
+/// Makes the events of a program until the run has ended, at most `limit`, and prints the picture of what happened.
+fn print_drawn<O: Write>(
+    alloc: Global,
+    world: &mut World,
+    limit: u64,
+    out: &mut O,
+) -> Result<(), Fault>
+    ensures runs { RunsTo world.old world.new }
+    ensures ended { OnOk result (HasEnded world.new) }
+    ensures printed { OnOk result ((picture : List ℕ) × IsPage picture × Appends (O.contents out.old) (O.contents out.new) picture) }
+    ensures stopped { IfErr result (λ e. (e ≡ fault.File) ⊎ Keeps (O.contents out.old) (O.contents out.new) ⊎ ((picture : List ℕ) × IsPage picture × Appends (O.contents out.old) (O.contents out.new) picture)) }
+    ensures status { IfErr result (λ e. status_of e ≢ 1) }
+{
+    let mut drawing = Drawing::new(alloc, world.count())?;
+    let ended = draw(alloc, world, limit, &mut drawing);
     let picture = drawing.svg()?;
     out.write_all(picture.as_bytes())?;
-    Ok(ended?)
+    ended
 }
 
 /// Makes the events of a program until the run has ended, at most `limit`, and notes each.

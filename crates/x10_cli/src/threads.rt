@@ -3,18 +3,18 @@ ghost use Rattle.std.specs.Prelude.{true, ◌≡◌, IfOk, IfErr, OnOk};
 ghost use Rattle.std.specs.Io.KnownBytes.{Appends, Keeps};
 ghost use Rattle.x10_world.specs.Endings.{lines_in};
 ghost use Rattle.x10_cli.specs.Lines.{all_lines};
-ghost use Rattle.x10_cli.specs.declared.task.Verb.TheVariants as verb;
+ghost use Rattle.x10_task.specs.declared.task.Verb.TheVariants as verb;
 ghost use Rattle.x10_cli.specs.declared.fault.Fault.TheVariants as fault;
 ghost use Rattle.x10_cli.specs.Answers.{CanBeDone, IsDue, LeavesStopped, Prints, lines_told, status_of};
 
 use crate::commands::{places_of, print_lines, verified_in};
 use crate::fault::Fault;
-use crate::task::Task;
 use std::alloc::Global;
 use std::io::Write;
 use std::sync::Wait;
 use std::thread::Threads;
 use x10_place::Line;
+use x10_task::Task;
 use x10_workers::{Open, WorkFault, run_threads};
 
 /// Runs a module with a thread for each place, and prints what its places printed; where the run stops, the lines that its

@@ -6,7 +6,9 @@ use std::sync::Wait;
 use std::test::*;
 use std::thread::Threads;
 use x10_asm::assemble;
-use x10_cli::{Task, execute, parse};
+use x10_cli::execute;
+use x10_task::Task;
+use x10_usage::parse;
 
 /// A number goes round three places, one less at each; each prints it.
 const RELAY: &str =

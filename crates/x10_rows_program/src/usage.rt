@@ -1,6 +1,7 @@
 use std::alloc::Global;
 use std::test::*;
-use x10_cli::{Task, Verb, parse};
+use x10_task::{Task, Verb};
+use x10_usage::parse;
 
 /// The words of a command line, the program's name first.
 pub(crate) fn words_of(alloc: Global, words: &[&str]) -> Result<Vec<String>, Fail> {

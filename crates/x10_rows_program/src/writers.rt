@@ -4,8 +4,10 @@ use std::io::{self, ErrorKind, Write};
 use std::sync::Wait;
 use std::test::*;
 use std::thread::Threads;
-use x10_cli::{Task, execute, parse};
+use x10_cli::execute;
 use x10_samples::SEVEN;
+use x10_task::Task;
+use x10_usage::parse;
 
 /// A writer that takes a byte at a time, `room` of them, and then fails.
 #[derive(Drop)]

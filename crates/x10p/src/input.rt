@@ -2,8 +2,9 @@
 use crate::trouble::Trouble;
 use std::fs::File;
 use std::io::Read;
-use x10_cli::{Verb, is_image};
+use x10_cli::is_image;
 use x10_image::{ImageFault, ImageView};
+use x10_task::Verb;
 
 /// How many bytes are read before they are looked at for the first time.
 const FIRST: u64 = 65_536;

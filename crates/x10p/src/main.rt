@@ -4,15 +4,10 @@
 ghost use Rattle.std.specs.Prelude.{◌≡◌, IsTrue};
 
 mod input;
-mod output;
 mod text;
-mod told;
 mod trouble;
-mod whole;
 
-use crate::output::Output;
 use crate::text::{Given, is_text, read};
-use crate::told::Told;
 use crate::trouble::Trouble;
 use std::fs::{self, File};
 use std::io::{BufWriter, ErrorKind, Write};
@@ -20,7 +15,10 @@ use std::process::ExitCode;
 use std::sync::Wait;
 use std::thread::Threads;
 use std::{env, io};
-use x10_cli::{Fault, Task, Usage, Verb, execute, no_text, parse, tell};
+use x10_cli::{Fault, execute, tell};
+use x10_files::{Output, Told, whole};
+use x10_task::{Task, Verb};
+use x10_usage::{Usage, no_text, parse};
 
 fn main(rt: HostRuntime) -> ExitCode {
     match words(&rt) {

@@ -1,12 +1,12 @@
 //! Texts in place of images.
 use crate::input;
-use crate::output::Output;
-use crate::told::Told;
 use crate::trouble::Trouble;
 use std::fs::File;
 use std::sync::Wait;
 use std::thread::Threads;
-use x10_cli::{Task, Verb, execute};
+use x10_cli::execute;
+use x10_files::{Output, Told};
+use x10_task::{Task, Verb};
 
 /// How the name of a text ends.
 const TEXT: &str = ".asm";

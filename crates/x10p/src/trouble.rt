@@ -1,6 +1,7 @@
 //! What goes wrong with files and streams, before a command is at work or after it.
 use std::io::{self, ErrorKind, Write};
-use x10_cli::{Fault, Task, tell};
+use x10_cli::{Fault, tell};
+use x10_task::Task;
 
 /// Why a file can't be used.
 #[derive(Drop)]

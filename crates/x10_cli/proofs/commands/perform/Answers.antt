@@ -1,5 +1,5 @@
 use Rattle.x10_cli.proofs.Leaving.{run_stopped}
-use Rattle.x10_cli.specs.declared.task.Verb.TheVariants as verb
+use Rattle.x10_task.specs.declared.task.Verb.TheVariants as verb
 use Rattle.std.proofs.Common.{refl, true, false}
 use Rattle.x10_cli.proofs.commands.perform.Goals as goal
 

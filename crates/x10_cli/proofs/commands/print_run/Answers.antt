@@ -1,52 +1,10 @@
-use Rattle.x10_cli.proofs.Leaving.{kept_self}
-use Rattle.std.proofs.Common.{inl}
-use Rattle.x10_cli.specs.Answers.{HasBegun}
-use Rattle.x10_cli.proofs.Printing.{has_begun}
-use Rattle.std.proofs.Common.{inr}
-use Rattle.x10_cli.proofs.Dues.{due_halt}
-use Rattle.x10_cli.proofs.Dues.{due_open}
-use Rattle.std.proofs.Common.{refl, subst}
 use Rattle.std.proofs.lemmas.Result.{err_from_is_err_and}
-use Rattle.x10_cli.specs.Answers.{HasRun}
-use Rattle.x10_cli.proofs.Answered.{not_open}
-use Rattle.x10_world.specs.Endings.{lines_at}
-use Rattle.x10_cli.proofs.Printing.{has_run}
+use Rattle.std.proofs.Common.{inl}
+use Rattle.x10_cli.proofs.Leaving.{kept_self}
+use Rattle.x10_cli.proofs.Running.{done_by, due_unless, run_printed, run_left}
+use Rattle.x10_task.specs.declared.task.Verb.TheVariants as verb
+use Rattle.x10_cli.specs.Answers.{CanBeDone}
 use Rattle.x10_cli.proofs.commands.print_run.Goals as goal
-
-pub returns-in_err-world-clause-refused : goal.returns-in_err-world-clause-refused
-returns-in_err-world-clause-refused w = λ c.
-    let told = err_from_is_err_and c.from_residual-in_err-world.result c.from_residual-in_err-world.ensures.1 in
-    rw told.1 (not_open c.args.bytes.now c.in_ok-verified.verified c.args.task.now.places c.places_of-places.result c.in_err-world.field-0.0 told.0 c.in_ok-verified.ensures.found (λ e. c.in_err-world.ensures.places.0 (rw e refl)) c.places_of-places.ensures told.2)
-
-pub returns-clause-printed : goal.returns-clause-printed
-returns-clause-printed w = λ c. (
-  c.in_ok-verified.verified,
-  lines_at c.run_rounds-ended.new.world.places,
-  c.in_ok-verified.ensures.found,
-  subst (λ n. HasRun c.in_ok-verified.verified n (lines_at c.run_rounds-ended.new.world.places)) c.places_of-places.ensures (has_run c.in_ok-verified.verified c.places_of-places.result c.in_ok-world.world c.run_rounds-ended.new.world c.in_ok-world.ensures.opened c.run_rounds-ended.ensures.runs c.in_ok-ended.ensures.ended),
-  c.in_ok-print_outputs.ensures.ok,
-)
-
-pub returns-in_err-world-clause-due : goal.returns-in_err-world-clause-due
-returns-in_err-world-clause-due w = λ c.
-    let told = err_from_is_err_and c.from_residual-in_err-world.result c.from_residual-in_err-world.ensures.1 in
-    rw told.1 (due_open c.args.task.now.places c.args.bytes.now c.in_ok-verified.verified c.places_of-places.result c.in_err-world.field-0.0 told.0 c.in_ok-verified.ensures.found (λ e. c.in_err-world.ensures.places.0 (rw e refl)) c.places_of-places.ensures told.2)
-
-pub returns-in_err-ended-clause-due : goal.returns-in_err-ended-clause-due
-returns-in_err-ended-clause-due w = λ c.
-    let told = err_from_is_err_and c.from_residual-in_err-ended.result c.from_residual-in_err-ended.ensures.1 in
-    rw told.1 (due_halt c.args.task.now.places c.args.bytes.now c.in_err-ended.field-0.0 told.0 told.2)
-
-pub returns-in_err-ended-clause-stopped : goal.returns-in_err-ended-clause-stopped
-returns-in_err-ended-clause-stopped w = λ c.
-    let told = err_from_is_err_and c.from_residual-in_err-ended.result c.from_residual-in_err-ended.ensures.1 in
-    rw told.1 (λ s. inr (
-      c.in_ok-verified.verified,
-      lines_at c.run_rounds-ended.new.world.places,
-      c.in_ok-verified.ensures.found,
-      subst (λ n. HasBegun c.in_ok-verified.verified n (lines_at c.run_rounds-ended.new.world.places)) c.places_of-places.ensures (has_begun c.in_ok-verified.verified c.places_of-places.result c.in_ok-world.world c.run_rounds-ended.new.world c.in_ok-world.ensures.opened c.run_rounds-ended.ensures.runs),
-      c.in_ok-print_outputs.ensures.ok,
-    ))
 
 pub returns-in_err-verified-clause-due : goal.returns-in_err-verified-clause-due
 returns-in_err-verified-clause-due w = λ c.
@@ -58,7 +16,31 @@ returns-in_err-verified-clause-stopped w = λ c.
     let told = err_from_is_err_and c.from_residual.result c.from_residual.ensures.1 in
     rw told.1 (λ s. inl (kept_self (w.O.Write.contents c.args.out.now)))
 
+pub returns-in_err-world-clause-due : goal.returns-in_err-world-clause-due
+returns-in_err-world-clause-due w = λ c.
+    let told = err_from_is_err_and c.from_residual-in_err-world.result c.from_residual-in_err-world.ensures.1 in
+    rw (told.1, told.2) (c.in_err-world.ensures.due c.args.bytes.now c.in_ok-verified.ensures.found)
+
+pub returns-in_err-world-clause-refused : goal.returns-in_err-world-clause-refused
+returns-in_err-world-clause-refused w = λ c.
+    let told = err_from_is_err_and c.from_residual-in_err-world.result c.from_residual-in_err-world.ensures.1 in
+    rw (told.1, told.2) (c.in_err-world.ensures.refused c.args.bytes.now c.in_ok-verified.ensures.found)
+
 pub returns-in_err-world-clause-stopped : goal.returns-in_err-world-clause-stopped
 returns-in_err-world-clause-stopped w = λ c.
     let told = err_from_is_err_and c.from_residual-in_err-world.result c.from_residual-in_err-world.ensures.1 in
     rw told.1 (λ s. inl (kept_self (w.O.Write.contents c.args.out.now)))
+
+pub returns-clause-due : goal.returns-clause-due
+returns-clause-due w = λ c. due_unless c.print_rounds.result c.args.task.now.places c.args.bytes.now c.print_rounds.ensures.status
+
+pub returns-clause-printed : goal.returns-clause-printed
+returns-clause-printed w = λ c.
+    run_printed c.print_rounds.result c.args.bytes.now c.in_ok-verified.verified c.args.task.now.places c.in_ok-world.world c.print_rounds.new.world (w.O.Write.contents c.args.out.now) (w.O.Write.contents c.print_rounds.new.out) c.in_ok-verified.ensures.found c.in_ok-world.ensures.opened c.print_rounds.ensures.runs c.print_rounds.ensures.ended c.print_rounds.ensures.printed
+
+pub returns-clause-stopped : goal.returns-clause-stopped
+returns-clause-stopped w = λ c.
+    run_left c.print_rounds.result c.args.bytes.now c.in_ok-verified.verified c.args.task.now.places c.in_ok-world.world c.print_rounds.new.world (w.O.Write.contents c.args.out.now) (w.O.Write.contents c.print_rounds.new.out) c.in_ok-verified.ensures.found c.in_ok-world.ensures.opened c.print_rounds.ensures.runs c.print_rounds.ensures.stopped
+
+pub returns-clause-done : goal.returns-clause-done
+returns-clause-done w = λ c. done_by c.print_rounds.result (CanBeDone verb.Run c.args.task.now.places c.args.bytes.now) (c.in_ok-verified.verified, c.in_ok-verified.ensures.found, c.in_ok-world.ensures.permitted)

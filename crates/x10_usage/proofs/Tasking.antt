@@ -3,7 +3,7 @@ use Rattle.std.proofs.Common.{◌≡◌, ℕ, List, Option, Some, None, Result, 
 use Rattle.std.specs.Str.Parse.{ParsesUnsigned}
 use Rattle.std.specs.declared.num.ParseIntError.{ParseIntError}
 use Rattle.clap.specs.Matches.{ReadsOne}
-use Rattle.x10_cli.specs.Tasks.{IsNumberIn}
+use Rattle.x10_usage.specs.Tasks.{IsNumberIn}
 
 number_of : (bits : ℕ) (gives : List ℕ → Result ℕ ParseIntError → Type 0) (text : List ℕ) (answer : Option ℕ) → ((bs : List ℕ) (r : Result ℕ ParseIntError) → gives bs r → ParsesUnsigned bits 10 bs r) → ReadsOne gives text answer → IsNumberIn bits (Some text) answer
 number_of bits gives text None w h = (h.0, w text (Err h.0) h.1)

@@ -9,9 +9,9 @@ use Rattle.clap.specs.Walk.{rows_of}
 use Rattle.clap.specs.declared.parser.matches.ArgMatches.{ArgMatches}
 use Rattle.clap.specs.declared.parser.matches.Found.{Found}
 use Rattle.x10_model.specs.declared.limits.TheConstants.{MOST_PLACES}
-use Rattle.x10_cli.specs.declared.task.Task.{Task}
-use Rattle.x10_cli.specs.declared.task.Verb.{Verb}
-use Rattle.x10_cli.specs.declared.task.Verb.TheVariants as verb
+use Rattle.x10_task.specs.declared.task.Task.{Task}
+use Rattle.x10_task.specs.declared.task.Verb.{Verb}
+use Rattle.x10_task.specs.declared.task.Verb.TheVariants as verb
 
 abbrev pub IsOneTo : ℕ → ℕ → Type 0
 IsOneTo most n = (1 ≤ n) × (n ≤ most)

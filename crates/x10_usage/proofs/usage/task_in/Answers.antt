@@ -2,8 +2,8 @@ use Rattle.std.proofs.Common.{sym}
 use Rattle.std.specs.Prelude.{codes}
 use Rattle.std.specs.Str.Parse.{ParsesUnsigned, ExplainsUnsignedError, HasUnsignedDigitsIfOk}
 use Rattle.clap.specs.Matches.{found_of, one_text}
-use Rattle.x10_cli.proofs.Tasking.{number_read}
-use Rattle.x10_cli.proofs.usage.task_in.Goals as goal
+use Rattle.x10_usage.proofs.Tasking.{number_read}
+use Rattle.x10_usage.proofs.usage.task_in.Goals as goal
 
 pub returns : goal.returns
 returns c = record {
