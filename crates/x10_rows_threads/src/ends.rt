@@ -8,16 +8,18 @@ use x10_kinds::Stop;
 use x10_place::Line;
 use x10_workers::WorkFault;
 
-/// Main makes a list of 65,536 objects, and passes it to an activity.
+/// Main makes a list of 1,048,577 objects, and passes it to an activity.
 const LONG: &str = "places 1
 class opt:0
 func 1 0 none opt:0
 RET 0
 end
-func 2 1 none
+func 2 2 none
 NULL 0 0
-LOOP 0 65535
+LOOP 0 1024
+LOOP 1 1024
 NEW 0 0 0
+ENDL 1 3
 ENDL 0 2
 NEW 0 0 0
 HERE 1
