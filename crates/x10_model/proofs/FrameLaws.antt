@@ -4,7 +4,7 @@ use Rattle.std.specs.Int.{w16, w32, to_be_bytes}
 use Rattle.std.proofs.lemmas.Bool.{and_from, and_parts}
 use Rattle.x10_model.specs.Frames.{FrameVersion, Narrow, Wide, byte_of, most_of, IsSpelled, Graph, Launch, launch, Frame, Spawn, Shift, Back, Report, FitsGraph, FitsLaunch, FitsCounts, FitsBody, FitsFrame, graph_bytes, launch_bytes, counts_bytes, type_of, from_of, to_of, body_bytes, spelling}
 use Rattle.x10_model.specs.Readers.{IsBytes, bind, given, byte, number, times, all_of}
-use Rattle.x10_model.specs.ReadingFrames.{FrameFault, Short, Version, FrameType, Place, Trailing, launch_at, body_at, version_at, after_version, parts_at, frame_at}
+use Rattle.x10_model.specs.ReadingFrames.{FrameFault, Short, FrameType, Place, Trailing, launch_at, body_at, version_at, after_version, parts_at, frame_at}
 use Rattle.x10_model.proofs.ReaderLaws.{Reads, then_reads, last_reads, made_reads, such_that_reads, expect_reads, spelled_where}
 use Rattle.x10_model.proofs.PartLaws.{byte_reads, number_reads, each_reads, all_again, all_takes, wide16, wide32}
 use Rattle.x10_model.proofs.ItemLaws.{place_reads}
