@@ -2,7 +2,9 @@
 use Rattle.std.proofs.Common.{◌≡◌, ℕ, zero, suc, ◌^◌, ◌<◌, ◌≤◌, ◌&&◌, leb, List, [], ◌∷◌, ◌++◌, Result, Ok, refl, sym, ap, subst, ◌∙◌, arith, leb-true, le-leb}
 use Rattle.std.specs.Int.{w16, w32, to_be_bytes}
 use Rattle.std.proofs.lemmas.Bool.{and_from, and_parts}
-use Rattle.x10_model.specs.Frames.{FrameVersion, Narrow, Wide, byte_of, most_of, IsSpelled, Graph, Launch, launch, Frame, Spawn, Shift, Back, Report, FitsGraph, FitsLaunch, FitsCounts, FitsBody, FitsFrame, graph_bytes, launch_bytes, counts_bytes, type_of, from_of, to_of, body_bytes, spelling}
+use Rattle.x10_model.specs.declared.version.FrameVersion.{FrameVersion}
+use Rattle.x10_model.specs.declared.version.FrameVersion.TheVariants.{Narrow, Wide}
+use Rattle.x10_model.specs.Frames.{byte_of, most_of, IsSpelled, Graph, Launch, launch, Frame, Spawn, Shift, Back, Report, FitsGraph, FitsLaunch, FitsCounts, FitsBody, FitsFrame, graph_bytes, launch_bytes, counts_bytes, type_of, from_of, to_of, body_bytes, spelling}
 use Rattle.x10_model.specs.Readers.{IsBytes, bind, given, byte, number, times, all_of}
 use Rattle.x10_model.specs.ReadingFrames.{FrameFault, Short, FrameType, Place, Trailing, launch_at, body_at, version_at, after_version, parts_at, frame_at}
 use Rattle.x10_model.proofs.ReaderLaws.{Reads, then_reads, last_reads, made_reads, such_that_reads, expect_reads, spelled_where}

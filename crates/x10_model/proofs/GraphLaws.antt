@@ -6,7 +6,9 @@ use Rattle.std.specs.Str.{is_utf8}
 use Rattle.std.proofs.lemmas.Str.{IsUtf8-from_is_utf8, is_utf8-from_IsUtf8}
 use Rattle.std.proofs.lemmas.Bool.{and_from, and_parts}
 use Rattle.x10_model.specs.Modules.{FitsText}
-use Rattle.x10_model.specs.Frames.{FrameVersion, Narrow, Wide, width_of, most_of, Item, Node, Graph, Tables, tables, tables_of, none, uses, used_after, Turn, turn, next_turn, used_in_all, FitsItems, FitsNode, FitsRail, FitsGraph, item_bytes, blob_bytes, node_bytes, graph_bytes}
+use Rattle.x10_model.specs.declared.version.FrameVersion.{FrameVersion}
+use Rattle.x10_model.specs.declared.version.FrameVersion.TheVariants.{Narrow, Wide}
+use Rattle.x10_model.specs.Frames.{width_of, most_of, Item, Node, Graph, Tables, tables, tables_of, none, uses, used_after, Turn, turn, next_turn, used_in_all, FitsItems, FitsNode, FitsRail, FitsGraph, item_bytes, blob_bytes, node_bytes, graph_bytes}
 use Rattle.x10_model.specs.Readers.{FitsEach}
 use Rattle.x10_model.specs.ReadingFrames.{Short, Order, Text, length_at, text_at, rail_at, node_at, same_tables, count_at, graph_at}
 use Rattle.x10_model.proofs.ReaderLaws.{Reads, then_reads, last_reads, check_reads, such_that_reads, fits_as}

@@ -3,7 +3,9 @@ use Rattle.std.proofs.Common.{◌≡◌, ℕ, ℤ, zero, suc, ◌^◌, ◌<◌, 
 use Rattle.std.specs.Prelude.{FitsSigned}
 use Rattle.std.specs.Int.{w16, w32, w64, to_be_bytes}
 use Rattle.std.proofs.lemmas.Bool.{and_from, and_parts}
-use Rattle.x10_model.specs.Frames.{FrameVersion, Narrow, Wide, width_of, most_of, Item, IntItem, PlaceItem, TextItem, RailItem, ObjectItem, NullItem, RefItem, Tables, FitsIndex, FitsItem, tag_of_item, untagged, item_bytes}
+use Rattle.x10_model.specs.declared.version.FrameVersion.{FrameVersion}
+use Rattle.x10_model.specs.declared.version.FrameVersion.TheVariants.{Narrow, Wide}
+use Rattle.x10_model.specs.Frames.{width_of, most_of, Item, IntItem, PlaceItem, TextItem, RailItem, ObjectItem, NullItem, RefItem, Tables, FitsIndex, FitsItem, tag_of_item, untagged, item_bytes}
 use Rattle.x10_model.specs.ReadingFrames.{Short, Tag, Place, Order, place_at, index_at, untagged_at, item_at}
 use Rattle.x10_model.proofs.ReaderLaws.{Reads, then_reads, last_reads, made_reads, done_reads, such_that_reads, fits_as, spelled_where}
 use Rattle.x10_model.proofs.PartLaws.{IsWide, byte_reads, number_reads, int_reads, wide16, wide32}

@@ -6,8 +6,8 @@ use Rattle.x10_model.specs.declared.limits.TheConstants.{MOST_FIELDS, MOST_PARAM
 use Rattle.x10_model.specs.Modules.{FitsText}
 use Rattle.x10_model.specs.Images.{int_bytes}
 use Rattle.x10_model.specs.Readers.{IsBytes, FitsEach, after_all}
-pub use Rattle.x10_model.specs.declared.version.FrameVersion.{FrameVersion}
-pub use Rattle.x10_model.specs.declared.version.FrameVersion.TheVariants.{Narrow, Wide}
+use Rattle.x10_model.specs.declared.version.FrameVersion.{FrameVersion}
+use Rattle.x10_model.specs.declared.version.FrameVersion.TheVariants.{Narrow, Wide}
 
 -- A value as a frame spells it: texts, rails and objects by their number in the frame's tables.
 pub data Item : Type 0 where

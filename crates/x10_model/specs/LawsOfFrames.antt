@@ -1,6 +1,8 @@
 -- Laws of frames, and worked examples. The number of places is any that 16 bits hold.
 use Rattle.std.specs.Prelude.{◌≡◌, ℕ, ◌<◌, ◌^◌, List, [], ◌∷◌, ◌++◌, Ok, Err, slice_index}
-use Rattle.x10_model.specs.Frames.{FrameVersion, Narrow, Wide, ObjectItem, RailItem, RefItem, Node, Graph, Frame, Spawn, Report, FitsFrame, IsSpelled, spelling}
+use Rattle.x10_model.specs.declared.version.FrameVersion.{FrameVersion}
+use Rattle.x10_model.specs.declared.version.FrameVersion.TheVariants.{Narrow, Wide}
+use Rattle.x10_model.specs.Frames.{ObjectItem, RailItem, RefItem, Node, Graph, Frame, Spawn, Report, FitsFrame, IsSpelled, spelling}
 use Rattle.x10_model.specs.ReadingFrames.{FrameFault, Short, Version, FrameType, Place, Tag, Text, Order, Trailing, frame_at}
 
 -- what is spelled, in either version, is read again

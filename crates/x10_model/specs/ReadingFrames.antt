@@ -4,7 +4,9 @@ use Rattle.std.specs.Int.{w16, w32}
 use Rattle.std.specs.Str.{is_utf8}
 use Rattle.x10_model.specs.declared.limits.TheConstants.{MOST_BYTES, MOST_FIELDS, MOST_PARAMETERS, MOST_WIDE}
 use Rattle.x10_model.specs.Frames.{Item, IntItem, PlaceItem, TextItem, RailItem, ObjectItem, NullItem, RefItem, Node, Graph, Launch, launch, Frame}
-use Rattle.x10_model.specs.Frames.{FrameVersion, Narrow, Wide, width_of, Spawn, Shift, Back, Report, Tables, tables, none, uses, used_after, Turn, turn, next_turn, used_in_all}
+use Rattle.x10_model.specs.declared.version.FrameVersion.{FrameVersion}
+use Rattle.x10_model.specs.declared.version.FrameVersion.TheVariants.{Narrow, Wide}
+use Rattle.x10_model.specs.Frames.{width_of, Spawn, Shift, Back, Report, Tables, tables, none, uses, used_after, Turn, turn, next_turn, used_in_all}
 use Rattle.x10_model.specs.Readers.{Reader, ◌>>=◌, ◌>>◌, done, check, such_that, expect, given, part, byte, number, int, many, times, all_of}
 
 pub data FrameFault : Type 0 where
