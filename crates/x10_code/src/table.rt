@@ -36,7 +36,7 @@ macro_rules! named_as {
     (($name_given:expr) $($variant:ident row($code:literal, $name:literal, $($rest:tt)*);)*) => {
         match $name_given {
             $($name => Some(Op::$variant),)*
-            other => first_named(other),
+            _ => None,
         }
     };
 }
@@ -104,6 +104,15 @@ pub fn op_named(name: &str) -> Option<Op>
 fn named(text: &str) -> Option<Op>
     ensures { result ≡ op_of_name text.now }
 {
+    match likely_named(text) {
+        Some(op) if name(op) == text => Some(op),
+        _ => first_named(text),
+    }
+}
+
+/// The operation with a name, by one match. Nothing is proved of it: 44 texts to compare with take a minute. Who asks looks
+/// whether the operation has the name.
+fn likely_named(text: &str) -> Option<Op> {
     table!(named_as(text))
 }
 
