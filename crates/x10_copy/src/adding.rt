@@ -7,7 +7,7 @@ ghost use Rattle.x10_copy.specs.Arrived.{word_at, object_from, with_texts, with_
 
 use smallvec::SmallVec;
 use std::alloc::{AllocError, Global};
-use x10_frame::{FrameView, Item, NodeView};
+use x10_frame::{FrameView, Item, NodeView, Nodes, NodesByVersion};
 use x10_heap::Heap;
 use x10_kinds::Stop;
 
@@ -87,15 +87,27 @@ fn add_object(heap: &mut Heap, node: &NodeView, bases: &Bases) -> Result<u32, St
     heap.new_object(node.class(), fields)
 }
 
-/// The objects of the frame.
+/// The objects of a frame.
+#[inline(always)]
+fn add_each(heap: &mut Heap, nodes: &Nodes, bases: &Bases) -> Result<(), Stop>
+    ensures ok { IfOk result (λ _. heap.new ≡ with_objects heap.old (map (object_from bases.now.texts bases.now.rails bases.now.objects) nodes.now)) }
+    ensures err { IfErr result (λ why. IsLonger heap.old heap.new × Stops 1 (length heap.old.objects) (length nodes.now) why) }
+{
+    for k in 0..nodes.len() {
+        add_object(heap, &nodes.node(k), bases)?;
+    }
+    Ok(())
+}
+
+/// The objects of the frame. The loop over them is made once for each version.
 pub fn add_objects(heap: &mut Heap, view: &FrameView, bases: &Bases) -> Result<(), Stop>
     ensures ok { IfOk result (λ _. heap.new ≡ with_objects heap.old (map (object_from bases.now.texts bases.now.rails bases.now.objects) (graph_of view.now).nodes)) }
     ensures err { IfErr result (λ why. IsLonger heap.old heap.new × Stops 1 (length heap.old.objects) (length (graph_of view.now).nodes) why) }
 {
-    for k in 0..view.nodes() {
-        add_object(heap, &view.node(k), bases)?;
+    match view.nodes_by_version() {
+        NodesByVersion::Narrow(nodes) => add_each(heap, &nodes, bases),
+        NodesByVersion::Wide(nodes) => add_each(heap, &nodes, bases),
     }
-    Ok(())
 }
 
 /// The words of the values that were passed.

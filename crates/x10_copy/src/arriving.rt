@@ -109,6 +109,7 @@ pub fn bring(alloc: Global, view: &FrameView, heap: &mut Heap) -> Result<Roots, 
         objects: objects as u32,
     };
     let words = root_words(alloc, view, &bases)?;
+    heap.reserve(view.nodes(), view.rails(), view.texts())?;
     match add_all(heap, view, &bases) {
         Ok(()) => {
             heap.fits();

@@ -6,7 +6,7 @@ ghost use Rattle.x10_frame.specs.Items.{item_of};
 ghost use Rattle.x10_copy.specs.Captured.{kinds_of};
 ghost use Rattle.x10_copy.specs.Fitting as spec;
 
-use x10_frame::{FrameView, Item, NodeView};
+use x10_frame::{FrameView, Item, NodeView, Nodes, NodesByVersion};
 use x10_heap::Heap;
 use x10_image::{ClassView, ImageView};
 use x10_kinds::Kind;
@@ -164,17 +164,33 @@ fn node_found(
     fields_found(view, heap, here, &image.class(class), node)
 }
 
-/// Whether all references among the fields of the frame's objects may be named, where each object has the fields of its
-/// class. One pass.
-pub fn nodes_found(view: &FrameView, heap: &Heap, image: &ImageView, here: u16) -> Option<bool>
-    ensures { result ≡ spec.found (spec.nodes_fit image.now.classes (graph_of view.now) (graph_of view.now).nodes) (spec.nodes_exported here heap.now.exports (graph_of view.now).nodes) }
+/// Whether all references among the fields of objects may be named, where each object has the fields of its class. One pass.
+#[inline(always)]
+fn each_found(
+    view: &FrameView,
+    heap: &Heap,
+    image: &ImageView,
+    here: u16,
+    nodes: &Nodes,
+) -> Option<bool>
+    ensures { result ≡ spec.found (spec.nodes_fit image.now.classes (graph_of view.now) nodes.now) (spec.nodes_exported here heap.now.exports nodes.now) }
 {
     let mut exported = true;
-    for k in 0..view.nodes() {
-        let Some(named) = node_found(view, heap, image, here, &view.node(k)) else {
+    for k in 0..nodes.len() {
+        let Some(named) = node_found(view, heap, image, here, &nodes.node(k)) else {
             return None;
         };
         exported &= named;
     }
     Some(exported)
+}
+
+/// The same of the frame's objects. The loop over them is made once for each version.
+pub fn nodes_found(view: &FrameView, heap: &Heap, image: &ImageView, here: u16) -> Option<bool>
+    ensures { result ≡ spec.found (spec.nodes_fit image.now.classes (graph_of view.now) (graph_of view.now).nodes) (spec.nodes_exported here heap.now.exports (graph_of view.now).nodes) }
+{
+    match view.nodes_by_version() {
+        NodesByVersion::Narrow(nodes) => each_found(view, heap, image, here, &nodes),
+        NodesByVersion::Wide(nodes) => each_found(view, heap, image, here, &nodes),
+    }
 }

@@ -7,6 +7,7 @@ pub mod Whole
 pub mod ReadAgain
 pub mod KnownItems
 pub mod Shows
+pub mod NodeLists
 pub mod Spelling
 pub mod Drafts
 pub mod Spelled

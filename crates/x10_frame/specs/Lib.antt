@@ -1,5 +1,6 @@
 pub mod Faults
 pub mod Items
+pub mod Nodes
 pub mod NodeTables
 pub mod Heads
 pub mod Graphs
@@ -7,3 +8,4 @@ pub mod Bodies
 pub mod Views
 pub mod Writing
 pub mod Parts
+pub mod Versions

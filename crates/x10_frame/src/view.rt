@@ -8,6 +8,7 @@ ghost use Rattle.x10_model.specs.ReadingFrames.{frame_at};
 ghost use Rattle.x10_frame.specs.Faults.{Gives};
 ghost use Rattle.x10_frame.specs.Heads.{head_of, graph_of, sent_of, received_of};
 ghost use Rattle.x10_frame.specs.Items.{item_of};
+ghost use Rattle.x10_frame.specs.Versions.{nodes_of};
 ghost use Rattle.x10_frame.specs.Writing.{head_bytes};
 ghost use Rattle.x10_frame.specs.Parts.{place_of_root, place_of_text, place_of_rail, place_of_node, place_of_sent, place_of_received};
 ghost use Rattle.x10_bytes.specs.Tables.{IsPart};
@@ -17,6 +18,7 @@ use crate::fault::FrameFault;
 use crate::head::{Head, read_head, version_at};
 use crate::item::{Item, nth_item};
 use crate::node_view::NodeView;
+use crate::nodes::{Nodes, NodesByVersion};
 use crate::offsets::{blob_in, count_in, node_in};
 use std::alloc::Global;
 use std::marker::Model;
@@ -206,5 +208,28 @@ impl<'a> FrameView<'a> {
     {
         let bytes = self.bytes;
         node_in(bytes, self.body.nodes[i], self.version, self.places)
+    }
+
+    /// All objects, by the frame's version: see `NodesByVersion`.
+    #[inline(always)]
+    pub fn nodes_by_version(&self) -> NodesByVersion<'_>
+        ensures value { nodes_of result ≡ (graph_of self.now).nodes }
+    {
+        let (bytes, places) = (self.bytes, self.places);
+        let starts = self.body.nodes.as_slice();
+        match self.version {
+            FrameVersion::Narrow => NodesByVersion::Narrow(Nodes {
+                version: FrameVersion::Narrow,
+                places,
+                bytes,
+                starts,
+            }),
+            FrameVersion::Wide => NodesByVersion::Wide(Nodes {
+                version: FrameVersion::Wide,
+                places,
+                bytes,
+                starts,
+            }),
+        }
     }
 }

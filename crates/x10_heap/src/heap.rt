@@ -1,5 +1,5 @@
 //! The heap of a place.
-ghost use Rattle.std.specs.Prelude.{◌≡◌, ◌<◌, ◌≤◌, ◌+◌, ◌^◌, ◌++◌, List, ℕ, IfOk, IfErr, Ok, Err, Some, None, length, replicate, slice_get, nat_lt};
+ghost use Rattle.std.specs.Prelude.{◌≡◌, ◌<◌, ◌≤◌, ◌+◌, ◌^◌, ◌++◌, List, ℕ, IfOk, IfErr, IsOk, Ok, Err, Some, None, length, replicate, slice_get, nat_lt};
 ghost use Rattle.x10_kinds.specs.declared.stop.Stop.TheVariants as stop;
 ghost use Rattle.x10_model.specs.Modules.{FitsText};
 ghost use Rattle.x10_model.specs.Frames.{FitsRail};
@@ -123,6 +123,20 @@ impl Heap {
         self.objects.truncate(objects);
         self.rails.truncate(rails);
         self.texts.truncate(texts);
+    }
+
+    /// Room for so many more objects, rails and texts, so that the heap's lists don't grow while these are made: an arrival
+    /// asks once. What texts, rails and objects of more than four fields keep elsewhere is asked for when they are made.
+    /// Refused only for lack of memory; nothing has changed either way, except that room that was there is kept. Constant
+    /// time, or that of moving a list that grows; a list grows at least to twice its size, so that many calls for little
+    /// stay linear.
+    pub fn reserve(&mut self, objects: usize, rails: usize, texts: usize) -> Result<(), AllocError>
+        ensures value { self.new ≡ self.old }
+        ensures none { objects ≡ 0 → rails ≡ 0 → texts ≡ 0 → IsOk result }
+    {
+        self.objects.reserve(objects)?;
+        self.rails.reserve(rails)?;
+        self.texts.reserve(texts)
     }
 
     /// A new object of a class, with these words in its fields. Limit 1 where there may be no more objects.
