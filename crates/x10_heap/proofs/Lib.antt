@@ -1,3 +1,4 @@
 pub mod Fields
 pub mod Growing
+pub mod Laid
 pub mod Texts

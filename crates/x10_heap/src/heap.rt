@@ -7,10 +7,9 @@ ghost use Rattle.x10_model.specs.Readers.{IsBytes};
 ghost use Rattle.x10_heap.specs.Heaps.{ObjectState, empty, shortened, with_object, with_rail, with_text, with_export, with_field, with_byte, HasField, IsFull, IsWithinLimits, Refuses, IsJoined};
 
 use crate::export::Export;
-use crate::object::Object;
+use crate::objects::Objects;
 use crate::rail::Rail;
 use crate::text::Text;
-use smallvec::SmallVec;
 use std::alloc::{AllocError, Global};
 use std::marker::Model;
 use x10_kinds::Stop;
@@ -30,7 +29,7 @@ const EXPORTS: u8 = 4;
 #[derive(Drop)]
 pub struct Heap {
     alloc: Global,
-    objects: Vec<Object>,
+    objects: Objects,
     rails: Vec<Rail>,
     texts: Vec<Text>,
     exports: Vec<Export>,
@@ -41,9 +40,9 @@ impl Model for Heap {
 
     ghost Value = { HeapState };
 
-    ghost view = { λ h. record { objects = h.objects.items; rails = h.rails.items; texts = h.texts.items; exports = h.exports.items } };
+    ghost view = { λ h. record { objects = h.objects; rails = h.rails.items; texts = h.texts.items; exports = h.exports.items } };
 
-    ghost invariant = { λ h. IsWithinLimits h.objects.items h.rails.items h.texts.items h.exports.items };
+    ghost invariant = { λ h. IsWithinLimits h.objects h.rails.items h.texts.items h.exports.items };
 }
 
 /// The number of what is made next, where there are `count` already; refused where there may be no more.
@@ -70,7 +69,7 @@ impl Heap {
     {
         Heap {
             alloc,
-            objects: Vec::new(alloc),
+            objects: Objects::new(alloc),
             rails: Vec::new(alloc),
             texts: Vec::new(alloc),
             exports: Vec::new(alloc),
@@ -125,11 +124,10 @@ impl Heap {
         self.texts.truncate(texts);
     }
 
-    /// Room for so many more objects, rails and texts, so that the heap's lists don't grow while these are made: an arrival
-    /// asks once. What texts, rails and objects of more than four fields keep elsewhere is asked for when they are made.
-    /// Refused only for lack of memory; nothing has changed either way, except that room that was there is kept. Constant
-    /// time, or that of moving a list that grows; a list grows at least to twice its size, so that many calls for little
-    /// stay linear.
+    /// Room for so many more objects, rails and texts, so that the lists that have them by their numbers don't grow while they
+    /// are made. The fields of objects, and what texts and rails keep elsewhere, take theirs when they are made. Refused only
+    /// for lack of memory; nothing has changed then, nor otherwise, but room that was made is kept. Constant time, or that of
+    /// moving a list that grows; it grows at least to twice its size, so many calls for little stay linear.
     pub fn reserve(&mut self, objects: usize, rails: usize, texts: usize) -> Result<(), AllocError>
         ensures value { self.new ≡ self.old }
         ensures none { objects ≡ 0 → rails ≡ 0 → texts ≡ 0 → IsOk result }
@@ -146,10 +144,7 @@ impl Heap {
         ensures err { IfErr result (λ why. (self.new ≡ self.old) × Refuses (length self.old.objects) 1 why) }
     {
         let number = next_number(self.objects.len(), OBJECTS)?;
-        let Ok(fields) = SmallVec::from_slice(self.alloc, fields) else {
-            return Err(Stop::Memory);
-        };
-        let Ok(()) = self.objects.push(Object { class, fields }) else {
+        let Ok(()) = self.objects.push(class, fields) else {
             return Err(Stop::Memory);
         };
         Ok(number)
@@ -160,7 +155,7 @@ impl Heap {
         requires { object < length self.now.objects }
         ensures { (o : ObjectState) → slice_get self.now.objects object ≡ Some o → result ≡ o.class }
     {
-        self.objects[object as usize].class
+        self.objects.class(object as usize)
     }
 
     /// The words in an object's fields.
@@ -168,7 +163,7 @@ impl Heap {
         requires { object < length self.now.objects }
         ensures { (o : ObjectState) → slice_get self.now.objects object ≡ Some o → result.now ≡ o.fields }
     {
-        &self.objects[object as usize].fields
+        self.objects.fields(object as usize)
     }
 
     /// The word in a field of an object. Fields count from 0.
@@ -176,7 +171,7 @@ impl Heap {
         requires { HasField self.now object field }
         ensures { (o : ObjectState) → slice_get self.now.objects object ≡ Some o → slice_get o.fields field ≡ Some result }
     {
-        self.objects[object as usize].fields[usize::from(field)]
+        self.objects.get(object as usize, usize::from(field))
     }
 
     /// Writes a word to a field of an object.
@@ -184,7 +179,7 @@ impl Heap {
         requires { HasField self.old object field }
         ensures { (o : ObjectState) → slice_get self.old.objects object ≡ Some o → self.new ≡ with_field self.old object o field word }
     {
-        self.objects[object as usize].write(field, word);
+        self.objects.put(object as usize, usize::from(field), word);
     }
 
     /// A new rail of `bytes` zero bytes. Limit 3 where there may be no more rails.

@@ -3,12 +3,12 @@
 
 mod export;
 mod heap;
-mod object;
+mod objects;
 mod rail;
 mod text;
 
 pub use export::Export;
 pub use heap::Heap;
-pub use object::Object;
+pub use objects::Objects;
 pub use rail::Rail;
 pub use text::Text;

@@ -6,7 +6,8 @@ use std::alloc::{AllocError, Global};
 use std::process::Abort;
 use std::test::*;
 use x10_frame::{
-    FrameFault, FrameView, FrameWriter, Head, Item, NodeView, Report, Sizes, write_report,
+    FrameFault, FrameView, FrameWriter, Head, Item, NodeView, Nodes, NodesByVersion, Report, Sizes,
+    write_report,
 };
 use x10_samples::{
     ALONE, BACK, CYCLE, NARROW_BACK, NARROW_CYCLE, NARROW_REPORT, NARROW_SHIFT, OTHER_REPORT,
@@ -67,6 +68,14 @@ fn node_again(
     Ok(writer.node(node.class(), &fields)?)
 }
 
+/// The objects of a frame, whichever its version.
+fn nodes_of<'a>(view: &'a FrameView) -> Nodes<'a> {
+    match view.nodes_by_version() {
+        NodesByVersion::Narrow(nodes) => nodes,
+        NodesByVersion::Wide(nodes) => nodes,
+    }
+}
+
 fn graph_again(
     alloc: Global,
     rt: &impl Abort,
@@ -94,8 +103,9 @@ fn graph_again(
     for i in 0..view.rails() {
         writer = writer.rail(view.rail(i))?;
     }
-    for i in 0..view.nodes() {
-        writer = node_again(alloc, rt, writer, &view.node(i))?;
+    let nodes = nodes_of(view);
+    for i in 0..nodes.len() {
+        writer = node_again(alloc, rt, writer, &nodes.node(i))?;
     }
     Ok(writer.finish())
 }

@@ -48,6 +48,11 @@ fn objects(rt: HostRuntime) -> Result<(), Fail> {
         assert!(rt; object < 3 && heap.objects() == 3);
         assert!(rt; heap.class(object) == class);
     }
+    heap.truncate(2, 0, 0);
+    heap.reserve(3, 1, 1)?;
+    let again = heap.new_object(9, &[4])?;
+    assert!(rt; again == 2 && field(&heap, 2, 0) == Some(4) && field(&heap, 2, 1).is_none());
+    assert!(rt; field(&heap, 0, 1) == Some(3) && heap.objects() == 3);
     Ok(())
 }
 
@@ -152,6 +157,7 @@ fn joins(rt: &impl Abort, heap: &mut Heap) -> bool {
 #[test]
 fn memory_refused(rt: HostRuntime) {
     let mut heap = Heap::new(rt.alloc());
+    let _room = heap.reserve(2, 2, 2);
     let (objects, rails, texts) = added(&rt, &mut heap);
     assert!(rt; heap.objects() == objects && heap.rails() == rails);
     assert!(rt; heap.texts() == texts && heap.exports() == 0);
