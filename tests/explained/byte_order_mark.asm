@@ -4,9 +4,7 @@
 ; status 1: asm: line 1 Word
 ; > Word, line 1: ﻿; A byte order mark before the first line.
 ; >               ^^
-; > Its first word begins no line.
-; > Expected: places, class, int, text, func, end, entry, an instruction's name in capitals, a label that ends in a colon, or a semicolon for a comment.
-; > Hint: the text begins with a byte order mark; write it without.
+; > The text begins with a byte order mark: save it without one.
 places 1
 int 7
 func 1 0 none

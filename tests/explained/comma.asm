@@ -1,12 +1,10 @@
 ; Commas between operands.
 ;
 ; $ x10p asm --explain comma.asm comma.x10
-; status 1: asm: line 13 Number
-; > Number, line 13: INTK 0, 0
+; status 1: asm: line 11 Number
+; > Number, line 11: INTK 0, 0
 ; >                       ^^
-; > A word of it is to be a number and isn't, or is outside its range, or names a class that isn't there.
-; > Expected: INTK REGISTER INT; decimal numbers up to 255, INT up to 4294967295.
-; > Hint: words are parted by spaces, without commas.
+; > Words are separated by spaces, without commas.
 places 1
 int 7
 func 1 0 none

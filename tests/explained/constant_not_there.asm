@@ -3,7 +3,7 @@
 ; $ x10p verify --explain constant_not_there.x10
 ; status 1: verify: Index 0 0
 ; > Index, function 0, instruction 0: INTK 0 1
-; > Operand x names constant number 1; the module has 1, numbered from 0.
+; > 1 is the number of a constant; the only constant is 0.
 places 1
 int 7
 func 1 0 none

@@ -1,11 +1,10 @@
 ; An escape that isn't known.
 ;
 ; $ x10p asm --explain escape_not_known.asm escape_not_known.x10
-; status 1: asm: line 10 Text
-; > Text, line 10: text "seven\teight"
-; >                           ^^
-; > A text is in quotes; a backslash stands before a quote, a backslash or an n alone; it has at most 65,535 bytes.
-; > Expected: text "..".
+; status 1: asm: line 9 Text
+; > Text, line 9: text "seven\teight"
+; >                          ^^
+; > A backslash stands before a quote, a backslash or an n alone: \", \\ and \n.
 places 1
 text "seven\teight"
 func 1 0 none

@@ -5,6 +5,7 @@
 ; > Home, function 0, instruction 0: GOPEN 0 0
 ; > GOPEN asks that the home of r0 is here; it isn't known to be.
 ; > r0 came in as a parameter, gref:0, without `here`.
+; > Ask before it, by `IFHERE 0 @LABEL`; or go to the home, by HOME and AT, to a function whose parameter is here:c.
 places 1
 class int
 int 7

@@ -1,11 +1,10 @@
 ; A constant number above the greatest.
 ;
 ; $ x10p asm --explain int_out_of_range.asm int_out_of_range.x10
-; status 1: asm: line 10 Number
-; > Number, line 10: int 9223372036854775808
-; >                      ^^^^^^^^^^^^^^^^^^^
-; > A word of it is to be a number and isn't, or is outside its range, or names a class that isn't there.
-; > Expected: int N, from -9223372036854775808 to 9223372036854775807.
+; status 1: asm: line 9 Number
+; > Number, line 9: int 9223372036854775808
+; >                     ^^^^^^^^^^^^^^^^^^^
+; > `9223372036854775808` is out of range: the number is -9223372036854775808 to 9223372036854775807.
 places 1
 int 9223372036854775808
 func 1 0 none

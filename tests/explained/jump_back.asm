@@ -3,7 +3,7 @@
 ; $ x10p verify --explain jump_back.x10
 ; status 1: verify: Structure Jump 0 1
 ; > Jump, function 0, instruction 1: JMP 0
-; > A jump goes to a later instruction; 0 isn't later than 1. Only ENDL goes back.
+; > Only ENDL goes back, and a jump goes to a later instruction; this one goes to instruction 0: INTK 0 0
 places 1
 int 7
 func 1 0 none

@@ -1,11 +1,10 @@
 ; A word that is no kind, among kinds: the mark stands beneath it.
 ;
 ; $ x10p asm --explain kind_in_a_class.asm kind_in_a_class.x10
-; status 1: asm: line 11 Word
-; > Word, line 11: class int integer place
+; status 1: asm: line 10 Word
+; > Word, line 10: class int integer place
 ; >                          ^^^^^^^
-; > A word of it is no kind that may stand there.
-; > Expected: class KIND .., at most 16 of int, place, text, rail, obj:c, opt:c and gref:c, where c is the number of a class.
+; > `integer` isn't a kind. Did you mean int?
 places 1
 class int place
 class int integer place

@@ -1,12 +1,11 @@
 ; A label where a number stands.
 ;
 ; $ x10p asm --explain label_for_a_number.asm label_for_a_number.x10
-; status 1: asm: line 14 Number
-; > Number, line 14: INTK 0 @seven
+; status 1: asm: line 13 Number
+; > Number, line 13: INTK 0 @seven
 ; >                         ^^^^^^
-; > A word of it is to be a number and isn't, or is outside its range, or names a class that isn't there.
-; > Expected: INTK REGISTER INT; decimal numbers up to 255, INT up to 4294967295.
-; > Hint: a label stands only for the instruction that a jump goes to.
+; > `@seven` is a label, and this word is the number of a constant.
+; > Expected: INTK REGISTER INT.
 places 1
 int 7
 func 1 0 none

@@ -1,11 +1,10 @@
 ; A jump to a label that is not there.
 ;
 ; $ x10p asm --explain label_not_there.asm label_not_there.x10
-; status 1: asm: line 13 Label
-; > Label, line 13: JMP @over
+; status 1: asm: line 12 Label
+; > Label, line 12: JMP @over
 ; >                     ^^^^^
-; > A label of it is unknown in its function, there twice, or no label's name.
-; > Expected: JMP INSTRUCTION; decimal numbers up to 255, INSTRUCTION up to 4294967295, or @NAME of a label.
+; > Function 0 has no label `over`.
 places 1
 int 7
 func 1 0 none

@@ -1,11 +1,10 @@
 ; A function without its end.
 ;
 ; $ x10p asm --explain no_end.asm no_end.x10
-; status 1: asm: line 15 Order
-; > Order, line 15: entry 0
+; status 1: asm: line 14 Order
+; > Order, line 14: entry 0
 ; >                 ^^^^^
-; > It is out of order: places, then class lines, int lines, text lines, the functions, each from func to end, and entry.
-; > Expected: entry N, the number of a function, from 0.
+; > Function 0, begun in line 10, has no `end`.
 places 1
 int 7
 func 1 0 none

@@ -4,7 +4,7 @@
 ; status 1: verify: Kind 0 2
 ; > Kind, function 0, instruction 2: ADD 0 0 1
 ; > ADD asks that r1 is int; r1 is text.
-; > r1 was written last by instruction 1: TEXTK 1 0
+; > r1 was written last in instruction 1: TEXTK 1 0
 places 1
 int 7
 text "seven"

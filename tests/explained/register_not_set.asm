@@ -4,7 +4,8 @@
 ; status 1: verify: Unset 0 0
 ; > Unset, function 0, instruction 0: PRINT 0
 ; > PRINT asks that r0 is int or text; r0 isn't set.
-; > Nothing on the way here writes r0; where the function begins, its parameters alone are set, 0 of them.
+; > Nothing on the way here writes r0, and this function has no parameters.
+; > Set r0 before it is read.
 places 1
 int 7
 func 1 0 none

@@ -4,9 +4,10 @@
 ; status 1: verify: Unset 0 3
 ; > Unset, function 0, instruction 3: PRINT 1
 ; > PRINT asks that r1 is int or text; r1 isn't set.
-; > Ways meet at instruction 3: PRINT 1
-; >   r1 is written by instruction 2: INTK 1 0
+; > Ways meet in instruction 3: PRINT 1
+; >   r1 is written in instruction 2: INTK 1 0
 ; >   r1 isn't set on the way from instruction 1: JZ 0 3
+; > Set r1 on every way that leads here, to one kind, or before the ways part.
 places 1
 int 7
 func 2 0 none

@@ -1,12 +1,10 @@
 ; A tab in place of a space.
 ;
 ; $ x10p asm --explain tab.asm tab.x10
-; status 1: asm: line 13 Word
-; > Word, line 13: INTK	0 0
+; status 1: asm: line 11 Word
+; > Word, line 11: INTK	0 0
 ; >                ^^^^	^
-; > Its first word begins no line.
-; > Expected: places, class, int, text, func, end, entry, an instruction's name in capitals, a label that ends in a colon, or a semicolon for a comment.
-; > Hint: a tab is no space; words are parted by spaces.
+; > Words are separated by spaces, not tabs.
 places 1
 int 7
 func 1 0 none

@@ -1,11 +1,10 @@
 ; Tabs in the line before the word: they stand in the line of the marks too, so that the marks are beneath the word.
 ;
 ; $ x10p asm --explain tabs_before.asm tabs_before.x10
-; status 1: asm: line 10 Count
-; > Count, line 10: text "a	b	c" more
-; >                        	 	   ^^^^
-; > It has too few or too many words.
-; > Expected: text "..".
+; status 1: asm: line 9 Count
+; > Count, line 9: text "a	b	c" more
+; >                       	 	   ^^^^
+; > A text ends at its second quote, and nothing comes after it; a quote inside it has a backslash before it.
 places 1
 text "a	b	c" more
 func 1 0 none

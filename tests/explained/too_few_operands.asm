@@ -4,8 +4,8 @@
 ; status 1: asm: line 12 Count
 ; > Count, line 12: INTK 0
 ; >                        ^
-; > It has too few or too many words.
-; > Expected: INTK REGISTER INT; decimal numbers up to 255, INT up to 4294967295.
+; > A word is missing: the number of a constant.
+; > Expected: INTK REGISTER INT.
 places 1
 int 7
 func 1 0 none

@@ -4,8 +4,8 @@
 ; status 1: asm: line 13 Count
 ; > Count, line 13:    ADD  0 0   0 17 18
 ; >                                 ^^
-; > It has too few or too many words.
-; > Expected: ADD REGISTER REGISTER REGISTER; decimal numbers up to 255.
+; > `17` is one word too many.
+; > Expected: ADD REGISTER REGISTER REGISTER.
 places 1
 int 7
 func 1 0 none

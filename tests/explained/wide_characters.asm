@@ -1,11 +1,10 @@
 ; Characters of several bytes before the word: a column for each.
 ;
 ; $ x10p asm --explain wide_characters.asm wide_characters.x10
-; status 1: asm: line 10 Count
-; > Count, line 10: text "drüben — Ænima" zwölf
-; >                                       ^^^^^
-; > It has too few or too many words.
-; > Expected: text "..".
+; status 1: asm: line 9 Count
+; > Count, line 9: text "drüben — Ænima" zwölf
+; >                                      ^^^^^
+; > A text ends at its second quote, and nothing comes after it; a quote inside it has a backslash before it.
 places 1
 text "drüben — Ænima" zwölf
 func 1 0 none

@@ -10,7 +10,7 @@
 ; TEXTK 0 0
 ; ; 1: r0 text; at most 2 steps left
 ; PRINT 0
-; ; 2: r0 text; at most 1 steps left
+; ; 2: r0 text; at most 1 step left
 ; RET 0
 ; end
 ; ; a run begins with function 0

@@ -4,17 +4,20 @@ ghost use Rattle.std.specs.String.{string_bytes};
 ghost use Rattle.x10_explain.specs.Heads.{asm_head};
 
 use crate::caret::push_marks;
-use crate::expected::push_expected;
-use crate::hints::push_hints;
+use crate::flaws::push_flaw;
+use crate::labels::{push_definition, push_use};
+use crate::limits::{push_entry, push_limit};
 use crate::names::asm_name;
-use crate::text::{front_of, line_at, missing, push_shown};
+use crate::order::{push_missing, push_order};
+use crate::quotes::push_quotes;
+use crate::text::push_shown;
 use std::alloc::{AllocError, Global};
 use std::fmt::Write;
-use x10_asm::{AsmCause, AsmFault, Statement, classes_in, flaw_of, line_of, next_line};
+use x10_asm::{AsmCause, AsmFault, Line, Statement, classes_in, flaw_of, line_of};
 
-/// Why a text spells no module, in at most 10 lines: the cause and the number of the line, with the line itself and marks
-/// beneath the word at fault; what the cause says about it, what such a line has to be, and hints for common mistakes. Linear
-/// in the text up to the faulty line, and in all of it where the line names classes.
+/// Why a text spells no module, in at most 5 lines: the cause and the number of the line, with the line itself and marks
+/// beneath the word at fault; which case of the cause it is, and where it helps what such a line has to be. Linear in the text
+/// up to the faulty line, and in all of it where the line names classes, labels or functions.
 pub fn explain_asm(alloc: Global, text: &str, fault: AsmFault) -> Result<String, AllocError>
     ensures { IfOk result (λ s. (rest : List ℕ) × (string_bytes s ≡ asm_head fault ++ rest)) }
 {
@@ -42,22 +45,21 @@ fn reasons(
     before: usize,
 ) -> Result<String, AllocError> {
     let mut out = String::new(alloc);
-    let Some((line, _)) = line_at(text, fault.line) else {
+    let Some(line) = line_at(text, fault.line) else {
         out.push_str("the text ends before it.\n")?;
         if fault.cause == AsmCause::Order {
-            out.push_str(missing(text))?;
+            push_missing(&mut out, text)?;
         }
         return Ok(out);
     };
-    push_line(
-        alloc,
-        &mut out,
-        before,
-        line,
-        fault,
-        classes_for(text, line),
-    )?;
+    let classes = classes_for(text, line);
+    push_line(alloc, &mut out, before, text, line, fault, classes)?;
     Ok(out)
+}
+
+// The line with a number, from 1 on.
+fn line_at(text: &str, number: usize) -> Option<&str> {
+    text.lines().nth(number.checked_sub(1)?)
 }
 
 // Whether a line may name a class.
@@ -74,24 +76,77 @@ fn classes_for(text: &str, line: &str) -> usize {
     }
 }
 
-// A line after `before` bytes, and what is wrong with it, in a text with `classes` classes.
+// A line of a text after `before` bytes, with marks beneath the word at fault, and what is wrong with it.
 fn push_line(
     alloc: Global,
     out: &mut String,
     before: usize,
+    text: &str,
     line: &str,
     fault: AsmFault,
     classes: usize,
 ) -> Result<(), AllocError> {
     push_shown(out, line)?;
-    push_marks(out, before, line, fault.cause, classes)?;
-    let statement = line_of(line).statement;
-    push_cause(out, fault.cause, statement)?;
-    push_expected(out, statement)?;
-    push_hints(alloc, out, front_of(line), fault)
+    let flaw = flaw_of(line, classes);
+    push_marks(out, before, line, fault.cause, flaw)?;
+    match flaw {
+        Some(flaw) if flaw.cause == fault.cause => push_flaw(alloc, out, line, flaw, classes),
+        Some(_) => push_no_fault(out),
+        None => push_case(alloc, out, text, line, fault),
+    }
 }
 
-/// The greatest number of faulty lines that are explained after the first: each has 8 lines at most.
+// That the fault isn't one of this text.
+fn push_no_fault(out: &mut String) -> Result<(), AllocError> {
+    out.push_str("Nothing of this sort is wrong there: the fault isn't this text's.\n")
+}
+
+// What is wrong with a line among the others of its text.
+fn push_case(
+    alloc: Global,
+    out: &mut String,
+    text: &str,
+    line: &str,
+    fault: AsmFault,
+) -> Result<(), AllocError> {
+    let said = line_of(line);
+    let statement = said.statement;
+    match fault.cause {
+        AsmCause::Order => push_order(out, text, fault.line, statement, said.first),
+        AsmCause::Label => push_label(alloc, out, text, said, fault.line),
+        AsmCause::Text => push_quotes(out, line, line.len().saturating_sub(said.rest.len())),
+        AsmCause::Limit => push_limit(out, text, fault.line, line, statement),
+        AsmCause::Entry => push_entry(out, text, fault.line, line),
+        AsmCause::Word | AsmCause::Number | AsmCause::Count | AsmCause::Memory => {
+            push_no_fault(out)
+        }
+    }
+}
+
+// What is wrong with the label that a line defines or jumps to.
+fn push_label(
+    alloc: Global,
+    out: &mut String,
+    text: &str,
+    said: Line,
+    number: usize,
+) -> Result<(), AllocError> {
+    if said.statement == Statement::Label {
+        return push_definition(out, text, number, said.first);
+    }
+    match said.rest.split(' ').find(|word| word.starts_with('@')) {
+        Some(word) => push_use(
+            alloc,
+            out,
+            text,
+            number,
+            word.strip_prefix('@').unwrap_or(word),
+        ),
+        None => push_no_fault(out),
+    }
+}
+
+/// The greatest number of faulty lines that are explained after the first: each has 4 lines at most.
 const MOST_LINES: usize = 6;
 
 /// The lines after a faulty one that are faulty by themselves, each explained.
@@ -101,16 +156,9 @@ pub(crate) fn push_others(
     text: &str,
     first: usize,
 ) -> Result<(), AllocError> {
-    let Some((_, behind)) = line_at(text, first) else {
-        return Ok(());
-    };
     let mut classes: Option<usize> = None;
     let mut told: usize = 0;
-    let mut number = first;
-    let mut rest = behind;
-    while let Some((line, after)) = next_line(rest) {
-        number = number.saturating_add(1);
-        rest = after;
+    for (index, line) in text.lines().enumerate().skip(first) {
         if names_class(line) && classes.is_none() {
             classes = Some(classes_in(text));
         }
@@ -122,7 +170,11 @@ pub(crate) fn push_others(
             return out.push_str("and there are more faulty lines\n");
         }
         told = told.saturating_add(1);
-        push_other(alloc, out, line, number, flaw.cause, count)?;
+        let fault = AsmFault {
+            line: index.saturating_add(1),
+            cause: flaw.cause,
+        };
+        push_other(alloc, out, text, line, fault, count)?;
     }
     Ok(())
 }
@@ -131,44 +183,13 @@ pub(crate) fn push_others(
 fn push_other(
     alloc: Global,
     out: &mut String,
+    text: &str,
     line: &str,
-    number: usize,
-    cause: AsmCause,
+    fault: AsmFault,
     classes: usize,
 ) -> Result<(), AllocError> {
-    let fault = AsmFault {
-        line: number,
-        cause,
-    };
     let before = out.len();
     push_head(out, fault)?;
     let wide = out.len().saturating_sub(before);
-    push_line(alloc, out, wide, line, fault, classes)
-}
-
-// What a cause says about a line.
-fn push_cause(out: &mut String, cause: AsmCause, statement: Statement) -> Result<(), AllocError> {
-    out.push_str(match cause {
-        AsmCause::Word if statement == Statement::Unknown => { "Its first word begins no line.\n" }
-        AsmCause::Word => "A word of it is no kind that may stand there.\n",
-        AsmCause::Number => {
-            "A word of it is to be a number and isn't, or is outside its range, or names a class that isn't there.\n"
-        }
-        AsmCause::Count => "It has too few or too many words.\n",
-        AsmCause::Order => {
-            "It is out of order: places, then class lines, int lines, text lines, the functions, each from func to end, and entry.\n"
-        }
-        AsmCause::Label => {
-            "A label of it is unknown in its function, there twice, or no label's name.\n"
-        }
-        AsmCause::Text => {
-            "A text is in quotes; a backslash stands before a quote, a backslash or an n alone; it has at most 65,535 bytes.\n"
-        }
-        AsmCause::Limit =>
-            "A number in it, or how many there are of such lines, is outside the range.\n",
-        AsmCause::Entry => {
-            "The entry has to be a function that is there, and that takes and gives nothing.\n"
-        }
-        AsmCause::Memory => "There was no memory to read the text.\n",
-    })
+    push_line(alloc, out, wide, text, line, fault, classes)
 }

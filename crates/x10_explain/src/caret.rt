@@ -1,9 +1,10 @@
 //! Marks beneath the word of a line that is at fault.
 
+use crate::flaws::name_of_function;
 use crate::quotes::in_quotes;
 use crate::text::MOST_SHOWN;
 use std::alloc::AllocError;
-use x10_asm::{AsmCause, Flaw, Line, Statement, flaw_of, line_of, next_word, number_of};
+use x10_asm::{AsmCause, Flaw, Line, Statement, line_of, next_word, number_of};
 
 /// Bytes of a line, from one on up to another. They may be after its end.
 #[derive(Clone, Copy, Debug, PartialEq, Eq)]
@@ -12,17 +13,17 @@ pub(crate) struct Span {
     pub(crate) to: usize,
 }
 
-/// A line with marks beneath the word at which a line is refused for a cause, in a text with `classes` classes: one for each
-/// character of the word, with its tabs as they are, and one where a word is missing. In the line before, `before` bytes of one
-/// column each are in front of that line. Nothing where no such word is found.
+/// A line with marks beneath the word at which a line is refused for a cause, by the flaw that it has whatever the other lines
+/// say: one for each character of the word, with its tabs as they are, and one where a word is missing. In the line before,
+/// `before` bytes of one column each are in front of that line. Nothing where no such word is found.
 pub(crate) fn push_marks(
     out: &mut String,
     before: usize,
     line: &str,
     cause: AsmCause,
-    classes: usize,
+    flaw: Option<Flaw>,
 ) -> Result<(), AllocError> {
-    match marked(line, cause, classes) {
+    match marked(line, cause, flaw) {
         Some(span) if span.to <= MOST_SHOWN && span.from < span.to => {
             push_span(out, before, line, span)
         }
@@ -86,15 +87,17 @@ fn end_of_words(bytes: &[u8]) -> usize {
 }
 
 // The word of a line at which a cause holds.
-fn marked(line: &str, cause: AsmCause, classes: usize) -> Option<Span> {
-    if let Some(flaw) = flaw_of(line, classes) {
-        return if flaw.cause == cause {
-            Some(span_of_flaw(line, flaw))
-        } else {
-            None
+fn marked(line: &str, cause: AsmCause, flaw: Option<Flaw>) -> Option<Span> {
+    let said = line_of(line);
+    if let Some(flaw) = flaw {
+        if flaw.cause != cause {
+            return None;
+        }
+        return match name_of_function(said, flaw) {
+            Some(_) => nth_word(line, 1),
+            None => Some(span_of_flaw(line, flaw)),
         };
     }
-    let said = line_of(line);
     match cause {
         AsmCause::Order => Some(span_of(line, said.first, said.rest)),
         AsmCause::Label => label_word(line, said),
@@ -110,7 +113,8 @@ fn quoted(line: &str, said: Line) -> Option<Span> {
     if said.statement != Statement::Text {
         return None;
     }
-    in_quotes(line, line.len().saturating_sub(said.rest.len()))
+    let (_, span) = in_quotes(line, line.len().saturating_sub(said.rest.len()))?;
+    Some(span)
 }
 
 // The label that a line defines, or the one to which it jumps: the one word with an at sign in front.
@@ -118,14 +122,8 @@ fn label_word(line: &str, said: Line) -> Option<Span> {
     if said.statement == Statement::Label {
         return Some(span_of(line, said.first, said.rest));
     }
-    let mut rest = said.rest;
-    while let Some((word, after)) = next_word(rest) {
-        if word.as_bytes().first() == Some(&b'@') {
-            return Some(span_of(line, word, after));
-        }
-        rest = after;
-    }
-    None
+    let mut words = line.split(' ').filter(|word| !word.is_empty());
+    nth_word(line, words.position(|word| word.starts_with('@'))?)
 }
 
 // The word with a number, from 0 on.

@@ -7,7 +7,7 @@ use crate::asm::{explain_asm, push_others};
 use crate::faults::find;
 use crate::head::head;
 use crate::image::explain_image;
-use crate::text::push_source;
+use crate::source::{Source, push_source};
 use crate::verify::explained;
 use std::alloc::{AllocError, Global};
 use std::fmt::Write;
@@ -34,12 +34,12 @@ pub struct Report {
     pub text: String,
 }
 
-/// The greatest number of faults that are explained: each has 8 lines at most.
-const MOST_FAULTS: usize = 7;
+/// The greatest number of faults that are explained: each has 9 lines at most.
+const MOST_FAULTS: usize = 6;
 
 /// Whether an image is verified, which is `verify`'s answer; and the bound of each function, or the first fault of each
 /// function that has one. Where it isn't verified this costs `verify` of all functions at most twice, and the explanations of
-/// at most 7 functions.
+/// at most 6 functions.
 pub fn check_image(alloc: Global, bytes: &[u8]) -> Result<Report, AllocError>
     ensures verdict { IfOk result (λ report. IsTrue report.verified ↔ IsVerifiedImage bytes.now) }
     ensures why { IfOk result (λ report. Reports report.verified report.refusal (RefusesImage bytes.now)) }
@@ -139,17 +139,25 @@ fn bounds_of(alloc: Global, verified: &Verified) -> Result<String, AllocError> {
 fn faults_of(alloc: Global, bytes: &[u8], source: Option<&str>) -> Result<String, AllocError> {
     let mut out = String::new(alloc);
     match ImageView::read(alloc, bytes) {
-        Ok(image) => push_faults(alloc, &mut out, &image, source)?,
+        Ok(image) => push_faults(alloc, &mut out, &image, source_of(alloc, source)?.as_ref())?,
         Err(_) => return Err(AllocError),
     }
     Ok(out)
+}
+
+// A text, if there is one, with where its functions are.
+fn source_of<'a>(alloc: Global, text: Option<&'a str>) -> Result<Option<Source<'a>>, AllocError> {
+    match text {
+        Some(text) => Ok(Some(Source::read(alloc, text)?)),
+        None => Ok(None),
+    }
 }
 
 fn push_faults(
     alloc: Global,
     out: &mut String,
     image: &ImageView,
-    source: Option<&str>,
+    source: Option<&Source>,
 ) -> Result<(), AllocError> {
     let mut bounds = Vec::new(alloc);
     let mut told: usize = 0;
@@ -169,7 +177,7 @@ fn push_faults(
         told = told.saturating_add(1);
         out.push_str(&head(alloc, image, fault)?)?;
         push_source(out, source, f, usize::from(fault.pc))?;
-        out.push_str(&explained(alloc, image, &finding.flow, fault)?)?;
+        out.push_str(&explained(alloc, image, source, &finding.flow, fault)?)?;
     }
     Ok(())
 }

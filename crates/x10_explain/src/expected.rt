@@ -4,27 +4,20 @@ use std::alloc::AllocError;
 use x10_asm::Statement;
 use x10_code::{Op, Operand, form, name};
 
-/// What a line has to be that begins with such a word.
+/// What a line has to be that begins with such a word, where that helps.
 pub(crate) fn push_expected(out: &mut String, statement: Statement) -> Result<(), AllocError> {
     if let Statement::Instruction(op) = statement {
         return push_form(out, op);
     }
     out.push_str(match statement {
-        Statement::Silent => "",
+        Statement::Silent | Statement::Class | Statement::End | Statement::Label => "",
         Statement::Places => "Expected: places N, the least number of places, 1 to 64.\n",
-        Statement::Class => {
-            "Expected: class KIND .., at most 16 of int, place, text, rail, obj:c, opt:c and gref:c, where c is the number of a class.\n"
-        }
         Statement::Int => { "Expected: int N, from -9223372036854775808 to 9223372036854775807.\n" }
         Statement::Text => "Expected: text \"..\".\n",
         Statement::Func => {
-            "Expected: func REGISTERS LOOPS RESULT PARAMETER ..: 1 to 64 registers, at most 8 loop slots and 16 parameters, each in a register; the result is none or a kind; a reference whose home is where the function runs is here:c.\n"
+            "Expected: func REGISTERS LOOPS RESULT PARAMETER .., where RESULT is none or a kind, and a PARAMETER is a kind.\n"
         }
-        Statement::End => "Expected: end, alone on its line, behind at least one instruction.\n",
         Statement::Entry => "Expected: entry N, the number of a function, from 0.\n",
-        Statement::Label => {
-            "Expected: NAME:, alone on its line, inside a function; 1 to 32 letters, digits and _, no digit first, once in its function.\n"
-        }
         Statement::Instruction(_) | Statement::Unknown => {
             "Expected: places, class, int, text, func, end, entry, an instruction's name in capitals, a label that ends in a colon, or a semicolon for a comment.\n"
         }
@@ -39,16 +32,11 @@ fn push_form(out: &mut String, op: Op) -> Result<(), AllocError> {
     for operand in [form.a, form.b, form.c, form.x] {
         out.push_str(operand_word(operand))?;
     }
-    out.push_str("; decimal numbers up to 255")?;
-    match form.x {
-        Operand::Unused => out.push_str(".\n"),
-        Operand::Target => out.push_str(", INSTRUCTION up to 4294967295, or @NAME of a label.\n"),
-        operand => {
-            out.push_str(",")?;
-            out.push_str(operand_word(operand))?;
-            out.push_str(" up to 4294967295.\n")
-        }
-    }
+    out.push_str(if form.x == Operand::Target {
+        ", where INSTRUCTION is a number, or @NAME of a label.\n"
+    } else {
+        ".\n"
+    })
 }
 
 // A word for an operand, with the space before it.

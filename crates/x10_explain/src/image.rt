@@ -3,12 +3,13 @@ ghost use Rattle.std.specs.Prelude.{◌≡◌, ◌++◌, ◌<◌, List, ℕ, IfO
 ghost use Rattle.std.specs.String.{string_bytes};
 ghost use Rattle.x10_explain.specs.Heads.{image_head};
 
+use crate::image_case::{Header, header_of, push_wrong};
 use crate::names::image_name;
 use crate::position::push_position;
 use crate::text::is_text;
 use std::alloc::{AllocError, Global};
 use std::fmt::Write;
-use x10_image::ImageFault;
+use x10_image::{Field, ImageFault, Misfit, misfit_in};
 
 /// Why bytes are not an image, in at most 5 lines: the fault and how many bytes there are; where the fault is, the field that
 /// begins there and its bytes; what the fault says; what the header counts, where it is there; and whether the bytes are a text
@@ -34,71 +35,42 @@ fn push_head(out: &mut String, fault: ImageFault, len: usize) -> Result<(), Allo
 // What comes below that.
 fn reasons(alloc: Global, bytes: &[u8], fault: ImageFault) -> Result<String, AllocError> {
     let mut out = String::new(alloc);
-    push_position(&mut out, bytes, fault)?;
-    push_fault(&mut out, bytes, fault)?;
+    let header = header_of(bytes);
+    let misfit = misfit_in(bytes).filter(|misfit| misfit.fault == fault);
+    push_position(&mut out, bytes, fault, misfit)?;
+    push_wrong(&mut out, header, fault, field_of(misfit))?;
     if is_text(bytes) {
         out.push_str("These bytes are a text: assemble it first, with `asm`.\n")?;
     } else if bytes.len() >= 20 && fault != ImageFault::Magic {
-        push_counts(&mut out, bytes)?;
+        push_counts(&mut out, header)?;
     }
     Ok(out)
 }
 
-// A number of two bytes.
-fn number_at(bytes: &[u8], at: usize) -> u16
-    requires { at < 1000 }
-{
-    if at + 1 < bytes.len() {
-        u16::from_be_bytes([bytes[at], bytes[at + 1]])
-    } else {
-        0
-    }
+// The field that is wrong, where one was found.
+fn field_of(misfit: Option<Misfit<'_>>) -> Option<Field<'_>> {
+    let misfit = misfit?;
+    misfit.field.filter(|field| field.fault == misfit.fault)
 }
 
 // What the header counts.
-fn push_counts(out: &mut String, bytes: &[u8]) -> Result<(), AllocError> {
-    let (classes, ints) = (number_at(bytes, 8), number_at(bytes, 10));
-    let (texts, functions) = (number_at(bytes, 12), number_at(bytes, 14));
-    let (places, entry) = (number_at(bytes, 6), number_at(bytes, 16));
-    writeln!(
-        out,
-        "The header says: at least {places} places, {classes} classes, {ints} ints, {texts} texts, {functions} functions, entry {entry}."
-    )
+fn push_counts(out: &mut String, header: Header) -> Result<(), AllocError> {
+    out.push_str("The header says: at least ")?;
+    push_counted(out, header.places, "place", "places")?;
+    out.push_str(", ")?;
+    push_counted(out, header.classes, "class", "classes")?;
+    out.push_str(", ")?;
+    push_counted(out, header.ints, "int", "ints")?;
+    out.push_str(", ")?;
+    push_counted(out, header.texts, "text", "texts")?;
+    out.push_str(", ")?;
+    push_counted(out, header.functions, "function", "functions")?;
+    let entry = header.entry;
+    writeln!(out, ", entry {entry}.")
 }
 
-// What a fault says.
-fn push_fault(out: &mut String, bytes: &[u8], fault: ImageFault) -> Result<(), AllocError> {
-    match fault {
-        ImageFault::Code(function, pc) => {
-            return writeln!(
-                out,
-                "The 8 bytes of instruction {pc} of function {function} are no instruction: their first byte is no operation's code, or a byte that the operation doesn't use isn't 0."
-            );
-        }
-        ImageFault::Version => {
-            let version = number_at(bytes, 4);
-            return writeln!(
-                out,
-                "Bytes 4 and 5 are the version, 1; here they are {version}."
-            );
-        }
-        _ => {}
-    }
-    out.push_str(match fault {
-        ImageFault::Short => "The bytes end before a part that the numbers before it promise.\n",
-        ImageFault::Magic => "An image begins with the bytes 58 31 30 50, in hexadecimal.\n",
-        ImageFault::Count => {
-            "A number is outside its range: 1 to 64 places, 1 to 256 functions, at most 16 fields or parameters, 64 registers, 8 loop slots, 1 to 4,096 instructions.\n"
-        }
-        ImageFault::Kind => {
-            "A kind is unknown, its class isn't there or has to be 0, or a home flag stands where none may.\n"
-        }
-        ImageFault::Text => "A constant text isn't UTF-8.\n",
-        ImageFault::Trailing => "There are bytes behind the last function.\n",
-        ImageFault::Reserved => "Bytes 18 and 19, or another byte that has to be 0, aren't.\n",
-        ImageFault::Entry => {
-            "The entry has to be a function that is there, and that takes and gives nothing.\n"
-        }
-        _ => "There was no memory to read the image.\n",
-    })
+// A number, with the word for one or for several.
+fn push_counted(out: &mut String, count: u16, one: &str, many: &str) -> Result<(), AllocError> {
+    let word = if count == 1 { one } else { many };
+    write!(out, "{count} {word}")
 }

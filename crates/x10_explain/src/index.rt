@@ -1,10 +1,12 @@
 //! What an instruction names that isn't there.
 
 use crate::lack::{callee, fields_of};
+use crate::text::push_named_to;
 use std::alloc::AllocError;
 use std::fmt::Write;
-use x10_code::{Instr, Operand, form};
+use x10_code::{Instr, Operand, form, name};
 use x10_image::{ImageView, SigView};
+use x10_model::limits::MOST_REGISTERS;
 
 /// A line on the first operand, by a, b, c and x, that names what isn't there.
 pub(crate) fn push_index(
@@ -19,13 +21,13 @@ pub(crate) fn push_index(
     let form = form(instr.op);
     let signature = image.signature(f);
     let operands = [
-        ("a", form.a, u32::from(instr.a)),
-        ("b", form.b, u32::from(instr.b)),
-        ("c", form.c, u32::from(instr.c)),
-        ("x", form.x, instr.x),
+        (form.a, u32::from(instr.a)),
+        (form.b, u32::from(instr.b)),
+        (form.c, u32::from(instr.c)),
+        (form.x, instr.x),
     ];
-    for (letter, operand, n) in operands {
-        let told = push_operand(out, image, f, &signature, instr, letter, operand, n)?;
+    for (operand, n) in operands {
+        let told = push_operand(out, image, f, &signature, instr, operand, n)?;
         if told {
             return Ok(());
         }
@@ -40,46 +42,107 @@ fn push_operand(
     f: usize,
     signature: &SigView,
     instr: Instr,
-    letter: &str,
     operand: Operand,
     n: u32,
 ) -> Result<bool, AllocError> {
     let registers = usize::from(signature.registers());
-    let (what, count) = match operand {
+    let count = match operand {
         Operand::Unused | Operand::Count | Operand::Field => return Ok(false),
         Operand::Arguments => return push_arguments(out, image, signature, instr, n as usize),
         Operand::Result if !names_result(image, signature, instr) => return Ok(false),
-        Operand::Register | Operand::Result => ("register", registers),
-        Operand::Slot => ("loop slot", usize::from(signature.loops())),
-        Operand::Int => ("constant number", image.ints()),
-        Operand::Text => ("constant text", image.texts()),
-        Operand::Place => ("place", usize::from(image.least())),
-        Operand::Class => ("class", image.classes()),
-        Operand::Function => ("function", image.functions()),
-        Operand::Target => ("instruction", code_len(image, f)),
+        Operand::Register | Operand::Result => registers,
+        Operand::Slot => usize::from(signature.loops()),
+        Operand::Int => image.ints(),
+        Operand::Text => image.texts(),
+        Operand::Place => usize::from(image.least()),
+        Operand::Class => image.classes(),
+        Operand::Function => image.functions(),
+        Operand::Target => code_len(image, f),
     };
     if (n as usize) < count {
         return Ok(false);
     }
-    write!(out, "Operand {letter} names {what} {n}; ")?;
-    push_count(out, operand, count)?;
+    push_lost(out, image, instr, operand, n, count)?;
     Ok(true)
 }
 
-// How many there are of what an operand names.
-fn push_count(out: &mut String, operand: Operand, count: usize) -> Result<(), AllocError> {
-    match operand {
-        Operand::Register | Operand::Result => {
-            writeln!(out, "the function has {count} registers, numbered from 0.")
-        }
-        Operand::Slot => writeln!(out, "the function has {count} loop slots, numbered from 0."),
-        Operand::Target => writeln!(
-            out,
-            "the function has {count} instructions, numbered from 0."
-        ),
-        Operand::Place => writeln!(out, "the module asks for {count} places, numbered from 0."),
-        _ => writeln!(out, "the module has {count}, numbered from 0."),
+// That something isn't there, of which there are so many.
+fn push_lost(
+    out: &mut String,
+    image: &ImageView,
+    instr: Instr,
+    operand: Operand,
+    n: u32,
+    count: usize,
+) -> Result<(), AllocError> {
+    let (owner, one, many) = match operand {
+        Operand::Register | Operand::Result => return push_register(out, n, count),
+        Operand::Int => return push_constant(out, image, instr, n, count),
+        Operand::Place => return push_place(out, n, count),
+        Operand::Text => ("module", "text", "texts"),
+        Operand::Class => ("module", "class", "classes"),
+        Operand::Function => ("module", "function", "functions"),
+        Operand::Slot => ("function", "loop slot", "loop slots"),
+        _ => ("function", "instruction", "instructions"),
+    };
+    write!(out, "There is no {one} {n}: the {owner} has ")?;
+    push_named_to(out, count, one, many)?;
+    out.push_str(".\n")
+}
+
+// A register that the function hasn't got.
+fn push_register(out: &mut String, n: u32, count: usize) -> Result<(), AllocError> {
+    write!(out, "There is no register {n}: the function has ")?;
+    push_named_to(out, count, "register", "registers")?;
+    if n >= u32::from(MOST_REGISTERS) {
+        return out.push_str(".\n");
     }
+    let wanted = n.saturating_add(1);
+    writeln!(out, ". With `func {wanted}` it has {wanted}.")
+}
+
+// The number of a constant that isn't there; and of the constant that has this value, if there is one.
+fn push_constant(
+    out: &mut String,
+    image: &ImageView,
+    instr: Instr,
+    n: u32,
+    count: usize,
+) -> Result<(), AllocError> {
+    write!(out, "{n} is the number of a constant; ")?;
+    match count {
+        0 => out.push_str("there are no constants, which are lines `int N`.\n")?,
+        1 => out.push_str("the only constant is 0.\n")?,
+        _ => {
+            let last = count - 1;
+            writeln!(out, "constants are 0 to {last}.")?;
+        }
+    }
+    let (name, a) = (name(instr.op), instr.a);
+    match constant_of(image, i64::from(n)) {
+        Some(number) => writeln!(out, "The int {n} is constant {number}: {name} {a} {number}"),
+        None => Ok(()),
+    }
+}
+
+// The first constant that has a value.
+fn constant_of(image: &ImageView, value: i64) -> Option<usize> {
+    for i in 0..image.ints() {
+        if image.int(i) == value {
+            return Some(i);
+        }
+    }
+    None
+}
+
+// A place that there may not be.
+fn push_place(out: &mut String, n: u32, count: usize) -> Result<(), AllocError> {
+    write!(
+        out,
+        "There may be no place {n}: the line `places` promises "
+    )?;
+    push_named_to(out, count, "place", "places")?;
+    out.push_str(".\n")
 }
 
 fn code_len(image: &ImageView, f: usize) -> usize {
@@ -129,18 +192,26 @@ fn push_arguments(
         if first == 0 {
             return Ok(false);
         }
+        let name = name(instr.op);
         writeln!(
             out,
-            "Operand b has to be 0, since there is no argument; it is {first}."
+            "{name} has no arguments here, so its first register is written 0; it is {first}."
         )?;
         return Ok(true);
     }
-    if first.saturating_add(count) <= registers {
+    let last = first.saturating_add(count - 1);
+    if last < registers {
         return Ok(false);
     }
-    writeln!(
-        out,
-        "The {count} arguments stand from r{first} on; the function has {registers} registers, numbered from 0."
-    )?;
+    if count == 1 {
+        write!(out, "The argument is in r{first}; the function has ")?;
+    } else {
+        write!(
+            out,
+            "The {count} arguments are in r{first} to r{last}; the function has "
+        )?;
+    }
+    push_named_to(out, registers, "register", "registers")?;
+    out.push_str(".\n")?;
     Ok(true)
 }

@@ -2,6 +2,7 @@
 
 use crate::phrase::are_same;
 use crate::rule::outcome_and_row;
+use crate::source::Source;
 use crate::want::Want;
 use x10_code::Instr;
 use x10_image::{ClassView, ImageView, SigView};
@@ -64,12 +65,15 @@ impl Lack {
     }
 }
 
-/// Where a rule is looked at: an instruction of a function, and what is known before it.
+/// Where a rule is looked at: an instruction of a function, and what is known before it; and the text that the module was read
+/// from, where there is one.
 #[derive(Clone, Copy)]
 pub(crate) struct Spot<'a> {
     pub(crate) image: &'a ImageView<'a>,
+    pub(crate) source: Option<&'a Source<'a>>,
     pub(crate) flow: &'a Flow,
     pub(crate) result: Option<Slot>,
+    pub(crate) f: usize,
     pub(crate) pc: usize,
     pub(crate) instr: Instr,
 }

@@ -9,9 +9,7 @@ use std::alloc::{AllocError, Global};
 use std::fmt::Write;
 use x10_asm::push_slot;
 use x10_code::Instr;
-use x10_image::ImageView;
 use x10_kinds::Term;
-use x10_verify::Flow;
 
 /// Where what is known of a register, or of two, was settled last.
 #[derive(Clone, Copy, Debug, PartialEq, Eq)]
@@ -20,6 +18,8 @@ enum Origin {
     Entry,
     /// At an instruction that writes the register.
     Written(usize, u8),
+    /// At an instruction that writes the register on going on alone, and went elsewhere.
+    Skipped(usize),
     /// Where ways meet.
     Meets(usize),
 }
@@ -29,48 +29,82 @@ enum Origin {
 struct Question {
     register: u8,
     at: Option<Term>,
+    /// Whether the register isn't set.
+    is_unset: bool,
 }
 
 /// The greatest number of ways that are shown.
 const MOST_WAYS: usize = 3;
 
-/// Lines that say where the register of what is missing got what it has. Linear in the function's instructions.
+/// Lines that say where the register of what is missing got what it has. Answers whether that is where ways meet. Linear in the
+/// function's instructions.
 pub(crate) fn push_origin(
     alloc: Global,
     out: &mut String,
     spot: &Spot,
-    f: usize,
     lack: Lack,
-) -> Result<(), AllocError> {
+) -> Result<bool, AllocError> {
     let Some(register) = lack.register() else {
-        return Ok(());
+        return Ok(false);
     };
     let at = match lack {
         Lack::Home(_, at, _) => Some(at),
         _ => None,
     };
-    let question = Question { register, at };
-    let arrivals = arrivals(alloc, spot.image, spot.flow, f)?;
-    match origin_of(spot, f, &arrivals, question) {
-        Origin::Entry => push_entry(out, spot.image, f, question),
+    let is_unset = spot.flow.kind(spot.pc, register).is_none();
+    let question = Question {
+        register,
+        at,
+        is_unset,
+    };
+    let arrivals = arrivals(alloc, spot.image, spot.flow, spot.f)?;
+    let origin = origin_of(spot, &arrivals, question);
+    push_answer_of(out, spot, question, origin)?;
+    Ok(matches!(origin, Origin::Meets(_)))
+}
+
+fn push_answer_of(
+    out: &mut String,
+    spot: &Spot,
+    question: Question,
+    origin: Origin,
+) -> Result<(), AllocError> {
+    match origin {
+        Origin::Entry => push_entry(out, spot, question),
         Origin::Written(pc, register) => {
-            write!(out, "r{register} was written last by ")?;
-            push_instruction_at(out, spot.image, f, pc)
+            write!(out, "r{register} was written last in ")?;
+            push_instruction(out, spot, pc)
         }
-        Origin::Meets(pc) => push_ways(out, spot.image, spot.flow, f, pc, question),
+        Origin::Skipped(pc) => {
+            let register = question.register;
+            write!(
+                out,
+                "r{register} is written only on going on, and not on the way to a label, by "
+            )?;
+            push_instruction(out, spot, pc)
+        }
+        Origin::Meets(pc) => push_ways(out, spot, pc, question),
     }
 }
 
+// An instruction of the function, at the end of a line.
+fn push_instruction(out: &mut String, spot: &Spot, pc: usize) -> Result<(), AllocError> {
+    push_instruction_at(out, spot.image, spot.source, spot.f, pc)
+}
+
 // Back along the only way that leads to an instruction.
-fn origin_of(spot: &Spot, f: usize, arrivals: &[Arrived], question: Question) -> Origin {
+fn origin_of(spot: &Spot, arrivals: &[Arrived], question: Question) -> Origin {
     let mut at = spot.pc;
     for _ in 0..arrivals.len() {
-        match way_into(spot.image, spot.flow, f, arrivals, at) {
+        match way_into(spot.image, spot.flow, spot.f, arrivals, at) {
             Way::Entry => return Origin::Entry,
             Way::Several => return Origin::Meets(at),
+            Way::Jump(from) if question.is_unset && settles(spot, from, question).is_some() => {
+                return Origin::Skipped(from);
+            }
             Way::Jump(from) => at = from,
             Way::Next(from) => {
-                if let Some(register) = settles(spot.image, f, from, question) {
+                if let Some(register) = settles(spot, from, question) {
                     return Origin::Written(from, register);
                 }
                 at = from;
@@ -81,8 +115,8 @@ fn origin_of(spot: &Spot, f: usize, arrivals: &[Arrived], question: Question) ->
 }
 
 // The register of a question that an instruction writes, if it writes one.
-fn settles(image: &ImageView, f: usize, pc: usize, question: Question) -> Option<u8> {
-    let register = written(image, instr_in(image, f, pc)?)?;
+fn settles(spot: &Spot, pc: usize, question: Question) -> Option<u8> {
+    let register = written(spot.image, instr_in(spot.image, spot.f, pc)?)?;
     if register == question.register || question.at == Some(Term::Reg(register)) {
         Some(register)
     } else {
@@ -91,24 +125,17 @@ fn settles(image: &ImageView, f: usize, pc: usize, question: Question) -> Option
 }
 
 // A register that nothing has written since the function began.
-fn push_entry(
-    out: &mut String,
-    image: &ImageView,
-    f: usize,
-    question: Question,
-) -> Result<(), AllocError> {
-    if f >= image.functions() {
+fn push_entry(out: &mut String, spot: &Spot, question: Question) -> Result<(), AllocError> {
+    if spot.f >= spot.image.functions() {
         return Ok(());
     }
-    let signature = image.signature(f);
+    let signature = spot.image.signature(spot.f);
     let register = question.register;
     let n = usize::from(register);
     let count = signature.parameters();
     if n >= count {
-        return writeln!(
-            out,
-            "Nothing on the way here writes r{register}; where the function begins, its parameters alone are set, {count} of them."
-        );
+        write!(out, "Nothing on the way here writes r{register}, and ")?;
+        return push_parameters(out, count);
     }
     let slot = signature.parameter(n);
     write!(out, "r{register} came in as a parameter,")?;
@@ -119,35 +146,48 @@ fn push_entry(
     out.push_str(".\n")
 }
 
+// How many parameters a function has, at the end of a line.
+fn push_parameters(out: &mut String, count: usize) -> Result<(), AllocError> {
+    match count {
+        0 => out.push_str("this function has no parameters.\n"),
+        1 => out.push_str("this function has 1 parameter, in r0.\n"),
+        _ => {
+            let last = count - 1;
+            writeln!(
+                out,
+                "this function has {count} parameters, in r0 to r{last}."
+            )
+        }
+    }
+}
+
 // What is known on the ways that meet at an instruction.
 fn push_ways(
     out: &mut String,
-    image: &ImageView,
-    flow: &Flow,
-    f: usize,
+    spot: &Spot,
     pc: usize,
     question: Question,
 ) -> Result<(), AllocError> {
-    write!(out, "Ways meet at ")?;
-    push_instruction_at(out, image, f, pc)?;
+    write!(out, "Ways meet in ")?;
+    push_instruction(out, spot, pc)?;
     let mut told: usize = 0;
-    if let Some(instr) = before(image, flow, f, pc) {
-        push_way_on(out, image, flow, f, pc, instr, question)?;
+    if let Some(instr) = before(spot.image, spot.flow, spot.f, pc) {
+        push_way_on(out, spot, pc, instr, question)?;
         told = 1;
     }
-    if f >= image.functions() {
+    if spot.f >= spot.image.functions() {
         return Ok(());
     }
-    for from in 0..image.code_len(f) {
-        if !flow.is_reached(from) || !jumps_to(image.instr(f, from), pc) {
+    for from in 0..spot.image.code_len(spot.f) {
+        if !spot.flow.is_reached(from) || !jumps_to(spot.image.instr(spot.f, from), pc) {
             continue;
         }
         if told >= MOST_WAYS {
             return out.push_str("  and more ways\n");
         }
-        push_answer(out, flow, from, question, false)?;
+        push_answer(out, spot, from, question, false)?;
         out.push_str(" on the way from ")?;
-        push_instruction_at(out, image, f, from)?;
+        push_instruction(out, spot, from)?;
         told = told.saturating_add(1);
     }
     Ok(())
@@ -156,32 +196,30 @@ fn push_ways(
 // What is known on going on from the instruction before.
 fn push_way_on(
     out: &mut String,
-    image: &ImageView,
-    flow: &Flow,
-    f: usize,
+    spot: &Spot,
     pc: usize,
     instr: Instr,
     question: Question,
 ) -> Result<(), AllocError> {
     let from = pc.saturating_sub(1);
-    match settles(image, f, from, question) {
-        Some(register) => write!(out, "  r{register} is written by ")?,
+    match settles(spot, from, question) {
+        Some(register) => write!(out, "  r{register} is written in ")?,
         None => {
             let learnt = match question.at {
                 None => false,
-                Some(at) => same_after(flow, from, instr, Term::Reg(question.register), at),
+                Some(at) => same_after(spot.flow, from, instr, Term::Reg(question.register), at),
             };
-            push_answer(out, flow, from, question, learnt)?;
+            push_answer(out, spot, from, question, learnt)?;
             out.push_str(" on the way from ")?;
         }
     }
-    push_instruction_at(out, image, f, from)
+    push_instruction(out, spot, from)
 }
 
 // What is known before an instruction, or learnt by it.
 fn push_answer(
     out: &mut String,
-    flow: &Flow,
+    spot: &Spot,
     pc: usize,
     question: Question,
     learnt: bool,
@@ -189,9 +227,9 @@ fn push_answer(
     let register = question.register;
     let Some(at) = question.at else {
         out.push_str("  ")?;
-        return push_known(out, register, flow.kind(pc, register));
+        return push_known(out, register, spot.flow.kind(pc, register));
     };
-    let known = learnt || are_same(flow, pc, Term::Reg(register), at);
+    let known = learnt || are_same(spot.flow, pc, Term::Reg(register), at);
     let is = if known {
         "is known to be"
     } else {

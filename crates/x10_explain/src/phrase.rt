@@ -2,6 +2,8 @@
 ghost use Rattle.std.specs.Prelude.{◌↔◌, IsTrue};
 ghost use Rattle.x10_kinds.specs.Equations.{IsTerm};
 
+use crate::source::Source;
+use crate::text::push_shown;
 use std::alloc::AllocError;
 use std::fmt::Write;
 use x10_asm::{push_instruction, push_kind};
@@ -33,13 +35,21 @@ pub(crate) fn push_term(out: &mut String, term: Term) -> Result<(), AllocError> 
     }
 }
 
-/// An instruction as the listing writes it, with its number, at the end of a line.
+/// An instruction at the end of a line: where there is a text, its line there, and else as the listing writes it, with its
+/// number.
 pub(crate) fn push_instruction_at(
     out: &mut String,
     image: &ImageView,
+    source: Option<&Source>,
     f: usize,
     pc: usize,
 ) -> Result<(), AllocError> {
+    if let Some(source) = source
+        && let Some((number, line)) = source.line_of(f, pc)
+    {
+        write!(out, "line {number}: ")?;
+        return push_shown(out, line.trim_start_matches(' '));
+    }
     if f >= image.functions() || pc >= image.code_len(f) {
         return writeln!(out, "instruction {pc}");
     }

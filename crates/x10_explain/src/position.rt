@@ -2,21 +2,22 @@
 
 use std::alloc::AllocError;
 use std::fmt::Write;
-use x10_image::{Field, ImageFault, Item, Meaning, Misfit, misfit_in};
+use x10_image::{Field, ImageFault, Item, Meaning, Misfit};
 
-/// A line on where bytes are refused by a fault: the byte, the field that begins there, and its bytes. Nothing where it isn't
-/// found, as for a fault other than that of the bytes. One pass over the bytes, or a part of it.
+/// A line on where bytes are refused by a fault: the byte, the field that begins there, and its bytes. Nothing where there is no
+/// misfit, as for a fault other than that of the bytes.
 pub(crate) fn push_position(
     out: &mut String,
     bytes: &[u8],
     fault: ImageFault,
+    misfit: Option<Misfit>,
 ) -> Result<(), AllocError> {
     if fault == ImageFault::Entry {
         return push_entry(out, bytes);
     }
-    match misfit_in(bytes) {
-        Some(misfit) if misfit.fault == fault => push_misfit(out, bytes, misfit),
-        _ => Ok(()),
+    match misfit {
+        Some(misfit) => push_misfit(out, bytes, misfit),
+        None => Ok(()),
     }
 }
 
@@ -78,7 +79,7 @@ fn push_item(out: &mut String, item: Item) -> Result<(), AllocError> {
         Item::Ints(_) => out.push_str("of the constant numbers"),
         Item::Text(t) => write!(out, "of constant text {t}"),
         Item::Function(f) => write!(out, "of function {f}"),
-        Item::Behind => out.push_str("what stands behind the last function"),
+        Item::Behind => out.push_str("what comes after the last function"),
     }
 }
 

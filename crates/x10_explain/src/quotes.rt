@@ -3,21 +3,38 @@
 ghost use Rattle.std.specs.Prelude.{◌<◌, length};
 
 use crate::caret::Span;
+use crate::text::push_said;
+use std::alloc::AllocError;
+use std::fmt::Write;
+use x10_model::limits::MOST_BYTES;
 
-/// What is wrong with a text in quotes that begins after `from` bytes of a line: what isn't in quotes, an escape that isn't
-/// known, a quote that isn't closed, or what follows the closing one without a space between.
-pub(crate) fn in_quotes(line: &str, from: usize) -> Option<Span> {
+/// What is wrong with a text in quotes.
+#[derive(Clone, Copy, Debug, PartialEq, Eq)]
+pub(crate) enum Misquoted {
+    /// No quote is where it begins.
+    Opening,
+    /// A backslash stands before a character that it doesn't go with.
+    Escape,
+    /// No quote closes it.
+    Closing,
+    /// Something comes right after its second quote.
+    Behind,
+}
+
+/// What is wrong with a text in quotes that begins after `from` bytes of a line, and the bytes that show it. Nothing where it
+/// is closed well.
+pub(crate) fn in_quotes(line: &str, from: usize) -> Option<(Misquoted, Span)> {
     let bytes = line.as_bytes();
     let quote = past_spaces(bytes, from);
     if quote >= bytes.len() {
         return None;
     }
     if bytes[quote] != b'"' {
-        return Some(word_from(bytes, quote));
+        return Some((Misquoted::Opening, word_from(bytes, quote)));
     }
     match closing(bytes, quote) {
-        Ok(close) => behind(bytes, close),
-        Err(span) => Some(span),
+        Ok(close) => Some((Misquoted::Behind, behind(bytes, close)?)),
+        Err(wrong) => Some(wrong),
     }
 }
 
@@ -45,17 +62,15 @@ fn word_from(bytes: &[u8], from: usize) -> Span {
 }
 
 // Where the quote that opens at a byte is closed; else the escape that isn't known, or the open quote.
-fn closing(bytes: &[u8], quote: usize) -> Result<usize, Span>
+fn closing(bytes: &[u8], quote: usize) -> Result<usize, (Misquoted, Span)>
     requires { quote < length bytes.now }
 {
     let mut is_escape = false;
     for at in quote + 1..bytes.len() {
         if is_escape {
             if !matches!(bytes[at], b'"' | b'\\' | b'n') {
-                return Err(Span {
-                    from: at - 1,
-                    to: at + 1,
-                });
+                let (from, to) = (at - 1, at + 1);
+                return Err((Misquoted::Escape, Span { from, to }));
             }
             is_escape = false;
         } else if bytes[at] == b'"' {
@@ -64,10 +79,8 @@ fn closing(bytes: &[u8], quote: usize) -> Result<usize, Span>
             is_escape = bytes[at] == b'\\';
         }
     }
-    Err(Span {
-        from: quote,
-        to: quote + 1,
-    })
+    let (from, to) = (quote, quote + 1);
+    Err((Misquoted::Closing, Span { from, to }))
 }
 
 // What comes directly after a closing quote, which isn't part of a text.
@@ -77,4 +90,42 @@ fn behind(bytes: &[u8], close: usize) -> Option<Span> {
         return None;
     }
     Some(word_from(bytes, from))
+}
+
+/// What is wrong with a line `text`, whose quotes begin after `from` bytes of it.
+pub(crate) fn push_quotes(out: &mut String, line: &str, from: usize) -> Result<(), AllocError> {
+    let Some((wrong, span)) = in_quotes(line, from) else {
+        return writeln!(
+            out,
+            "A text has {MOST_BYTES} bytes at most; this one has more."
+        );
+    };
+    let word = line.get(span.from..span.to).unwrap_or("");
+    match wrong {
+        Misquoted::Opening => push_opening(out, word),
+        Misquoted::Escape => out.push_str(
+            "A backslash stands before a quote, a backslash or an n alone: \\\", \\\\ and \\n.\n",
+        ),
+        Misquoted::Closing if line.ends_with("\\\"") => out.push_str(
+            "The last quote belongs to the text, since a backslash is before it; no quote closes it.\n",
+        ),
+        Misquoted::Closing => out.push_str("No second quote closes the text.\n"),
+        Misquoted::Behind => {
+            push_said(out, word)?;
+            out.push_str(
+                " comes right after the second quote, which ends the text; a quote inside it has a backslash before it.\n",
+            )
+        }
+    }
+}
+
+// A text that doesn't begin with a quote.
+fn push_opening(out: &mut String, word: &str) -> Result<(), AllocError> {
+    match word.chars().next() {
+        Some(c) if matches!(c, '“' | '”' | '„' | '«' | '»' | '‘' | '’' | '\'' | '`') => writeln!(
+            out,
+            "A text is between straight double quotes, \"; {c} is another character."
+        ),
+        _ => out.push_str("A text is between quotes: text \"..\".\n"),
+    }
 }

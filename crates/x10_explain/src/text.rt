@@ -1,36 +1,21 @@
-//! Lines of a text, by their numbers.
+//! Lines and words of a text, and how they are shown.
 ghost use Rattle.std.specs.Prelude.{IfSome, IsUtf8};
 
-use crate::hints::has_mark;
+use crate::signs::{Sign, sign_of};
 use std::alloc::AllocError;
 use std::fmt::Write;
-use x10_asm::{Statement, line_of, next_line};
-
-/// The line with a number, from 1 on, and the text after it.
-pub(crate) fn line_at(text: &str, number: usize) -> Option<(&str, &str)>
-    ensures { IfSome result (λ x. IsUtf8 x.0.now × IsUtf8 x.1.now) }
-{
-    let mut left = number;
-    let mut rest = text;
-    while let Some((line, after)) = next_line(rest) {
-        if left == 1 {
-            return Some((line, after));
-        }
-        left = left.saturating_sub(1);
-        rest = after;
-    }
-    None
-}
+use x10_asm::{Statement, line_of};
 
 /// At most this many bytes of a line are shown: no screen is as wide.
 pub(crate) const MOST_SHOWN: usize = 1000;
 
+/// At most this many bytes of a word are repeated in a sentence.
+const MOST_SAID: usize = 64;
+
 /// The front of a line, as much as is shown.
-pub(crate) fn front_of(line: &str) -> &str {
-    match line.split_at_checked(line.floor_char_boundary(MOST_SHOWN)) {
-        Some((front, _)) => front,
-        None => line,
-    }
+fn front_of(line: &str) -> &str {
+    line.get(..line.floor_char_boundary(MOST_SHOWN))
+        .unwrap_or(line)
 }
 
 /// Pushes as much of a line as is shown, and its end.
@@ -44,28 +29,57 @@ pub(crate) fn push_shown(out: &mut String, line: &str) -> Result<(), AllocError>
     })
 }
 
-/// What a text lacks that ends too early.
-pub(crate) fn missing(text: &str) -> &'static str {
-    let mut last = Statement::Silent;
-    let mut rest = text;
-    while let Some((line, after)) = next_line(rest) {
-        let statement = line_of(line).statement;
-        if matches!(
-            statement,
-            Statement::Places | Statement::Func | Statement::End
-        ) {
-            last = statement;
+/// Pushes a word of a line between backquotes, as much of it as is repeated.
+pub(crate) fn push_said(out: &mut String, word: &str) -> Result<(), AllocError> {
+    let front = word
+        .get(..word.floor_char_boundary(MOST_SAID))
+        .unwrap_or(word);
+    let dots = if front.len() < word.len() { ".." } else { "" };
+    write!(out, "`{front}{dots}`")
+}
+
+/// Pushes how many there are, and their numbers: `no class`, `1 class, number 0`, `3 classes, numbers 0 to 2`.
+pub(crate) fn push_named_to(
+    out: &mut String,
+    count: usize,
+    one: &str,
+    many: &str,
+) -> Result<(), AllocError> {
+    match count {
+        0 => write!(out, "no {one}"),
+        1 => write!(out, "1 {one}, number 0"),
+        _ => {
+            let last = count - 1;
+            write!(out, "{count} {many}, numbers 0 to {last}")
         }
-        rest = after;
     }
-    match last {
-        Statement::Func =>
-            "The last function has no line `end`, and there is no line `entry` behind it.\n",
-        Statement::End =>
-            "There is no line `entry N`, which names the function that a run begins with.\n",
-        Statement::Places => "There is no function: func, its instructions, end; and then entry.\n",
-        _ => "There is no line `places N`, with which a text begins.\n",
+}
+
+/// The word of a line with a number, from 0 on.
+pub(crate) fn word_at(line: &str, number: usize) -> Option<&str> {
+    line.split(' ').filter(|word| !word.is_empty()).nth(number)
+}
+
+/// How many words a line has.
+pub(crate) fn words_in(line: &str) -> usize {
+    line.split(' ').filter(|word| !word.is_empty()).count()
+}
+
+/// The line with which a function begins, by the function's number, and the number of the line.
+pub(crate) fn func_at(text: &str, function: usize) -> Option<(usize, &str)>
+    ensures { IfSome result (λ x. IsUtf8 x.1.now) }
+{
+    let mut functions: usize = 0;
+    for (index, line) in text.lines().enumerate() {
+        if line_of(line).statement != Statement::Func {
+            continue;
+        }
+        if functions == function {
+            return Some((index.saturating_add(1), line));
+        }
+        functions = functions.saturating_add(1);
     }
+    None
 }
 
 /// Whether bytes given for an image are a text: they are UTF-8, and the first line that says something begins as one may.
@@ -74,66 +88,17 @@ pub(crate) fn is_text(bytes: &[u8]) -> bool {
         return false;
     }
     match str::from_utf8(bytes) {
-        Ok(text) => has_mark(bytes) || begins_well(text),
+        Ok(text) => sign_of(text) == Some(Sign::Mark) || begins_well(text),
         Err(_) => false,
     }
 }
 
 fn begins_well(text: &str) -> bool {
-    let mut rest = text;
-    while let Some((line, after)) = next_line(rest) {
+    for line in text.lines() {
         let statement = line_of(line).statement;
         if statement != Statement::Silent {
             return statement != Statement::Unknown;
         }
-        rest = after;
     }
     false
-}
-
-/// The line of an instruction, where there is a text: `line 7: ADD 0 0 0`.
-pub(crate) fn push_source(
-    out: &mut String,
-    source: Option<&str>,
-    f: usize,
-    pc: usize,
-) -> Result<(), AllocError> {
-    let Some(text) = source else {
-        return Ok(());
-    };
-    match line_of_instruction(text, f, pc) {
-        None => Ok(()),
-        Some((number, line)) => {
-            write!(out, "line {number}: ")?;
-            push_shown(out, line)
-        }
-    }
-}
-
-// The line of an instruction, by the numbers of its function and its own.
-fn line_of_instruction(text: &str, f: usize, pc: usize) -> Option<(usize, &str)>
-    ensures { IfSome result (λ x. IsUtf8 x.1.now) }
-{
-    let mut functions: usize = 0;
-    let mut at: usize = 0;
-    let mut number: usize = 1;
-    let mut rest = text;
-    while let Some((line, after)) = next_line(rest) {
-        match line_of(line).statement {
-            Statement::Func => {
-                functions = functions.saturating_add(1);
-                at = 0;
-            }
-            Statement::Instruction(_) => {
-                if functions == f.saturating_add(1) && at == pc {
-                    return Some((number, line));
-                }
-                at = at.saturating_add(1);
-            }
-            _ => {}
-        }
-        number = number.saturating_add(1);
-        rest = after;
-    }
-    None
 }

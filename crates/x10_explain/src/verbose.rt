@@ -151,7 +151,8 @@ fn push_heading(alloc: Global, out: &mut String, f: usize, bound: u64) -> Result
 {
     let mut note = format!(in alloc; "function {f}")?;
     if bound != 0 {
-        write!(note, ", at most {bound} steps")?;
+        let steps = steps_word(bound);
+        write!(note, ", at most {bound} {steps}")?;
     }
     push_commented(out, note.as_str())
 }
@@ -198,7 +199,7 @@ fn push_notes(
     }
     let head = head(alloc, image, fault)?;
     push_commented(out, head.as_str())?;
-    let reasons = explained(alloc, image, &finding.flow, fault)?;
+    let reasons = explained(alloc, image, None, &finding.flow, fault)?;
     push_commented(out, reasons.as_str())?;
     Ok(())
 }
@@ -223,8 +224,9 @@ fn note(
             note.push_str(" no way leads here")?;
         }
         if finding.bound != 0 && pc < left.len() {
-            let steps = left[pc];
-            write!(note, "; at most {steps} steps left")?;
+            let count = left[pc];
+            let steps = steps_word(count);
+            write!(note, "; at most {count} {steps} left")?;
         }
     }
     if let Some(instr) = instr_in(image, f, pc) {
@@ -240,6 +242,11 @@ fn is_past(finding: &Finding, pc: usize) -> bool {
         None => false,
         Some(fault) => fault.cause == VerifyCause::Index || pc > usize::from(fault.pc),
     }
+}
+
+// The word for so many steps.
+fn steps_word(count: u64) -> &'static str {
+    if count == 1 { "step" } else { "steps" }
 }
 
 fn push_kinds(out: &mut String, fields: &ClassView) -> Result<(), AllocError> {

@@ -9,6 +9,8 @@ use crate::lack::{Lack, Role, Spot, callee, fields_of, first_lack};
 use crate::origin::push_origin;
 use crate::phrase::{push_known, push_term};
 use crate::regions::push_structure;
+use crate::repair::push_repair;
+use crate::source::Source;
 use std::alloc::{AllocError, Global};
 use std::fmt::Write;
 use x10_asm::push_slot;
@@ -41,10 +43,10 @@ fn reasons(alloc: Global, image: &ImageView, fault: VerifyFault) -> Result<Strin
         return Ok(String::new(alloc));
     }
     if !is_of_flow(fault.cause) {
-        return without_flow(alloc, image, fault);
+        return without_flow(alloc, image, None, fault);
     }
     let flow = known_flow(alloc, image, f)?;
-    explained(alloc, image, &flow, fault)
+    explained(alloc, image, None, &flow, fault)
 }
 
 /// Whether a fault is one of what is known in a function, for which the states are wanted.
@@ -59,6 +61,7 @@ fn is_of_flow(cause: VerifyCause) -> bool {
 fn without_flow(
     alloc: Global,
     image: &ImageView,
+    source: Option<&Source>,
     fault: VerifyFault,
 ) -> Result<String, AllocError> {
     let mut out = String::new(alloc);
@@ -67,7 +70,9 @@ fn without_flow(
         return Ok(out);
     };
     match fault.cause {
-        VerifyCause::Structure(cause) => push_structure(alloc, &mut out, image, cause, f, pc)?,
+        VerifyCause::Structure(cause) => {
+            push_structure(alloc, &mut out, image, source, cause, f, pc)?
+        }
         VerifyCause::Index => push_index(&mut out, image, f, instr)?,
         VerifyCause::Memory => out.push_str("There was no memory to look at the module.\n")?,
         VerifyCause::Unset | VerifyCause::Kind | VerifyCause::Home | VerifyCause::Result => {}
@@ -75,20 +80,22 @@ fn without_flow(
     Ok(out)
 }
 
-/// What comes below the first line, by what is known of the function.
+/// What comes below the first line, by what is known of the function; and by the text that the module was read from, where there
+/// is one.
 pub(crate) fn explained(
     alloc: Global,
     image: &ImageView,
+    source: Option<&Source>,
     flow: &Flow,
     fault: VerifyFault,
 ) -> Result<String, AllocError> {
     if !is_of_flow(fault.cause) {
-        return without_flow(alloc, image, fault);
+        return without_flow(alloc, image, source, fault);
     }
     let mut out = String::new(alloc);
     let (f, pc) = (usize::from(fault.function), usize::from(fault.pc));
     if let Some(instr) = instr_in(image, f, pc) {
-        push_flow_fault(alloc, &mut out, image, flow, fault, instr)?;
+        push_flow_fault(alloc, &mut out, image, source, flow, fault, instr)?;
     }
     Ok(out)
 }
@@ -98,6 +105,7 @@ pub(crate) fn push_flow_fault(
     alloc: Global,
     out: &mut String,
     image: &ImageView,
+    source: Option<&Source>,
     flow: &Flow,
     fault: VerifyFault,
     instr: Instr,
@@ -109,8 +117,10 @@ pub(crate) fn push_flow_fault(
     let result = image.signature(f).result();
     let spot = Spot {
         image,
+        source,
         flow,
         result,
+        f,
         pc,
         instr,
     };
@@ -123,7 +133,8 @@ pub(crate) fn push_flow_fault(
         return out.push_str("What is known there meets the rule: the fault isn't this module's.\n");
     }
     push_lack(out, &spot, lack)?;
-    push_origin(alloc, out, &spot, f, lack)
+    let meets = push_origin(alloc, out, &spot, lack)?;
+    push_repair(out, &spot, lack, meets)
 }
 
 // What is asked, and what is known of it.
@@ -157,13 +168,13 @@ fn push_lack(out: &mut String, spot: &Spot, lack: Lack) -> Result<(), AllocError
         }
         Lack::NoResult => writeln!(
             out,
-            "There is no result, so operand a has to be 0; it is {a}."
+            "{name} has no result here, so its first number is 0; it is {a}."
         ),
         Lack::Dropped => writeln!(
             out,
             "{name} starts an activity with function {x}, whose result nothing would take: it may give none."
         ),
-        Lack::LeadsOut => out.push_str("The function goes on behind its last instruction.\n"),
+        Lack::LeadsOut => out.push_str("The function goes on past its last instruction.\n"),
     }
 }
 

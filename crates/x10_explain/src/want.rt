@@ -40,6 +40,16 @@ impl Want {
         }
     }
 
+    /// Whether an object is what is asked for.
+    pub(crate) fn takes_object(self) -> bool {
+        matches!(self, Want::AnObject | Want::Fitting(Kind::Obj(_)))
+    }
+
+    /// Whether a number is what is asked for, or would do.
+    pub(crate) fn takes_int(self) -> bool {
+        matches!(self, Want::AnIntOrText | Want::Fitting(Kind::Int))
+    }
+
     /// What is asked for, after `asks that r1 is`.
     pub(crate) fn push(self, out: &mut String) -> Result<(), AllocError> {
         match self {

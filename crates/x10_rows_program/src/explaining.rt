@@ -15,7 +15,7 @@ const AWAY: &str =
 
 /// What is known of it, up to the fault.
 const KNOWN: &str =
-    "places 1\n; class 0\nclass int\n; function 0, at most 8 steps\nfunc 3 1 none gref:0 int\n; 0: r0 gref:0, r1 int; at most 8 steps left\nLOOP 0 3\n; 1: r0 gref:0, r1 int; at most 7 steps left\nENDL 0 1\n; 2: r0 gref:0, r1 int; at most 4 steps left\nJZ 1 4\n; 3: r0 gref:0, r1 int; at most 3 steps left\nIFHERE 0 5\n; 4: r0 gref:0, r1 int; at most 2 steps left\n; Home, function 0, instruction 4: GOPEN 2 0\n; GOPEN asks that the home of r0 is here; it isn't known to be.\n; Ways meet at instruction 4: GOPEN 2 0\n;   the home of r0 is known to be here on the way from instruction 3: IFHERE 0 5\n;   the home of r0 isn't known to be here on the way from instruction 2: JZ 1 4\nGOPEN 2 0\n; 5:\nRET 0\nend\n; function 1, at most 1 steps\nfunc 1 0 none\n; 0: no register is set; at most 1 steps left\nRET 0\nend\n; a run begins with function 1\nentry 1\n";
+    "places 1\n; class 0\nclass int\n; function 0, at most 8 steps\nfunc 3 1 none gref:0 int\n; 0: r0 gref:0, r1 int; at most 8 steps left\nLOOP 0 3\n; 1: r0 gref:0, r1 int; at most 7 steps left\nENDL 0 1\n; 2: r0 gref:0, r1 int; at most 4 steps left\nJZ 1 4\n; 3: r0 gref:0, r1 int; at most 3 steps left\nIFHERE 0 5\n; 4: r0 gref:0, r1 int; at most 2 steps left\n; Home, function 0, instruction 4: GOPEN 2 0\n; GOPEN asks that the home of r0 is here; it isn't known to be.\n; Ways meet in instruction 4: GOPEN 2 0\n;   the home of r0 is known to be here on the way from instruction 3: IFHERE 0 5\n;   the home of r0 isn't known to be here on the way from instruction 2: JZ 1 4\n; Ask before it, by `IFHERE 0 @LABEL`; or go to the home, by HOME and AT, to a function whose parameter is here:c.\nGOPEN 2 0\n; 5:\nRET 0\nend\n; function 1, at most 1 step\nfunc 1 0 none\n; 0: no register is set; at most 1 step left\nRET 0\nend\n; a run begins with function 1\nentry 1\n";
 
 const HOME: VerifyFault = VerifyFault {
     cause: VerifyCause::Home,
@@ -89,7 +89,7 @@ fn texts_and_images(rt: HostRuntime) -> Result<(), Fail> {
     };
     let told = explain_asm(rt.alloc(), text, fault)?;
     let wanted =
-        "Number, line 3:   HERE r0 ; here\n                       ^^\nA word of it is to be a number and isn't, or is outside its range, or names a class that isn't there.\nExpected: HERE REGISTER; decimal numbers up to 255.\nHint: a comment needs a line of its own.\nHint: a register is its number alone, 0 and not r0.\n";
+        "Number, line 3:   HERE r0 ; here\n                       ^^\n`r0`: a register is its number alone, without r.\nExpected: HERE REGISTER.\n";
     assert!(rt; told.as_str() == wanted);
     let told = explain_image(rt.alloc(), text.as_bytes(), ImageFault::Magic)?;
     let wanted =

@@ -1,0 +1,15 @@
+; A text between curly quotes.
+;
+; $ x10p asm --explain curly_quotes.asm curly_quotes.x10
+; status 1: asm: line 9 Text
+; > Text, line 9: text “seven”
+; >                    ^^^^^^^
+; > A text is between straight double quotes, "; “ is another character.
+places 1
+text “seven”
+func 1 0 none
+TEXTK 0 0
+PRINT 0
+RET 0
+end
+entry 0

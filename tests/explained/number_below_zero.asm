@@ -1,0 +1,15 @@
+; A negative number as an operand.
+;
+; $ x10p asm --explain number_below_zero.asm number_below_zero.x10
+; status 1: asm: line 12 Number
+; > Number, line 12: INTK 0 -1
+; >                         ^^
+; > `-1` isn't the number of a constant: a number below 0 is a line `int`, and INTK puts it into a register.
+; > Expected: INTK REGISTER INT.
+places 1
+int 7
+func 1 0 none
+INTK 0 -1
+RET 0
+end
+entry 0

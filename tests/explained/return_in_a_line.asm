@@ -1,0 +1,13 @@
+; A carriage return alone, where a line should end.
+;
+; $ x10p asm --explain return_in_a_line.asm return_in_a_line.x10
+; status 1: asm: line 11 Word
+; > Word, line 11: RET0
+; >                ^^^^^
+; > A line ends with a line feed, and not with a carriage return alone.
+places 1
+int 7
+func 1 0 none
+RET{{U+000D}}0
+end
+entry 0
