@@ -3,11 +3,11 @@
 ; $ x10p run --explain limit.x10 --limit 2
 ; 0: 7
 ; status 2: limit
-; > --limit permits 2 events, and after them the root finish was open. Main takes 3 steps at most; the steps of all other activities count too, and deliveries and idle events.
+; > --limit permits 2 events, and after that the root finish was open. Main takes 3 steps at most; the steps of all other activities count too, and deliveries and idle events.
 ; $ x10p trace --explain limit.x10 --limit 1
 ; S 0 0 0 0 INTK
 ; status 2: limit
-; > --limit permits 1 events, and after them the root finish was open. Main takes 3 steps at most; the steps of all other activities count too, and deliveries and idle events.
+; > --limit permits 1 event, and after that the root finish was open. Main takes 3 steps at most; the steps of all other activities count too, and deliveries and idle events.
 ; $ x10p run --explain limit.x10
 ; 0: 7
 places 1

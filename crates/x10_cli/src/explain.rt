@@ -127,20 +127,30 @@ fn counted(which: u8) -> (&'static str, u64) {
 
 fn of_events(alloc: Global, task: &Task, bytes: &[u8]) -> Result<String, AllocError> {
     let limit = task.limit;
+    let events = counted_word(limit, "event", "events");
     match bound_of_main(alloc, bytes) {
-        Some(bound) => format!(in alloc;
-            "--limit permits {limit} events, and after them the root finish was open. Main takes {bound} steps at most; the steps of all other activities count too, and deliveries and idle events.\n"
-        ),
+        Some(bound) => {
+            let steps = counted_word(bound, "step", "steps");
+            format!(in alloc;
+                "--limit permits {limit} {events}, and after that the root finish was open. Main takes {bound} {steps} at most; the steps of all other activities count too, and deliveries and idle events.\n"
+            )
+        }
         None => format!(in alloc;
-            "--limit permits {limit} events, and after them the root finish was open.\n"
+            "--limit permits {limit} {events}, and after that the root finish was open.\n"
         ),
     }
 }
 
+/// The word for one, or the one for several.
+fn counted_word<'a>(count: u64, one: &'a str, many: &'a str) -> &'a str {
+    if count == 1 { one } else { many }
+}
+
 fn of_turns(alloc: Global, task: &Task) -> Result<String, AllocError> {
     let limit = task.limit;
+    let turns = counted_word(limit, "turn", "turns");
     format!(in alloc;
-        "--limit permits {limit} turns of workers, and a worker had one more. In a turn a worker takes in 16 frames and makes 64 steps at most.\n"
+        "--limit permits {limit} {turns} of workers, and a worker had one more. In a turn a worker takes in 16 frames and makes 64 steps at most.\n"
     )
 }
 

@@ -8,7 +8,7 @@ Exit status:
   0  done
   1  refused: the text, the image, its module, or the number of places
   2  stopped: lack of memory, a limit of the machine, or --limit
-  3  these words aren't understood
+  3  the command line is wrong
   4  a file can't be read, or the output can't be written";
 
 pub const ASM: &str = "Example:
@@ -18,7 +18,7 @@ Exit status:
   0  done
   1  refused: the text
   2  lack of memory
-  3  these words aren't understood
+  3  the command line is wrong
   4  a file can't be read, or the output can't be written";
 
 pub const LIST: &str = "Example:
@@ -28,7 +28,7 @@ Exit status:
   0  done
   1  refused: the image
   2  lack of memory
-  3  these words aren't understood
+  3  the command line is wrong
   4  a file can't be read, or the output can't be written";
 
 pub const CHECK: &str = "Example:
@@ -38,7 +38,7 @@ Exit status:
   0  done
   1  refused: the text, the image, or the module
   2  lack of memory
-  3  these words aren't understood
+  3  the command line is wrong
   4  a file can't be read, or the output can't be written";
 
 pub const VERIFY: &str = "Example:
@@ -48,7 +48,7 @@ Exit status:
   0  done
   1  refused: the image, or its module
   2  lack of memory
-  3  these words aren't understood
+  3  the command line is wrong
   4  a file can't be read, or the output can't be written";
 
 pub const BOUNDS: &str = "Example:
@@ -58,7 +58,7 @@ Exit status:
   0  done
   1  refused: the image, or its module's structure
   2  lack of memory
-  3  these words aren't understood
+  3  the command line is wrong
   4  a file can't be read, or the output can't be written";
 
 pub const RUN: &str = "Example:
@@ -69,7 +69,7 @@ Exit status:
   0  done
   1  refused: the image, its module, or the number of places
   2  stopped: lack of memory or of a thread, a limit of the machine, or --limit
-  3  these words aren't understood
+  3  the command line is wrong
   4  a file can't be read, or the output can't be written";
 
 pub const TRACE: &str = "Example:
@@ -79,7 +79,7 @@ Exit status:
   0  done
   1  refused: the image, its module, or the number of places
   2  stopped: lack of memory, a limit of the machine, or --limit
-  3  these words aren't understood
+  3  the command line is wrong
   4  a file can't be read, or the output can't be written";
 
 pub const DRAW: &str = "Example:
@@ -89,5 +89,5 @@ Exit status:
   0  done
   1  refused: the image, its module, or the number of places
   2  stopped: lack of memory, a limit of the machine, or --limit
-  3  these words aren't understood
+  3  the command line is wrong
   4  a file can't be read, or the output can't be written";
