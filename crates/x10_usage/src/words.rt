@@ -52,7 +52,11 @@ fn asm<'a>(alloc: Global) -> Result<Command<'a>, AllocError> {
             "Assemble a text into a module's image; where the text is refused, nothing is written",
         )
         .after_help(help::ASM)
-        .arg(input(alloc, "TEXT", "The file of the assembler text"))?
+        .arg(input(
+            alloc,
+            "TEXT",
+            "The file of the assembler text, or - for standard input",
+        ))?
         .arg(output(alloc, "IMAGE", "The file to write, the module's image"))?
         .arg(explain(alloc))
 }
@@ -70,7 +74,11 @@ fn check<'a>(alloc: Global) -> Result<Command<'a>, AllocError> {
     Command::new(alloc, "check")
         .about("Tell all that is wrong with a text or an image, or the most steps of each function")
         .after_help(help::CHECK)
-        .arg(input(alloc, "FILE", "The file of a text, or of a module's image"))?
+        .arg(input(
+            alloc,
+            "FILE",
+            "The file of a text, or of a module's image, or - for standard input",
+        ))?
         .arg(explain(alloc))
 }
 
@@ -119,7 +127,11 @@ fn output<'a>(alloc: Global, name: &'a str, help: &'a str) -> Arg<'a> {
 }
 
 fn image_name<'a>(alloc: Global) -> Arg<'a> {
-    input(alloc, "IMAGE", "The file of the module's image")
+    input(
+        alloc,
+        "IMAGE",
+        "The file of the module's image or of a text, or - for standard input",
+    )
 }
 
 fn input<'a>(alloc: Global, name: &'a str, help: &'a str) -> Arg<'a> {

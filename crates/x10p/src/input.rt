@@ -1,6 +1,5 @@
-//! Reading a file, only as far as it can be what a command takes.
+//! Reading a file or standard input, only as far as it can be what a command takes.
 use crate::trouble::Trouble;
-use std::fs::File;
 use std::io::Read;
 use x10_cli::is_image;
 use x10_image::{ImageFault, ImageView};
@@ -31,7 +30,7 @@ enum Look {
 }
 
 /// The bytes of a file, or its first bytes, enough of them that the command answers as it would for all.
-pub fn read(rt: &HostRuntime, verb: Verb, file: &mut File) -> Result<Vec<u8>, Trouble> {
+pub fn read<F: Read>(rt: &HostRuntime, verb: Verb, file: &mut F) -> Result<Vec<u8>, Trouble> {
     let mut bytes = Vec::new(rt.alloc());
     let mut goal = FIRST;
     for _ in 0..40 {
@@ -48,9 +47,9 @@ pub fn read(rt: &HostRuntime, verb: Verb, file: &mut File) -> Result<Vec<u8>, Tr
 }
 
 /// Reads on until there are `goal` bytes, and answers whether the file has ended before that.
-fn is_at_end(file: &mut File, goal: u64, bytes: &mut Vec<u8>) -> Result<bool, Trouble> {
+fn is_at_end<F: Read>(file: &mut F, goal: u64, bytes: &mut Vec<u8>) -> Result<bool, Trouble> {
     let missing = goal.saturating_sub(bytes.len() as u64);
-    match file.take(missing).read_to_end(bytes) {
+    match file.by_ref().take(missing).read_to_end(bytes) {
         Ok(_) => Ok((bytes.len() as u64) < goal),
         Err(error) => Err(Trouble::reading(error)),
     }

@@ -7,7 +7,7 @@ mod input;
 mod text;
 mod trouble;
 
-use crate::text::{Given, is_text, read};
+use crate::text::{Given, as_told, is_input, is_text, read, read_input};
 use crate::trouble::Trouble;
 use std::fs::{self, File};
 use std::io::{BufWriter, ErrorKind, Write};
@@ -45,19 +45,59 @@ fn follow<R: Threads + Wait + Sync>(rt: &HostRuntime, threads: &R, words: &[Stri
     }
 }
 
-/// Reads the file and does the work, which reports its own faults.
+/// Reads what the task names and does the work, which reports its own faults.
 fn perform<R: Threads + Wait + Sync>(
     rt: &HostRuntime,
     threads: &R,
     task: &Task,
 ) -> Result<u8, Trouble> {
+    let bytes = match read_named(rt, threads, task)? {
+        Given::Bytes(bytes) => bytes,
+        Given::Refused(told, status) => return Ok(speak(rt, task, None, told.bytes(), status)),
+    };
+    let task = &as_told(task);
+    match task.output {
+        Some(output) => write(rt, threads, task, &bytes, output),
+        None => print(rt, threads, task, &bytes),
+    }
+}
+
+/// Reads what the task names. A file that would be read and written is left as it is, and so is one with the name of a text.
+fn read_named<R: Threads + Wait + Sync>(
+    rt: &HostRuntime,
+    threads: &R,
+    task: &Task,
+) -> Result<Given, Trouble> {
+    if is_input(task) {
+        check_name(task)?;
+        return read_input(rt, threads, task);
+    }
     let mut file = match fs::open(rt, task.input) {
         Ok(file) => file,
         Err(error) => return Err(Trouble::reading(error)),
     };
+    check_file(rt, task, &file)?;
+    check_name(task)?;
+    read(rt, threads, task, &mut file)
+}
+
+/// Whether the file to write is another one than the file to read.
+fn check_file(rt: &HostRuntime, task: &Task, file: &File) -> Result<(), Trouble> {
+    let Some(output) = task.output else {
+        return Ok(());
+    };
+    match whole::is_one_file(rt, file, output) {
+        Ok(false) => Ok(()),
+        Ok(true) => Err(Trouble::OneFile),
+        Err(error) => Err(Trouble::reading(error)),
+    }
+}
+
+/// Whether the file to write has another name than a text.
+fn check_name(task: &Task) -> Result<(), Trouble> {
     match task.output {
-        Some(output) => write(rt, threads, task, &mut file, output),
-        None => print(rt, threads, task, &mut file),
+        Some(output) if is_text(output) => Err(Trouble::OverText),
+        _ => Ok(()),
     }
 }
 
@@ -66,19 +106,15 @@ fn print<R: Threads + Wait + Sync>(
     rt: &HostRuntime,
     threads: &R,
     task: &Task,
-    file: &mut File,
+    bytes: &[u8],
 ) -> Result<u8, Trouble> {
-    let bytes = match read(rt, threads, task, file)? {
-        Given::Bytes(bytes) => bytes,
-        Given::Refused(told, status) => return Ok(speak(rt, task, None, told.bytes(), status)),
-    };
     let Ok(mut out) = BufWriter::new(rt.alloc(), Output::new(rt.stdout())) else {
         return Err(Trouble::Memory);
     };
     let Ok(mut told) = Told::new(rt.alloc()) else {
         return Err(Trouble::Memory);
     };
-    let status = execute(threads, rt.alloc(), task, &bytes, &mut out, &mut told);
+    let status = execute(threads, rt.alloc(), task, bytes, &mut out, &mut told);
     Ok(speak(rt, task, out.get_ref().failure(), told.bytes(), status))
 }
 
@@ -106,31 +142,18 @@ fn speak(
 }
 
 /// Does the work, and writes what it makes once that is whole, if there is anything to write; then what is said about a fault.
-/// A file that would be read and written is left as it is.
 fn write<R: Threads + Wait + Sync>(
     rt: &HostRuntime,
     threads: &R,
     task: &Task,
-    file: &mut File,
+    bytes: &[u8],
     output: &str,
 ) -> Result<u8, Trouble> {
-    match whole::is_one_file(rt, file, output) {
-        Ok(false) => {}
-        Ok(true) => return Err(Trouble::OneFile),
-        Err(error) => return Err(Trouble::reading(error)),
-    }
-    if is_text(output) {
-        return Err(Trouble::OverText);
-    }
-    let bytes = match read(rt, threads, task, file)? {
-        Given::Bytes(bytes) => bytes,
-        Given::Refused(told, status) => return Ok(speak(rt, task, None, told.bytes(), status)),
-    };
     let mut made = Output::new(Vec::new(rt.alloc()));
     let Ok(mut told) = Told::new(rt.alloc()) else {
         return Err(Trouble::Memory);
     };
-    let status = execute(threads, rt.alloc(), task, &bytes, &mut made, &mut told);
+    let status = execute(threads, rt.alloc(), task, bytes, &mut made, &mut told);
     if made.wants_memory() {
         return Err(Trouble::Memory);
     }

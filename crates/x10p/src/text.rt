@@ -1,10 +1,10 @@
-//! Texts in place of images.
+//! Texts in place of images, and standard input in place of files.
 use crate::input;
 use crate::trouble::Trouble;
 use std::fs::File;
 use std::sync::Wait;
 use std::thread::Threads;
-use x10_cli::execute;
+use x10_cli::{execute, is_image};
 use x10_files::{Output, Told};
 use x10_task::{Task, Verb};
 
@@ -17,6 +17,23 @@ pub enum Given {
     Bytes(Vec<u8>),
     /// There is no image, since the text is refused: what is said about that, and the status.
     Refused(Told, u8),
+}
+
+/// The name by which standard input is read.
+const INPUT: &str = "-";
+
+/// Whether a task reads standard input.
+pub fn is_input(task: &Task) -> bool {
+    task.input == INPUT
+}
+
+/// A task as it is told, where standard input isn't named by its sign.
+pub fn as_told<'a>(task: &Task<'a>) -> Task<'a> {
+    let mut told = *task;
+    if is_input(task) {
+        told.input = "Standard input";
+    }
+    told
 }
 
 /// Whether a file's name says that it is a text.
@@ -36,6 +53,25 @@ pub fn read<R: Threads + Wait + Sync>(
         return assembled(rt, threads, task, &text);
     }
     Ok(Given::Bytes(input::read(rt, task.verb, file)?))
+}
+
+/// Reads standard input as far as it can be what the command takes. Where the command takes an image, its first bytes say whether
+/// it is one; else it is a text, which is assembled.
+pub fn read_input<R: Threads + Wait + Sync>(
+    rt: &HostRuntime,
+    threads: &R,
+    task: &Task,
+) -> Result<Given, Trouble> {
+    let mut reader = rt.reader();
+    if !takes_image(task.verb) {
+        return Ok(Given::Bytes(input::read(rt, task.verb, &mut reader)?));
+    }
+    // as far as it can be either, as for a check
+    let bytes = input::read(rt, Verb::Check, &mut reader)?;
+    if is_image(&bytes) {
+        return Ok(Given::Bytes(bytes));
+    }
+    assembled(rt, threads, &as_told(task), &bytes)
 }
 
 fn takes_image(verb: Verb) -> bool {

@@ -1,4 +1,5 @@
 //! What goes wrong with files and streams, before a command is at work or after it.
+use crate::text::as_told;
 use std::io::{self, ErrorKind, Write};
 use x10_cli::{Fault, tell};
 use x10_task::Task;
@@ -58,7 +59,7 @@ impl Trouble {
 
     fn explain(&self, rt: &HostRuntime, task: &Task) -> io::Result<()> {
         let mut err = rt.stderr();
-        let input = task.input;
+        let input = as_told(task).input;
         match self {
             Trouble::Memory => writeln!(err, "There is no memory for the bytes of {input}."),
             Trouble::Read(error) => writeln!(err, "{input} can't be read: {error}."),
