@@ -3,13 +3,13 @@ ghost use Rattle.std.specs.Prelude.{◌≡◌, ◌++◌, List, ℕ, IfOk, OnOk, 
 ghost use Rattle.std.specs.String.{string_bytes};
 ghost use Rattle.x10_explain.specs.Heads.{asm_head};
 
-use crate::caret::push_marks;
+use crate::caret::{Span, push_marks, quoted};
 use crate::flaws::push_flaw;
 use crate::labels::{push_definition, push_use};
 use crate::limits::{push_entry, push_limit};
 use crate::names::asm_name;
 use crate::order::{push_missing, push_order};
-use crate::quotes::push_quotes;
+use crate::quotes::{Misquoted, push_quotes};
 use crate::text::push_shown;
 use std::alloc::{AllocError, Global};
 use std::fmt::Write;
@@ -88,11 +88,16 @@ fn push_line(
 ) -> Result<(), AllocError> {
     push_shown(out, line)?;
     let flaw = flaw_of(line, classes);
-    push_marks(out, before, line, fault.cause, flaw)?;
+    let quotes = if fault.cause == AsmCause::Text {
+        quoted(line)
+    } else {
+        None
+    };
+    push_marks(out, before, line, fault.cause, flaw, quotes)?;
     match flaw {
         Some(flaw) if flaw.cause == fault.cause => push_flaw(alloc, out, line, flaw, classes),
         Some(_) => push_no_fault(out),
-        None => push_case(alloc, out, text, line, fault),
+        None => push_case(alloc, out, text, line, fault, quotes),
     }
 }
 
@@ -108,13 +113,14 @@ fn push_case(
     text: &str,
     line: &str,
     fault: AsmFault,
+    quotes: Option<(Misquoted, Span)>,
 ) -> Result<(), AllocError> {
     let said = line_of(line);
     let statement = said.statement;
     match fault.cause {
         AsmCause::Order => push_order(out, text, fault.line, statement, said.first),
         AsmCause::Label => push_label(alloc, out, text, said, fault.line),
-        AsmCause::Text => push_quotes(out, line, line.len().saturating_sub(said.rest.len())),
+        AsmCause::Text => push_quotes(out, line, quotes),
         AsmCause::Limit => push_limit(out, text, fault.line, line, statement),
         AsmCause::Entry => push_entry(out, text, fault.line, line),
         AsmCause::Word | AsmCause::Number | AsmCause::Count | AsmCause::Memory => {

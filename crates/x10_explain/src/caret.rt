@@ -1,7 +1,7 @@
 //! Marks beneath the word of a line that is at fault.
 
 use crate::flaws::name_of_function;
-use crate::quotes::in_quotes;
+use crate::quotes::{Misquoted, in_quotes};
 use crate::text::MOST_SHOWN;
 use std::alloc::AllocError;
 use x10_asm::{AsmCause, Flaw, Line, Statement, line_of, next_word, number_of};
@@ -14,7 +14,7 @@ pub(crate) struct Span {
 }
 
 /// A line with marks beneath the word at which a line is refused for a cause, by the flaw that it has whatever the other lines
-/// say: one for each character of the word, with its tabs as they are, and one where a word is missing. In the line before,
+/// say, and by what is wrong with its quotes: one for each character of the word, with its tabs as they are, and one where a word is missing. In the line before,
 /// `before` bytes of one column each are in front of that line. Nothing where no such word is found.
 pub(crate) fn push_marks(
     out: &mut String,
@@ -22,8 +22,9 @@ pub(crate) fn push_marks(
     line: &str,
     cause: AsmCause,
     flaw: Option<Flaw>,
+    quotes: Option<(Misquoted, Span)>,
 ) -> Result<(), AllocError> {
-    match marked(line, cause, flaw) {
+    match marked(line, cause, flaw, quotes) {
         Some(span) if span.to <= MOST_SHOWN && span.from < span.to => {
             push_span(out, before, line, span)
         }
@@ -87,7 +88,12 @@ fn end_of_words(bytes: &[u8]) -> usize {
 }
 
 // The word of a line at which a cause holds.
-fn marked(line: &str, cause: AsmCause, flaw: Option<Flaw>) -> Option<Span> {
+fn marked(
+    line: &str,
+    cause: AsmCause,
+    flaw: Option<Flaw>,
+    quotes: Option<(Misquoted, Span)>,
+) -> Option<Span> {
     let said = line_of(line);
     if let Some(flaw) = flaw {
         if flaw.cause != cause {
@@ -101,20 +107,20 @@ fn marked(line: &str, cause: AsmCause, flaw: Option<Flaw>) -> Option<Span> {
     match cause {
         AsmCause::Order => Some(span_of(line, said.first, said.rest)),
         AsmCause::Label => label_word(line, said),
-        AsmCause::Text => quoted(line, said),
+        AsmCause::Text => quotes.map(|(_, span)| span),
         AsmCause::Limit => Some(limit_word(line, said)),
         AsmCause::Entry => nth_word(line, 1),
         AsmCause::Word | AsmCause::Number | AsmCause::Count | AsmCause::Memory => None,
     }
 }
 
-// What is wrong with the quotes of a text line.
-fn quoted(line: &str, said: Line) -> Option<Span> {
+/// What is wrong with the quotes of a text line, and the bytes that show it.
+pub(crate) fn quoted(line: &str) -> Option<(Misquoted, Span)> {
+    let said = line_of(line);
     if said.statement != Statement::Text {
         return None;
     }
-    let (_, span) = in_quotes(line, line.len().saturating_sub(said.rest.len()))?;
-    Some(span)
+    in_quotes(line, line.len().saturating_sub(said.rest.len()))
 }
 
 // The label that a line defines, or the one to which it jumps: the one word with an at sign in front.

@@ -23,14 +23,14 @@ pub(crate) fn why_no_name(name: &str) -> Option<Misnamed> {
     if first.is_ascii_digit() {
         return Some(Misnamed::Digit);
     }
+    if name.len() > MOST {
+        return Some(Misnamed::Long(name.len()));
+    }
     if let Some(c) = name
         .chars()
         .find(|c| !(c.is_ascii_alphanumeric() || *c == '_'))
     {
         return Some(Misnamed::Character(c));
-    }
-    if name.len() > MOST {
-        return Some(Misnamed::Long(name.len()));
     }
     None
 }

@@ -9,6 +9,9 @@ use x10_asm::{Statement, line_of};
 /// The most labels of a function that are compared with a name.
 const MOST_COMPARED: usize = 200;
 
+/// The most lines of a text in which a label of another function is looked for.
+const MOST_LOOKED: usize = 20_000;
+
 /// The lines of the function that a line is in.
 #[derive(Clone, Copy)]
 struct Scope {
@@ -82,10 +85,10 @@ pub(crate) fn push_use(
     }
 }
 
-// The first label of a name in a text: the number of its line, and that of its function.
+// The first label of a name among the first lines of a text: the number of its line, and that of its function.
 fn elsewhere(text: &str, name: &str) -> Option<(usize, usize)> {
     let mut functions: usize = 0;
-    for (index, line) in text.lines().enumerate() {
+    for (index, line) in text.lines().enumerate().take(MOST_LOOKED) {
         if line_of(line).statement == Statement::Func {
             functions = functions.saturating_add(1);
         }

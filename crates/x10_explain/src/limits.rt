@@ -1,7 +1,7 @@
 //! Numbers that are outside what a module may have, and entries that are no entry functions.
 
 use crate::order::said_before;
-use crate::text::{func_at, push_named_to, word_at};
+use crate::text::{func_at, push_named_to, word_at, words_in};
 use std::alloc::AllocError;
 use std::fmt::Write;
 use x10_asm::{Statement, number_of};
@@ -69,10 +69,9 @@ fn push_func(out: &mut String, line: &str) -> Result<(), AllocError> {
     writeln!(out, "A module has {MOST_FUNCTIONS} functions at most.")
 }
 
-// How many parameters a function has by its line.
+// How many parameters a function has by its line, counted up to 28.
 fn parameters_in(line: &str) -> usize {
-    let words = line.split(' ').filter(|word| !word.is_empty());
-    words.count().saturating_sub(4)
+    words_in(line).saturating_sub(4)
 }
 
 // The number that a word spells, 0 where it spells none.

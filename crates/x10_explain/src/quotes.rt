@@ -92,9 +92,13 @@ fn behind(bytes: &[u8], close: usize) -> Option<Span> {
     Some(word_from(bytes, from))
 }
 
-/// What is wrong with a line `text`, whose quotes begin after `from` bytes of it.
-pub(crate) fn push_quotes(out: &mut String, line: &str, from: usize) -> Result<(), AllocError> {
-    let Some((wrong, span)) = in_quotes(line, from) else {
+/// What is wrong with a line `text`, by what is wrong with its quotes.
+pub(crate) fn push_quotes(
+    out: &mut String,
+    line: &str,
+    quotes: Option<(Misquoted, Span)>,
+) -> Result<(), AllocError> {
+    let Some((wrong, span)) = quotes else {
         return writeln!(
             out,
             "A text has {MOST_BYTES} bytes at most; this one has more."

@@ -1,5 +1,6 @@
 //! Common mistakes that a word shows, wherever it is in a line.
 
+use crate::text::front_of;
 use std::alloc::AllocError;
 
 /// A mistake that a word shows.
@@ -31,9 +32,9 @@ pub(crate) fn sign_of(word: &str) -> Option<Sign> {
     white_in(word)
 }
 
-// White space in a word.
+// White space in a word, as much of it as is shown.
 fn white_in(word: &str) -> Option<Sign> {
-    match word.chars().find(|c| c.is_whitespace()) {
+    match front_of(word).chars().find(|c| c.is_whitespace()) {
         Some('\t') => Some(Sign::Tab),
         Some('\r') => Some(Sign::Return),
         Some(_) => Some(Sign::Space),

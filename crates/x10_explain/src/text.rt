@@ -13,7 +13,7 @@ pub(crate) const MOST_SHOWN: usize = 1000;
 const MOST_SAID: usize = 64;
 
 /// The front of a line, as much as is shown.
-fn front_of(line: &str) -> &str {
+pub(crate) fn front_of(line: &str) -> &str {
     line.get(..line.floor_char_boundary(MOST_SHOWN))
         .unwrap_or(line)
 }
@@ -60,9 +60,12 @@ pub(crate) fn word_at(line: &str, number: usize) -> Option<&str> {
     line.split(' ').filter(|word| !word.is_empty()).nth(number)
 }
 
-/// How many words a line has.
+/// How many words a line has, counted up to 32.
 pub(crate) fn words_in(line: &str) -> usize {
-    line.split(' ').filter(|word| !word.is_empty()).count()
+    line.split(' ')
+        .filter(|word| !word.is_empty())
+        .take(32)
+        .count()
 }
 
 /// The line with which a function begins, by the function's number, and the number of the line.

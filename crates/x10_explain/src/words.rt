@@ -74,7 +74,7 @@ fn push_first(
 // A word that begins no line and is near to none that does.
 fn push_unknown(out: &mut String, line: &str, word: &str) -> Result<(), AllocError> {
     push_said(out, word)?;
-    if words_in(line) == 1 && is_name(word) {
+    if is_name(word) && words_in(line) == 1 {
         return writeln!(out, " begins no line. A label ends in a colon: {word}:");
     }
     out.push_str(" begins no line.\n")?;
