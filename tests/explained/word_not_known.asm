@@ -5,7 +5,7 @@
 ; > Word, line 13: SHOW 0
 ; >                ^^^^
 ; > `SHOW` begins no line.
-; > Expected: places, class, int, text, func, end, entry, an instruction's name in capitals, a label that ends in a colon, or a semicolon for a comment.
+; > Expected: version, places, class, int, text, func, end, entry, an instruction's name in capitals, a label that ends in a colon, or a semicolon for a comment.
 places 1
 int 7
 func 1 0 none

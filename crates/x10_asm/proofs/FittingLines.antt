@@ -5,8 +5,8 @@ use Rattle.std.specs.List.{AllByRecursion}
 use Rattle.std.specs.Int.{w64}
 use Rattle.std.proofs.lemmas.Bool.{and_parts}
 use Rattle.x10_kinds.specs.declared.kind.Kind.{Kind}
-use Rattle.x10_code.specs.Spelling.{IsInstr}
-use Rattle.x10_model.specs.Modules.{Function, NamesClassBelow, FitsSlot, FitsClass, FitsText}
+use Rattle.x10_model.specs.declared.version.ImageVersion.{ImageVersion}
+use Rattle.x10_model.specs.Modules.{Function, NamesClassBelow, FitsSlot, FitsClass, FitsText, IsInstrOf}
 use Rattle.x10_model.specs.ReadingImages.{is_within, is_entry}
 use Rattle.x10_model.proofs.ImageParts.{of_within}
 use Rattle.x10_asm.specs.declared.fault.AsmCause.{AsmCause}
@@ -17,11 +17,11 @@ use Rattle.x10_asm.specs.Lines.{int_of}
 use Rattle.x10_asm.specs.Checks.{check, given, number_at, one_number, no_more}
 use Rattle.x10_asm.specs.Kinds.{slot_of, field_of, result_of, each}
 use Rattle.x10_asm.specs.Literals.{literal}
-use Rattle.x10_asm.specs.Reading.{is_start, takes_class, takes_int, takes_text, takes_func, is_inside, is_finished, places_of, class_of, one_int, int_line_of, text_of, signature_fits, kinds_after, signature_of, func_of, end_of, entry_of, function_with}
+use Rattle.x10_asm.specs.Reading.{is_start, takes_class, takes_int, takes_text, takes_func, is_inside, is_finished, is_one, one_version, version_of, places_of, class_of, one_int, int_line_of, text_of, signature_fits, kinds_after, signature_of, func_of, end_of, entry_of, function_with}
 use Rattle.x10_asm.proofs.InRanges.{bound, then_bound, checked, given_is, same_ok, int_fits, slot_fits, field_fits, result_fits, each_fits, text_fits}
 
 -- a function that is not ended
-pub record IsOpen (classes : ℕ) (f : Function) : Type 0 where
+pub record IsOpen (version : ImageVersion) (classes : ℕ) (f : Function) : Type 0 where
   pub parameters : length f.parameters ≤ 16
   pub registers : (1 ≤ f.registers) × (f.registers ≤ 64)
   pub room : length f.parameters ≤ f.registers
@@ -29,7 +29,7 @@ pub record IsOpen (classes : ℕ) (f : Function) : Type 0 where
   pub slots : AllByRecursion (FitsSlot classes) f.parameters
   pub result : IfSome f.result (FitsSlot classes)
   pub few : length f.code ≤ 4096
-  pub code : AllByRecursion IsInstr f.code
+  pub code : AllByRecursion (IsInstrOf version) f.code
 
 -- ---- stages
 
@@ -65,7 +65,19 @@ begun _ e = absurd cc
 pub one_more : {A : Type 0} (xs : List A) (x : A) → length (xs ++ x ∷ []) ≡ suc (length xs)
 one_more xs x = omega (arith, length-append xs (x ∷ []))
 
+pub not_both : (b : Bool) → b ≡ true → b ≡ false → ⊥
+not_both true h k = absurd cc
+not_both false h k = absurd cc
+
 -- ---- what each statement takes in
+
+pub last_check : (b : Bool) (c : AsmCause) (u : Unit {0}) → check b c ≡ Ok u → b ≡ true
+last_check true c u e = refl
+last_check false c u e = absurd cc
+
+pub version_starts : (s : Stage) (before : ImageVersion) (ws : List (List ℕ)) (u : Unit {0}) → version_of s before ws ≡ Ok u → (is_start s ≡ true) × (is_one before ≡ true)
+unfolding version_of
+version_starts s before ws u e = and_parts (is_start s) (is_one before) (last_check (is_start s && is_one before) cause.Order u (then_bound (one_version ws) _ u e))
 
 pub small_places : (s : Stage) (ws : List (List ℕ)) (n : ℕ) → places_of s ws ≡ Ok n → (1 ≤ n) × (n ≤ 64)
 unfolding places_of
@@ -146,13 +158,13 @@ signature_taken classes ws f e =
     let loops = bound (number_at 255 registers.0.1) _ f registers.2 in
     kinds_taken classes registers.0.0 loops.0.0 loops.0.1 f loops.2
 
-pub record TakesFunction (s : Stage) (classes before : ℕ) (f : Function) : Type 0 where
+pub record TakesFunction (version : ImageVersion) (s : Stage) (classes before : ℕ) (f : Function) : Type 0 where
   pub stage_is : takes_func s ≡ true
   pub room : before < 256
-  pub fits : IsOpen classes f
+  pub fits : IsOpen version classes f
 
-pub open_of : (classes : ℕ) (f : Function) → signature_fits f ≡ true → HasKinds classes f → IsOpen classes f
-open_of classes f t k =
+pub open_of : (version : ImageVersion) (classes : ℕ) (f : Function) → signature_fits f ≡ true → HasKinds classes f → IsOpen version classes f
+open_of version classes f t k =
     let b3 = and_parts _ (nat_le (length f.parameters) 16) t in
     let b2 = and_parts _ (nat_le f.loops 8) b3.0 in
     let b1 = and_parts (is_within 1 64 f.registers) (nat_le (length f.parameters) f.registers) b2.0 in
@@ -167,23 +179,19 @@ open_of classes f t k =
       code = rw k.code tt;
     }
 
-pub func_taken : (s : Stage) (classes before : ℕ) (ws : List (List ℕ)) (f : Function) → func_of s classes before ws ≡ Ok f → TakesFunction s classes before f
+pub func_taken : (version : ImageVersion) (s : Stage) (classes before : ℕ) (ws : List (List ℕ)) (f : Function) → func_of s classes before ws ≡ Ok f → TakesFunction version s classes before f
 unfolding func_of
-func_taken s classes before ws f e =
+func_taken version s classes before ws f e =
     let known = checked _ cause.Word _ f e in
     let found = bound (signature_of classes ws) _ f known.1 in
     let order = checked (takes_func s) cause.Order _ f found.2 in
     let limit = checked (signature_fits found.0 && nat_lt before 256) cause.Limit (Ok found.0) f order.1 in
     let b = and_parts (signature_fits found.0) (nat_lt before 256) limit.0 in
-    record { stage_is = order.0; room = ltb-true before 256 b.1; fits = subst (IsOpen classes) (same_ok found.0 f limit.1) (open_of classes found.0 b.0 (signature_taken classes ws found.0 found.1)) }
+    record { stage_is = order.0; room = ltb-true before 256 b.1; fits = subst (IsOpen version classes) (same_ok found.0 f limit.1) (open_of version classes found.0 b.0 (signature_taken classes ws found.0 found.1)) }
 
 pub record TakesEnd (s : Stage) (count : ℕ) : Type 0 where
   pub stage_is : is_inside s ≡ true
   pub some : 0 < count
-
-pub last_check : (b : Bool) (c : AsmCause) (u : Unit {0}) → check b c ≡ Ok u → b ≡ true
-last_check true c u e = refl
-last_check false c u e = absurd cc
 
 pub end_taken : (s : Stage) (count : ℕ) (ws : List (List ℕ)) (u : Unit {0}) → end_of s count ws ≡ Ok u → TakesEnd s count
 unfolding end_of

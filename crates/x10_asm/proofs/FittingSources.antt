@@ -1,5 +1,5 @@
 -- A module that a text spells is in the ranges of an image.
-use Rattle.std.proofs.Common.{◌≡◌, ℕ, ℤ, suc, ◌+◌, ◌<◌, ◌≤◌, ◌^◌, Bool, true, false, is_none, eqb, eqb-true, List, [], ◌∷◌, ◌++◌, length, Option, Some, None, IfSome, Result, Ok, Err, FitsSigned, refl, sym, subst, ◌∙◌, arith, slice_get}
+use Rattle.std.proofs.Common.{◌≡◌, ℕ, ℤ, suc, ◌+◌, ◌<◌, ◌≤◌, ◌^◌, Bool, true, false, is_none, eqb, eqb-true, List, [], ◌∷◌, ◌++◌, length, Option, Some, None, IfSome, Result, Ok, Err, FitsSigned, refl, sym, ap, subst, ◌∙◌, arith, slice_get}
 use Rattle.std.specs.Prelude.{if◌then◌else◌}
 use Rattle.std.specs.List.{AllByRecursion}
 use Rattle.std.specs.Int.{w64}
@@ -7,8 +7,10 @@ use Rattle.std.proofs.lemmas.Bool.{and_parts}
 use Rattle.x10_kinds.specs.declared.kind.Kind.{Kind}
 use Rattle.x10_code.specs.declared.instr.Instr.{Instr}
 use Rattle.x10_model.specs.declared.slot.Slot.{Slot}
-use Rattle.x10_code.specs.Spelling.{IsInstr}
-use Rattle.x10_model.specs.Modules.{Function, Module, FitsClass, FitsText, FitsFunction, FitsImage, IsEntry}
+use Rattle.x10_code.specs.declared.op.Op.{Op}
+use Rattle.x10_model.specs.declared.version.ImageVersion.{ImageVersion}
+use Rattle.x10_model.specs.declared.version.ImageVersion.TheVariants.{Two}
+use Rattle.x10_model.specs.Modules.{Function, Module, FitsClass, FitsText, is_known, IsInstrOf, FitsFunction, FitsImage, IsEntry}
 use Rattle.x10_model.specs.ReadingImages.{is_entry}
 use Rattle.x10_asm.specs.declared.fault.AsmCause.{AsmCause}
 use Rattle.x10_asm.specs.declared.fault.AsmCause.TheVariants as cause
@@ -20,24 +22,25 @@ use Rattle.x10_asm.specs.Lines.{lines, words, after_word}
 use Rattle.x10_asm.specs.Labels.{Label}
 use Rattle.x10_asm.specs.LabelLines.{labels_from}
 use Rattle.x10_asm.specs.Statements.{statement_in, first_word, other_words}
-use Rattle.x10_asm.specs.Reading.{is_start, is_inside, is_finished, places_of, class_of, int_line_of, text_of, func_of, end_of, entry_of, label_at, Source, no_function, after_statement, after_line, ended, go_on, read_from, is_class, classes_in, nothing_read, module_of}
+use Rattle.x10_asm.specs.Reading.{is_start, is_inside, is_finished, version_of, places_of, class_of, int_line_of, text_of, func_of, end_of, entry_of, label_at, Source, no_function, after_statement, after_line, ended, go_on, read_from, is_class, classes_in, nothing_read, module_of}
 use Rattle.x10_asm.specs.LawsOfTexts.{SpelledFits}
 use Rattle.x10_asm.proofs.InRanges.{same_ok, all_end, IsLow, labels_low, FitsNext, instruction_fits}
 use Rattle.x10_asm.proofs.Passing.{no_classes, class_counted, other_passed, step, stop}
-use Rattle.x10_asm.proofs.FittingLines.{IsOpen, not_true, int_begun, text_begun, func_begun, inside_begun, begun, one_more, small_places, TakesClass, class_fits, TakesInt, int_taken, TakesText, text_taken, TakesFunction, func_taken, TakesEnd, end_taken, TakesEntry, entry_taken}
+use Rattle.x10_asm.proofs.FittingLines.{IsOpen, not_true, int_begun, text_begun, func_begun, inside_begun, begun, one_more, small_places, not_both, version_starts, TakesClass, class_fits, TakesInt, int_taken, TakesText, text_taken, TakesFunction, func_taken, TakesEnd, end_taken, TakesEntry, entry_taken}
 
 -- the lists that were read so far are in the ranges
-pub record FitsLists (classes : ℕ) (cs : List (List Kind)) (ints : List ℤ) (texts : List (List ℕ)) (functions : List Function) : Type 0 where
+pub record FitsLists (version : ImageVersion) (classes : ℕ) (cs : List (List Kind)) (ints : List ℤ) (texts : List (List ℕ)) (functions : List Function) : Type 0 where
   of_classes : (length cs < 2 ^ 16) × AllByRecursion (FitsClass classes) cs
   of_ints : (length ints < 2 ^ 16) × AllByRecursion (FitsSigned w64) ints
   of_texts : (length texts < 2 ^ 16) × AllByRecursion FitsText texts
-  of_functions : (length functions ≤ 256) × AllByRecursion (FitsFunction classes) functions
+  of_functions : (length functions ≤ 256) × AllByRecursion (FitsFunction version classes) functions
 
 -- what was read so far is in the ranges
 pub record IsFitting (classes : ℕ) (s : Source) : Type 0 where
   least : is_start s.stage ≡ false → (1 ≤ s.so_far.least_places) × (s.so_far.least_places ≤ 64)
-  lists : FitsLists classes s.so_far.classes s.so_far.ints s.so_far.texts s.so_far.functions
-  inside : is_inside s.stage ≡ true → IsOpen classes s.function × (length s.so_far.functions < 256)
+  lists : FitsLists s.so_far.version classes s.so_far.classes s.so_far.ints s.so_far.texts s.so_far.functions
+  inside : is_inside s.stage ≡ true → IsOpen s.so_far.version classes s.function × (length s.so_far.functions < 256)
+  none : is_start s.stage ≡ true → s.so_far.functions ≡ []
   labels : AllByRecursion IsLow s.labels
   entry : is_finished s.stage ≡ true → (1 ≤ length s.so_far.functions) × (is_entry (slice_get s.so_far.functions s.so_far.entry) ≡ true)
 
@@ -49,12 +52,31 @@ record Follows (classes count : ℕ) (t : Source) : Type 0 where
   counted : length t.so_far.classes ≡ count
 
 -- one case for each statement: what was read by it, and the state that it leads to
+after_version : (classes : ℕ) (s : Source) → IsFitting classes s → is_start s.stage ≡ true → Follows classes (length s.so_far.classes) (record s { so_far = record s.so_far { version = Two } })
+after_version classes s h start = record {
+  fitting = record {
+    least = h.least;
+    lists = record {
+      of_classes = h.lists.of_classes;
+      of_ints = h.lists.of_ints;
+      of_texts = h.lists.of_texts;
+      of_functions = (h.lists.of_functions.0, rw (h.none start) tt);
+    };
+    inside = λ e. absurd (not_both (is_start s.stage) start (inside_begun s.stage e));
+    none = h.none;
+    labels = h.labels;
+    entry = h.entry;
+  };
+  counted = refl;
+}
+
 after_places : (classes : ℕ) (s : Source) (n : ℕ) → IsFitting classes s → (1 ≤ n) × (n ≤ 64) → Follows classes (length s.so_far.classes) (record s { stage = stage.Classes; so_far = record s.so_far { least_places = n } })
 after_places classes s n h fits = record {
   fitting = record {
     least = λ e. fits;
     lists = h.lists;
     inside = λ e. not_true e;
+    none = λ e. not_true e;
     labels = h.labels;
     entry = λ e. not_true e;
   };
@@ -73,6 +95,7 @@ after_class classes s fields h t = record {
       of_functions = h.lists.of_functions;
     };
     inside = h.inside;
+    none = h.none;
     labels = h.labels;
     entry = h.entry;
   };
@@ -91,6 +114,7 @@ after_int classes s z h t = record {
       of_functions = h.lists.of_functions;
     };
     inside = λ e. not_true e;
+    none = λ e. not_true e;
     labels = h.labels;
     entry = λ e. not_true e;
   };
@@ -109,28 +133,30 @@ after_text classes s text h t = record {
       of_functions = h.lists.of_functions;
     };
     inside = λ e. not_true e;
+    none = λ e. not_true e;
     labels = h.labels;
     entry = λ e. not_true e;
   };
   counted = refl;
 }
 
-after_func : (classes : ℕ) (s : Source) (labels : List Label) (f : Function) → IsFitting classes s → AllByRecursion IsLow labels → TakesFunction s.stage classes (length s.so_far.functions) f
+after_func : (classes : ℕ) (s : Source) (labels : List Label) (f : Function) → IsFitting classes s → AllByRecursion IsLow labels → TakesFunction s.so_far.version s.stage classes (length s.so_far.functions) f
     → Follows classes (length s.so_far.classes) (record s { stage = stage.Inside; function = f; labels = labels })
 after_func classes s labels f h low t = record {
   fitting = record {
     least = λ e. h.least (func_begun s.stage t.stage_is);
     lists = h.lists;
     inside = λ e. (t.fits, t.room);
+    none = λ e. not_true e;
     labels = low;
     entry = λ e. not_true e;
   };
   counted = refl;
 }
 
-after_instruction : (classes : ℕ) (s : Source) (i : Instr) → IsFitting classes s → FitsNext (is_inside s.stage) (length s.function.code) i
+after_instruction : (classes : ℕ) (s : Source) (o : Op) (i : Instr) → IsFitting classes s → FitsNext (is_inside s.stage) (length s.function.code) o i → is_known s.so_far.version o ≡ true
     → Follows classes (length s.so_far.classes) (record s { function = record s.function { code = s.function.code ++ i ∷ [] } })
-after_instruction classes s i h t =
+after_instruction classes s o i h t known =
     let f = (h.inside t.inside).0 in
     record {
       fitting = record {
@@ -145,10 +171,11 @@ after_instruction classes s i h t =
             slots = f.slots;
             result = f.result;
             few = omega (arith, one_more s.function.code i, t.room);
-            code = all_end IsInstr s.function.code i f.code t.fits;
+            code = all_end (IsInstrOf s.so_far.version) s.function.code i f.code (record { spelled = t.fits; known = ap (is_known s.so_far.version) t.op ∙ known });
           },
           (h.inside e).1,
         );
+        none = h.none;
         labels = h.labels;
         entry = h.entry;
       };
@@ -169,7 +196,7 @@ after_end classes s h t =
           of_texts = h.lists.of_texts;
           of_functions = (
             omega (arith, one_more s.so_far.functions s.function, inside.1),
-            all_end (FitsFunction classes) s.so_far.functions s.function h.lists.of_functions.1 (record {
+            all_end (FitsFunction s.so_far.version classes) s.so_far.functions s.function h.lists.of_functions.1 (record {
               parameters = f.parameters;
               registers = f.registers;
               room = f.room;
@@ -182,6 +209,7 @@ after_end classes s h t =
           );
         };
         inside = λ e. not_true e;
+        none = λ e. not_true e;
         labels = tt;
         entry = λ e. not_true e;
       };
@@ -195,6 +223,7 @@ after_entry classes s n h t = record {
     least = λ e. h.least (func_begun s.stage t.stage_is);
     lists = h.lists;
     inside = λ e. not_true e;
+    none = λ e. not_true e;
     labels = h.labels;
     entry = λ e. (omega (arith, t.some), t.entry);
   };
@@ -208,13 +237,22 @@ count_after st s = if is_class st then suc (length s.so_far.classes) else length
 at_state : (classes n : ℕ) (s t : Source) → (let r : Result Source AsmCause = Ok s in r) ≡ Ok t → Follows classes n s → Follows classes n t
 at_state classes n s t e h = subst (Follows classes n) (same_ok s t e) h
 
+-- what is taken in only where a test holds
+pub known_by : (b : Bool) (r : Result Source AsmCause) (t : Source) → (if b then r else Err cause.Word) ≡ Ok t → (b ≡ true) × (r ≡ Ok t)
+known_by true r t e = (refl, e)
+known_by false r t e = absurd cc
+
 -- what a state that was reached follows from: the value that was read
-with_ok : {A : Type 0} (make : A → Source) (r : Result A AsmCause) (q : Result Source AsmCause) (t : Source) → ((c : AsmCause) → r ≡ Err c → q ≡ Err c) → ((x : A) → r ≡ Ok x → q ≡ Ok (make x)) → q ≡ Ok t → (x : A) × (r ≡ Ok x) × ((let w : Result Source AsmCause = Ok (make x) in w) ≡ Ok t)
+pub with_ok : {A : Type 0} (make : A → Source) (r : Result A AsmCause) (q : Result Source AsmCause) (t : Source) → ((c : AsmCause) → r ≡ Err c → q ≡ Err c) → ((x : A) → r ≡ Ok x → q ≡ Ok (make x)) → q ≡ Ok t → (x : A) × (r ≡ Ok x) × ((let w : Result Source AsmCause = Ok (make x) in w) ≡ Ok t)
 with_ok make (Ok x) q t h k e = (x, refl, sym (k x refl) ∙ e)
 with_ok make (Err c) q t h k e = let f : q ≡ Err c = h c refl in absurd cc
 
 follows : (classes : ℕ) (s : Source) (line : ℕ) (text : List ℕ) (ws others : List (List ℕ)) (st : Statement) (t : Source) → statement_in ws ≡ st → IsFitting classes s → after_statement classes s line text ws others st ≡ Ok t → Follows classes (count_after st s) t
 follows classes s line text ws others statement.Silent t is h e = at_state classes _ s t e (record { fitting = h; counted = refl })
+follows classes s line text ws others statement.Version t is h e =
+    let r = version_of s.stage s.so_far.version (other_words ws) in
+    let f = with_ok (λ u. record s { so_far = record s.so_far { version = Two } }) r _ t (λ c x. rw x refl) (λ n x. rw x refl) e in
+    at_state classes _ _ t f.2 (after_version classes s h (version_starts s.stage s.so_far.version (other_words ws) f.0 f.1).0)
 follows classes s line text ws others statement.Places t is h e =
     let r = places_of s.stage (other_words ws) in
     let f = with_ok (λ n. record s { stage = stage.Classes; so_far = record s.so_far { least_places = n } }) r _ t (λ c x. rw x refl) (λ n x. rw x refl) e in
@@ -235,7 +273,7 @@ follows classes s line text ws others statement.Func t is h e =
     let r = func_of s.stage classes (length s.so_far.functions) (other_words ws) in
     let labels = labels_from (suc line) 0 others in
     let f = with_ok (λ g. record s { stage = stage.Inside; function = g; labels = labels }) r _ t (λ c x. rw x refl) (λ n x. rw x refl) e in
-    at_state classes _ _ t f.2 (after_func classes s labels f.0 h (labels_low others (suc line) 0 (omega arith)) (func_taken s.stage classes (length s.so_far.functions) (other_words ws) f.0 f.1))
+    at_state classes _ _ t f.2 (after_func classes s labels f.0 h (labels_low others (suc line) 0 (omega arith)) (func_taken s.so_far.version s.stage classes (length s.so_far.functions) (other_words ws) f.0 f.1))
 follows classes s line text ws others statement.End t is h e =
     let r = end_of s.stage (length s.function.code) (other_words ws) in
     let f = with_ok (λ u. record s { stage = stage.Functions; so_far = record s.so_far { functions = s.so_far.functions ++ s.function ∷ [] }; function = no_function; labels = [] }) r _ t (λ c x. rw x refl) (λ n x. rw x refl) e in
@@ -250,8 +288,9 @@ follows classes s line text ws others statement.Label t is h e =
     at_state classes _ s t f.2 (record { fitting = h; counted = refl })
 follows classes s line text ws others (statement.Instruction o) t is h e =
     let g = instruction_fits s.labels (is_inside s.stage) (length s.function.code) o (other_words ws) h.labels in
-    let f = with_ok (λ i. record s { function = record s.function { code = s.function.code ++ i ∷ [] } }) _ _ t (λ c x. rw x refl) (λ n x. rw x refl) e in
-    at_state classes _ _ t f.2 (after_instruction classes s f.0 h (g f.0 f.1))
+    let k = known_by (is_known s.so_far.version o) _ t e in
+    let f = with_ok (λ i. record s { function = record s.function { code = s.function.code ++ i ∷ [] } }) _ _ t (λ c x. rw x refl) (λ n x. rw x refl) k.1 in
+    at_state classes _ _ t f.2 (after_instruction classes s o f.0 h (g f.0 f.1) k.0)
 follows classes s line text ws others statement.Unknown t is h e = absurd cc
 
 line_follows : (classes : ℕ) (s : Source) (line : ℕ) (text : List ℕ) (others : List (List ℕ)) (t : Source) → IsFitting classes s → after_line classes s line text others ≡ Ok t → Follows classes (count_after (statement_in (words text)) s) t
@@ -260,11 +299,11 @@ line_follows classes s line text others t h e = follows classes s line text (wor
 
 -- ---- the text
 
-went_on : (r : Result Source AsmCause) (line : ℕ) (next : Source → Result Module AsmFault) (m : Module) → go_on r line next ≡ Ok m → (t : Source) × (r ≡ Ok t) × (next t ≡ Ok m)
+pub went_on : (r : Result Source AsmCause) (line : ℕ) (next : Source → Result Module AsmFault) (m : Module) → go_on r line next ≡ Ok m → (t : Source) × (r ≡ Ok t) × (next t ≡ Ok m)
 went_on (Ok t) line next m e = (t, refl, e)
 went_on (Err c) line next m e = absurd cc
 
-ended_is : (s : Source) (line : ℕ) (b : Bool) (m : Module) → is_finished s.stage ≡ b → ended s line ≡ Ok m → (is_finished s.stage ≡ true) × (s.so_far ≡ m)
+pub ended_is : (s : Source) (line : ℕ) (b : Bool) (m : Module) → is_finished s.stage ≡ b → ended s line ≡ Ok m → (is_finished s.stage ≡ true) × (s.so_far ≡ m)
 ended_is s line true m f e = (f, (let g : (let r : Result Module AsmFault = Ok s.so_far in r) ≡ Ok m = (rw f at e) in cc))
 ended_is s line false m f e = absurd (let g : (let r : Result Module AsmFault = Err (record { line = line; cause = cause.Order }) in r) ≡ Ok m = (rw f at e) in cc)
 
@@ -313,6 +352,7 @@ nothing_fits classes = record {
     of_functions = (omega arith, tt);
   };
   inside = λ e. not_true e;
+  none = λ e. refl;
   labels = tt;
   entry = λ e. not_true e;
 }

@@ -289,7 +289,8 @@ last_fits labels operand.Unused ws low = numbered_fits labels operand.Unused (op
 last_fits labels o ws low = numbered_fits labels o (operand_at o 4294967295 ws) (operand_fits o 4294967295 ws)
 
 -- an instruction that is taken in is one of an image, inside a function with room for it
-pub record FitsNext (is_inside : Bool) (count : ℕ) (i : Instr) : Type 0 where
+pub record FitsNext (is_inside : Bool) (count : ℕ) (o : Op) (i : Instr) : Type 0 where
+  pub op : i.op ≡ o
   pub inside : is_inside ≡ true
   pub room : count < 4096
   pub fits : IsInstr i
@@ -304,10 +305,10 @@ instr_of o a b c x fa fb fc fx = record {
   form = and_from _ (fits_operand (form_of o).x x) (and_from _ (fits_operand (form_of o).c c) (and_from (fits_operand (form_of o).a a) (fits_operand (form_of o).b b) fa.form fb.form) fc.form) fx.form;
 }
 
-pub instruction_fits : (labels : List Label) (is_inside : Bool) (count : ℕ) (o : Op) (ws : List (List ℕ)) → AllByRecursion IsLow labels → Gives (FitsNext is_inside count) (instruction_of labels is_inside count o ws)
+pub instruction_fits : (labels : List Label) (is_inside : Bool) (count : ℕ) (o : Op) (ws : List (List ℕ)) → AllByRecursion IsLow labels → Gives (FitsNext is_inside count o) (instruction_of labels is_inside count o ws)
 unfolding instruction_of
 instruction_fits labels is_inside count o ws low =
-    let P = FitsNext is_inside count in
+    let P = FitsNext is_inside count o in
     bind_gives P _ _ (λ a ea.
     bind_gives P _ _ (λ b eb.
     bind_gives P _ _ (λ c ec.
@@ -317,6 +318,7 @@ instruction_fits labels is_inside count o ws low =
     bind_gives P _ _ (λ target et.
     check_gives P (nat_lt count 4096) cause.Limit _ (λ room.
     ok_gives P _ (record {
+      op = refl;
       inside = inside;
       room = ltb-true count 4096 room;
       fits = instr_of o a.0 b.0 c.0 target (operand_fits _ 255 ws a ea) (operand_fits _ 255 a.1 b eb) (operand_fits _ 255 b.1 c ec) (last_fits labels _ c.1 low x ex target et);

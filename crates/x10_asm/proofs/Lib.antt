@@ -25,3 +25,4 @@ pub mod FittingLines
 pub mod FlawedLines
 pub mod SoundLines
 pub mod FittingSources
+pub mod ToldVersions

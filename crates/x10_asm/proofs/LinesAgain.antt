@@ -6,6 +6,8 @@ use Rattle.std.specs.Fmt.{signed_decimal}
 use Rattle.std.specs.List.{flat_map, list_all, AllByRecursion}
 use Rattle.std.proofs.lemmas.Bool.{lt-ltb, le-leb}
 use Rattle.x10_kinds.specs.declared.kind.Kind.{Kind}
+use Rattle.x10_model.specs.declared.version.ImageVersion.{ImageVersion}
+use Rattle.x10_model.specs.declared.version.ImageVersion.TheVariants.{One, Two}
 use Rattle.x10_model.specs.Modules.{Function, Module, NamesClassBelow, FitsText}
 use Rattle.x10_asm.specs.declared.stage.Stage.{Stage}
 use Rattle.x10_asm.specs.declared.stage.Stage.TheVariants as stage
@@ -15,7 +17,7 @@ use Rattle.x10_asm.specs.Lines.{words}
 use Rattle.x10_asm.specs.Statements.{statement_in, statement_of}
 use Rattle.x10_asm.specs.Kinds.{field_of}
 use Rattle.x10_asm.specs.Listing.{spaced, kind_word, quoted}
-use Rattle.x10_asm.specs.Reading.{Source, after_line, after_statement, takes_int, takes_text, no_function, places_of, class_of, int_line_of, text_of, with_places, with_class, with_int, with_text}
+use Rattle.x10_asm.specs.Reading.{Source, after_line, after_statement, takes_int, takes_text, no_function, version_of, places_of, class_of, int_line_of, text_of, with_version, with_places, with_class, with_int, with_text}
 use Rattle.x10_asm.proofs.Taking.{line_gives}
 use Rattle.x10_asm.proofs.SpelledLines.{IsWord, line_words, plain_words, word_then}
 use Rattle.x10_asm.proofs.SpelledWords.{number_again, decimal_word, int_again, int_word, field_again, each_again, known_again, all_words, kind_is_word}
@@ -46,6 +48,9 @@ statement_first first others st h hs e = ap statement_in (line_words first other
 word : (first : ℕ) (others : List ℕ) → list_all (nat_lt 32) (first ∷ others) ≡ true → IsWord (first ∷ others)
 word first others h = record { some = omega arith; printed = h }
 
+pub version_word : IsWord (codes "version")
+version_word = word 118 _ refl
+
 pub places_word : IsWord (codes "places")
 places_word = word 112 _ refl
 
@@ -66,6 +71,10 @@ end_word = word 101 _ refl
 
 pub entry_word : IsWord (codes "entry")
 entry_word = word 101 _ refl
+
+pub says_version : statement_of (codes "version") ≡ statement.Version
+unfolding statement_of
+says_version = refl
 
 pub says_places : statement_of (codes "places") ≡ statement.Places
 unfolding statement_of
@@ -94,6 +103,20 @@ says_end = refl
 pub says_entry : statement_of (codes "entry") ≡ statement.Entry
 unfolding statement_of
 says_entry = refl
+
+-- ---- the version
+
+version_again : (v : ImageVersion) → v ≡ One → version_of stage.Start v (decimal 2 ∷ []) ≡ Ok tt
+unfolding version_of
+version_again v e = rw (e, number_again 2 2 (omega arith) (omega arith)) refl
+
+pub version_turns : (classes : ℕ) (m : Module) → m.version ≡ One → Turns classes (body_of (codes "version") (decimal 2 ∷ [])) (outside stage.Start m) (outside stage.Start (record m { version = Two }))
+version_turns classes m one =
+    let hs : AllByRecursion IsWord (decimal 2 ∷ []) = (decimal_word 2 (omega arith), tt) in
+    record {
+      plain = plain_words (codes "version") (decimal 2 ∷ []) version_word hs;
+      turns = λ line labels others. (labels, gives classes (labelled (outside stage.Start m) labels) line others (decimal 2 ∷ []) (codes "version") statement.Version version_word hs says_version ∙ ap (with_version (labelled (outside stage.Start m) labels)) (version_again m.version one));
+    }
 
 -- ---- places
 

@@ -7,14 +7,15 @@ use Rattle.std.specs.List.{flat_map, AllByRecursion}
 use Rattle.x10_kinds.specs.declared.kind.Kind.{Kind}
 use Rattle.x10_code.specs.declared.instr.Instr.{Instr}
 use Rattle.x10_code.specs.Table.{name_of}
-use Rattle.x10_code.specs.Spelling.{IsInstr}
-use Rattle.x10_model.specs.Modules.{Function, Module, FitsClass, FitsText, FitsFunction, FitsImage, IsEntry}
+use Rattle.x10_model.specs.declared.version.ImageVersion.{ImageVersion}
+use Rattle.x10_model.specs.declared.version.ImageVersion.TheVariants.{One, Two}
+use Rattle.x10_model.specs.Modules.{Function, Module, FitsClass, FitsText, IsInstrOf, FitsFunction, FitsImage, IsEntry}
 use Rattle.x10_asm.specs.declared.stage.Stage.{Stage}
 use Rattle.x10_asm.specs.declared.stage.Stage.TheVariants as stage
 use Rattle.x10_asm.specs.declared.statement.Statement.{Statement}
 use Rattle.x10_asm.specs.declared.statement.Statement.TheVariants as statement
 use Rattle.x10_asm.specs.Lines.{lines, words}
-use Rattle.x10_asm.specs.Listing.{spaced, line, kind_word, quoted, operand_words, places_line, class_line, int_line, text_line, func_line, instruction_line, end_line, function_lines, entry_line, listing}
+use Rattle.x10_asm.specs.Listing.{spaced, line, kind_word, quoted, operand_words, version_lines, places_line, class_line, int_line, text_line, func_line, instruction_line, end_line, function_lines, entry_line, listing}
 use Rattle.x10_asm.specs.Statements.{statement_in}
 use Rattle.x10_asm.specs.Comments.{is_silent, says_something, said}
 use Rattle.x10_asm.specs.Reading.{Source, is_class, takes_int, takes_text, takes_func, nothing_read, read_from, classes_in, module_of}
@@ -24,7 +25,7 @@ use Rattle.std.proofs.lemmas.Option.{slice_get_within}
 use Rattle.x10_asm.proofs.Splitting.{no_lines}
 use Rattle.x10_asm.proofs.Passing.{no_classes, stop}
 use Rattle.x10_asm.proofs.ReadingAgain.{Turns, Leads, labelled, nothing_leads, then_leads, class_leads, line_leads, said_classes, all_said, reached}
-use Rattle.x10_asm.proofs.LinesAgain.{outside, inside, body_of, statement_first, places_word, class_word, int_first, func_word, end_word, entry_word, says_places, says_class, says_int, says_text_line, says_func, says_end, says_entry, places_turns, class_turns, int_turns, text_turns}
+use Rattle.x10_asm.proofs.LinesAgain.{outside, inside, body_of, statement_first, version_word, places_word, class_word, int_first, func_word, end_word, entry_word, says_version, says_places, says_class, says_int, says_text_line, says_func, says_end, says_entry, version_turns, places_turns, class_turns, int_turns, text_turns}
 use Rattle.x10_asm.proofs.FunctionsAgain.{begun, func_words, func_are_words, func_turns, instruction_turns, end_turns, entry_turns}
 
 -- the same, by equal ends
@@ -116,11 +117,11 @@ texts_lead classes s m (x ∷ xs) t h lt =
 
 -- ---- functions
 
-instruction_line_leads : (classes : ℕ) (m : Module) (f : Function) (i : Instr) → IsInstr i → length f.code < 4096 → Leads classes (instruction_line i) (inside m f) (inside m (record f { code = f.code ++ i ∷ [] })) 0
+instruction_line_leads : (classes : ℕ) (m : Module) (f : Function) (i : Instr) → IsInstrOf m.version i → length f.code < 4096 → Leads classes (instruction_line i) (inside m f) (inside m (record f { code = f.code ++ i ∷ [] })) 0
 unfolding instruction_line
-instruction_line_leads classes m f i b lt = one_line classes (name_of i.op) (operand_words i) (inside m f) _ (instruction_turns classes m f i b lt) _ (statement_first (name_of i.op) (operand_words i) (statement.Instruction i.op) (name_is_word i.op) (operands_are_words i b) (said_name i.op)) refl refl
+instruction_line_leads classes m f i b lt = one_line classes (name_of i.op) (operand_words i) (inside m f) _ (instruction_turns classes m f i b lt) _ (statement_first (name_of i.op) (operand_words i) (statement.Instruction i.op) (name_is_word i.op) (operands_are_words i b.spelled) (said_name i.op)) refl refl
 
-code_leads : (classes : ℕ) (m : Module) (f : Function) (is : List Instr) → AllByRecursion IsInstr is → length f.code + length is ≤ 4096 → Leads classes (flat_map instruction_line is) (inside m f) (inside m (record f { code = f.code ++ is })) 0
+code_leads : (classes : ℕ) (m : Module) (f : Function) (is : List Instr) → AllByRecursion (IsInstrOf m.version) is → length f.code + length is ≤ 4096 → Leads classes (flat_map instruction_line is) (inside m f) (inside m (record f { code = f.code ++ is })) 0
 code_leads classes m f [] h le = leads_to classes [] _ _ _ 0 0 (nothing_leads classes (inside m f)) (ap (λ (xs : List Instr). inside m (record f { code = xs })) (sym (append-nil f.code))) refl
 code_leads classes m f (i ∷ is) h le =
     let more : Function = record f { code = f.code ++ i ∷ [] } in
@@ -129,15 +130,15 @@ code_leads classes m f (i ∷ is) h le =
     (instruction_line_leads classes m f i h.0 (omega arith)) (code_leads classes m more is h.1 (omega (arith, length-append f.code (i ∷ [])))))
     (ap (λ (xs : List Instr). inside m (record f { code = xs })) (append_assoc f.code (i ∷ []) is)) (omega arith)
 
-func_line_leads : (classes : ℕ) (s : Stage) (m : Module) (f : Function) → takes_func s ≡ true → classes < 2 ^ 16 → FitsFunction classes f → length m.functions < 256 → Leads classes (func_line f.registers f.loops f.result f.parameters) (outside s m) (inside m (begun f)) 0
+func_line_leads : (classes : ℕ) (s : Stage) (m : Module) (f : Function) → takes_func s ≡ true → classes < 2 ^ 16 → FitsFunction m.version classes f → length m.functions < 256 → Leads classes (func_line f.registers f.loops f.result f.parameters) (outside s m) (inside m (begun f)) 0
 unfolding func_line
-func_line_leads classes s m f t few h lt = one_line classes (codes "func") (func_words f) (outside s m) _ (func_turns classes s m f t few h lt) _ (statement_first (codes "func") (func_words f) statement.Func func_word (func_are_words classes f few h) says_func) refl refl
+func_line_leads classes s m f t few h lt = one_line classes (codes "func") (func_words f) (outside s m) _ (func_turns classes s m f t few h lt) _ (statement_first (codes "func") (func_words f) statement.Func func_word (func_are_words m.version classes f few h) says_func) refl refl
 
 end_line_leads : (classes : ℕ) (m : Module) (f : Function) → 0 < length f.code → Leads classes end_line (inside m f) (outside stage.Functions (record m { functions = m.functions ++ f ∷ [] })) 0
 unfolding end_line
 end_line_leads classes m f lt = one_line classes (codes "end") [] (inside m f) _ (end_turns classes m f lt) _ (statement_first (codes "end") [] statement.End end_word tt says_end) refl refl
 
-function_leads : (classes : ℕ) (s : Stage) (m : Module) (f : Function) → takes_func s ≡ true → classes < 2 ^ 16 → FitsFunction classes f → length m.functions < 256 → Leads classes (function_lines f) (outside s m) (outside stage.Functions (record m { functions = m.functions ++ f ∷ [] })) 0
+function_leads : (classes : ℕ) (s : Stage) (m : Module) (f : Function) → takes_func s ≡ true → classes < 2 ^ 16 → FitsFunction m.version classes f → length m.functions < 256 → Leads classes (function_lines f) (outside s m) (outside stage.Functions (record m { functions = m.functions ++ f ∷ [] })) 0
 unfolding function_lines
 function_leads classes s m f t few h lt =
     leads_to classes _ _ _ _ (0 + (0 + 0)) 0
@@ -148,7 +149,7 @@ function_leads classes s m f t few h lt =
     (end_line_leads classes m f (omega (arith, h.length.0)))))
     refl (omega arith)
 
-functions_lead : (classes : ℕ) (s : Stage) (m : Module) (fs : List Function) → takes_func s ≡ true → classes < 2 ^ 16 → AllByRecursion (FitsFunction classes) fs → length m.functions + length fs ≤ 256 → LeadsOn classes (flat_map function_lines fs) s m (record m { functions = m.functions ++ fs }) takes_func
+functions_lead : (classes : ℕ) (s : Stage) (m : Module) (fs : List Function) → takes_func s ≡ true → classes < 2 ^ 16 → AllByRecursion (FitsFunction m.version classes) fs → length m.functions + length fs ≤ 256 → LeadsOn classes (flat_map function_lines fs) s m (record m { functions = m.functions ++ fs }) takes_func
 functions_lead classes s m [] t few h le = on_to classes [] s m m _ takes_func (nothing_on classes s m takes_func t) (ap (λ (xs : List Function). record m { functions = xs }) (sym (append-nil m.functions)))
 functions_lead classes s m (f ∷ fs) t few h le =
     let more : Module = record m { functions = m.functions ++ f ∷ [] } in
@@ -160,6 +161,14 @@ functions_lead classes s m (f ∷ fs) t few h le =
 
 abbrev pub HasEntry : List Function → ℕ → Type 0
 HasEntry functions n = (f : Function) × (slice_get functions n ≡ Some f) × IsEntry f
+
+abbrev nothing_in : ImageVersion → Module
+nothing_in v = record { version = v; least_places = 0; classes = []; ints = []; texts = []; functions = []; entry = 0 }
+
+version_leads : (classes : ℕ) (v : ImageVersion) → Leads classes (version_lines v) nothing_read (outside stage.Start (nothing_in v)) 0
+unfolding version_lines
+version_leads classes One = nothing_leads classes nothing_read
+version_leads classes Two = one_line classes (codes "version") (decimal 2 ∷ []) nothing_read _ (version_turns classes (nothing_in One) refl) _ (statement_first (codes "version") (decimal 2 ∷ []) statement.Version version_word (decimal_word 2 (omega arith), tt) says_version) refl refl
 
 places_line_leads : (classes n : ℕ) (m : Module) → 1 ≤ n → n ≤ 64 → Leads classes (places_line n) (outside stage.Start m) (outside stage.Classes (record m { least_places = n })) 0
 unfolding places_line
@@ -190,8 +199,8 @@ listing_leads : (m : Module) → FitsImage m → Leads (length m.classes) (listi
 unfolding listing
 listing_leads m f =
     let classes : ℕ = length m.classes in
-    let empty : Module = record { least_places = m.least_places; classes = []; ints = []; texts = []; functions = []; entry = 0 } in
-    let first : Module = record { least_places = 0; classes = []; ints = []; texts = []; functions = []; entry = 0 } in
+    let empty : Module = record { version = m.version; least_places = m.least_places; classes = []; ints = []; texts = []; functions = []; entry = 0 } in
+    let first : Module = nothing_in m.version in
     let with_classes : Module = record empty { classes = m.classes } in
     let with_ints : Module = record with_classes { ints = m.ints } in
     let with_texts : Module = record with_ints { texts = m.texts } in
@@ -200,12 +209,13 @@ listing_leads m f =
     let texts = texts_lead classes ints.after with_ints m.texts ints.taken f.texts.1 (omega (arith, f.texts.0)) in
     let functions = functions_lead classes texts.after with_texts m.functions texts.taken f.classes f.functions.2 (omega (arith, f.functions.1)) in
     let entry = entry_line_leads classes functions.after with_functions m.entry functions.taken (entry_small m.functions m.entry f.entry f.functions.1) (omega (arith, f.functions.0)) f.entry in
-    leads_to classes _ _ _ _ (0 + (classes + (0 + (0 + (0 + 0))))) classes
+    leads_to classes _ _ _ _ (0 + (0 + (classes + (0 + (0 + (0 + 0)))))) classes
+    (then_leads classes (version_lines m.version) _ nothing_read (outside stage.Start first) (outside stage.Finished m) 0 (0 + (classes + (0 + (0 + (0 + 0))))) (version_leads classes m.version)
     (then_leads classes (places_line m.least_places) _ (outside stage.Start first) (outside stage.Classes empty) (outside stage.Finished m) 0 (classes + (0 + (0 + (0 + 0)))) (places_line_leads classes m.least_places first f.least_places.0 f.least_places.1)
     (then_leads classes (flat_map class_line m.classes) _ (outside stage.Classes empty) (outside stage.Classes with_classes) (outside stage.Finished m) classes (0 + (0 + (0 + 0))) (classes_lead classes empty m.classes f.classes f.fields (omega (arith, f.classes)))
     (then_leads classes (flat_map int_line m.ints) _ (outside stage.Classes with_classes) (outside ints.after with_ints) (outside stage.Finished m) 0 (0 + (0 + 0)) ints.leads
     (then_leads classes (flat_map text_line m.texts) _ (outside ints.after with_ints) (outside texts.after with_texts) (outside stage.Finished m) 0 (0 + 0) texts.leads
-    (then_leads classes (flat_map function_lines m.functions) (entry_line m.entry) (outside texts.after with_texts) (outside functions.after with_functions) (outside stage.Finished m) 0 0 functions.leads entry)))))
+    (then_leads classes (flat_map function_lines m.functions) (entry_line m.entry) (outside texts.after with_texts) (outside functions.after with_functions) (outside stage.Finished m) 0 0 functions.leads entry))))))
     refl (omega arith)
 
 pub read_again : (m : Module) → FitsImage m → module_of (listing m) ≡ Ok m

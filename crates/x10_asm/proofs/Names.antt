@@ -8,7 +8,7 @@ use Rattle.x10_code.specs.declared.op.Op.{Op}
 use Rattle.x10_code.specs.Table.{name_of, op_of_name}
 use Rattle.x10_code.proofs.Operations.{op_of_name-name_of, name_of-op_of_name}
 use Rattle.x10_asm.specs.declared.statement.Statement.{Statement}
-use Rattle.x10_asm.specs.declared.statement.Statement.TheVariants.{Silent, Places, Class, Int, Text, Func, End, Entry, Label}
+use Rattle.x10_asm.specs.declared.statement.Statement.TheVariants.{Silent, Version, Places, Class, Int, Text, Func, End, Entry, Label}
 use Rattle.x10_asm.specs.Lines.{begins, words, after_spaces}
 use Rattle.x10_asm.specs.Labels.{ends_in_colon}
 use Rattle.x10_asm.specs.Statements.{statement_of, label_or_instruction, instruction_or_unknown, statement_in, first_word}
@@ -56,7 +56,8 @@ label_ends_when word e =
     (passed_over (bytes_eq word (codes "int")) Int _ refl
     (passed_over (bytes_eq word (codes "class")) Class _ refl
     (passed_over (bytes_eq word (codes "places")) Places _ refl
-    (passed_over (begins 59 word) Silent _ refl e))))))))
+    (passed_over (bytes_eq word (codes "version")) Version _ refl
+    (passed_over (begins 59 word) Silent _ refl e)))))))))
 
 pub label_ends : (word : List ℕ) → statement_of word ≡ Label → ends_in_colon word ≡ true
 unfolding is_label
@@ -81,12 +82,13 @@ not_word p word other passes fails = elim (cases_Bool (bytes_eq word other)) [
 
 -- a word that passes a test which no fixed word passes, and that is no comment's, begins a label or an instruction
 pub no_keyword : (p : List ℕ → Bool) (word : List ℕ) → p word ≡ true → begins 59 word ≡ false
-    → p (codes "places") ≡ false → p (codes "class") ≡ false → p (codes "int") ≡ false → p (codes "text") ≡ false → p (codes "func") ≡ false → p (codes "end") ≡ false → p (codes "entry") ≡ false
+    → p (codes "version") ≡ false → p (codes "places") ≡ false → p (codes "class") ≡ false → p (codes "int") ≡ false → p (codes "text") ≡ false → p (codes "func") ≡ false → p (codes "end") ≡ false → p (codes "entry") ≡ false
     → statement_of word ≡ label_or_instruction word
 unfolding statement_of
-no_keyword p word passes comment places class int text func end entry =
+no_keyword p word passes comment version places class int text func end entry =
     rw (
       comment,
+      not_word p word (codes "version") passes version,
       not_word p word (codes "places") passes places,
       not_word p word (codes "class") passes class,
       not_word p word (codes "int") passes int,
@@ -97,7 +99,7 @@ no_keyword p word passes comment places class int text func end entry =
     ) refl
 
 pub label_is : (word : List ℕ) → begins 59 word ≡ false → ends_in_colon word ≡ true → statement_of word ≡ Label
-label_is word comment colon = no_keyword ends_in_colon word colon comment refl refl refl refl refl refl refl ∙ cond-true (ends_in_colon word) Label (instruction_or_unknown (op_of_name word)) colon
+label_is word comment colon = no_keyword ends_in_colon word colon comment refl refl refl refl refl refl refl refl ∙ cond-true (ends_in_colon word) Label (instruction_or_unknown (op_of_name word)) colon
 
 -- ---- classes, by their first word alone
 
@@ -114,13 +116,14 @@ other_no_class : (word : List ℕ) → bytes_eq word (codes "class") ≡ false �
 unfolding statement_of
 other_no_class word ne = rw ne
     (no_class (begins 59 word) Silent _ refl
+    (no_class (bytes_eq word (codes "version")) Version _ refl
     (no_class (bytes_eq word (codes "places")) Places _ refl
     (no_class (bytes_eq word (codes "int")) Int _ refl
     (no_class (bytes_eq word (codes "text")) Text _ refl
     (no_class (bytes_eq word (codes "func")) Func _ refl
     (no_class (bytes_eq word (codes "end")) End _ refl
     (no_class (bytes_eq word (codes "entry")) Entry _ refl
-    (no_class (ends_in_colon word) Label _ refl (named_no_class (op_of_name word))))))))))
+    (no_class (ends_in_colon word) Label _ refl (named_no_class (op_of_name word)))))))))))
 
 class_word : is_class (statement_of (codes "class")) ≡ true
 unfolding statement_of

@@ -1,15 +1,19 @@
 -- A text taken in, line by line.
 use Rattle.std.proofs.Common.{◌≡◌, ℕ, suc, ◌+◌, true, false, List, [], ◌∷◌, Result, Ok, Err, refl, sym, ap, ◌∙◌, add-one}
+use Rattle.x10_model.specs.declared.version.ImageVersion.{ImageVersion}
+use Rattle.x10_model.specs.declared.version.ImageVersion.TheVariants.{One}
 use Rattle.x10_model.specs.Modules.{Module}
 use Rattle.x10_image.specs.Written.{shown}
 use Rattle.x10_asm.specs.declared.fault.AsmCause.{AsmCause}
 use Rattle.x10_asm.specs.declared.fault.AsmCause.TheVariants as cause
 use Rattle.x10_asm.specs.declared.fault.AsmFault.{AsmFault}
 use Rattle.x10_asm.specs.declared.source.Source.{Source}
+use Rattle.x10_asm.specs.declared.statement.Statement.{Statement}
+use Rattle.x10_asm.specs.declared.statement.Statement.TheVariants as statement
 use Rattle.x10_asm.specs.Lines.{words}
 use Rattle.x10_asm.specs.Statements.{statement_in}
 use Rattle.x10_asm.specs.Reading as reading
-use Rattle.x10_asm.specs.Reading.{after_line, ended, go_on, fault_at, read_from, is_class, classes_in, is_finished}
+use Rattle.x10_asm.specs.Reading.{after_line, ended, go_on, fault_at, read_from, is_class, classes_in, version_by, version_in, is_finished}
 use Rattle.x10_asm.specs.Sources.{StandsFor}
 use Rattle.x10_asm.proofs.Taking.{IsTaken}
 
@@ -66,6 +70,24 @@ counted_more texts others text e k = ap classes_in e ∙ class_counted text othe
 
 pub counted_other : (texts others : List (List ℕ)) (text : List ℕ) → texts ≡ text ∷ others → is_class (statement_in (words text)) ≡ false → classes_in texts ≡ classes_in others
 counted_other texts others text e k = ap classes_in e ∙ other_passed text others k
+
+-- ---- the version
+
+pub version_step : (text : List ℕ) (others : List (List ℕ)) → version_in (text ∷ others) ≡ version_by (statement_in (words text)) (version_in others)
+unfolding version_in
+version_step text others = refl
+
+pub version_told : (texts others : List (List ℕ)) (text : List ℕ) (here : Statement) → texts ≡ text ∷ others → here ≡ statement_in (words text) → version_in texts ≡ version_by here (version_in others)
+version_told texts others text here e is = ap version_in e ∙ version_step text others ∙ ap (λ (x : Statement). version_by x (version_in others)) (sym is)
+
+pub version_by_other : (here : Statement) (after : ImageVersion) → (here ≡ statement.Silent → ⊥) → (here ≡ statement.Version → ⊥) → version_by here after ≡ One
+version_by_other statement.Silent after silent version = absurd (silent refl)
+version_by_other statement.Version after silent version = absurd (version refl)
+version_by_other _ after silent version = refl
+
+pub no_version : version_in [] ≡ One
+unfolding version_in
+no_version = refl
 
 -- ---- the end
 

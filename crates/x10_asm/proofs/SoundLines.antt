@@ -5,7 +5,9 @@ use Rattle.std.specs.Str.{is_utf8}
 use Rattle.x10_code.specs.declared.op.Op.{Op}
 use Rattle.x10_code.specs.Table.{form_of}
 use Rattle.x10_kinds.specs.declared.kind.Kind.{Kind}
-use Rattle.x10_model.specs.Modules.{Function}
+use Rattle.x10_model.specs.declared.version.ImageVersion.{ImageVersion}
+use Rattle.x10_model.specs.declared.version.ImageVersion.TheVariants.{One}
+use Rattle.x10_model.specs.Modules.{Function, is_known}
 use Rattle.x10_model.specs.declared.slot.Slot.{Slot}
 use Rattle.x10_model.specs.declared.limits.TheConstants.{MOST_BYTES, MOST_ENTRIES, MOST_FIELDS, MOST_FUNCTIONS, MOST_INSTRUCTIONS, MOST_PLACES}
 use Rattle.x10_model.specs.ReadingImages.{is_within}
@@ -22,9 +24,9 @@ use Rattle.x10_asm.specs.Labels.{Label}
 use Rattle.x10_asm.specs.Literals.{literal, unquoted, closed, fitting, scan}
 use Rattle.x10_asm.specs.Operands.{Last, operand_at, last_at, instruction_of, resolved}
 use Rattle.x10_asm.specs.Statements.{statement_in, first_word, other_words}
-use Rattle.x10_asm.specs.Reading.{Source, nothing_read, after_line, after_statement, with_places, with_class, with_int, with_text, with_func, with_instruction, with_end, with_entry, with_nothing, places_of, class_of, one_int, int_line_of, is_count, text_of, kinds_are_known, signature_of, signature_fits, function_with, func_of, end_of, entry_of, label_at}
-use Rattle.x10_asm.specs.Flaws.{HasNoFault, HasOperands}
-use Rattle.x10_asm.proofs.Taking.{line_gives}
+use Rattle.x10_asm.specs.Reading.{Source, nothing_read, after_line, after_statement, with_version, with_places, with_class, with_int, with_text, with_func, with_instruction, with_end, with_entry, with_nothing, one_version, version_of, places_of, class_of, one_int, int_line_of, is_count, text_of, kinds_are_known, signature_of, signature_fits, function_with, func_of, end_of, entry_of, label_at}
+use Rattle.x10_asm.specs.Flaws.{MayRead, HasNoFault, HasOperands}
+use Rattle.x10_asm.proofs.Taking.{line_gives, known_line}
 
 -- two facts of one answer
 pub if_ok_both : {X Y : Type 0} (r : Result X Y) (P Q R : X → Type 0) → ((x : X) → P x → Q x → R x) → IfOk r P → IfOk r Q → IfOk r R
@@ -32,22 +34,39 @@ if_ok_both (Ok x) P Q R f p q = f x p q
 if_ok_both (Err y) P Q R f p q = tt
 
 -- nothing was read, and these lines are in order now
-abbrev at : Stage → Source
-at s = record nothing_read { stage = s }
+abbrev at : ImageVersion → Stage → Source
+at version s = record nothing_read { stage = s; so_far = record nothing_read.so_far { version = version } }
 
 -- in one place the line is out of order, in another it isn't
-sound : (classes : ℕ) (text : List ℕ) (s t : Stage) → after_line classes (at s) 0 text [] ≡ Err cause.Order → (after_line classes (at t) 0 text [] ≡ Err cause.Order → ⊥) → HasNoFault classes text
-sound classes text s t a b = λ c f. b (f (at t) 0 [] ∙ sym (f (at s) 0 []) ∙ a)
+sound : (version : ImageVersion) (classes : ℕ) (text : List ℕ) (s t : Source) → MayRead version s (statement_in (words text)) → MayRead version t (statement_in (words text))
+    → after_line classes s 0 text [] ≡ Err cause.Order → (after_line classes t 0 text [] ≡ Err cause.Order → ⊥) → HasNoFault version classes text
+sound version classes text s t p q a b = λ c f. b (f t 0 [] q ∙ sym (f s 0 [] p) ∙ a)
 
-sound_by : (classes : ℕ) (text : List ℕ) (here wanted : Statement) (s t : Stage) → here ≡ statement_in (words text) → here ≡ wanted
-    → after_statement classes (at s) 0 text (words text) [] wanted ≡ Err cause.Order → (after_statement classes (at t) 0 text (words text) [] wanted ≡ Err cause.Order → ⊥) → HasNoFault classes text
-sound_by classes text here wanted s t e w a b =
-    sound classes text s t (line_gives classes (at s) 0 text [] here e wanted w ∙ a) (λ x. b (sym (line_gives classes (at t) 0 text [] here e wanted w) ∙ x))
+sound_by : (version : ImageVersion) (classes : ℕ) (text : List ℕ) (here wanted : Statement) (s t : Source) → here ≡ statement_in (words text) → here ≡ wanted → MayRead version s wanted → MayRead version t wanted
+    → after_statement classes s 0 text (words text) [] wanted ≡ Err cause.Order → (after_statement classes t 0 text (words text) [] wanted ≡ Err cause.Order → ⊥) → HasNoFault version classes text
+sound_by version classes text here wanted s t e w p q a b =
+    let is : wanted ≡ statement_in (words text) = sym w ∙ e in
+    sound version classes text s t (subst (MayRead version s) is p) (subst (MayRead version t) is q) (line_gives classes s 0 text [] here e wanted w ∙ a) (λ x. b (sym (line_gives classes t 0 text [] here e wanted w) ∙ x))
 
 -- ---- a line that says nothing
 
-pub sound_silent : (classes : ℕ) (text : List ℕ) (here : Statement) → here ≡ statement_in (words text) → here ≡ statement.Silent → HasNoFault classes text
-sound_silent classes text here e w = λ c f. let h = sym (line_gives classes (at stage.Start) 0 text [] here e statement.Silent w) ∙ f (at stage.Start) 0 [] in cc
+pub sound_silent : (version : ImageVersion) (classes : ℕ) (text : List ℕ) (here : Statement) → here ≡ statement_in (words text) → here ≡ statement.Silent → HasNoFault version classes text
+sound_silent version classes text here e w = λ c f. let h = sym (line_gives classes (at version stage.Start) 0 text [] here e statement.Silent w) ∙ f (at version stage.Start) 0 [] (subst (MayRead version (at version stage.Start)) (sym w ∙ e) tt) in cc
+
+-- ---- the version
+
+version_order : (ws : List (List ℕ)) → one_version ws ≡ Ok tt → version_of stage.Finished One ws ≡ Err cause.Order
+unfolding version_of
+version_order ws f = rw f refl
+
+version_other : (s : Source) (ws : List (List ℕ)) → one_version ws ≡ Ok tt → with_version s (version_of stage.Start One ws) ≡ Err cause.Order → ⊥
+unfolding version_of
+version_other s ws f = rw f (λ e. cc)
+
+pub sound_version : (version : ImageVersion) (classes : ℕ) (text : List ℕ) (ws : List (List ℕ)) (here : Statement) → here ≡ statement_in (words text) → ws ≡ other_words (words text) → here ≡ statement.Version → one_version ws ≡ Ok tt → HasNoFault version classes text
+sound_version version classes text ws here e r w f =
+    let g = subst (λ (x : List (List ℕ)). one_version x ≡ Ok tt) r f in
+    sound_by version classes text here statement.Version (at One stage.Finished) (at One stage.Start) e w tt tt (ap (with_version (at One stage.Finished)) (version_order (other_words (words text)) g)) (version_other (at One stage.Start) (other_words (words text)) g)
 
 -- ---- places
 
@@ -59,10 +78,10 @@ places_other : (s : Source) (ws : List (List ℕ)) (n : ℕ) → one_number 6553
 unfolding places_of
 places_other s ws n f = rw f (elim (is_within 1 MOST_PLACES n) as (λ b. with_places s (check b cause.Limit >> Ok n) ≡ Err cause.Order → ⊥) [ true ↦ λ e. cc | false ↦ λ e. cc ])
 
-pub sound_places : (classes : ℕ) (text : List ℕ) (ws : List (List ℕ)) (n : ℕ) (here : Statement) → here ≡ statement_in (words text) → ws ≡ other_words (words text) → here ≡ statement.Places → one_number 65535 ws ≡ Ok n → HasNoFault classes text
-sound_places classes text ws n here e r w f =
+pub sound_places : (version : ImageVersion) (classes : ℕ) (text : List ℕ) (ws : List (List ℕ)) (n : ℕ) (here : Statement) → here ≡ statement_in (words text) → ws ≡ other_words (words text) → here ≡ statement.Places → one_number 65535 ws ≡ Ok n → HasNoFault version classes text
+sound_places version classes text ws n here e r w f =
     let g = subst (λ (x : List (List ℕ)). one_number 65535 x ≡ Ok n) r f in
-    sound_by classes text here statement.Places stage.Finished stage.Start e w (ap (with_places (at stage.Finished)) (places_order (other_words (words text)) n g)) (places_other (at stage.Start) (other_words (words text)) n g)
+    sound_by version classes text here statement.Places (at version stage.Finished) (at version stage.Start) e w refl refl (ap (with_places (at version stage.Finished)) (places_order (other_words (words text)) n g)) (places_other (at version stage.Start) (other_words (words text)) n g)
 
 -- ---- classes
 
@@ -74,11 +93,11 @@ class_other : (s : Source) (classes before : ℕ) (ws : List (List ℕ)) (fields
 unfolding class_of
 class_other s classes before ws fields k f = rw (k, f) (elim (nat_le (length fields) MOST_FIELDS && nat_lt before MOST_ENTRIES) as (λ b. with_class s (check b cause.Limit >> Ok fields) ≡ Err cause.Order → ⊥) [ true ↦ λ e. cc | false ↦ λ e. cc ])
 
-pub sound_class : (classes : ℕ) (text : List ℕ) (ws : List (List ℕ)) (fields : List Kind) (here : Statement) → here ≡ statement_in (words text) → ws ≡ other_words (words text) → here ≡ statement.Class → are_known (field_of classes) ws ≡ true → each (field_of classes) ws ≡ Ok fields → HasNoFault classes text
-sound_class classes text ws fields here e r w k f =
+pub sound_class : (version : ImageVersion) (classes : ℕ) (text : List ℕ) (ws : List (List ℕ)) (fields : List Kind) (here : Statement) → here ≡ statement_in (words text) → ws ≡ other_words (words text) → here ≡ statement.Class → are_known (field_of classes) ws ≡ true → each (field_of classes) ws ≡ Ok fields → HasNoFault version classes text
+sound_class version classes text ws fields here e r w k f =
     let known = subst (λ (x : List (List ℕ)). are_known (field_of classes) x ≡ true) r k in
     let g = subst (λ (x : List (List ℕ)). each (field_of classes) x ≡ Ok fields) r f in
-    sound_by classes text here statement.Class stage.Finished stage.Classes e w (ap (with_class (at stage.Finished)) (class_order classes 0 (other_words (words text)) fields known g)) (class_other (at stage.Classes) classes 0 (other_words (words text)) fields known g)
+    sound_by version classes text here statement.Class (at version stage.Finished) (at version stage.Classes) e w refl refl (ap (with_class (at version stage.Finished)) (class_order classes 0 (other_words (words text)) fields known g)) (class_other (at version stage.Classes) classes 0 (other_words (words text)) fields known g)
 
 -- ---- constant numbers
 
@@ -90,10 +109,10 @@ int_other : (s : Source) (ws : List (List ℕ)) (z : ℤ) → one_int ws ≡ Ok 
 unfolding int_line_of
 int_other s ws z f = rw f (λ e. cc)
 
-pub sound_int : (classes : ℕ) (text : List ℕ) (ws : List (List ℕ)) (z : ℤ) (here : Statement) → here ≡ statement_in (words text) → ws ≡ other_words (words text) → here ≡ statement.Int → one_int ws ≡ Ok z → HasNoFault classes text
-sound_int classes text ws z here e r w f =
+pub sound_int : (version : ImageVersion) (classes : ℕ) (text : List ℕ) (ws : List (List ℕ)) (z : ℤ) (here : Statement) → here ≡ statement_in (words text) → ws ≡ other_words (words text) → here ≡ statement.Int → one_int ws ≡ Ok z → HasNoFault version classes text
+sound_int version classes text ws z here e r w f =
     let g = subst (λ (x : List (List ℕ)). one_int x ≡ Ok z) r f in
-    sound_by classes text here statement.Int stage.Finished stage.Classes e w (ap (with_int (at stage.Finished)) (int_order (other_words (words text)) z g)) (int_other (at stage.Classes) (other_words (words text)) z g)
+    sound_by version classes text here statement.Int (at version stage.Finished) (at version stage.Classes) e w refl refl (ap (with_int (at version stage.Finished)) (int_order (other_words (words text)) z g)) (int_other (at version stage.Classes) (other_words (words text)) z g)
 
 -- ---- what was read
 
@@ -165,10 +184,10 @@ text_other : (s : Source) (rest : List ℕ) → is_count (literal rest) ≡ fals
 unfolding text_of
 text_other s rest k = rw k (read_other s (literal rest) (literal_order rest))
 
-pub sound_text : (classes : ℕ) (text rest : List ℕ) (here : Statement) → here ≡ statement_in (words text) → rest ≡ after_word text → here ≡ statement.Text → is_count (literal rest) ≡ false → HasNoFault classes text
-sound_text classes text rest here e r w k =
+pub sound_text : (version : ImageVersion) (classes : ℕ) (text rest : List ℕ) (here : Statement) → here ≡ statement_in (words text) → rest ≡ after_word text → here ≡ statement.Text → is_count (literal rest) ≡ false → HasNoFault version classes text
+sound_text version classes text rest here e r w k =
     let g = subst (λ (x : List ℕ). is_count (literal x) ≡ false) r k in
-    sound_by classes text here statement.Text stage.Finished stage.Classes e w (ap (with_text (at stage.Finished)) (text_order 0 (after_word text) g)) (text_other (at stage.Classes) (after_word text) g)
+    sound_by version classes text here statement.Text (at version stage.Finished) (at version stage.Classes) e w refl refl (ap (with_text (at version stage.Finished)) (text_order 0 (after_word text) g)) (text_other (at version stage.Classes) (after_word text) g)
 
 -- ---- functions
 
@@ -180,11 +199,11 @@ func_other : (s : Source) (labels : List Label) (classes before : ℕ) (ws : Lis
 unfolding func_of
 func_other s labels classes before ws f k h = rw (k, h) (elim (signature_fits f && nat_lt before MOST_FUNCTIONS) as (λ b. with_func s labels (check b cause.Limit >> Ok f) ≡ Err cause.Order → ⊥) [ true ↦ λ e. cc | false ↦ λ e. cc ])
 
-pub sound_func : (classes : ℕ) (text : List ℕ) (ws : List (List ℕ)) (f : Function) (here : Statement) → here ≡ statement_in (words text) → ws ≡ other_words (words text) → here ≡ statement.Func → kinds_are_known classes ws ≡ true → signature_of classes ws ≡ Ok f → HasNoFault classes text
-sound_func classes text ws f here e r w k h =
+pub sound_func : (version : ImageVersion) (classes : ℕ) (text : List ℕ) (ws : List (List ℕ)) (f : Function) (here : Statement) → here ≡ statement_in (words text) → ws ≡ other_words (words text) → here ≡ statement.Func → kinds_are_known classes ws ≡ true → signature_of classes ws ≡ Ok f → HasNoFault version classes text
+sound_func version classes text ws f here e r w k h =
     let known = subst (λ (x : List (List ℕ)). kinds_are_known classes x ≡ true) r k in
     let g = subst (λ (x : List (List ℕ)). signature_of classes x ≡ Ok f) r h in
-    sound_by classes text here statement.Func stage.Finished stage.Classes e w (ap (with_func (at stage.Finished) _) (func_order classes 0 (other_words (words text)) f known g)) (func_other (at stage.Classes) _ classes 0 (other_words (words text)) f known g)
+    sound_by version classes text here statement.Func (at version stage.Finished) (at version stage.Classes) e w refl refl (ap (with_func (at version stage.Finished) _) (func_order classes 0 (other_words (words text)) f known g)) (func_other (at version stage.Classes) _ classes 0 (other_words (words text)) f known g)
 
 end_order : (ws : List (List ℕ)) → no_more ws ≡ Ok tt → end_of stage.Finished 0 ws ≡ Err cause.Order
 unfolding end_of
@@ -194,10 +213,10 @@ end_other : (s : Source) (ws : List (List ℕ)) → no_more ws ≡ Ok tt → wit
 unfolding end_of
 end_other s ws f = rw f (λ e. cc)
 
-pub sound_end : (classes : ℕ) (text : List ℕ) (ws : List (List ℕ)) (here : Statement) → here ≡ statement_in (words text) → ws ≡ other_words (words text) → here ≡ statement.End → no_more ws ≡ Ok tt → HasNoFault classes text
-sound_end classes text ws here e r w f =
+pub sound_end : (version : ImageVersion) (classes : ℕ) (text : List ℕ) (ws : List (List ℕ)) (here : Statement) → here ≡ statement_in (words text) → ws ≡ other_words (words text) → here ≡ statement.End → no_more ws ≡ Ok tt → HasNoFault version classes text
+sound_end version classes text ws here e r w f =
     let g = subst (λ (x : List (List ℕ)). no_more x ≡ Ok tt) r f in
-    sound_by classes text here statement.End stage.Finished stage.Inside e w (ap (with_end (at stage.Finished)) (end_order (other_words (words text)) g)) (end_other (at stage.Inside) (other_words (words text)) g)
+    sound_by version classes text here statement.End (at version stage.Finished) (at version stage.Inside) e w refl refl (ap (with_end (at version stage.Finished)) (end_order (other_words (words text)) g)) (end_other (at version stage.Inside) (other_words (words text)) g)
 
 entry_order : (ws : List (List ℕ)) (n : ℕ) → one_number 65535 ws ≡ Ok n → entry_of stage.Finished [] ws ≡ Err cause.Order
 unfolding entry_of
@@ -207,10 +226,10 @@ entry_other : (s : Source) (ws : List (List ℕ)) (n : ℕ) → one_number 65535
 unfolding entry_of
 entry_other s ws n f = rw f (λ e. cc)
 
-pub sound_entry : (classes : ℕ) (text : List ℕ) (ws : List (List ℕ)) (n : ℕ) (here : Statement) → here ≡ statement_in (words text) → ws ≡ other_words (words text) → here ≡ statement.Entry → one_number 65535 ws ≡ Ok n → HasNoFault classes text
-sound_entry classes text ws n here e r w f =
+pub sound_entry : (version : ImageVersion) (classes : ℕ) (text : List ℕ) (ws : List (List ℕ)) (n : ℕ) (here : Statement) → here ≡ statement_in (words text) → ws ≡ other_words (words text) → here ≡ statement.Entry → one_number 65535 ws ≡ Ok n → HasNoFault version classes text
+sound_entry version classes text ws n here e r w f =
     let g = subst (λ (x : List (List ℕ)). one_number 65535 x ≡ Ok n) r f in
-    sound_by classes text here statement.Entry stage.Finished stage.Functions e w (ap (with_entry (at stage.Finished)) (entry_order (other_words (words text)) n g)) (entry_other (at stage.Functions) (other_words (words text)) n g)
+    sound_by version classes text here statement.Entry (at version stage.Finished) (at version stage.Functions) e w refl refl (ap (with_entry (at version stage.Finished)) (entry_order (other_words (words text)) n g)) (entry_other (at version stage.Functions) (other_words (words text)) n g)
 
 label_order : (word : List ℕ) (ws : List (List ℕ)) → no_more ws ≡ Ok tt → label_at stage.Finished [] 0 word ws ≡ Err cause.Order
 unfolding label_at
@@ -220,10 +239,10 @@ label_other : (s : Source) (word : List ℕ) (ws : List (List ℕ)) → no_more 
 unfolding label_at
 label_other s word ws f = rw f (λ e. cc)
 
-pub sound_label : (classes : ℕ) (text : List ℕ) (ws : List (List ℕ)) (here : Statement) → here ≡ statement_in (words text) → ws ≡ other_words (words text) → here ≡ statement.Label → no_more ws ≡ Ok tt → HasNoFault classes text
-sound_label classes text ws here e r w f =
+pub sound_label : (version : ImageVersion) (classes : ℕ) (text : List ℕ) (ws : List (List ℕ)) (here : Statement) → here ≡ statement_in (words text) → ws ≡ other_words (words text) → here ≡ statement.Label → no_more ws ≡ Ok tt → HasNoFault version classes text
+sound_label version classes text ws here e r w f =
     let g = subst (λ (x : List (List ℕ)). no_more x ≡ Ok tt) r f in
-    sound_by classes text here statement.Label stage.Finished stage.Inside e w (ap (with_nothing (at stage.Finished)) (label_order (first_word (words text)) (other_words (words text)) g)) (label_other (at stage.Inside) (first_word (words text)) (other_words (words text)) g)
+    sound_by version classes text here statement.Label (at version stage.Finished) (at version stage.Inside) e w refl refl (ap (with_nothing (at version stage.Finished)) (label_order (first_word (words text)) (other_words (words text)) g)) (label_other (at version stage.Inside) (first_word (words text)) (other_words (words text)) g)
 
 -- ---- instructions
 
@@ -237,7 +256,10 @@ instruction_other s op ws h =
     rw (h.is_a, h.is_b, h.is_c, h.is_x, h.all)
     (elim h.x.name as (λ (name : Option (List ℕ)). with_instruction s (resolved [] name h.x.number >>= (λ target. check (nat_lt 0 MOST_INSTRUCTIONS) cause.Limit >> Ok (record { op = op; a = h.a.0; b = h.b.0; c = h.c.0; x = target }))) ≡ Err cause.Order → ⊥) [ None ↦ λ e. cc | Some name ↦ λ e. cc ])
 
-pub sound_instruction : (classes : ℕ) (text : List ℕ) (ws : List (List ℕ)) (op : Op) (here : Statement) → here ≡ statement_in (words text) → ws ≡ other_words (words text) → here ≡ statement.Instruction op → HasOperands op ws → HasNoFault classes text
-sound_instruction classes text ws op here e r w f =
+pub sound_instruction : (version : ImageVersion) (classes : ℕ) (text : List ℕ) (ws : List (List ℕ)) (op : Op) (here : Statement) → here ≡ statement_in (words text) → ws ≡ other_words (words text) → here ≡ statement.Instruction op → is_known version op ≡ true → HasOperands op ws → HasNoFault version classes text
+sound_instruction version classes text ws op here e r w known f =
     let g = subst (λ (x : List (List ℕ)). HasOperands op x) r f in
-    sound_by classes text here (statement.Instruction op) stage.Finished stage.Inside e w (ap (with_instruction (at stage.Finished)) (instruction_order op (other_words (words text)) g)) (instruction_other (at stage.Inside) op (other_words (words text)) g)
+    let others = other_words (words text) in
+    sound_by version classes text here (statement.Instruction op) (at version stage.Finished) (at version stage.Inside) e w refl refl
+    (known_line (at version stage.Finished) op others known ∙ ap (with_instruction (at version stage.Finished)) (instruction_order op others g))
+    (λ x. instruction_other (at version stage.Inside) op others g (sym (known_line (at version stage.Inside) op others known) ∙ x))

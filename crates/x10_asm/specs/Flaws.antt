@@ -2,18 +2,31 @@
 use Rattle.std.specs.Prelude.{◌≡◌, ℕ, List, Ok, Err}
 use Rattle.x10_code.specs.declared.op.Op.{Op}
 use Rattle.x10_code.specs.Table.{form_of}
+use Rattle.x10_model.specs.declared.version.ImageVersion.{ImageVersion}
 use Rattle.x10_asm.specs.declared.fault.AsmCause.{AsmCause}
+use Rattle.x10_asm.specs.declared.statement.Statement.{Statement}
+use Rattle.x10_asm.specs.declared.statement.Statement.TheVariants as statement
+use Rattle.x10_asm.specs.Lines.{words}
 use Rattle.x10_asm.specs.Checks.{no_more}
 use Rattle.x10_asm.specs.Operands.{Last, operand_at, last_at}
+use Rattle.x10_asm.specs.Statements.{statement_in}
 use Rattle.x10_asm.specs.Reading.{Source, after_line}
 
--- in a text with so many classes, the line is refused by this cause wherever it stands
-abbrev pub IsFaultOf : ℕ → List ℕ → AsmCause → Type 0
-IsFaultOf classes text cause = (s : Source) (number : ℕ) (others : List (List ℕ)) → after_line classes s number text others ≡ Err cause
+-- a line that says this may be read in this state, in a text of this version: it was read before each line that says something
+-- else than a version
+abbrev pub MayRead : ImageVersion → Source → Statement → Type 0
+MayRead version s statement.Silent = Unit {0}
+MayRead version s statement.Version = Unit {0}
+MayRead version s _ = s.so_far.version ≡ version
+
+-- in a text of this version with so many classes, the line is refused by this cause wherever it stands
+abbrev pub IsFaultOf : ImageVersion → ℕ → List ℕ → AsmCause → Type 0
+IsFaultOf version classes text cause =
+    (s : Source) (number : ℕ) (others : List (List ℕ)) → MayRead version s (statement_in (words text)) → after_line classes s number text others ≡ Err cause
 
 -- by no cause is it refused wherever it stands
-abbrev pub HasNoFault : ℕ → List ℕ → Type 0
-HasNoFault classes text = (cause : AsmCause) → IsFaultOf classes text cause → ⊥
+abbrev pub HasNoFault : ImageVersion → ℕ → List ℕ → Type 0
+HasNoFault version classes text = (cause : AsmCause) → IsFaultOf version classes text cause → ⊥
 
 -- the words are the operands of the operation, each one that its form names, and no more
 pub record HasOperands (op : Op) (ws : List (List ℕ)) : Type 0 where

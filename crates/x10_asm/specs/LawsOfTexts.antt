@@ -3,7 +3,8 @@ use Rattle.std.specs.Prelude.{◌≡◌, ℕ, List, Ok}
 use Rattle.x10_model.specs.Modules.{Module, FitsImage}
 use Rattle.x10_asm.specs.Comments.{said}
 use Rattle.x10_asm.specs.Listing.{listing}
-use Rattle.x10_asm.specs.Reading.{module_of}
+use Rattle.x10_asm.specs.Lines.{lines}
+use Rattle.x10_asm.specs.Reading.{version_in, module_of}
 
 -- a listing is read again
 abbrev pub ListingIsRead : Type 0
@@ -16,3 +17,7 @@ CommentedIsRead = (m : Module) (text : List ℕ) → FitsImage m → said text �
 -- a module that a text spells has an image
 abbrev pub SpelledFits : Type 0
 SpelledFits = (text : List ℕ) (m : Module) → module_of text ≡ Ok m → FitsImage m
+
+-- the version that a text tells is that of the module that it spells
+abbrev pub VersionIsTold : Type 0
+VersionIsTold = (text : List ℕ) (m : Module) → module_of text ≡ Ok m → m.version ≡ version_in (lines text)

@@ -9,6 +9,8 @@ use Rattle.x10_code.specs.declared.instr.Instr.{Instr}
 use Rattle.x10_code.specs.declared.operands.Operand.{Operand}
 use Rattle.x10_code.specs.declared.operands.Operand.TheVariants as operand
 use Rattle.x10_code.specs.Table.{name_of, form_of}
+use Rattle.x10_model.specs.declared.version.ImageVersion.{ImageVersion}
+use Rattle.x10_model.specs.declared.version.ImageVersion.TheVariants.{One, Two}
 use Rattle.x10_model.specs.Modules.{Function, Module}
 use Rattle.x10_model.specs.declared.slot.Slot.{Slot}
 
@@ -68,6 +70,11 @@ operand_words i =
 
 -- ---- lines
 
+-- version 1 has no line
+unfoldable pub version_lines : ImageVersion → List ℕ
+version_lines One = []
+version_lines Two = line (codes "version") (decimal 2 ∷ [])
+
 unfoldable pub places_line : ℕ → List ℕ
 places_line n = line (codes "places") (decimal n ∷ [])
 
@@ -99,9 +106,10 @@ entry_line n = line (codes "entry") (decimal n ∷ [])
 -- the canonical text of a module
 unfoldable pub listing : Module → List ℕ
 listing m =
-    places_line m.least_places
+    version_lines m.version
+    ++ (places_line m.least_places
     ++ (flat_map class_line m.classes
     ++ (flat_map int_line m.ints
     ++ (flat_map text_line m.texts
     ++ (flat_map function_lines m.functions
-    ++ entry_line m.entry))))
+    ++ entry_line m.entry)))))

@@ -4,8 +4,11 @@ use Rattle.std.specs.Prelude.{Result, Ok, Err, if◌then◌else◌, slice_get}
 use Rattle.x10_model.specs.declared.limits.TheConstants.{MOST_ENTRIES, MOST_FIELDS, MOST_FUNCTIONS, MOST_PLACES}
 use Rattle.x10_kinds.specs.declared.kind.Kind.{Kind}
 use Rattle.x10_code.specs.declared.instr.Instr.{Instr}
+use Rattle.x10_code.specs.declared.op.Op.{Op}
 use Rattle.x10_model.specs.declared.slot.Slot.{Slot}
-use Rattle.x10_model.specs.Modules.{Function, Module}
+use Rattle.x10_model.specs.declared.version.ImageVersion.{ImageVersion}
+use Rattle.x10_model.specs.declared.version.ImageVersion.TheVariants.{One, Two}
+use Rattle.x10_model.specs.Modules.{Function, Module, is_known}
 use Rattle.x10_model.specs.ReadingImages.{is_within, is_entry}
 use Rattle.x10_asm.specs.declared.fault.AsmCause.{AsmCause}
 use Rattle.x10_asm.specs.declared.fault.AsmCause.TheVariants as cause
@@ -62,6 +65,23 @@ is_finished stage.Finished = true
 is_finished _ = false
 
 -- ---- lines, each by the words after its first
+
+abbrev pub is_one : ImageVersion → Bool
+is_one One = true
+is_one Two = false
+
+-- the number 2 and nothing else
+abbrev pub one_version : List (List ℕ) → Result (Unit {0}) AsmCause
+one_version ws = do
+  p ← number_at 2 ws
+  check (p.0 == 2) cause.Number
+  no_more p.1
+
+-- before all other lines, in a text that has had none such
+unfoldable pub version_of : Stage → ImageVersion → List (List ℕ) → Result (Unit {0}) AsmCause
+version_of s before ws = do
+  one_version ws
+  check (is_start s && is_one before) cause.Order
 
 unfoldable pub places_of : Stage → List (List ℕ) → Result ℕ AsmCause
 places_of s ws = do
@@ -173,6 +193,10 @@ pub record Source : Type 0 where
 abbrev pub no_function : Function
 no_function = function_with 0 0 None []
 
+abbrev pub with_version : Source → Result (Unit {0}) AsmCause → Result Source AsmCause
+with_version s (Ok u) = Ok (record s { so_far = record s.so_far { version = Two } })
+with_version s (Err fault) = Err fault
+
 abbrev pub with_places : Source → Result ℕ AsmCause → Result Source AsmCause
 with_places s (Ok n) = Ok (record s { stage = stage.Classes; so_far = record s.so_far { least_places = n } })
 with_places s (Err fault) = Err fault
@@ -210,9 +234,15 @@ abbrev pub with_nothing : Source → Result (Unit {0}) AsmCause → Result Sourc
 with_nothing s (Ok u) = Ok s
 with_nothing s (Err fault) = Err fault
 
+-- an instruction, whose operation has to be one that an image of the version may have
+abbrev pub instruction_line_of : Source → Op → List (List ℕ) → Result Source AsmCause
+instruction_line_of s op ws =
+    if is_known s.so_far.version op then with_instruction s (instruction_of s.labels (is_inside s.stage) (length s.function.code) op ws) else Err cause.Word
+
 -- what is read after a line, given the number of classes, the line's number, its bytes and words, and the lines after it
 abbrev pub after_statement : ℕ → Source → ℕ → List ℕ → List (List ℕ) → List (List ℕ) → Statement → Result Source AsmCause
 after_statement classes s line text ws others statement.Silent = Ok s
+after_statement classes s line text ws others statement.Version = with_version s (version_of s.stage s.so_far.version (other_words ws))
 after_statement classes s line text ws others statement.Places = with_places s (places_of s.stage (other_words ws))
 after_statement classes s line text ws others statement.Class = with_class s (class_of s.stage classes (length s.so_far.classes) (other_words ws))
 after_statement classes s line text ws others statement.Int = with_int s (int_line_of s.stage (length s.so_far.ints) (other_words ws))
@@ -222,8 +252,7 @@ after_statement classes s line text ws others statement.Func = with_func s (labe
 after_statement classes s line text ws others statement.End = with_end s (end_of s.stage (length s.function.code) (other_words ws))
 after_statement classes s line text ws others statement.Entry = with_entry s (entry_of s.stage s.so_far.functions (other_words ws))
 after_statement classes s line text ws others statement.Label = with_nothing s (label_at s.stage s.labels line (first_word ws) (other_words ws))
-after_statement classes s line text ws others (statement.Instruction op) = with_instruction s
-    (instruction_of s.labels (is_inside s.stage) (length s.function.code) op (other_words ws))
+after_statement classes s line text ws others (statement.Instruction op) = instruction_line_of s op (other_words ws)
 after_statement classes s line text ws others statement.Unknown = Err cause.Word
 
 unfoldable pub after_line : ℕ → Source → ℕ → List ℕ → List (List ℕ) → Result Source AsmCause
@@ -254,10 +283,21 @@ unfoldable pub classes_in : List (List ℕ) → ℕ
 classes_in [] = 0
 classes_in (text ∷ others) = if is_class (statement_in (words text)) then suc (classes_in others) else classes_in others
 
+-- the version of a text that has it after a line
+abbrev pub version_by : Statement → ImageVersion → ImageVersion
+version_by statement.Silent after = after
+version_by statement.Version after = Two
+version_by _ after = One
+
+-- the version of a text with these lines: by the first of them that says something
+unfoldable pub version_in : List (List ℕ) → ImageVersion
+version_in [] = One
+version_in (text ∷ others) = version_by (statement_in (words text)) (version_in others)
+
 abbrev pub nothing_read : Source
 nothing_read = record {
   stage = stage.Start;
-  so_far = record { least_places = 0; classes = []; ints = []; texts = []; functions = []; entry = 0 };
+  so_far = record { version = One; least_places = 0; classes = []; ints = []; texts = []; functions = []; entry = 0 };
   function = no_function;
   labels = [];
 }

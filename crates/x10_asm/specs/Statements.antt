@@ -4,7 +4,7 @@ use Rattle.std.specs.Str.{bytes_eq}
 use Rattle.x10_code.specs.declared.op.Op.{Op}
 use Rattle.x10_code.specs.Table.{op_of_name}
 use Rattle.x10_asm.specs.declared.statement.Statement.{Statement}
-use Rattle.x10_asm.specs.declared.statement.Statement.TheVariants.{Silent, Places, Class, Int, Text, Func, End, Entry, Label, Instruction, Unknown}
+use Rattle.x10_asm.specs.declared.statement.Statement.TheVariants.{Silent, Version, Places, Class, Int, Text, Func, End, Entry, Label, Instruction, Unknown}
 use Rattle.x10_asm.specs.Lines.{begins}
 use Rattle.x10_asm.specs.Labels.{ends_in_colon}
 
@@ -25,6 +25,7 @@ begins_name (first ∷ others) = nat_lt first 97
 unfoldable pub statement_of : List ℕ → Statement
 statement_of word =
     if begins 59 word then Silent
+    else (if bytes_eq word (codes "version") then Version
     else (if bytes_eq word (codes "places") then Places
     else (if bytes_eq word (codes "class") then Class
     else (if bytes_eq word (codes "int") then Int
@@ -32,7 +33,7 @@ statement_of word =
     else (if bytes_eq word (codes "func") then Func
     else (if bytes_eq word (codes "end") then End
     else (if bytes_eq word (codes "entry") then Entry
-    else label_or_instruction word)))))))
+    else label_or_instruction word))))))))
 
 -- what a line of words says; a blank line says nothing
 abbrev pub statement_in : List (List ℕ) → Statement

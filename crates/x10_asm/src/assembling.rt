@@ -16,8 +16,10 @@ use crate::fault::{AsmCause, AsmFault};
 use crate::source::{Source, nothing_read};
 use crate::split::{after_spaces, begins, next_line, next_word};
 use crate::stage::is_finished;
+use crate::statement::{Line, Statement, line_of};
 use std::alloc::Global;
 use x10_image::{ImageFault, Module, write};
+use x10_model::ImageVersion;
 
 /// Whether the first word of a line is a class's.
 fn names_class(line: &str) -> bool
@@ -49,6 +51,22 @@ pub fn classes_in(text: &str) -> usize
         rest = after;
     }
     count
+}
+
+/// The version of the image that a text spells, if it spells one: 2 where the first line that says something begins with the word
+/// `version`, else 1. One pass up to that line; takes no memory.
+pub fn version_in(text: &str) -> ImageVersion
+    ensures { result ≡ reading.version_in (lines text.now) }
+{
+    let mut rest = text;
+    while let Some((line, after)) = next_line(rest) {
+        match line_of(line).statement {
+            Statement::Silent => rest = after,
+            Statement::Version => return ImageVersion::Two,
+            _ => return ImageVersion::One,
+        }
+    }
+    ImageVersion::One
 }
 
 /// The fault of a line; lack of memory is no line's fault.

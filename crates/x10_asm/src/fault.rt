@@ -7,7 +7,8 @@ use thiserror::Error;
 /// What is wrong with a line of a text. Where several causes apply, the first of them is named.
 #[derive(Clone, Copy, Debug, PartialEq, Eq, Error)]
 pub enum AsmCause {
-    /// A first word that begins no line, or a word that is no kind.
+    /// A first word that begins no line or names an operation that the version doesn't have, or a word
+    /// that is no kind.
     #[error("Word")]
     Word,
     /// A word that is no number, or one outside its field.

@@ -15,7 +15,7 @@ ghost use Rattle.x10_asm.specs.Literals as literals;
 ghost use Rattle.x10_asm.specs.Flaws.{IsFaultOf, HasNoFault, HasOperands};
 ghost use Rattle.x10_kinds.specs.declared.kind.Kind.{Kind as KindOf};
 ghost use Rattle.x10_model.specs.declared.slot.Slot.{Slot as SlotOf};
-ghost use Rattle.x10_model.specs.Modules.{Function as FunctionOf};
+ghost use Rattle.x10_model.specs.Modules.{is_known, Function as FunctionOf};
 
 use crate::fault::AsmCause;
 use crate::kind::{field_of, result_is_known, result_of, slot_of};
@@ -25,6 +25,8 @@ use crate::operand::{last_at, operand_at};
 use crate::split::{after_spaces, begins, next_word, stripped};
 use crate::statement::{Line, Statement, line_of};
 use x10_code::{Op, Operand, form};
+use x10_image::is_known;
+use x10_model::ImageVersion;
 
 /// A word at which a line is faulty, with the cause that is the line's.
 #[derive(Clone, Copy)]
@@ -83,6 +85,18 @@ fn past_one_number(line: &str, most: u64) -> Result<(), Flaw<'_>>
     past_all(rest)
 }
 
+/// The number of a version alone.
+fn past_version(line: &str) -> Result<(), Flaw<'_>>
+    ensures passed { IfOk result (λ _. reading.one_version (words line.now) ≡ Ok tt) }
+    ensures flawed { IfErr result (λ flaw. reading.one_version (words line.now) ≡ Err flaw.cause) }
+{
+    match number_at(line, 2) {
+        Ok((2, rest)) => past_all(rest),
+        Ok(_) => Err(at_next(line, AsmCause::Number)),
+        Err(cause) => Err(at_next(line, cause)),
+    }
+}
+
 /// One number of 64 bits alone.
 fn past_one_int(line: &str) -> Result<(), Flaw<'_>>
     ensures passed { IfOk result (λ _. (z : ℤ) × (reading.one_int (words line.now) ≡ Ok z)) }
@@ -131,6 +145,23 @@ fn past_operands(line: &str, op: Op) -> Result<(), Flaw<'_>>
     let line = past_operand(line, form.c)?;
     let line = past_last(line, form.x)?;
     past_all(line)
+}
+
+/// An operation that the version knows, and its operands alone; they are what follows the first word of the line.
+fn past_instruction<'a>(
+    line: &'a str,
+    rest: &'a str,
+    version: ImageVersion,
+    op: Op,
+) -> Result<(), Flaw<'a>>
+    ensures known { IfOk result (λ _. is_known version op ≡ true) }
+    ensures passed { IfOk result (λ _. HasOperands op (words rest.now)) }
+    ensures flawed { IfErr result (λ flaw. (s : reading.Source) → s.so_far.version ≡ version → reading.instruction_line_of s op (words rest.now) ≡ Err flaw.cause) }
+{
+    if !is_known(version, op) {
+        return Err(at_next(line, AsmCause::Word));
+    }
+    past_operands(rest, op)
 }
 
 /// The first word that is no kind of a field, its class aside.
@@ -277,13 +308,14 @@ fn past_text(line: &str) -> Result<(), Flaw<'_>>
 }
 
 /// A line whose words are those that may be there.
-fn past_line(line: &str, classes: usize) -> Result<(), Flaw<'_>>
-    ensures passed { IfOk result (λ _. HasNoFault classes line.now) }
-    ensures flawed { IfErr result (λ flaw. IsFaultOf classes line.now flaw.cause) }
+fn past_line(line: &str, classes: usize, version: ImageVersion) -> Result<(), Flaw<'_>>
+    ensures passed { IfOk result (λ _. HasNoFault version classes line.now) }
+    ensures flawed { IfErr result (λ flaw. IsFaultOf version classes line.now flaw.cause) }
 {
     let parts = line_of(line);
     match parts.statement {
         Statement::Silent => Ok(()),
+        Statement::Version => past_version(parts.rest),
         Statement::Places => past_one_number(parts.rest, 65535),
         Statement::Class => past_class(parts.rest, classes),
         Statement::Int => past_one_int(parts.rest),
@@ -292,18 +324,19 @@ fn past_line(line: &str, classes: usize) -> Result<(), Flaw<'_>>
         Statement::End => past_all(parts.rest),
         Statement::Entry => past_one_number(parts.rest, 65535),
         Statement::Label => past_all(parts.rest),
-        Statement::Instruction(op) => past_operands(parts.rest, op),
+        Statement::Instruction(op) => past_instruction(line, parts.rest, version, op),
         Statement::Unknown => Err(at_next(line, AsmCause::Word)),
     }
 }
 
-/// The first word at which a line of a text with `classes` classes is faulty, whatever the other lines say: one that is
-/// unknown, that is not a number or not one in its range, that is one too many, or one that is missing. Its cause is the line's
-/// in each text with `classes` classes. Nothing only where no cause is: whether the line is refused, and for which cause,
-/// depends on the lines before it and after it. So it is with faults in quotes, whose line may be out of order, which counts
-/// first, and with order, labels, limits and the entry. One pass over the line, or two.
-pub fn flaw_of(line: &str, classes: usize) -> Option<Flaw<'_>>
-    ensures { MatchOption result (HasNoFault classes line.now) (λ flaw. IsFaultOf classes line.now flaw.cause) }
+/// The first word at which a line of a text of the version with `classes` classes is faulty, whatever the other lines say: one
+/// that is unknown, an operation that the version doesn't have, one that is not a number or not one in its range, that is one too
+/// many, or one that is missing. Its cause is the line's in each text of the version (`version_in`) with `classes` classes.
+/// Nothing only where no cause is: whether the line is refused, and for which cause, depends on the lines before it and after it.
+/// So it is with faults in quotes, whose line may be out of order, which counts first, and with order, labels, limits and the
+/// entry. One pass over the line, or two.
+pub fn flaw_of(line: &str, classes: usize, version: ImageVersion) -> Option<Flaw<'_>>
+    ensures { MatchOption result (HasNoFault version classes line.now) (λ flaw. IsFaultOf version classes line.now flaw.cause) }
 {
-    past_line(line, classes).err()
+    past_line(line, classes, version).err()
 }

@@ -22,7 +22,24 @@ use crate::stage::{Stage, takes_func, takes_int, takes_text};
 use std::alloc::Global;
 use x10_image::{Function, signature_fits};
 use x10_kinds::Kind;
+use x10_model::ImageVersion;
 use x10_model::limits::{MOST_ENTRIES, MOST_FIELDS, MOST_FUNCTIONS, MOST_PLACES};
+
+/// The version of the image, by its number, which is 2: a line that stands before all others. `before` is the version so far.
+#[tactic(auto, unfolding(crate::specs::Reading::version_of))]
+pub fn version_of(stage: Stage, before: ImageVersion, line: &str) -> Result<(), AsmCause>
+    ensures { result ≡ reading.version_of stage before (words line.now) }
+{
+    let (number, rest) = number_at(line, 2)?;
+    if number != 2 {
+        return Err(AsmCause::Number);
+    }
+    no_more(rest)?;
+    if stage != Stage::Start || before != ImageVersion::One {
+        return Err(AsmCause::Order);
+    }
+    Ok(())
+}
 
 /// The least number of places.
 #[tactic(auto, unfolding(crate::specs::Reading::places_of))]

@@ -9,15 +9,30 @@ ghost use Rattle.x10_model.specs.Ranges.{function_at};
 ghost use Rattle.x10_image.specs.Parts.{code_at};
 ghost use Rattle.x10_asm.specs.Reading.{module_of};
 ghost use Rattle.x10_asm.specs.Listing as text;
-ghost use Rattle.x10_asm.specs.Listing.{spaced, kind_word, slot_word, operand_word, operand_words, places_line, class_line, int_line, text_line, func_line, instruction_line, end_line, function_lines, entry_line};
+ghost use Rattle.x10_asm.specs.Listing.{spaced, kind_word, slot_word, operand_word, operand_words, version_lines, places_line, class_line, int_line, text_line, func_line, instruction_line, end_line, function_lines, entry_line};
 
 use crate::escape::push_quoted;
 use crate::words::{push_int, push_kind, push_number, push_result, push_slot};
 use std::alloc::{AllocError, Global};
 use x10_code::{Instr, Operand, form, name};
 use x10_image::{ClassView, ImageView, SigView};
+use x10_model::ImageVersion;
 
-/// Pushes the first line: the least number of places.
+/// Pushes the line of the version; an image of version 1 has none.
+#[tactic(auto, unfolding(crate::specs::Listing::version_lines))]
+pub fn push_version(out: &mut String, version: ImageVersion) -> Result<(), AllocError>
+    ensures { OnOk result (string_bytes out.new ≡ string_bytes out.old ++ version_lines version) }
+{
+    if version == ImageVersion::One {
+        return Ok(());
+    }
+    out.push_str("version")?;
+    push_number(out, 2)?;
+    out.push('\n')?;
+    Ok(())
+}
+
+/// Pushes the line of the least number of places.
 #[tactic(auto, unfolding(crate::specs::Listing::places_line))]
 pub fn push_places(out: &mut String, places: u16) -> Result<(), AllocError>
     ensures { OnOk result (string_bytes out.new ≡ string_bytes out.old ++ places_line places) }
@@ -214,6 +229,7 @@ fn whole(alloc: Global, image: &ImageView<'_>) -> Result<String, AllocError>
     ensures { IfOk result (λ s. string_bytes s ≡ text.listing image.now) }
 {
     let mut out = String::new(alloc);
+    push_version(&mut out, image.version())?;
     push_places(&mut out, image.least())?;
     push_classes(&mut out, image)?;
     push_ints(&mut out, image)?;

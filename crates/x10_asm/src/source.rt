@@ -6,14 +6,15 @@ ghost use Rattle.x10_asm.specs.declared.statement.Statement.TheVariants.{Label};
 ghost use Rattle.x10_asm.specs.Lines.{lines, words};
 ghost use Rattle.x10_asm.specs.Labels as labels;
 ghost use Rattle.x10_asm.specs.LabelLines.{labels_from};
-ghost use Rattle.x10_asm.specs.Operands as operands;
 ghost use Rattle.x10_asm.specs.Reading as reading;
 ghost use Rattle.x10_asm.specs.Lines as spec;
 ghost use Rattle.x10_asm.specs.Sources.{StandsFor, Takes};
 
 use crate::fault::AsmCause;
 use crate::label::{Table, labels_of};
-use crate::lines::{class_of, end_of, entry_of, func_of, int_of, label_at, places_of, text_of};
+use crate::lines::{
+    class_of, end_of, entry_of, func_of, int_of, label_at, places_of, text_of, version_of,
+};
 use crate::operand::instruction_of;
 use crate::stage::{Stage, is_inside};
 use crate::statement::{Line, Statement, line_of};
@@ -21,7 +22,8 @@ use std::alloc::Global;
 use std::collections::BTreeMap;
 use std::mem::replace;
 use x10_code::Op;
-use x10_image::{Function, Module};
+use x10_image::{Function, Module, is_known};
+use x10_model::ImageVersion;
 
 /// What was read of a text: the module so far, and the function that has begun and not ended, with
 /// its labels.
@@ -52,6 +54,7 @@ pub fn nothing_read<'a>(alloc: Global) -> Source<'a>
     Source {
         stage: Stage::Start,
         so_far: Module {
+            version: ImageVersion::One,
             least_places: 0,
             classes: Vec::new(alloc),
             ints: Vec::new(alloc),
@@ -65,6 +68,14 @@ pub fn nothing_read<'a>(alloc: Global) -> Source<'a>
 }
 
 impl<'a> Source<'a> {
+    fn take_version(&mut self, line: &str) -> Result<(), AsmCause>
+        ensures { (s : reading.Source) → StandsFor self.old s → Takes self.new result (reading.with_version s (reading.version_of s.stage s.so_far.version (words line.now))) }
+    {
+        version_of(self.stage, self.so_far.version, line)?;
+        self.so_far.version = ImageVersion::Two;
+        Ok(())
+    }
+
     fn take_places(&mut self, line: &str) -> Result<(), AsmCause>
         ensures { (s : reading.Source) → StandsFor self.old s → Takes self.new result (reading.with_places s (reading.places_of s.stage (words line.now))) }
     {
@@ -124,8 +135,11 @@ impl<'a> Source<'a> {
     }
 
     fn take_instruction(&mut self, op: Op, line: &'a str) -> Result<(), AsmCause>
-        ensures { (s : reading.Source) → StandsFor self.old s → Takes self.new result (reading.with_instruction s (operands.instruction_of s.labels (reading.is_inside s.stage) (length s.function.code) op (words line.now))) }
+        ensures { (s : reading.Source) → StandsFor self.old s → Takes self.new result (reading.instruction_line_of s op (words line.now)) }
     {
+        if !is_known(self.so_far.version, op) {
+            return Err(AsmCause::Word);
+        }
         let inside = is_inside(self.stage);
         let count = self.function.code.len();
         let instr = instruction_of(&self.labels, inside, count, op, line)?;
@@ -176,6 +190,7 @@ impl<'a> Source<'a> {
         let line = line_of(text);
         match line.statement {
             Statement::Silent => Ok(()),
+            Statement::Version => self.take_version(line.rest),
             Statement::Places => self.take_places(line.rest),
             Statement::Class => self.take_class(alloc, classes, line.rest),
             Statement::Int => self.take_int(line.rest),

@@ -17,6 +17,8 @@ use x10_code::{Op, op_named};
 pub enum Statement {
     /// Nothing: the line is blank or a comment.
     Silent,
+    /// The version of the image.
+    Version,
     /// The least number of places.
     Places,
     /// A class.
@@ -61,6 +63,9 @@ fn keyword(word: &str) -> Statement
     requires label { labels.ends_in_colon word.now ≡ false }
     ensures { result ≡ statements.statement_of word.now }
 {
+    if word == "version" {
+        return Statement::Version;
+    }
     if word == "places" {
         return Statement::Places;
     }

@@ -5,8 +5,8 @@ use Rattle.std.specs.Prelude.{nat_lt, slice_get}
 use Rattle.x10_code.specs.declared.op.Op.{Op}
 use Rattle.x10_code.specs.declared.op.Op.TheVariants as op
 use Rattle.x10_code.specs.declared.instr.Instr.{Instr}
-use Rattle.x10_model.specs.Structure.{Region, Turning, Waiting, opener_of, outside, regions_after, passed, around, is_loop, same_openers, leaves_loops, depth_of}
-use Rattle.x10_bounds.specs.Spots.{finishes_of, begins_before}
+use Rattle.x10_model.specs.Structure.{Region, Turning, Waiting, Atomic, opener_of, outside, regions_after, passed, around, is_loop, same_openers, leaves_loops, depth_of}
+use Rattle.x10_bounds.specs.Spots.{finishes_of, atomics_of, begins_before}
 
 -- each region begins before a bound, and what is around it is what is around its opener
 abbrev pub IsChain : List Instr → ℕ → List Region → Type 0
@@ -24,8 +24,10 @@ outside_chain code bound (r ∷ rs) c = weaker code (opener_of r) bound rs (omeg
 after_chain : (code : List Instr) (pc : ℕ) (o : Op) (i : Instr) → IsChain code pc (around code pc) → IsChain code (suc pc) (regions_after o pc i (around code pc))
 after_chain code pc op.Loop i c = (omega arith, refl, c)
 after_chain code pc op.Finb i c = (omega arith, refl, c)
+after_chain code pc op.Atomb i c = (omega arith, refl, c)
 after_chain code pc op.Endl i c = weaker code pc (suc pc) (outside (around code pc)) (omega arith) (outside_chain code pc (around code pc) c)
 after_chain code pc op.Fine i c = weaker code pc (suc pc) (outside (around code pc)) (omega arith) (outside_chain code pc (around code pc) c)
+after_chain code pc op.Atome i c = weaker code pc (suc pc) (outside (around code pc)) (omega arith) (outside_chain code pc (around code pc) c)
 after_chain code pc _ i c = weaker code pc (suc pc) (around code pc) (omega arith) c
 
 passed_chain : (code : List Instr) (pc : ℕ) (i : Option Instr) → IsChain code pc (around code pc) → IsChain code (suc pc) (passed i pc (around code pc))
@@ -65,8 +67,10 @@ outside_later pc from (r ∷ entered) count a = record { entered = entered; coun
 after_later : (o : Op) (pc n : ℕ) (i : Instr) (from to : List Region) → pc ≤ n → IsLater pc from to → IsLater pc from (regions_after o n i to)
 after_later op.Loop pc n i from to le h = record { entered = Turning n i.x ∷ h.entered; count = h.count; is = ap (λ (rs : List Region). Turning n i.x ∷ rs) h.is; later = (le, h.later) }
 after_later op.Finb pc n i from to le h = record { entered = Waiting n ∷ h.entered; count = h.count; is = ap (λ (rs : List Region). Waiting n ∷ rs) h.is; later = (le, h.later) }
+after_later op.Atomb pc n i from to le h = record { entered = Atomic n ∷ h.entered; count = h.count; is = ap (λ (rs : List Region). Atomic n ∷ rs) h.is; later = (le, h.later) }
 after_later op.Endl pc n i from to le h = subst (λ (rs : List Region). IsLater pc from (outside rs)) (sym h.is) (outside_later pc from h.entered h.count h.later)
 after_later op.Fine pc n i from to le h = subst (λ (rs : List Region). IsLater pc from (outside rs)) (sym h.is) (outside_later pc from h.entered h.count h.later)
+after_later op.Atome pc n i from to le h = subst (λ (rs : List Region). IsLater pc from (outside rs)) (sym h.is) (outside_later pc from h.entered h.count h.later)
 after_later _ pc n i from to le h = h
 
 passed_later : (o : Option Instr) (pc n : ℕ) (from to : List Region) → pc ≤ n → IsLater pc from to → IsLater pc from (passed o n to)
@@ -124,14 +128,29 @@ finishes-left zero rs = omega arith
 finishes-left (suc k) [] = finishes-left k []
 finishes-left (suc k) (Turning o l ∷ rs) = finishes-left k rs
 finishes-left (suc k) (Waiting o ∷ rs) = let h : finishes_of (left k rs) ≤ finishes_of rs = finishes-left k rs in omega arith
+finishes-left (suc k) (Atomic o ∷ rs) = finishes-left k rs
+
+atomics-left : (k : ℕ) (rs : List Region) → atomics_of (left k rs) ≤ atomics_of rs
+atomics-left zero rs = omega arith
+atomics-left (suc k) [] = atomics-left k []
+atomics-left (suc k) (Turning o l ∷ rs) = atomics-left k rs
+atomics-left (suc k) (Waiting o ∷ rs) = atomics-left k rs
+atomics-left (suc k) (Atomic o ∷ rs) = let h : atomics_of (left k rs) ≤ atomics_of rs = atomics-left k rs in omega arith
 
 shorter : (rs ts : List Region) → length ts < length rs → same_openers rs ts ≡ false
 shorter [] ts lt = absurd (omega arith)
 shorter (r ∷ rs) [] lt = refl
 shorter (r ∷ rs) (t ∷ ts) lt = rw (shorter rs ts (omega arith)) (and_false (opener_of r == opener_of t))
 
-leaves-left : (k : ℕ) (rs : List Region) → leaves_loops rs (left k rs) ≡ (finishes_of rs == finishes_of (left k rs))
-leaves-left zero rs = leaves-self rs ∙ sym (eq_self (finishes_of rs))
+-- as many finishes and as many atomic regions
+abbrev pub same_kept : List Region → List Region → Bool
+same_kept rs ts = (finishes_of rs == finishes_of ts) && (atomics_of rs == atomics_of ts)
+
+kept_self : (rs : List Region) → same_kept rs rs ≡ true
+kept_self rs = rw (eq_self (finishes_of rs), eq_self (atomics_of rs)) refl
+
+leaves-left : (k : ℕ) (rs : List Region) → leaves_loops rs (left k rs) ≡ same_kept rs (left k rs)
+leaves-left zero rs = leaves-self rs ∙ sym (kept_self rs)
 leaves-left (suc k) [] = rw (left-nothing k) refl
 leaves-left (suc k) (Turning o l ∷ rs) =
     let h : length (left k rs) ≤ length rs = length-left k rs in
@@ -142,7 +161,13 @@ leaves-left (suc k) (Waiting o ∷ rs) =
     let s : same_openers (Waiting o ∷ rs) (left k rs) ≡ false = shorter (Waiting o ∷ rs) (left k rs) (omega arith) in
     let f : finishes_of (left k rs) ≤ finishes_of rs = finishes-left k rs in
     let d : (finishes_of rs + 1 == finishes_of (left k rs)) ≡ false = grind arith in
-    ap (λ b. b || false) s ∙ sym d
+    ap (λ b. b || false) s ∙ sym (ap (λ b. b && (atomics_of rs == atomics_of (left k rs))) d)
+leaves-left (suc k) (Atomic o ∷ rs) =
+    let h : length (left k rs) ≤ length rs = length-left k rs in
+    let s : same_openers (Atomic o ∷ rs) (left k rs) ≡ false = shorter (Atomic o ∷ rs) (left k rs) (omega arith) in
+    let f : atomics_of (left k rs) ≤ atomics_of rs = atomics-left k rs in
+    let d : (atomics_of rs + 1 == atomics_of (left k rs)) ≡ false = grind arith in
+    ap (λ b. b || false) s ∙ sym (ap (λ b. (finishes_of rs == finishes_of (left k rs)) && b) d ∙ and_false (finishes_of rs == finishes_of (left k rs)))
 
 -- no region that begins at a jump or after it is reached
 leaves-later : (code : List Instr) (pc : ℕ) (rs : List Region) (t : Region) (ts : List Region) → IsChain code pc rs → pc ≤ opener_of t → leaves_loops rs (t ∷ ts) ≡ false
@@ -160,19 +185,19 @@ left_before code pc zero [] c = refl
 left_before code pc zero (r ∷ rs) c = let lt : opener_of r < pc = c.0 in grind arith
 left_before code pc (suc k) rs c = left_before code pc k (outside rs) (outside_chain code pc rs c)
 
-leaves_from : (code : List Instr) (pc : ℕ) (from entered : List Region) (count : ℕ) → IsChain code pc from → AllFrom pc entered → leaves_loops from (entered ++ left count from) ≡ (begins_before (entered ++ left count from) pc && (finishes_of from == finishes_of (entered ++ left count from)))
-leaves_from code pc from [] count c a = leaves-left count from ∙ ap (λ b. b && (finishes_of from == finishes_of (left count from))) (sym (left_before code pc count from c))
+leaves_from : (code : List Instr) (pc : ℕ) (from entered : List Region) (count : ℕ) → IsChain code pc from → AllFrom pc entered → leaves_loops from (entered ++ left count from) ≡ (begins_before (entered ++ left count from) pc && same_kept from (entered ++ left count from))
+leaves_from code pc from [] count c a = leaves-left count from ∙ ap (λ b. b && same_kept from (left count from)) (sym (left_before code pc count from c))
 leaves_from code pc from (t ∷ entered) count c a =
     let le : pc ≤ opener_of t = a.0 in
     let n : nat_lt (opener_of t) pc ≡ false = grind arith in
-    leaves-later code pc from t (entered ++ left count from) c le ∙ ap (λ b. b && (finishes_of from == finishes_of ((t ∷ entered) ++ left count from))) (sym n)
+    leaves-later code pc from t (entered ++ left count from) c le ∙ ap (λ b. b && same_kept from ((t ∷ entered) ++ left count from)) (sym n)
 
 -- a forward jump leaves loops alone exactly where the target's innermost region begins before the jump, and as many
--- finishes are around both
-pub leaves-around : (code : List Instr) (pc x : ℕ) → pc ≤ x → leaves_loops (around code pc) (around code x) ≡ (begins_before (around code x) pc && (finishes_of (around code pc) == finishes_of (around code x)))
+-- finishes and atomic regions are around both
+pub leaves-around : (code : List Instr) (pc x : ℕ) → pc ≤ x → leaves_loops (around code pc) (around code x) ≡ (begins_before (around code x) pc && same_kept (around code pc) (around code x))
 leaves-around code pc x le =
     let h : IsLater pc (around code pc) (around code x) = is_later code pc x le in
-    subst (λ (rs : List Region). leaves_loops (around code pc) rs ≡ (begins_before rs pc && (finishes_of (around code pc) == finishes_of rs))) (sym h.is)
+    subst (λ (rs : List Region). leaves_loops (around code pc) rs ≡ (begins_before rs pc && same_kept (around code pc) rs)) (sym h.is)
     (leaves_from code pc (around code pc) h.entered h.count (chain code pc) h.later)
 
 -- ---- how many regions
@@ -184,8 +209,10 @@ outside-count n (r ∷ rs) le = omega arith
 after-count : (o : Op) (n : ℕ) (i : Instr) (rs : List Region) → length rs ≤ n → length (regions_after o n i rs) ≤ suc n
 after-count op.Loop n i rs le = omega arith
 after-count op.Finb n i rs le = omega arith
+after-count op.Atomb n i rs le = omega arith
 after-count op.Endl n i rs le = outside-count n rs le
 after-count op.Fine n i rs le = outside-count n rs le
+after-count op.Atome n i rs le = outside-count n rs le
 after-count _ n i rs le = omega arith
 
 passed-count : (o : Option Instr) (n : ℕ) (rs : List Region) → length rs ≤ n → length (passed o n rs) ≤ suc n
@@ -196,11 +223,12 @@ length-around : (code : List Instr) (pc : ℕ) → length (around code pc) ≤ p
 length-around code zero = omega arith
 length-around code (suc pc) = passed-count (slice_get code pc) pc (around code pc) (length-around code pc)
 
-counts : (rs : List Region) → depth_of rs + finishes_of rs ≡ length rs
+counts : (rs : List Region) → depth_of rs + finishes_of rs + atomics_of rs ≡ length rs
 counts [] = refl
-counts (Turning o l ∷ rs) = let h : depth_of rs + finishes_of rs ≡ length rs = counts rs in omega arith
-counts (Waiting o ∷ rs) = let h : depth_of rs + finishes_of rs ≡ length rs = counts rs in omega arith
+counts (Turning o l ∷ rs) = let h : depth_of rs + finishes_of rs + atomics_of rs ≡ length rs = counts rs in omega arith
+counts (Waiting o ∷ rs) = let h : depth_of rs + finishes_of rs + atomics_of rs ≡ length rs = counts rs in omega arith
+counts (Atomic o ∷ rs) = let h : depth_of rs + finishes_of rs + atomics_of rs ≡ length rs = counts rs in omega arith
 
 -- an instruction stands in at most as many regions as its number says
-pub counts-around : (code : List Instr) (pc : ℕ) → depth_of (around code pc) + finishes_of (around code pc) ≤ pc
-counts-around code pc = let e : depth_of (around code pc) + finishes_of (around code pc) ≡ length (around code pc) = counts (around code pc) in let h : length (around code pc) ≤ pc = length-around code pc in omega arith
+pub counts-around : (code : List Instr) (pc : ℕ) → depth_of (around code pc) + finishes_of (around code pc) + atomics_of (around code pc) ≤ pc
+counts-around code pc = let e : depth_of (around code pc) + finishes_of (around code pc) + atomics_of (around code pc) ≡ length (around code pc) = counts (around code pc) in let h : length (around code pc) ≤ pc = length-around code pc in omega arith

@@ -27,13 +27,16 @@ stays_outside o (r ∷ rs) other h = elim h [ inl e ↦ absurd (let yes : (opene
 stays : (p : Op) (o pc : ℕ) (i : Instr) (rs : List Region) → is_number o (closed_by p rs) ≡ false → IsOpen o rs → IsOpen o (regions_after p pc i rs)
 stays op.Loop o pc i rs other h = inr h
 stays op.Finb o pc i rs other h = inr h
+stays op.Atomb o pc i rs other h = inr h
 stays op.Endl o pc i rs other h = stays_outside o rs other h
 stays op.Fine o pc i rs other h = stays_outside o rs other h
+stays op.Atome o pc i rs other h = stays_outside o rs other h
 stays _ o pc i rs other h = h
 
 opens : (p : Op) (pc : ℕ) (i : Instr) (rs : List Region) → is_opener p ≡ true → IsOpen pc (regions_after p pc i rs)
 opens op.Loop pc i rs e = inl refl
 opens op.Finb pc i rs e = inl refl
+opens op.Atomb pc i rs e = inl refl
 opens _ pc i rs e = absurd cc
 
 is_false : (b : Bool) → not b ≡ true → b ≡ false

@@ -21,6 +21,7 @@ first_before code pc o (r ∷ rs) c e = let same : opener_of r ≡ o = cc in ome
 closed_before : (code : List Instr) (pc o : ℕ) (p : Op) (rs : List structure.Region) → IsChain code pc rs → closed_by p rs ≡ Some o → o < pc
 closed_before code pc o op.Endl rs c e = first_before code pc o rs c e
 closed_before code pc o op.Fine rs c e = first_before code pc o rs c e
+closed_before code pc o op.Atome rs c e = first_before code pc o rs c e
 closed_before code pc o _ rs c e = absurd cc
 
 -- what an instruction closes begins before it

@@ -8,12 +8,12 @@ use Rattle.x10_code.specs.declared.op.Op.TheVariants as op
 use Rattle.x10_code.specs.declared.instr.Instr.{Instr}
 use Rattle.x10_code.specs.Table.{form_of}
 use Rattle.x10_model.specs.Maps.{with_entry}
-use Rattle.x10_model.specs.Structure.{Region, Turning, Waiting, opener_of, outside, regions_after, around, nests, depth_of, is_target, jumps_well, jumps_forward, jumps_back, has_slot, leaves_loops, is_call, cost, nesting_fault, or_else}
+use Rattle.x10_model.specs.Structure.{Region, Turning, Waiting, Atomic, opener_of, outside, regions_after, around, nests, depth_of, is_target, jumps_well, jumps_forward, jumps_back, has_slot, leaves_loops, is_call, cost, nesting_fault, or_else}
 use Rattle.x10_model.proofs.Decided.{get_below}
-use Rattle.x10_bounds.specs.Spots.{begins_before, finishes_of}
+use Rattle.x10_bounds.specs.Spots.{begins_before}
 use Rattle.x10_bounds.specs.Potential.{inner, outer, total, levels_before, levels_from, pending, potential, IsStructured, PotentialFalls}
 use Rattle.x10_bounds.proofs.Failing.{none_fails}
-use Rattle.x10_bounds.proofs.Around.{left, AllFrom, IsLater, is_later, leaves-around}
+use Rattle.x10_bounds.proofs.Around.{left, AllFrom, IsLater, is_later, leaves-around, same_kept}
 use Rattle.x10_bounds.proofs.Levels.{AllNest, levels-at, parted, begins_at}
 use Rattle.x10_bounds.proofs.Spots.{around-more}
 use Rattle.x10_bounds.proofs.Turns.{IsTail, AreOpened, tails, all_opened}
@@ -51,6 +51,12 @@ pending_onward earlier code slots op.Finb pc i rs a b n = refl
 pending_onward earlier code slots op.Fine pc i (Waiting o ∷ rs) a b n = refl
 pending_onward earlier code slots op.Fine pc i [] a b n = absurd cc
 pending_onward earlier code slots op.Fine pc i (Turning o l ∷ rs) a b n = absurd cc
+pending_onward earlier code slots op.Fine pc i (Atomic o ∷ rs) a b n = absurd cc
+pending_onward earlier code slots op.Atomb pc i rs a b n = refl
+pending_onward earlier code slots op.Atome pc i (Atomic o ∷ rs) a b n = refl
+pending_onward earlier code slots op.Atome pc i [] a b n = absurd cc
+pending_onward earlier code slots op.Atome pc i (Turning o l ∷ rs) a b n = absurd cc
+pending_onward earlier code slots op.Atome pc i (Waiting o ∷ rs) a b n = absurd cc
 pending_onward earlier code slots _ pc i rs a b n = refl
 
 -- a slot that no loop around uses
@@ -62,6 +68,7 @@ pending_other earlier code slots k v (Turning o l ∷ rs) le =
     ap (λ b. ((if b then v else slots (depth_of rs)) - 1) * inner (levels_from earlier code (o + 1)) + pending earlier code (with_entry slots k v) rs) ne
     ∙ ap (λ n. (slots (depth_of rs) - 1) * inner (levels_from earlier code (o + 1)) + n) rest
 pending_other earlier code slots k v (Waiting o ∷ rs) le = pending_other earlier code slots k v rs le
+pending_other earlier code slots k v (Atomic o ∷ rs) le = pending_other earlier code slots k v rs le
 
 at_slot : (slots : ℕ → ℕ) (k v : ℕ) → with_entry slots k v k ≡ v
 at_slot slots k v = let e : (k == k) ≡ true = grind arith in ap (λ b. if b then v else slots k) e
@@ -132,6 +139,7 @@ pub record ClosesLoop (code : List Instr) (i : Instr) (pc : ℕ) : Type 0 where
 closes_in : (loops : ℕ) (code : List Instr) (i : Instr) (pc : ℕ) (rs : List Region) → around code pc ≡ rs → nests op.Endl rs ≡ true → has_slot loops rs i op.Endl ≡ true → jumps_back rs i.x ≡ true → ClosesLoop code i pc
 closes_in loops code i pc [] e n s j = absurd cc
 closes_in loops code i pc (Waiting o ∷ rs) e n s j = absurd cc
+closes_in loops code i pc (Atomic o ∷ rs) e n s j = absurd cc
 closes_in loops code i pc (Turning o l ∷ rs) e n s j = record {
   opener = o;
   limit = l;
@@ -243,6 +251,7 @@ pending_outside : (earlier : List ℕ) (code : List Instr) (slots : ℕ → ℕ)
 pending_outside earlier code slots [] = omega arith
 pending_outside earlier code slots (Turning o l ∷ rs) = omega arith
 pending_outside earlier code slots (Waiting o ∷ rs) = omega arith
+pending_outside earlier code slots (Atomic o ∷ rs) = omega arith
 
 pending_left : (earlier : List ℕ) (code : List Instr) (slots : ℕ → ℕ) (k : ℕ) (rs : List Region) → pending earlier code slots (left k rs) ≤ pending earlier code slots rs
 pending_left earlier code slots zero rs = omega arith
@@ -258,7 +267,7 @@ none_entered pc (r ∷ entered) rest a b = let lt : opener_of r < pc = ltb-true 
 pending_jump : (earlier : List ℕ) (code : List Instr) (slots : ℕ → ℕ) (pc x : ℕ) → pc ≤ x → leaves_loops (around code pc) (around code x) ≡ true → pending earlier code slots (around code x) ≤ pending earlier code slots (around code pc)
 pending_jump earlier code slots pc x le leaves =
     let h : IsLater pc (around code pc) (around code x) = is_later code pc x le in
-    let before = (and_parts (begins_before (around code x) pc) (finishes_of (around code pc) == finishes_of (around code x)) (sym (leaves-around code pc x le) ∙ leaves)).0 in
+    let before = (and_parts (begins_before (around code x) pc) (same_kept (around code pc) (around code x)) (sym (leaves-around code pc x le) ∙ leaves)).0 in
     let none : h.entered ≡ [] = none_entered pc h.entered (left h.count (around code pc)) h.later (subst (λ rs. begins_before rs pc ≡ true) h.is before) in
     let is : around code x ≡ left h.count (around code pc) = h.is ∙ ap (λ rs. rs ++ left h.count (around code pc)) none in
     subst (λ rs. pending earlier code slots rs ≤ pending earlier code slots (around code pc)) (sym is) (pending_left earlier code slots h.count (around code pc))

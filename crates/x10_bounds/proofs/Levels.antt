@@ -5,7 +5,7 @@ use Rattle.std.proofs.lemmas.Bool.{cases_lt}
 use Rattle.x10_code.specs.declared.op.Op.{Op}
 use Rattle.x10_code.specs.declared.op.Op.TheVariants as op
 use Rattle.x10_code.specs.declared.instr.Instr.{Instr}
-use Rattle.x10_model.specs.Structure.{Region, Turning, Waiting, regions_after, around, nests, weight, depth_of, is_call, cost, steps_from, bound_of}
+use Rattle.x10_model.specs.Structure.{Region, Turning, Waiting, Atomic, regions_after, around, nests, weight, depth_of, is_call, cost, steps_from, bound_of}
 use Rattle.x10_model.proofs.Decided.{get_below}
 use Rattle.x10_bounds.specs.Potential.{inner, outer, total, levels_before, levels, levels_from}
 use Rattle.x10_bounds.proofs.Failing.{drop-at, drop-end}
@@ -37,11 +37,13 @@ abbrev pub worth : List ℕ → List Region → ℕ
 worth ls [] = inner ls
 worth ls (Turning o limit ∷ rs) = inner ls * (limit * weight rs) + worth (outer ls) rs
 worth ls (Waiting o ∷ rs) = worth ls rs
+worth ls (Atomic o ∷ rs) = worth ls rs
 
 worth-nil : (rs : List Region) → worth [] rs ≡ 0
 worth-nil [] = refl
 worth-nil (Turning o l ∷ rs) = let h : worth [] rs ≡ 0 = worth-nil rs in omega (arith, h)
 worth-nil (Waiting o ∷ rs) = worth-nil rs
+worth-nil (Atomic o ∷ rs) = worth-nil rs
 
 at_or_past : (code : List Instr) (pc : ℕ) → ((i : Instr) × (slice_get code pc ≡ Some i)) ⊎ (length code ≤ pc)
 at_or_past code pc = elim (cases_lt pc (length code)) [ inl lt ↦ inl (get_below code pc lt) | inr le ↦ inr le ]
@@ -66,9 +68,16 @@ none_past_before earlier op.Loop pc i rs ls n e = deeper (depth_of rs) (outer (o
 none_past_before earlier op.Endl pc i (Turning o l ∷ rs) ls n e = let s : suc (depth_of rs + 1) ≡ suc (suc (depth_of rs)) = omega arith in ap (λ k. past k (1 ∷ ls)) s ∙ e
 none_past_before earlier op.Endl pc i [] ls n e = absurd cc
 none_past_before earlier op.Endl pc i (Waiting o ∷ rs) ls n e = absurd cc
+none_past_before earlier op.Endl pc i (Atomic o ∷ rs) ls n e = absurd cc
 none_past_before earlier op.Fine pc i (Waiting o ∷ rs) ls n e = e
 none_past_before earlier op.Fine pc i [] ls n e = absurd cc
 none_past_before earlier op.Fine pc i (Turning o l ∷ rs) ls n e = absurd cc
+none_past_before earlier op.Fine pc i (Atomic o ∷ rs) ls n e = absurd cc
+none_past_before earlier op.Atome pc i (Atomic o ∷ rs) ls n e = e
+none_past_before earlier op.Atome pc i [] ls n e = absurd cc
+none_past_before earlier op.Atome pc i (Turning o l ∷ rs) ls n e = absurd cc
+none_past_before earlier op.Atome pc i (Waiting o ∷ rs) ls n e = absurd cc
+none_past_before earlier op.Atomb pc i rs ls n e = e
 none_past_before earlier op.Finb pc i rs ls n e = e
 none_past_before earlier _ pc i rs ls n e = e
 
@@ -103,12 +112,14 @@ worth_more c l ls (Turning o limit ∷ rs) = let w : ℕ = limit * weight rs in 
     ring_more : (c l w r : ℕ) → (c + l) * w + r ≡ c * w + (l * w + r)
     ring_more c l w r = grind arith
 worth_more c l ls (Waiting o ∷ rs) = worth_more c l ls rs
+worth_more c l ls (Atomic o ∷ rs) = worth_more c l ls rs
 
 worth-eta : (ls : List ℕ) (rs : List Region) → worth (inner ls ∷ outer ls) rs ≡ worth ls rs
 worth-eta (l ∷ ls) rs = refl
 worth-eta [] [] = refl
 worth-eta [] (Turning o l ∷ rs) = refl
 worth-eta [] (Waiting o ∷ rs) = worth-eta [] rs
+worth-eta [] (Atomic o ∷ rs) = worth-eta [] rs
 
 worth_onward : (c : ℕ) (ls : List ℕ) (rs : List Region) → worth ((c + inner ls) ∷ outer ls) rs ≡ c * weight rs + worth ls rs
 worth_onward c ls rs = worth_more c (inner ls) (outer ls) rs ∙ ap (λ n. c * weight rs + n) (worth-eta ls rs)
@@ -124,9 +135,16 @@ worth_before earlier op.Loop pc i rs ls is n = worth_loop i.x pc ls rs ∙ ap (�
 worth_before earlier op.Endl pc i (Turning o l ∷ rs) ls is n = ap (λ c. c * (l * weight rs) + worth ls rs) (plain_cost earlier i (ap is_call is))
 worth_before earlier op.Endl pc i [] ls is n = absurd cc
 worth_before earlier op.Endl pc i (Waiting o ∷ rs) ls is n = absurd cc
+worth_before earlier op.Endl pc i (Atomic o ∷ rs) ls is n = absurd cc
 worth_before earlier op.Fine pc i (Waiting o ∷ rs) ls is n = worth_onward (cost earlier i) ls rs
 worth_before earlier op.Fine pc i [] ls is n = absurd cc
 worth_before earlier op.Fine pc i (Turning o l ∷ rs) ls is n = absurd cc
+worth_before earlier op.Fine pc i (Atomic o ∷ rs) ls is n = absurd cc
+worth_before earlier op.Atome pc i (Atomic o ∷ rs) ls is n = worth_onward (cost earlier i) ls rs
+worth_before earlier op.Atome pc i [] ls is n = absurd cc
+worth_before earlier op.Atome pc i (Turning o l ∷ rs) ls is n = absurd cc
+worth_before earlier op.Atome pc i (Waiting o ∷ rs) ls is n = absurd cc
+worth_before earlier op.Atomb pc i rs ls is n = worth_onward (cost earlier i) ls rs
 worth_before earlier op.Finb pc i rs ls is n = worth_onward (cost earlier i) ls rs
 worth_before earlier _ pc i rs ls is n = worth_onward (cost earlier i) ls rs
 

@@ -7,6 +7,7 @@ pub mod Falls
 pub mod InOrder
 pub mod Levels
 pub mod OpenFinishes
+pub mod AtomicRegions
 pub mod EachFunction
 pub mod SpotTests
 pub mod Spots

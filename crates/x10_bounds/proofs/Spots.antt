@@ -5,22 +5,23 @@ use Rattle.std.proofs.lemmas.Grind.{common_steps}
 use Rattle.x10_code.specs.declared.op.Op.{Op}
 use Rattle.x10_code.specs.declared.op.Op.TheVariants as op
 use Rattle.x10_code.specs.declared.instr.Instr.{Instr}
-use Rattle.x10_model.specs.Structure.{Region, Turning, Waiting, opener_of, outside, regions_after, passed, around, weight, depth_of}
+use Rattle.x10_model.specs.Structure.{Region, Turning, Waiting, Atomic, opener_of, outside, regions_after, passed, around, weight, depth_of}
 use Rattle.x10_bounds.specs.Shapes.{shape_of}
 use Rattle.x10_bounds.specs.declared.shape.Shape.{Shape}
 use Rattle.x10_bounds.specs.declared.shape.Shape.TheVariants as shape
 use Rattle.x10_bounds.specs.declared.spot.Spot.{Spot}
-use Rattle.x10_bounds.specs.Spots.{AreSpotsTo, capped, spot_of, innermost_of, finishes_of}
+use Rattle.x10_bounds.specs.Spots.{AreSpotsTo, capped, spot_of, innermost_of, finishes_of, atomics_of}
+use Rattle.x10_bounds.specs.declared.spot.Innermost.{Innermost}
 use Rattle.x10_bounds.specs.declared.spot.Innermost.TheVariants as innermost
 use Rattle.x10_bounds.proofs.Around.{IsChain, chain, counts-around}
 use Rattle.x10_bounds.proofs.Capped.{right_factor}
 
 -- the spot inside a loop
 pub in_loop_is : (spot : Spot) (opener limit w : ℕ) (rs : List Region) → spot ≡ spot_of rs → w ≡ capped (limit * spot.weight)
-    → ◌≡◌ {A = Spot} (record { innermost = innermost.Loop opener; loops = spot.loops + 1; finishes = spot.finishes; weight = w }) (spot_of (Turning opener limit ∷ rs))
+    → ◌≡◌ {A = Spot} (record { innermost = innermost.Loop opener; loops = spot.loops + 1; finishes = spot.finishes; atomics = spot.atomics; weight = w }) (spot_of (Turning opener limit ∷ rs))
 in_loop_is spot opener limit w rs e is =
-    ap (λ (s : Spot). record { innermost = innermost.Loop opener; loops = s.loops + 1; finishes = s.finishes; weight = w }) e
-    ∙ ap (λ (n : ℕ). record { innermost = innermost.Loop opener; loops = depth_of rs + 1; finishes = finishes_of rs; weight = n }) (is ∙ ap (λ (s : Spot). capped (limit * s.weight)) e ∙ right_factor limit (weight rs) (2 ^ 48 + 1))
+    ap (λ (s : Spot). record { innermost = innermost.Loop opener; loops = s.loops + 1; finishes = s.finishes; atomics = s.atomics; weight = w }) e
+    ∙ ap (λ (n : ℕ). record { innermost = innermost.Loop opener; loops = depth_of rs + 1; finishes = finishes_of rs; atomics = atomics_of rs; weight = n }) (is ∙ ap (λ (s : Spot). capped (limit * s.weight)) e ∙ right_factor limit (weight rs) (2 ^ 48 + 1))
 
 -- the regions around the next instruction
 pub around-more : (code : List Instr) (pc : ℕ) (i : Instr) → slice_get code pc ≡ Some i → around code (pc + 1) ≡ regions_after i.op pc i (around code pc)
@@ -47,30 +48,39 @@ one_more code n spots spot are e = record {
 pub outside_is : (code : List Instr) (pc : ℕ) (r : Region) (rs : List Region) → around code pc ≡ r ∷ rs → (opener_of r < pc) × (rs ≡ around code (opener_of r))
 outside_is code pc r rs e = let P : List Region → Type 0 = IsChain code pc in let c : IsChain code pc (r ∷ rs) = subst P e (chain code pc) in (c.0, c.1)
 
-innermost_opens : (code : List Instr) (pc o : ℕ) (rs : List Region) → around code pc ≡ rs → (innermost_of rs ≡ innermost.Loop o) ⊎ (innermost_of rs ≡ innermost.Finish o) → (o < pc) × (around code o ≡ outside rs)
-innermost_opens code pc o [] e h = elim h [ inl k ↦ absurd cc | inr k ↦ absurd cc ]
+-- the innermost region, of whichever sort, has this opener
+abbrev pub Opens : ℕ → Innermost → Type 0
+Opens o it = (it ≡ innermost.Loop o) ⊎ ((it ≡ innermost.Finish o) ⊎ (it ≡ innermost.Atomic o))
+
+innermost_opens : (code : List Instr) (pc o : ℕ) (rs : List Region) → around code pc ≡ rs → Opens o (innermost_of rs) → (o < pc) × (around code o ≡ outside rs)
+innermost_opens code pc o [] e h = elim h [ inl k ↦ absurd cc | inr (inl k) ↦ absurd cc | inr (inr k) ↦ absurd cc ]
 innermost_opens code pc o (Turning p l ∷ rs) e h =
-    let k : p ≡ o = elim h [ inl k ↦ cc | inr k ↦ absurd cc ] in
+    let k : p ≡ o = elim h [ inl k ↦ cc | inr (inl k) ↦ absurd cc | inr (inr k) ↦ absurd cc ] in
     let at = outside_is code pc (Turning p l) rs e in
     (omega (arith, at.0, k), sym (at.1 ∙ ap (around code) k))
 innermost_opens code pc o (Waiting p ∷ rs) e h =
-    let k : p ≡ o = elim h [ inl k ↦ absurd cc | inr k ↦ cc ] in
+    let k : p ≡ o = elim h [ inl k ↦ absurd cc | inr (inl k) ↦ cc | inr (inr k) ↦ absurd cc ] in
     let at = outside_is code pc (Waiting p) rs e in
+    (omega (arith, at.0, k), sym (at.1 ∙ ap (around code) k))
+innermost_opens code pc o (Atomic p ∷ rs) e h =
+    let k : p ≡ o = elim h [ inl k ↦ absurd cc | inr (inl k) ↦ absurd cc | inr (inr k) ↦ cc ] in
+    let at = outside_is code pc (Atomic p) rs e in
     (omega (arith, at.0, k), sym (at.1 ∙ ap (around code) k))
 
 -- the opener of the innermost region, and what is around it
-pub opener_is : (code : List Instr) (pc o : ℕ) (spot : Spot) → spot ≡ spot_of (around code pc) → (spot.innermost ≡ innermost.Loop o) ⊎ (spot.innermost ≡ innermost.Finish o) → (o < pc) × (around code o ≡ outside (around code pc))
+pub opener_is : (code : List Instr) (pc o : ℕ) (spot : Spot) → spot ≡ spot_of (around code pc) → Opens o spot.innermost → (o < pc) × (around code o ≡ outside (around code pc))
 opener_is code pc o spot e h =
     let same : spot.innermost ≡ innermost_of (around code pc) = ap (λ (s : Spot). s.innermost) e in
-    innermost_opens code pc o (around code pc) refl (elim h as (λ _. (innermost_of (around code pc) ≡ innermost.Loop o) ⊎ (innermost_of (around code pc) ≡ innermost.Finish o)) [ inl k ↦ inl (sym same ∙ k) | inr k ↦ inr (sym same ∙ k) ])
+    innermost_opens code pc o (around code pc) refl (subst (Opens o) same h)
 
 -- no region more than instructions
-pub has_room : (code : List Instr) (pc : ℕ) (spot : Spot) → spot ≡ spot_of (around code pc) → (spot.loops ≤ pc) × (spot.finishes ≤ pc)
+pub has_room : (code : List Instr) (pc : ℕ) (spot : Spot) → spot ≡ spot_of (around code pc) → (spot.loops ≤ pc) × ((spot.finishes ≤ pc) × (spot.atomics ≤ pc))
 has_room code pc spot e =
     let loops : spot.loops ≡ depth_of (around code pc) = ap (λ (s : Spot). s.loops) e in
     let finishes : spot.finishes ≡ finishes_of (around code pc) = ap (λ (s : Spot). s.finishes) e in
-    let all : depth_of (around code pc) + finishes_of (around code pc) ≤ pc = counts-around code pc in
-    (omega arith, omega arith)
+    let atomics : spot.atomics ≡ atomics_of (around code pc) = ap (λ (s : Spot). s.atomics) e in
+    let all : depth_of (around code pc) + finishes_of (around code pc) + atomics_of (around code pc) ≤ pc = counts-around code pc in
+    (omega arith, (omega arith, omega arith))
 
 -- ---- the regions after an instruction, by its shape
 
@@ -82,17 +92,37 @@ after_finish : (o : Op) (pc : ℕ) (i : Instr) (rs : List Region) → shape_of o
 after_finish op.Finb pc i rs e = refl
 after_finish _ pc i rs e = absurd cc
 
-after_end : (o : Op) (pc : ℕ) (i : Instr) (rs : List Region) → (shape_of o ≡ shape.EndOfLoop) ⊎ (shape_of o ≡ shape.EndOfFinish) → regions_after o pc i rs ≡ outside rs
+after_atomic : (o : Op) (pc : ℕ) (i : Instr) (rs : List Region) → shape_of o ≡ shape.Atomic → regions_after o pc i rs ≡ Atomic pc ∷ rs
+after_atomic op.Atomb pc i rs e = refl
+after_atomic _ pc i rs e = absurd cc
+
+-- it closes a region, of whichever sort
+abbrev pub Closes : Shape → Type 0
+Closes s = (s ≡ shape.EndOfLoop) ⊎ ((s ≡ shape.EndOfFinish) ⊎ (s ≡ shape.EndOfAtomic))
+
+after_end : (o : Op) (pc : ℕ) (i : Instr) (rs : List Region) → Closes (shape_of o) → regions_after o pc i rs ≡ outside rs
 after_end op.Endl pc i rs e = refl
 after_end op.Fine pc i rs e = refl
-after_end _ pc i rs e = elim e [ inl h ↦ absurd cc | inr h ↦ absurd cc ]
+after_end op.Atome pc i rs e = refl
+after_end _ pc i rs e = elim e [ inl h ↦ absurd cc | inr (inl h) ↦ absurd cc | inr (inr h) ↦ absurd cc ]
 
-after_other : (o : Op) (pc : ℕ) (i : Instr) (rs : List Region) → shape_of o ≢ shape.Loop → shape_of o ≢ shape.EndOfLoop → shape_of o ≢ shape.Finish → shape_of o ≢ shape.EndOfFinish → regions_after o pc i rs ≡ rs
-after_other op.Loop pc i rs a b c d = absurd (a refl)
-after_other op.Endl pc i rs a b c d = absurd (b refl)
-after_other op.Finb pc i rs a b c d = absurd (c refl)
-after_other op.Fine pc i rs a b c d = absurd (d refl)
-after_other _ pc i rs a b c d = refl
+-- it neither opens nor closes a region
+pub record IsPlain (s : Shape) : Type 0 where
+  pub no_loop : s ≢ shape.Loop
+  pub no_end_of_loop : s ≢ shape.EndOfLoop
+  pub no_finish : s ≢ shape.Finish
+  pub no_end_of_finish : s ≢ shape.EndOfFinish
+  pub no_atomic : s ≢ shape.Atomic
+  pub no_end_of_atomic : s ≢ shape.EndOfAtomic
+
+after_other : (o : Op) (pc : ℕ) (i : Instr) (rs : List Region) → IsPlain (shape_of o) → regions_after o pc i rs ≡ rs
+after_other op.Loop pc i rs p = absurd (p.no_loop refl)
+after_other op.Endl pc i rs p = absurd (p.no_end_of_loop refl)
+after_other op.Finb pc i rs p = absurd (p.no_finish refl)
+after_other op.Fine pc i rs p = absurd (p.no_end_of_finish refl)
+after_other op.Atomb pc i rs p = absurd (p.no_atomic refl)
+after_other op.Atome pc i rs p = absurd (p.no_end_of_atomic refl)
+after_other _ pc i rs p = refl
 
 abbrev Next : List Instr → ℕ → Spot → Type 0
 Next code pc next = next ≡ spot_of (around code (pc + 1))
@@ -106,9 +136,11 @@ next_in_loop code pc i s next at is e n = next_by code pc i (Turning pc i.x ∷ 
 pub next_in_finish : (code : List Instr) (pc : ℕ) (i : Instr) (s : Shape) (next : Spot) → slice_get code pc ≡ Some i → s ≡ shape_of i.op → s ≡ shape.Finish → next ≡ spot_of (Waiting pc ∷ around code pc) → Next code pc next
 next_in_finish code pc i s next at is e n = next_by code pc i (Waiting pc ∷ around code pc) next at (after_finish i.op pc i (around code pc) (sym is ∙ e)) n
 
-pub next_outside : (code : List Instr) (pc : ℕ) (i : Instr) (s : Shape) (next : Spot) → slice_get code pc ≡ Some i → s ≡ shape_of i.op → (s ≡ shape.EndOfLoop) ⊎ (s ≡ shape.EndOfFinish) → next ≡ spot_of (outside (around code pc)) → Next code pc next
-next_outside code pc i s next at is e n =
-    next_by code pc i (outside (around code pc)) next at (after_end i.op pc i (around code pc) (elim e as (λ _. (shape_of i.op ≡ shape.EndOfLoop) ⊎ (shape_of i.op ≡ shape.EndOfFinish)) [ inl h ↦ inl (sym is ∙ h) | inr h ↦ inr (sym is ∙ h) ])) n
+pub next_in_atomic : (code : List Instr) (pc : ℕ) (i : Instr) (s : Shape) (next : Spot) → slice_get code pc ≡ Some i → s ≡ shape_of i.op → s ≡ shape.Atomic → next ≡ spot_of (Atomic pc ∷ around code pc) → Next code pc next
+next_in_atomic code pc i s next at is e n = next_by code pc i (Atomic pc ∷ around code pc) next at (after_atomic i.op pc i (around code pc) (sym is ∙ e)) n
 
-pub next_same : (code : List Instr) (pc : ℕ) (i : Instr) (s : Shape) (next : Spot) → slice_get code pc ≡ Some i → s ≡ shape_of i.op → s ≢ shape.Loop → s ≢ shape.EndOfLoop → s ≢ shape.Finish → s ≢ shape.EndOfFinish → next ≡ spot_of (around code pc) → Next code pc next
-next_same code pc i s next at is a b c d n = next_by code pc i (around code pc) next at (after_other i.op pc i (around code pc) (λ h. a (is ∙ h)) (λ h. b (is ∙ h)) (λ h. c (is ∙ h)) (λ h. d (is ∙ h))) n
+pub next_outside : (code : List Instr) (pc : ℕ) (i : Instr) (s : Shape) (next : Spot) → slice_get code pc ≡ Some i → s ≡ shape_of i.op → Closes s → next ≡ spot_of (outside (around code pc)) → Next code pc next
+next_outside code pc i s next at is e n = next_by code pc i (outside (around code pc)) next at (after_end i.op pc i (around code pc) (subst Closes is e)) n
+
+pub next_same : (code : List Instr) (pc : ℕ) (i : Instr) (s : Shape) (next : Spot) → slice_get code pc ≡ Some i → s ≡ shape_of i.op → IsPlain s → next ≡ spot_of (around code pc) → Next code pc next
+next_same code pc i s next at is p n = next_by code pc i (around code pc) next at (after_other i.op pc i (around code pc) (subst IsPlain is p)) n

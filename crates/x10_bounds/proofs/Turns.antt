@@ -4,7 +4,7 @@ use Rattle.std.specs.Prelude.{slice_get}
 use Rattle.x10_code.specs.declared.op.Op.{Op}
 use Rattle.x10_code.specs.declared.op.Op.TheVariants as op
 use Rattle.x10_code.specs.declared.instr.Instr.{Instr}
-use Rattle.x10_model.specs.Structure.{Region, Turning, Waiting, opener_of, outside, regions_after, passed, around, nests}
+use Rattle.x10_model.specs.Structure.{Region, Turning, Waiting, Atomic, opener_of, outside, regions_after, passed, around, nests}
 use Rattle.x10_model.proofs.Decided.{get_below}
 use Rattle.x10_bounds.specs.Potential.{outer, levels_before, levels_from}
 use Rattle.x10_bounds.proofs.Levels.{AllNest, levels-at}
@@ -15,20 +15,29 @@ abbrev pub IsTail : List ℕ → List Instr → List ℕ → List Region → Typ
 IsTail earlier code ls [] = Unit {0}
 IsTail earlier code ls (Turning opener limit ∷ rs) = (outer ls ≡ outer (levels_from earlier code (opener + 1))) × IsTail earlier code (outer ls) rs
 IsTail earlier code ls (Waiting opener ∷ rs) = IsTail earlier code ls rs
+IsTail earlier code ls (Atomic opener ∷ rs) = IsTail earlier code ls rs
 
 tail_same : (earlier : List ℕ) (code : List Instr) (ls ms : List ℕ) (rs : List Region) → outer ls ≡ outer ms → IsTail earlier code ls rs → IsTail earlier code ms rs
 tail_same earlier code ls ms [] e h = tt
 tail_same earlier code ls ms (Turning o l ∷ rs) e h = (sym e ∙ h.0, subst (λ t. IsTail earlier code t rs) e h.1)
 tail_same earlier code ls ms (Waiting o ∷ rs) e h = tail_same earlier code ls ms rs e h
+tail_same earlier code ls ms (Atomic o ∷ rs) e h = tail_same earlier code ls ms rs e h
 
 tail_after : (earlier : List ℕ) (code : List Instr) (o : Op) (pc : ℕ) (i : Instr) (rs : List Region) (ls : List ℕ) → nests o rs ≡ true → ls ≡ levels_from earlier code (pc + 1) → IsTail earlier code (levels_before earlier o i ls) rs → IsTail earlier code ls (regions_after o pc i rs)
 tail_after earlier code op.Loop pc i rs ls n e h = (ap outer e, tail_same earlier code (levels_before earlier op.Loop i ls) (outer ls) rs refl h)
 tail_after earlier code op.Endl pc i (Turning o l ∷ rs) ls n e h = h.1
 tail_after earlier code op.Endl pc i [] ls n e h = absurd cc
 tail_after earlier code op.Endl pc i (Waiting o ∷ rs) ls n e h = absurd cc
+tail_after earlier code op.Endl pc i (Atomic o ∷ rs) ls n e h = absurd cc
 tail_after earlier code op.Fine pc i (Waiting o ∷ rs) ls n e h = tail_same earlier code (levels_before earlier op.Fine i ls) ls rs refl h
 tail_after earlier code op.Fine pc i [] ls n e h = absurd cc
 tail_after earlier code op.Fine pc i (Turning o l ∷ rs) ls n e h = absurd cc
+tail_after earlier code op.Fine pc i (Atomic o ∷ rs) ls n e h = absurd cc
+tail_after earlier code op.Atome pc i (Atomic o ∷ rs) ls n e h = tail_same earlier code (levels_before earlier op.Atome i ls) ls rs refl h
+tail_after earlier code op.Atome pc i [] ls n e h = absurd cc
+tail_after earlier code op.Atome pc i (Turning o l ∷ rs) ls n e h = absurd cc
+tail_after earlier code op.Atome pc i (Waiting o ∷ rs) ls n e h = absurd cc
+tail_after earlier code op.Atomb pc i rs ls n e h = tail_same earlier code (levels_before earlier op.Atomb i ls) ls rs refl h
 tail_after earlier code op.Finb pc i rs ls n e h = tail_same earlier code (levels_before earlier op.Finb i ls) ls rs refl h
 tail_after earlier code o pc i rs ls n e h = tail_same earlier code (levels_before earlier o i ls) ls rs refl h
 
@@ -54,8 +63,10 @@ outside_opened code (r ∷ rs) h = h.1
 opened_after : (code : List Instr) (o : Op) (pc : ℕ) (i : Instr) (rs : List Region) → around code (suc pc) ≡ regions_after o pc i rs → AreOpened code rs → AreOpened code (regions_after o pc i rs)
 opened_after code op.Loop pc i rs e h = (e, h)
 opened_after code op.Finb pc i rs e h = (e, h)
+opened_after code op.Atomb pc i rs e h = (e, h)
 opened_after code op.Endl pc i rs e h = outside_opened code rs h
 opened_after code op.Fine pc i rs e h = outside_opened code rs h
+opened_after code op.Atome pc i rs e h = outside_opened code rs h
 opened_after code _ pc i rs e h = h
 
 opened_next : (code : List Instr) (pc : ℕ) (o : Option Instr) → slice_get code pc ≡ o → AreOpened code (around code pc) → AreOpened code (passed o pc (around code pc))

@@ -2,7 +2,7 @@
 use Rattle.std.specs.Prelude.{◌≡◌, ℕ, List, [], Option, Some, None, Result, Ok, Err}
 use Rattle.x10_code.specs.declared.instr.Instr.{Instr}
 use Rattle.x10_model.specs.Modules.{Function}
-use Rattle.x10_model.specs.Structure.{Nesting, Jump, LoopSlot, CallOrder, TooLarge, unless, nesting_fault, jump_fault, slot_fault, order_fault}
+use Rattle.x10_model.specs.Structure.{Nesting, Jump, LoopSlot, CallOrder, InAtomic, TooLarge, unless, nesting_fault, jump_fault, slot_fault, order_fault, atomic_fault}
 use Rattle.x10_model.specs.Structure as structure
 use Rattle.x10_bounds.specs.declared.fault.BoundFault.{BoundFault}
 use Rattle.x10_bounds.specs.declared.fault.BoundCause.{BoundCause}
@@ -14,6 +14,7 @@ named cause.Nesting = Some Nesting
 named cause.Jump = Some Jump
 named cause.LoopSlot = Some LoopSlot
 named cause.CallOrder = Some CallOrder
+named cause.Atomic = Some InAtomic
 named cause.TooLarge = Some TooLarge
 named cause.Memory = None
 
@@ -37,4 +38,5 @@ ruled function loops code answer =
     unless (nesting_fault code) Nesting function
     (unless (jump_fault code) Jump function
     (unless (slot_fault loops code) LoopSlot function
-    (unless (order_fault function code) CallOrder function answer)))
+    (unless (order_fault function code) CallOrder function
+    (unless (atomic_fault code) InAtomic function answer))))

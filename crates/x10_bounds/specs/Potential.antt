@@ -5,7 +5,7 @@ use Rattle.x10_code.specs.declared.op.Op.TheVariants as op
 use Rattle.x10_code.specs.declared.instr.Instr.{Instr}
 use Rattle.x10_code.specs.Table.{form_of}
 use Rattle.x10_model.specs.Maps.{with_entry}
-use Rattle.x10_model.specs.Structure.{Region, Turning, Waiting, around, depth_of, is_target, nesting_fault, jump_fault, slot_fault, cost, bound_of}
+use Rattle.x10_model.specs.Structure.{Region, Turning, Waiting, Atomic, around, depth_of, is_target, nesting_fault, jump_fault, slot_fault, atomic_fault, cost, bound_of}
 
 -- A list of levels: what the rest of the innermost loop's text costs, then what follows that loop in the next one, and so
 -- on; past its end every level is 0.
@@ -42,6 +42,7 @@ pending earlier code slots [] = 0
 pending earlier code slots (Turning opener limit ∷ rs) = (slots (depth_of rs) - 1) * inner
     (levels_from earlier code (opener + 1)) + pending earlier code slots rs
 pending earlier code slots (Waiting opener ∷ rs) = pending earlier code slots rs
+pending earlier code slots (Atomic opener ∷ rs) = pending earlier code slots rs
 
 -- how many steps there are still, at most, at an instruction with the loops' slots as they are
 abbrev pub potential : List ℕ → List Instr → ℕ → (ℕ → ℕ) → ℕ
@@ -52,6 +53,7 @@ pub record IsStructured (loops : ℕ) (code : List Instr) : Type 0 where
   pub nests : nesting_fault code ≡ None
   pub jumps : jump_fault code ≡ None
   pub slots : slot_fault loops code ≡ None
+  pub atomics : atomic_fault code ≡ None
 
 -- Where a function begins, its potential is its bound; an instruction that goes on to the next one takes what it costs; a
 -- loop's begin, each of its turns, its end and each jump take 1.

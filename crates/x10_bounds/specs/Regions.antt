@@ -1,4 +1,4 @@
--- The regions of a function: loops and finishes with their first and last instructions.
+-- The regions of a function: loops, finishes and atomic regions with their first and last instructions.
 use Rattle.std.specs.Prelude.{◌≡◌, ℕ, ◌+◌, ◌<◌, Bool, true, false, ◌==◌, not, List, [], ◌∷◌, ◌++◌, length, drop, Option, Some, None, slice_get}
 use Rattle.x10_code.specs.declared.op.Op.{Op}
 use Rattle.x10_code.specs.declared.op.Op.TheVariants as op
@@ -16,6 +16,7 @@ first_opener (r ∷ rs) = Some (opener_of r)
 abbrev pub closed_by : Op → List structure.Region → Option ℕ
 closed_by op.Endl rs = first_opener rs
 closed_by op.Fine rs = first_opener rs
+closed_by op.Atome rs = first_opener rs
 closed_by _ rs = None
 
 abbrev pub is_number : ℕ → Option ℕ → Bool
@@ -26,6 +27,7 @@ is_number n (Some m) = m == n
 abbrev pub is_opener : Op → Bool
 is_opener op.Loop = true
 is_opener op.Finb = true
+is_opener op.Atomb = true
 is_opener _ = false
 
 -- an instruction doesn't close the region that an opener opens
@@ -44,6 +46,7 @@ region opener (Some closer) limit = record { opener = opener; closer = closer; l
 abbrev pub opened_by : List Instr → ℕ → Instr → Op → List Region
 opened_by code pc i op.Loop = region pc (closer_of code pc) i.x
 opened_by code pc i op.Finb = region pc (closer_of code pc) 1
+opened_by code pc i op.Atomb = region pc (closer_of code pc) 1
 opened_by code pc i _ = []
 
 abbrev pub regions_from : List Instr → ℕ → List Instr → List Region

@@ -7,12 +7,12 @@ use thiserror::Error;
 /// Which rule a function breaks.
 #[derive(Clone, Copy, Debug, PartialEq, Eq, Error)]
 pub enum BoundCause {
-    /// A closer doesn't match the innermost region, a function ends inside a finish, something is
-    /// open at its end, or its last instruction isn't RET.
+    /// A closer doesn't match the innermost region, a function ends inside a finish or an atomic
+    /// region, something is open at its end, or its last instruction isn't RET.
     #[error("Nesting")]
     Nesting,
-    /// A jump goes back, outside the function, into a region or out of a finish, or a loop's end
-    /// doesn't go to the instruction after its LOOP.
+    /// A jump goes back, outside the function, into a region or out of a finish or an atomic region,
+    /// or a loop's end doesn't go to the instruction after its LOOP.
     #[error("Jump")]
     Jump,
     /// A loop's slot isn't its depth among loops or isn't there, or its count isn't 1 to 65,535.
@@ -21,6 +21,9 @@ pub enum BoundCause {
     /// A call of a function whose number isn't smaller than the caller's.
     #[error("CallOrder")]
     CallOrder,
+    /// A call, a start, a shift, a finish or another atomic region inside an atomic region.
+    #[error("Atomic")]
+    Atomic,
     /// The function's bound is above 2^48.
     #[error("TooLarge")]
     TooLarge,

@@ -53,7 +53,7 @@ pub fn bound_at(
 
 /// How many steps each function of a module takes at most, with those of the functions that it calls by CALL and AT; or the
 /// first fault of the least function that has one. The time is linear in the number of instructions, whatever they are; the
-/// memory taken is 8 bytes for each function, and 24 for each instruction of one function while it is looked at. Lack of memory
+/// memory taken is 8 bytes for each function, and 32 for each instruction of one function while it is looked at. Lack of memory
 /// is reported as Memory.
 pub fn bounds(alloc: Global, image: &ImageView) -> Result<Vec<u64>, BoundFault>
     ensures exact { Gives (λ bounds. bounds.items) result (bounds_of image.now) }
@@ -68,7 +68,7 @@ pub fn bounds(alloc: Global, image: &ImageView) -> Result<Vec<u64>, BoundFault>
     Ok(bounds)
 }
 
-/// The loops and finishes of a function, by rising opener. The time and the memory taken are linear
+/// The loops, finishes and atomic regions of a function, by rising opener. The time and the memory taken are linear
 /// in the number of its instructions.
 pub fn regions(alloc: Global, image: &ImageView, f: usize) -> Result<Vec<Region>, AllocError>
     requires function { f < length image.now.functions }

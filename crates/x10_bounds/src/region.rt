@@ -13,8 +13,8 @@ use crate::spot::{Innermost, Spot, instr_at, spot_at, spots_of};
 use std::alloc::{AllocError, Global};
 use x10_code::Instr;
 
-/// A loop or a finish: the numbers of the instructions that open and close it, and how many turns it makes, which is 1 for a
-/// finish.
+/// A loop, a finish or an atomic region: the numbers of the instructions that open and close it, and how many turns it makes,
+/// which is 1 but for a loop.
 #[derive(Clone, Copy, Debug, PartialEq, Eq)]
 pub struct Region {
     pub opener: u16,
@@ -30,7 +30,9 @@ fn closed_at(code: &[Instr], spots: &[Spot], pc: usize) -> Option<u16>
         → result ≡ closed_by i.op (around code.now pc) }
 {
     match classify(instr_at(code, pc).op) {
-        Shape::EndOfLoop | Shape::EndOfFinish => opener(spot_at(code, spots, pc)),
+        Shape::EndOfLoop | Shape::EndOfFinish | Shape::EndOfAtomic => opener(spot_at(
+            code, spots, pc,
+        )),
         _ => None,
     }
 }
@@ -41,7 +43,9 @@ fn opener(spot: Spot) -> Option<u16>
 {
     match spot.innermost {
         Innermost::Nothing => None,
-        Innermost::Loop(opener) | Innermost::Finish(opener) => Some(opener),
+        Innermost::Loop(opener) | Innermost::Finish(opener) | Innermost::Atomic(opener) => {
+            Some(opener)
+        }
     }
 }
 
@@ -83,7 +87,7 @@ fn opened_at(code: &[Instr], closers: &[Option<u16>], pc: usize) -> Option<Regio
     let instr = instr_at(code, pc);
     let limit = match classify(instr.op) {
         Shape::Loop => instr.x,
-        Shape::Finish => 1,
+        Shape::Finish | Shape::Atomic => 1,
         _ => return None,
     };
     let closer = closers[pc]?;

@@ -10,6 +10,8 @@ pub enum Shape {
     EndOfLoop,
     Finish,
     EndOfFinish,
+    Atomic,
+    EndOfAtomic,
     Return,
     /// Goes to an instruction of the same function, forward.
     Jump,
@@ -26,6 +28,8 @@ pub fn classify(op: Op) -> Shape
         Op::Endl => Shape::EndOfLoop,
         Op::Finb => Shape::Finish,
         Op::Fine => Shape::EndOfFinish,
+        Op::Atomb => Shape::Atomic,
+        Op::Atome => Shape::EndOfAtomic,
         Op::Ret => Shape::Return,
         Op::Call | Op::At => Shape::Call,
         _ => jump_or_other(op),

@@ -1,7 +1,7 @@
 //! The table of what is around each instruction of a function.
 
 ghost use Rattle.std.specs.Prelude.{◌≡◌, ◌+◌, ◌*◌, ◌<◌, ◌≤◌, ◌^◌, List, [], ◌∷◌, length, Some, IfOk, slice_get};
-ghost use Rattle.x10_model.specs.Structure.{Region, Turning, Waiting, around};
+ghost use Rattle.x10_model.specs.Structure.{Region, Turning, Waiting, Atomic, around};
 ghost use Rattle.x10_model.specs.Structure as structure;
 ghost use Rattle.x10_bounds.specs.Spots.{AreSpotsTo, capped, spot_of};
 
@@ -15,6 +15,7 @@ pub enum Innermost {
     Nothing,
     Loop(u16),
     Finish(u16),
+    Atomic(u16),
 }
 
 /// What is around an instruction.
@@ -25,6 +26,8 @@ pub struct Spot {
     pub loops: u16,
     /// How many finishes are around it.
     pub finishes: u16,
+    /// How many atomic regions are around it.
+    pub atomics: u16,
     /// The product of the limits of the loops around it; 2^48 + 1 where it is greater.
     pub weight: u64,
 }
@@ -51,6 +54,7 @@ fn outermost() -> Spot
         innermost: Innermost::Nothing,
         loops: 0,
         finishes: 0,
+        atomics: 0,
         weight: 1,
     }
 }
@@ -63,6 +67,7 @@ fn in_loop(spot: Spot, opener: u16, limit: u32) -> Spot
         innermost: Innermost::Loop(opener),
         loops: spot.loops + 1,
         finishes: spot.finishes,
+        atomics: spot.atomics,
         weight: capped_product(u64::from(limit), spot.weight),
     }
 }
@@ -75,6 +80,20 @@ fn in_finish(spot: Spot, opener: u16) -> Spot
         innermost: Innermost::Finish(opener),
         loops: spot.loops,
         finishes: spot.finishes + 1,
+        atomics: spot.atomics,
+        weight: spot.weight,
+    }
+}
+
+fn in_atomic(spot: Spot, opener: u16) -> Spot
+    requires { spot.atomics < 4096 }
+    ensures { (rs : List Region) → spot ≡ spot_of rs → result ≡ spot_of (Atomic opener ∷ rs) }
+{
+    Spot {
+        innermost: Innermost::Atomic(opener),
+        loops: spot.loops,
+        finishes: spot.finishes,
+        atomics: spot.atomics + 1,
         weight: spot.weight,
     }
 }
@@ -102,7 +121,7 @@ fn outside(code: &[Instr], spots: &[Spot], pc: usize) -> Spot
 {
     match spot_at(code, spots, pc).innermost {
         Innermost::Nothing => outermost(),
-        Innermost::Loop(opener) | Innermost::Finish(opener) => {
+        Innermost::Loop(opener) | Innermost::Finish(opener) | Innermost::Atomic(opener) => {
             spot_at(code, spots, usize::from(opener))
         }
     }
@@ -120,12 +139,13 @@ fn after(code: &[Instr], spots: &[Spot], pc: usize) -> Spot
     match classify(instr.op) {
         Shape::Loop => in_loop(spot, pc as u16, instr.x),
         Shape::Finish => in_finish(spot, pc as u16),
-        Shape::EndOfLoop | Shape::EndOfFinish => outside(code, spots, pc),
+        Shape::Atomic => in_atomic(spot, pc as u16),
+        Shape::EndOfLoop | Shape::EndOfFinish | Shape::EndOfAtomic => outside(code, spots, pc),
         _ => spot,
     }
 }
 
-/// The spots of all instructions, and last the spot after the end. One pass; it takes 16 bytes for
+/// The spots of all instructions, and last the spot after the end. One pass; it takes 24 bytes for
 /// each instruction.
 pub fn spots_of(alloc: Global, code: &[Instr]) -> Result<Vec<Spot>, AllocError>
     requires { length code.now ≤ 4096 }

@@ -7,7 +7,7 @@ ghost use Rattle.x10_bounds.specs.Faults.{Gives, of_code, ruled};
 ghost use Rattle.x10_bounds.specs.Spots.{AreSpotsTo, capped};
 
 use crate::fault::{BoundCause, BoundFault};
-use crate::rules::{all_hold, jump_fault, nesting_fault, order_fault, slot_fault};
+use crate::rules::{all_hold, atomic_fault, jump_fault, nesting_fault, order_fault, slot_fault};
 use crate::shape::{Shape, classify};
 use crate::spot::{Spot, capped_product, capped_sum, instr_at, spot_at, spots_of};
 use std::alloc::Global;
@@ -64,12 +64,15 @@ fn rule_fault(function: u16, loops: u8, code: &[Instr], spots: &[Spot]) -> Optio
     if let Some(pc) = slot_fault(loops, code, spots) {
         return Some(BoundFault::at(BoundCause::LoopSlot, function, pc));
     }
-    let pc = order_fault(function, code)?;
-    Some(BoundFault::at(BoundCause::CallOrder, function, pc))
+    if let Some(pc) = order_fault(function, code) {
+        return Some(BoundFault::at(BoundCause::CallOrder, function, pc));
+    }
+    let pc = atomic_fault(code, spots)?;
+    Some(BoundFault::at(BoundCause::Atomic, function, pc))
 }
 
 /// The bound of a function, given its number, its loop slots and the bounds of the functions before
-/// it; or its fault. A fixed number of passes over the code, whatever it holds; it takes 16 bytes for
+/// it; or its fault. A fixed number of passes over the code, whatever it holds; it takes 24 bytes for
 /// each instruction while it works.
 pub fn checked_bound(
     alloc: Global,

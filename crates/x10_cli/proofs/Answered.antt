@@ -78,6 +78,7 @@ no_bounds_by m bound.Nesting f g is b = absurd (let h = sym g ∙ b.1 in cc)
 no_bounds_by m bound.Jump f g is b = absurd (let h = sym g ∙ b.1 in cc)
 no_bounds_by m bound.LoopSlot f g is b = absurd (let h = sym g ∙ b.1 in cc)
 no_bounds_by m bound.CallOrder f g is b = absurd (let h = sym g ∙ b.1 in cc)
+no_bounds_by m bound.Atomic f g is b = absurd (let h = sym g ∙ b.1 in cc)
 no_bounds_by m bound.TooLarge f g is b = absurd (let h = sym g ∙ b.1 in cc)
 
 pub no_bounds : (bytes : List ℕ) (m : Module) (f : BoundFault) (told : Fault) → IsImage bytes m → IsFaultOrMemory (named f.cause) f (bounds_of m) → told ≡ of_bounds f.cause f → status_of told ≡ 1 → CanBeDone verb.Bounds None bytes → ⊥

@@ -68,6 +68,8 @@ row_of op.At = row 0x2b (codes "AT") Activities Result Arguments Register Functi
 row_of op.Ata = row 0x2c (codes "ATA") Activities Unused Arguments Register Function
 row_of op.Finb = row 0x2d (codes "FINB") Activities Unused Unused Unused Unused
 row_of op.Fine = row 0x2e (codes "FINE") Activities Unused Unused Unused Unused
+row_of op.Atomb = row 0x2f (codes "ATOMB") Activities Unused Unused Unused Unused
+row_of op.Atome = row 0x30 (codes "ATOME") Activities Unused Unused Unused Unused
 
 abbrev pub code_of : Op → ℕ
 code_of o = (row_of o).code
@@ -86,7 +88,7 @@ abbrev pub operations : List Op
 operations = op.Intk ∷ op.Textk ∷ op.Move ∷ op.Add ∷ op.Sub ∷ op.Mul ∷ op.Div ∷ op.Rem ∷ op.Lt ∷ op.Eq ∷ op.Jmp ∷ op.Jz ∷ op.Loop ∷
     op.Endl ∷ op.Print ∷ op.Here ∷ op.Placek ∷ op.Placen ∷ op.Placei ∷ op.Nextp ∷ op.Count ∷ op.Home ∷ op.Gnew ∷ op.Gopen ∷ op.Ifhere ∷
     op.Ifsame ∷ op.New ∷ op.Get ∷ op.Put ∷ op.Null ∷ op.Ifobj ∷ op.Rail ∷ op.Rget ∷ op.Rset ∷ op.Rlen ∷ op.Tlen ∷ op.Tcat ∷ op.Call ∷
-    op.Ret ∷ op.Async ∷ op.At ∷ op.Ata ∷ op.Finb ∷ op.Fine ∷ []
+    op.Ret ∷ op.Async ∷ op.At ∷ op.Ata ∷ op.Finb ∷ op.Fine ∷ op.Atomb ∷ op.Atome ∷ []
 
 -- the operation with a name
 abbrev pub op_of_name : List ℕ → Option Op

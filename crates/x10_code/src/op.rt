@@ -89,6 +89,10 @@ pub enum Op {
     Finb,
     /// waits until the innermost finish is done, and closes it.
     Fine,
+    /// begins an atomic region: until its end nobody else of this place moves.
+    Atomb,
+    /// ends the atomic region.
+    Atome,
 }
 
 /// The table: every operation by rising code, a row each. A row has the code, the name, the group, and what the operands a, b,
@@ -143,6 +147,8 @@ macro_rules! table {
             Ata row(0x2c, "ATA", Activities, Unused, Arguments, Register, Function);
             Finb row(0x2d, "FINB", Activities, Unused, Unused, Unused, Unused);
             Fine row(0x2e, "FINE", Activities, Unused, Unused, Unused, Unused);
+            Atomb row(0x2f, "ATOMB", Activities, Unused, Unused, Unused, Unused);
+            Atome row(0x30, "ATOME", Activities, Unused, Unused, Unused, Unused);
         )
     };
 }
@@ -156,4 +162,4 @@ macro_rules! all {
 }
 
 /// All operations, by rising code.
-pub(crate) const OPERATIONS: [Op; 44] = table!(all());
+pub(crate) const OPERATIONS: [Op; 46] = table!(all());

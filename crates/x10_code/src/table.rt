@@ -110,7 +110,7 @@ fn named(text: &str) -> Option<Op>
     }
 }
 
-/// The operation with a name, by one match. Nothing is proved of it: 44 texts to compare with take a minute. Who asks looks
+/// The operation with a name, by one match. Nothing is proved of it: so many texts to compare with take a minute. Who asks looks
 /// whether the operation has the name.
 fn likely_named(text: &str) -> Option<Op> {
     table!(named_as(text))

@@ -1,17 +1,24 @@
 -- Lines of a listing, told one after the other.
-use Rattle.std.proofs.Common.{◌≡◌, ℕ, ℤ, ◌+◌, List, [], ◌∷◌, ◌++◌, map, take, Option, Some, ap, subst, ◌∙◌}
+use Rattle.std.proofs.Common.{◌≡◌, ℕ, ℤ, ◌+◌, List, [], ◌∷◌, ◌++◌, map, take, Option, Some, sym, ap, subst, ◌∙◌, append-nil}
 use Rattle.std.specs.Prelude.{codes, decimal, slice_get}
 use Rattle.std.specs.Fmt.{signed_decimal}
 use Rattle.std.specs.List.{flat_map}
 use Rattle.x10_kinds.specs.declared.kind.Kind.{Kind}
 use Rattle.x10_code.specs.declared.instr.Instr.{Instr}
 use Rattle.x10_code.specs.Table.{name_of}
+use Rattle.x10_model.specs.declared.version.ImageVersion.{ImageVersion}
+use Rattle.x10_model.specs.declared.version.ImageVersion.TheVariants.{One, Two}
 use Rattle.x10_model.specs.Modules.{Function, Module}
 use Rattle.x10_model.specs.Ranges.{function_at}
 use Rattle.x10_image.specs.Parts.{Signature, signature_of, code_at, code_in}
 use Rattle.x10_asm.specs.Comments.{Tells, said}
-use Rattle.x10_asm.specs.Listing.{kind_word, slot_word, result_word, operand_words, quoted, places_line, class_line, int_line, text_line, func_line, instruction_line, end_line, function_lines, entry_line, listing}
-use Rattle.x10_asm.proofs.Commented.{says_whole, then_told, after_silence, line_told, item_told}
+use Rattle.x10_asm.specs.Listing.{kind_word, slot_word, result_word, operand_words, quoted, version_lines, places_line, class_line, int_line, text_line, func_line, instruction_line, end_line, function_lines, entry_line, listing}
+use Rattle.x10_asm.proofs.Commented.{says_whole, nothing_told, then_told, after_silence, line_told, item_told}
+
+pub version_told : (a b : List ℕ) (v : ImageVersion) → b ≡ a ++ version_lines v → Tells a b (version_lines v)
+unfolding version_lines
+version_told a b One e = subst (λ (x : List ℕ). Tells a x []) (sym (append-nil a) ∙ sym e) (nothing_told a)
+version_told a b Two e = line_told a b (codes "version") (decimal 2 ∷ []) e
 
 pub places_told : (a b : List ℕ) (n : ℕ) → b ≡ a ++ places_line n → Tells a b (places_line n)
 unfolding places_line
@@ -71,13 +78,14 @@ function_told m f g s a b c d e is same note head code ended =
 
 -- ---- the whole
 
-pub listing_told : (m : Module) (a b c d e f g h : List ℕ) (least entry : ℕ) → least ≡ m.least_places → entry ≡ m.entry → b ≡ a ++ places_line least → Tells b c (flat_map class_line m.classes) → Tells c d (flat_map int_line m.ints) → Tells d e (flat_map text_line m.texts)
-    → Tells e f (flat_map function_lines m.functions) → Tells f g [] → h ≡ g ++ entry_line entry → Tells a h (listing m)
+pub listing_told : (m : Module) (o a b c d e f g h : List ℕ) (version : ImageVersion) (least entry : ℕ) → version ≡ m.version → least ≡ m.least_places → entry ≡ m.entry → a ≡ o ++ version_lines version → b ≡ a ++ places_line least → Tells b c (flat_map class_line m.classes) → Tells c d (flat_map int_line m.ints) → Tells d e (flat_map text_line m.texts)
+    → Tells e f (flat_map function_lines m.functions) → Tells f g [] → h ≡ g ++ entry_line entry → Tells o h (listing m)
 unfolding listing
-listing_told m a b c d e f g h least entry l n places classes ints texts functions note last =
+listing_told m o a b c d e f g h version least entry v l n begins places classes ints texts functions note last =
+    let named : Tells o a (version_lines m.version) = subst (λ (x : ImageVersion). Tells o a (version_lines x)) v (version_told o a version begins) in
     let first : Tells a b (places_line m.least_places) = subst (λ (x : ℕ). Tells a b (places_line x)) l (places_told a b least places) in
     let ended : Tells f h (entry_line m.entry) = subst (λ (x : ℕ). Tells f h (entry_line x)) n (after_silence f g h (entry_line entry) note (entry_told g h entry last)) in
-    then_told a b h _ _ first (then_told b c h _ _ classes (then_told c d h _ _ ints (then_told d e h _ _ texts (then_told e f h _ _ functions ended))))
+    then_told o a h _ _ named (then_told a b h _ _ first (then_told b c h _ _ classes (then_told c d h _ _ ints (then_told d e h _ _ texts (then_told e f h _ _ functions ended)))))
 
 pub told_whole : (text plain : List ℕ) → Tells [] text plain → said text ≡ said plain
 told_whole text plain t = ap said t.1 ∙ says_whole t.0 plain t.2

@@ -13,7 +13,7 @@ use crate::quotes::{Misquoted, push_quotes};
 use crate::text::push_shown;
 use std::alloc::{AllocError, Global};
 use std::fmt::Write;
-use x10_asm::{AsmCause, AsmFault, Line, Statement, classes_in, flaw_of, line_of};
+use x10_asm::{AsmCause, AsmFault, Line, Statement, classes_in, flaw_of, line_of, version_in};
 
 /// Why a text spells no module, in at most 5 lines: the cause and the number of the line, with the line itself and marks
 /// beneath the word at fault; which case of the cause it is, and where it helps what such a line has to be. Linear in the text
@@ -87,7 +87,7 @@ fn push_line(
     classes: usize,
 ) -> Result<(), AllocError> {
     push_shown(out, line)?;
-    let flaw = flaw_of(line, classes);
+    let flaw = flaw_of(line, classes, version_in(text));
     let quotes = if fault.cause == AsmCause::Text {
         quoted(line)
     } else {
@@ -162,6 +162,7 @@ pub(crate) fn push_others(
     text: &str,
     first: usize,
 ) -> Result<(), AllocError> {
+    let version = version_in(text);
     let mut classes: Option<usize> = None;
     let mut told: usize = 0;
     for (index, line) in text.lines().enumerate().skip(first) {
@@ -169,7 +170,7 @@ pub(crate) fn push_others(
             classes = Some(classes_in(text));
         }
         let count = classes.unwrap_or(0);
-        let Some(flaw) = flaw_of(line, count) else {
+        let Some(flaw) = flaw_of(line, count, version) else {
             continue;
         };
         if told >= MOST_LINES {

@@ -11,6 +11,7 @@ pub(crate) fn push_expected(out: &mut String, statement: Statement) -> Result<()
     }
     out.push_str(match statement {
         Statement::Silent | Statement::Class | Statement::End | Statement::Label => "",
+        Statement::Version => "Expected: version 2, before all other lines.\n",
         Statement::Places => "Expected: places N, the least number of places, 1 to 64.\n",
         Statement::Int => { "Expected: int N, from -9223372036854775808 to 9223372036854775807.\n" }
         Statement::Text => "Expected: text \"..\".\n",
@@ -19,7 +20,7 @@ pub(crate) fn push_expected(out: &mut String, statement: Statement) -> Result<()
         }
         Statement::Entry => "Expected: entry N, the number of a function, from 0.\n",
         Statement::Instruction(_) | Statement::Unknown => {
-            "Expected: places, class, int, text, func, end, entry, an instruction's name in capitals, a label that ends in a colon, or a semicolon for a comment.\n"
+            "Expected: version, places, class, int, text, func, end, entry, an instruction's name in capitals, a label that ends in a colon, or a semicolon for a comment.\n"
         }
     })
 }

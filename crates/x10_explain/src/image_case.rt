@@ -3,7 +3,8 @@
 use std::alloc::AllocError;
 use std::fmt::Write;
 use x10_code::{Op, Operand, form, name, op_with_code};
-use x10_image::{Field, ImageFault, Meaning};
+use x10_image::{Field, ImageFault, Meaning, is_known};
+use x10_model::ImageVersion;
 use x10_model::limits::{
     MOST_FIELDS, MOST_FUNCTIONS, MOST_INSTRUCTIONS, MOST_LOOPS, MOST_PARAMETERS, MOST_PLACES,
     MOST_REGISTERS,
@@ -67,7 +68,7 @@ pub(crate) fn push_wrong(
         (ImageFault::Entry, _) => push_entry(out, header),
         (ImageFault::Version, _) => {
             let version = header.version;
-            writeln!(out, "The version is 1; here it is {version}.")
+            writeln!(out, "The version is 1 or 2; here it is {version}.")
         }
         _ => out.push_str(plain(fault)),
     }
@@ -140,11 +141,11 @@ fn push_kind(out: &mut String, field: Field, classes: u16) -> Result<(), AllocEr
 fn push_code(out: &mut String, field: Field) -> Result<(), AllocError> {
     let code = byte_of(field, 0);
     match op_with_code(code) {
-        None => writeln!(out, "No operation has the code {code:02x}."),
-        Some(op) => {
+        Some(op) if is_known(ImageVersion::Two, op) => {
             let (name, letter) = (name(op), unused_in(op, field));
             writeln!(out, "{name} has no operand {letter}, so there it is 0.")
         }
+        _ => writeln!(out, "No operation has the code {code:02x}."),
     }
 }
 

@@ -52,6 +52,7 @@ pub fn verify_name(cause: VerifyCause) -> &'static str
         VerifyCause::Structure(BoundCause::Jump) => "Jump",
         VerifyCause::Structure(BoundCause::LoopSlot) => "LoopSlot",
         VerifyCause::Structure(BoundCause::CallOrder) => "CallOrder",
+        VerifyCause::Structure(BoundCause::Atomic) => "Atomic",
         VerifyCause::Structure(BoundCause::TooLarge) => "TooLarge",
         VerifyCause::Structure(BoundCause::Memory) => "Memory",
         VerifyCause::Index => "Index",

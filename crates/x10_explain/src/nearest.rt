@@ -2,13 +2,17 @@
 
 use std::alloc::{AllocError, Global};
 use strsim::osa_distance;
-use x10_code::{name, op_with_code};
+use x10_code::{Op, name, op_named, op_with_code};
+use x10_image::is_known;
+use x10_model::ImageVersion;
 
 /// More edits than there are between a word and a name that is near to it.
 pub(crate) const FAR: usize = 3;
 
 /// The words with which lines begin that are no instructions.
-const KEYWORDS: [&str; 7] = ["places", "class", "int", "text", "func", "end", "entry"];
+const KEYWORDS: [&str; 8] = [
+    "version", "places", "class", "int", "text", "func", "end", "entry",
+];
 
 /// The kinds, those with a class as they are written of class c.
 const KINDS: [&str; 8] = [
@@ -61,6 +65,16 @@ pub(crate) fn edits(alloc: Global, word: &str, name: &str) -> Result<usize, Allo
     }
 }
 
+// Whether there are images that have an operation.
+fn is_in_images(op: Op) -> bool {
+    is_known(ImageVersion::Two, op)
+}
+
+/// Whether a word is the name of an instruction.
+pub(crate) fn is_operation(word: &str) -> bool {
+    op_named(word).is_some_and(is_in_images)
+}
+
 /// The nearest name of an instruction, given a word in capitals.
 pub(crate) fn nearest_operation(
     alloc: Global,
@@ -68,7 +82,9 @@ pub(crate) fn nearest_operation(
 ) -> Result<Option<&'static str>, AllocError> {
     let mut nearest = no_name();
     for code in 0..=255 {
-        if let Some(op) = op_with_code(code) {
+        if let Some(op) = op_with_code(code)
+            && is_in_images(op)
+        {
             nearest = nearer(alloc, word, nearest, name(op))?;
         }
     }

@@ -37,6 +37,9 @@ pub(crate) fn push_number(
     }
     let name = part.name();
     push_said(out, word)?;
+    if part == Part::Version {
+        return out.push_str(" isn't 2; a text of version 1 has no line `version`.\n");
+    }
     match look_of(word, part) {
         Look::Digits => {
             write!(out, " is out of range: {name} is ")?;

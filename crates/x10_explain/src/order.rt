@@ -58,6 +58,9 @@ pub(crate) fn push_order(
     statement: Statement,
     word: &str,
 ) -> Result<(), AllocError> {
+    if statement == Statement::Version {
+        return out.push_str("`version` stands once, before all other lines.\n");
+    }
     let before = said_before(text, number.saturating_sub(1));
     if let Some(entry) = before.entry {
         return writeln!(out, "The text ends with `entry`, which is in line {entry}.");

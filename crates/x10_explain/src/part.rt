@@ -12,6 +12,7 @@ use x10_model::limits::{
 /// What a word of a line has to be.
 #[derive(Clone, Copy, Debug, PartialEq, Eq)]
 pub(crate) enum Part {
+    Version,
     Places,
     Field,
     Int,
@@ -29,6 +30,7 @@ pub(crate) enum Part {
 /// What the word with a number has to be, from 0 on after the first word of a line.
 pub(crate) fn part_at(statement: Statement, number: usize) -> Part {
     match (statement, number) {
+        (Statement::Version, 0) => Part::Version,
         (Statement::Places, 0) => Part::Places,
         (Statement::Class, _) => Part::Field,
         (Statement::Int, 0) => Part::Int,
@@ -61,6 +63,7 @@ impl Part {
     /// What it is, as in: a word is missing, the number of a register.
     pub(crate) fn name(self) -> &'static str {
         match self {
+            Part::Version => "the version",
             Part::Places => "the least number of places",
             Part::Field => "the kind of a field",
             Part::Int => "the number",

@@ -59,6 +59,9 @@ pub(crate) fn push_structure(
         BoundCause::Jump => push_jump(alloc, out, &site, pc, instr),
         BoundCause::LoopSlot => push_slot_rule(alloc, out, &site, pc, instr),
         BoundCause::CallOrder => push_order(out, &site, instr),
+        BoundCause::Atomic => {
+            out.push_str("No CALL, AT, ATA, ASYNC, FINB or ATOMB stands in an atomic region.\n")
+        }
         BoundCause::TooLarge => out.push_str(
             "The bound of the function is above 2^48. It is the sum of what its instructions cost, each as often as the loops around it turn together: 1, and of CALL and AT the bound of the called function too.\nTake smaller counts.\n",
         ),
@@ -74,8 +77,8 @@ fn open_at(alloc: Global, site: &Site, pc: usize) -> Result<Vec<usize>, AllocErr
             return Ok(open);
         };
         match instr.op {
-            Op::Loop | Op::Finb => open.push(at)?,
-            Op::Endl | Op::Fine => {
+            Op::Loop | Op::Finb | Op::Atomb => open.push(at)?,
+            Op::Endl | Op::Fine | Op::Atome => {
                 open.pop();
             }
             _ => {}

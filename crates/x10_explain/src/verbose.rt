@@ -20,7 +20,7 @@ use std::alloc::{AllocError, Global};
 use std::fmt::Write;
 use x10_asm::{
     push_class, push_end, push_entry, push_func, push_instruction, push_int, push_int_line,
-    push_kind, push_places, push_quoted, push_result, push_slot, push_text_line,
+    push_kind, push_places, push_quoted, push_result, push_slot, push_text_line, push_version,
 };
 use x10_code::{Instr, Operand, form};
 use x10_image::{ClassView, ImageView, SigView};
@@ -49,6 +49,7 @@ fn whole(alloc: Global, image: &ImageView) -> Result<String, AllocError>
     ensures { IfOk result (λ s. Tells [] (string_bytes s) (listing image.now)) }
 {
     let mut out = String::new(alloc);
+    push_version(&mut out, image.version())?;
     push_places(&mut out, image.least())?;
     push_classes(alloc, &mut out, image)?;
     push_ints(alloc, &mut out, image)?;

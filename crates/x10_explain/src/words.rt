@@ -2,13 +2,12 @@
 
 use crate::expected::push_expected;
 use crate::label_name::is_name;
-use crate::nearest::{is_keyword, nearest_keyword, nearest_kind, nearest_operation};
+use crate::nearest::{is_keyword, is_operation, nearest_keyword, nearest_kind, nearest_operation};
 use crate::part::Part;
 use crate::text::{push_said, words_in};
 use std::alloc::{AllocError, Global};
 use std::fmt::Write;
 use x10_asm::Statement;
-use x10_code::op_named;
 
 /// What a kind is.
 const KINDS: &str =
@@ -51,7 +50,7 @@ fn push_first(
     small: &str,
     capitals: &str,
 ) -> Result<(), AllocError> {
-    if op_named(capitals).is_some() {
+    if is_operation(capitals) {
         return writeln!(
             out,
             "The names of instructions are in capitals: {capitals}."

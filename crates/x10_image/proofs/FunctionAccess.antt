@@ -4,9 +4,9 @@ use Rattle.std.specs.Prelude.{slice_range, slice_index}
 use Rattle.std.specs.Int.{w16, to_be_bytes, from_be_bytes}
 use Rattle.x10_code.specs.declared.instr.Instr.{Instr}
 use Rattle.x10_code.specs.declared.instr.CodeFault.{CodeFault}
-use Rattle.x10_code.specs.Spelling.{IsInstr, spelling as instruction, decoded}
+use Rattle.x10_code.specs.Spelling.{spelling as instruction, decoded}
 use Rattle.x10_code.proofs.Instructions.{length-spelling, decoded_again}
-use Rattle.x10_model.specs.Modules.{Module, Function, FitsSlot, FitsFunction, FitsImage}
+use Rattle.x10_model.specs.Modules.{Module, Function, FitsSlot, IsInstrOf, FitsFunction, FitsImage}
 use Rattle.x10_model.specs.Ranges.{function_at, instr_in, instr_at}
 use Rattle.x10_model.specs.declared.slot.Slot.{Slot}
 use Rattle.x10_model.specs.Images.{kind_bytes, slot_bytes, result_bytes, function_bytes}
@@ -27,14 +27,14 @@ use Rattle.x10_model.proofs.Offsets.{byte_is, first_is, range_is, item_at}
 pub record IsHere (bytes : List ℕ) (at : ℕ) (m : Module) (f : ℕ) : Type 0 where
   pub function : Function
   pub is : function_at m f ≡ Some function
-  pub fits : FitsFunction (length m.classes) function
+  pub fits : FitsFunction m.version (length m.classes) function
   pub few : length m.classes < 2 ^ 16
   pub here : StandsAt bytes at (function_bytes function)
 
 pub function_here : (bytes : List ℕ) (header : KeptHeader) (ints : ℕ) (classes texts functions : List ℕ) (m : Module) (f at : ℕ) → Shows bytes header ints classes texts functions m → f < length m.functions → at ≡ get_or functions f at → IsHere bytes at m f
 function_here bytes header ints classes texts functions m f at s lt e =
     let found = item_in function_bytes bytes functions m.functions f at s.functions_at lt e in
-    record { function = found.0; is = found.1; fits = all_at (FitsFunction (length m.classes)) m.functions f found.0 s.fits.functions.2 found.1; few = s.fits.classes; here = found.2 }
+    record { function = found.0; is = found.1; fits = all_at (FitsFunction m.version (length m.classes)) m.functions f found.0 s.fits.functions.2 found.1; few = s.fits.classes; here = found.2 }
 
 pub parameters_are : (bytes : List ℕ) (at : ℕ) (m : Module) (f : ℕ) → (h : IsHere bytes at m f) → slice_index bytes at ≡ length h.function.parameters
 parameters_are bytes at m f h = first_is bytes at (length h.function.parameters) _ (function_parts bytes at h.function h.here).head
@@ -69,19 +69,19 @@ code_long bytes at m f h = ap (λ (c : List Instr). length (flat_map instruction
 pub record IsInstrAt (bytes : List ℕ) (start : ℕ) (m : Module) (f pc : ℕ) : Type 0 where
   pub instr : Instr
   pub is : instr_at m f pc ≡ Some instr
-  pub fits : IsInstr instr
+  pub fits : IsInstrOf m.version instr
   pub decodes : decoded (slice_range bytes start (start + 8)) ≡ Ok instr
 
 pub instr_here : (bytes : List ℕ) (at : ℕ) (m : Module) (f pc start : ℕ) → (h : IsHere bytes at m f) → pc < length (code_at m f) → start ≡ at + 12 + 4 * slice_index bytes at + 8 * pc → IsInstrAt bytes start m f pc
 instr_here bytes at m f pc start h lt e =
     let short : pc < length h.function.code = omega (arith, lt, ap length (code_is bytes at m f h)) in
     let found = item_at instruction 8 length-spelling bytes (at + 12 + 4 * slice_index bytes at) h.function.code pc start e (code_here bytes at m f h) short in
-    let fits = all_at IsInstr h.function.code pc found.0 h.fits.code found.1 in
+    let fits = all_at (IsInstrOf m.version) h.function.code pc found.0 h.fits.code found.1 in
     record {
       instr = found.0;
       is = ap (λ (o : Option Function). instr_in o pc) h.is ∙ found.1;
       fits = fits;
-      decodes = ap decoded (range_is bytes start (start + 8) (instruction found.0) (omega (arith, length-spelling found.0)) found.2) ∙ decoded_again found.0 fits;
+      decodes = ap decoded (range_is bytes start (start + 8) (instruction found.0) (omega (arith, length-spelling found.0)) found.2) ∙ decoded_again found.0 fits.spelled;
     }
 
 -- bytes that are a part stand for it from their beginning on
@@ -89,15 +89,15 @@ whole : (bytes part : List ℕ) → bytes ≡ part → StandsAt bytes 0 part
 whole bytes part e = record { rest = []; is = e ∙ sym (append-nil part) }
 
 -- an instruction in the bytes of a function's code alone
-alone_in : (m : Module) (f pc start : ℕ) (bytes : List ℕ) (function : Function) → function_at m f ≡ Some function → FitsFunction (length m.classes) function → bytes ≡ flat_map instruction function.code → start ≡ 8 * pc → pc < length function.code → IsInstrAt bytes start m f pc
+alone_in : (m : Module) (f pc start : ℕ) (bytes : List ℕ) (function : Function) → function_at m f ≡ Some function → FitsFunction m.version (length m.classes) function → bytes ≡ flat_map instruction function.code → start ≡ 8 * pc → pc < length function.code → IsInstrAt bytes start m f pc
 alone_in m f pc start bytes function there fits is at lt =
     let found = item_at instruction 8 length-spelling bytes 0 function.code pc start (omega (arith, at)) (whole bytes (flat_map instruction function.code) is) lt in
-    let is_instr = all_at IsInstr function.code pc found.0 fits.code found.1 in
+    let is_instr = all_at (IsInstrOf m.version) function.code pc found.0 fits.code found.1 in
     record {
       instr = found.0;
       is = ap (λ (o : Option Function). instr_in o pc) there ∙ found.1;
       fits = is_instr;
-      decodes = ap decoded (range_is bytes start (start + 8) (instruction found.0) (omega (arith, length-spelling found.0)) found.2) ∙ decoded_again found.0 is_instr;
+      decodes = ap decoded (range_is bytes start (start + 8) (instruction found.0) (omega (arith, length-spelling found.0)) found.2) ∙ decoded_again found.0 is_instr.spelled;
     }
 
 pub instr_alone : (m : Module) (f pc start : ℕ) (bytes : List ℕ) → FitsImage m → f < length m.functions → bytes ≡ flat_map instruction (code_at m f) → start ≡ 8 * pc → pc < length (code_at m f) → IsInstrAt bytes start m f pc
@@ -105,7 +105,7 @@ instr_alone m f pc start bytes fits lt is at short = go (function_at m f) refl i
   where
     go : (o : Option Function) → function_at m f ≡ o → bytes ≡ flat_map instruction (code_in o) → pc < length (code_in o) → IsInstrAt bytes start m f pc
     go None e b less = absurd (omega (arith, less))
-    go (Some function) e b less = alone_in m f pc start bytes function e (all_at (FitsFunction (length m.classes)) m.functions f function fits.functions.2 e) b at less
+    go (Some function) e b less = alone_in m f pc start bytes function e (all_at (FitsFunction m.version (length m.classes)) m.functions f function fits.functions.2 e) b at less
 
 -- such bytes have room for it
 pub alone_room : (m : Module) (f pc : ℕ) (bytes : List ℕ) → bytes ≡ flat_map instruction (code_at m f) → pc < length (code_at m f) → 8 * pc + 8 ≤ length bytes

@@ -22,7 +22,7 @@ abbrev pub AreTexts : Header → List ℕ → List ℕ → Type 0
 AreTexts h from rest = (ts : List (List ℕ)) × (times h.texts text_at from ≡ Ok (ts, rest))
 
 abbrev pub AreFunctions : Header → List ℕ → List ℕ → Type 0
-AreFunctions h from rest = (fs : List Function) × (numbered h.functions (function_at h.classes) from ≡ Ok (fs, rest))
+AreFunctions h from rest = (fs : List Function) × (numbered h.functions (function_at h.version h.classes) from ≡ Ok (fs, rest))
 
 -- a fault that isn't lack of memory
 strict : (f : Option ImageFault) (bytes : List ℕ) (part : Result Module ImageFault) → (f ≡ None → ⊥) → IsFaultOrMemory f part → IsFault f part
@@ -44,7 +44,7 @@ at_texts h cs is r3 r4 ts = bind_is (times h.texts text_at) (from_texts h cs is)
 
 at_functions : (h : Header) (cs : List (List Kind)) (is : List ℤ) (ts : List (List ℕ)) (r4 r5 : List ℕ) → (fs : AreFunctions h r4 r5) → from_texts h cs is ts r4 ≡ Ok (module_of h cs is ts fs.0, r5)
 unfolding done
-at_functions h cs is ts r4 r5 fs = bind_is (numbered h.functions (function_at h.classes)) (λ functions. done (module_of h cs is ts functions)) r4 fs.0 r5 fs.1
+at_functions h cs is ts r4 r5 fs = bind_is (numbered h.functions (function_at h.version h.classes)) (λ functions. done (module_of h cs is ts functions)) r4 fs.0 r5 fs.1
 
 pub header_misfit : (bytes : List ℕ) (f : Option ImageFault) → IsFault f (header_at bytes) → IsFault f (module_at bytes)
 header_misfit bytes f e = strict f bytes (module_at bytes) (some_fault f (header_at bytes) e) (header_fault bytes f e)
@@ -64,11 +64,11 @@ texts_misfit bytes h r1 r2 r3 f head cs is e =
     strict f bytes (module_at bytes) (some_fault f (times h.texts text_at r3) e)
     (fault_of_parts bytes f (rw (at_header bytes h r1 head ∙ at_classes h r1 r2 cs ∙ at_ints h cs.0 r2 r3 is) (early (times h.texts text_at) (from_texts h cs.0 is.0) r3 f (lenient f (times h.texts text_at r3) e))))
 
-pub functions_misfit : (bytes : List ℕ) (h : Header) (r1 r2 r3 r4 : List ℕ) (f : Option ImageFault) → IsHeader bytes h r1 → AreClasses h r1 r2 → AreInts h r2 r3 → AreTexts h r3 r4 → IsFault f (numbered h.functions (function_at h.classes) r4) → IsFault f (module_at bytes)
+pub functions_misfit : (bytes : List ℕ) (h : Header) (r1 r2 r3 r4 : List ℕ) (f : Option ImageFault) → IsHeader bytes h r1 → AreClasses h r1 r2 → AreInts h r2 r3 → AreTexts h r3 r4 → IsFault f (numbered h.functions (function_at h.version h.classes) r4) → IsFault f (module_at bytes)
 functions_misfit bytes h r1 r2 r3 r4 f head cs is ts e =
-    strict f bytes (module_at bytes) (some_fault f (numbered h.functions (function_at h.classes) r4) e)
+    strict f bytes (module_at bytes) (some_fault f (numbered h.functions (function_at h.version h.classes) r4) e)
     (fault_of_parts bytes f (rw (at_header bytes h r1 head ∙ at_classes h r1 r2 cs ∙ at_ints h cs.0 r2 r3 is ∙ at_texts h cs.0 is.0 r3 r4 ts)
-    (early (numbered h.functions (function_at h.classes)) (λ functions. done (module_of h cs.0 is.0 ts.0 functions)) r4 f (lenient f (numbered h.functions (function_at h.classes) r4) e))))
+    (early (numbered h.functions (function_at h.version h.classes)) (λ functions. done (module_of h cs.0 is.0 ts.0 functions)) r4 f (lenient f (numbered h.functions (function_at h.version h.classes) r4) e))))
 
 parts_are : (bytes : List ℕ) (h : Header) (r1 r2 r3 r4 r5 : List ℕ) → IsHeader bytes h r1 → (cs : AreClasses h r1 r2) → (is : AreInts h r2 r3) → (ts : AreTexts h r3 r4) → (fs : AreFunctions h r4 r5) → parts_at bytes ≡ Ok (module_of h cs.0 is.0 ts.0 fs.0, r5)
 parts_are bytes h r1 r2 r3 r4 r5 head cs is ts fs = at_header bytes h r1 head ∙ at_classes h r1 r2 cs ∙ at_ints h cs.0 r2 r3 is ∙ at_texts h cs.0 is.0 r3 r4 ts ∙ at_functions h cs.0 is.0 ts.0 r4 r5 fs

@@ -7,7 +7,8 @@ use Rattle.x10_code.specs.Spelling.{spelling as instruction}
 use Rattle.x10_code.proofs.Instructions.{length-spelling}
 use Rattle.x10_model.specs.Modules.{Module, Function}
 use Rattle.x10_model.specs.Ranges.{function_at, instr_in, instr_at}
-use Rattle.x10_model.specs.Images.{slot_bytes, result_bytes, class_bytes, int_bytes, text_bytes, function_bytes, magic, header_of, header_bytes, spelling}
+use Rattle.x10_model.specs.declared.version.ImageVersion.{ImageVersion}
+use Rattle.x10_model.specs.Images.{number_of, slot_bytes, result_bytes, class_bytes, int_bytes, text_bytes, function_bytes, magic, header_of, header_bytes, spelling}
 use Rattle.x10_model.proofs.ImageParts.{length-items}
 use Rattle.x10_model.specs.Offsets.{StandsAt}
 use Rattle.x10_model.proofs.Offsets.{later, narrow}
@@ -46,6 +47,7 @@ tables m =
 -- ---- the header
 
 record HasHeader (m : Module) : Type 0 where
+  version : StandsAt (spelling m) 4 (to_be_bytes w16 (number_of m.version))
   least : StandsAt (spelling m) 6 (to_be_bytes w16 m.least_places)
   classes : StandsAt (spelling m) 8 (to_be_bytes w16 (length m.classes))
   ints : StandsAt (spelling m) 10 (to_be_bytes w16 (length m.ints))
@@ -64,16 +66,17 @@ header m =
     let from_ints = to_be_bytes w16 (length m.ints) ++ from_texts in
     let from_classes = to_be_bytes w16 (length m.classes) ++ from_ints in
     let from_least = to_be_bytes w16 m.least_places ++ from_classes in
-    let from_version = to_be_bytes w16 1 ++ from_least in
+    let from_version = to_be_bytes w16 (number_of m.version) ++ from_least in
     let all : StandsAt s 0 (header_bytes (header_of m) ++ tables) = record { rest = []; is = sym (append-nil s) } in
     let version = later s 0 4 4 (to_be_bytes w32 magic) from_version refl refl (narrow s 0 (header_bytes (header_of m)) tables all) in
-    let least = later s 4 2 6 (to_be_bytes w16 1) from_least refl refl version in
+    let least = later s 4 2 6 (to_be_bytes w16 (number_of m.version)) from_least refl refl version in
     let classes = later s 6 2 8 (to_be_bytes w16 m.least_places) from_classes refl refl least in
     let ints = later s 8 2 10 (to_be_bytes w16 (length m.classes)) from_ints refl refl classes in
     let texts = later s 10 2 12 (to_be_bytes w16 (length m.ints)) from_texts refl refl ints in
     let functions = later s 12 2 14 (to_be_bytes w16 (length m.texts)) from_functions refl refl texts in
     let entry = later s 14 2 16 (to_be_bytes w16 (length m.functions)) from_entry refl refl functions in
     record {
+      version = narrow s 4 (to_be_bytes w16 (number_of m.version)) from_least version;
       least = narrow s 6 (to_be_bytes w16 m.least_places) from_classes least;
       classes = narrow s 8 (to_be_bytes w16 (length m.classes)) from_ints classes;
       ints = narrow s 10 (to_be_bytes w16 (length m.ints)) from_texts ints;
@@ -85,6 +88,9 @@ header m =
 -- a number of the header
 number_part : (m : Module) (at n result : ℕ) → StandsAt (spelling m) at (to_be_bytes w16 n) → result ≡ n → IsPart (spelling m) at (to_be_bytes w16 result)
 number_part m at n result s e = subst (λ k. IsPart (spelling m) at (to_be_bytes w16 k)) (sym e) (part_at (spelling m) at (to_be_bytes w16 n) (omega arith) s)
+
+pub version_part : (m : Module) (v : ImageVersion) → v ≡ m.version → IsPart (spelling m) 4 (to_be_bytes w16 (number_of v))
+version_part m v e = number_part m 4 (number_of m.version) (number_of v) (header m).version (ap number_of e)
 
 pub least_part : (m : Module) (n : ℕ) → n ≡ m.least_places → IsPart (spelling m) 6 (to_be_bytes w16 n)
 least_part m n e = number_part m 6 m.least_places n (header m).least e

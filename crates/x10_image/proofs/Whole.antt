@@ -21,10 +21,10 @@ use Rattle.x10_bytes.proofs.Loops.{lenient, early}
 -- ---- the reader, step by step
 
 abbrev pub module_of : Header → List (List Kind) → List ℤ → List (List ℕ) → List Function → Module
-module_of h classes ints texts functions = record { least_places = h.least_places; classes = classes; ints = ints; texts = texts; functions = functions; entry = h.entry }
+module_of h classes ints texts functions = record { version = h.version; least_places = h.least_places; classes = classes; ints = ints; texts = texts; functions = functions; entry = h.entry }
 
 abbrev pub from_texts : Header → List (List Kind) → List ℤ → List (List ℕ) → Reader ImageFault Module
-from_texts h classes ints texts = bind (numbered h.functions (function_at h.classes)) (λ functions. done (module_of h classes ints texts functions))
+from_texts h classes ints texts = bind (numbered h.functions (function_at h.version h.classes)) (λ functions. done (module_of h classes ints texts functions))
 
 abbrev pub from_ints : Header → List (List Kind) → List ℤ → Reader ImageFault Module
 from_ints h classes ints = bind (times h.texts text_at) (from_texts h classes ints)
@@ -54,7 +54,7 @@ abbrev pub AreTexts : List ℕ → Header → List ℕ → List ℕ → List ℕ
 AreTexts bytes h table from rest = IsTable text_bytes bytes table rest (times h.texts text_at from)
 
 abbrev pub AreFunctions : List ℕ → Header → List ℕ → List ℕ → List ℕ → Type 0
-AreFunctions bytes h table from rest = IsTable function_bytes bytes table rest (numbered h.functions (function_at h.classes) from)
+AreFunctions bytes h table from rest = IsTable function_bytes bytes table rest (numbered h.functions (function_at h.version h.classes) from)
 
 pub header_ends : (bytes : List ℕ) (h : Header) (rest : List ℕ) → IsBytes bytes → IsHeader bytes h rest → EndsWith bytes rest
 header_ends bytes h rest b e = record { before = header_bytes h; is = (header_reads.takes bytes h rest b e).0.parts }
@@ -89,7 +89,7 @@ at_texts bytes h classes ints table from rest t = bind_is (times h.texts text_at
 
 pub at_functions : (bytes : List ℕ) (h : Header) (classes : List (List Kind)) (ints : List ℤ) (texts : List (List ℕ)) (table from rest : List ℕ) → (t : AreFunctions bytes h table from rest) → from_texts h classes ints texts from ≡ Ok (module_of h classes ints texts t.items, rest)
 unfolding done
-at_functions bytes h classes ints texts table from rest t = bind_is (numbered h.functions (function_at h.classes)) (λ functions. done (module_of h classes ints texts functions)) from t.items rest t.reads
+at_functions bytes h classes ints texts table from rest t = bind_is (numbered h.functions (function_at h.version h.classes)) (λ functions. done (module_of h classes ints texts functions)) from t.items rest t.reads
 
 pub header_fault : (bytes : List ℕ) (f : Option ImageFault) → IsFault f (header_at bytes) → IsFaultOrMemory f (module_at bytes)
 header_fault bytes f e = fault_of_parts bytes f (rw parts_is (early header_at from_header bytes f (lenient f (header_at bytes) e)))
@@ -103,10 +103,10 @@ ints_fault bytes h r1 ct r2 f head cs e = fault_of_parts bytes f (rw (at_header 
 pub texts_fault : (bytes : List ℕ) (h : Header) (r1 ct r2 r3 : List ℕ) (f : Option ImageFault) → IsHeader bytes h r1 → AreClasses bytes h ct r1 r2 → AreInts h r2 r3 → IsFaultOrMemory f (times h.texts text_at r3) → IsFaultOrMemory f (module_at bytes)
 texts_fault bytes h r1 ct r2 r3 f head cs is e = fault_of_parts bytes f (rw (at_header bytes h r1 head ∙ at_classes bytes h ct r1 r2 cs ∙ at_ints h cs.items r2 r3 is) (early (times h.texts text_at) (from_texts h cs.items is.0) r3 f e))
 
-pub functions_fault : (bytes : List ℕ) (h : Header) (r1 ct r2 r3 tt r4 : List ℕ) (f : Option ImageFault) → IsHeader bytes h r1 → AreClasses bytes h ct r1 r2 → AreInts h r2 r3 → AreTexts bytes h tt r3 r4 → IsFaultOrMemory f (numbered h.functions (function_at h.classes) r4) → IsFaultOrMemory f (module_at bytes)
+pub functions_fault : (bytes : List ℕ) (h : Header) (r1 ct r2 r3 tt r4 : List ℕ) (f : Option ImageFault) → IsHeader bytes h r1 → AreClasses bytes h ct r1 r2 → AreInts h r2 r3 → AreTexts bytes h tt r3 r4 → IsFaultOrMemory f (numbered h.functions (function_at h.version h.classes) r4) → IsFaultOrMemory f (module_at bytes)
 functions_fault bytes h r1 ct r2 r3 ts_table r4 f head cs is ts e =
     fault_of_parts bytes f (rw (at_header bytes h r1 head ∙ at_classes bytes h ct r1 r2 cs ∙ at_ints h cs.items r2 r3 is ∙ at_texts bytes h cs.items is.0 ts_table r3 r4 ts)
-    (early (numbered h.functions (function_at h.classes)) (λ functions. done (module_of h cs.items is.0 ts.items functions)) r4 f e))
+    (early (numbered h.functions (function_at h.version h.classes)) (λ functions. done (module_of h cs.items is.0 ts.items functions)) r4 f e))
 
 -- ---- all of the steps
 

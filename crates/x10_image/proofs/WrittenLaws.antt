@@ -16,17 +16,18 @@ use Rattle.x10_kinds.specs.declared.kind.Kind.TheVariants as kind
 use Rattle.x10_code.specs.declared.instr.Instr.{Instr}
 use Rattle.x10_code.specs.Spelling.{IsInstr, fits_form}
 use Rattle.x10_model.specs.Modules as model
-use Rattle.x10_model.specs.Modules.{NamesClassBelow, takes_flag, FitsSlot, FitsClass, FitsText, FitsFunction, FitsImage, IsEntry}
+use Rattle.x10_model.specs.Modules.{NamesClassBelow, takes_flag, FitsSlot, FitsClass, FitsText, is_known, IsInstrOf, FitsFunction, FitsImage, IsEntry}
 use Rattle.x10_model.specs.Ranges.{instr_at, instr_in}
 use Rattle.x10_model.specs.ReadingImages.{is_within, is_entry}
 use Rattle.x10_model.specs.declared.slot.Slot.{Slot}
+use Rattle.x10_model.specs.declared.version.ImageVersion.{ImageVersion}
 use Rattle.x10_model.specs.Images.{Header, header_of, header_bytes, class_bytes, int_bytes, text_bytes, function_bytes, spelling}
 use Rattle.x10_model.proofs.ImageParts.{within_of, of_within}
 use Rattle.x10_image.specs.declared.module.Module.{Module}
 use Rattle.x10_image.specs.declared.module.Function.{Function}
 use Rattle.x10_image.specs.declared.fault.ImageFault.{ImageFault}
 use Rattle.x10_image.specs.declared.fault.ImageFault.TheVariants as fault
-use Rattle.x10_image.specs.Written.{function_shown, shown, names_below, slot_fits, result_fits, instr_fits, text_fits, signature_fits, counts_of_function, tables_fit, items_fit, kinds_of_function, kinds_fit, entry_fits, Hinders, Passes}
+use Rattle.x10_image.specs.Written.{function_shown, shown, names_below, slot_fits, result_fits, is_spelled, instr_fits, text_fits, signature_fits, counts_of_function, tables_fit, items_fit, kinds_of_function, kinds_fit, entry_fits, Hinders, Passes}
 use Rattle.x10_model.proofs.Lists.{all_at}
 use Rattle.x10_model.proofs.ImageLaws.{no_result, of_no_result}
 
@@ -103,16 +104,35 @@ result_to classes (Some s) h = slot_to classes s h
 
 -- ---- instructions
 
-instr_from : (i : Instr) → instr_fits i ≡ true → IsInstr i
-instr_from i h =
+spelled_from : (i : Instr) → is_spelled i ≡ true → IsInstr i
+spelled_from i h =
     let b4 = and_parts _ (fits_form i) h in
     let b3 = and_parts _ (ltb i.x (2 ^ 32)) b4.0 in
     let b2 = and_parts _ (ltb i.c 256) b3.0 in
     let b1 = and_parts (ltb i.a 256) (ltb i.b 256) b2.0 in
     record { a = ltb-true i.a 256 b1.0; b = ltb-true i.b 256 b1.1; c = ltb-true i.c 256 b2.1; x = ltb-true i.x (2 ^ 32) b3.1; form = b4.1 }
 
-instr_to : (i : Instr) → IsInstr i → instr_fits i ≡ true
-instr_to i h = and_from _ (fits_form i) (and_from _ (ltb i.x (2 ^ 32)) (and_from _ (ltb i.c 256) (and_from (ltb i.a 256) (ltb i.b 256) (lt-ltb i.a 256 h.a) (lt-ltb i.b 256 h.b)) (lt-ltb i.c 256 h.c)) (lt-ltb i.x (2 ^ 32) h.x)) h.form
+spelled_to : (i : Instr) → IsInstr i → is_spelled i ≡ true
+spelled_to i h = and_from _ (fits_form i) (and_from _ (ltb i.x (2 ^ 32)) (and_from _ (ltb i.c 256) (and_from (ltb i.a 256) (ltb i.b 256) (lt-ltb i.a 256 h.a) (lt-ltb i.b 256 h.b)) (lt-ltb i.c 256 h.c)) (lt-ltb i.x (2 ^ 32) h.x)) h.form
+
+instr_from : (version : ImageVersion) (i : Instr) → instr_fits version i ≡ true → IsInstrOf version i
+instr_from version i h = let b = and_parts (is_spelled i) (is_known version i.op) h in record { spelled = spelled_from i b.0; known = b.1 }
+
+instr_to : (version : ImageVersion) (i : Instr) → IsInstrOf version i → instr_fits version i ≡ true
+instr_to version i h = and_from (is_spelled i) (is_known version i.op) (spelled_to i h.spelled) h.known
+
+-- what an image may have is of its form
+form_of_each : (version : ImageVersion) (is : List Instr) → list_all (instr_fits version) is ≡ true → list_all fits_form is ≡ true
+form_of_each version [] h = refl
+form_of_each version (i ∷ is) h =
+    let b = and_parts (instr_fits version i) (list_all (instr_fits version) is) h in
+    and_from (fits_form i) (list_all fits_form is) (instr_from version i b.0).spelled.form (form_of_each version is b.1)
+
+pub form_of_all : (version : ImageVersion) (fs : List Function) → list_all (λ f. list_all (instr_fits version) f.code.items) fs ≡ true → list_all (λ f. list_all fits_form f.code.items) fs ≡ true
+form_of_all version [] h = refl
+form_of_all version (f ∷ fs) h =
+    let b = and_parts (list_all (instr_fits version) f.code.items) (list_all (λ g. list_all (instr_fits version) g.code.items) fs) h in
+    and_from (list_all fits_form f.code.items) (list_all (λ g. list_all fits_form g.code.items) fs) (form_of_each version f.code.items b.0) (form_of_all version fs b.1)
 
 -- ---- texts
 
@@ -145,8 +165,8 @@ counts_from f h =
       code = of_within 1 4096 (length f.code) b4.1;
     }
 
-counts_to : (classes : ℕ) (f : model.Function) → FitsFunction classes f → counts_of_function f ≡ true
-counts_to classes f h =
+counts_to : (version : ImageVersion) (classes : ℕ) (f : model.Function) → FitsFunction version classes f → counts_of_function f ≡ true
+counts_to version classes f h =
     and_from (signature_fits f) (is_within 1 4096 (length f.code))
     (and_from _ (leb (length f.parameters) 16)
     (and_from _ (leb f.loops 8)
@@ -155,11 +175,11 @@ counts_to classes f h =
     (le-leb (length f.parameters) 16 h.parameters))
     (within_of 1 4096 (length f.code) h.length.0 h.length.1)
 
-kinds_to : (classes : ℕ) (f : model.Function) → FitsFunction classes f → kinds_of_function classes f ≡ true
-kinds_to classes f h = and_from (list_all (slot_fits classes) f.parameters) (result_fits classes f.result) (all_to (slot_fits classes) (FitsSlot classes) (slot_to classes) f.parameters h.slots) (result_to classes f.result h.result)
+kinds_to : (version : ImageVersion) (classes : ℕ) (f : model.Function) → FitsFunction version classes f → kinds_of_function classes f ≡ true
+kinds_to version classes f h = and_from (list_all (slot_fits classes) f.parameters) (result_fits classes f.result) (all_to (slot_fits classes) (FitsSlot classes) (slot_to classes) f.parameters h.slots) (result_to classes f.result h.result)
 
-function_from : (classes : ℕ) (f : model.Function) → counts_of_function f ≡ true → kinds_of_function classes f ≡ true → list_all instr_fits f.code ≡ true → FitsFunction classes f
-function_from classes f h k i =
+function_from : (version : ImageVersion) (classes : ℕ) (f : model.Function) → counts_of_function f ≡ true → kinds_of_function classes f ≡ true → list_all (instr_fits version) f.code ≡ true → FitsFunction version classes f
+function_from version classes f h k i =
     let c = counts_from f h in
     let b = and_parts (list_all (slot_fits classes) f.parameters) (result_fits classes f.result) k in
     record {
@@ -170,16 +190,16 @@ function_from classes f h k i =
       slots = all_from (slot_fits classes) (FitsSlot classes) (slot_from classes) f.parameters b.0;
       result = result_from classes f.result b.1;
       length = c.code;
-      code = all_from instr_fits IsInstr instr_from f.code i;
+      code = all_from (instr_fits version) (IsInstrOf version) (instr_from version) f.code i;
     }
 
-functions_from : (classes : ℕ) (fs : List Function) → list_all (λ f. counts_of_function (function_shown f)) fs ≡ true → list_all (λ f. kinds_of_function classes (function_shown f)) fs ≡ true → list_all (λ f. list_all instr_fits f.code.items) fs ≡ true → AllByRecursion (FitsFunction classes) (map function_shown fs)
-functions_from classes [] h k i = tt
-functions_from classes (f ∷ fs) h k i =
+functions_from : (version : ImageVersion) (classes : ℕ) (fs : List Function) → list_all (λ f. counts_of_function (function_shown f)) fs ≡ true → list_all (λ f. kinds_of_function classes (function_shown f)) fs ≡ true → list_all (λ f. list_all (instr_fits version) f.code.items) fs ≡ true → AllByRecursion (FitsFunction version classes) (map function_shown fs)
+functions_from version classes [] h k i = tt
+functions_from version classes (f ∷ fs) h k i =
     let a = and_parts (counts_of_function (function_shown f)) (list_all (λ g. counts_of_function (function_shown g)) fs) h in
     let b = and_parts (kinds_of_function classes (function_shown f)) (list_all (λ g. kinds_of_function classes (function_shown g)) fs) k in
-    let c = and_parts (list_all instr_fits f.code.items) (list_all (λ g. list_all instr_fits g.code.items) fs) i in
-    (function_from classes (function_shown f) a.0 b.0 c.0, functions_from classes fs a.1 b.1 c.1)
+    let c = and_parts (list_all (instr_fits version) f.code.items) (list_all (λ g. list_all (instr_fits version) g.code.items) fs) i in
+    (function_from version classes (function_shown f) a.0 b.0 c.0, functions_from version classes fs a.1 b.1 c.1)
 
 -- ---- the entry
 
@@ -220,7 +240,7 @@ passes_fits m p ints =
       fields = rw classes_long (fields_from (length m.classes.items) m.classes.items i1.0 k.0);
       ints = (ltb-true (length m.ints.items) (2 ^ 16) t2.1, ints);
       texts = (omega (arith, texts_long, ltb-true (length m.texts.items) (2 ^ 16) t3.1), all_map string_bytes FitsText m.texts.items (all_from (λ t. text_fits (string_bytes t)) (λ t. FitsText (string_bytes t)) (λ t. text_from (string_bytes t)) m.texts.items i1.1));
-      functions = (omega (arith, functions_long, range), omega (arith, functions_long, range), rw classes_long (functions_from (length m.classes.items) m.functions.items i2.1 k.1 p.code));
+      functions = (omega (arith, functions_long, range), omega (arith, functions_long, range), rw classes_long (functions_from m.version (length m.classes.items) m.functions.items i2.1 k.1 p.code));
       entry = entry_from (slice_get (map function_shown m.functions.items) m.entry) p.entry_is;
     }
 
@@ -246,27 +266,27 @@ items_to m h =
     and_from _ (list_all (λ f. counts_of_function (function_shown f)) m.functions.items) (and_from (list_all (λ c. leb (length c.items) 16) m.classes.items) (list_all (λ t. text_fits (string_bytes t)) m.texts.items)
     (all_to (λ c. leb (length c.items) 16) (λ c. FitsClass classes c.items) (λ c g. le-leb (length c.items) 16 g.count) m.classes.items (all_unmap (λ c. c.items) (FitsClass classes) m.classes.items h.fields))
     (all_to (λ t. text_fits (string_bytes t)) (λ t. FitsText (string_bytes t)) (λ t. text_to (string_bytes t)) m.texts.items (all_unmap string_bytes FitsText m.texts.items h.texts.1)))
-    (all_to (λ f. counts_of_function (function_shown f)) (λ f. FitsFunction classes (function_shown f)) (λ f. counts_to classes (function_shown f)) m.functions.items (all_unmap function_shown (FitsFunction classes) m.functions.items h.functions.2))
+    (all_to (λ f. counts_of_function (function_shown f)) (λ f. FitsFunction m.version classes (function_shown f)) (λ f. counts_to m.version classes (function_shown f)) m.functions.items (all_unmap function_shown (FitsFunction m.version classes) m.functions.items h.functions.2))
 
 kinds_fit_to : (m : Module) → FitsImage (shown m) → kinds_fit m ≡ true
 kinds_fit_to m h =
     let n = length m.classes.items in
     let long : length (map (λ c. c.items) m.classes.items) ≡ n = length-map m.classes.items (λ c. c.items) in
     let fields : AllByRecursion (FitsClass n) (map (λ c. c.items) m.classes.items) = subst (λ (k : ℕ). AllByRecursion (FitsClass k) (map (λ c. c.items) m.classes.items)) long h.fields in
-    let functions : AllByRecursion (FitsFunction n) (map function_shown m.functions.items) = subst (λ (k : ℕ). AllByRecursion (FitsFunction k) (map function_shown m.functions.items)) long h.functions.2 in
+    let functions : AllByRecursion (FitsFunction m.version n) (map function_shown m.functions.items) = subst (λ (k : ℕ). AllByRecursion (FitsFunction m.version k) (map function_shown m.functions.items)) long h.functions.2 in
     and_from (list_all (λ c. list_all (names_below n) c.items) m.classes.items) (list_all (λ f. kinds_of_function n (function_shown f)) m.functions.items)
     (all_to (λ c. list_all (names_below n) c.items) (λ c. FitsClass n c.items) (λ c g. all_to (names_below n) (NamesClassBelow n) (names_to n) c.items g.kinds) m.classes.items (all_unmap (λ c. c.items) (FitsClass n) m.classes.items fields))
-    (all_to (λ f. kinds_of_function n (function_shown f)) (λ f. FitsFunction n (function_shown f)) (λ f. kinds_to n (function_shown f)) m.functions.items (all_unmap function_shown (FitsFunction n) m.functions.items functions))
+    (all_to (λ f. kinds_of_function n (function_shown f)) (λ f. FitsFunction m.version n (function_shown f)) (λ f. kinds_to m.version n (function_shown f)) m.functions.items (all_unmap function_shown (FitsFunction m.version n) m.functions.items functions))
 
-instr_there : (m : Module) (f pc : ℕ) (o : Option model.Function) (i : Instr) → FitsImage (shown m) → slice_get (shown m).functions f ≡ o → instr_in o pc ≡ Some i → IsInstr i
+instr_there : (m : Module) (f pc : ℕ) (o : Option model.Function) (i : Instr) → FitsImage (shown m) → slice_get (shown m).functions f ≡ o → instr_in o pc ≡ Some i → IsInstrOf m.version i
 instr_there m f pc None i h e is = absurd cc
-instr_there m f pc (Some g) i h e is = all_at IsInstr g.code pc i (all_at (FitsFunction (length (shown m).classes)) (shown m).functions f g h.functions.2 e).code is
+instr_there m f pc (Some g) i h e is = all_at (IsInstrOf m.version) g.code pc i (all_at (FitsFunction m.version (length (shown m).classes)) (shown m).functions f g h.functions.2 e).code is
 
 -- where something hinders it, no bytes spell it
 pub hindered : (m : Module) (e : ImageFault) → Hinders e m → FitsImage (shown m) → ⊥
 hindered m fault.Count h fits = not_both (tables_fit m && items_fit m) (and_from (tables_fit m) (items_fit m) (tables_to m fits) (items_to m fits)) h
 hindered m fault.Kind h fits = not_both (kinds_fit m) (kinds_fit_to m fits) h
-hindered m (fault.Code f pc) h fits = not_both (instr_fits h.0) (instr_to h.0 (instr_there m f pc (slice_get (shown m).functions f) h.0 fits refl h.1)) h.2
+hindered m (fault.Code f pc) h fits = not_both (instr_fits m.version h.0) (instr_to m.version h.0 (instr_there m f pc (slice_get (shown m).functions f) h.0 fits refl h.1)) h.2
 hindered m fault.Entry h fits = not_both (entry_fits m) (entry_to (slice_get (map function_shown m.functions.items) m.entry) fits.entry.0 fits.entry.1 fits.entry.2) h
 hindered m _ h fits = h
 
@@ -287,7 +307,7 @@ written_is m h out eh e =
     e ∙ rw (eh, flat_map-map class_bytes (λ c. c.items) m.classes.items, flat_map-map text_bytes string_bytes m.texts.items, flat_map-map function_bytes function_shown m.functions.items)
     (regrouped (header_bytes (header_of (shown m))) (flat_map class_bytes (map (λ c. c.items) m.classes.items)) (flat_map int_bytes m.ints.items) (flat_map text_bytes (map string_bytes m.texts.items)) (flat_map function_bytes (map function_shown m.functions.items)))
 
-pub header_is : (m : Module) (h : Header) → h ≡ record { least_places = m.least_places; classes = length m.classes.items; ints = length m.ints.items; texts = length m.texts.items; functions = length m.functions.items; entry = m.entry } → h ≡ header_of (shown m)
+pub header_is : (m : Module) (h : Header) → h ≡ record { version = m.version; least_places = m.least_places; classes = length m.classes.items; ints = length m.ints.items; texts = length m.texts.items; functions = length m.functions.items; entry = m.entry } → h ≡ header_of (shown m)
 header_is m h e = e ∙ rw (length-map m.classes.items (λ c. c.items), length-map m.texts.items string_bytes, length-map m.functions.items function_shown) refl
 
 -- ---- an instruction that no image has

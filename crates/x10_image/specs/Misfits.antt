@@ -3,19 +3,20 @@ use Rattle.std.specs.Prelude.{◌≡◌, ℕ, List, Some, Ok, length, ◌<◌}
 use Rattle.x10_model.specs.Readers.{times, int, all_of}
 use Rattle.x10_model.specs.Modules.{Module}
 use Rattle.x10_model.specs.ReadingImages.{Short, Trailing, header_at, class_at, text_at, function_at, parts_at}
+use Rattle.x10_model.specs.declared.version.ImageVersion.{ImageVersion}
 use Rattle.x10_image.specs.Faults.{named, IsFault}
 use Rattle.x10_image.specs.declared.fault.ImageFault.{ImageFault}
 use Rattle.x10_image.specs.declared.misfit.Item.{Item}
 use Rattle.x10_image.specs.declared.misfit.Item.TheVariants as item
 
--- in a module with so many classes, reading this part from these bytes on gives this fault
-abbrev pub IsRefused : ℕ → Item → List ℕ → ImageFault → Type 0
-IsRefused classes item.Header from fault = IsFault (named fault) (header_at from)
-IsRefused classes (item.Class c) from fault = IsFault (named fault) (class_at classes from)
-IsRefused classes (item.Ints count) from fault = IsFault (named fault) (times count (int Short) from)
-IsRefused classes (item.Text t) from fault = IsFault (named fault) (text_at from)
-IsRefused classes (item.Function f) from fault = IsFault (named fault) (function_at classes f from)
-IsRefused classes item.Behind from fault = (named fault ≡ Some Trailing) × (0 < length from)
+-- in an image of this version with so many classes, reading this part from these bytes on gives this fault
+abbrev pub IsRefused : ImageVersion → ℕ → Item → List ℕ → ImageFault → Type 0
+IsRefused version classes item.Header from fault = IsFault (named fault) (header_at from)
+IsRefused version classes (item.Class c) from fault = IsFault (named fault) (class_at classes from)
+IsRefused version classes (item.Ints count) from fault = IsFault (named fault) (times count (int Short) from)
+IsRefused version classes (item.Text t) from fault = IsFault (named fault) (text_at from)
+IsRefused version classes (item.Function f) from fault = IsFault (named fault) (function_at version classes f from)
+IsRefused version classes item.Behind from fault = (named fault ≡ Some Trailing) × (0 < length from)
 
 -- the bytes are those of a header and of all the parts that it counts, each in order, and nothing behind; the entry aside
 abbrev pub HasWholeParts : List ℕ → Type 0

@@ -1,6 +1,7 @@
 -- A view of an image: its bytes, and where its parts begin.
 use Rattle.std.specs.Prelude.{◌≡◌, ℕ, List, [], Result, Ok, Err}
 use Rattle.std.specs.List.{flat_map}
+use Rattle.x10_model.specs.declared.version.ImageVersion.TheVariants.{One}
 use Rattle.x10_model.specs.Modules.{Module, FitsImage}
 use Rattle.x10_model.specs.Images.{class_bytes, int_bytes, text_bytes, function_bytes, header_of, spelling}
 use Rattle.x10_model.specs.ReadingImages.{ImageFault, module_at}
@@ -10,7 +11,7 @@ use Rattle.x10_image.specs.Headers.{seen}
 
 abbrev pub read_or_empty : Result Module ImageFault → Module
 read_or_empty (Ok m) = m
-read_or_empty (Err fault) = record { least_places = 0; classes = []; ints = []; texts = []; functions = []; entry = 0 }
+read_or_empty (Err fault) = record { version = One; least_places = 0; classes = []; ints = []; texts = []; functions = []; entry = 0 }
 
 -- the module that the bytes decode to
 unfoldable pub module_in : List ℕ → Module

@@ -10,9 +10,10 @@ use Rattle.x10_kinds.specs.declared.kind.Kind.TheVariants as kind
 use Rattle.x10_code.specs.declared.instr.Instr.{Instr}
 use Rattle.x10_code.specs.Spelling.{fits_form}
 use Rattle.x10_model.specs.Modules as model
-use Rattle.x10_model.specs.Modules.{takes_flag}
+use Rattle.x10_model.specs.Modules.{takes_flag, is_known}
 use Rattle.x10_model.specs.ReadingImages.{is_within, is_entry}
 use Rattle.x10_model.specs.declared.slot.Slot.{Slot}
+use Rattle.x10_model.specs.declared.version.ImageVersion.{ImageVersion}
 use Rattle.x10_model.specs.Ranges.{instr_at}
 use Rattle.x10_image.specs.declared.fault.ImageFault.{ImageFault}
 use Rattle.x10_image.specs.declared.fault.ImageFault.TheVariants as fault
@@ -25,6 +26,7 @@ function_shown f = record { parameters = f.parameters.items; registers = f.regis
 -- the module that is to be written
 abbrev pub shown : Module → model.Module
 shown m = record {
+  version = m.version;
   least_places = m.least_places;
   classes = map (λ c. c.items) m.classes.items;
   ints = m.ints.items;
@@ -48,8 +50,12 @@ abbrev pub result_fits : ℕ → Option Slot → Bool
 result_fits classes None = true
 result_fits classes (Some s) = slot_fits classes s
 
-abbrev pub instr_fits : Instr → Bool
-instr_fits i = nat_lt i.a 256 && nat_lt i.b 256 && nat_lt i.c 256 && nat_lt i.x (2 ^ 32) && fits_form i
+-- eight bytes spell the instruction
+abbrev pub is_spelled : Instr → Bool
+is_spelled i = nat_lt i.a 256 && nat_lt i.b 256 && nat_lt i.c 256 && nat_lt i.x (2 ^ 32) && fits_form i
+
+abbrev pub instr_fits : ImageVersion → Instr → Bool
+instr_fits version i = is_spelled i && is_known version i.op
 
 abbrev pub text_fits : List ℕ → Bool
 text_fits text = nat_lt (length text) (2 ^ 16) && is_utf8 text
@@ -90,9 +96,9 @@ kinds_fit m =
     list_all (λ c. list_all (names_below (length m.classes.items)) c.items) m.classes.items
     && list_all (λ f. kinds_of_function (length m.classes.items) (function_shown f)) m.functions.items
 
--- every instruction is one that an image may have
+-- every instruction is one that an image of the module's version may have
 abbrev pub code_fits : Module → Bool
-code_fits m = list_all (λ f. list_all instr_fits f.code.items) m.functions.items
+code_fits m = list_all (λ f. list_all (instr_fits m.version) f.code.items) m.functions.items
 
 abbrev pub entry_fits : Module → Bool
 entry_fits m = is_entry (slice_get (map function_shown m.functions.items) m.entry)
@@ -101,7 +107,7 @@ entry_fits m = is_entry (slice_get (map function_shown m.functions.items) m.entr
 abbrev pub Hinders : ImageFault → Module → Type 0
 Hinders fault.Count m = (tables_fit m && items_fit m) ≡ false
 Hinders fault.Kind m = kinds_fit m ≡ false
-Hinders (fault.Code function pc) m = (i : Instr) × (instr_at (shown m) function pc ≡ Some i) × (instr_fits i ≡ false)
+Hinders (fault.Code function pc) m = (i : Instr) × (instr_at (shown m) function pc ≡ Some i) × (instr_fits m.version i ≡ false)
 Hinders fault.Entry m = entry_fits m ≡ false
 Hinders fault.Memory m = ⊥
 Hinders fault.Short m = ⊥

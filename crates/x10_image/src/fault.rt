@@ -13,7 +13,7 @@ pub enum ImageFault {
     /// The first four bytes aren't those of an image.
     #[error("Magic")]
     Magic,
-    /// The version isn't 1.
+    /// The version is neither 1 nor 2.
     #[error("Version")]
     Version,
     /// A number outside its range.
@@ -35,7 +35,8 @@ pub enum ImageFault {
     /// No function has the entry's number, or it takes or gives something.
     #[error("Entry")]
     Entry,
-    /// Eight bytes that are no instruction: the function's number and the instruction's number in it.
+    /// Eight bytes that are no instruction, or one that the image's version doesn't have: the function's
+    /// number and the instruction's number in it.
     #[error("Code {0} {1}")]
     Code(u16, u16),
     /// A growth was refused for lack of memory.

@@ -2,10 +2,12 @@
 
 use crate::fault::ImageFault;
 use crate::fields::{after_zero_byte, after_zero_u16, byte_at_most, registers_at, u16_within};
-use crate::header::{MAGIC, VERSION};
+use crate::header::{MAGIC, version_at};
 use crate::kinds::{kind_at, result_at, slot_at};
+use crate::known::is_known;
 use x10_bytes::{byte_at, has, u16_at, u32_at};
 use x10_code::decode_slice;
+use x10_model::ImageVersion;
 use x10_model::limits::{
     MOST_FIELDS, MOST_FUNCTIONS, MOST_INSTRUCTIONS, MOST_LOOPS, MOST_PARAMETERS, MOST_PLACES,
 };
@@ -102,13 +104,7 @@ fn past_header(bytes: &[u8]) -> Result<(), Field<'_>> {
         bytes,
         equal(magic == MAGIC, ImageFault::Magic),
     )?;
-    let (version, after) = read(Meaning::Version, 2, rest, u16_at(rest))?;
-    read(
-        Meaning::Version,
-        2,
-        rest,
-        equal(version == VERSION, ImageFault::Version),
-    )?;
+    let (_, after) = read(Meaning::Version, 2, rest, version_at(rest))?;
     let (_, rest) = read(Meaning::Places, 2, after, u16_within(after, 1, MOST_PLACES))?;
     let (_, rest) = read(Meaning::Header, 2, rest, u16_at(rest))?;
     let (_, rest) = read(Meaning::Header, 2, rest, u16_at(rest))?;
@@ -184,12 +180,22 @@ fn past_bytes(bytes: &[u8]) -> Result<(), Field<'_>> {
     }
 }
 
-/// The first field of the function with a number that is wrong, in a module with `classes` classes.
-pub fn function_field(bytes: &[u8], classes: u16, function: u16) -> Option<Field<'_>> {
-    past_parts(bytes, classes, function).err()
+/// The first field of the function with a number that is wrong, in an image of the version with `classes` classes.
+pub fn function_field(
+    bytes: &[u8],
+    version: ImageVersion,
+    classes: u16,
+    function: u16,
+) -> Option<Field<'_>> {
+    past_parts(bytes, version, classes, function).err()
 }
 
-fn past_parts(bytes: &[u8], classes: u16, function: u16) -> Result<(), Field<'_>> {
+fn past_parts(
+    bytes: &[u8],
+    version: ImageVersion,
+    classes: u16,
+    function: u16,
+) -> Result<(), Field<'_>> {
     let (parameters, rest) = past_head(bytes)?;
     let rest = past_signature(rest, parameters, classes)?;
     read(Meaning::Count, 4, rest, has(rest, 4))?;
@@ -200,7 +206,7 @@ fn past_parts(bytes: &[u8], classes: u16, function: u16) -> Result<(), Field<'_>
         u16_within(rest, 1, MOST_INSTRUCTIONS),
     )?;
     let rest = read(Meaning::Zero, 2, after, after_zero_u16(after))?;
-    past_code(rest, function, count)
+    past_code(rest, version, function, count)
 }
 
 fn past_head(bytes: &[u8]) -> Result<(u8, &[u8]), Field<'_>> {
@@ -234,7 +240,12 @@ fn past_signature(bytes: &[u8], parameters: u8, classes: u16) -> Result<&[u8], F
     Ok(rest)
 }
 
-fn past_code(bytes: &[u8], function: u16, count: u16) -> Result<(), Field<'_>> {
+fn past_code(
+    bytes: &[u8],
+    version: ImageVersion,
+    function: u16,
+    count: u16,
+) -> Result<(), Field<'_>> {
     let width = 8 * usize::from(count);
     read(Meaning::Code, width, bytes, has(bytes, width))?;
     let mut rest = bytes;
@@ -243,7 +254,7 @@ fn past_code(bytes: &[u8], function: u16, count: u16) -> Result<(), Field<'_>> {
             return Ok(());
         }
         let (front, after) = rest.split_at(8);
-        if decode_slice(front).is_err() {
+        if !decode_slice(front).is_ok_and(|instr| is_known(version, instr.op)) {
             return Err(Field {
                 meaning: Meaning::Instruction(pc),
                 fault: ImageFault::Code(function, pc),

@@ -10,14 +10,15 @@ ghost use Rattle.x10_image.specs.Written as written;
 ghost use Rattle.x10_image.specs.Written.{function_shown, Passes, Hinders};
 
 use crate::fault::ImageFault;
+use crate::known::is_known;
 use crate::module::{Function, Module};
 use x10_code::{Instr, has_spelling};
 use x10_kinds::Kind;
-use x10_model::Slot;
 use x10_model::limits::{
     MOST_FIELDS, MOST_FUNCTIONS, MOST_INSTRUCTIONS, MOST_LOOPS, MOST_PARAMETERS, MOST_PLACES,
     MOST_REGISTERS,
 };
+use x10_model::{ImageVersion, Slot};
 
 fn names_below(classes: usize, kind: Kind) -> bool
     ensures { result ≡ written.names_below classes kind }
@@ -148,10 +149,10 @@ fn items_fit(source: &Module) -> bool
         && counts_of_functions_fit(&source.functions)
 }
 
-fn instr_fits(instr: Instr) -> bool
-    ensures { result ≡ written.instr_fits instr }
+fn instr_fits(version: ImageVersion, instr: Instr) -> bool
+    ensures { result ≡ written.instr_fits version instr }
 {
-    has_spelling(instr)
+    has_spelling(instr) && is_known(version, instr.op)
 }
 
 fn entry_fits(functions: &[Function], entry: u16) -> bool
@@ -165,13 +166,13 @@ fn entry_fits(functions: &[Function], entry: u16) -> bool
     function.parameters.is_empty() && function.result.is_none()
 }
 
-/// The first instruction that an image can't have.
-fn bad_instr(code: &[Instr]) -> Option<usize>
-    ensures { MatchOption result (list_all written.instr_fits code.now ≡ true)
-        (λ pc. (pc < length code.now) × (i : Instr) × (slice_get code.now pc ≡ Some i) × (written.instr_fits i ≡ false)) }
+/// The first instruction that an image of the version can't have.
+fn bad_instr(version: ImageVersion, code: &[Instr]) -> Option<usize>
+    ensures { MatchOption result (list_all (written.instr_fits version) code.now ≡ true)
+        (λ pc. (pc < length code.now) × (i : Instr) × (slice_get code.now pc ≡ Some i) × (written.instr_fits version i ≡ false)) }
 {
     for (pc, instr) in code.iter().enumerate() {
-        if !instr_fits(*instr) {
+        if !instr_fits(version, *instr) {
             return Some(pc);
         }
     }
@@ -179,12 +180,12 @@ fn bad_instr(code: &[Instr]) -> Option<usize>
 }
 
 /// The first function with such an instruction, and the instruction's number there.
-fn bad_function(functions: &[Function]) -> Option<(usize, usize)>
-    ensures { MatchOption result (list_all (λ f. list_all written.instr_fits f.code.items) functions.now ≡ true)
-        (λ at. (at.0 < length functions.now) × (f : Function) × (slice_get functions.now at.0 ≡ Some f) × (at.1 < length f.code.items) × (i : Instr) × (slice_get f.code.items at.1 ≡ Some i) × (written.instr_fits i ≡ false)) }
+fn bad_function(version: ImageVersion, functions: &[Function]) -> Option<(usize, usize)>
+    ensures { MatchOption result (list_all (λ f. list_all (written.instr_fits version) f.code.items) functions.now ≡ true)
+        (λ at. (at.0 < length functions.now) × (f : Function) × (slice_get functions.now at.0 ≡ Some f) × (at.1 < length f.code.items) × (i : Instr) × (slice_get f.code.items at.1 ≡ Some i) × (written.instr_fits version i ≡ false)) }
 {
     for (number, function) in functions.iter().enumerate() {
-        if let Some(pc) = bad_instr(&function.code) {
+        if let Some(pc) = bad_instr(version, &function.code) {
             return Some((number, pc));
         }
     }
@@ -202,7 +203,7 @@ pub fn check(source: &Module) -> Result<(), ImageFault>
     if !kinds_fit(source) {
         return Err(ImageFault::Kind);
     }
-    if let Some((function, pc)) = bad_function(&source.functions) {
+    if let Some((function, pc)) = bad_function(source.version, &source.functions) {
         return Err(ImageFault::Code(function as u16, pc as u16));
     }
     if !entry_fits(&source.functions, source.entry) {

@@ -1,24 +1,26 @@
 //! The header of an image.
 
+ghost use Rattle.std.specs.Prelude.{◌≡◌};
 ghost use Rattle.std.specs.Int.{w16, w32};
 ghost use Rattle.x10_model.specs.Images.{magic};
+ghost use Rattle.x10_model.specs.Images as images;
 ghost use Rattle.x10_model.specs.Readers.{number, expect};
-ghost use Rattle.x10_model.specs.ReadingImages.{Short, Magic, Version, header_at};
+ghost use Rattle.x10_model.specs.ReadingImages.{Short, Magic, version_at, header_at};
 ghost use Rattle.x10_image.specs.Faults.{Answers};
 ghost use Rattle.x10_image.specs.Headers.{seen};
 
 use crate::fault::ImageFault;
 use crate::fields::{after_zero_u16, u16_within};
 use x10_bytes::{has, u16_at, u32_at};
+use x10_model::ImageVersion;
 use x10_model::limits::{MOST_FUNCTIONS, MOST_PLACES};
 
 pub const MAGIC: u32 = 0x5831_3050;
 
-pub const VERSION: u16 = 1;
-
-/// How much of everything an image has.
+/// The version of an image, and how much of everything it has.
 #[derive(Clone, Copy, Debug)]
 pub struct Header {
+    pub version: ImageVersion,
     pub least_places: u16,
     pub classes: u16,
     pub ints: u16,
@@ -38,15 +40,27 @@ fn after_magic(bytes: &[u8]) -> Result<&[u8], ImageFault>
     Ok(bytes)
 }
 
-#[tactic(auto, unfolding(x10_model::specs::Readers::expect, x10_model::specs::Readers::bind, x10_model::specs::Readers::check))]
-fn after_version(bytes: &[u8]) -> Result<&[u8], ImageFault>
-    ensures exact { Answers (λ x. (tt, x.now)) result (expect (number w16 Short) 1 Version bytes.now) }
+/// The number of a version.
+pub fn number_of(version: ImageVersion) -> u16
+    ensures value { result ≡ images.number_of version }
 {
-    let (found, bytes) = u16_at::<ImageFault>(bytes)?;
-    if found != VERSION {
-        return Err(ImageFault::Version);
+    match version {
+        ImageVersion::One => 1,
+        ImageVersion::Two => 2,
     }
-    Ok(bytes)
+}
+
+/// The version of an image by its number, and the bytes after it.
+#[tactic(auto, unfolding(x10_model::specs::ReadingImages::version_at, x10_model::specs::Readers::given, x10_model::specs::Readers::bind))]
+pub fn version_at(bytes: &[u8]) -> Result<(ImageVersion, &[u8]), ImageFault>
+    ensures exact { Answers (λ x. (x.0, x.1.now)) result (version_at bytes.now) }
+{
+    let (number, bytes) = u16_at::<ImageFault>(bytes)?;
+    match number {
+        1 => Ok((ImageVersion::One, bytes)),
+        2 => Ok((ImageVersion::Two, bytes)),
+        _ => Err(ImageFault::Version),
+    }
 }
 
 /// The header, and the bytes after it.
@@ -56,7 +70,7 @@ pub fn read_header(bytes: &[u8]) -> Result<(Header, &[u8]), ImageFault>
 {
     has::<ImageFault>(bytes, 20)?;
     let bytes = after_magic(bytes)?;
-    let bytes = after_version(bytes)?;
+    let (version, bytes) = version_at(bytes)?;
     let (least_places, bytes) = u16_within(bytes, 1, MOST_PLACES)?;
     let (classes, bytes) = u16_at::<ImageFault>(bytes)?;
     let (ints, bytes) = u16_at::<ImageFault>(bytes)?;
@@ -65,6 +79,7 @@ pub fn read_header(bytes: &[u8]) -> Result<(Header, &[u8]), ImageFault>
     let (entry, bytes) = u16_at::<ImageFault>(bytes)?;
     let bytes = after_zero_u16(bytes)?;
     let header = Header {
+        version,
         least_places,
         classes,
         ints,

@@ -3,6 +3,7 @@
 ghost use Rattle.std.specs.Prelude.{◌≡◌, ℕ, ℤ, List, Ok, IfOk, IfErr, IfSome, MatchOption};
 ghost use Rattle.x10_kinds.specs.declared.kind.Kind.{Kind};
 ghost use Rattle.x10_model.specs.Modules as model;
+ghost use Rattle.x10_model.specs.declared.version.ImageVersion.{ImageVersion};
 ghost use Rattle.x10_model.specs.Readers.{times, numbered, int};
 ghost use Rattle.x10_model.specs.ReadingImages.{Short, class_at, text_at, function_at, module_at};
 ghost use Rattle.x10_image.specs.Faults.{named, IsFault};
@@ -12,6 +13,7 @@ use crate::fault::ImageFault;
 use crate::field::{Field, class_field, function_field, header_field, int_field, text_field};
 use crate::header::read_header;
 use crate::parts::{past_class, past_function, past_ints, past_text};
+use x10_model::ImageVersion;
 
 /// A part of an image.
 #[derive(Clone, Copy, Debug, PartialEq, Eq)]
@@ -42,7 +44,7 @@ pub struct Misfit<'a> {
 
 /// The bytes after the classes.
 fn past_classes(bytes: &[u8], count: u16) -> Result<&[u8], Misfit<'_>>
-    ensures part { IfErr result (λ m. IsRefused count m.item m.from.now m.fault) }
+    ensures part { IfErr result (λ m. (version : ImageVersion) → IsRefused version count m.item m.from.now m.fault) }
     ensures passed { IfOk result (λ rest. (items : List (List Kind)) × (times count (class_at count) bytes.now ≡ Ok (items, rest.now))) }
     ensures fault { IfErr result (λ m. IsFault (named m.fault) (times count (class_at count) bytes.now)) }
 {
@@ -65,7 +67,7 @@ fn past_classes(bytes: &[u8], count: u16) -> Result<&[u8], Misfit<'_>>
 
 /// The bytes after the constant numbers.
 fn past_numbers(bytes: &[u8], count: u16) -> Result<&[u8], Misfit<'_>>
-    ensures part { IfErr result (λ m. (classes : ℕ) → IsRefused classes m.item m.from.now m.fault) }
+    ensures part { IfErr result (λ m. (version : ImageVersion) (classes : ℕ) → IsRefused version classes m.item m.from.now m.fault) }
     ensures passed { IfOk result (λ rest. (items : List ℤ) × (times count (int Short) bytes.now ≡ Ok (items, rest.now))) }
     ensures fault { IfErr result (λ m. IsFault (named m.fault) (times count (int Short) bytes.now)) }
 {
@@ -82,7 +84,7 @@ fn past_numbers(bytes: &[u8], count: u16) -> Result<&[u8], Misfit<'_>>
 
 /// The bytes after the texts.
 fn past_texts(bytes: &[u8], count: u16) -> Result<&[u8], Misfit<'_>>
-    ensures part { IfErr result (λ m. (classes : ℕ) → IsRefused classes m.item m.from.now m.fault) }
+    ensures part { IfErr result (λ m. (version : ImageVersion) (classes : ℕ) → IsRefused version classes m.item m.from.now m.fault) }
     ensures passed { IfOk result (λ rest. (items : List (List ℕ)) × (times count text_at bytes.now ≡ Ok (items, rest.now))) }
     ensures fault { IfErr result (λ m. IsFault (named m.fault) (times count text_at bytes.now)) }
 {
@@ -104,21 +106,26 @@ fn past_texts(bytes: &[u8], count: u16) -> Result<&[u8], Misfit<'_>>
 }
 
 /// The bytes after the functions.
-fn past_functions(bytes: &[u8], classes: u16, count: u16) -> Result<&[u8], Misfit<'_>>
-    ensures part { IfErr result (λ m. IsRefused classes m.item m.from.now m.fault) }
-    ensures passed { IfOk result (λ rest. (items : List model.Function) × (numbered count (function_at classes) bytes.now ≡ Ok (items, rest.now))) }
-    ensures fault { IfErr result (λ m. IsFault (named m.fault) (numbered count (function_at classes) bytes.now)) }
+fn past_functions(
+    bytes: &[u8],
+    version: ImageVersion,
+    classes: u16,
+    count: u16,
+) -> Result<&[u8], Misfit<'_>>
+    ensures part { IfErr result (λ m. IsRefused version classes m.item m.from.now m.fault) }
+    ensures passed { IfOk result (λ rest. (items : List model.Function) × (numbered count (function_at version classes) bytes.now ≡ Ok (items, rest.now))) }
+    ensures fault { IfErr result (λ m. IsFault (named m.fault) (numbered count (function_at version classes) bytes.now)) }
 {
     let mut rest = bytes;
     for function in 0..count {
-        match past_function(rest, classes, function) {
+        match past_function(rest, version, classes, function) {
             Ok(after) => rest = after,
             Err(fault) => {
                 return Err(Misfit {
                     item: Item::Function(function),
                     fault,
                     from: rest,
-                    field: function_field(rest, classes, function),
+                    field: function_field(rest, version, classes, function),
                 });
             }
         }
@@ -128,7 +135,7 @@ fn past_functions(bytes: &[u8], classes: u16, count: u16) -> Result<&[u8], Misfi
 
 /// All parts one after the other.
 fn past_all(bytes: &[u8]) -> Result<(), Misfit<'_>>
-    ensures part { IfErr result (λ m. (classes : ℕ) × IsRefused classes m.item m.from.now m.fault) }
+    ensures part { IfErr result (λ m. (version : ImageVersion) × (classes : ℕ) × IsRefused version classes m.item m.from.now m.fault) }
     ensures whole { IfOk result (λ _. HasWholeParts bytes.now) }
     ensures fault { IfErr result (λ m. IsFault (named m.fault) (module_at bytes.now)) }
 {
@@ -146,7 +153,7 @@ fn past_all(bytes: &[u8]) -> Result<(), Misfit<'_>>
     let rest = past_classes(rest, header.classes)?;
     let rest = past_numbers(rest, header.ints)?;
     let rest = past_texts(rest, header.texts)?;
-    let rest = past_functions(rest, header.classes, header.functions)?;
+    let rest = past_functions(rest, header.version, header.classes, header.functions)?;
     if rest.is_empty() {
         return Ok(());
     }
@@ -162,7 +169,7 @@ fn past_all(bytes: &[u8]) -> Result<(), Misfit<'_>>
 /// bytes, and the field of it that is wrong. Nothing only where each part is whole and in order, even where the entry is wrong.
 /// One pass over the bytes; takes no memory.
 pub fn misfit_in(bytes: &[u8]) -> Option<Misfit<'_>>
-    ensures part { IfSome result (λ m. (classes : ℕ) × IsRefused classes m.item m.from.now m.fault) }
+    ensures part { IfSome result (λ m. (version : ImageVersion) × (classes : ℕ) × IsRefused version classes m.item m.from.now m.fault) }
     ensures fault { MatchOption result (HasWholeParts bytes.now) (λ m. IsFault (named m.fault) (module_at bytes.now)) }
 {
     past_all(bytes).err()

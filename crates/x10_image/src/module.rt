@@ -1,10 +1,12 @@
 use x10_code::Instr;
 use x10_kinds::Kind;
-use x10_model::Slot;
+use x10_model::{ImageVersion, Slot};
 
 /// A module to be written. The verifier, not this type, says what it may do.
 #[derive(Debug, Drop)]
 pub struct Module {
+    /// The version of its image.
+    pub version: ImageVersion,
     /// The least number of places that it asks for, 1 to 64.
     pub least_places: u16,
     /// The kinds of each class's fields, at most 16 fields.

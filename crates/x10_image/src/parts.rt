@@ -7,8 +7,10 @@ ghost use Rattle.x10_image.specs.Faults.{Passes};
 use crate::fault::ImageFault;
 use crate::fields::{after_zero_byte, after_zero_u16, byte_at_most, registers_at, u16_within};
 use crate::kinds::{kind_at, result_at, slot_at};
+use crate::known::is_known;
 use x10_bytes::{byte_at, has, past, u16_at};
 use x10_code::decode_slice;
+use x10_model::ImageVersion;
 use x10_model::limits::{MOST_FIELDS, MOST_INSTRUCTIONS, MOST_LOOPS, MOST_PARAMETERS};
 
 fn past_kinds(bytes: &[u8], count: u8, classes: u16) -> Result<&[u8], ImageFault>
@@ -51,18 +53,23 @@ pub fn past_text(bytes: &[u8]) -> Result<&[u8], ImageFault>
     x10_bytes::past_text(bytes, usize::from(length), ImageFault::Text)
 }
 
-/// The bytes after an instruction, given its function's number and its own.
+/// The bytes after an instruction that an image of the version may have, given its function's number and its own.
 #[tactic(auto, unfolding(x10_model::specs::ReadingImages::instruction_at, x10_model::specs::Readers::bind, x10_model::specs::Readers::part, x10_model::specs::Readers::given))]
-fn past_instruction(bytes: &[u8], function: u16, pc: u16) -> Result<&[u8], ImageFault>
-    ensures exact { Passes (λ x. x.now) result (instruction_at function pc bytes.now) }
+fn past_instruction(
+    bytes: &[u8],
+    version: ImageVersion,
+    function: u16,
+    pc: u16,
+) -> Result<&[u8], ImageFault>
+    ensures exact { Passes (λ x. x.now) result (instruction_at version function pc bytes.now) }
 {
     if bytes.len() < 8 {
         return Err(ImageFault::Short);
     }
     let (front, rest) = bytes.split_at(8);
     match decode_slice(front) {
-        Ok(_) => Ok(rest),
-        Err(_) => Err(ImageFault::Code(function, pc)),
+        Ok(instr) if is_known(version, instr.op) => Ok(rest),
+        _ => Err(ImageFault::Code(function, pc)),
     }
 }
 
@@ -77,20 +84,30 @@ fn past_slots(bytes: &[u8], count: u8, classes: u16) -> Result<&[u8], ImageFault
     Ok(rest)
 }
 
-fn past_code(bytes: &[u8], function: u16, count: u16) -> Result<&[u8], ImageFault>
-    ensures exact { Passes (λ x. x.now) result (numbered count (instruction_at function) bytes.now) }
+fn past_code(
+    bytes: &[u8],
+    version: ImageVersion,
+    function: u16,
+    count: u16,
+) -> Result<&[u8], ImageFault>
+    ensures exact { Passes (λ x. x.now) result (numbered count (instruction_at version function) bytes.now) }
 {
     let mut rest = bytes;
     for pc in 0..count {
-        rest = past_instruction(rest, function, pc)?;
+        rest = past_instruction(rest, version, function, pc)?;
     }
     Ok(rest)
 }
 
-/// The bytes after a function.
+/// The bytes after a function, in an image of the version with `classes` classes.
 #[tactic(auto, unfolding(x10_model::specs::ReadingImages::function_at, x10_model::specs::Readers::bind, x10_model::specs::Readers::done))]
-pub fn past_function(bytes: &[u8], classes: u16, function: u16) -> Result<&[u8], ImageFault>
-    ensures exact { Passes (λ x. x.now) result (function_at classes function bytes.now) }
+pub fn past_function(
+    bytes: &[u8],
+    version: ImageVersion,
+    classes: u16,
+    function: u16,
+) -> Result<&[u8], ImageFault>
+    ensures exact { Passes (λ x. x.now) result (function_at version classes function bytes.now) }
 {
     has::<ImageFault>(bytes, 4)?;
     let (parameters, bytes) = byte_at_most(bytes, MOST_PARAMETERS)?;
@@ -104,5 +121,5 @@ pub fn past_function(bytes: &[u8], classes: u16, function: u16) -> Result<&[u8],
     let (instructions, bytes) = u16_within(bytes, 1, MOST_INSTRUCTIONS)?;
     let bytes = after_zero_u16(bytes)?;
     has::<ImageFault>(bytes, 8 * usize::from(instructions))?;
-    past_code(bytes, function, instructions)
+    past_code(bytes, version, function, instructions)
 }

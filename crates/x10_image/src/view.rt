@@ -1,10 +1,10 @@
-ghost use Rattle.std.specs.Prelude.{◌≡◌, ◌^◌, ◌<◌, ◌≤◌, List, Ok, Some, IfOk, length, slice_get};
+ghost use Rattle.std.specs.Prelude.{◌≡◌, ◌^◌, ◌<◌, ◌≤◌, List, Ok, Some, IfOk, IsTrue, length, slice_get};
 ghost use Rattle.std.specs.List.{flat_map};
 ghost use Rattle.std.specs.Int.{w16, to_be_bytes};
 ghost use Rattle.x10_code.specs.Spelling.{IsInstr, spelling as instruction};
-ghost use Rattle.x10_model.specs.Modules.{Module, Function, FitsImage, FitsText, FitsClass, IsEntry};
+ghost use Rattle.x10_model.specs.Modules.{Module, Function, FitsImage, FitsText, FitsClass, IsEntry, is_known};
 ghost use Rattle.x10_model.specs.Ranges.{function_at, instr_at};
-ghost use Rattle.x10_model.specs.Images.{class_bytes, int_bytes, function_bytes, spelling};
+ghost use Rattle.x10_model.specs.Images.{number_of, class_bytes, int_bytes, function_bytes, spelling};
 ghost use Rattle.x10_model.specs.ReadingImages.{module_at, is_entry};
 ghost use Rattle.x10_model.specs.Offsets.{AreAt};
 ghost use Rattle.x10_image.specs.Faults.{Gives};
@@ -22,6 +22,7 @@ use std::alloc::Global;
 use std::marker::Model;
 use x10_bytes::i64_in;
 use x10_code::Instr;
+use x10_model::ImageVersion;
 
 /// A module's image, read in place: the bytes themselves, and where each class, text and function
 /// begins. Clauses see the module.
@@ -69,7 +70,14 @@ fn whole<'a>(alloc: Global, bytes: &'a [u8]) -> Result<ImageView<'a>, ImageFault
     let ints = bytes.len() - rest.len();
     let rest = past_ints(rest, header.ints)?;
     let (texts, rest) = text_table(alloc, bytes, rest, header.texts)?;
-    let (functions, rest) = function_table(alloc, bytes, rest, header.classes, header.functions)?;
+    let (functions, rest) = function_table(
+        alloc,
+        bytes,
+        rest,
+        header.version,
+        header.classes,
+        header.functions,
+    )?;
     if !rest.is_empty() {
         return Err(ImageFault::Trailing);
     }
@@ -104,8 +112,15 @@ impl<'a> ImageView<'a> {
         let _ = &self.bytes;
     }
 
-    /// The least number of places that the module asks for, 1 to 64: bytes 6 and 7 of the image. Constant time and no memory,
-    /// like all that follow.
+    /// The version of the image, by its number: bytes 4 and 5. Constant time and no memory, like all that follow.
+    pub fn version(&self) -> ImageVersion
+        ensures value { result ≡ self.now.version }
+        ensures part { IsPart (spelling self.now) 4 (to_be_bytes w16 (number_of result)) }
+    {
+        self.header.version
+    }
+
+    /// The least number of places that the module asks for, 1 to 64: bytes 6 and 7 of the image.
     pub fn least(&self) -> u16
         ensures value { result ≡ self.now.least_places }
         ensures range { (1 ≤ result) × (result ≤ 64) }
@@ -234,6 +249,7 @@ impl<'a> ImageView<'a> {
         requires pc { pc < length (code_at self.now f) }
         ensures value { instr_at self.now f pc ≡ Some result }
         ensures fits { IsInstr result }
+        ensures known { IsTrue (is_known self.now.version result.op) }
         ensures part { IsPart (spelling self.now) (place_of_instr self.now f pc) (instruction result) }
     {
         let start = code_place(self.bytes, self.functions[f]);

@@ -6,7 +6,7 @@ ghost use Rattle.std.specs.List.{flat_map, AllByRecursion, list_all};
 ghost use Rattle.std.specs.Prelude.{IsTrue, FitsSigned, true};
 ghost use Rattle.std.specs.Int.{w16, w64, to_be_bytes};
 ghost use Rattle.std.specs.String.{string_bytes};
-ghost use Rattle.x10_code.specs.Spelling.{spelling as instruction};
+ghost use Rattle.x10_code.specs.Spelling.{fits_form, spelling as instruction};
 ghost use Rattle.x10_model.specs.Images as images;
 ghost use Rattle.x10_model.specs.Images.{tag_of, kind_bytes, slot_bytes, result_bytes, class_bytes, int_bytes, text_bytes, function_bytes, header_bytes, spelling};
 ghost use Rattle.x10_model.specs.Modules.{FitsImage};
@@ -17,7 +17,7 @@ ghost use Rattle.x10_image.specs.Written.{shown, function_shown, Passes, Hinders
 
 use crate::fault::ImageFault;
 use crate::fitting::check;
-use crate::header::{Header, MAGIC, VERSION};
+use crate::header::{Header, MAGIC, number_of};
 use crate::module::{Function, Module};
 use std::alloc::{AllocError, Global};
 use x10_code::{Instr, encode};
@@ -114,7 +114,7 @@ fn push_text(out: &mut Vec<u8>, text: &str) -> Result<(), AllocError>
 }
 
 fn push_code(out: &mut Vec<u8>, code: &[Instr]) -> Result<(), AllocError>
-    requires { list_all written.instr_fits code.now ≡ true }
+    requires { list_all fits_form code.now ≡ true }
     ensures { OnOk result (out.new.items ≡ out.old.items ++ flat_map instruction code.now) }
 {
     for instr in code {
@@ -144,7 +144,7 @@ fn push_ints(out: &mut Vec<u8>, ints: &[i64]) -> Result<(), AllocError>
 #[tactic(auto, unfolding(x10_model::specs::Images::function_bytes))]
 fn push_function(out: &mut Vec<u8>, function: &Function) -> Result<(), AllocError>
     requires counts { written.counts_of_function (function_shown function.now) ≡ true }
-    requires code { list_all written.instr_fits function.now.code.items ≡ true }
+    requires code { list_all fits_form function.now.code.items ≡ true }
     ensures { OnOk result (out.new.items ≡ out.old.items ++ function_bytes (function_shown function.now)) }
 {
     out.extend_from_slice(&[
@@ -175,6 +175,7 @@ fn push_header(out: &mut Vec<u8>, header: Header) -> Result<(), AllocError>
     ensures { OnOk result (out.new.items ≡ out.old.items ++ header_bytes (seen header)) }
 {
     let Header {
+        version,
         least_places,
         classes,
         ints,
@@ -186,7 +187,7 @@ fn push_header(out: &mut Vec<u8>, header: Header) -> Result<(), AllocError>
     push_numbers(
         out,
         &[
-            VERSION,
+            number_of(version),
             least_places,
             classes,
             ints,
@@ -221,7 +222,7 @@ fn push_texts(out: &mut Vec<u8>, texts: &[String]) -> Result<(), AllocError>
 
 fn push_functions(out: &mut Vec<u8>, functions: &[Function]) -> Result<(), AllocError>
     requires counts { list_all (λ f. written.counts_of_function (function_shown f)) functions.now ≡ true }
-    requires code { list_all (λ f. list_all written.instr_fits f.code.items) functions.now ≡ true }
+    requires code { list_all (λ f. list_all fits_form f.code.items) functions.now ≡ true }
     ensures { OnOk result (out.new.items ≡ out.old.items ++ flat_map (λ f. function_bytes (function_shown f)) functions.now) }
 {
     for function in functions {
@@ -233,6 +234,7 @@ fn push_functions(out: &mut Vec<u8>, functions: &[Function]) -> Result<(), Alloc
 fn header(source: &Module) -> Header
     requires { written.tables_fit source.now ≡ true }
     ensures { seen result ≡ record {
+      version = source.now.version;
       least_places = source.now.least_places;
       classes = length source.now.classes.items;
       ints = length source.now.ints.items;
@@ -242,6 +244,7 @@ fn header(source: &Module) -> Header
     } }
 {
     Header {
+        version: source.version,
         least_places: source.least_places,
         classes: source.classes.len() as u16,
         ints: source.ints.len() as u16,

@@ -4,9 +4,10 @@ use Rattle.std.specs.List.{AllByRecursion}
 use Rattle.std.specs.Int.{w16, to_be_bytes}
 use Rattle.std.proofs.lemmas.Bool.{and_from, and_parts}
 use Rattle.x10_code.specs.declared.instr.Instr.{Instr}
-use Rattle.x10_code.specs.Spelling.{IsInstr, spelling as instruction}
+use Rattle.x10_code.specs.Spelling.{spelling as instruction}
 use Rattle.x10_code.proofs.Instructions.{length-spelling}
-use Rattle.x10_model.specs.Modules.{Function, FitsSlot, FitsFunction}
+use Rattle.x10_model.specs.declared.version.ImageVersion.{ImageVersion}
+use Rattle.x10_model.specs.Modules.{Function, FitsSlot, IsInstrOf, FitsFunction}
 use Rattle.x10_model.specs.declared.slot.Slot.{Slot}
 use Rattle.x10_model.specs.Images.{slot_bytes, result_bytes, function_bytes}
 use Rattle.x10_model.specs.ReadingImages.{Short, Count, Reserved, is_within, function_at}
@@ -50,13 +51,13 @@ enough_slots f n e = omega (arith, e, length-items slot_bytes 4 length-slot_byte
 enough_code : (f : Function) (n : ℕ) → length f.code ≡ n → 8 * n ≤ length (flat_map instruction f.code)
 enough_code f n e = omega (arith, e, length-items instruction 8 length-spelling f.code)
 
-fits_code : (classes : ℕ) → (n registers loops : ℕ) (parameters : List Slot) (result : Option Slot) (count : ℕ) (code : List Instr)
+fits_code : (version : ImageVersion) (classes : ℕ) → (n registers loops : ℕ) (parameters : List Slot) (result : Option Slot) (count : ℕ) (code : List Instr)
     → is_within 0 16 n ≡ true → (is_within 1 64 registers && leb n registers) ≡ true → is_within 0 8 loops ≡ true
     → (length parameters ≡ n) × AllByRecursion (FitsSlot classes) parameters → IfSome result (FitsSlot classes)
-    → is_within 1 4096 count ≡ true → (length code ≡ count) × AllByRecursion IsInstr code
-    → FitsFunction classes (fn parameters registers loops result code)
+    → is_within 1 4096 count ≡ true → (length code ≡ count) × AllByRecursion (IsInstrOf version) code
+    → FitsFunction version classes (fn parameters registers loops result code)
 unfolding fn
-fits_code classes n registers loops parameters result count code hn hr hl hp ho hc hi =
+fits_code version classes n registers loops parameters result count code hn hr hl hp ho hc hi =
     let two = and_parts (is_within 1 64 registers) (leb n registers) hr in
     let bound = of_within 1 64 registers two.0 in
     let room = leb-true n registers two.1 in
@@ -74,9 +75,9 @@ fits_code classes n registers loops parameters result count code hn hr hl hp ho 
       code = hi.1;
     }
 
-pub function_reads : (classes : ℕ) → classes < 2 ^ 16 → (function : ℕ) → Reads (function_at classes function) function_bytes (FitsFunction classes)
+pub function_reads : (version : ImageVersion) (classes : ℕ) → classes < 2 ^ 16 → (function : ℕ) → Reads (function_at version classes function) function_bytes (FitsFunction version classes)
 unfolding function_at function_bytes fn
-function_reads classes few function =
+function_reads version classes few function =
     need_reads 4 Short (λ f g. omega arith)
     (then_reads (λ f. length f.parameters) from_registers (such_that_reads (is_within 0 16) Count (byte_reads Short))
     (λ f g. (omega (arith, g.parameters), within_of 0 16 (length f.parameters) (omega arith) g.parameters)) (λ n hn.
@@ -93,6 +94,6 @@ function_reads classes few function =
     (λ f g. (omega (arith, g.1.1.1.1.1.length), within_of 1 4096 (length f.code) g.1.1.1.1.1.length.0 g.1.1.1.1.1.length.1)) (λ count hc.
     expect_reads 0 Reserved (number_reads w16 (2 ^ 16) wide16 Short) (omega arith)
     (need_reads (8 * count) Short (λ f g. enough_code f count g.0)
-    (last_reads (fn parameters registers loops result) (λ f. f.code) (each_reads (λ s _. suc s) (λ pc. instruction_reads function pc) count 0)
+    (last_reads (fn parameters registers loops result) (λ f. f.code) (each_reads (λ s _. suc s) (λ pc. instruction_reads version function pc) count 0)
     (λ f g. ((g.0, g.1.1.1.1.1.1.code), same_function parameters registers loops result f g.1.1.0 g.1.1.1.1.0 g.1.1.1.0 g.1.0))
-    (λ code hi. (refl, (hi.0, (refl, (refl, (refl, (refl, (hp.0, fits_code classes n registers loops parameters result count code hn.1 hr.1 hl.1 hp ho hc.1 hi))))))))))))))))))))
+    (λ code hi. (refl, (hi.0, (refl, (refl, (refl, (refl, (hp.0, fits_code version classes n registers loops parameters result count code hn.1 hr.1 hl.1 hp ho hc.1 hi))))))))))))))))))))

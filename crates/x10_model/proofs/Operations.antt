@@ -70,6 +70,8 @@ asked_met op.At s new effect d = ((Place d.2, d.4, tt), tt)
 asked_met op.Ata s new effect d = ((Place d.2, d.4, tt), tt)
 asked_met op.Finb s new effect d = tt
 asked_met op.Fine s new effect d = tt
+asked_met op.Atomb s new effect d = tt
+asked_met op.Atome s new effect d = tt
 -- output
 asked_met op.Print s new effect d = ((d.0, d.2, printed s.place.cells d.0 d.1 d.3), tt)
 -- two numbers
@@ -178,6 +180,8 @@ step op.Ata s e range room = and_then (ask_place op.Ata s e s.instr.c (0, refl))
     ))))
 step op.Finb s e range room = inl (with_stay (record s.place { opened = s.place.opened + 1 }) s.key (Some (record s.stay { top = next s.stay.top; finishes = s.place.opened ∷ s.stay.finishes })), Opens s.place.opened (innermost s.here s.stay), (refl, refl))
 step op.Fine s e range room = leaves s s.stay.finishes e refl
+step op.Atomb s e range room = inl (on s (next s.stay.top), Works, (refl, refl))
+step op.Atome s e range room = inl (on s (next s.stay.top), Works, (refl, refl))
 -- output
 step op.Print s e range room = and_then (ask op.Print s e s.instr.a AnIntOrText (0, refl)) (λ h.
     let line = is_line s.place.cells h.0 h.2 in inl (on_at s (with_line s.place line.0) (next s.stay.top), Works, (h.0, line.0, h.1, line.1, (refl, refl))))
@@ -233,6 +237,8 @@ way_of op.At s new effect d = to d.7 d.8 (shifts d.0 d.1 d.2 d.3 d.4 d.5 d.6)
 way_of op.Ata s new effect d = to d.8 d.9 (spawns d.0 d.1 d.2 d.3 d.4 d.5 d.6 d.7)
 way_of op.Finb s new effect d = to d.0 d.1 opens
 way_of op.Fine s new effect d = left s d.0 d.1 new effect d.2 d.3
+way_of op.Atomb s new effect d = goes_on (passes refl) d
+way_of op.Atome s new effect d = goes_on (passes refl) d
 -- output
 way_of op.Print s new effect d = changing refl refl refl (passes refl) d.4
 -- two numbers to a number

@@ -179,6 +179,8 @@ Permits op.Ata p s out = (callee : Function) × IsKind s p.instr.c Place × Call
     × (out ≡ onward p s)
 Permits op.Finb p s out = out ≡ onward p s
 Permits op.Fine p s out = out ≡ onward p s
+Permits op.Atomb p s out = out ≡ onward p s
+Permits op.Atome p s out = out ≡ onward p s
 -- output
 Permits op.Print p s out = (IsKind s p.instr.a Int ⊎ IsKind s p.instr.a Text) × (out ≡ onward p s)
 

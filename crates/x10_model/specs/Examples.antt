@@ -5,6 +5,7 @@ use Rattle.x10_code.specs.declared.op.Op.TheVariants as op
 use Rattle.x10_code.specs.declared.instr.Instr.{Instr}
 use Rattle.x10_model.specs.declared.event.Event.TheVariants.{Step}
 use Rattle.x10_model.specs.Maps.{with_entry}
+use Rattle.x10_model.specs.declared.version.ImageVersion.TheVariants.{One}
 use Rattle.x10_model.specs.Modules.{Module, Function}
 use Rattle.x10_model.specs.Structure.{Jump, TooLarge, bounds_of}
 use Rattle.x10_model.specs.Values.{Value, Int, Place, Text, Rail, Object, Null, Fields, Bytes, Cells}
@@ -26,7 +27,7 @@ plain_function registers loops code = record { parameters = []; registers = regi
 
 -- a module of one such function
 abbrev pub plain_module : List ℤ → Function → Module
-plain_module ints f = record { least_places = 1; classes = []; ints = ints; texts = []; functions = f ∷ []; entry = 0 }
+plain_module ints f = record { version = One; least_places = 1; classes = []; ints = ints; texts = []; functions = f ∷ []; entry = 0 }
 
 -- prints 7
 abbrev pub seven : Module

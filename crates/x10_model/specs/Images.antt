@@ -7,6 +7,8 @@ use Rattle.x10_kinds.specs.declared.kind.Kind.TheVariants as kind
 use Rattle.x10_code.specs.Spelling.{spelling as instruction}
 use Rattle.x10_model.specs.Modules.{Function, Module}
 use Rattle.x10_model.specs.declared.slot.Slot.{Slot}
+use Rattle.x10_model.specs.declared.version.ImageVersion.{ImageVersion}
+use Rattle.x10_model.specs.declared.version.ImageVersion.TheVariants.{One, Two}
 
 -- "X10P"
 abbrev pub magic : ℕ
@@ -62,8 +64,13 @@ function_bytes f =
     ++ (to_be_bytes w16 0
     ++ flat_map instruction f.code))))
 
--- how much of everything there is
+abbrev pub number_of : ImageVersion → ℕ
+number_of One = 1
+number_of Two = 2
+
+-- the version, and how much of everything there is
 pub record Header : Type 0 where
+  pub version : ImageVersion
   pub least_places : ℕ
   pub classes : ℕ
   pub ints : ℕ
@@ -73,6 +80,7 @@ pub record Header : Type 0 where
 
 abbrev pub header_of : Module → Header
 header_of m = record {
+  version = m.version;
   least_places = m.least_places;
   classes = length m.classes;
   ints = length m.ints;
@@ -84,7 +92,7 @@ header_of m = record {
 unfoldable pub header_bytes : Header → List ℕ
 header_bytes h =
     to_be_bytes w32 magic
-    ++ (to_be_bytes w16 1
+    ++ (to_be_bytes w16 (number_of h.version)
     ++ (to_be_bytes w16 h.least_places
     ++ (to_be_bytes w16 h.classes
     ++ (to_be_bytes w16 h.ints

@@ -3,9 +3,11 @@ use Rattle.std.specs.Prelude.{◌≡◌, ℕ, pos, ◌<◌, List, [], ◌∷◌,
 use Rattle.x10_code.specs.declared.instr.Instr.{Instr}
 use Rattle.x10_code.specs.declared.op.Op.{Op}
 use Rattle.x10_code.specs.declared.op.Op.TheVariants as op
+use Rattle.x10_model.specs.declared.version.ImageVersion.{ImageVersion}
+use Rattle.x10_model.specs.declared.version.ImageVersion.TheVariants.{One, Two}
 use Rattle.x10_model.specs.Modules.{Module, FitsImage}
 use Rattle.x10_model.specs.Images.{spelling}
-use Rattle.x10_model.specs.ReadingImages.{Short, Trailing, Code, module_at}
+use Rattle.x10_model.specs.ReadingImages.{Short, Version, Trailing, Code, module_at}
 
 -- what is spelled is read again
 abbrev pub IsReadAgain : Type 0
@@ -24,9 +26,10 @@ IsSpelledSo = (bytes : List ℕ) (m : Module) → ((k : ℕ) → slice_index byt
 abbrev instruction : Op → ℕ → ℕ → Instr
 instruction o a x = record { op = o; a = a; b = 0; c = 0; x = x }
 
--- prints 7
-abbrev pub seven : Module
-seven = record {
+-- prints 7, in an image of each version
+abbrev pub seven : ImageVersion → Module
+seven version = record {
+  version = version;
   least_places = 1;
   classes = [];
   ints = pos 7 ∷ [];
@@ -41,9 +44,10 @@ seven = record {
   entry = 0;
 }
 
-abbrev pub bytes_of_seven : List ℕ
-bytes_of_seven =
-    0x58 ∷ 0x31 ∷ 0x30 ∷ 0x50 ∷ 0 ∷ 1 ∷ 0 ∷ 1 ∷ 0 ∷ 0 ∷ 0 ∷ 1 ∷ 0 ∷ 0 ∷ 0 ∷ 1 ∷ 0 ∷ 0 ∷ 0 ∷ 0
+-- with the number of a version
+abbrev pub bytes_of_seven : ℕ → List ℕ
+bytes_of_seven n =
+    0x58 ∷ 0x31 ∷ 0x30 ∷ 0x50 ∷ 0 ∷ n ∷ 0 ∷ 1 ∷ 0 ∷ 0 ∷ 0 ∷ 1 ∷ 0 ∷ 0 ∷ 0 ∷ 1 ∷ 0 ∷ 0 ∷ 0 ∷ 0
     ∷ 0 ∷ 0 ∷ 0 ∷ 0 ∷ 0 ∷ 0 ∷ 0 ∷ 7
     ∷ 0 ∷ 1 ∷ 0 ∷ 0 ∷ 0 ∷ 0 ∷ 0 ∷ 0 ∷ 0 ∷ 3 ∷ 0 ∷ 0
     ∷ 0x01 ∷ 0 ∷ 0 ∷ 0 ∷ 0 ∷ 0 ∷ 0 ∷ 0
@@ -51,17 +55,21 @@ bytes_of_seven =
     ∷ 0x29 ∷ 0 ∷ 0 ∷ 0 ∷ 0 ∷ 0 ∷ 0 ∷ 0 ∷ []
 
 abbrev pub IsSpelledSeven : Type 0
-IsSpelledSeven = spelling seven ≡ bytes_of_seven
+IsSpelledSeven = (spelling (seven One) ≡ bytes_of_seven 1) × (spelling (seven Two) ≡ bytes_of_seven 2)
 
 abbrev pub IsReadSeven : Type 0
-IsReadSeven = module_at bytes_of_seven ≡ Ok seven
+IsReadSeven = (module_at (bytes_of_seven 1) ≡ Ok (seven One)) × (module_at (bytes_of_seven 2) ≡ Ok (seven Two))
+
+-- another version
+abbrev pub IsOtherVersion : Type 0
+IsOtherVersion = (module_at (bytes_of_seven 0) ≡ Err Version) × (module_at (bytes_of_seven 3) ≡ Err Version)
 
 -- one byte less, one more, and an operand of INTK that its form doesn't use
 abbrev pub IsShort : Type 0
-IsShort = module_at (take 63 bytes_of_seven) ≡ Err Short
+IsShort = module_at (take 63 (bytes_of_seven 1)) ≡ Err Short
 
 abbrev pub IsTrailing : Type 0
-IsTrailing = module_at (bytes_of_seven ++ 0 ∷ []) ≡ Err Trailing
+IsTrailing = module_at (bytes_of_seven 1 ++ 0 ∷ []) ≡ Err Trailing
 
 abbrev pub IsBadOperand : Type 0
-IsBadOperand = module_at (set bytes_of_seven 42 1) ≡ Err (Code 0 0)
+IsBadOperand = module_at (set (bytes_of_seven 1) 42 1) ≡ Err (Code 0 0)

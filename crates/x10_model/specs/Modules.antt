@@ -1,4 +1,4 @@
--- A module: classes, constants and functions, with the least number of places and the entry function.
+-- A module: the version of its image, classes, constants and functions, with the least number of places and the entry function.
 use Rattle.std.specs.Prelude.{◌≡◌, ℕ, ℤ, ◌<◌, ◌≤◌, ◌^◌, Bool, true, false, List, length, Option, Some, IfSome, IsTrue, slice_get}
 use Rattle.std.specs.List.{AllByRecursion}
 use Rattle.std.specs.Prelude.{FitsSigned, IsUtf8}
@@ -7,9 +7,12 @@ use Rattle.x10_model.specs.declared.limits.TheConstants.{MOST_FIELDS, MOST_FUNCT
 use Rattle.x10_model.specs.declared.limits.TheConstants.{MOST_REGISTERS}
 use Rattle.x10_kinds.specs.declared.kind.Kind.{Kind}
 use Rattle.x10_kinds.specs.declared.kind.Kind.TheVariants as kind
+use Rattle.x10_code.specs.declared.op.Op.{Op}
+use Rattle.x10_code.specs.declared.op.Op.TheVariants as op
 use Rattle.x10_code.specs.declared.instr.Instr.{Instr}
 use Rattle.x10_code.specs.Spelling.{IsInstr}
 use Rattle.x10_model.specs.declared.slot.Slot.{Slot}
+use Rattle.x10_model.specs.declared.version.ImageVersion.{ImageVersion}
 
 pub record Function : Type 0 where
   pub parameters : List Slot
@@ -20,6 +23,7 @@ pub record Function : Type 0 where
   pub code : List Instr
 
 pub record Module : Type 0 where
+  pub version : ImageVersion
   pub least_places : ℕ
   -- the kinds of each class's fields
   pub classes : List (List Kind)
@@ -53,7 +57,18 @@ pub record FitsText (text : List ℕ) : Type 0 where
   pub length : length text < 2 ^ 16
   pub utf8 : IsUtf8 text
 
-pub record FitsFunction (classes : ℕ) (f : Function) : Type 0 where
+-- the operations that an image of a version may have
+abbrev pub is_known : ImageVersion → Op → Bool
+is_known version op.Atomb = false
+is_known version op.Atome = false
+is_known version _ = true
+
+-- the instructions that an image of a version may have
+pub record IsInstrOf (version : ImageVersion) (i : Instr) : Type 0 where
+  pub spelled : IsInstr i
+  pub known : IsTrue (is_known version i.op)
+
+pub record FitsFunction (version : ImageVersion) (classes : ℕ) (f : Function) : Type 0 where
   pub parameters : length f.parameters ≤ MOST_PARAMETERS
   pub registers : (1 ≤ f.registers) × (f.registers ≤ MOST_REGISTERS)
   pub room : length f.parameters ≤ f.registers
@@ -61,7 +76,7 @@ pub record FitsFunction (classes : ℕ) (f : Function) : Type 0 where
   pub slots : AllByRecursion (FitsSlot classes) f.parameters
   pub result : IfSome f.result (FitsSlot classes)
   pub length : (1 ≤ length f.code) × (length f.code ≤ MOST_INSTRUCTIONS)
-  pub code : AllByRecursion IsInstr f.code
+  pub code : AllByRecursion (IsInstrOf version) f.code
 
 -- the entry function takes nothing and gives nothing
 pub record IsEntry (f : Function) : Type 0 where
@@ -75,5 +90,5 @@ pub record FitsImage (m : Module) : Type 0 where
   pub fields : AllByRecursion (FitsClass (length m.classes)) m.classes
   pub ints : (length m.ints < 2 ^ 16) × AllByRecursion (FitsSigned w64) m.ints
   pub texts : (length m.texts < 2 ^ 16) × AllByRecursion FitsText m.texts
-  pub functions : (1 ≤ length m.functions) × (length m.functions ≤ MOST_FUNCTIONS) × AllByRecursion (FitsFunction (length m.classes)) m.functions
+  pub functions : (1 ≤ length m.functions) × (length m.functions ≤ MOST_FUNCTIONS) × AllByRecursion (FitsFunction m.version (length m.classes)) m.functions
   pub entry : (f : Function) × (slice_get m.functions m.entry ≡ Some f) × IsEntry f

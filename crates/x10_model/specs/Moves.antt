@@ -303,6 +303,9 @@ Does op.Ata s new effect = (callee : Function) × (arguments : List Value) × (t
 Does op.Finb s new effect = (new ≡ with_stay (record s.place { opened = s.place.opened + 1 }) s.key
     (Some (record s.stay { top = next s.stay.top; finishes = s.place.opened ∷ s.stay.finishes })))
     × (effect ≡ Opens s.place.opened (innermost s.here s.stay))
+-- no image has an atomic region yet
+Does op.Atomb s new effect = Continues s (next s.stay.top) new effect
+Does op.Atome s new effect = Continues s (next s.stay.top) new effect
 Does op.Fine s new effect = (number : ℕ) × (finishes : List ℕ) × (s.stay.finishes ≡ number ∷ finishes) × LeavesFinish s number finishes new effect
 -- output
 Does op.Print s new effect = (v : Value) × (line : Line) × Holds s s.instr.a v × (line_of v ≡ Some line)

@@ -10,8 +10,10 @@ use Rattle.x10_kinds.specs.declared.kind.Kind.TheVariants as kind
 use Rattle.x10_code.specs.declared.instr.Instr.{Instr}
 use Rattle.x10_code.specs.declared.instr.CodeFault.{CodeFault}
 use Rattle.x10_code.specs.Spelling.{decoded}
-use Rattle.x10_model.specs.Modules.{Function, Module, takes_flag}
+use Rattle.x10_model.specs.Modules.{Function, Module, takes_flag, is_known}
 use Rattle.x10_model.specs.declared.slot.Slot.{Slot}
+use Rattle.x10_model.specs.declared.version.ImageVersion.{ImageVersion}
+use Rattle.x10_model.specs.declared.version.ImageVersion.TheVariants.{One, Two}
 use Rattle.x10_model.specs.Images.{magic, Header}
 use Rattle.x10_model.specs.Readers.{Reader, ◌>>=◌, ◌>>◌, done, check, such_that, expect, given, need, part, byte, number, int, times, numbered, all_of}
 
@@ -95,11 +97,22 @@ result_at classes = do
 
 -- ---- the parts
 
+abbrev pub version_of : ℕ → Option ImageVersion
+version_of zero = None
+version_of (suc zero) = Some One
+version_of (suc (suc zero)) = Some Two
+version_of (suc (suc (suc n))) = None
+
+unfoldable pub version_at : Reader ImageFault ImageVersion
+version_at = do
+  n ← number w16 Short
+  given (version_of n) Version
+
 unfoldable pub header_at : Reader ImageFault Header
 header_at = do
   need 20 Short
   expect (number w32 Short) magic Magic
-  expect (number w16 Short) 1 Version
+  version ← version_at
   least_places ← such_that (number w16 Short) (is_within 1 MOST_PLACES) Count
   classes ← number w16 Short
   ints ← number w16 Short
@@ -107,7 +120,7 @@ header_at = do
   functions ← such_that (number w16 Short) (is_within 1 MOST_FUNCTIONS) Count
   entry ← number w16 Short
   expect (number w16 Short) 0 Reserved
-  done (record { least_places = least_places; classes = classes; ints = ints; texts = texts; functions = functions; entry = entry })
+  done (record { version = version; least_places = least_places; classes = classes; ints = ints; texts = texts; functions = functions; entry = entry })
 
 -- how many fields, and the kind of each
 unfoldable pub class_at : ℕ → Reader ImageFault (List ValueKind)
@@ -126,13 +139,18 @@ abbrev pub if_decoded : Result Instr CodeFault → Option Instr
 if_decoded (Ok i) = Some i
 if_decoded (Err fault) = None
 
-unfoldable pub instruction_at : ℕ → ℕ → Reader ImageFault Instr
-instruction_at function pc = do
-  bytes ← part 8 Short
-  given (if_decoded (decoded bytes)) (Code function pc)
+-- an instruction whose operation an image of the version may have
+abbrev pub if_known : ImageVersion → Option Instr → Option Instr
+if_known version None = None
+if_known version (Some i) = if is_known version i.op then Some i else None
 
-unfoldable pub function_at : ℕ → ℕ → Reader ImageFault Function
-function_at classes function = do
+unfoldable pub instruction_at : ImageVersion → ℕ → ℕ → Reader ImageFault Instr
+instruction_at version function pc = do
+  bytes ← part 8 Short
+  given (if_known version (if_decoded (decoded bytes))) (Code function pc)
+
+unfoldable pub function_at : ImageVersion → ℕ → ℕ → Reader ImageFault Function
+function_at version classes function = do
   need 4 Short
   count ← such_that (byte Short) (is_within 0 MOST_PARAMETERS) Count
   registers ← such_that (byte Short) (λ n. is_within 1 MOST_REGISTERS n && nat_le count n) Count
@@ -145,7 +163,7 @@ function_at classes function = do
   instructions ← such_that (number w16 Short) (is_within 1 MOST_INSTRUCTIONS) Count
   expect (number w16 Short) 0 Reserved
   need (8 * instructions) Short
-  code ← numbered instructions (instruction_at function)
+  code ← numbered instructions (instruction_at version function)
   done (record { parameters = parameters; registers = registers; loops = loops; result = result; code = code })
 
 -- all but the rule for the entry
@@ -155,8 +173,8 @@ parts_at = do
   classes ← times header.classes (class_at header.classes)
   ints ← times header.ints (int Short)
   texts ← times header.texts text_at
-  functions ← numbered header.functions (function_at header.classes)
-  done (record { least_places = header.least_places; classes = classes; ints = ints; texts = texts; functions = functions; entry = header.entry })
+  functions ← numbered header.functions (function_at header.version header.classes)
+  done (record { version = header.version; least_places = header.least_places; classes = classes; ints = ints; texts = texts; functions = functions; entry = header.entry })
 
 abbrev pub is_entry : Option Function → Bool
 is_entry None = false

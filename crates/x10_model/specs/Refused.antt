@@ -5,6 +5,7 @@ use Rattle.x10_code.specs.declared.op.Op.TheVariants as op
 use Rattle.x10_code.specs.declared.instr.Instr.{Instr}
 use Rattle.x10_model.specs.Maps.{with_entry}
 use Rattle.x10_model.specs.declared.slot.Slot.{Slot}
+use Rattle.x10_model.specs.declared.version.ImageVersion.TheVariants.{One}
 use Rattle.x10_model.specs.Modules.{Module, Function}
 use Rattle.x10_model.specs.Values.{Value, Int, Object, Null, Ref, Fields, Cells}
 use Rattle.x10_model.specs.Copies.{Node, Snapshot, Arrives}
@@ -29,6 +30,7 @@ giver = record { parameters = []; registers = 1; loops = 0; result = Some a_numb
 -- function 0 has one instruction; class 0 has one field, a number
 abbrev pub trying : Instr → Module
 trying i = record {
+  version = One;
   least_places = 1;
   classes = (kind.Int ∷ []) ∷ [];
   ints = [];

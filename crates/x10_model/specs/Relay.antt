@@ -3,6 +3,7 @@ use Rattle.std.specs.Prelude.{◌≡◌, ℕ, pos, List, [], ◌∷◌, Some, No
 use Rattle.x10_code.specs.declared.op.Op.TheVariants as op
 use Rattle.x10_model.specs.declared.event.Event.{Event}
 use Rattle.x10_model.specs.declared.event.Event.TheVariants.{Step, Deliver}
+use Rattle.x10_model.specs.declared.version.ImageVersion.TheVariants.{One}
 use Rattle.x10_model.specs.Modules.{Module}
 use Rattle.x10_model.specs.Places as places
 use Rattle.x10_model.specs.Places.{Setting, Line, Number}
@@ -13,6 +14,7 @@ use Rattle.x10_model.specs.Examples.{instr, plain_function, on_places}
 -- which prints 5
 abbrev pub relay : Module
 relay = record {
+  version = One;
   least_places = 3;
   classes = [];
   ints = pos 5 ∷ pos 9 ∷ [];

@@ -1,4 +1,4 @@
--- How loops and finishes nest, where jumps may go, and how many steps a function may take.
+-- How loops, finishes and atomic regions nest, where jumps may go, and how many steps a function may take.
 use Rattle.std.specs.Prelude.{ℕ, zero, suc, ◌+◌, ◌-◌, ◌*◌, ◌^◌, Bool, true, false, ◌==◌, ◌&&◌, ◌||◌, not, nat_lt, nat_le, List, [], ◌∷◌, ◌++◌}
 use Rattle.std.specs.Prelude.{length, Option, Some, None, Result, Ok, Err, if◌then◌else◌, slice_get, slice_index}
 use Rattle.x10_model.specs.declared.limits.TheConstants.{MOST_TURNS}
@@ -10,14 +10,17 @@ use Rattle.x10_code.specs.declared.operands.Operand.TheVariants as operand
 use Rattle.x10_code.specs.Table.{form_of}
 use Rattle.x10_model.specs.Modules.{Module, Function}
 
--- what an instruction stands in: a loop, by the number of its LOOP and how often it turns, or a finish, by its FINB
+-- what an instruction stands in: a loop, by the number of its LOOP and how often it turns, a finish, by its FINB, or an
+-- atomic region, by its ATOMB
 pub data Region : Type 0 where
   Turning : (opener limit : ℕ) → Region
   Waiting : (opener : ℕ) → Region
+  Atomic : (opener : ℕ) → Region
 
 abbrev pub opener_of : Region → ℕ
 opener_of (Turning opener limit) = opener
 opener_of (Waiting opener) = opener
+opener_of (Atomic opener) = opener
 
 abbrev pub outside : List Region → List Region
 outside [] = []
@@ -27,8 +30,10 @@ outside (r ∷ rs) = rs
 abbrev pub regions_after : Op → ℕ → Instr → List Region → List Region
 regions_after op.Loop pc i rs = Turning pc i.x ∷ rs
 regions_after op.Finb pc i rs = Waiting pc ∷ rs
+regions_after op.Atomb pc i rs = Atomic pc ∷ rs
 regions_after op.Endl pc i rs = outside rs
 regions_after op.Fine pc i rs = outside rs
+regions_after op.Atome pc i rs = outside rs
 regions_after _ pc i rs = rs
 
 abbrev pub passed : Option Instr → ℕ → List Region → List Region
@@ -45,6 +50,17 @@ around code (suc pc) = passed (slice_get code pc) pc (around code pc)
 abbrev pub is_loop : Region → Bool
 is_loop (Turning opener limit) = true
 is_loop (Waiting opener) = false
+is_loop (Atomic opener) = false
+
+abbrev pub is_finish : Region → Bool
+is_finish (Turning opener limit) = false
+is_finish (Waiting opener) = true
+is_finish (Atomic opener) = false
+
+abbrev pub is_atomic : Region → Bool
+is_atomic (Turning opener limit) = false
+is_atomic (Waiting opener) = false
+is_atomic (Atomic opener) = true
 
 abbrev pub are_loops : List Region → Bool
 are_loops [] = true
@@ -56,12 +72,23 @@ is_in_loop (r ∷ rs) = is_loop r
 
 abbrev pub is_in_finish : List Region → Bool
 is_in_finish [] = false
-is_in_finish (r ∷ rs) = not (is_loop r)
+is_in_finish (r ∷ rs) = is_finish r
 
--- a closer closes the innermost region, and no function ends inside a finish
+-- the innermost of the regions is an atomic one
+abbrev pub ends_atomic : List Region → Bool
+ends_atomic [] = false
+ends_atomic (r ∷ rs) = is_atomic r
+
+-- one of the regions is an atomic one
+abbrev pub is_in_atomic : List Region → Bool
+is_in_atomic [] = false
+is_in_atomic (r ∷ rs) = is_atomic r || is_in_atomic rs
+
+-- a closer closes the innermost region, and no function ends inside a finish or an atomic region
 abbrev pub nests : Op → List Region → Bool
 nests op.Endl rs = is_in_loop rs
 nests op.Fine rs = is_in_finish rs
+nests op.Atome rs = ends_atomic rs
 nests op.Ret rs = are_loops rs
 nests _ rs = true
 
@@ -119,6 +146,22 @@ is_call _ = false
 abbrev pub calls_earlier : ℕ → Instr → Bool
 calls_earlier function i = if is_call i.op then nat_lt i.x function else true
 
+-- ---- atomic regions
+
+-- the operations that begin a function, an activity, a finish or an atomic region, or go to another place
+abbrev pub is_kept_out : Op → Bool
+is_kept_out op.Call = true
+is_kept_out op.At = true
+is_kept_out op.Ata = true
+is_kept_out op.Async = true
+is_kept_out op.Finb = true
+is_kept_out op.Atomb = true
+is_kept_out _ = false
+
+-- none of them stands in an atomic region
+abbrev pub stays_out : Op → List Region → Bool
+stays_out o rs = if is_kept_out o then not (is_in_atomic rs) else true
+
 -- ---- bounds
 
 -- how often what stands in the regions is executed, at most
@@ -126,6 +169,7 @@ abbrev pub weight : List Region → ℕ
 weight [] = 1
 weight (Turning opener limit ∷ rs) = limit * weight rs
 weight (Waiting opener ∷ rs) = weight rs
+weight (Atomic opener ∷ rs) = weight rs
 
 -- one step, and those of the function that it calls
 abbrev pub cost : List ℕ → Instr → ℕ
@@ -143,7 +187,7 @@ bound_of earlier code = steps_from earlier code 0 code
 -- ---- faults
 
 pub data BoundCause : Type 0 where
-  Nesting Jump LoopSlot CallOrder TooLarge : BoundCause
+  Nesting Jump LoopSlot CallOrder InAtomic TooLarge : BoundCause
 
 pub record BoundFault : Type 0 where
   pub cause : BoundCause
@@ -187,6 +231,9 @@ slot_fault loops code = first_failing (λ pc i. has_slot loops (around code pc) 
 abbrev pub order_fault : ℕ → List Instr → Option ℕ
 order_fault function code = first_failing (λ pc i. calls_earlier function i) 0 code
 
+abbrev pub atomic_fault : List Instr → Option ℕ
+atomic_fault code = first_failing (λ pc i. stays_out i.op (around code pc)) 0 code
+
 -- goes on where a function has no fault of a cause
 abbrev pub unless : {A : Type 0} → Option ℕ → BoundCause → ℕ → Result A BoundFault → Result A BoundFault
 unless None cause function r = r
@@ -199,7 +246,8 @@ checked_bound function earlier f =
     (unless (jump_fault f.code) Jump function
     (unless (slot_fault f.loops f.code) LoopSlot function
     (unless (order_fault function f.code) CallOrder function
-    (if nat_le (bound_of earlier f.code) (2 ^ 48) then Ok (bound_of earlier f.code) else Err (record { cause = TooLarge; function = function; pc = 0 })))))
+    (unless (atomic_fault f.code) InAtomic function
+    (if nat_le (bound_of earlier f.code) (2 ^ 48) then Ok (bound_of earlier f.code) else Err (record { cause = TooLarge; function = function; pc = 0 }))))))
 
 -- goes on with one bound more, or ends in a fault
 abbrev pub with_bound : List ℕ → Result ℕ BoundFault → (List ℕ → Result (List ℕ) BoundFault) → Result (List ℕ) BoundFault

@@ -1,6 +1,6 @@
 //! Laws of images. Each function does nothing: its contract is the law.
 
-ghost use Rattle.x10_model.specs.LawsOfImages.{IsReadAgain, IsOneModule, IsSpelledSo, IsSpelledSeven, IsReadSeven, IsShort, IsTrailing, IsBadOperand};
+ghost use Rattle.x10_model.specs.LawsOfImages.{IsReadAgain, IsOneModule, IsSpelledSo, IsSpelledSeven, IsReadSeven, IsOtherVersion, IsShort, IsTrailing, IsBadOperand};
 
 /// Reading the image of a module gives that module.
 pub fn spelled_is_read()
@@ -17,10 +17,11 @@ pub fn read_is_spelled()
     ensures fits_and_spelled { IsSpelledSo }
 {}
 
-/// A module that prints 7: its 64 bytes, both ways, and three changes of them that are refused.
+/// A module that prints 7: its 64 bytes in each version, both ways, and changes of them that are refused.
 pub fn seven()
     ensures spelled { IsSpelledSeven }
     ensures read { IsReadSeven }
+    ensures version { IsOtherVersion }
     ensures short { IsShort }
     ensures trailing { IsTrailing }
     ensures operand { IsBadOperand }

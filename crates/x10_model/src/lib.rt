@@ -13,4 +13,4 @@ mod version;
 
 pub use event::Event;
 pub use slot::Slot;
-pub use version::FrameVersion;
+pub use version::{FrameVersion, ImageVersion};

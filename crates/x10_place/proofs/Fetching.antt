@@ -11,6 +11,7 @@ use Rattle.x10_code.specs.declared.operands.Operand.TheVariants as operand
 use Rattle.x10_code.specs.declared.operands.Operand.TheVariants.{Unused, Register, Arguments, Slot, Count, Field, Int, Text, Place, Class, Target}
 use Rattle.x10_code.specs.declared.operands.Form.{Form}
 use Rattle.x10_code.specs.Table.{form_of}
+use Rattle.x10_model.specs.declared.version.ImageVersion.{ImageVersion}
 use Rattle.x10_model.specs.Modules.{Module, Function, FitsFunction, FitsImage}
 use Rattle.x10_model.specs.Structure.{is_target}
 use Rattle.x10_model.specs.Ranges.{function_at, instr_at, instr_in, fields_of, argument_count, AreArgumentRegisters, IsThere, IsInRange}
@@ -34,8 +35,8 @@ use Rattle.x10_place.specs.Frames.{Workspace, Becomes, HasSizes, IsWithin, IsFet
 use Rattle.x10_place.specs.Routes.{route_of}
 use Rattle.x10_place.proofs.Forms.{number_form, local_form, make_form, site_form, form_by, count_by, counted, form_is}
 
-pub sizes : (classes : ℕ) (f : Function) → FitsFunction classes f → HasSizes classes f
-sizes classes f fits = record { parameters = fits.parameters; registers = fits.registers; room = fits.room; loops = fits.loops; slots = fits.slots; result = fits.result; length = fits.length }
+pub sizes : (version : ImageVersion) (classes : ℕ) (f : Function) → FitsFunction version classes f → HasSizes classes f
+sizes version classes f fits = record { parameters = fits.parameters; registers = fits.registers; room = fits.room; loops = fits.loops; slots = fits.slots; result = fits.result; length = fits.length }
 
 -- ---- what is there
 
@@ -65,7 +66,7 @@ fetched_within program index at count f pc i fits inside r = record {
   is_function = inside.is_function;
   is_instr = subst (λ o. instr_in o at ≡ Some i) inside.is_function (value_at program index at f pc i r);
   in_range = r.in_range inside.function (subst (λ k. function_at program k ≡ Some inside.function) (sym r.function_is) inside.is_function);
-  sizes = sizes (length program.classes) inside.function (function_fits program index inside.function fits inside.is_function);
+  sizes = sizes program.version (length program.classes) inside.function (function_fits program index inside.function fits inside.is_function);
   registers = inside.registers;
   next = λ ne. subst (λ o. at + 1 < length (code_in o)) inside.is_function (subst (λ k. at + 1 < length (code_at program k)) r.function_is (subst (λ k. k + 1 < length (code_at program f)) r.pc_is (r.follows ne)));
 }
@@ -119,6 +120,7 @@ module _ (program : Module) (index at count : ℕ) (i : Instr) (h : IsFetched pr
   asks_of local.Home n = (there n.0, there n.1)
   asks_of local.Open n = (there n.0, there n.1)
   asks_of local.SamePlace n = (there n.0, there n.1, target n.3)
+  asks_of local.Next n = tt
   asks_of local.Jump n = target n.3
   asks_of local.JumpIfZero n = (there n.0, target n.3)
   asks_of local.Loop n = slot n.0
@@ -274,6 +276,7 @@ module _ (i : Instr) (P : ℕ → Type 0) (jump : is_target (form_of i.op).x ≡
     within_by local.Home w acts target = lands w _ _ _ _ acts next (simp length-set refl)
     within_by local.Open w acts target = lands w _ _ _ _ acts.2 next (simp length-set refl)
     within_by local.SamePlace w acts target = lands w _ _ _ _ acts (or_next (are_same v.words i.a i.b) i.x (v.pc + 1) target next) refl
+    within_by local.Next w acts target = lands w _ _ _ _ acts next refl
     within_by local.Jump w acts target = lands w _ _ _ _ acts target refl
     within_by local.JumpIfZero w acts target = lands w _ _ _ _ acts (next_or (is_zero (int_at v.words i.a)) i.x (v.pc + 1) target next) refl
     within_by local.Loop w acts target = lands w _ _ _ _ acts next refl

@@ -54,3 +54,6 @@ route_of op.At = route.Send
 route_of op.Ata = route.Send
 route_of op.Finb = route.OpenFinish
 route_of op.Fine = route.CloseFinish
+-- no image has an atomic region yet
+route_of op.Atomb = route.Local local.Next
+route_of op.Atome = route.Local local.Next

@@ -54,6 +54,8 @@ pub(crate) enum Local {
     Open,
     /// Goes on where two registers stand for one place, else to x.
     SamePlace,
+    /// Goes to the next instruction.
+    Next,
     /// Goes to x.
     Jump,
     /// Goes to x where a register is 0.
@@ -162,5 +164,7 @@ pub(crate) fn classify(op: Op) -> Route
         Op::Finb => Route::OpenFinish,
         Op::Fine => Route::CloseFinish,
         Op::At | Op::Ata => Route::Send,
+        // no image has an atomic region yet
+        Op::Atomb | Op::Atome => Route::Local(Local::Next),
     }
 }

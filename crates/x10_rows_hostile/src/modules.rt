@@ -7,6 +7,7 @@ use x10_asm::list;
 use x10_bounds::{BoundCause, bounds};
 use x10_code::{Instr, Op};
 use x10_image::{Function, ImageFault, ImageView, Module, write};
+use x10_model::ImageVersion;
 use x10_samples::SEVEN;
 
 /// A listing.
@@ -66,6 +67,7 @@ fn instr(op: Op) -> Instr {
 fn module(alloc: Global) -> Result<Module, AllocError> {
     let code = [instr(Op::Intk), instr(Op::Print), instr(Op::Ret)];
     let mut module = Module {
+        version: ImageVersion::One,
         least_places: 1,
         classes: Vec::new(alloc),
         ints: Vec::from_slice(alloc, &[7])?,

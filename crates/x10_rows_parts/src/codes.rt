@@ -5,7 +5,7 @@ use x10_code::{
 };
 
 /// Each operation's code and name, and which of a, b, c and x it has (1) or not (0).
-const TABLE: [(u8, &str, [u8; 4]); 44] = [
+const TABLE: [(u8, &str, [u8; 4]); 46] = [
     (0x01, "INTK", [1, 0, 0, 1]),
     (0x02, "TEXTK", [1, 0, 0, 1]),
     (0x03, "MOVE", [1, 1, 0, 0]),
@@ -50,6 +50,8 @@ const TABLE: [(u8, &str, [u8; 4]); 44] = [
     (0x2c, "ATA", [0, 1, 1, 1]),
     (0x2d, "FINB", [0, 0, 0, 0]),
     (0x2e, "FINE", [0, 0, 0, 0]),
+    (0x2f, "ATOMB", [0, 0, 0, 0]),
+    (0x30, "ATOME", [0, 0, 0, 0]),
 ];
 
 /// The table as a slice, of which a proof sees only the type.
@@ -119,7 +121,7 @@ fn operands_in_order(rt: HostRuntime) {
 
 #[test]
 fn no_operation(rt: HostRuntime) {
-    for code in [0x00, 0x26, 0x27, 0x2f, 0x30, 0xff] {
+    for code in [0x00, 0x26, 0x27, 0x31, 0xff] {
         assert!(rt; op_with_code(code).is_none());
         let bytes = [code, 1, 1, 1, 1, 1, 1, 1];
         assert!(rt; decode(&bytes) == Err(CodeFault::UnknownOp), "{code}");

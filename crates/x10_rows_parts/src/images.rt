@@ -4,10 +4,10 @@ use crate::heaps::long;
 use crate::sources::image_of;
 use std::alloc::{AllocError, Global};
 use std::test::*;
-use x10_code::{Instr, Op};
+use x10_code::{Instr, Op, code};
 use x10_image::{Function, ImageFault, ImageView, Module, write};
 use x10_kinds::Kind;
-use x10_model::Slot;
+use x10_model::{ImageVersion, Slot};
 use x10_samples::{SEVEN, with_byte};
 
 fn instr(op: Op, a: u8, x: u32) -> Instr {
@@ -33,6 +33,7 @@ fn changed(rt: &HostRuntime, at: usize, byte: u8) -> Option<ImageFault> {
 /// The module that a view shows, taken from it part by part.
 fn rebuilt(alloc: Global, view: &ImageView<'_>) -> Result<Module, AllocError> {
     let mut module = Module {
+        version: view.version(),
         least_places: view.least(),
         classes: Vec::new(alloc),
         ints: Vec::new(alloc),
@@ -117,6 +118,7 @@ fn largest(alloc: Global) -> Result<Function, AllocError> {
 /// A module with the most functions and the longest text, and classes that name later ones.
 fn full(alloc: Global) -> Result<Module, AllocError> {
     let mut module = Module {
+        version: ImageVersion::One,
         least_places: 64,
         classes: Vec::new(alloc),
         ints: Vec::from_slice(alloc, &[i64::MIN, -1, 0, i64::MAX])?,
@@ -182,6 +184,19 @@ fn seven_is_read(rt: HostRuntime) -> Result<(), Fail> {
 }
 
 #[test]
+fn version_is_shown_and_kept(rt: HostRuntime) -> Result<(), Fail> {
+    let second = with_byte(5, 2);
+    let (first, second) = (
+        image_of(rt.alloc(), &SEVEN)?,
+        image_of(rt.alloc(), &second)?,
+    );
+    assert!(rt; first.version() == ImageVersion::One);
+    assert!(rt; second.version() == ImageVersion::Two);
+    assert!(rt; written(rt.alloc(), &second)?.as_slice() == with_byte(5, 2).as_slice());
+    Ok(())
+}
+
+#[test]
 fn beginnings_are_short(rt: HostRuntime) {
     for n in 0..64 {
         assert_eq!(rt; fault(&rt, &SEVEN[..n]), Some(ImageFault::Short));
@@ -189,9 +204,11 @@ fn beginnings_are_short(rt: HostRuntime) {
 }
 
 /// Which byte of `SEVEN` becomes which other, and the fault of that.
-const FAULTS: [(usize, u8, Option<ImageFault>); 15] = [
+const FAULTS: [(usize, u8, Option<ImageFault>); 17] = [
     (0, 0x59, Some(ImageFault::Magic)),
-    (5, 2, Some(ImageFault::Version)),
+    (5, 2, None),
+    (5, 0, Some(ImageFault::Version)),
+    (5, 3, Some(ImageFault::Version)),
     (7, 64, None),
     (7, 65, Some(ImageFault::Count)),
     (7, 0, Some(ImageFault::Count)),
@@ -340,6 +357,59 @@ fn modules_without_image_are_refused(rt: HostRuntime) -> Result<(), Fail> {
     let bad = refusal(alloc, &with_bad_instruction(alloc)?);
     assert!(rt; bad == Some(ImageFault::Code(255, 1)));
     Ok(())
+}
+
+/// A module of a version with one function, which has an operation without operands second.
+fn with_operation(alloc: Global, version: ImageVersion, op: Op) -> Result<Module, AllocError> {
+    let mut module = Module {
+        version,
+        least_places: 1,
+        classes: Vec::new(alloc),
+        ints: Vec::new(alloc),
+        texts: Vec::new(alloc),
+        functions: Vec::new(alloc),
+        entry: 0,
+    };
+    let mut function = plain(alloc)?;
+    function.code.push(instr(op, 0, 0))?;
+    module.functions.push(function)?;
+    Ok(module)
+}
+
+/// Operations without operands, and the fault of an image that has one second, in version 1 and in version 2.
+const OPERATIONS: [(Op, Option<ImageFault>, Option<ImageFault>); 3] = [
+    (Op::Finb, None, None),
+    (
+        Op::Atomb,
+        Some(ImageFault::Code(0, 1)),
+        Some(ImageFault::Code(0, 1)),
+    ),
+    (
+        Op::Atome,
+        Some(ImageFault::Code(0, 1)),
+        Some(ImageFault::Code(0, 1)),
+    ),
+];
+
+#[test]
+fn operations_of_a_version_are_written(rt: HostRuntime) -> Result<(), Fail> {
+    for (op, first, second) in OPERATIONS {
+        let module = with_operation(rt.alloc(), ImageVersion::One, op)?;
+        assert!(rt; refusal(rt.alloc(), &module) == first);
+        let module = with_operation(rt.alloc(), ImageVersion::Two, op)?;
+        assert!(rt; refusal(rt.alloc(), &module) == second);
+    }
+    Ok(())
+}
+
+#[test]
+fn operations_of_a_version_are_read(rt: HostRuntime) {
+    for (op, first, second) in OPERATIONS {
+        let mut bytes = with_byte(48, code(op));
+        assert!(rt; fault(&rt, &bytes) == first);
+        bytes[5] = 2;
+        assert!(rt; fault(&rt, &bytes) == second);
+    }
 }
 
 #[test]

@@ -5,7 +5,7 @@ use x10_asm::list;
 use x10_code::{Instr, Op};
 use x10_image::{Function, ImageView, Module, write};
 use x10_kinds::Kind;
-use x10_model::Slot;
+use x10_model::{ImageVersion, Slot};
 
 /// A module with a line of every sort, and its listing.
 pub const WHOLE: &str = "places 64
@@ -94,6 +94,7 @@ fn whole(alloc: Global) -> Result<Module, AllocError> {
     texts.push(String::new(alloc))?;
     texts.push(String::from_str(alloc, "a \"b\" \\ c\nd\u{e9}\t;")?)?;
     Ok(Module {
+        version: ImageVersion::One,
         least_places: 64,
         classes: kinds(alloc)?,
         ints: Vec::from_slice(alloc, &[0, i64::MIN, i64::MAX])?,

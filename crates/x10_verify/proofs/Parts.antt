@@ -132,6 +132,8 @@ permits_parts op.At p s out h = let r = of_call p s out (term.Reg p.instr.c) h.2
 permits_parts op.Ata p s out h = (Keeps, record { a = tt; b = tt; c = tt; settles = (h.0, called p s (term.Reg p.instr.c) h.0 h.1 h.2, h.3, refl) }, h.4)
 permits_parts op.Finb p s out h = (Keeps, record { a = tt; b = tt; c = tt; settles = refl }, h)
 permits_parts op.Fine p s out h = (Keeps, record { a = tt; b = tt; c = tt; settles = refl }, h)
+permits_parts op.Atomb p s out h = (Keeps, record { a = tt; b = tt; c = tt; settles = refl }, h)
+permits_parts op.Atome p s out h = (Keeps, record { a = tt; b = tt; c = tt; settles = refl }, h)
 -- output
 permits_parts op.Print p s out h = (Keeps, record { a = tt; b = tt; c = tt; settles = (h.0, refl) }, h.1)
 -- two numbers to a number
@@ -182,6 +184,8 @@ parts_permit op.At p s e g = let r = from_call p s e (term.Reg p.instr.c) g.sett
 parts_permit op.Ata p s e g = (g.settles.0, g.settles.1.place, (g.settles.1.there, slots_fit s (term.Reg p.instr.c) p.instr.b g.settles.0.parameters g.settles.1.arguments), g.settles.2, ap (λ x. edges_of op.Ata p s x) g.settles.3)
 parts_permit op.Finb p s e g = subst (λ x. Permits op.Finb p s (edges_of op.Finb p s x)) (sym g.settles) refl
 parts_permit op.Fine p s e g = subst (λ x. Permits op.Fine p s (edges_of op.Fine p s x)) (sym g.settles) refl
+parts_permit op.Atomb p s e g = subst (λ x. Permits op.Atomb p s (edges_of op.Atomb p s x)) (sym g.settles) refl
+parts_permit op.Atome p s e g = subst (λ x. Permits op.Atome p s (edges_of op.Atome p s x)) (sym g.settles) refl
 -- output
 parts_permit op.Print p s e g = (g.settles.0, ap (λ x. edges_of op.Print p s x) g.settles.1)
 -- two numbers to a number

@@ -6,7 +6,7 @@ use Rattle.x10_code.specs.declared.op.Op.{Op}
 use Rattle.x10_code.specs.declared.op.Op.TheVariants as op
 use Rattle.x10_code.specs.declared.instr.Instr.{Instr}
 use Rattle.x10_model.specs.Modules.{Module, Function}
-use Rattle.x10_model.specs.Structure.{BoundFault, Nesting, Jump, LoopSlot, CallOrder, around, bound_of, first_failing, nests, is_ret, is_last_ret, is_empty, ends_well, or_else, nesting_fault, jump_fault, slot_fault, order_fault, checked_bound, bounds_from, bounds_of}
+use Rattle.x10_model.specs.Structure.{BoundFault, Nesting, Jump, LoopSlot, CallOrder, InAtomic, around, bound_of, first_failing, nests, is_ret, is_last_ret, is_empty, ends_well, or_else, nesting_fault, jump_fault, slot_fault, order_fault, atomic_fault, checked_bound, bounds_from, bounds_of}
 use Rattle.x10_model.proofs.Bounds.{unless_ok, with_ok}
 use Rattle.x10_model.proofs.Lists.{append_get}
 use Rattle.std.proofs.lemmas.Option.{same_Some, slice_get_within}
@@ -24,7 +24,8 @@ checked function earlier f bound e =
     let j = unless_ok (jump_fault f.code) Jump function _ bound n.1 in
     let s = unless_ok (slot_fault f.loops f.code) LoopSlot function _ bound j.1 in
     let o = unless_ok (order_fault function f.code) CallOrder function _ bound s.1 in
-    (n.0, small_ok (nat_le (bound_of earlier f.code) (2 ^ 48)) (bound_of earlier f.code) bound _ o.1)
+    let a = unless_ok (atomic_fault f.code) InAtomic function _ bound o.1 in
+    (n.0, small_ok (nat_le (bound_of earlier f.code) (2 ^ 48)) (bound_of earlier f.code) bound _ a.1)
 
 -- ---- each function of a module
 

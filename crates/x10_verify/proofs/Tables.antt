@@ -41,6 +41,8 @@ table_writes op.Loop p s k like a r h = absurd (let e = h.settles in cc)
 table_writes op.Endl p s k like a r h = absurd (let e = h.settles in cc)
 table_writes op.Finb p s k like a r h = absurd (let e = h.settles in cc)
 table_writes op.Fine p s k like a r h = absurd (let e = h.settles in cc)
+table_writes op.Atomb p s k like a r h = absurd (let e = h.settles in cc)
+table_writes op.Atome p s k like a r h = absurd (let e = h.settles in cc)
 table_writes op.Ret p s k like a r h = absurd (let e = h.settles.1 in cc)
 table_writes op.Async p s k like a r h = absurd (let e = h.settles.3 in cc)
 table_writes op.Ata p s k like a r h = absurd (let e = h.settles.3 in cc)
@@ -66,4 +68,4 @@ flag_fits n None h = tt
 flag_fits n (Some slot) h = h.flag
 
 pub results_fit : (m : Module) → FitsImage m → ResultsFit m
-results_fit m fits f function e = flag_fits (length m.classes) function.result (all_at (FitsFunction (length m.classes)) m.functions f function fits.functions.2 e).result
+results_fit m fits f function e = flag_fits (length m.classes) function.result (all_at (FitsFunction m.version (length m.classes)) m.functions f function fits.functions.2 e).result

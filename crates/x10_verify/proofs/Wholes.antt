@@ -66,8 +66,8 @@ least_assigns m function least = (least.0, least.1.consistent)
 
 -- ---- functions and instructions
 
-pub function_fits : (m : Module) (f : ℕ) (function : Function) → FitsImage m → function_at m f ≡ Some function → FitsFunction (length m.classes) function
-function_fits m f function fits e = all_at (FitsFunction (length m.classes)) m.functions f function fits.functions.2 e
+pub function_fits : (m : Module) (f : ℕ) (function : Function) → FitsImage m → function_at m f ≡ Some function → FitsFunction m.version (length m.classes) function
+function_fits m f function fits e = all_at (FitsFunction m.version (length m.classes)) m.functions f function fits.functions.2 e
 
 -- an instruction of a function, by its number
 instr_of : (m : Module) (f pc : ℕ) (o : Option Function) (i : Instr) → function_at m f ≡ o → instr_in o pc ≡ Some i → (function : Function) × (function_at m f ≡ Some function) × (slice_get function.code pc ≡ Some i)
@@ -90,7 +90,7 @@ call_result op.Call m f i c le e h = result_register f (result_of (function_at m
 call_result op.At m f i c le e h = result_register f (result_of (function_at m i.x)) i.a le (subst (λ o. IsResultRegister f (result_for m f i o) i.a) e (subst (λ o. IsThere m f i (form_of o).a i.a) e h))
 call_result _ m f i c le e h = absurd cc
 
-named_in : (m : Module) (f : Function) (i : Instr) → FitsImage m → FitsFunction (length m.classes) f → IsInRange m f i → IsNamed m i
+named_in : (m : Module) (f : Function) (i : Instr) → FitsImage m → FitsFunction m.version (length m.classes) f → IsInRange m f i → IsNamed m i
 named_in m f i image fits r = record {
   small = record {
     class = λ e. (let h : i.x < length m.classes = there_as m f i (form_of i.op).x operand.Class i.x e r.x in omega (arith, image.classes));

@@ -89,6 +89,8 @@ rule_for op.At i = row None None None (Calls (term.Reg i.c))
 rule_for op.Ata i = row None None None (Starts (term.Reg i.c))
 rule_for op.Finb i = row None None None keeps
 rule_for op.Fine i = row None None None keeps
+rule_for op.Atomb i = row None None None keeps
+rule_for op.Atome i = row None None None keeps
 -- output
 rule_for op.Print i = row None None None Prints
 

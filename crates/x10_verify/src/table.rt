@@ -116,7 +116,7 @@ pub fn rule_of(instr: Instr) -> Rule
         Op::Async => row(None, None, None, Outcome::Starts(Term::Here)),
         Op::At => row(None, None, None, Outcome::Calls(Term::Reg(instr.c))),
         Op::Ata => row(None, None, None, Outcome::Starts(Term::Reg(instr.c))),
-        Op::Finb | Op::Fine => row(None, None, None, keeps()),
+        Op::Finb | Op::Fine | Op::Atomb | Op::Atome => row(None, None, None, keeps()),
         // output
         Op::Print => row(None, None, None, Outcome::Prints),
     }

@@ -5,7 +5,7 @@ use Rattle.std.proofs.lemmas.Bool.{ltb-true}
 use Rattle.x10_code.specs.declared.instr.Instr.{Instr}
 use Rattle.x10_model.specs.Modules.{Module, Function}
 use Rattle.x10_model.specs.Ranges.{function_at}
-use Rattle.x10_model.specs.Structure.{Nesting, Jump, LoopSlot, CallOrder, cost, is_call, calls_earlier, bound_of, nesting_fault, jump_fault, slot_fault, order_fault, checked_bound, bounds_from, bounds_of}
+use Rattle.x10_model.specs.Structure.{Nesting, Jump, LoopSlot, CallOrder, InAtomic, cost, is_call, calls_earlier, bound_of, nesting_fault, jump_fault, slot_fault, order_fault, atomic_fault, checked_bound, bounds_from, bounds_of}
 use Rattle.x10_model.proofs.Bounds.{unless_ok, with_ok}
 use Rattle.x10_model.proofs.Lists.{append_get}
 use Rattle.x10_image.specs.Parts.{code_in, code_at}
@@ -29,9 +29,10 @@ has_bound earlier rest bounds function bound is e =
     let j = unless_ok (jump_fault function.code) Jump f _ bound n.1 in
     let s = unless_ok (slot_fault function.loops function.code) LoopSlot f _ bound j.1 in
     let o = unless_ok (order_fault f function.code) CallOrder f _ bound s.1 in
+    let a = unless_ok (atomic_fault function.code) InAtomic f _ bound o.1 in
     let before : take f bounds ≡ earlier = ap (take f) is ∙ take_at earlier (bound ∷ rest) f refl in
     record {
-      structured = record { nests = n.0; jumps = j.0; slots = s.0 };
+      structured = record { nests = n.0; jumps = j.0; slots = s.0; atomics = a.0 };
       ordered = o.0;
       bound = ap (λ bs. slice_get bs f) is ∙ append_get earlier bound rest ∙ ap Some (sym (checked f earlier function bound e).1 ∙ ap (λ bs. bound_of bs function.code) (sym before));
     }

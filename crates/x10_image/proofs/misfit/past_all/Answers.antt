@@ -8,6 +8,11 @@ use Rattle.x10_image.proofs.misfit.past_all.Goals as goal
 pub returns-in-Err-clause-fault : goal.returns-in-Err-clause-fault
 returns-in-Err-clause-fault c = header_misfit c.args.bytes.now (named c.in-Err.fault) c.in-Err.ensures.exact
 
+pub returns-in_err-rest-clause-part : goal.returns-in_err-rest-clause-part
+returns-in_err-rest-clause-part c =
+    let p = err_from_is_err_and c.from_residual.result c.from_residual.ensures.1 in
+    rw (p.1, p.2) (c.in-Ok.read.0.version, c.in-Ok.read.0.classes, c.in_err-rest.ensures.part c.in-Ok.read.0.version)
+
 pub returns-in_err-rest-clause-fault : goal.returns-in_err-rest-clause-fault
 returns-in_err-rest-clause-fault c =
     let p = err_from_is_err_and c.from_residual.result c.from_residual.ensures.1 in

@@ -3,10 +3,9 @@ use Rattle.x10_asm.specs.declared.fault.AsmCause.{AsmCause}
 use Rattle.x10_asm.specs.declared.statement.Statement.TheVariants as statement
 use Rattle.x10_asm.specs.Lines.{lines, words}
 use Rattle.x10_asm.specs.LabelLines.{labels_from}
-use Rattle.x10_asm.specs.Operands.{instruction_of}
 use Rattle.x10_asm.specs.Statements.{other_words}
 use Rattle.x10_asm.specs.Reading as reading
-use Rattle.x10_asm.specs.Reading.{with_places, with_class, with_int, with_text, with_func, with_instruction, with_end, with_entry, with_nothing, places_of, class_of, int_line_of, text_of, func_of, end_of, entry_of, label_at, is_inside}
+use Rattle.x10_asm.specs.Reading.{with_version, with_places, with_class, with_int, with_text, with_func, with_end, with_entry, with_nothing, version_of, places_of, class_of, int_line_of, text_of, func_of, end_of, entry_of, label_at, instruction_line_of}
 use Rattle.x10_asm.specs.Sources.{Takes}
 use Rattle.x10_asm.proofs.Names.{line_label_ends}
 use Rattle.x10_asm.proofs.Taking.{line_gives}
@@ -20,6 +19,11 @@ returns-in-Silent c = λ s f. (s, line_gives c.args.classes s c.args.number c.ar
 
 pub returns-in-Unknown : goal.returns-in-Unknown
 returns-in-Unknown c = λ s f _. line_gives c.args.classes s c.args.number c.args.text.now (lines c.args.rest.now) c.line_of-line.result.statement c.line_of-line.ensures.statement statement.Unknown c.in-Unknown.is
+
+pub returns-in-Version : goal.returns-in-Version
+returns-in-Version c = λ s f.
+    subst (λ (r : Result reading.Source AsmCause). Takes c.take_version.new.self c.take_version.result r) (sym (line_gives c.args.classes s c.args.number c.args.text.now (lines c.args.rest.now) c.line_of-line.result.statement c.line_of-line.ensures.statement statement.Version c.in-Version.is))
+    (subst (λ (ws : List (List ℕ)). Takes c.take_version.new.self c.take_version.result (with_version s (version_of s.stage s.so_far.version ws))) c.line_of-line.ensures.rest (c.take_version.ensures s f))
 
 pub returns-in-Places : goal.returns-in-Places
 returns-in-Places c = λ s f.
@@ -64,4 +68,4 @@ returns-in-Label c = λ s f.
 pub returns-in-Instruction : goal.returns-in-Instruction
 returns-in-Instruction c = λ s f.
     subst (λ (r : Result reading.Source AsmCause). Takes c.take_instruction.new.self c.take_instruction.result r) (sym (line_gives c.args.classes s c.args.number c.args.text.now (lines c.args.rest.now) c.line_of-line.result.statement c.line_of-line.ensures.statement (statement.Instruction c.in-Instruction.op) c.in-Instruction.is))
-    (subst (λ (ws : List (List ℕ)). Takes c.take_instruction.new.self c.take_instruction.result (with_instruction s (instruction_of s.labels (is_inside s.stage) (length s.function.code) c.in-Instruction.op ws))) c.line_of-line.ensures.rest (c.take_instruction.ensures s f))
+    (subst (λ (ws : List (List ℕ)). Takes c.take_instruction.new.self c.take_instruction.result (instruction_line_of s c.in-Instruction.op ws)) c.line_of-line.ensures.rest (c.take_instruction.ensures s f))

@@ -53,7 +53,14 @@ returns-clause-fits c =
     let v = shows _ _ _ _ _ _ _ c.self.invariant c.self.view_is in
     let h = function_here _ _ _ _ _ _ _ c.args.f c.index.result.now v c.requires.function c.index.ensures in
     let i = instr_here _ _ _ _ c.args.pc (c.code_place-start.result + 8 * c.args.pc) h c.requires.pc (omega (arith, c.code_place-start.ensures)) in
-    rw (instr_same _ i.instr _ c.instr_in.ensures i.decodes) i.fits
+    rw (instr_same _ i.instr _ c.instr_in.ensures i.decodes) i.fits.spelled
+
+pub returns-clause-known : goal.returns-clause-known
+returns-clause-known c =
+    let v = shows _ _ _ _ _ _ _ c.self.invariant c.self.view_is in
+    let h = function_here _ _ _ _ _ _ _ c.args.f c.index.result.now v c.requires.function c.index.ensures in
+    let i = instr_here _ _ _ _ c.args.pc (c.code_place-start.result + 8 * c.args.pc) h c.requires.pc (omega (arith, c.code_place-start.ensures)) in
+    rw (instr_same _ i.instr _ c.instr_in.ensures i.decodes) i.fits.known
 
 pub returns-clause-part : goal.returns-clause-part
 returns-clause-part c = instr_part _ _ _ _ (returns-clause-value c)

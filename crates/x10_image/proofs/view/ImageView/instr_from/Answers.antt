@@ -22,4 +22,4 @@ pub returns-clause-fits : goal.returns-clause-fits
 returns-clause-fits c =
     let v = shows _ _ _ _ _ _ _ c.self.invariant c.self.view_is in
     let i = instr_alone c.args.self.now c.args.f c.args.pc (8 * c.args.pc) c.args.code.now v.fits c.requires.function c.requires.code refl c.requires.pc in
-    rw (instr_same _ i.instr _ c.instr_in.ensures i.decodes) i.fits
+    rw (instr_same _ i.instr _ c.instr_in.ensures i.decodes) i.fits.spelled
