@@ -21,9 +21,9 @@ way_back s result None message d = d
 way_back s result (Some origin) message d = (d.0, d.2)
 
 changes : (s : Situation) (o : Op) (new : places.Place) (effect : Effect) → s.stay.away ≡ false → Way s o new effect → Changes s.here s.place s.key s.stay new effect
-changes s o new effect ready (ways.goes_onward base top g) =
-    let t : Stay = record s.stay { top = top } in
-    (t, goes_on s.stay top s.stay.callers s.stay.finishes ready, record { stays = ap (λ f. with_entry f s.key (Some t)) g.stays; opened_is = g.opened })
+changes s o new effect ready (ways.goes_onward base top inside g) =
+    let t : Stay = record s.stay { top = top; inside = inside } in
+    (t, record { finishes_are = refl; away_is = ready; inherited = refl; back = refl }, record { stays = ap (λ f. with_entry f s.key (Some t)) g.stays; opened_is = g.opened })
 changes s o new effect ready (ways.calls callee arguments passes) = (_, goes_on s.stay _ _ _ ready, record { stays = refl; opened_is = refl })
 changes s o new effect ready (ways.returns result caller callers call gives is call_is op_is) = (_, goes_on s.stay _ _ _ ready, record { stays = refl; opened_is = refl })
 changes s o new effect ready (ways.ends result back gives alone none sends) = (none, refl, way_back s result s.stay.back back sends, record { stays = refl; opened_is = refl })

@@ -6,14 +6,13 @@ ghost use Rattle.x10_model.specs.Modules as model;
 use x10_code::Op;
 use x10_model::ImageVersion;
 
-/// Whether an image of a version may have an operation. Constant time.
+/// Whether an image of a version may have an operation: those of atomic regions are new in version 2. Constant time.
 #[inline(always)]
 pub fn is_known(version: ImageVersion, op: Op) -> bool
     ensures value { result ≡ model.is_known version op }
 {
-    let _ = version;
-    match op {
-        Op::Atomb | Op::Atome => false,
-        _ => true,
+    match version {
+        ImageVersion::One => !matches!(op, Op::Atomb | Op::Atome),
+        ImageVersion::Two => true,
     }
 }

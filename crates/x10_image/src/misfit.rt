@@ -7,7 +7,7 @@ ghost use Rattle.x10_model.specs.declared.version.ImageVersion.{ImageVersion};
 ghost use Rattle.x10_model.specs.Readers.{times, numbered, int};
 ghost use Rattle.x10_model.specs.ReadingImages.{Short, class_at, text_at, function_at, module_at};
 ghost use Rattle.x10_image.specs.Faults.{named, IsFault};
-ghost use Rattle.x10_image.specs.Misfits.{IsRefused, HasWholeParts};
+ghost use Rattle.x10_image.specs.Misfits.{IsRefused, IsRefusedIn, HasWholeParts};
 
 use crate::fault::ImageFault;
 use crate::field::{Field, class_field, function_field, header_field, int_field, text_field};
@@ -135,7 +135,7 @@ fn past_functions(
 
 /// All parts one after the other.
 fn past_all(bytes: &[u8]) -> Result<(), Misfit<'_>>
-    ensures part { IfErr result (λ m. (version : ImageVersion) × (classes : ℕ) × IsRefused version classes m.item m.from.now m.fault) }
+    ensures part { IfErr result (λ m. IsRefusedIn bytes.now m.item m.from.now m.fault) }
     ensures whole { IfOk result (λ _. HasWholeParts bytes.now) }
     ensures fault { IfErr result (λ m. IsFault (named m.fault) (module_at bytes.now)) }
 {
@@ -165,11 +165,11 @@ fn past_all(bytes: &[u8]) -> Result<(), Misfit<'_>>
     })
 }
 
-/// The first part of bytes that is refused, with its fault, which is that of reading the part from there on and that of the
-/// bytes, and the field of it that is wrong. Nothing only where each part is whole and in order, even where the entry is wrong.
-/// One pass over the bytes; takes no memory.
+/// The first part of bytes that is refused, with its fault, which is that of reading the part from there on, by the header
+/// where it is behind one, and that of the bytes, and the field of it that is wrong. Nothing only where each part is whole and
+/// in order, even where the entry is wrong. One pass over the bytes; takes no memory.
 pub fn misfit_in(bytes: &[u8]) -> Option<Misfit<'_>>
-    ensures part { IfSome result (λ m. (version : ImageVersion) × (classes : ℕ) × IsRefused version classes m.item m.from.now m.fault) }
+    ensures part { IfSome result (λ m. IsRefusedIn bytes.now m.item m.from.now m.fault) }
     ensures fault { MatchOption result (HasWholeParts bytes.now) (λ m. IsFault (named m.fault) (module_at bytes.now)) }
 {
     past_all(bytes).err()

@@ -3,10 +3,10 @@ use Rattle.std.proofs.Common.{◌≡◌, ℕ, Bool, true, false, Some, None, sym
 use Rattle.x10_model.specs.declared.event.Event.{Event}
 use Rattle.x10_model.specs.declared.event.Event.TheVariants.{Step, Deliver}
 use Rattle.x10_model.specs.Places as places
-use Rattle.x10_model.specs.Places.{Setting, Stay, Message, Spawn, Shift, Back, receiver}
+use Rattle.x10_model.specs.Places.{Setting, Stay, IsFree, Message, Spawn, Shift, Back, receiver}
 use Rattle.x10_model.specs.Deliveries.{Receives}
 use Rattle.x10_model.specs.Wrong.{IsWrong, no_instruction, wrong_at, IsMisfit}
-use Rattle.x10_model.specs.Worlds.{Flying, World, Rule, Steps, Delivers, IsIdle, no_place, no_stay, is_away, not_flying, Happens, steps, delivers, idle, GoesWrong, step, delivery, nowhere}
+use Rattle.x10_model.specs.Worlds.{Flying, World, Rule, Steps, Delivers, IsIdle, no_place, no_stay, is_away, is_kept_out, not_flying, Happens, steps, delivers, idle, GoesWrong, step, delivery, nowhere}
 use Rattle.x10_model.proofs.NotWrong.{moves_not_wrong}
 use Rattle.x10_model.proofs.Ready.{received_fits}
 use Rattle.x10_model.proofs.Lists.{same_some, none_some}
@@ -39,9 +39,9 @@ delivers_somewhere setting w v number d message e none =
     let at : receiver message ≡ d.here = ap receiver same ∙ for_receiver setting d.here d.key d.old d.new d.message d.receives in
     none_some (w.net.places d.here) d.old (subst (λ q. w.net.places q ≡ None) at none) d.place_is
 
-ready_there : (setting : Setting) (here key : ℕ) (place : places.Place) → IsWrong setting here place key → (stay : Stay) × (place.stays key ≡ Some stay) × (stay.away ≡ false)
-ready_there setting here key place (no_instruction stay e ready none) = (stay, e, ready)
-ready_there setting here key place (wrong_at stay function instr e ready f i w) = (stay, e, ready)
+ready_there : (setting : Setting) (here key : ℕ) (place : places.Place) → IsWrong setting here place key → (stay : Stay) × (place.stays key ≡ Some stay) × (stay.away ≡ false) × IsFree place.stays key
+ready_there setting here key place (no_instruction stay e ready free none) = (stay, e, ready, free)
+ready_there setting here key place (wrong_at stay function instr e ready free f i w) = (stay, e, ready, free)
 
 false_true : (b : Bool) → b ≡ false → b ≡ true → ⊥
 false_true b e f = cc
@@ -55,6 +55,8 @@ idle_step setting w here key (is_away here' key' old stay e s away) place p wron
     let there = ready_there setting here key place wrong in
     let s1 : place.stays key ≡ Some stay = subst (λ (q : places.Place). q.stays key ≡ Some stay) (same_some (w.net.places here) old place e p) s in
     false_true there.0.away there.2 (subst (λ (t : Stay). t.away ≡ true) (same_some (place.stays key) stay there.0 s1 there.1) away)
+idle_step setting w here key (is_kept_out here' key' old stay e s kept_out) place p wrong =
+    kept_out (subst (λ (q : places.Place). IsFree q.stays key) (same_some (w.net.places here) place old p e) (ready_there setting here key place wrong).3)
 
 idle_delivery : (w : World) (number : ℕ) → IsIdle w (Deliver number) → (message : Message) → w.net.posts number ≡ Flying message → ⊥
 idle_delivery w number (not_flying number' never) message e = never message e

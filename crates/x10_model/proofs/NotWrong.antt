@@ -97,10 +97,10 @@ abbrev pub At : Setting → ℕ → places.Place → ℕ → Stay → Function �
 At setting here old key stay function instr = IsWrongAt (record { setting = setting; here = here; place = old; key = key; stay = stay; function = function; instr = instr })
 
 pub moves_not_wrong : (setting : Setting) (here key : ℕ) (old new : places.Place) (effect : Effect) → Moves setting here old key new effect → IsWrong setting here old key → ⊥
-moves_not_wrong setting here key old new effect m (no_instruction stay e ready none) =
+moves_not_wrong setting here key old new effect m (no_instruction stay e ready free none) =
     let same = there setting here key old new effect m stay e in
     none_some (instr_at setting.program stay.top.function stay.top.pc) m.instr none (subst (λ (t : Stay). instr_at setting.program t.top.function t.top.pc ≡ Some m.instr) same (instr_there setting here key old new effect m))
-moves_not_wrong setting here key old new effect m (wrong_at stay function instr e ready f i w) =
+moves_not_wrong setting here key old new effect m (wrong_at stay function instr e ready free f i w) =
     let same = there setting here key old new effect m stay e in
     let same_function : function ≡ m.function = same_some (function_at setting.program m.stay.top.function) function m.function (subst (λ (t : Stay). function_at setting.program t.top.function ≡ Some function) (sym same) f) m.function_is in
     let here-is : slice_get m.function.code m.stay.top.pc ≡ Some instr = subst (λ (t : Stay). slice_get m.function.code t.top.pc ≡ Some instr) (sym same) (subst (λ (g : Function). slice_get g.code stay.top.pc ≡ Some instr) same_function i) in

@@ -1,7 +1,7 @@
 -- The lists of operations that proofs go by: what their moves found, that they can be done or go wrong, and how they go on.
 -- The last line of a list is checked for each operation that isn't named above it; where that is one that makes a number
 -- of two, a new one of them needs no line.
-use Rattle.std.proofs.Common.{◌≡◌, ℕ, ◌<◌, List, [], ◌∷◌, length, Option, Some, None, refl, sym, ap, subst, ◌∙◌, inl, inr, pos, ◌+◌, ◌-◌, ◌%◌, true, ◌==◌, ◌++◌}
+use Rattle.std.proofs.Common.{◌≡◌, ℕ, ◌<◌, List, [], ◌∷◌, length, Option, Some, None, refl, sym, ap, subst, ◌∙◌, inl, inr, pos, ◌+◌, ◌-◌, ◌%◌, true, false, ◌==◌, ◌++◌}
 use Rattle.std.specs.Prelude.{slice_get, nat_lt, ◌==◌, if◌then◌else◌}
 use Rattle.x10_kinds.specs.declared.kind.Kind.{Kind}
 use Rattle.x10_code.specs.declared.op.Op.{Op}
@@ -21,7 +21,7 @@ use Rattle.x10_model.specs.Laws.{HasRoom}
 use Rattle.x10_model.proofs.Decided.{and_then, get_below, kinds_or_not, gives_or_not}
 use Rattle.x10_model.proofs.Found.{AllMet, placed, printed, Passed, passed_at, held_place, held_object, same_object}
 use Rattle.x10_model.proofs.Able.{Result, ask, ask_int, ask_place, ask_text, ask_rail, ask_object, ask_ref, ask_placed, is_line, is_object_or_null, holds, on_at, on, put, x_there, called, detached, captured, returns_to, get_field, put_value, opened, makes_rail, sets_byte, leaves}
-use Rattle.x10_model.proofs.Ways.{Way, passes, jumps, begins_loop, calls, begins, shifts, spawns, opens, to, exporting, changing, goes_on, written, went, jumped, turned, made, set, returned, left}
+use Rattle.x10_model.proofs.Ways.{Way, passes, jumps, begins_loop, calls, begins, shifts, spawns, opens, to, exporting, changing, goes_on, marked, written, went, jumped, turned, made, set, returned, left}
 
 -- ---- a move found what its operation asks for
 
@@ -180,8 +180,8 @@ step op.Ata s e range room = and_then (ask_place op.Ata s e s.instr.c (0, refl))
     ))))
 step op.Finb s e range room = inl (with_stay (record s.place { opened = s.place.opened + 1 }) s.key (Some (record s.stay { top = next s.stay.top; finishes = s.place.opened ∷ s.stay.finishes })), Opens s.place.opened (innermost s.here s.stay), (refl, refl))
 step op.Fine s e range room = leaves s s.stay.finishes e refl
-step op.Atomb s e range room = inl (on s (next s.stay.top), Works, (refl, refl))
-step op.Atome s e range room = inl (on s (next s.stay.top), Works, (refl, refl))
+step op.Atomb s e range room = inl (_, Works, (refl, refl))
+step op.Atome s e range room = inl (_, Works, (refl, refl))
 -- output
 step op.Print s e range room = and_then (ask op.Print s e s.instr.a AnIntOrText (0, refl)) (λ h.
     let line = is_line s.place.cells h.0 h.2 in inl (on_at s (with_line s.place line.0) (next s.stay.top), Works, (h.0, line.0, h.1, line.1, (refl, refl))))
@@ -237,8 +237,8 @@ way_of op.At s new effect d = to d.7 d.8 (shifts d.0 d.1 d.2 d.3 d.4 d.5 d.6)
 way_of op.Ata s new effect d = to d.8 d.9 (spawns d.0 d.1 d.2 d.3 d.4 d.5 d.6 d.7)
 way_of op.Finb s new effect d = to d.0 d.1 opens
 way_of op.Fine s new effect d = left s d.0 d.1 new effect d.2 d.3
-way_of op.Atomb s new effect d = goes_on (passes refl) d
-way_of op.Atome s new effect d = goes_on (passes refl) d
+way_of op.Atomb s new effect d = marked true refl d
+way_of op.Atome s new effect d = marked false refl d
 -- output
 way_of op.Print s new effect d = changing refl refl refl (passes refl) d.4
 -- two numbers to a number

@@ -10,7 +10,7 @@ use Rattle.x10_model.specs.Modules.{Module, Function}
 use Rattle.x10_model.specs.declared.slot.Slot.{Slot}
 use Rattle.x10_model.specs.Ranges.{function_at, instr_in, IsThere, IsResultRegister, IsInRange, result_for, argument_count}
 use Rattle.x10_model.specs.Places as places
-use Rattle.x10_model.specs.Places.{Setting, Stay, Effect, Message, Spawn, Shift, Back}
+use Rattle.x10_model.specs.Places.{Setting, Stay, IsFree, Effect, Message, Spawn, Shift, Back}
 use Rattle.x10_model.specs.Moves.{Situation, Moves}
 use Rattle.x10_model.specs.Deliveries.{WaitsFor, Receives}
 use Rattle.x10_model.specs.Wrong.{out_of_range, IsWrong, no_instruction, wrong_at, IsMisfit, not_here, graph, torn, spawn, shift, back}
@@ -63,25 +63,25 @@ MovesOrWrong setting here old key = ((new : places.Place) × (effect : Effect) �
 abbrev pub sited : Setting → ℕ → places.Place → ℕ → Stay → Function → Instr → Situation
 sited setting here old key stay function instr = record { setting = setting; here = here; place = old; key = key; stay = stay; function = function; instr = instr }
 
-with_instr : (setting : Setting) (here key : ℕ) (old : places.Place) (stay : Stay) (function : Function) (instr : Instr) → HasRoomAt setting here key old stay → old.stays key ≡ Some stay → stay.away ≡ false → function_at setting.program stay.top.function ≡ Some function → slice_get function.code stay.top.pc ≡ Some instr → MovesOrWrong setting here old key
-with_instr setting here key old stay function instr room e ready f i = elim (range_or_not setting.program function instr) [
-  | inr never ↦ inr (wrong_at stay function instr e ready f i (out_of_range never))
+with_instr : (setting : Setting) (here key : ℕ) (old : places.Place) (stay : Stay) (function : Function) (instr : Instr) → HasRoomAt setting here key old stay → old.stays key ≡ Some stay → stay.away ≡ false → IsFree old.stays key → function_at setting.program stay.top.function ≡ Some function → slice_get function.code stay.top.pc ≡ Some instr → MovesOrWrong setting here old key
+with_instr setting here key old stay function instr room e ready free f i = elim (range_or_not setting.program function instr) [
+  | inr never ↦ inr (wrong_at stay function instr e ready free f i (out_of_range never))
   | inl range ↦ elim (step instr.op (sited setting here old key stay function instr) refl range (room function instr f i)) [
-    | inl h ↦ inl (h.0, h.1, record { stay = stay; function = function; instr = instr; is_there = e; is_ready = ready; function_is = f; instr_is = i; in_range = range; does = h.2 })
-    | inr w ↦ inr (wrong_at stay function instr e ready f i w)
+    | inl h ↦ inl (h.0, h.1, record { stay = stay; function = function; instr = instr; is_there = e; is_ready = ready; is_free = free; function_is = f; instr_is = i; in_range = range; does = h.2 })
+    | inr w ↦ inr (wrong_at stay function instr e ready free f i w)
   ]
 ]
 
-with_function : (setting : Setting) (here key : ℕ) (old : places.Place) (stay : Stay) (function : Function) (instr : Option Instr) → HasRoomAt setting here key old stay → old.stays key ≡ Some stay → stay.away ≡ false → function_at setting.program stay.top.function ≡ Some function → slice_get function.code stay.top.pc ≡ instr → MovesOrWrong setting here old key
-with_function setting here key old stay function None room e ready f i = inr (no_instruction stay e ready (ap (λ g. instr_in g stay.top.pc) f ∙ i))
-with_function setting here key old stay function (Some instr) room e ready f i = with_instr setting here key old stay function instr room e ready f i
+with_function : (setting : Setting) (here key : ℕ) (old : places.Place) (stay : Stay) (function : Function) (instr : Option Instr) → HasRoomAt setting here key old stay → old.stays key ≡ Some stay → stay.away ≡ false → IsFree old.stays key → function_at setting.program stay.top.function ≡ Some function → slice_get function.code stay.top.pc ≡ instr → MovesOrWrong setting here old key
+with_function setting here key old stay function None room e ready free f i = inr (no_instruction stay e ready free (ap (λ g. instr_in g stay.top.pc) f ∙ i))
+with_function setting here key old stay function (Some instr) room e ready free f i = with_instr setting here key old stay function instr room e ready free f i
 
-with_stay_at : (setting : Setting) (here key : ℕ) (old : places.Place) (stay : Stay) (function : Option Function) → HasRoomAt setting here key old stay → old.stays key ≡ Some stay → stay.away ≡ false → function_at setting.program stay.top.function ≡ function → MovesOrWrong setting here old key
-with_stay_at setting here key old stay None room e ready f = inr (no_instruction stay e ready (ap (λ g. instr_in g stay.top.pc) f))
-with_stay_at setting here key old stay (Some function) room e ready f = with_function setting here key old stay function (slice_get function.code stay.top.pc) room e ready f refl
+with_stay_at : (setting : Setting) (here key : ℕ) (old : places.Place) (stay : Stay) (function : Option Function) → HasRoomAt setting here key old stay → old.stays key ≡ Some stay → stay.away ≡ false → IsFree old.stays key → function_at setting.program stay.top.function ≡ function → MovesOrWrong setting here old key
+with_stay_at setting here key old stay None room e ready free f = inr (no_instruction stay e ready free (ap (λ g. instr_in g stay.top.pc) f))
+with_stay_at setting here key old stay (Some function) room e ready free f = with_function setting here key old stay function (slice_get function.code stay.top.pc) room e ready free f refl
 
-pub ready_is_able_or_wrong : (setting : Setting) (here key : ℕ) (old : places.Place) (stay : Stay) → HasRoomAt setting here key old stay → old.stays key ≡ Some stay → stay.away ≡ false → MovesOrWrong setting here old key
-ready_is_able_or_wrong setting here key old stay room e ready = with_stay_at setting here key old stay (function_at setting.program stay.top.function) room e ready refl
+pub ready_is_able_or_wrong : (setting : Setting) (here key : ℕ) (old : places.Place) (stay : Stay) → HasRoomAt setting here key old stay → old.stays key ≡ Some stay → stay.away ≡ false → IsFree old.stays key → MovesOrWrong setting here old key
+ready_is_able_or_wrong setting here key old stay room e ready free = with_stay_at setting here key old stay (function_at setting.program stay.top.function) room e ready free refl
 
 -- ---- deliveries
 

@@ -17,6 +17,7 @@ use Rattle.x10_model.specs.Places.{with_stay}
 use Rattle.x10_model.specs.Copies.{Node, Snapshot, Names, named, IsOfKindIn, IsInside, IsReached, root, field, IsWhole}
 use Rattle.x10_model.specs.Wrong.{AText, Meets, no_instruction, wrong_at, out_of_range, operand, argument, result_dropped, new_field, no_field, put_field, away, no_export, result, finish_open, no_call, no_finish, not_here, graph, torn, spawn, shift, back}
 use Rattle.x10_model.specs.Refused.{a_number, taker, giver, trying, an_object, at_zero, EachMoveGoesWrong, nothing, node, EachMessageMisfits, shared, SharedArrives}
+use Rattle.x10_model.proofs.Moving.{nobody, and_one, is_free}
 use Rattle.x10_model.proofs.Worked.{one_distinct}
 use Rattle.std.proofs.lemmas.Option.{same_Some}
 
@@ -57,20 +58,20 @@ giving =
 
 pub each_move_goes_wrong : EachMoveGoesWrong
 each_move_goes_wrong = record {
-  no_instruction = no_instruction _ refl refl refl;
-  out_of_range = wrong_at _ _ _ refl refl refl refl (out_of_range (λ range. (let lt : 9 < 8 = range.a in absurd (omega arith))));
-  operand = wrong_at _ _ _ refl refl refl refl (operand 0 AText (0, refl) (λ v held meets. null_text v (same_Some Null v held) meets));
-  argument = wrong_at _ _ _ refl refl refl refl (argument 0 refl (λ vs held fit. no_argument (situated (instr op.Call 0 0 0 1) []) 0 vs refl held fit));
-  result_dropped = wrong_at _ _ _ refl refl refl refl (result_dropped _ tt refl);
-  new_field = wrong_at _ _ _ refl refl refl refl (new_field refl (λ vs held fit. null_field (situated (instr op.New 1 0 0 0) (Null ∷ [])) vs refl held fit));
-  put_field = wrong_at _ _ _ refl refl refl refl (put_field 5 0 (Int (pos 3) ∷ []) Null refl refl refl refl (λ k e is. null_put k e is));
-  no_field = wrong_at _ _ _ refl refl refl refl (no_field 5 0 (Int (pos 3) ∷ []) refl refl refl);
-  away = wrong_at _ _ _ refl refl refl refl (away 1 0 0 refl refl (one_zero 1 0 refl refl));
-  no_export = wrong_at _ _ _ refl refl refl refl (no_export 0 0 refl refl (λ object e. not_there _ e));
-  result = wrong_at _ _ _ refl refl refl refl (result refl (λ v g. no_result giving v refl g));
-  finish_open = wrong_at _ _ _ refl refl refl refl (finish_open 1 [] refl refl refl);
-  no_call = wrong_at _ _ _ refl refl refl refl (no_call _ [] refl refl (λ call e is. ret_call call.op (ap (λ (i : Instr). i.op) (sym (same_Some _ call e))) is));
-  no_finish = wrong_at _ _ _ refl refl refl refl (no_finish refl refl);
+  no_instruction = no_instruction _ refl refl (is_free _ 4 (and_one _ (and_one _ (nobody 4)))) refl;
+  out_of_range = wrong_at _ _ _ refl refl (is_free _ 4 (and_one _ (nobody 4))) refl refl (out_of_range (λ range. (let lt : 9 < 8 = range.a in absurd (omega arith))));
+  operand = wrong_at _ _ _ refl refl (is_free _ 4 (and_one _ (nobody 4))) refl refl (operand 0 AText (0, refl) (λ v held meets. null_text v (same_Some Null v held) meets));
+  argument = wrong_at _ _ _ refl refl (is_free _ 4 (and_one _ (nobody 4))) refl refl (argument 0 refl (λ vs held fit. no_argument (situated (instr op.Call 0 0 0 1) []) 0 vs refl held fit));
+  result_dropped = wrong_at _ _ _ refl refl (is_free _ 4 (and_one _ (nobody 4))) refl refl (result_dropped _ tt refl);
+  new_field = wrong_at _ _ _ refl refl (is_free _ 4 (and_one _ (nobody 4))) refl refl (new_field refl (λ vs held fit. null_field (situated (instr op.New 1 0 0 0) (Null ∷ [])) vs refl held fit));
+  put_field = wrong_at _ _ _ refl refl (is_free _ 4 (and_one _ (nobody 4))) refl refl (put_field 5 0 (Int (pos 3) ∷ []) Null refl refl refl refl (λ k e is. null_put k e is));
+  no_field = wrong_at _ _ _ refl refl (is_free _ 4 (and_one _ (nobody 4))) refl refl (no_field 5 0 (Int (pos 3) ∷ []) refl refl refl);
+  away = wrong_at _ _ _ refl refl (is_free _ 4 (and_one _ (nobody 4))) refl refl (away 1 0 0 refl refl (one_zero 1 0 refl refl));
+  no_export = wrong_at _ _ _ refl refl (is_free _ 4 (and_one _ (nobody 4))) refl refl (no_export 0 0 refl refl (λ object e. not_there _ e));
+  result = wrong_at _ _ _ refl refl (is_free _ 4 (and_one _ (and_one _ (nobody 4)))) refl refl (result refl (λ v g. no_result giving v refl g));
+  finish_open = wrong_at _ _ _ refl refl (is_free _ 4 (and_one _ (and_one _ (nobody 4)))) refl refl (finish_open 1 [] refl refl refl);
+  no_call = wrong_at _ _ _ refl refl (is_free _ 4 (and_one _ (and_one _ (nobody 4)))) refl refl (no_call _ [] refl refl (λ call e is. ret_call call.op (ap (λ (i : Instr). i.op) (sym (same_Some _ call e))) is));
+  no_finish = wrong_at _ _ _ refl refl (is_free _ 4 (and_one _ (and_one _ (nobody 4)))) refl refl (no_finish refl refl);
 }
 
 -- ---- messages

@@ -14,7 +14,7 @@ use Rattle.x10_model.specs.Values.{Value, Place}
 use Rattle.x10_model.specs.Copies.{Snapshot, Captures}
 use Rattle.x10_model.specs.Places as places
 use Rattle.x10_model.specs.Places.{CallFrame, Stay, Export, Message, Spawn, Shift, innermost, Effect, Waits, Works, Begins, Spawns, Shifts, Opens, Closes, Ends, with_stay, goes, next}
-use Rattle.x10_model.specs.Moves.{Situation, Holds, Passes, GivesBack, SendsBack, Returns, LeavesFinish, ContinuesAt, Continues, new_stay, resumed, entry_frame, MakesRail, SetsByte, writes_or_goes, next_or_goes}
+use Rattle.x10_model.specs.Moves.{Situation, Holds, Passes, GivesBack, SendsBack, Returns, LeavesFinish, ContinuesAt, Continues, GoesOnInside, new_stay, resumed, entry_frame, MakesRail, SetsByte, writes_or_goes, next_or_goes}
 
 -- ---- on in its function
 
@@ -59,7 +59,7 @@ pub record GoesOnward (s : Situation) (o : Op) (base : places.Place) (top : Call
 -- To what place and with what effect a move goes by an operation. What isn't onward in a function is as `Does` says of its
 -- operation.
 pub data Way (s : Situation) : Op → places.Place → Effect → Type 0 where
-  goes_onward : {o : Op} (base : places.Place) (top : CallFrame) → GoesOnward s o base top → Way s o (with_stay base s.key (Some (record s.stay { top = top }))) Works
+  goes_onward : {o : Op} (base : places.Place) (top : CallFrame) (inside : Bool) → GoesOnward s o base top → Way s o (with_stay base s.key (Some (record s.stay { top = top; inside = inside }))) Works
   calls : (callee : Function) (arguments : List Value) → Passes s s.here callee arguments
       → Way s op.Call (with_stay s.place s.key (Some (record s.stay { top = entry_frame s.instr.x arguments; callers = s.stay.top ∷ s.stay.callers }))) Works
   returns : (result : Option Value) (caller : CallFrame) (callers : List CallFrame) (call : Instr) → GivesBack s s.function.result result → s.stay.callers ≡ caller ∷ callers
@@ -86,7 +86,7 @@ to {s} {o} {place} {new} {made} {effect} is effect_is way = subst (λ p. Way s o
 -- on in the function, with some exports more
 pub exporting : {s : Situation} {o : Op} {base : places.Place} {top : CallFrame} {new : places.Place} {effect : Effect} (more : List Export) → base.stays ≡ s.place.stays → base.opened ≡ s.place.opened → base.exports ≡ s.place.exports ++ more → Onward s o top
     → ContinuesAt s base top new effect → Way s o new effect
-exporting {base} {top} more stays opened exports onward d = to d.0 d.1 (goes_onward base top (record { stays = stays; opened = opened; more = more; exports = exports; onward = onward }))
+exporting {s} {base} {top} more stays opened exports onward d = to d.0 d.1 (goes_onward base top s.stay.inside (record { stays = stays; opened = opened; more = more; exports = exports; onward = onward }))
 
 -- with the heap or the lines changed alone
 pub changing : {s : Situation} {o : Op} {base : places.Place} {top : CallFrame} {new : places.Place} {effect : Effect} → base.stays ≡ s.place.stays → base.opened ≡ s.place.opened → base.exports ≡ s.place.exports → Onward s o top → ContinuesAt s base top new effect → Way s o new effect
@@ -95,6 +95,10 @@ changing {s} stays opened exports onward d = exporting [] stays opened (exports 
 -- at a place that is otherwise as it was
 pub goes_on : {s : Situation} {o : Op} {top : CallFrame} {new : places.Place} {effect : Effect} → Onward s o top → Continues s top new effect → Way s o new effect
 goes_on onward d = changing refl refl refl onward d
+
+-- inside an atomic region from then on, or not
+pub marked : {s : Situation} {o : Op} {new : places.Place} {effect : Effect} (inside : Bool) → turns o ≡ false → GoesOnInside s inside new effect → Way s o new effect
+marked {s} inside plain d = to d.0 d.1 (goes_onward s.place (next s.stay.top) inside (record { stays = refl; opened = refl; more = []; exports = sym (append-nil s.place.exports); onward = passes plain }))
 
 -- to the next instruction with a value, or to x
 pub written : {s : Situation} {o : Op} (v : Option Value) → turns o ≡ false → is_target (form_of o).x ≡ true → Onward s o (writes_or_goes s v)

@@ -15,34 +15,34 @@ use Rattle.x10_model.specs.Worlds.{World, Ideal, Steps, steps, Run, done, then, 
 use Rattle.x10_model.specs.Examples.{on_places, seven, AddWraps, LoopSetsItsSlot, TextsAreJoined, FieldIsRead, ByteIsSet, PlacesGoRound, FinishIsOpened, NumberIsPrinted, EachGroupMoves, CycleIsCopied, pair_of_objects, pair_snapshot, SevenRuns}
 use Rattle.x10_model.proofs.Events.{happens_right}
 use Rattle.std.proofs.lemmas.Option.{same_Some}
-use Rattle.x10_model.proofs.Moving.{moves}
+use Rattle.x10_model.proofs.Moving.{moves, IsAlone, nobody, and_one, is_free}
 
 -- ---- moves
 
 add_wraps : AddWraps
 unfolding int_wrap
-add_wraps = moves refl refl refl refl (record { a = lit< tt; b = lit< tt; c = lit< tt; x = tt }) (pos 9223372036854775807, pos 1, refl, refl, (refl, refl))
+add_wraps = moves refl refl (is_free _ 4 (and_one _ (nobody 4))) refl refl (record { a = lit< tt; b = lit< tt; c = lit< tt; x = tt }) (pos 9223372036854775807, pos 1, refl, refl, (refl, refl))
 
 loop_sets : LoopSetsItsSlot
-loop_sets = moves refl refl refl refl (record { a = lit< tt; b = tt; c = tt; x = tt }) (refl, refl)
+loop_sets = moves refl refl (is_free _ 4 (and_one _ (nobody 4))) refl refl (record { a = lit< tt; b = tt; c = tt; x = tt }) (refl, refl)
 
 texts_join : TextsAreJoined
-texts_join = moves refl refl refl refl (record { a = lit< tt; b = lit< tt; c = lit< tt; x = lit< tt }) (72 ∷ [], 105 ∷ [], refl, refl, (refl, refl))
+texts_join = moves refl refl (is_free _ 4 (and_one _ (nobody 4))) refl refl (record { a = lit< tt; b = lit< tt; c = lit< tt; x = lit< tt }) (72 ∷ [], 105 ∷ [], refl, refl, (refl, refl))
 
 field_read : FieldIsRead
-field_read = moves refl refl refl refl (record { a = lit< tt; b = lit< tt; c = tt; x = tt }) (5, 0, Int (pos 3) ∷ Null ∷ [], Null, refl, refl, refl, (refl, refl))
+field_read = moves refl refl (is_free _ 4 (and_one _ (nobody 4))) refl refl (record { a = lit< tt; b = lit< tt; c = tt; x = tt }) (5, 0, Int (pos 3) ∷ Null ∷ [], Null, refl, refl, refl, (refl, refl))
 
 byte_set : ByteIsSet
-byte_set = moves refl refl refl refl (record { a = lit< tt; b = lit< tt; c = lit< tt; x = lit< tt }) (5, 0 ∷ 0 ∷ [], pos 1, negsuc 0, refl, refl, refl, refl, (refl, refl))
+byte_set = moves refl refl (is_free _ 4 (and_one _ (nobody 4))) refl refl (record { a = lit< tt; b = lit< tt; c = lit< tt; x = lit< tt }) (5, 0 ∷ 0 ∷ [], pos 1, negsuc 0, refl, refl, refl, refl, (refl, refl))
 
 places_round : PlacesGoRound
-places_round = moves refl refl refl refl (record { a = lit< tt; b = lit< tt; c = tt; x = tt }) (2, refl, (refl, refl))
+places_round = moves refl refl (is_free _ 4 (and_one _ (nobody 4))) refl refl (record { a = lit< tt; b = lit< tt; c = tt; x = tt }) (2, refl, (refl, refl))
 
 finish_opens : FinishIsOpened
-finish_opens = moves refl refl refl refl (record { a = tt; b = tt; c = tt; x = tt }) (refl, refl)
+finish_opens = moves refl refl (is_free _ 4 (and_one _ (nobody 4))) refl refl (record { a = tt; b = tt; c = tt; x = tt }) (refl, refl)
 
 number_prints : NumberIsPrinted
-number_prints = moves refl refl refl refl (record { a = lit< tt; b = tt; c = tt; x = tt }) (Int (pos 7), Number (pos 7), refl, refl, (refl, refl))
+number_prints = moves refl refl (is_free _ 4 (and_one _ (nobody 4))) refl refl (record { a = lit< tt; b = tt; c = tt; x = tt }) (Int (pos 7), Number (pos 7), refl, refl, (refl, refl))
 
 pub each_group : EachGroupMoves
 each_group = record { numbers = add_wraps; control = loop_sets; text = texts_join; objects = field_read; rails = byte_set; places = places_round; activities = finish_opens; output = number_prints }
@@ -137,7 +137,7 @@ abbrev pub frame_of : ℕ → (ℕ → Option Value) → places.CallFrame
 frame_of pc registers = record { function = 0; pc = pc; registers = registers; loops = λ n. 0 }
 
 abbrev pub stay_of : places.CallFrame → places.Stay
-stay_of top = record { top = top; callers = []; finishes = []; inherited = places.root; away = false; back = None }
+stay_of top = record { top = top; callers = []; finishes = []; inherited = places.root; away = false; inside = false; back = None }
 
 abbrev pub empty_registers : ℕ → Option Value
 empty_registers = slice_get []
@@ -166,14 +166,23 @@ abbrev pub world_after : ℕ → World
 world_after zero = opening setting 0
 world_after (suc n) = record { net = net_after (world_after n).net 0 (place_after (suc n)) (effect_of n) 0; book = book_after (world_after n).book ((world_after n).book.belongs 0 0) 0 (effect_of n) 0 }
 
+first_alone : IsAlone (place_after 0).stays 0
+first_alone = and_one _ (nobody 0)
+
+second_alone : IsAlone (place_after 1).stays 0
+second_alone = and_one _ first_alone
+
+third_alone : IsAlone (place_after 2).stays 0
+third_alone = and_one _ second_alone
+
 first_move : Moves setting 0 (place_after 0) 0 (place_after 1) Works
-first_move = moves refl refl refl refl (record { a = lit< tt; b = tt; c = tt; x = lit< tt }) (pos 7, refl, (refl, refl))
+first_move = moves refl refl (is_free _ 0 first_alone) refl refl (record { a = lit< tt; b = tt; c = tt; x = lit< tt }) (pos 7, refl, (refl, refl))
 
 second_move : Moves setting 0 (place_after 1) 0 (place_after 2) Works
-second_move = moves refl refl refl refl (record { a = lit< tt; b = tt; c = tt; x = tt }) (Int (pos 7), Number (pos 7), refl, refl, (refl, refl))
+second_move = moves refl refl (is_free _ 0 second_alone) refl refl (record { a = lit< tt; b = tt; c = tt; x = tt }) (Int (pos 7), Number (pos 7), refl, refl, (refl, refl))
 
 third_move : Moves setting 0 (place_after 2) 0 (place_after 3) (Ends places.root None)
-third_move = moves refl refl refl refl (record { a = tt; b = tt; c = tt; x = tt }) (None, tt, (None, refl, refl, refl, refl))
+third_move = moves refl refl (is_free _ 0 third_alone) refl refl (record { a = tt; b = tt; c = tt; x = tt }) (None, tt, (None, refl, refl, refl, refl))
 
 first_step : Steps Ideal setting (world_after 0) 0 0 (world_after 1)
 first_step = record { old = _; new = _; effect = _; number = 0; place_is = refl; moves = first_move; allowed = tt; unused = refl; net_is = refl; book_is = refl }

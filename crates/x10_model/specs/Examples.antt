@@ -84,7 +84,7 @@ abbrev pub one_frame : (ℕ → Option Value) → CallFrame
 one_frame registers = record { function = 0; pc = 0; registers = registers; loops = λ n. 0 }
 
 abbrev pub one_stay : CallFrame → Stay
-one_stay top = record { top = top; callers = []; finishes = []; inherited = root; away = false; back = None }
+one_stay top = record { top = top; callers = []; finishes = []; inherited = root; away = false; inside = false; back = None }
 
 abbrev pub one_place : Cells → CallFrame → places.Place
 one_place cells top = record { cells = cells; exports = []; stays = with_entry (λ k. None) 4 (Some (one_stay top)); opened = 1; lines = [] }

@@ -6,7 +6,7 @@ use Rattle.x10_code.specs.declared.instr.Instr.{Instr}
 use Rattle.x10_model.specs.Modules.{Function}
 use Rattle.x10_model.specs.Ranges.{function_at}
 use Rattle.x10_model.specs.Places as places
-use Rattle.x10_model.specs.Places.{Setting, Finish, Origin, Stay, Effect, Ends, Message}
+use Rattle.x10_model.specs.Places.{Setting, Finish, Origin, Stay, IsFree, Effect, Ends, Message}
 use Rattle.x10_model.specs.Moves.{Situation, Passes, GivesBack, as_list, Moves}
 use Rattle.x10_model.specs.Wrong.{IsWrong, IsMisfit, graph_of}
 use Rattle.x10_model.specs.Deliveries.{Receives}
@@ -58,10 +58,10 @@ HasRoomAt setting here key place stay = (function : Function) (instr : Instr) �
     → slice_get function.code stay.top.pc ≡ Some instr
     → HasRoom (record { setting = setting; here = here; place = place; key = key; stay = stay; function = function; instr = instr })
 
--- a ready activity moves or goes wrong, so that none is stuck
+-- a ready activity moves or goes wrong where no other is inside an atomic region, so that none is stuck
 abbrev pub ReadyIsAbleOrWrong : Type 0
 ReadyIsAbleOrWrong = (setting : Setting) (here key : ℕ) (old : places.Place) (stay : Stay) → HasRoomAt setting here key old stay
-    → old.stays key ≡ Some stay → stay.away ≡ false
+    → old.stays key ≡ Some stay → stay.away ≡ false → IsFree old.stays key
     → ((new : places.Place) × (effect : Effect) × Moves setting here old key new effect) ⊎ IsWrong setting here old key
 
 -- there is room for a message at a place: a key is free, and a graph that is whole can be laid into new cells

@@ -1,10 +1,10 @@
 -- Logs of turns, the events that they stand for, and the history of one place.
-use Rattle.std.specs.Prelude.{◌≡◌, ℕ, true, List, [], ◌∷◌, ◌++◌, map, Option, Some, None}
+use Rattle.std.specs.Prelude.{◌≡◌, ◌⊎◌, ℕ, true, List, [], ◌∷◌, ◌++◌, map, Option, Some, None}
 use Rattle.std.specs.List.{flat_map}
 use Rattle.x10_model.specs.declared.event.Event.{Event}
 use Rattle.x10_model.specs.declared.event.Event.TheVariants.{Step, Deliver}
 use Rattle.x10_model.specs.Places as places
-use Rattle.x10_model.specs.Places.{Setting, Stay, Message, Effect}
+use Rattle.x10_model.specs.Places.{Setting, Stay, IsFree, Message, Effect}
 use Rattle.x10_model.specs.Moves.{Moves}
 use Rattle.x10_model.specs.Deliveries.{Receives}
 use Rattle.x10_model.specs.Worlds.{sent}
@@ -34,9 +34,9 @@ pub data LocalEvent : Type 0 where
   Takes : Message → LocalEvent
   TakesReport : LocalEvent
 
--- nothing is there under the key that could move
+-- nothing is there under the key that could move, or another is inside an atomic region
 abbrev pub IsIdleAt : places.Place → ℕ → Type 0
-IsIdleAt p key = (stay : Stay) → p.stays key ≡ Some stay → stay.away ≡ true
+IsIdleAt p key = (stay : Stay) → p.stays key ≡ Some stay → (stay.away ≡ true) ⊎ (IsFree p.stays key → ⊥)
 
 -- What one place does by itself, from its first state to its last, event by event, with the messages that it puts out.
 pub data Local (setting : Setting) (here : ℕ) : places.Place → List LocalEvent → List Message → places.Place → Type 0 where

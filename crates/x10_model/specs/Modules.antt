@@ -13,6 +13,7 @@ use Rattle.x10_code.specs.declared.instr.Instr.{Instr}
 use Rattle.x10_code.specs.Spelling.{IsInstr}
 use Rattle.x10_model.specs.declared.slot.Slot.{Slot}
 use Rattle.x10_model.specs.declared.version.ImageVersion.{ImageVersion}
+use Rattle.x10_model.specs.declared.version.ImageVersion.TheVariants.{One}
 
 pub record Function : Type 0 where
   pub parameters : List Slot
@@ -57,11 +58,11 @@ pub record FitsText (text : List ℕ) : Type 0 where
   pub length : length text < 2 ^ 16
   pub utf8 : IsUtf8 text
 
--- the operations that an image of a version may have
+-- the operations that an image of a version may have: those of atomic regions are new in version 2
 abbrev pub is_known : ImageVersion → Op → Bool
-is_known version op.Atomb = false
-is_known version op.Atome = false
-is_known version _ = true
+is_known One op.Atomb = false
+is_known One op.Atome = false
+is_known version op = true
 
 -- the instructions that an image of a version may have
 pub record IsInstrOf (version : ImageVersion) (i : Instr) : Type 0 where

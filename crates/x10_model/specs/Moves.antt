@@ -17,7 +17,7 @@ use Rattle.x10_model.specs.Values.{Value, Int, Place, Text, Rail, Object, Null, 
 use Rattle.x10_model.specs.Signatures.{FitsSlotAt, FitSlots, AreOfKinds}
 use Rattle.x10_model.specs.Copies.{Snapshot, Captures}
 use Rattle.x10_model.specs.Places as places
-use Rattle.x10_model.specs.Places.{Setting, Finish, CallFrame, Origin, Stay, Line, Number, Words, Export, Message, Spawn, Shift, Back, innermost}
+use Rattle.x10_model.specs.Places.{Setting, Finish, CallFrame, Origin, Stay, IsFree, Line, Number, Words, Export, Message, Spawn, Shift, Back, innermost}
 use Rattle.x10_model.specs.Places.{Effect, Waits, Works, Begins, Spawns, Shifts, Opens, Closes, Ends, with_stay, goes, next, writes}
 
 -- where an instruction is executed: the run's setting, the place with its number, the activity's key there and its
@@ -170,6 +170,7 @@ new_stay function arguments under back = record {
   finishes = [];
   inherited = under;
   away = false;
+  inside = false;
   back = back;
 }
 
@@ -207,6 +208,10 @@ SetsByte s reference bytes z w None new effect = Continues s (goes s.stay.top s.
 abbrev pub LeavesFinish : Situation → ℕ → List ℕ → places.Place → Effect → Type 0
 LeavesFinish s number finishes new effect = ((new ≡ s.place) × (effect ≡ Waits number))
     ⊎ ((new ≡ with_stay s.place s.key (Some (record s.stay { top = next s.stay.top; finishes = finishes }))) × (effect ≡ Closes number))
+
+-- goes on to the next instruction, from then on inside an atomic region or not
+abbrev pub GoesOnInside : Situation → Bool → places.Place → Effect → Type 0
+GoesOnInside s inside new effect = (new ≡ with_stay s.place s.key (Some (record s.stay { top = next s.stay.top; inside = inside }))) × (effect ≡ Works)
 
 -- ---- the operations
 
@@ -303,21 +308,22 @@ Does op.Ata s new effect = (callee : Function) × (arguments : List Value) × (t
 Does op.Finb s new effect = (new ≡ with_stay (record s.place { opened = s.place.opened + 1 }) s.key
     (Some (record s.stay { top = next s.stay.top; finishes = s.place.opened ∷ s.stay.finishes })))
     × (effect ≡ Opens s.place.opened (innermost s.here s.stay))
--- no image has an atomic region yet
-Does op.Atomb s new effect = Continues s (next s.stay.top) new effect
-Does op.Atome s new effect = Continues s (next s.stay.top) new effect
+Does op.Atomb s new effect = GoesOnInside s true new effect
+Does op.Atome s new effect = GoesOnInside s false new effect
 Does op.Fine s new effect = (number : ℕ) × (finishes : List ℕ) × (s.stay.finishes ≡ number ∷ finishes) × LeavesFinish s number finishes new effect
 -- output
 Does op.Print s new effect = (v : Value) × (line : Line) × Holds s s.instr.a v × (line_of v ≡ Some line)
     × ContinuesAt s (with_line s.place line) (next s.stay.top) new effect
 
--- The move of the activity with a key at a place: from old to new, with an effect.
+-- The move of the activity with a key at a place: from old to new, with an effect. None moves while another is inside an
+-- atomic region there.
 pub record Moves (setting : Setting) (here : ℕ) (old : places.Place) (key : ℕ) (new : places.Place) (effect : Effect) : Type 0 where
   pub stay : Stay
   pub function : Function
   pub instr : Instr
   pub is_there : old.stays key ≡ Some stay
   pub is_ready : stay.away ≡ false
+  pub is_free : IsFree old.stays key
   pub function_is : function_at setting.program stay.top.function ≡ Some function
   pub instr_is : slice_get function.code stay.top.pc ≡ Some instr
   pub in_range : IsInRange setting.program function instr

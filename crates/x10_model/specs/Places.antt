@@ -1,5 +1,5 @@
 -- Places, the activities that work on them, finishes, and the messages between places.
-use Rattle.std.specs.Prelude.{ℕ, ℤ, ◌+◌, List, [], ◌∷◌, Bool, Option, Some}
+use Rattle.std.specs.Prelude.{◌≡◌, ℕ, ℤ, ◌+◌, List, [], ◌∷◌, Bool, true, Option, Some}
 use Rattle.x10_model.specs.Maps.{with_entry}
 use Rattle.x10_model.specs.Modules.{Module}
 use Rattle.x10_model.specs.Values.{Value, Cells}
@@ -31,14 +31,15 @@ pub record Origin : Type 0 where
   pub key : ℕ
 
 -- One stay of an activity at a place: the function that it executes and those that called it, the finishes that it
--- opened and hasn't closed (the last one first), the finish that it inherited, whether it waits for an at, and where
--- its result goes if it was itself sent by an at.
+-- opened and hasn't closed (the last one first), the finish that it inherited, whether it waits for an at, whether it is
+-- inside an atomic region, and where its result goes if it was itself sent by an at.
 pub record Stay : Type 0 where
   pub top : CallFrame
   pub callers : List CallFrame
   pub finishes : List ℕ
   pub inherited : Finish
   pub away : Bool
+  pub inside : Bool
   pub back : Option Origin
 
 -- a line of output
@@ -58,6 +59,10 @@ pub record Place : Type 0 where
   pub stays : ℕ → Option Stay
   pub opened : ℕ
   pub lines : List Line
+
+-- none of the stays but that with the key is inside an atomic region
+abbrev pub IsFree : (ℕ → Option Stay) → ℕ → Type 0
+IsFree stays key = (other : ℕ) (stay : Stay) → stays other ≡ Some stay → stay.inside ≡ true → other ≡ key
 
 -- what one place sends to another: a new activity, an activity that shifts, or the result of one that shifted
 pub data Message : Type 0 where

@@ -5,7 +5,7 @@ use Rattle.x10_model.specs.declared.event.Event.TheVariants.{Step, Deliver}
 use Rattle.x10_model.specs.Maps.{with_entry, with_pair}
 use Rattle.x10_model.specs.Copies.{Snapshot}
 use Rattle.x10_model.specs.Places as places
-use Rattle.x10_model.specs.Places.{Setting, Finish, root, Stay, Message, Spawn, Shift, Back, receiver, Effect, Waits, Works, Begins, Spawns, Shifts}
+use Rattle.x10_model.specs.Places.{Setting, Finish, root, Stay, IsFree, Message, Spawn, Shift, Back, receiver, Effect, Waits, Works, Begins, Spawns, Shifts}
 use Rattle.x10_model.specs.Places.{Opens, Closes, Ends}
 use Rattle.x10_model.specs.Moves.{Moves, new_stay}
 use Rattle.x10_model.specs.Deliveries.{Receives}
@@ -204,12 +204,15 @@ pub record Delivers (setting : Setting) (w : World) (number : ℕ) (v : World) :
   pub net_is : v.net ≡ record { places = with_entry w.net.places here (Some new); posts = with_entry w.net.posts number Taken; enclosing = w.net.enclosing }
   pub book_is : v.book ≡ book_with w.book (w.book.carries number) here key message
 
--- nothing is there that could move: no such place, no such activity, or one that is away
+-- nothing is there that could move: no such place, no such activity, one that is away, or one that is kept out by another
+-- that is inside an atomic region
 pub data IsIdle (w : World) : Event → Type 0 where
   no_place : (here key : ℕ) → w.net.places here ≡ None → IsIdle w (Step here key)
   no_stay : (here key : ℕ) (place : places.Place) → w.net.places here ≡ Some place → place.stays key ≡ None → IsIdle w (Step here key)
   is_away : (here key : ℕ) (place : places.Place) (stay : Stay) → w.net.places here ≡ Some place → place.stays key ≡ Some stay → stay.away ≡ true
       → IsIdle w (Step here key)
+  is_kept_out : (here key : ℕ) (place : places.Place) (stay : Stay) → w.net.places here ≡ Some place → place.stays key ≡ Some stay
+      → (IsFree place.stays key → ⊥) → IsIdle w (Step here key)
   not_flying : (number : ℕ) → ((message : Message) → w.net.posts number ≡ Flying message → ⊥) → IsIdle w (Deliver number)
 
 -- what an event does

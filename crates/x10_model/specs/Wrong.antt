@@ -12,7 +12,7 @@ use Rattle.x10_model.specs.Values.{Value, Int, Place, Text, Rail, Object, Null, 
 use Rattle.x10_model.specs.Signatures.{FitSlots, AreOfKinds}
 use Rattle.x10_model.specs.Copies.{Snapshot, IsWhole}
 use Rattle.x10_model.specs.Places as places
-use Rattle.x10_model.specs.Places.{Setting, CallFrame, Stay, Export, Message, Spawn, Shift, Back}
+use Rattle.x10_model.specs.Places.{Setting, CallFrame, Stay, IsFree, Export, Message, Spawn, Shift, Back}
 use Rattle.x10_model.specs.Moves.{Situation, Holds, HoldsFrom, GivesBack}
 use Rattle.x10_model.specs.Deliveries.{FitsPlace, FitsFunctionAt, FitsResultAt, WaitsFor}
 
@@ -129,11 +129,12 @@ pub data IsWrongAt (s : Situation) : Type 0 where
   -- no finish is open where one is to be left
   no_finish : s.instr.op ≡ op.Fine → s.stay.finishes ≡ [] → IsWrongAt s
 
--- The activity with a key is ready, and its move goes wrong: it stands at no instruction, or at one that goes wrong.
+-- The activity with a key is ready, no other is inside an atomic region, and its move goes wrong: it stands at no
+-- instruction, or at one that goes wrong.
 pub data IsWrong (setting : Setting) (here : ℕ) (place : places.Place) (key : ℕ) : Type 0 where
-  no_instruction : (stay : Stay) → place.stays key ≡ Some stay → stay.away ≡ false → instr_at setting.program stay.top.function stay.top.pc ≡ None
+  no_instruction : (stay : Stay) → place.stays key ≡ Some stay → stay.away ≡ false → IsFree place.stays key → instr_at setting.program stay.top.function stay.top.pc ≡ None
       → IsWrong setting here place key
-  wrong_at : (stay : Stay) (function : Function) (instr : Instr) → place.stays key ≡ Some stay → stay.away ≡ false
+  wrong_at : (stay : Stay) (function : Function) (instr : Instr) → place.stays key ≡ Some stay → stay.away ≡ false → IsFree place.stays key
       → function_at setting.program stay.top.function ≡ Some function → slice_get function.code stay.top.pc ≡ Some instr
       → IsWrongAt (record { setting = setting; here = here; place = place; key = key; stay = stay; function = function; instr = instr })
       → IsWrong setting here place key

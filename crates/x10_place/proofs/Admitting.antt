@@ -36,7 +36,7 @@ use Rattle.x10_place.specs.StandsFor.{Far, context_of, PlaceState, place_of, pla
 use Rattle.x10_place.proofs.Booking.{without, booked_as}
 use Rattle.x10_place.proofs.Fitting.{arrived_grows, homes_named, values_fit, entered_stands}
 use Rattle.x10_place.proofs.Growing.{exports_kept}
-use Rattle.x10_place.proofs.Placing.{open_first}
+use Rattle.x10_place.proofs.Placing.{open_first, region_first}
 use Rattle.x10_place.proofs.Rebuilt.{admitted}
 
 -- how much room there is for stays changes nothing
@@ -72,6 +72,7 @@ launched_placed program l callee words c image is h =
       top = record { function = callee; is_function = there; pc = omega (arith, e.pc_is, long); registers = omega (arith, enough, count) };
       callers = subst (λ fs. AreCalling program fs c.top.function) (sym h.callers) tt;
       finishes = ap length h.finishes ∙ sym (ap₂ (λ m n. m + n) (ap (open_in program) h.callers) (open_first program c.top e.pc_is));
+      region = h.inside ∙ sym (region_first program c.top e.pc_is);
     }
 
 -- the finish is one of a place of the run, and so is the stay that waits
@@ -118,6 +119,7 @@ module _ (far : Far) (p : PlaceState) (m : machine.Place) (stands : StandsFor fa
     finishes = sym h.launched.finishes;
     inherited = sym h.launched.inherited;
     away = sym h.launched.away;
+    inside = sym h.launched.inside;
     back = sym h.launched.back;
     run = run_of;
   }

@@ -20,7 +20,7 @@ use Rattle.x10_place.specs.declared.stay.Spot.{Spot}
 use Rattle.x10_place.specs.Frames.{IsInside, IsFetchedFor}
 use Rattle.x10_place.specs.Routes.{route_of}
 use Rattle.x10_place.specs.Stays.{StayState, StoreState, IsDoneHere, ClosesFinish, location, ReadsStore, OverfillsBy, Refuses, Steps}
-use Rattle.x10_place.specs.StandsFor.{PlaceState, place_of, plain, location_of, IsStanding, LeadsAll, IsIdleAt, nobody, away, waits, IsOverfull, IsHindered, Overfills}
+use Rattle.x10_place.specs.StandsFor.{PlaceState, place_of, plain, location_of, IsStanding, LeadsAll, IsIdleAt, nobody, away, waits, IsOverfull, IsHindered, Overfills, AreOutside, kept_out}
 use Rattle.x10_place.specs.declared.sent.Sent.{Sent}
 use Rattle.x10_place.specs.Messages.{no_sent}
 use Rattle.x10_place.specs.Stretches.{still, IsUntouched, IsForPlace, IsMade, IsAdvanced}
@@ -73,7 +73,7 @@ module _ (v : Certified) (old : Slab StayState) (s : StoreState) (key : ℕ) (st
     places = refl;
   }
 
-  module _ (a : StayState) (e : get old key ≡ Some a) (ready : a.away ≡ false) (i : Instr) (fetched : IsFetchedFor v.program a.top i) where
+  module _ (a : StayState) (e : get old key ≡ Some a) (ready : a.away ≡ false) (outside : AreOutside old key) (i : Instr) (fetched : IsFetchedFor v.program a.top i) where
     -- the instruction at which the stay stands
     instr_is : (j : Instr) → instr_at v.program a.top.function a.top.pc ≡ Some j → j ≡ i
     instr_is j at = same_Some j i (sym at ∙ subst (λ o. instr_in o a.top.pc ≡ Some i) (sym fetched.is_function) fetched.is_instr)
@@ -89,7 +89,8 @@ module _ (v : Certified) (old : Slab StayState) (s : StoreState) (key : ℕ) (st
     idle_waits : (stopped : Bool) → IsIdleAt (place stopped) key → IsWaiting
     idle_waits stopped (nobody none) = absurd (none_some (get old key) a none e)
     idle_waits stopped (away b is gone) = absurd (let same = same_Some b a (sym is ∙ e) in let f : true ≡ false = sym gone ∙ subst (λ (c : StayState). c.away ≡ false) (sym same) ready in cc)
-    idle_waits stopped (waits b number outer is fine innermost not_done) =
+    idle_waits stopped (kept_out other inside apart) = absurd (apart (outside other inside))
+    idle_waits stopped (waits b number outer is free fine innermost not_done) =
         let same = same_Some b a (sym is ∙ e) in
         let at = subst (λ (c : StayState). instr_at v.program c.top.function c.top.pc ≡ Some fine.0) same fine.1 in
         record { is_fine = subst (λ (j : Instr). j.op ≡ op.Fine) (instr_is fine.0 at) fine.2; number = number; outer = outer; innermost = subst (λ (c : StayState). c.finishes ≡ number ∷ outer) same innermost; not_done = not_done }
@@ -119,6 +120,7 @@ module _ (v : Certified) (old : Slab StayState) (s : StoreState) (key : ℕ) (st
     overfills_by stopped route.Call ne off limit h = h
     overfills_by stopped route.Return ne off limit h = h
     overfills_by stopped route.Print ne off limit h = h
+    overfills_by stopped (route.Region inside) ne off limit h = h
     overfills_by stopped route.OpenFinish ne off limit h = h
     overfills_by stopped route.CloseFinish ne off limit h = h
 
@@ -135,7 +137,7 @@ module _ (v : Certified) (old : Slab StayState) (s : StoreState) (key : ℕ) (st
     advanced_goes new b t steps up full =
         let here = (registered_after (location_of (place false)) a b s t i (working_at (place false) key a standing e ready).registered steps).here in
         let places = (registered_after (location_of (place false)) a b s t i (working_at (place false) key a standing e ready).registered steps).places in
-        let leads = λ (stopped : Bool). subst (λ q. LeadsAll (place stopped) key (stepped.Moved no_sent) q) (seen_after v old new s t stopped here places) (step_leads (place stopped) key a i e checks ready fetched new t b steps (plain_updates up)) in
+        let leads = λ (stopped : Bool). subst (λ q. LeadsAll (place stopped) key (stepped.Moved no_sent) q) (seen_after v old new s t stopped here places) (step_leads (place stopped) key a i e checks ready outside fetched new t b steps (plain_updates up)) in
         record {
           idle = λ stopped h. absurd (goes_on b t (idle_waits stopped h) steps);
           only = λ stopped f. absurd cc;
@@ -153,8 +155,8 @@ module _ (v : Certified) (old : Slab StayState) (s : StoreState) (key : ℕ) (st
     -- and has changed nothing
     pub waits_here : (new : Slab StayState) (b : StayState) (t : StoreState) → Steps (route_of i.op) (location_of (place false)) a s i outcome.Waits b t → (stopped : Bool) → IsIdleAt (place stopped) key
     waits_here new b t steps stopped =
-        let by = waits_by (place false) key a i e checks ready fetched (route_of i.op) t b steps in
-        waits a by.1.number by.1.outer e (i, subst (λ o. instr_in o a.top.pc ≡ Some i) (sym fetched.is_function) fetched.is_instr, is_close_finish i.op by.0) by.1.innermost by.1.waits
+        let by = waits_by (place false) key a i e checks ready outside fetched (route_of i.op) t b steps in
+        waits a by.1.number by.1.outer e outside (i, subst (λ o. instr_in o a.top.pc ≡ Some i) (sym fetched.is_function) fetched.is_instr, is_close_finish i.op by.0) by.1.innermost by.1.waits
 
     pub advanced_waits : (new : Slab StayState) (b : StayState) (t : StoreState) → Steps (route_of i.op) (location_of (place false)) a s i outcome.Waits b t → plain new ≡ plain old → t ≡ s → ((limit : ℕ) → OverfillsBy (route_of i.op) a s i limit → ⊥) → IsAdvanced v old s key (Ok stepped.Idle) new t
     advanced_waits new b t steps stays store full =
@@ -163,7 +165,7 @@ module _ (v : Certified) (old : Slab StayState) (s : StoreState) (key : ℕ) (st
           idle = λ stopped h. (refl, same);
           only = λ stopped f. waits_here new b t steps stopped;
           some = λ stopped c is on. subst (λ (slab : Slab StayState). LeadsAll (place stopped) key stepped.Idle (record (place_of v new t stopped) { stays = slab })) (sym stays)
-              (subst (λ u. LeadsAll (place stopped) key stepped.Idle (place_of v old u stopped)) (sym store) (wait_leads (place stopped) key a i e checks ready fetched t b steps));
+              (subst (λ u. LeadsAll (place stopped) key stepped.Idle (place_of v old u stopped)) (sym store) (wait_leads (place stopped) key a i e checks ready outside fetched t b steps));
           refused = λ stopped. tt;
           same = tt;
           full = λ stopped limit over. absurd (none_over outcome.Waits b t (λ f. absurd cc) steps full stopped limit over);
@@ -172,10 +174,14 @@ module _ (v : Certified) (old : Slab StayState) (s : StoreState) (key : ℕ) (st
           places = ap (λ (u : StoreState). u.places) store;
         }
 
+    -- it has changed nothing
+    pub waits_same : (b : StayState) (t : StoreState) → Steps (route_of i.op) (location_of (place false)) a s i outcome.Waits b t → with_value old key b ≡ old
+    waits_same b t steps = (let by = waits_by (place false) key a i e checks ready outside fetched (route_of i.op) t b steps in ap (with_value old key) by.1.stay ∙ with_same old key a e)
+
     -- as the stay leaves it
     pub advanced_left : (b : StayState) (t : StoreState) → Steps (route_of i.op) (location_of (place false)) a s i outcome.Waits b t → ((limit : ℕ) → OverfillsBy (route_of i.op) a s i limit → ⊥) → IsAdvanced v old s key (Ok stepped.Idle) (with_value old key b) t
     advanced_left b t steps full =
-        let by = waits_by (place false) key a i e checks ready fetched (route_of i.op) t b steps in
+        let by = waits_by (place false) key a i e checks ready outside fetched (route_of i.op) t b steps in
         advanced_waits (with_value old key b) b t steps (ap plain (ap (with_value old key) by.1.stay ∙ with_same old key a e)) by.1.store full
 
     -- ---- it is refused
@@ -191,7 +197,7 @@ module _ (v : Certified) (old : Slab StayState) (s : StoreState) (key : ℕ) (st
           idle = λ stopped h. absurd (not_refused why (idle_waits stopped h) refuses);
           only = λ stopped f. absurd cc;
           some = λ stopped c is on. tt;
-          refused = λ stopped. hindered (place stopped) key a e ready i fetched why refuses;
+          refused = λ stopped. hindered (place stopped) key a e ready outside i fetched why refuses;
           same = same;
           full = λ stopped limit over. ap Err (full limit (overfills_by stopped (route_of i.op) (not_begin (route_of i.op) refuses) (not_send (route_of i.op) refuses) limit (overfills stopped limit over)));
           standing = still_standing v old new s t same standing;
@@ -212,11 +218,11 @@ module _ (v : Certified) (old : Slab StayState) (s : StoreState) (key : ℕ) (st
       same_stay : (b ≡ a) × (t ≡ s)
       same_stay = left_unchanged (location_of (place false)) a a b s s t 0 i still (working_at (place false) key a standing e ready).typed.stands.placed fetched (route_of i.op) steps
 
-      handed : (with_value old key b ≡ old) × (t ≡ s)
+      pub handed : (with_value old key b ≡ old) × (t ≡ s)
       handed = (ap (with_value old key) same_stay.0 ∙ with_same old key a e, same_stay.1)
 
       here_for : IsForPlace v old s key i
-      here_for = record { standing = standing; stay = a; is_there = e; ready = ready; fetched = fetched; steps = subst (λ c. Steps (route_of i.op) (location_of (place false)) a s i outcome.ForPlace c s) same_stay.0 (subst (λ u. Steps (route_of i.op) (location_of (place false)) a s i outcome.ForPlace b u) same_stay.1 steps) }
+      here_for = record { standing = standing; stay = a; is_there = e; ready = ready; outside = outside; fetched = fetched; steps = subst (λ c. Steps (route_of i.op) (location_of (place false)) a s i outcome.ForPlace c s) same_stay.0 (subst (λ u. Steps (route_of i.op) (location_of (place false)) a s i outcome.ForPlace b u) same_stay.1 steps) }
 
       pub for_place : (j : Instr) × IsForPlace v (with_value old key b) t key j
       for_place = (i, subst (λ (slab : Slab StayState). IsForPlace v slab t key i) (sym handed.0) (subst (λ u. IsForPlace v old u key i) (sym handed.1) here_for))

@@ -10,7 +10,7 @@ use Rattle.x10_place.specs.declared.place.Stepped.TheVariants as stepped
 use Rattle.x10_place.specs.declared.sent.Sent.{Sent}
 use Rattle.x10_place.specs.Messages.{no_sent}
 use Rattle.x10_place.specs.Stays.{StayState, StoreState}
-use Rattle.x10_place.specs.StandsFor.{PlaceState, place_of, IsStanding, LeadsAll, IsIdleAt, IsOverfull, IsHindered}
+use Rattle.x10_place.specs.StandsFor.{PlaceState, place_of, IsStanding, LeadsAll, IsIdleAt, IsOverfull, IsHindered, inside_at, AreOutside, kept_out}
 use Rattle.x10_place.specs.Stretches.{IsUntouched, IsAdvanced, IsRun, Strides, StridesTo, BeginsLast, at_once}
 use Rattle.x10_place.proofs.Striding.{stopped_standing, same_stopped}
 
@@ -18,6 +18,15 @@ use Rattle.x10_place.proofs.Striding.{stopped_standing, same_stopped}
 same_place : (v : Certified) (old new : Slab StayState) (s t : StoreState) (b c : Bool) → IsUntouched old s new t → c ≡ b → place_of v new t c ≡ place_of v old s b
 same_place v old new s t b c same e =
     ap (λ (slab : Slab StayState). record (place_of v new t c) { stays = slab }) same.stays ∙ ap₂ (λ u d. place_of v old u d) same.store e
+
+-- ---- a step that is kept out
+
+module _ (w : PlaceState) (key : ℕ) (out : (other : ℕ) × (inside_at w.stays other ≡ true) × (other ≢ key)) where
+  pub out_idle : IsIdleAt w key
+  out_idle = kept_out out.0 out.1 out.2
+
+  pub out_not : AreOutside w.stays key → ⊥
+  out_not outside = out.2 (outside out.0 out.1)
 
 -- ---- one step
 

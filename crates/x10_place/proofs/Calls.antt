@@ -180,6 +180,7 @@ module _ (setting : Setting) (here : ℕ) (far : Far) (m : machine.Place) (key :
           finishes = h.finishes ∙ ap (λ (y : StayState). y.finishes) (sym calls.rest);
           inherited = h.inherited ∙ ap (λ (y : StayState). y.inherited) (sym calls.rest);
           away = h.away ∙ ap (λ (y : StayState). y.away) (sym calls.rest);
+          inside = h.inside ∙ ap (λ (y : StayState). y.inside) (sym calls.rest);
           back = h.back ∙ ap (λ (y : StayState). y.back) (sym calls.rest);
           run = subst (λ (y : StayState). IsOfRun setting.places y) (sym calls.rest) (record { inherited = h.run.inherited; back = h.run.back });
         },
@@ -216,6 +217,7 @@ module _ (setting : Setting) (here : ℕ) (far : Far) (m : machine.Place) (key :
           finishes = sym begun.finishes;
           inherited = under ∙ sym begun.inherited;
           away = sym begun.away;
+          inside = sym begun.inside;
           back = sym begun.back;
           run = record { inherited = subst (λ (f : Finish). (f.home < setting.places) × (f.number < 2 ^ 32)) (sym begun.inherited) (innermost_home a.inherited a.finishes within h.run.inherited.0, few); back = λ origin e. absurd (let none = begun.back in cc) };
         };

@@ -50,7 +50,7 @@ use Rattle.x10_place.proofs.Fitting.{arrived_grows, homes_named, values_fit}
 use Rattle.x10_place.proofs.Framed.{point_of, in_range, small, count, rule, frame_after}
 use Rattle.x10_place.proofs.Growing.{frame_kept, callers_kept, exports_kept}
 use Rattle.x10_place.proofs.Homes.{homes_written, slot_like}
-use Rattle.x10_place.proofs.Placing.{IsChecked, inside_next, inside_with, fetched_inside, open_onward}
+use Rattle.x10_place.proofs.Placing.{IsChecked, inside_next, inside_with, fetched_inside, open_onward, region_onward}
 use Rattle.x10_place.proofs.Rebuilt.{admitted}
 use Rattle.x10_place.proofs.Words.{reads, words_written}
 
@@ -91,10 +91,12 @@ back_placed program checks words a b call fetched is placed h =
     let on = gone_on program words a.top b.top call fetched is h.goes in
     let callers : b.callers ≡ a.callers = ap (λ (x : StayState). x.callers) h.rest in
     let stood = open_onward program checks a.top call fetched b.top on.function_is on.pc_is (λ e. absurd (let f = sym is ∙ e in cc)) (λ e. absurd (let f = sym is ∙ e in cc)) in
+    let kept = region_onward program checks a.top call fetched b.top on.function_is on.pc_is (λ e. absurd (let f = sym is ∙ e in cc)) (λ e. absurd (let f = sym is ∙ e in cc)) in
     record {
       top = on.inside;
       callers = subst (λ fs. AreCalling program fs b.top.function) (sym callers) (subst (λ n. AreCalling program a.callers n) (sym on.function_is) placed.callers);
       finishes = ap length (ap (λ (x : StayState). x.finishes) h.rest) ∙ placed.finishes ∙ ap₂ (λ m n. m + n) (ap (open_in program) (sym callers)) (sym stood);
+      region = ap (λ (x : StayState). x.inside) h.rest ∙ placed.region ∙ sym kept;
     }
 
 -- ---- its frame
@@ -208,6 +210,7 @@ module _ (far : Far) (p : PlaceState) (m : machine.Place) (stands : StandsFor fa
     finishes = found.2.finishes ∙ ap (λ (q : StayState). q.finishes) (sym h.goes.rest);
     inherited = found.2.inherited ∙ ap (λ (q : StayState). q.inherited) (sym h.goes.rest);
     away = ap (λ (q : StayState). q.away) (sym h.goes.rest);
+    inside = found.2.inside ∙ ap (λ (q : StayState). q.inside) (sym h.goes.rest);
     back = found.2.back ∙ ap (λ (q : StayState). q.back) (sym h.goes.rest);
     run = subst (λ (q : StayState). IsOfRun p.places q) (sym h.goes.rest) (record { inherited = found.2.run.inherited; back = found.2.run.back });
   }

@@ -36,7 +36,7 @@ use Rattle.x10_place.specs.Sending.{slots_of_call, words_from}
 use Rattle.x10_place.specs.Parting.{head_sent, DepartsBy, DepartsAt}
 use Rattle.x10_place.specs.Messages.{IsMessageSent, PutsOut}
 use Rattle.x10_place.specs.Stays.{StayState, StoreState, totals_in, books_in, innermost_at, changed_at, Recounts, GoesNext}
-use Rattle.x10_place.specs.StandsFor.{Far, context, context_of, PlaceState, store_of, with_stays, line_as, StandsForStay, StandForCallers, IsOfRun, HoldsExports, StandsFor, setting_of, IsCountedBy, Leads, LeadsAll}
+use Rattle.x10_place.specs.StandsFor.{Far, context, context_of, PlaceState, store_of, with_stays, line_as, StandsForStay, StandForCallers, IsOfRun, HoldsExports, StandsFor, setting_of, IsCountedBy, Leads, LeadsAll, AreOutside}
 use Rattle.std.proofs.lemmas.Bool.{cases_lt}
 use Rattle.x10_place.proofs.Words.{reads}
 use Rattle.x10_place.proofs.Framed.{point_of, in_range, small, count, rule}
@@ -48,8 +48,9 @@ use Rattle.x10_place.proofs.Placing.{IsChecked, is_send, next_placed}
 use Rattle.x10_place.proofs.Recounting.{KeepsBooks, counted_in, spawns_count, shifts_count}
 use Rattle.x10_place.proofs.Texts.{adds_none}
 use Rattle.x10_place.proofs.Steps.{moves, rebuilt, keys_one, keyed_one}
+use Rattle.x10_place.proofs.Insides.{free_of}
 
-module _ (far : Far) (p : PlaceState) (m : machine.Place) (stands : StandsFor far p m) (key : ℕ) (out : Sent) (slab : Slab StayState) (t : StoreState) (checks : IsChecked p.program) (d : DepartsAt p.program p.stays (store_of p) key out slab t) (ready : d.stay.away ≡ false) where
+module _ (far : Far) (p : PlaceState) (m : machine.Place) (stands : StandsFor far p m) (key : ℕ) (out : Sent) (slab : Slab StayState) (t : StoreState) (checks : IsChecked p.program) (d : DepartsAt p.program p.stays (store_of p) key out slab t) (ready : d.stay.away ≡ false) (outside : AreOutside p.stays key) where
   abbrev a : StayState
   a = d.stay
 
@@ -102,7 +103,7 @@ module _ (far : Far) (p : PlaceState) (m : machine.Place) (stands : StandsFor fa
   departed dep =
       let new = with_stay m key (Some dep.after) in
       let r = d.store in
-      let moved = moves (setting_of p) p.id far m key stands.assigned (store_of p) a s h i d.fetched new dep.effect ready (stands.some key a d.is_there).1 dep.does in
+      let moved = moves (setting_of p) p.id far m key stands.assigned (store_of p) a s h i d.fetched new dep.effect ready (free_of far p m key stands outside) (stands.some key a d.is_there).1 dep.does in
       let grows = subst (λ n. Grows x (context (setting_of p) p.id n far)) (sym r.heap) (grows_not x) in
       let stay = subst (λ n. StandsForStay p.program stands.assigned (context (setting_of p) p.id n far) d.next dep.after) (sym r.heap) dep.goes_on in
       record {
@@ -179,12 +180,13 @@ module _ (far : Far) (p : PlaceState) (m : machine.Place) (stands : StandsFor fa
 
   waits_there : d.next ≡ record a { away = true } → StandsForStay p.program stands.assigned x d.next (record s { away = true })
   waits_there e = subst (λ b. StandsForStay p.program stands.assigned x b (record s { away = true })) (sym e) (record {
-    placed = record { top = h.placed.top; callers = h.placed.callers; finishes = h.placed.finishes };
+    placed = record { top = h.placed.top; callers = h.placed.callers; finishes = h.placed.finishes; region = h.placed.region };
     top = h.top;
     callers = h.callers;
     finishes = h.finishes;
     inherited = h.inherited;
     away = refl;
+    inside = h.inside;
     back = h.back;
     run = record { inherited = h.run.inherited; back = h.run.back };
   })
@@ -239,6 +241,7 @@ module _ (far : Far) (p : PlaceState) (m : machine.Place) (stands : StandsFor fa
     finishes = h.finishes ∙ ap (λ (q : StayState). q.finishes) (sym rest);
     inherited = h.inherited ∙ ap (λ (q : StayState). q.inherited) (sym rest);
     away = h.away ∙ ap (λ (q : StayState). q.away) (sym rest);
+    inside = h.inside ∙ ap (λ (q : StayState). q.inside) (sym rest);
     back = h.back ∙ ap (λ (q : StayState). q.back) (sym rest);
     run = subst (λ (q : StayState). IsOfRun p.places q) (sym rest) (record { inherited = h.run.inherited; back = h.run.back });
   }
@@ -287,5 +290,5 @@ module _ (far : Far) (p : PlaceState) (m : machine.Place) (stands : StandsFor fa
   leads_departing = elim (is_send i.op d.route_is) [ inl e ↦ departed (shifts e) | inr e ↦ departed (spawns e) ]
 
 -- each place of the machine makes the step
-pub depart_leads : (p : PlaceState) (key : ℕ) (out : Sent) (slab : Slab StayState) (t : StoreState) → IsChecked p.program → (d : DepartsAt p.program p.stays (store_of p) key out slab t) → d.stay.away ≡ false → LeadsAll p key (stepped.Moved out) (with_stays p slab t)
-depart_leads p key out slab t checks d ready far m stands = leads_departing far p m stands key out slab t checks d ready
+pub depart_leads : (p : PlaceState) (key : ℕ) (out : Sent) (slab : Slab StayState) (t : StoreState) → IsChecked p.program → (d : DepartsAt p.program p.stays (store_of p) key out slab t) → d.stay.away ≡ false → AreOutside p.stays key → LeadsAll p key (stepped.Moved out) (with_stays p slab t)
+depart_leads p key out slab t checks d ready outside far m stands = leads_departing far p m stands key out slab t checks d ready outside

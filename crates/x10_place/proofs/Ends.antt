@@ -166,6 +166,7 @@ module _ (setting : Setting) (here : ℕ) (far : Far) (m : machine.Place) (key :
           finishes = h.finishes ∙ ap (λ (y : StayState). y.finishes) (sym r.rest);
           inherited = h.inherited ∙ ap (λ (y : StayState). y.inherited) (sym r.rest);
           away = h.away ∙ ap (λ (y : StayState). y.away) (sym r.rest);
+          inside = h.inside ∙ ap (λ (y : StayState). y.inside) (sym r.rest);
           back = h.back ∙ ap (λ (y : StayState). y.back) (sym r.rest);
           run = subst (λ (y : StayState). IsOfRun setting.places y) (sym r.rest) (record { inherited = h.run.inherited; back = h.run.back });
         },

@@ -72,7 +72,7 @@ module _ (program : Module) (s : StoreState) (f : Frame) (l : Launch) (fits : Fi
   pub launches : (old new : Slab StayState) (t : StoreState) (roots : List ℕ) (n key count : ℕ) (top : CallFrame) (callers : List CallFrame) (numbers : List ℕ) → IsOpenHere s (finish_as l.under) → Settles s (graph_of f) l roots t
       → ((m : Module) (here home : ℕ) (slots : List Slot) → FitsArrival m here home s.heap slots (snapshot_of (graph_of f)) → IsTakenIn m here s.heap slots f roots t.heap)
       → n ≡ sig.registers → n ≤ count → get old key ≡ None → key < 4294967296 → IsEnteredWith l.function count roots top → callers ≡ [] → numbers ≡ []
-      → Updates old new key (Some (record { top = top; callers = callers; finishes = reverse numbers; inherited = finish_as l.under; away = false; back = origin_as l.back })) → Launches program old s f l new t
+      → Updates old new key (Some (record { top = top; callers = callers; finishes = reverse numbers; inherited = finish_as l.under; away = false; inside = false; back = origin_as l.back })) → Launches program old s f l new t
   launches old new t roots n key count top callers numbers is_open settles taken e le free few entered no_callers no_finishes added = record {
     callee = fits.callee;
     begins = fits.begins;
@@ -84,7 +84,7 @@ module _ (program : Module) (s : StoreState) (f : Frame) (l : Launch) (fits : Fi
     key = key;
     free = free;
     few = few;
-    child = record { top = top; callers = callers; finishes = reverse numbers; inherited = finish_as l.under; away = false; back = origin_as l.back };
-    launched = record { count = count; registers = registers_enough n count e le; entered = entered; callers = no_callers; finishes = ap reverse no_finishes; inherited = refl; away = refl; back = refl };
+    child = record { top = top; callers = callers; finishes = reverse numbers; inherited = finish_as l.under; away = false; inside = false; back = origin_as l.back };
+    launched = record { count = count; registers = registers_enough n count e le; entered = entered; callers = no_callers; finishes = ap reverse no_finishes; inherited = refl; away = refl; inside = refl; back = refl };
     added = added;
   }

@@ -120,7 +120,6 @@ module _ (program : Module) (index at count : ℕ) (i : Instr) (h : IsFetched pr
   asks_of local.Home n = (there n.0, there n.1)
   asks_of local.Open n = (there n.0, there n.1)
   asks_of local.SamePlace n = (there n.0, there n.1, target n.3)
-  asks_of local.Next n = tt
   asks_of local.Jump n = target n.3
   asks_of local.JumpIfZero n = (there n.0, target n.3)
   asks_of local.Loop n = slot n.0
@@ -276,7 +275,6 @@ module _ (i : Instr) (P : ℕ → Type 0) (jump : is_target (form_of i.op).x ≡
     within_by local.Home w acts target = lands w _ _ _ _ acts next (simp length-set refl)
     within_by local.Open w acts target = lands w _ _ _ _ acts.2 next (simp length-set refl)
     within_by local.SamePlace w acts target = lands w _ _ _ _ acts (or_next (are_same v.words i.a i.b) i.x (v.pc + 1) target next) refl
-    within_by local.Next w acts target = lands w _ _ _ _ acts next refl
     within_by local.Jump w acts target = lands w _ _ _ _ acts target refl
     within_by local.JumpIfZero w acts target = lands w _ _ _ _ acts (next_or (is_zero (int_at v.words i.a)) i.x (v.pc + 1) target next) refl
     within_by local.Loop w acts target = lands w _ _ _ _ acts next refl

@@ -41,7 +41,6 @@ local_form local.Place = form Register Unused Unused Place
 local_form local.Home = form Register Register Unused Unused
 local_form local.Open = form Register Register Unused Unused
 local_form local.SamePlace = form Register Register Unused Target
-local_form local.Next = form Unused Unused Unused Unused
 local_form local.Jump = form Unused Unused Unused Target
 local_form local.JumpIfZero = form Register Unused Unused Target
 local_form local.Loop = form Slot Unused Unused Count

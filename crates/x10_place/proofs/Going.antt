@@ -1,5 +1,5 @@
 -- A step after which a stay goes on: the stay of the machine that it stands for makes it too.
-use Rattle.std.proofs.Common.{◌≡◌, ℕ, ◌+◌, false, List, [], ◌∷◌, ◌++◌, map, Option, Some, None, refl, sym, ap, ap₂, subst, ◌∙◌, inr}
+use Rattle.std.proofs.Common.{◌≡◌, ℕ, ◌+◌, Bool, true, false, List, [], ◌∷◌, ◌++◌, map, Option, Some, None, refl, sym, ap, ap₂, subst, ◌∙◌, inr}
 use Rattle.x10_code.specs.declared.op.Op.{Op}
 use Rattle.x10_code.specs.declared.op.Op.TheVariants as op
 use Rattle.x10_code.specs.declared.instr.Instr.{Instr}
@@ -23,7 +23,7 @@ use Rattle.x10_place.specs.declared.route.Route.TheVariants as route
 use Rattle.x10_place.specs.Frames.{space_of, IsFetchedFor, Acts}
 use Rattle.x10_place.specs.Routes.{route_of}
 use Rattle.x10_place.specs.declared.stay.Outcome.TheVariants as outcome
-use Rattle.x10_place.specs.Stays.{StayState, StoreState, Location, books_in, GoesNext, IsPlaced, Prints, OpensFinish, ClosesFinish, Steps}
+use Rattle.x10_place.specs.Stays.{StayState, StoreState, Location, books_in, GoesNext, IsPlaced, Prints, GoesOnInside, OpensFinish, ClosesFinish, Steps}
 use Rattle.x10_place.specs.StandsFor.{Far, context, line_as, Assigned, StandsForFrame, StandForCallers, IsOfRun, StandsForStay, HoldsExports, IsWithinPlaces, IsCountedBy, IsTyped, IsTypedFrame}
 use Rattle.x10_place.proofs.Framed.{point_of, rule}
 use Rattle.x10_place.proofs.Growing.{callers_kept}
@@ -33,7 +33,7 @@ use Rattle.x10_place.proofs.Sited.{site_moves, export_moves}
 use Rattle.x10_place.proofs.Calls.{call_moves}
 use Rattle.x10_place.proofs.Ends.{ret_resumes, print_moves, next_stands}
 use Rattle.x10_place.proofs.Recounting.{Unopened, same_count, heap_alone, works_count, opens_count, closes_count, KeepsBooks, works_books, IsSilent, silent_works, silent_opens, silent_closes}
-use Rattle.x10_place.proofs.Placing.{IsChecked, is_export, is_call, is_return, is_print, is_open_finish, is_close_finish, steps_placed}
+use Rattle.x10_place.proofs.Placing.{IsChecked, is_export, is_call, is_return, is_print, is_enter, is_leave, is_open_finish, is_close_finish, steps_placed}
 
 one_more : (lines : List Line) (l : Line) → map line_as (lines ++ l ∷ []) ≡ map line_as lines ++ line_as l ∷ []
 one_more [] l = refl
@@ -90,6 +90,7 @@ module _ (setting : Setting) (here : ℕ) (far : Far) (m : machine.Place) (key :
     finishes = h.finishes ∙ ap (λ (q : StayState). q.finishes) (sym rest);
     inherited = h.inherited ∙ ap (λ (q : StayState). q.inherited) (sym rest);
     away = h.away ∙ ap (λ (q : StayState). q.away) (sym rest);
+    inside = h.inside ∙ ap (λ (q : StayState). q.inside) (sym rest);
     back = h.back ∙ ap (λ (q : StayState). q.back) (sym rest);
     run = subst (λ (q : StayState). IsOfRun setting.places q) (sym rest) (record { inherited = h.run.inherited; back = h.run.back });
   }
@@ -162,6 +163,26 @@ module _ (setting : Setting) (here : ℕ) (far : Far) (m : machine.Place) (key :
           silent = silent_works;
         })
 
+    -- the stay goes on to the next instruction, inside an atomic region or not
+    marked : (inside : Bool) → out ≡ onward (point_of setting.program h.top.function a.top i) h.top.state → GoesOnInside inside a b → StandsForStay setting.program assigned x b (record s { top = next s.top; inside = inside })
+    marked inside is made = record {
+      placed = placed;
+      top = next_stands setting here far m key s assigned st.heap held spot.few a h i fetched b out is edges made.top;
+      callers = subst (λ fs. StandForCallers setting.program assigned x fs s.callers) (sym (ap (λ (q : StayState). q.callers) made.rest)) h.callers;
+      finishes = h.finishes ∙ ap (λ (q : StayState). q.finishes) (sym made.rest);
+      inherited = h.inherited ∙ ap (λ (q : StayState). q.inherited) (sym made.rest);
+      away = h.away ∙ ap (λ (q : StayState). q.away) (sym made.rest);
+      inside = ap (λ (q : StayState). q.inside) (sym made.rest);
+      back = h.back ∙ ap (λ (q : StayState). q.back) (sym made.rest);
+      run = subst (λ (q : StayState). IsOfRun setting.places q) (sym made.rest) (record { inherited = h.run.inherited; back = h.run.back });
+    }
+
+    enters : i.op ≡ op.Atomb → GoesOnInside true a b → t ≡ st → Goes op.Atomb b t
+    enters e made same = from_stay op.Atomb (record s { top = next s.top; inside = true }) (refl, refl) (marked true (permits_at op.Atomb e) made) same
+
+    leaves : i.op ≡ op.Atome → GoesOnInside false a b → t ≡ st → Goes op.Atome b t
+    leaves e made same = from_stay op.Atome (record s { top = next s.top; inside = false }) (refl, refl) (marked false (permits_at op.Atome e) made) same
+
     -- the stay goes on to the next instruction with other finishes open, and the heap is as it was
     with_finishes : (heap : t.heap ≡ st.heap) (ns : List ℕ) → out ≡ onward (point_of setting.program h.top.function a.top i) h.top.state → GoesNext a.top b.top → b ≡ record a { top = b.top; finishes = ns } → StandsForStay setting.program assigned (y t.heap) b (record s { top = next s.top; finishes = ns })
     with_finishes heap ns is goes rest = subst (λ n. StandsForStay setting.program assigned (y n) b (record s { top = next s.top; finishes = ns })) (sym heap) (record {
@@ -171,6 +192,7 @@ module _ (setting : Setting) (here : ℕ) (far : Far) (m : machine.Place) (key :
       finishes = ap (λ (q : StayState). q.finishes) (sym rest);
       inherited = h.inherited ∙ ap (λ (q : StayState). q.inherited) (sym rest);
       away = h.away ∙ ap (λ (q : StayState). q.away) (sym rest);
+      inside = h.inside ∙ ap (λ (q : StayState). q.inside) (sym rest);
       back = h.back ∙ ap (λ (q : StayState). q.back) (sym rest);
       run = subst (λ (q : StayState). IsOfRun setting.places q) (sym rest) (record { inherited = h.run.inherited; back = h.run.back });
     })
@@ -244,6 +266,8 @@ module _ (setting : Setting) (here : ℕ) (far : Far) (m : machine.Place) (key :
         let moved = ret_resumes setting here far m key s assigned st.heap held spot.few a h i fetched b out placed (is_return i.op e) (permits_at op.Ret (is_return i.op e)) returns in
         goes_at op.Ret (is_return i.op e) (from_stay op.Ret moved.0 moved.1 moved.2 same)
     by_route route.Print image e (on, prints) = goes_at op.Print (is_print i.op e) (printed (is_print i.op e) prints)
+    by_route (route.Region true) image e (on, made, same) = goes_at op.Atomb (is_enter i.op e) (enters (is_enter i.op e) made same)
+    by_route (route.Region false) image e (on, made, same) = goes_at op.Atome (is_leave i.op e) (leaves (is_leave i.op e) made same)
     by_route route.OpenFinish image e (on, made) = goes_at op.Finb (is_open_finish i.op e) (opens (is_open_finish i.op e) made)
     by_route route.CloseFinish image e made = goes_at op.Fine (is_close_finish i.op e) (closes_one (is_close_finish i.op e) made)
     by_route route.Begin image e steps = absurd (let f = steps.0 in cc)
@@ -262,7 +286,7 @@ place_with cells heap opened = record { stays = λ k. None; cells = cells; expor
 
 -- a stay with nothing but a call frame
 abbrev stay_of : machine.CallFrame → Stay
-stay_of frame = record { top = frame; callers = []; finishes = []; inherited = root; away = false; back = None }
+stay_of frame = record { top = frame; callers = []; finishes = []; inherited = root; away = false; inside = false; back = None }
 
 pub typed_after : (at : Location) (a b : StayState) (s t : StoreState) (i : Instr) → IsChecked at.program → s.here ≡ at.here → IsTyped at s.heap a → IsFetchedFor at.program a.top i → Steps (route_of i.op) at a s i outcome.Goes b t → IsTyped at t.heap b
 typed_after at a b s t i checks here typed fetched steps =

@@ -44,6 +44,7 @@ module _ (x y : Context) (grows : Grows x y) where
       finishes = h.finishes;
       inherited = h.inherited;
       away = h.away;
+      inside = h.inside;
       back = h.back;
       run = subst (λ n. IsOfRun n a) (sym grows.places) h.run;
     }

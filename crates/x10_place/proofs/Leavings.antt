@@ -31,7 +31,7 @@ use Rattle.x10_place.specs.Sending.{slots_of, slots_of_end, words_from}
 use Rattle.x10_place.specs.Parting.{SendsResult, Reports, LeavesAt}
 use Rattle.x10_place.specs.Messages.{SendsMessage, SendsReport}
 use Rattle.x10_place.specs.Stays.{StayState, StoreState, totals_in}
-use Rattle.x10_place.specs.StandsFor.{Far, context, context_of, PlaceState, store_of, with_stays, line_as, StandsForStay, HoldsExports, StandsFor, setting_of, Leads, LeadsAll}
+use Rattle.x10_place.specs.StandsFor.{Far, context, context_of, PlaceState, store_of, with_stays, line_as, StandsForStay, HoldsExports, StandsFor, setting_of, Leads, LeadsAll, AreOutside}
 use Rattle.x10_place.proofs.Framed.{point_of, in_range, count, rule}
 use Rattle.x10_place.proofs.Local.{situated}
 use Rattle.x10_place.proofs.Ends.{Ending, ret_ends, result_register}
@@ -40,6 +40,7 @@ use Rattle.x10_place.proofs.Placing.{IsChecked, none_open}
 use Rattle.x10_place.proofs.Recounting.{counted_in, ends_count}
 use Rattle.x10_place.proofs.Texts.{adds_none}
 use Rattle.x10_place.proofs.Steps.{moves, rebuilt, keys_one, keyed_one}
+use Rattle.x10_place.proofs.Insides.{free_of}
 
 -- a finish is the same as itself, and no other one is
 same_as_itself : (f : Finish) → same_finish f f ≡ true
@@ -87,7 +88,7 @@ reports_one s f sent received bytes here places within home few due small less s
 pub report_short : (s : StoreState) (f : Finish) (sent received : List ℕ) → s.ledger.places ≡ s.places → s.places ≤ 64 → AreDue s.ledger f sent received → length sent < 2 ^ 16
 report_short s f sent received places few due = let long = due.sent_is in omega (arith, long, places, few)
 
-module _ (far : Far) (p : PlaceState) (m : machine.Place) (stands : StandsFor far p m) (key : ℕ) (out : Sent) (slab : Slab StayState) (t : StoreState) (checks : IsChecked p.program) (d : LeavesAt p.program p.stays (store_of p) key out slab t) (ready : d.stay.away ≡ false) where
+module _ (far : Far) (p : PlaceState) (m : machine.Place) (stands : StandsFor far p m) (key : ℕ) (out : Sent) (slab : Slab StayState) (t : StoreState) (checks : IsChecked p.program) (d : LeavesAt p.program p.stays (store_of p) key out slab t) (ready : d.stay.away ≡ false) (outside : AreOutside p.stays key) where
   abbrev a : StayState
   a = d.stay
 
@@ -188,7 +189,7 @@ module _ (far : Far) (p : PlaceState) (m : machine.Place) (stands : StandsFor fa
       let effect : Effect = Ends a.inherited result.back in
       let inherited : Ends s.inherited result.back ≡ effect = ap (λ f. Ends f result.back) h.inherited in
       let counted = ends_count (store_of p) t a.inherited result.back r in
-      let moved = moves (setting_of p) p.id far m key stands.assigned (store_of p) a s h i d.fetched new effect ready (stands.some key a d.is_there).1
+      let moved = moves (setting_of p) p.id far m key stands.assigned (store_of p) a s h i d.fetched new effect ready (free_of far p m key stands outside) (stands.some key a d.is_there).1
       (subst (λ q. Does q sit new effect) (sym d.is_ret) (subst (λ e. Does op.Ret sit new e) inherited (ending.does result.back result.sends))) in
       let grows = subst (λ n. Grows x (context (setting_of p) p.id n far)) (sym r.heap) (grows_not x) in
       record {
@@ -204,5 +205,5 @@ module _ (far : Far) (p : PlaceState) (m : machine.Place) (stands : StandsFor fa
       }
 
 -- each place of the machine makes the step
-pub leave_leads : (p : PlaceState) (key : ℕ) (out : Sent) (slab : Slab StayState) (t : StoreState) → IsChecked p.program → (d : LeavesAt p.program p.stays (store_of p) key out slab t) → d.stay.away ≡ false → LeadsAll p key (stepped.Moved out) (with_stays p slab t)
-leave_leads p key out slab t checks d ready far m stands = leads_leaving far p m stands key out slab t checks d ready
+pub leave_leads : (p : PlaceState) (key : ℕ) (out : Sent) (slab : Slab StayState) (t : StoreState) → IsChecked p.program → (d : LeavesAt p.program p.stays (store_of p) key out slab t) → d.stay.away ≡ false → AreOutside p.stays key → LeadsAll p key (stepped.Moved out) (with_stays p slab t)
+leave_leads p key out slab t checks d ready outside far m stands = leads_leaving far p m stands key out slab t checks d ready outside

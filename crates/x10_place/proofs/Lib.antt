@@ -1,5 +1,6 @@
 pub mod Words
 pub mod Homes
+pub mod Insides
 pub mod Numbers
 pub mod Forms
 pub mod HeapKept

@@ -437,8 +437,6 @@ module _ (setting : Setting) (here : ℕ) (far : Far) (m : machine.Place) (key :
         (moves_word g out permits.0 edges permits.1 permits.2 (room op.Move e (λ a. a)) (register_few op.Move e (λ b. b)) (went (f.pc + 1) (slice_set f.registers.items i.a (word_at f.registers.items i.b)) f.loops (by local.Copy r)))
     local_moves op.Jmp e np ns r permits = unchanged local.Jump op.Jmp tt r
         (goes s.top i.x, (refl, refl), goes_to g i.x h.state (went i.x f.registers.items f.loops (by local.Jump r)) (edges (i.x, h.state) (subst (λ (o : Edges). IsIn (i.x, h.state) o) (sym permits) (0, refl))) refl)
-    local_moves op.Atomb e np ns r permits = unchanged local.Next op.Atomb tt r (next s.top, (refl, refl), goes_next g (went (f.pc + 1) f.registers.items f.loops (by local.Next r)) (edge_next out h.state edges permits))
-    local_moves op.Atome e np ns r permits = unchanged local.Next op.Atome tt r (next s.top, (refl, refl), goes_next g (went (f.pc + 1) f.registers.items f.loops (by local.Next r)) (edge_next out h.state edges permits))
     local_moves op.Jz e np ns r permits = unchanged local.JumpIfZero op.Jz tt r (
       _,
       (int_at f.registers.items i.a, number_of i.a permits.0, (refl, refl)),

@@ -14,8 +14,9 @@ use Rattle.x10_model.proofs.NotWrong.{situation}
 use Rattle.x10_place.specs.declared.place.Stepped.TheVariants as stepped
 use Rattle.x10_place.specs.declared.sent.Sent.{Sent}
 use Rattle.x10_place.specs.Stays.{StayState, IsDoneHere}
-use Rattle.x10_place.specs.StandsFor.{PlaceState, Far, StandsFor, IsIdleAt, nobody, away, waits, Leads, store_of}
+use Rattle.x10_place.specs.StandsFor.{PlaceState, Far, StandsFor, IsIdleAt, nobody, away, kept_out, waits, Leads, store_of}
 use Rattle.x10_place.specs.Laws.{NoStrideIsIdle}
+use Rattle.x10_place.proofs.Insides.{kept_out_of}
 
 true_false : (b : Bool) → b ≡ true → b ≡ false → ⊥
 true_false b t f = cc
@@ -44,7 +45,8 @@ module _ (far : Far) (p q : PlaceState) (m : machine.Place) (key : ℕ) (out : S
   busy : IsIdleAt p key → ⊥
   busy (nobody none) = none_some (m.stays key) led.moves.stay (stands.none key none) led.moves.is_there
   busy (away a there on) = let s = stands.some key a there in true_false a.away on (sym s.2.away ∙ ap (λ (x : Stay). x.away) (same a there) ∙ led.moves.is_ready)
-  busy (waits a number outer there fine innermost never) =
+  busy (kept_out other inside apart) = kept_out_of far p m key other stands inside apart led.moves.is_free
+  busy (waits a number outer there free fine innermost never) =
       let s = stands.some key a there in
       let is : led.moves.instr.op ≡ op.Fine = ap (λ (i : Instr). i.op) (same_Some led.moves.instr fine.0 (sym (instr-is a there) ∙ fine.1)) ∙ fine.2 in
       ends number outer (sym (ap (λ (x : Stay). x.finishes) (same a there)) ∙ s.2.finishes ∙ innermost) never (subst (λ o. Does o (situation led.moves) led.new led.effect) is led.moves.does)

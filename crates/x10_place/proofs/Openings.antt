@@ -23,12 +23,12 @@ use Rattle.x10_verify.proofs.Wholes.{function_fits}
 use Rattle.x10_heap.specs.Heaps.{HeapState, empty}
 use Rattle.x10_heap.specs.Words.{Context, HoldsHeap}
 use Rattle.x10_place.specs.Stays.{StayState, StoreState, totals_in, books_in, AreCalling, open_in, IsPlaced}
-use Rattle.x10_place.specs.StandsFor.{IsWithinPlaces, Far, PlaceState, place_of, plain, store_of, first_number, context_of, Assigned, HoldRegisters, line_as, StandsForStay, HoldsExports, StandsFor, IsStanding, setting_of}
+use Rattle.x10_place.specs.StandsFor.{IsWithinPlaces, Far, PlaceState, place_of, plain, store_of, first_number, context_of, Assigned, HoldRegisters, line_as, StandsForStay, HoldsExports, StandsFor, IsStanding, setting_of, is_inside, inside_at, IsInsider}
 use Rattle.x10_place.specs.Opening.{IsMain, HoldsOnly, opening_place, IsNewStore, Opens}
 use Rattle.x10_place.proofs.Homes.{homes_weaken, homes_entry}
 use Rattle.x10_place.proofs.Calls.{no_turns}
 use Rattle.x10_place.proofs.Booking.{without, booked_first}
-use Rattle.x10_place.proofs.Placing.{open_first}
+use Rattle.x10_place.proofs.Placing.{open_first, region_first}
 
 -- ---- main
 
@@ -52,6 +52,7 @@ main_placed program a fits main =
       top = record { function = main.function; is_function = main.is_function; pc = omega (arith, main.pc, f.length.0); registers = main.registers };
       callers = subst (λ fs. AreCalling program fs a.top.function) (sym main.callers) tt;
       finishes = ap length main.finishes ∙ sym (ap₂ (λ m n. m + n) (ap (open_in program) main.callers) (open_first program a.top main.pc));
+      region = main.inside ∙ sym (region_first program a.top main.pc);
     }
 
 -- main's words stand for main's stay
@@ -77,6 +78,7 @@ main_stands program assigned x cells a fits main first within =
       finishes = sym main.finishes;
       inherited = sym main.inherited;
       away = sym main.away;
+      inside = sym main.inside;
       back = sym main.back;
       run = record { inherited = subst (λ (f : Finish). (f.home < x.places) × (f.number < 2 ^ 32)) (sym main.inherited) (within, omega arith); back = λ origin e. absurd (let none = main.back in cc) };
     }
@@ -196,3 +198,14 @@ opens_standing p opens = (opening_place (setting_of p) opens.0 p.id, opens.1 (λ
 pub is_some_is : {X : Type 0} (o : Option X) → IsSome o → (x : X) × (o ≡ Some x)
 is_some_is (Some x) h = (x, refl)
 is_some_is None h = absurd cc
+
+-- ---- nobody is inside an atomic region
+
+pub main_outside : (program : Module) (slab : Slab StayState) → (key : ℕ) × (a : StayState) × IsMain program a × HoldsOnly slab key a × (key < 2 ^ 32) → IsInsider slab None
+main_outside program slab main k = elim (cases_eq k main.0) [
+  | inl same ↦ ap (inside_at slab) same ∙ ap is_inside main.3.here ∙ main.2.inside
+  | inr apart ↦ ap is_inside (main.3.others k apart)
+]
+
+pub nobody_outside : (slab : Slab StayState) → slab.slots ≡ [] → IsInsider slab None
+nobody_outside slab slots k = ap is_inside (ap (λ xs. slice_index_or xs k None) slots)

@@ -23,7 +23,7 @@ use Rattle.x10_place.specs.Stays.{StayState, StoreState, Steps}
 use Rattle.x10_place.specs.declared.stay.Outcome.TheVariants as outcome
 use Rattle.x10_place.specs.StandsFor.{PlaceState, place_of, location_of, plain, LeadsAll, Overfills, OverfillsBegin, OverfillsSend, IsOverfull, IsHindered}
 use Rattle.x10_place.specs.Stretches.{BeginsAt, RefusesBegin, IsForPlace, IsMade}
-use Rattle.x10_place.proofs.Placing.{IsChecked, is_return}
+use Rattle.x10_place.proofs.Placing.{IsChecked, is_return, outside_ends}
 use Rattle.x10_place.proofs.Steps.{begin_leads}
 use Rattle.x10_place.proofs.Departures.{depart_leads}
 use Rattle.x10_place.proofs.Leavings.{leave_leads}
@@ -43,7 +43,7 @@ module _ (v : Certified) (old : Slab StayState) (s : StoreState) (key : ℕ) (i 
 
   pub begun_made : (new : Slab StayState) (t : StoreState) (sent : Sent) → sent ≡ no_sent → BeginsAt v.program old s key new t → IsMade v old s key sent new t
   begun_made new t sent none b = subst (λ o. IsMade v old s key o new t) (sym none) (record {
-    leads = λ stopped. subst (λ q. LeadsAll (place stopped) key (stepped.Moved no_sent) q) (seen_after v old new s t stopped b.store.here b.store.places_are) (begin_leads (place stopped) key new t checks plain_begins (ready_too b.stay b.is_there));
+    leads = λ stopped. subst (λ q. LeadsAll (place stopped) key (stepped.Moved no_sent) q) (seen_after v old new s t stopped b.store.here b.store.places_are) (begin_leads (place stopped) key new t checks plain_begins (ready_too b.stay b.is_there) h.outside);
     here = b.store.here;
     places = b.store.places_are;
     parts = λ stopped. inr (inl (record { key = b.other; free = b.free; begun = (b.child, b.now_child) }));
@@ -73,7 +73,7 @@ module _ (v : Certified) (old : Slab StayState) (s : StoreState) (key : ℕ) (i 
 
   pub departed_made : (new : Slab StayState) (t : StoreState) (sent : Sent) → DepartsAt v.program old s key sent new t → IsMade v old s key sent new t
   departed_made new t sent d = record {
-    leads = λ stopped. subst (λ q. LeadsAll (place stopped) key (stepped.Moved sent) q) (seen_after v old new s t stopped d.store.here d.store.places_are) (depart_leads (place stopped) key sent new t checks plain_departs (ready_too d.stay d.is_there));
+    leads = λ stopped. subst (λ q. LeadsAll (place stopped) key (stepped.Moved sent) q) (seen_after v old new s t stopped d.store.here d.store.places_are) (depart_leads (place stopped) key sent new t checks plain_departs (ready_too d.stay d.is_there) h.outside);
     here = d.store.here;
     places = d.store.places_are;
     parts = λ stopped. inr (inr (λ f. absurd (let g : Some d.message ≡ no_sent.message = ap (λ (o : Sent). o.message) (sym d.sent_is ∙ f) in cc)));
@@ -99,7 +99,7 @@ module _ (v : Certified) (old : Slab StayState) (s : StoreState) (key : ℕ) (i 
 
   pub left_made : (new : Slab StayState) (t : StoreState) (sent : Sent) → LeavesAt v.program old s key sent new t → IsMade v old s key sent new t
   left_made new t sent d = record {
-    leads = λ stopped. subst (λ q. LeadsAll (place stopped) key (stepped.Moved sent) q) (seen_after v old new s t stopped d.store.here d.store.places_are) (leave_leads (place stopped) key sent new t checks plain_leaves (ready_too d.stay d.is_there));
+    leads = λ stopped. subst (λ q. LeadsAll (place stopped) key (stepped.Moved sent) q) (seen_after v old new s t stopped d.store.here d.store.places_are) (leave_leads (place stopped) key sent new t checks plain_leaves (ready_too d.stay d.is_there) h.outside);
     here = d.store.here;
     places = d.store.places_are;
     parts = λ stopped. inl d.updates.changed;
@@ -148,12 +148,12 @@ module _ (v : Certified) (old : Slab StayState) (s : StoreState) (key : ℕ) (i 
       inr (
         limit,
         is,
-        inl (overfull (place false) key h.stay h.is_there h.ready i h.fetched limit
+        inl (overfull (place false) key h.stay h.is_there h.ready h.outside i h.fetched limit
             (subst (λ o. Overfills (route_of o) (place false) h.stay i limit) (sym e) (subst (λ b. OverfillsBegin (place false) b limit) same over))),
       )
 
   pub send_hindered : (why : Stop) → route_of i.op ≡ route.Send → (why ≡ stop.Limit 6) → OverfillsSend (place false) h.stay i 6 → IsHindered (place false) key why
-  send_hindered why e is over = inr (6, is, inl (overfull (place false) key h.stay h.is_there h.ready i h.fetched 6 (subst (λ r. Overfills r (place false) h.stay i 6) (sym e) over)))
+  send_hindered why e is over = inr (6, is, inl (overfull (place false) key h.stay h.is_there h.ready h.outside i h.fetched 6 (subst (λ r. Overfills r (place false) h.stay i 6) (sym e) over)))
 
   -- a frame can't take along what is sent
   pub frame_hindered : (why : Stop) (r : Route) → route_of i.op ≡ r → IsSending r h.stay → Refuses v.program.classes s.heap (kinds_of (slots_sent r v.program h.stay i)) (words_sent r (slots_sent r v.program h.stay i) h.stay i) why → IsHindered (place false) key why
@@ -161,9 +161,9 @@ module _ (v : Certified) (old : Slab StayState) (s : StoreState) (key : ℕ) (i 
     where
       by : IsSending (route_of i.op) h.stay → Refuses v.program.classes s.heap (kinds_of (slots_sent (route_of i.op) v.program h.stay i)) (words_sent (route_of i.op) (slots_sent (route_of i.op) v.program h.stay i) h.stay i) why → IsHindered (place false) key why
       by sending (inl memory) = inl memory
-      by sending (inr (inl nodes)) = inr (7, nodes.0, inr (record { stay = h.stay; is_there = h.is_there; is_ready = h.ready; instr = i; instr_is = instr_is; sends = sending; overloads = inl (refl, nodes.1) }))
-      by sending (inr (inr (inl texts))) = inr (8, texts.0, inr (record { stay = h.stay; is_there = h.is_there; is_ready = h.ready; instr = i; instr_is = instr_is; sends = sending; overloads = inr (inl (refl, texts.1)) }))
-      by sending (inr (inr (inr rails))) = inr (9, rails.0, inr (record { stay = h.stay; is_there = h.is_there; is_ready = h.ready; instr = i; instr_is = instr_is; sends = sending; overloads = inr (inr (refl, rails.1)) }))
+      by sending (inr (inl nodes)) = inr (7, nodes.0, inr (record { stay = h.stay; is_there = h.is_there; is_ready = h.ready; is_free = h.outside; instr = i; instr_is = instr_is; sends = sending; overloads = inl (refl, nodes.1) }))
+      by sending (inr (inr (inl texts))) = inr (8, texts.0, inr (record { stay = h.stay; is_there = h.is_there; is_ready = h.ready; is_free = h.outside; instr = i; instr_is = instr_is; sends = sending; overloads = inr (inl (refl, texts.1)) }))
+      by sending (inr (inr (inr rails))) = inr (9, rails.0, inr (record { stay = h.stay; is_there = h.is_there; is_ready = h.ready; is_free = h.outside; instr = i; instr_is = instr_is; sends = sending; overloads = inr (inr (refl, rails.1)) }))
 
 -- ---- as the place's functions answer
 
@@ -193,6 +193,10 @@ module _ (v : Certified) (old : Slab StayState) (s : StoreState) (key : ℕ) (ch
   pub end_full : h.0.op ≡ op.Ret → (limit : ℕ) → IsOverfull now key limit → ⊥
   end_full e = end_over v old s key h.0 checks h.1 e
 
+  -- a stay that ends is inside no atomic region
+  pub end_outside : h.0.op ≡ op.Ret → h.1.stay.inside ≡ false
+  end_outside e = outside_ends v.program checks h.1.stay h.0 (h.1.standing.1.some key h.1.stay h.1.is_there).2.placed h.1.fetched e
+
   -- the instruction that was fetched
   pub fetched_is : (a : StayState) (j : Instr) → get old key ≡ Some a → IsFetchedFor v.program a.top j → h.0 ≡ j
   fetched_is a j there fetched =
@@ -215,5 +219,6 @@ module _ (v : Certified) (old : Slab StayState) (s : StoreState) (key : ℕ) (ch
       ends route.Export is steps = absurd (let f = steps.0 in cc)
       ends route.Call is steps = absurd (let f = steps.0 in cc)
       ends route.Print is steps = absurd (let f = steps.0 in cc)
+      ends (route.Region inside) is steps = absurd (let f = steps.0 in cc)
       ends route.OpenFinish is steps = absurd (let f = steps.0 in cc)
       ends route.CloseFinish is steps = absurd steps

@@ -146,6 +146,7 @@ module _ (at : Location) (s : StoreState) (a : StayState) (w : IsWorking at s a)
   stored route.Print e = prints_there at.program t.assigned x refl t.cells t.holds t.site.few a.top t.stay.top t.stands.top i fetched
   stored route.Call e = tt
   stored route.Return e = tt
+  stored (route.Region inside) e = tt
   stored route.OpenFinish e = tt
   stored route.CloseFinish e = has_finish (is_close_finish i.op e)
   stored route.Begin e = tt

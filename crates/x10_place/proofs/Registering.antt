@@ -109,6 +109,7 @@ registered_by route.Print at a b s t i h steps =
     kept at s t a b
     (record { here = ap (λ (q : StoreState). q.here) steps.1.store; places = ap (λ (q : StoreState). q.places) steps.1.store; ledger = ap (λ (q : StoreState). q.ledger) steps.1.store; books = ap (λ (q : StoreState). q.books) steps.1.store; opened = ap (λ (q : StoreState). q.opened) steps.1.store })
     (ap (λ (x : StayState). x.finishes) steps.1.rest) (ap (λ (x : StayState). x.inherited) steps.1.rest) h
+registered_by (route.Region inside) at a b s t i h steps = subst (λ u. IsRegistered at u b) (sym steps.2) (kept at s s a b (same_count s) (ap (λ (x : StayState). x.finishes) steps.1.rest) (ap (λ (x : StayState). x.inherited) steps.1.rest) h)
 registered_by route.OpenFinish at a b s t i h steps = opened_registered at s t a b h steps.1
 registered_by route.CloseFinish at a b s t i h steps = closed_registered at s t a b h steps
 registered_by route.Begin at a b s t i h steps = absurd (let f = steps.0 in cc)

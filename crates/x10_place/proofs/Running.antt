@@ -13,12 +13,13 @@ use Rattle.x10_place.specs.declared.stay.Spot.{Spot}
 use Rattle.x10_place.specs.Routes.{route_of}
 use Rattle.x10_place.specs.Messages.{no_sent}
 use Rattle.x10_place.specs.Stays.{StayState, StoreState, Location, location, Steps}
-use Rattle.x10_place.specs.StandsFor.{PlaceState, place_of, location_of, IsStanding, IsWorking, IsHindered, nobody, away}
+use Rattle.x10_place.specs.StandsFor.{PlaceState, place_of, location_of, IsStanding, IsWorking, IsHindered, nobody, away, AreOutside}
 use Rattle.x10_place.specs.Stretches.{IsStep, Stretch, IsStopped, Paused, Strides, StridesTo, nowhere, finally, IsUntouched, IsForPlace, IsMade, IsRun}
 use Rattle.x10_place.proofs.Keeping.{written}
 use Rattle.x10_place.proofs.Placing.{IsChecked}
 use Rattle.x10_place.proofs.Striding.{gone, strides_standing, to_standing, silent_to, working_at, hindered, flagged_hindered}
 use Rattle.x10_place.proofs.Advancing.{waits_here}
+use Rattle.x10_place.proofs.Insides.{outside_after}
 
 module _ (v : Certified) (old : Slab StayState) (s : StoreState) (key : ℕ) (standing : IsStanding (place_of v old s false)) (checks : IsChecked v.program) where
   abbrev place : Bool → PlaceState
@@ -32,7 +33,7 @@ module _ (v : Certified) (old : Slab StayState) (s : StoreState) (key : ℕ) (st
   pub run_away : (most : ℕ) (a : StayState) → get old key ≡ Some a → a.away ≡ true → IsRun v old s key most 0 (Ok no_sent) old s
   run_away most a e is = record { ran = λ stopped. nowhere; few = omega arith; all = λ lt stopped. inl (away a e is); refused = tt; standing = standing; here = refl; places = refl }
 
-  module _ (a : StayState) (e : get old key ≡ Some a) (ready : a.away ≡ false) where
+  module _ (a : StayState) (e : get old key ≡ Some a) (ready : a.away ≡ false) (outside : AreOutside old key) where
     abbrev at : Location
     at = location_of (place false)
 
@@ -48,13 +49,13 @@ module _ (v : Certified) (old : Slab StayState) (s : StoreState) (key : ℕ) (st
 
     module _ (n most : ℕ) (c : StayState) (t : StoreState) (stretch : Stretch at a s n c t) (few : n ≤ most) where
       ran : (stopped : Bool) → Strides key (place stopped) n (place_of v (mid c) t stopped)
-      ran stopped = (gone v old s stopped checks key a e n c t working stretch).strides_are
+      ran stopped = (gone v old s stopped checks key a e outside n c t working stretch).strides_are
 
       here : t.here ≡ s.here
-      here = (gone v old s false checks key a e n c t working stretch).here
+      here = (gone v old s false checks key a e outside n c t working stretch).here
 
       places : t.places ≡ s.places
-      places = (gone v old s false checks key a e n c t working stretch).places
+      places = (gone v old s false checks key a e outside n c t working stretch).places
 
       stands : IsStanding (place_of v (mid c) t false)
       stands = strides_standing (place false) key n (place_of v (mid c) t false) standing (ran false)
@@ -64,7 +65,10 @@ module _ (v : Certified) (old : Slab StayState) (s : StoreState) (key : ℕ) (st
       now i o d u steps = subst (λ q. Steps (route_of i.op) q c t i o d u) (ap₂ (λ h k. record { program = v.program; here = h; places = k }) (sym here) (sym places)) steps
 
       still_ready : c.away ≡ false
-      still_ready = (gone v old s false checks key a e n c t working stretch).working.ready
+      still_ready = (gone v old s false checks key a e outside n c t working stretch).working.ready
+
+      still_outside : AreOutside (mid c) key
+      still_outside = outside_after old (mid c) key (Some c) (written old key a c e) outside
 
       to : (stopped : Bool) → StridesTo key (place stopped) n no_sent (place_of v (mid c) t stopped)
       to stopped = silent_to (place stopped) key n (place_of v (mid c) t stopped) (ran stopped)
@@ -76,7 +80,7 @@ module _ (v : Certified) (old : Slab StayState) (s : StoreState) (key : ℕ) (st
       run_waits step = record {
         ran = to;
         few = few;
-        all = λ lt stopped. inl (waits_here v (mid c) t key stands checks c (mid_there c) still_ready step.instr step.fetched (mid c) c t (now step.instr outcome.Waits c t step.steps) stopped);
+        all = λ lt stopped. inl (waits_here v (mid c) t key stands checks c (mid_there c) still_ready still_outside step.instr step.fetched (mid c) c t (now step.instr outcome.Waits c t step.steps) stopped);
         refused = tt;
         standing = stands;
         here = here;
@@ -88,7 +92,7 @@ module _ (v : Certified) (old : Slab StayState) (s : StoreState) (key : ℕ) (st
         ran = ran;
         few = few;
         all = tt;
-        refused = λ stopped. hindered (place_of v (mid c) t stopped) key c (mid_there c) still_ready stop.instr stop.fetched why stop.refuses;
+        refused = λ stopped. hindered (place_of v (mid c) t stopped) key c (mid_there c) still_ready still_outside stop.instr stop.fetched why stop.refuses;
         standing = stands;
         here = here;
         places = places;
@@ -96,7 +100,7 @@ module _ (v : Certified) (old : Slab StayState) (s : StoreState) (key : ℕ) (st
 
       -- the place makes the next step
       pub run_for_place : IsStep at c t outcome.ForPlace c t → (i : Instr) × IsForPlace v (mid c) t key i
-      run_for_place step = (step.instr, record { standing = stands; stay = c; is_there = mid_there c; ready = still_ready; fetched = step.fetched; steps = now step.instr outcome.ForPlace c t step.steps })
+      run_for_place step = (step.instr, record { standing = stands; stay = c; is_there = mid_there c; ready = still_ready; outside = still_outside; fetched = step.fetched; steps = now step.instr outcome.ForPlace c t step.steps })
 
       pub run_placed : (new : Slab StayState) (u : StoreState) (sent : Sent) → n < most → IsMade v (mid c) t key sent new u → IsRun v old s key most (n + 1) (Ok sent) new u
       run_placed new u sent less made =

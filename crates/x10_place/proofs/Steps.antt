@@ -8,7 +8,7 @@ use Rattle.x10_model.specs.Maps.{with_entry}
 use Rattle.x10_model.specs.Modules.{Module}
 use Rattle.x10_model.specs.Ranges.{function_at}
 use Rattle.x10_model.specs.Places as machine
-use Rattle.x10_model.specs.Places.{Setting, Finish, Stay, innermost, innermost_of, Effect, Waits, Begins, with_stay, next}
+use Rattle.x10_model.specs.Places.{Setting, Finish, Stay, IsFree, innermost, innermost_of, Effect, Waits, Begins, with_stay, next}
 use Rattle.x10_model.specs.Moves.{Does, Moves}
 use Rattle.x10_model.specs.Assignments.{Permits}
 use Rattle.x10_model.proofs.Lists.{none_some}
@@ -24,7 +24,7 @@ use Rattle.x10_place.specs.declared.stay.Outcome.TheVariants as outcome
 use Rattle.x10_place.specs.Frames.{IsFetchedFor}
 use Rattle.x10_place.specs.Routes.{route_of}
 use Rattle.x10_place.specs.Stays.{StayState, StoreState, totals_in, innermost_at, WaitsAtFinish, Steps}
-use Rattle.x10_place.specs.StandsFor.{Far, context, context_of, PlaceState, store_of, with_stays, line_as, Assigned, StandsForStay, StandForCallers, IsOfRun, HoldsExports, StandsFor, setting_of, location_of, IsCountedBy, Leads, LeadsAll}
+use Rattle.x10_place.specs.StandsFor.{Far, context, context_of, PlaceState, AreOutside, store_of, with_stays, line_as, Assigned, StandsForStay, StandForCallers, IsOfRun, HoldsExports, StandsFor, setting_of, location_of, IsCountedBy, Leads, LeadsAll}
 use Rattle.x10_place.specs.Messages.{no_sent}
 use Rattle.x10_place.specs.Stretches.{BeginsAt}
 use Rattle.x10_place.proofs.Framed.{point_of, is_instr, in_range, rule}
@@ -37,6 +37,7 @@ use Rattle.x10_place.proofs.Placing.{IsChecked, is_close_finish, next_placed, be
 use Rattle.x10_place.proofs.Booking.{moved_booked}
 use Rattle.x10_place.proofs.Texts.{goes_added, adds, adds_none}
 use Rattle.x10_place.proofs.Recounting.{KeepsBooks, closed_none, counted_in, waits_count, begins_count, puts_nothing, silent_begins}
+use Rattle.x10_place.proofs.Insides.{free_of}
 
 -- ---- the whole place
 
@@ -103,26 +104,27 @@ module _ (far : Far) (p : PlaceState) (m : machine.Place) (h : StandsFor far p m
 -- ---- moves
 
 pub moves : (setting : Setting) (here : ℕ) (far : Far) (m : machine.Place) (key : ℕ) (assigned : Assigned setting.program) (st : StoreState) (a : StayState) (s : Stay) (h : StandsForStay setting.program assigned (context setting here st.heap far) a s) (i : Instr) (fetched : IsFetchedFor setting.program a.top i) (new : machine.Place) (effect : Effect)
-    → a.away ≡ false → m.stays key ≡ Some s → Does i.op (situated setting here m key s h.top.function i) new effect → Moves setting here m key new effect
-moves setting here far m key assigned st a s h i fetched new effect ready there does = record {
+    → a.away ≡ false → IsFree m.stays key → m.stays key ≡ Some s → Does i.op (situated setting here m key s h.top.function i) new effect → Moves setting here m key new effect
+moves setting here far m key assigned st a s h i fetched new effect ready free there does = record {
   stay = s;
   function = h.top.function;
   instr = i;
   is_there = there;
   is_ready = h.away ∙ ready;
+  is_free = free;
   function_is = ap (λ n. function_at setting.program n) h.top.function_is ∙ h.top.is_function;
   instr_is = ap (λ pc. slice_get h.top.function.code pc) h.top.pc_is ∙ is_instr setting.program assigned (context setting here st.heap far) a.top s.top h.top i fetched;
   in_range = in_range setting.program assigned (context setting here st.heap far) a.top s.top h.top i fetched;
   does = does;
 }
 
-module _ (far : Far) (p : PlaceState) (m : machine.Place) (stands : StandsFor far p m) (key : ℕ) (a : StayState) (s : Stay) (is : m.stays key ≡ Some s) (h : StandsForStay p.program stands.assigned (context_of far p) a s) (i : Instr) (fetched : IsFetchedFor p.program a.top i) (checks : IsChecked p.program) (ready : a.away ≡ false) (found : get p.stays key ≡ Some a) where
+module _ (far : Far) (p : PlaceState) (m : machine.Place) (stands : StandsFor far p m) (key : ℕ) (a : StayState) (s : Stay) (is : m.stays key ≡ Some s) (h : StandsForStay p.program stands.assigned (context_of far p) a s) (i : Instr) (fetched : IsFetchedFor p.program a.top i) (checks : IsChecked p.program) (ready : a.away ≡ false) (outside : AreOutside p.stays key) (found : get p.stays key ≡ Some a) where
   -- the stay goes on
   leads_on : (slab : Slab StayState) (b : StayState) (t : StoreState) → Steps (route_of i.op) (location_of p) a (store_of p) i outcome.Goes b t → Updates p.stays slab key (Some b) → Leads far p m key (stepped.Moved no_sent) (with_stays p slab t)
   leads_on slab b t steps up =
       let to = stay_goes (setting_of p) p.id far m key s stands.assigned (store_of p) stands.heap stands.exports stands.site stands.opened refl a h i fetched checks b t steps in
       let new = with_stay to.base key (Some to.stay) in
-      let moved = moves (setting_of p) p.id far m key stands.assigned (store_of p) a s h i fetched new to.effect ready is to.does in
+      let moved = moves (setting_of p) p.id far m key stands.assigned (store_of p) a s h i fetched new to.effect ready (free_of far p m key stands outside) is to.does in
       let counted = to.counted stands.booked.unopened in
       record {
         effect = to.effect;
@@ -139,7 +141,7 @@ module _ (far : Far) (p : PlaceState) (m : machine.Place) (stands : StandsFor fa
   leads_waiting b t e waits = record {
     effect = Waits waits.number;
     new = m;
-    moves = moves (setting_of p) p.id far m key stands.assigned (store_of p) a s h i fetched m (Waits waits.number) ready is
+    moves = moves (setting_of p) p.id far m key stands.assigned (store_of p) a s h i fetched m (Waits waits.number) ready (free_of far p m key stands outside) is
         (subst (λ q. Does q (situated (setting_of p) p.id m key s h.top.function i) m (Waits waits.number)) (sym (is_close_finish i.op e)) (waits.number, waits.outer, h.finishes ∙ waits.innermost, inl (refl, refl)));
     stands = stands;
     counted = waits_count (store_of p) waits.number;
@@ -148,7 +150,7 @@ module _ (far : Far) (p : PlaceState) (m : machine.Place) (stands : StandsFor fa
   }
 
 -- an activity begins
-module _ (far : Far) (p : PlaceState) (m : machine.Place) (stands : StandsFor far p m) (key : ℕ) (slab : Slab StayState) (t : StoreState) (checks : IsChecked p.program) (begins : BeginsAt p.program p.stays (store_of p) key slab t) (ready : begins.stay.away ≡ false) where
+module _ (far : Far) (p : PlaceState) (m : machine.Place) (stands : StandsFor far p m) (key : ℕ) (slab : Slab StayState) (t : StoreState) (checks : IsChecked p.program) (begins : BeginsAt p.program p.stays (store_of p) key slab t) (ready : begins.stay.away ≡ false) (outside : AreOutside p.stays key) where
   abbrev later : Context
   later = context (setting_of p) p.id t.heap far
 
@@ -169,7 +171,7 @@ module _ (far : Far) (p : PlaceState) (m : machine.Place) (stands : StandsFor fa
       let free : m.stays begins.other ≡ None = stands.none begins.other begins.free in
       let effect : Effect = Begins begins.other i.x (innermost p.id s) in
       let under : innermost p.id s ≡ innermost_at p.id a = ap₂ (λ f ns. innermost_of p.id f ns) h.inherited h.finishes in
-      let moved = moves (setting_of p) p.id far m key stands.assigned (store_of p) a s h i begins.fetched new effect ready found.1
+      let moved = moves (setting_of p) p.id far m key stands.assigned (store_of p) a s h i begins.fetched new effect ready (free_of far p m key stands outside) found.1
       (subst (λ q. Does q (situated (setting_of p) p.id m key s h.top.function i) new effect) (sym begins.is_async) (child.does free)) in
       let counted = subst (λ f. IsCountedBy (store_of p) (Begins begins.other i.x f) t) (sym under) (begins_count (store_of p) t begins.other i.x (innermost_at p.id a) r) in
       let stay : StandsForStay p.program stands.assigned (context_of far p) b to = record {
@@ -179,6 +181,7 @@ module _ (far : Far) (p : PlaceState) (m : machine.Place) (stands : StandsFor fa
         finishes = h.finishes ∙ ap (λ (q : StayState). q.finishes) (sym begins.rest);
         inherited = h.inherited ∙ ap (λ (q : StayState). q.inherited) (sym begins.rest);
         away = h.away ∙ ap (λ (q : StayState). q.away) (sym begins.rest);
+        inside = h.inside ∙ ap (λ (q : StayState). q.inside) (sym begins.rest);
         back = h.back ∙ ap (λ (q : StayState). q.back) (sym begins.rest);
         run = subst (λ (q : StayState). IsOfRun p.places q) (sym begins.rest) (record { inherited = h.run.inherited; back = h.run.back });
       } in
@@ -222,9 +225,9 @@ module _ (far : Far) (p : PlaceState) (m : machine.Place) (stands : StandsFor fa
 
 -- ---- a step of the stay under a key
 
-module _ (p : PlaceState) (key : ℕ) (a : StayState) (i : Instr) (e : get p.stays key ≡ Some a) (checks : IsChecked p.program) (ready : a.away ≡ false) (fetched : IsFetchedFor p.program a.top i) where
+module _ (p : PlaceState) (key : ℕ) (a : StayState) (i : Instr) (e : get p.stays key ≡ Some a) (checks : IsChecked p.program) (ready : a.away ≡ false) (outside : AreOutside p.stays key) (fetched : IsFetchedFor p.program a.top i) where
   pub step_leads : (slab : Slab StayState) (t : StoreState) (b : StayState) → Steps (route_of i.op) (location_of p) a (store_of p) i outcome.Goes b t → Updates p.stays slab key (Some b) → LeadsAll p key (stepped.Moved no_sent) (with_stays p slab t)
-  step_leads slab t b steps up far m stands = let found = stands.some key a e in leads_on far p m stands key a found.0 found.1 found.2 i fetched checks ready e slab b t steps up
+  step_leads slab t b steps up far m stands = let found = stands.some key a e in leads_on far p m stands key a found.0 found.1 found.2 i fetched checks ready outside e slab b t steps up
 
   -- only a FINE waits
   pub waits_by : (r : Route) (t : StoreState) (b : StayState) → Steps r (location_of p) a (store_of p) i outcome.Waits b t → (r ≡ route.CloseFinish) × WaitsAtFinish a (store_of p) b t
@@ -235,6 +238,7 @@ module _ (p : PlaceState) (key : ℕ) (a : StayState) (i : Instr) (e : get p.sta
   waits_by route.Export t b steps = absurd (let f = steps.0 in cc)
   waits_by route.Call t b steps = absurd (let f = steps.0 in cc)
   waits_by route.Print t b steps = absurd (let f = steps.0 in cc)
+  waits_by (route.Region inside) t b steps = absurd (let f = steps.0 in cc)
   waits_by route.OpenFinish t b steps = absurd (let f = steps.0 in cc)
   waits_by route.Return t b steps = absurd steps
   waits_by route.Begin t b steps = absurd (let f = steps.0 in cc)
@@ -244,7 +248,7 @@ module _ (p : PlaceState) (key : ℕ) (a : StayState) (i : Instr) (e : get p.sta
   wait_leads t b steps far m stands =
       let found = stands.some key a e in
       let by = waits_by (route_of i.op) t b steps in
-      leads_waiting far p m stands key a found.0 found.1 found.2 i fetched checks ready e b t by.0 by.1
+      leads_waiting far p m stands key a found.0 found.1 found.2 i fetched checks ready outside e b t by.0 by.1
 
-pub begin_leads : (p : PlaceState) (key : ℕ) (slab : Slab StayState) (t : StoreState) → IsChecked p.program → (begins : BeginsAt p.program p.stays (store_of p) key slab t) → begins.stay.away ≡ false → LeadsAll p key (stepped.Moved no_sent) (with_stays p slab t)
-begin_leads p key slab t checks begins ready far m stands = leads_begin far p m stands key slab t checks begins ready
+pub begin_leads : (p : PlaceState) (key : ℕ) (slab : Slab StayState) (t : StoreState) → IsChecked p.program → (begins : BeginsAt p.program p.stays (store_of p) key slab t) → begins.stay.away ≡ false → AreOutside p.stays key → LeadsAll p key (stepped.Moved no_sent) (with_stays p slab t)
+begin_leads p key slab t checks begins ready outside far m stands = leads_begin far p m stands key slab t checks begins ready outside

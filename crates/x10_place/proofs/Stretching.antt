@@ -38,6 +38,7 @@ ready_after route.Export at a b s t i ready steps = ap (λ (x : StayState). x.aw
 ready_after route.Call at a b s t i ready steps = ap (λ (x : StayState). x.away) steps.1.rest ∙ ready
 ready_after route.Return at a b s t i ready steps = ap (λ (x : StayState). x.away) steps.0.rest ∙ ready
 ready_after route.Print at a b s t i ready steps = ap (λ (x : StayState). x.away) steps.1.rest ∙ ready
+ready_after (route.Region inside) at a b s t i ready steps = ap (λ (x : StayState). x.away) steps.1.rest ∙ ready
 ready_after route.OpenFinish at a b s t i ready steps = ap (λ (x : StayState). x.away) steps.1.rest ∙ ready
 ready_after route.CloseFinish at a b s t i ready steps = ap (λ (x : StayState). x.away) steps.rest ∙ ready
 ready_after route.Begin at a b s t i ready steps = absurd (let f = steps.0 in cc)
@@ -127,6 +128,7 @@ module _ (at : Location) (a b c : StayState) (s t u : StoreState) (n : ℕ) (i :
   waits_unchanged route.Export steps = absurd (let f = steps.0 in cc)
   waits_unchanged route.Call steps = absurd (let f = steps.0 in cc)
   waits_unchanged route.Print steps = absurd (let f = steps.0 in cc)
+  waits_unchanged (route.Region inside) steps = absurd (let f = steps.0 in cc)
   waits_unchanged route.OpenFinish steps = absurd (let f = steps.0 in cc)
   waits_unchanged route.Return steps = absurd steps
   waits_unchanged route.Begin steps = absurd (let f = steps.0 in cc)
@@ -142,6 +144,7 @@ module _ (at : Location) (a b c : StayState) (s t u : StoreState) (n : ℕ) (i :
   left_unchanged route.Export steps = absurd (let f = steps.0 in cc)
   left_unchanged route.Call steps = absurd (let f = steps.0 in cc)
   left_unchanged route.Print steps = absurd (let f = steps.0 in cc)
+  left_unchanged (route.Region inside) steps = absurd (let f = steps.0 in cc)
   left_unchanged route.OpenFinish steps = absurd (let f = steps.0 in cc)
   left_unchanged route.CloseFinish steps = absurd steps
 

@@ -23,13 +23,14 @@ use Rattle.x10_place.specs.declared.route.Make.{Make}
 use Rattle.x10_place.specs.declared.route.Make.TheVariants as make
 use Rattle.x10_place.specs.declared.stay.Outcome.TheVariants as outcome
 use Rattle.x10_place.specs.Stays.{StayState, StoreState, Location, OverfillsBy, Refuses}
-use Rattle.x10_place.specs.StandsFor.{location_of, Far, IsWorking, Overfills, IsOverfull, IsOverloaded, IsStepLimit, IsHindered, PlaceState, place_of, plain, store_of, with_stays, StandsFor, IsStanding, LeadsAll}
+use Rattle.x10_place.specs.StandsFor.{location_of, Far, IsWorking, Overfills, IsOverfull, IsOverloaded, IsStepLimit, IsHindered, PlaceState, place_of, plain, store_of, with_stays, StandsFor, IsStanding, LeadsAll, AreOutside}
 use Rattle.x10_place.specs.Stretches.{IsStep, Stretch, still, further, IsStride, Strides, at_once, onward, StridesTo, nowhere, finally}
 use Rattle.x10_place.proofs.Placing.{IsChecked}
 use Rattle.x10_place.proofs.Registering.{registered_at}
 use Rattle.x10_place.proofs.Stretching.{working_after}
 use Rattle.x10_place.proofs.Steps.{step_leads}
 use Rattle.x10_place.proofs.Keeping.{written}
+use Rattle.x10_place.proofs.Insides.{outside_after}
 
 -- ---- slabs
 
@@ -57,15 +58,15 @@ seen_after v old new s t stopped here places = ap₂ (λ h k. place_of v new (re
 same_store : (v : Certified) (old new : Slab StayState) (s t : StoreState) (stopped : Bool) → t.here ≡ s.here → t.places ≡ s.places → store_of (with_stays (place_of v old s stopped) new t) ≡ t
 same_store v old new s t stopped here places = ap₂ (λ h k. record t { here = h; places = k }) (sym here) (sym places)
 
-a_stride : (p : PlaceState) (key : ℕ) (a b : StayState) (slab : Slab StayState) (t : StoreState) → IsChecked p.program → get p.stays key ≡ Some a → a.away ≡ false → IsStep (location_of p) a (store_of p) outcome.Goes b t → Updates p.stays slab key (Some b) → IsStride key p no_sent (with_stays p slab t)
-a_stride p key a b slab t checks e ready step up = record {
+a_stride : (p : PlaceState) (key : ℕ) (a b : StayState) (slab : Slab StayState) (t : StoreState) → IsChecked p.program → get p.stays key ≡ Some a → a.away ≡ false → AreOutside p.stays key → IsStep (location_of p) a (store_of p) outcome.Goes b t → Updates p.stays slab key (Some b) → IsStride key p no_sent (with_stays p slab t)
+a_stride p key a b slab t checks e ready outside step up = record {
   there = (a, e);
-  leads = step_leads p key a step.instr e checks ready step.fetched slab t b step.steps up;
+  leads = step_leads p key a step.instr e checks ready outside step.fetched slab t b step.steps up;
   kept = record { program = refl; bounds = refl; id = refl; places = refl };
   stopped = refl;
 }
 
-module _ (v : Certified) (old : Slab StayState) (s : StoreState) (stopped : Bool) (checks : IsChecked v.program) (key : ℕ) (a : StayState) (e : get old key ≡ Some a) where
+module _ (v : Certified) (old : Slab StayState) (s : StoreState) (stopped : Bool) (checks : IsChecked v.program) (key : ℕ) (a : StayState) (e : get old key ≡ Some a) (outside : AreOutside old key) where
   abbrev place : PlaceState
   place = place_of v old s stopped
 
@@ -84,7 +85,7 @@ module _ (v : Certified) (old : Slab StayState) (s : StoreState) (stopped : Bool
       let so_far = with_one c before in
       let seen = same_store v old (with_value old key c) s before stopped r.1.registered.here r.1.registered.places in (
         onward k so_far (with_one d after) r.0
-            (a_stride so_far key c d (with_value old key d) after checks ((written old key a c e).changed) r.1.ready (subst (λ u. IsStep at c u outcome.Goes d after) (sym seen) step) (plain_rewritten old key a c d e)),
+            (a_stride so_far key c d (with_value old key d) after checks ((written old key a c e).changed) r.1.ready (outside_after old (with_value old key c) key (Some c) (written old key a c e) outside) (subst (λ u. IsStep at c u outcome.Goes d after) (sym seen) step) (plain_rewritten old key a c d e)),
         working_after at c d before after step.instr checks r.1 step.fetched step.steps,
       )
 
@@ -159,13 +160,14 @@ overfull_by route.Export p a i limit h = h
 overfull_by route.Call p a i limit h = h
 overfull_by route.Return p a i limit h = h
 overfull_by route.Print p a i limit h = h
+overfull_by (route.Region inside) p a i limit h = h
 overfull_by route.OpenFinish p a i limit h = h
 overfull_by route.CloseFinish p a i limit h = h
 overfull_by route.Send p a i limit h = absurd h
 
-module _ (p : PlaceState) (key : ℕ) (b : StayState) (there : get p.stays key ≡ Some b) (ready : b.away ≡ false) (i : Instr) (fetched : IsFetchedFor p.program b.top i) where
+module _ (p : PlaceState) (key : ℕ) (b : StayState) (there : get p.stays key ≡ Some b) (ready : b.away ≡ false) (outside : AreOutside p.stays key) (i : Instr) (fetched : IsFetchedFor p.program b.top i) where
   pub overfull : (limit : ℕ) → Overfills (route_of i.op) p b i limit → IsOverfull p key limit
-  overfull limit over = record { stay = b; is_there = there; is_ready = ready; instr = i; instr_is = subst (λ o. instr_in o b.top.pc ≡ Some i) (sym fetched.is_function) fetched.is_instr; overfills = over }
+  overfull limit over = record { stay = b; is_there = there; is_ready = ready; is_free = outside; instr = i; instr_is = subst (λ o. instr_in o b.top.pc ≡ Some i) (sym fetched.is_function) fetched.is_instr; overfills = over }
 
   overfull_at : (r : Route) → route_of i.op ≡ r → (limit : ℕ) → OverfillsBy r b (store_of p) i limit → IsOverfull p key limit
   overfull_at r e limit over = overfull limit (overfull_by (route_of i.op) p b i limit (subst (λ q. OverfillsBy q b (store_of p) i limit) (sym e) over))
@@ -175,6 +177,7 @@ module _ (p : PlaceState) (key : ℕ) (b : StayState) (there : get p.stays key �
   hindered_by (route.Make m) why e (inr limit) = inr (limit.0, limit.1, inl (overfull_at (route.Make m) e limit.0 limit.2))
   hindered_by route.Export why e (inl memory) = inl memory
   hindered_by route.Export why e (inr limit) = inr (limit.0, limit.1, inl (overfull_at route.Export e limit.0 (limit.2, limit.3)))
+  hindered_by (route.Region inside) why e h = absurd h
   hindered_by route.OpenFinish why e (inl memory) = inl memory
   hindered_by route.OpenFinish why e (inr limit) = inr (5, limit.0, inl (overfull_at route.OpenFinish e 5 (refl, limit.1)))
   hindered_by route.Call why e memory = inl memory
@@ -199,6 +202,7 @@ limits_made make.Rail heap words i limit h = (omega (arith, h.0), omega (arith, 
 limits_by : (r : Route) (p : PlaceState) (a : StayState) (i : Instr) (limit : ℕ) → Overfills r p a i limit → IsStepLimit limit
 limits_by (route.Make m) p a i limit h = limits_made m p.heap a.top.registers.items i limit h
 limits_by route.Export p a i limit h = (omega (arith, h.0), omega (arith, h.0))
+limits_by (route.Region inside) p a i limit h = absurd h
 limits_by route.OpenFinish p a i limit h = (omega (arith, h.0), omega (arith, h.0))
 limits_by route.Begin p a i limit (inl key) = (let e = key.0 in omega (arith, e), let e = key.0 in omega (arith, e))
 limits_by route.Begin p a i limit (inr live) = (let e = live.0 in omega (arith, e), let e = live.0 in omega (arith, e))
@@ -226,6 +230,7 @@ flagged_overfills route.Begin p b a i limit h = h
 flagged_overfills route.Send p b a i limit h = h
 flagged_overfills (route.Make m) p b a i limit h = h
 flagged_overfills route.Export p b a i limit h = h
+flagged_overfills (route.Region inside) p b a i limit h = absurd h
 flagged_overfills route.OpenFinish p b a i limit h = h
 flagged_overfills (route.Site k) p b a i limit h = absurd h
 flagged_overfills (route.Local l) p b a i limit h = absurd h
@@ -235,13 +240,13 @@ flagged_overfills route.Print p b a i limit h = absurd h
 flagged_overfills route.CloseFinish p b a i limit h = absurd h
 
 pub stopped_over : (p : PlaceState) (b : Bool) (key limit : ℕ) → IsOverfull p key limit → IsOverfull (record p { stopped = b }) key limit
-stopped_over p b key limit h = record { stay = h.stay; is_there = h.is_there; is_ready = h.is_ready; instr = h.instr; instr_is = h.instr_is; overfills = flagged_overfills (route_of h.instr.op) p b h.stay h.instr limit h.overfills }
+stopped_over p b key limit h = record { stay = h.stay; is_there = h.is_there; is_ready = h.is_ready; is_free = h.is_free; instr = h.instr; instr_is = h.instr_is; overfills = flagged_overfills (route_of h.instr.op) p b h.stay h.instr limit h.overfills }
 
 pub flagged_hindered : (p : PlaceState) (b : Bool) (key : ℕ) (why : Stop) → IsHindered p key why → IsHindered (record p { stopped = b }) key why
 flagged_hindered p b key why (inl memory) = inl memory
 flagged_hindered p b key why (inr (limit, is, inl h)) = inr (limit, is, inl (stopped_over p b key limit h))
 flagged_hindered p b key why (inr (limit, is, inr h)) =
-    inr (limit, is, inr (record { stay = h.stay; is_there = h.is_there; is_ready = h.is_ready; instr = h.instr; instr_is = h.instr_is; sends = h.sends; overloads = h.overloads }))
+    inr (limit, is, inr (record { stay = h.stay; is_there = h.is_there; is_ready = h.is_ready; is_free = h.is_free; instr = h.instr; instr_is = h.instr_is; sends = h.sends; overloads = h.overloads }))
 
 pub stopped_hindered : (p : PlaceState) (key : ℕ) (why : Stop) → IsHindered p key why → IsHindered (record p { stopped = true }) key why
 stopped_hindered p key why h = flagged_hindered p true key why h

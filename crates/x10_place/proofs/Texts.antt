@@ -75,6 +75,7 @@ module _ (at : Location) (a : StayState) (s : StoreState) (i : Instr) (b : StayS
   kept_by route.Call none steps = ap (λ (q : StoreState). q.heap.texts) steps.2
   kept_by route.Return none steps = ap (λ (q : StoreState). q.heap.texts) steps.1
   kept_by route.Print none steps = ap (λ (q : StoreState). q.heap.texts) steps.1.store
+  kept_by (route.Region inside) none steps = ap (λ (q : StoreState). q.heap.texts) steps.2
   kept_by route.OpenFinish none steps = ap texts steps.1.store.heap
   kept_by route.CloseFinish none steps = ap texts steps.store.heap
   kept_by route.Begin none steps = absurd (let f = steps.0 in cc)

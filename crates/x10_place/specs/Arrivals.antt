@@ -105,6 +105,7 @@ pub record IsLaunched (l : Launch) (callee : Function) (words : List ℕ) (c : S
   pub finishes : c.finishes ≡ []
   pub inherited : c.inherited ≡ finish_as l.under
   pub away : c.away ≡ false
+  pub inside : c.inside ≡ false
   pub back : c.back ≡ origin_as l.back
 
 -- an activity begins with what a frame brings, under a key that was free

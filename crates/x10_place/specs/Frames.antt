@@ -227,7 +227,6 @@ Acts local.Home program w i v = Becomes v (w.pc + 1) (slice_set w.words i.a (hom
 Acts local.Open program w i v = (e : Export) × (slice_get w.heap.exports (id_of (word_at w.words i.b)) ≡ Some e)
     × Becomes v (w.pc + 1) (slice_set w.words i.a (e.object + 1)) w.loops w.heap
 Acts local.SamePlace program w i v = Becomes v (if are_same w.words i.a i.b then w.pc + 1 else i.x) w.words w.loops w.heap
-Acts local.Next program w i v = Becomes v (w.pc + 1) w.words w.loops w.heap
 Acts local.Jump program w i v = Becomes v i.x w.words w.loops w.heap
 Acts local.JumpIfZero program w i v = Becomes v (if is_zero (int_at w.words i.a) then i.x else w.pc + 1) w.words w.loops w.heap
 Acts local.Loop program w i v = Becomes v (w.pc + 1) w.words (slice_set w.loops i.a i.x) w.heap
@@ -257,7 +256,6 @@ Asks local.Place program registers i = i.a < registers
 Asks local.Home program registers i = (i.a < registers) × (i.b < registers)
 Asks local.Open program registers i = (i.a < registers) × (i.b < registers)
 Asks local.SamePlace program registers i = (i.a < registers) × (i.b < registers) × (i.x < 2 ^ 16)
-Asks local.Next program registers i = Unit {0}
 Asks local.Jump program registers i = i.x < 2 ^ 16
 Asks local.JumpIfZero program registers i = (i.a < registers) × (i.x < 2 ^ 16)
 Asks local.Loop program registers i = i.a < 8

@@ -25,6 +25,7 @@ pub record IsMain (program : Module) (a : StayState) : Type 0 where
   pub finishes : a.finishes ≡ []
   pub inherited : a.inherited ≡ root
   pub away : a.away ≡ false
+  pub inside : a.inside ≡ false
   pub back : a.back ≡ None
 
 -- one activity, and no other

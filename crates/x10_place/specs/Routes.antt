@@ -1,4 +1,5 @@
 -- Operations as a step tells them apart.
+use Rattle.std.specs.Prelude.{true, false}
 use Rattle.x10_code.specs.declared.op.Op.{Op}
 use Rattle.x10_code.specs.declared.op.Op.TheVariants as op
 use Rattle.x10_place.specs.declared.route.Route.{Route}
@@ -54,6 +55,5 @@ route_of op.At = route.Send
 route_of op.Ata = route.Send
 route_of op.Finb = route.OpenFinish
 route_of op.Fine = route.CloseFinish
--- no image has an atomic region yet
-route_of op.Atomb = route.Local local.Next
-route_of op.Atome = route.Local local.Next
+route_of op.Atomb = route.Region true
+route_of op.Atome = route.Region false

@@ -1,5 +1,5 @@
 -- When a place of the program stands for a place of the machine.
-use Rattle.std.specs.Prelude.{◌≡◌, ℕ, ◌<◌, ◌≤◌, ◌⊎◌, Bool, true, false, List, [], ◌∷◌, ◌++◌, ◌==◌, ◌^◌, length, map, Option, if◌then◌else◌, Some}
+use Rattle.std.specs.Prelude.{◌≡◌, ◌≢◌, ℕ, ◌<◌, ◌≤◌, ◌⊎◌, Bool, true, false, List, [], ◌∷◌, ◌++◌, ◌==◌, ◌^◌, length, map, Option, if◌then◌else◌, Some}
 use Rattle.std.specs.Prelude.{None, slice_get, slice_index}
 use Rattle.std.specs.Prelude.{string_bytes}
 use Rattle.slab.specs.Slab.{Slab, get}
@@ -105,6 +105,23 @@ location_of p = record { program = p.program; here = p.id; places = p.places }
 abbrev pub context_of : Far → PlaceState → Context
 context_of far p = context (setting_of p) p.id p.heap far
 
+-- whether the stay with a key, if there is one, is inside an atomic region
+abbrev pub is_inside : Option StayState → Bool
+is_inside None = false
+is_inside (Some a) = a.inside
+
+abbrev pub inside_at : Slab StayState → ℕ → Bool
+inside_at slab key = is_inside (get slab key)
+
+-- no stay but that with the key is inside one
+abbrev pub AreOutside : Slab StayState → ℕ → Type 0
+AreOutside slab key = (other : ℕ) → inside_at slab other ≡ true → other ≡ key
+
+-- the stay that is inside one, which none or one is
+abbrev pub IsInsider : Slab StayState → Option ℕ → Type 0
+IsInsider slab None = (key : ℕ) → inside_at slab key ≡ false
+IsInsider slab (Some key) = (inside_at slab key ≡ true) × AreOutside slab key
+
 -- a line as the machine has it
 abbrev pub line_as : Line → machine.Line
 line_as (line.Int z) = Number z
@@ -153,6 +170,7 @@ pub record StandsForStay (program : Module) (assigned : Assigned program) (x : C
   pub finishes : s.finishes ≡ a.finishes
   pub inherited : s.inherited ≡ a.inherited
   pub away : s.away ≡ a.away
+  pub inside : s.inside ≡ a.inside
   pub back : s.back ≡ a.back
   pub run : IsOfRun x.places a
 
@@ -313,21 +331,24 @@ Overfills route.Begin p a i limit = OverfillsBegin p a limit
 Overfills route.Send p a i limit = OverfillsSend p a i limit
 Overfills r p a i limit = OverfillsBy r a (store_of p) i limit
 
--- the activity with the key is ready, and its instruction would make one more of what there can be no more of
+-- the activity with the key is ready, no other is inside an atomic region, and its instruction would make one more of what
+-- there can be no more of
 pub record IsOverfull (p : PlaceState) (key limit : ℕ) : Type 0 where
   pub stay : StayState
   pub is_there : get p.stays key ≡ Some stay
   pub is_ready : stay.away ≡ false
+  pub is_free : AreOutside p.stays key
   pub instr : Instr
   pub instr_is : instr_at p.program stay.top.function stay.top.pc ≡ Some instr
   pub overfills : Overfills (route_of instr.op) p stay instr limit
 
--- The activity with the key is ready, and what its instruction sends would have more objects (7), texts (8) or rails (9)
--- than a frame can have.
+-- The activity with the key is ready, no other is inside an atomic region, and what its instruction sends would have more
+-- objects (7), texts (8) or rails (9) than a frame can have.
 pub record IsOverloaded (p : PlaceState) (key limit : ℕ) : Type 0 where
   pub stay : StayState
   pub is_there : get p.stays key ≡ Some stay
   pub is_ready : stay.away ≡ false
+  pub is_free : AreOutside p.stays key
   pub instr : Instr
   pub instr_is : instr_at p.program stay.top.function stay.top.pc ≡ Some instr
   pub sends : IsSending (route_of instr.op) stay
@@ -347,12 +368,13 @@ IsHindered p key why = (why ≡ stop.Memory) ⊎ ((limit : ℕ) × (why ≡ stop
 abbrev pub IsOperation : Module → ℕ → ℕ → Op → Type 0
 IsOperation program function pc op = (i : Instr) × (instr_at program function pc ≡ Some i) × (i.op ≡ op)
 
--- a step of the activity with the key would find nothing to do: there is none, it is away, or it stands at the end of a
--- finish that may not end yet
+-- A step of the activity with the key would find nothing to do: there is none, it is away, another is inside an atomic
+-- region, or it stands at the end of a finish that may not end yet.
 pub data IsIdleAt (p : PlaceState) (key : ℕ) : Type 0 where
   nobody : get p.stays key ≡ None → IsIdleAt p key
   away : (a : StayState) → get p.stays key ≡ Some a → a.away ≡ true → IsIdleAt p key
-  waits : (a : StayState) (number : ℕ) (outer : List ℕ) → get p.stays key ≡ Some a → IsOperation p.program a.top.function a.top.pc op.Fine
+  kept_out : (other : ℕ) → inside_at p.stays other ≡ true → other ≢ key → IsIdleAt p key
+  waits : (a : StayState) (number : ℕ) (outer : List ℕ) → get p.stays key ≡ Some a → AreOutside p.stays key → IsOperation p.program a.top.function a.top.pc op.Fine
       → a.finishes ≡ number ∷ outer → (IsDoneHere (store_of p) number → ⊥) → IsIdleAt p key
 
 -- the activity with the key stands at an instruction of a function

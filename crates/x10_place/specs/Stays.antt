@@ -17,6 +17,7 @@ use Rattle.x10_model.specs.Totals.{Totals, Cut, nothing, zeros, if_same, IsDoneA
 use Rattle.x10_model.specs.Ranges.{function_at, instr_at, result_of}
 use Rattle.x10_image.specs.Parts.{code_at}
 use Rattle.x10_bounds.specs.OpenFinishes.{finishes_around}
+use Rattle.x10_bounds.specs.AtomicRegions.{is_inside}
 use Rattle.x10_finish.specs.declared.finish.Finish as finish
 use Rattle.x10_finish.specs.Books.{Kept, kept_of}
 use Rattle.x10_finish.specs.Ledgers.{Ledger, totals_of}
@@ -37,13 +38,14 @@ use Rattle.x10_place.specs.Frames.{IsRefused, ActsAt, ReadsAt, ExportsObject, Na
 
 -- what callers see of a stay: the frame of the function that it executes, and those of the functions that called it, the
 -- last one last; the numbers of the finishes that it opened and hasn't closed, the last one first, and the one that it
--- inherited; whether it waits for an at, and where its result goes
+-- inherited; whether it waits for an at, whether it is inside an atomic region, and where its result goes
 pub record StayState : Type 0 where
   pub top : CallFrame
   pub callers : List CallFrame
   pub finishes : List ℕ
   pub inherited : Finish
   pub away : Bool
+  pub inside : Bool
   pub back : Option Origin
 
 -- the frames that boxes hold
@@ -164,11 +166,17 @@ abbrev pub open_in : Module → List CallFrame → ℕ
 open_in program [] = 0
 open_in program (f ∷ fs) = open_at program f + open_in program fs
 
--- the stay stands where it can go on, with as many finishes open as its frames stand in
+-- whether a frame stands in an atomic region of its function
+abbrev pub in_region : Module → CallFrame → Bool
+in_region program f = is_inside (code_at program f.function) f.pc
+
+-- the stay stands where it can go on, with as many finishes open as its frames stand in, and is inside an atomic region
+-- exactly where its top frame stands in one
 pub record IsPlaced (program : Module) (a : StayState) : Type 0 where
   pub top : IsInside program a.top
   pub callers : AreCalling program a.callers a.top.function
   pub finishes : length a.finishes ≡ open_in program a.callers + open_at program a.top
+  pub region : a.inside ≡ in_region program a.top
 
 -- ---- steps
 
@@ -243,6 +251,13 @@ pub record Prints (program : Module) (a : StayState) (s : StoreState) (i : Instr
   pub rest : b ≡ record a { top = b.top }
   pub store : t ≡ record s { lines = s.lines ++ printed ∷ [] }
 
+-- ---- atomic regions
+
+-- the stay goes on to the next instruction, from then on inside an atomic region or not
+pub record GoesOnInside (inside : Bool) (a b : StayState) : Type 0 where
+  pub top : GoesNext a.top b.top
+  pub rest : b ≡ record a { top = b.top; inside = inside }
+
 -- ---- finishes
 
 -- a finish is opened: it takes the next number, and nothing was reported of it yet
@@ -286,6 +301,7 @@ Steps route.Export at a s i o b t = (o ≡ outcome.Goes) × ChangesTop (λ v w. 
 Steps route.Call at a s i o b t = (o ≡ outcome.Goes) × Calls at.program a i b × (t ≡ s)
 Steps route.Return at a s i o b t = Returns at.program a s i o b t
 Steps route.Print at a s i o b t = (o ≡ outcome.Goes) × Prints at.program a s i b t
+Steps (route.Region inside) at a s i o b t = (o ≡ outcome.Goes) × GoesOnInside inside a b × (t ≡ s)
 Steps route.OpenFinish at a s i o b t = (o ≡ outcome.Goes) × OpensFinish a s b t
 Steps route.CloseFinish at a s i o b t = LeavesFinish a s o b t
 Steps route.Begin at a s i o b t = (o ≡ outcome.ForPlace) × (b ≡ a) × (t ≡ s)
@@ -334,4 +350,5 @@ pub record IsBegun (program : Module) (words : List ℕ) (i : Instr) (under : Fi
   pub finishes : c.finishes ≡ []
   pub inherited : c.inherited ≡ under
   pub away : c.away ≡ false
+  pub inside : c.inside ≡ false
   pub back : c.back ≡ None

@@ -1,5 +1,5 @@
 -- Steps of one activity at a stretch.
-use Rattle.std.specs.Prelude.{◌≡◌, ◌⊎◌, ℕ, ◌+◌, ◌<◌, ◌≤◌, Bool, false, ◌≢◌, ◌^◌, None, Some, Result, Ok, Err, IfOk, IfErr, MatchResult, length}
+use Rattle.std.specs.Prelude.{◌≡◌, ◌⊎◌, ℕ, ◌+◌, ◌<◌, ◌≤◌, Bool, true, false, ◌≢◌, ◌^◌, Option, None, Some, Result, Ok, Err, IfOk, IfErr, MatchResult, length}
 use Rattle.slab.specs.Slab.{Slab, get}
 use Rattle.x10_kinds.specs.declared.stop.Stop.{Stop}
 use Rattle.x10_kinds.specs.declared.stop.Stop.TheVariants as stop
@@ -21,8 +21,8 @@ use Rattle.x10_place.specs.Messages.{no_sent}
 use Rattle.x10_place.specs.Frames.{Workspace, IsFetched, IsFetchedFor, Acts}
 use Rattle.x10_place.specs.Stays.{StayState, StoreState, Location, IsPlaced, GoesNext, IsBegun, innermost_at, totals_in, books_in, changed_at}
 use Rattle.x10_place.specs.Stays.{Recounts, Steps, Refuses}
-use Rattle.x10_place.specs.StandsFor.{PlaceState, place_of, location_of, plain, Keeps, IsWorking, IsStanding, LeadsAll, IsIdleAt, IsOverfull}
-use Rattle.x10_place.specs.StandsFor.{IsHindered, OverfillsBegin}
+use Rattle.x10_place.specs.StandsFor.{PlaceState, place_of, location_of, plain, Keeps, IsWorking, IsStanding, LeadsAll, IsIdleAt, IsOverfull, AreOutside}
+use Rattle.x10_place.specs.StandsFor.{IsHindered, OverfillsBegin, inside_at}
 use Rattle.x10_place.specs.Routes.{route_of}
 
 -- ---- of one frame
@@ -134,6 +134,15 @@ pub record IsUntouched (old : Slab StayState) (s : StoreState) (new : Slab StayS
   pub stays : plain new ≡ plain old
   pub store : t ≡ s
 
+-- the same stays are inside atomic regions
+abbrev pub SameInside : Slab StayState → Slab StayState → Type 0
+SameInside old new = (key : ℕ) → inside_at new key ≡ inside_at old key
+
+-- the key of a stay that is inside one
+abbrev pub insider_of : Bool → ℕ → Option ℕ
+insider_of false key = None
+insider_of true key = Some key
+
 -- why an activity doesn't begin
 abbrev pub RefusesBegin : Certified → Slab StayState → StoreState → ℕ → Stop → Type 0
 RefusesBegin verified stays s key why = (why ≡ stop.Memory)
@@ -167,6 +176,7 @@ pub record IsForPlace (verified : Certified) (old : Slab StayState) (s : StoreSt
   pub stay : StayState
   pub is_there : get old key ≡ Some stay
   pub ready : stay.away ≡ false
+  pub outside : AreOutside old key
   pub fetched : IsFetchedFor verified.program stay.top instr
   pub steps : Steps (route_of instr.op) (location_of (place_of verified old s false)) stay s instr outcome.ForPlace stay s
 

@@ -207,7 +207,6 @@ fn act(
                 instr.x as u16
             }
         }
-        Local::Next => pc + 1,
         Local::Jump => instr.x as u16,
         Local::JumpIfZero => {
             if int(registers, instr.a) == 0 {

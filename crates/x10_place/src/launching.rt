@@ -125,6 +125,7 @@ pub(crate) fn launch_with(
         finishes: Vec::new(alloc),
         inherited: launch.under,
         away: false,
+        inside: false,
         back: launch.back,
     });
     Ok(())

@@ -28,6 +28,7 @@ fn main(alloc: Global, verified: &Verified) -> Result<Stay, AllocError>
         finishes: Vec::new(alloc),
         inherited: Finish { home: 0, number: 0 },
         away: false,
+        inside: false,
         back: None,
     })
 }

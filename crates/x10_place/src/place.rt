@@ -1,10 +1,10 @@
 ghost use Rattle.std.specs.Prelude.{◌≡◌, ◌≢◌, ◌==◌, ◌<◌, ◌≤◌, ◌↔◌, ◌⊎◌, ℕ, true, false, IsTrue, IfOk, IfErr, IfSome, MatchOption, MatchResult, Ok, Err, Some, None};
 ghost use Rattle.slab.specs.Slab.{get, slab_len, ContainsKey};
 ghost use Rattle.x10_kinds.specs.declared.stop.Stop.TheVariants as stop;
-ghost use Rattle.x10_place.specs.StandsFor.{PlaceState, store_of, LeadsAll, Keeps, IsIdleAt, IsOverfull, IsHindered, IsAt, IsOperation};
+ghost use Rattle.x10_place.specs.StandsFor.{PlaceState, store_of, LeadsAll, Keeps, IsIdleAt, IsOverfull, IsHindered, IsAt, IsOperation, inside_at, AreOutside, IsInsider};
 ghost use Rattle.x10_place.specs.Opening.{IsNew, IsNextKey, Opens, keys_of};
 ghost use Rattle.x10_place.specs.Stays.{StayState, IsDoneHere};
-ghost use Rattle.x10_place.specs.Messages.{no_sent};
+ghost use Rattle.x10_place.specs.Messages.{no_sent as nothing_sent};
 ghost use Rattle.x10_place.specs.Receiving.{IsTaken, IsRefusedBytes, IsOfFrame, stops};
 ghost use Rattle.x10_place.specs.Stretches.{Strides, StridesTo, BeginsLast};
 ghost use Rattle.x10_copy.specs.declared.refusal.Refusal.TheVariants as refusal;
@@ -12,7 +12,7 @@ ghost use Rattle.x10_copy.specs.declared.refusal.Refusal.TheVariants as refusal;
 use crate::line::Line;
 use crate::opening::with_main;
 use crate::receiving::{is_stop, receive_in};
-use crate::sent::Sent;
+use crate::sent::{Sent, no_sent};
 use crate::stay::{Spot, Stay};
 use crate::step::{run_in, step_in};
 use crate::store::Store;
@@ -27,35 +27,38 @@ use x10_verify::Verified;
 /// What a step did.
 #[derive(Drop)]
 pub enum Stepped {
-    /// Nothing: there is no activity with the key, it is away, or it waits at the end of a finish.
+    /// Nothing: there is no activity with the key, it is away, another is inside an atomic region, or it waits at the end of
+    /// a finish.
     Idle,
     /// One move of the activity, and what it put out.
     Moved(Sent),
 }
 
-/// A place: the stays of activities by key, and what they share.
+/// A place: the stays of activities by key, which of them is inside an atomic region, and what they share.
 #[derive(Drop)]
 pub struct Place<'a> {
     alloc: Global,
     verified: &'a Verified<'a>,
     stays: Slab<Stay>,
+    inside: Option<usize>,
     store: Store,
     stopped: bool,
 }
 
 impl<'a> Model for Place<'a> {
-    ghost use Rattle.x10_place.specs.StandsFor.{PlaceState, place_of, IsStanding};
+    ghost use Rattle.x10_place.specs.StandsFor.{PlaceState, place_of, IsStanding, IsInsider};
 
     ghost Value = { PlaceState };
 
     ghost view = { λ a. place_of a.verified.now a.stays a.store a.stopped };
 
-    ghost invariant = { λ a. IsStanding (place_of a.verified.now a.stays a.store a.stopped) };
+    ghost invariant = { λ a. IsStanding (place_of a.verified.now a.stays a.store a.stopped) × IsInsider a.stays a.inside };
 }
 
 impl<'a> Place<'a> {
     /// One step of the activity with a key, and what it puts out. It is Idle, and nothing has changed, exactly where there is
-    /// no such activity, where it is away, or where it stands at the end of a finish that may not end yet. A Stop comes only
+    /// no such activity, where it is away, where another is inside an atomic region, or where it stands at the end of a finish
+    /// that may not end yet. A Stop comes only
     /// where a growth was refused, where there can be no more of what the step would make (Limit 1: objects, 2: texts, 3:
     /// rails, 4: global references, 5: finishes; at most 2^32 - 1 of each; 6: activities that live under one finish, or were
     /// sent to one place under it; 10: the number of a key), where what the step sends leads to more than 65,535 objects,
@@ -71,7 +74,7 @@ impl<'a> Place<'a> {
     pub fn step(&mut self, key: usize) -> Result<Stepped, Stop>
         ensures idle { self.old.stopped ≢ true → IsIdleAt self.old key → (result ≡ Ok Stepped.Idle) × (self.new ≡ self.old) }
         ensures only { self.old.stopped ≢ true → result ≡ Ok Stepped.Idle → IsIdleAt self.old key }
-        ensures some { (a : StayState) → get self.old.stays key ≡ Some a → a.away ≡ false → IfOk result (λ stepped. LeadsAll self.old key stepped self.new) }
+        ensures some { (a : StayState) → get self.old.stays key ≡ Some a → a.away ≡ false → AreOutside self.old.stays key → IfOk result (λ stepped. LeadsAll self.old key stepped self.new) }
         ensures stopped { self.old.stopped ≡ true → result ≡ Err stop.Stopped }
         ensures refused { self.old.stopped ≢ true → IfErr result (IsHindered self.old key) }
         ensures full { self.old.stopped ≢ true → (limit : ℕ) → IsOverfull self.old key limit → result ≡ Err (stop.Limit limit) }
@@ -82,9 +85,19 @@ impl<'a> Place<'a> {
         if self.stopped {
             return Err(Stop::Stopped);
         }
+        if self.is_kept_out(key) {
+            return Ok(Stepped::Idle);
+        }
         let verified = self.verified;
         verified.certificate();
-        let made = step_in(self.alloc, verified, &mut self.stays, &mut self.store, key);
+        let made = step_in(
+            self.alloc,
+            verified,
+            &mut self.stays,
+            &mut self.inside,
+            &mut self.store,
+            key,
+        );
         self.stopped = made.is_err();
         made
     }
@@ -96,7 +109,7 @@ impl<'a> Place<'a> {
     pub fn run(&mut self, key: usize, most: u64) -> (u64, Result<Sent, Stop>)
         ensures ran { MatchResult result.1 (λ sent. StridesTo key self.old result.0 sent self.new) (λ why. (p : PlaceState) × Strides key self.old result.0 p × (self.new ≡ record p { stopped = true }) × (self.old.stopped ≢ true → IsHindered p key why)) }
         ensures few { result.0 ≤ most }
-        ensures all { IfOk result.1 (λ sent. result.0 < most → IsIdleAt self.new key ⊎ BeginsLast key self.old result.0 self.new ⊎ (sent ≢ no_sent)) }
+        ensures all { IfOk result.1 (λ sent. result.0 < most → IsIdleAt self.new key ⊎ BeginsLast key self.old result.0 self.new ⊎ (sent ≢ nothing_sent)) }
         ensures stopped { self.old.stopped ≡ true → (result.0 ≡ 0) × (result.1 ≡ Err stop.Stopped) }
         ensures goes { IfOk result.1 (λ _. self.new.stopped ≢ true) }
         ensures kept { Keeps self.old self.new }
@@ -104,12 +117,16 @@ impl<'a> Place<'a> {
         if self.stopped {
             return (0, Err(Stop::Stopped));
         }
+        if self.is_kept_out(key) {
+            return (0, Ok(no_sent()));
+        }
         let verified = self.verified;
         verified.certificate();
         let (done, last) = run_in(
             self.alloc,
             verified,
             &mut self.stays,
+            &mut self.inside,
             &mut self.store,
             key,
             most,
@@ -180,6 +197,7 @@ impl<'a> Place<'a> {
             alloc,
             verified,
             stays,
+            inside: None,
             store,
             stopped: false,
         })
@@ -239,6 +257,27 @@ impl<'a> Place<'a> {
         ensures vacant { get self.now.stays result ≡ None }
     {
         self.stays.vacant_key()
+    }
+
+    /// The key of the activity that is inside an atomic region: no other of this place moves until it has left it. Constant
+    /// time.
+    #[inline(always)]
+    pub fn inside(&self) -> Option<usize>
+        ensures { IsInsider self.now.stays result }
+    {
+        self.inside
+    }
+
+    /// Whether another activity than that with a key is inside an atomic region.
+    #[inline(always)]
+    fn is_kept_out(&self, key: usize) -> bool
+        ensures out { IsTrue result → (other : ℕ) × (inside_at self.now.stays other ≡ true) × (other ≢ key) }
+        ensures free { result ≡ false → AreOutside self.now.stays key }
+    {
+        match self.inside {
+            Some(other) => other != key,
+            None => false,
+        }
     }
 
     /// The function and the number of the instruction at which the activity with a key stands, and its operation.

@@ -6,7 +6,7 @@ ghost use Rattle.x10_copy.specs.declared.refusal.Refusal.TheVariants as refusal;
 ghost use Rattle.x10_place.specs.Arrivals.{IsUnread, IsTakenFrame, to_in};
 ghost use Rattle.x10_place.specs.Receiving.{IsTaken, TakesFrame, IsShut, IsRefusedFrame, IsRefusedBytes, IsOfFrame, stops};
 ghost use Rattle.x10_place.specs.StandsFor.{place_of, IsStanding, Keeps};
-ghost use Rattle.x10_place.specs.Stretches.{IsUntouched};
+ghost use Rattle.x10_place.specs.Stretches.{IsUntouched, SameInside};
 
 use crate::launching::{Launch, launch_with};
 use crate::place::Place;
@@ -59,6 +59,7 @@ fn take(
     ensures ok { OnOk result (IsTakenFrame verified.now stays.old store.old view.now stays.new store.new) }
     ensures err { OnErr result (IsUntouched stays.old store.old stays.new store.new) }
     ensures refused { IfErr result (λ why. (stopped : Bool) → IsRefusedFrame (place_of verified.now stays.old store.old stopped) view.now why) }
+    ensures inside { SameInside stays.old stays.new }
 {
     verified.certificate();
     let head = view.head();
@@ -126,6 +127,7 @@ pub(crate) fn receive_in(
     ensures standing { IsStanding (place_of verified.now stays.new store.new false) }
     ensures here { store.new.here ≡ store.old.here }
     ensures places { store.new.places ≡ store.old.places }
+    ensures inside { SameInside stays.old stays.new }
 {
     let places = store.spot().places;
     let view = read(alloc, bytes, places)?;

@@ -54,8 +54,6 @@ pub(crate) enum Local {
     Open,
     /// Goes on where two registers stand for one place, else to x.
     SamePlace,
-    /// Goes to the next instruction.
-    Next,
     /// Goes to x.
     Jump,
     /// Goes to x where a register is 0.
@@ -105,6 +103,8 @@ pub(crate) enum Route {
     Call,
     Return,
     Print,
+    /// Enters an atomic region, or leaves it where the argument is false.
+    Region(bool),
     /// Opens a finish.
     OpenFinish,
     /// Closes the innermost finish, or waits there.
@@ -164,7 +164,7 @@ pub(crate) fn classify(op: Op) -> Route
         Op::Finb => Route::OpenFinish,
         Op::Fine => Route::CloseFinish,
         Op::At | Op::Ata => Route::Send,
-        // no image has an atomic region yet
-        Op::Atomb | Op::Atome => Route::Local(Local::Next),
+        Op::Atomb => Route::Region(true),
+        Op::Atome => Route::Region(false),
     }
 }

@@ -9,7 +9,7 @@ ghost use Rattle.x10_place.specs.Routes.{route_of};
 ghost use Rattle.x10_heap.specs.Heaps.{IsFull};
 ghost use Rattle.x10_place.specs.StandsFor.{IsTypedFrame, IsWorking};
 ghost use Rattle.x10_place.specs.declared.stay.Spot.{Spot};
-ghost use Rattle.x10_place.specs.Stays.{location, finish_as, innermost_at, IsBegun, IsPlaced, Calls, Returns, IsPrinted, Prints, OpensFinish, LeavesFinish, HasFinish, ReadsStore, OverfillsBy, Refuses, Steps};
+ghost use Rattle.x10_place.specs.Stays.{location, finish_as, innermost_at, IsBegun, IsPlaced, Calls, Returns, IsPrinted, Prints, GoesOnInside, OpensFinish, LeavesFinish, HasFinish, ReadsStore, OverfillsBy, Refuses, Steps};
 ghost use Rattle.x10_place.specs.Stretches.{Stretched, Paused};
 
 use crate::frame::CallFrame;
@@ -39,8 +39,8 @@ pub struct Origin {
 }
 
 /// The stay of an activity at this place: the function that it executes, and those that called it, the last one last; the
-/// finishes that it opened, the last one last, and the one that it inherited; whether it waits for an `at`, and where its
-/// result goes.
+/// finishes that it opened, the last one last, and the one that it inherited; whether it waits for an `at`, whether it is
+/// inside an atomic region, and where its result goes.
 #[derive(Drop)]
 pub struct Stay {
     pub(crate) top: Box<CallFrame>,
@@ -48,6 +48,7 @@ pub struct Stay {
     pub(crate) finishes: Vec<u32>,
     pub(crate) inherited: Finish,
     pub(crate) away: bool,
+    pub(crate) inside: bool,
     pub(crate) back: Option<Origin>,
 }
 
@@ -57,7 +58,7 @@ impl Model for Stay {
 
     ghost Value = { StayState };
 
-    ghost view = { λ a. record { top = a.top.value; callers = frames_of a.callers.items; finishes = reverse a.finishes.items; inherited = finish_as a.inherited; away = a.away; back = origin_as a.back } };
+    ghost view = { λ a. record { top = a.top.value; callers = frames_of a.callers.items; finishes = reverse a.finishes.items; inherited = finish_as a.inherited; away = a.away; inside = a.inside; back = origin_as a.back } };
 }
 
 /// What becomes of a stay in a step.
@@ -171,8 +172,19 @@ impl Stay {
             finishes: Vec::new(alloc),
             inherited: under,
             away: false,
+            inside: false,
             back: None,
         })
+    }
+
+    /// An atomic region is entered, or left.
+    #[inline(always)]
+    fn mark(&mut self, inside: bool)
+        requires { self.old.top.pc + 1 < 2 ^ 16 }
+        ensures { GoesOnInside inside self.old self.new }
+    {
+        self.top.next();
+        self.inside = inside;
     }
 
     /// A finish is opened. Where it is refused, nothing has changed.
@@ -288,6 +300,10 @@ impl Stay {
             }
             Route::Export => {
                 self.top.export(spot, &mut store.heap, instr)?;
+                return Ok(Outcome::Goes);
+            }
+            Route::Region(inside) => {
+                self.mark(inside);
                 return Ok(Outcome::Goes);
             }
             Route::OpenFinish => {

@@ -40,7 +40,7 @@ fn refusal(alloc: Global, text: &str) -> Option<(usize, AsmCause)> {
 #[test]
 fn operations_of_a_version_are_assembled(rt: HostRuntime) {
     assert!(rt; refusal(rt.alloc(), ATOMIC) == Some((3, AsmCause::Word)));
-    assert!(rt; refusal(rt.alloc(), ATOMIC_IN_TWO) == Some((6, AsmCause::Word)));
+    assert!(rt; refusal(rt.alloc(), ATOMIC_IN_TWO).is_none());
 }
 
 /// The word at which a line is faulty, in a text of a version without classes.
@@ -54,7 +54,8 @@ fn operations_of_a_version_are_no_flaws(rt: HostRuntime) {
     assert!(rt; version_in(ATOMIC_IN_TWO) == ImageVersion::Two);
     assert!(rt; version_in("places 1\nversion 2\n") == ImageVersion::One);
     assert!(rt; faulty_word(" ATOMB 1", ImageVersion::One) == Some("ATOMB"));
-    assert!(rt; faulty_word(" ATOMB 1", ImageVersion::Two) == Some("ATOMB"));
+    assert!(rt; faulty_word(" ATOMB 1", ImageVersion::Two) == Some("1"));
+    assert!(rt; faulty_word("ATOME", ImageVersion::Two).is_none());
     assert!(rt; faulty_word("FINB 1", ImageVersion::One) == Some("1"));
     assert!(rt; faulty_word("version 2", ImageVersion::Two).is_none());
 }

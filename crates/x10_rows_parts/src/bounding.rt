@@ -2,7 +2,7 @@
 use crate::sources::{assembled, image_of, verified_of};
 use std::alloc::Global;
 use std::test::*;
-use x10_bounds::BoundCause::{CallOrder, Jump, LoopSlot, Memory, Nesting, TooLarge};
+use x10_bounds::BoundCause::{Atomic, CallOrder, Jump, LoopSlot, Memory, Nesting, TooLarge};
 use x10_bounds::{BoundFault, Region, bounds, regions};
 use x10_image::ImageView;
 use x10_verify::Verified;
@@ -79,6 +79,7 @@ fn texts(rt: HostRuntime) -> Result<(), Fail> {
         (Jump, "Jump 1 2"),
         (LoopSlot, "LoopSlot 1 2"),
         (CallOrder, "CallOrder 1 2"),
+        (Atomic, "Atomic 1 2"),
         (TooLarge, "TooLarge 1 2"),
         (Memory, "Memory 1 2"),
     ];
@@ -90,6 +91,59 @@ fn texts(rt: HostRuntime) -> Result<(), Fail> {
         };
         assert_eq!(rt; format!(in rt.alloc(); "{fault}")?.as_str(), text);
     }
+    Ok(())
+}
+
+/// A module of version 2 with two functions. The second one has these lines.
+fn with_lines(alloc: Global, lines: &str) -> Result<Vec<u8>, Fail> {
+    let text = format!(in alloc;
+        "version 2\nplaces 1\nfunc 1 0 none\nRET 0\nend\nfunc 1 2 none\n{lines}end\nentry 0\n"
+    )?;
+    assembled(alloc, text.as_str())
+}
+
+/// Where its structure is at fault, and how.
+fn fault(alloc: Global, lines: &str) -> Result<Option<BoundFault>, Fail> {
+    let image = with_lines(alloc, lines)?;
+    let view = image_of(alloc, &image)?;
+    Ok(bounds(alloc, &view).err())
+}
+
+#[test]
+fn what_stays_out_of_atomic_regions(rt: HostRuntime) -> Result<(), Fail> {
+    let faults = [
+        ("ATOMB\nCALL 0 0 0\nATOME\nRET 0\n", Atomic, 1),
+        ("HERE 0\nATOMB\nAT 0 0 0 0\nATOME\nRET 0\n", Atomic, 2),
+        ("HERE 0\nATOMB\nATA 0 0 0\nATOME\nRET 0\n", Atomic, 2),
+        ("ATOMB\nASYNC 0 0\nATOME\nRET 0\n", Atomic, 1),
+        ("ATOMB\nFINB\nFINE\nATOME\nRET 0\n", Atomic, 1),
+        ("ATOMB\nATOMB\nATOME\nATOME\nRET 0\n", Atomic, 1),
+        ("ATOMB\nJMP 3\nATOME\nRET 0\n", Jump, 1),
+        ("JMP 2\nATOMB\nHERE 0\nATOME\nRET 0\n", Jump, 0),
+        ("ATOMB\nRET 0\nATOME\nRET 0\n", Nesting, 1),
+        ("LOOP 0 2\nATOMB\nENDL 0 1\nATOME\nRET 0\n", Nesting, 2),
+        ("ATOME\nRET 0\n", Nesting, 0),
+        ("ATOMB\nCALL 0 0 1\nATOME\nRET 0\n", CallOrder, 1),
+    ];
+    for (lines, cause, pc) in faults {
+        let wanted = BoundFault {
+            cause,
+            function: 1,
+            pc,
+        };
+        assert!(rt; fault(rt.alloc(), lines)? == Some(wanted), "{lines}");
+    }
+    Ok(())
+}
+
+#[test]
+fn atomic_regions_multiply_nothing(rt: HostRuntime) -> Result<(), Fail> {
+    let lines = "LOOP 0 3\nATOMB\nLOOP 1 4\nENDL 1 3\nATOME\nENDL 0 1\nRET 0\n";
+    let image = with_lines(rt.alloc(), lines)?;
+    let view = image_of(rt.alloc(), &image)?;
+    assert!(rt; are_bounds(rt.alloc(), &view, &[1, 26])?);
+    let wanted = [region(0, 5, 3), region(1, 4, 1), region(2, 3, 4)];
+    assert!(rt; all_regions(rt.alloc(), &view)?.as_slice() == wanted.as_slice());
     Ok(())
 }
 

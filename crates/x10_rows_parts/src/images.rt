@@ -379,16 +379,8 @@ fn with_operation(alloc: Global, version: ImageVersion, op: Op) -> Result<Module
 /// Operations without operands, and the fault of an image that has one second, in version 1 and in version 2.
 const OPERATIONS: [(Op, Option<ImageFault>, Option<ImageFault>); 3] = [
     (Op::Finb, None, None),
-    (
-        Op::Atomb,
-        Some(ImageFault::Code(0, 1)),
-        Some(ImageFault::Code(0, 1)),
-    ),
-    (
-        Op::Atome,
-        Some(ImageFault::Code(0, 1)),
-        Some(ImageFault::Code(0, 1)),
-    ),
+    (Op::Atomb, Some(ImageFault::Code(0, 1)), None),
+    (Op::Atome, Some(ImageFault::Code(0, 1)), None),
 ];
 
 #[test]

@@ -16,6 +16,8 @@ mod places;
 #[cfg(test)]
 mod receiving;
 #[cfg(test)]
+mod regions;
+#[cfg(test)]
 mod travels;
 #[cfg(test)]
 mod worlds;

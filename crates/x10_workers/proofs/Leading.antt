@@ -10,7 +10,7 @@ use Rattle.x10_place.specs.declared.place.Stepped.{Stepped}
 use Rattle.x10_place.specs.declared.place.Stepped.TheVariants as stepped
 use Rattle.x10_place.specs.declared.sent.Sent.{Sent}
 use Rattle.x10_place.specs.Messages.{no_sent}
-use Rattle.x10_place.specs.StandsFor.{PlaceState, IsIdleAt, LeadsAll, Keeps}
+use Rattle.x10_place.specs.StandsFor.{PlaceState, IsIdleAt, LeadsAll, Keeps, AreOutside}
 use Rattle.x10_place.specs.Stays.{StayState}
 use Rattle.x10_place.specs.Stretches.{Strides, at_once, onward, StridesTo, nowhere, finally}
 use Rattle.x10_hall.specs.declared.turn.Posted.{Posted}
@@ -75,12 +75,12 @@ pub record IsStepOf (p : PlaceState) (key : ℕ) (answer : Stepped) (q : PlaceSt
 
 -- what a step's clauses say of a place that goes on
 pub steps_by : (p q : PlaceState) (key : ℕ) (result : Result Stepped Stop) (answer : Stepped) → result ≡ Ok answer → (IsIdleAt p key → (result ≡ Ok stepped.Idle) × (q ≡ p)) → (result ≡ Ok stepped.Idle → IsIdleAt p key)
-    → ((a : StayState) → get p.stays key ≡ Some a → a.away ≡ false → IfOk result (λ s. LeadsAll p key s q)) → IfOk result (λ s. q.stopped ≢ true) → Keeps p q → IsStepOf p key answer q
+    → ((a : StayState) → get p.stays key ≡ Some a → a.away ≡ false → AreOutside p.stays key → IfOk result (λ s. LeadsAll p key s q)) → IfOk result (λ s. q.stopped ≢ true) → Keeps p q → IsStepOf p key answer q
 steps_by p q key result answer is idle only some goes kept =
     let made : IsMade p q key answer = record {
       idle = λ still. (is_same answer stepped.Idle (sym is ∙ (idle still).0), (idle still).1);
       only = λ same. only (is ∙ ap (λ s. Ok s) same);
-      some = λ a there ready. if_ok_at result answer (λ s. LeadsAll p key s q) is (some a there ready);
+      some = λ a there ready outside. if_ok_at result answer (λ s. LeadsAll p key s q) is (some a there ready outside);
       goes = if_ok_at result answer (λ s. q.stopped ≢ true) is goes;
     } in
     record { steps = step_alone p q key answer (by_step answer q made kept); goes = made.goes; still = λ same. (made.idle (made.only same)).1 }

@@ -6,8 +6,9 @@ use x10_place::Place;
 const SET_ASIDE: usize = usize::MAX;
 
 /// Which activity of a place makes the next step: the keys are stepped by rising number, round after round, and an activity
-/// that begins waits for the next round. An activity that finds nothing to do, since it is away or waits for a finish, is set
-/// aside. It takes part again once a frame has come in, an activity has ended here, or none of the others can move.
+/// that begins waits for the next round. An activity that finds nothing to do, since it is away, waits for a finish or is kept
+/// out by one in an atomic region, is set aside. It takes part again once a frame has come in, an activity has ended here or
+/// left an atomic region, or none of the others can move.
 #[derive(Drop)]
 pub(crate) struct Rounds {
     /// The keys of this round, by rising number, some of them perhaps given up.
@@ -22,6 +23,8 @@ pub(crate) struct Rounds {
     moved: bool,
     /// Whether no key was set aside when this round began.
     is_full: bool,
+    /// Whether an activity was inside an atomic region after the last step that moved.
+    inside: bool,
 }
 
 impl Rounds {
@@ -38,6 +41,7 @@ impl Rounds {
             at: 0,
             moved: true,
             is_full: true,
+            inside: false,
         })
     }
 
@@ -50,7 +54,9 @@ impl Rounds {
     /// The activity with a key moved; an activity that it began has the key `vacant`, which was free before.
     pub fn stepped(&mut self, place: &Place, key: usize, vacant: usize) -> Result<(), AllocError> {
         self.note(place, vacant)?;
-        if place.contains(key) {
+        let was_inside = std::mem::replace(&mut self.inside, place.inside().is_some());
+        let has_left = was_inside && !self.inside;
+        if place.contains(key) && !has_left {
             return Ok(());
         }
         self.fresh.append(&mut self.aside)

@@ -19,6 +19,8 @@ use Rattle.x10_world.specs.Handling.{Handles, Stretches}
 use Rattle.x10_world.proofs.Courses.{stop_stands}
 use Rattle.x10_world.proofs.Making.{repeats_reach, halted_repeats}
 use Rattle.x10_world.proofs.Repeating.{run_waits}
+use Rattle.x10_model.specs.Places.{IsFree}
+use Rattle.x10_finish.specs.Nesting.{stays_of}
 
 -- a world that has not stopped
 pub world_on : (program : Module) (bounds : List ℕ) (places : List PlaceState) (flights : FlightsState) (b : Bool) → IsWorld program bounds places flights b → b ≢ true → IsWorld program bounds places flights false
@@ -80,9 +82,9 @@ module _ (c : Certified) (places : List PlaceState) (flights : FlightsState) (z 
       ]
     ]
 
-    pub run_prompt : (result : Result ℕ Stop) → Stretches c places flights place key most result new after → IfOk result (λ n. n < most → after.flying ≡ [] → (w : World) (number : ℕ) → StandsForWorld (world_of c new after d) w → WorksIn w place key number → MayEnd w (finish_at place number) → Ends n)
+    pub run_prompt : (result : Result ℕ Stop) → Stretches c places flights place key most result new after → IfOk result (λ n. n < most → after.flying ≡ [] → (w : World) (number : ℕ) → StandsForWorld (world_of c new after d) w → WorksIn w place key number → IsFree (stays_of w.net place) key → MayEnd w (finish_at place number) → Ends n)
     run_prompt (Err why) h = tt
-    run_prompt (Ok n) h = λ less still w number stand works may. run_waits (world_of c new after d) place key number (Ends n) h.world.belong still (run_all (Ok n) h less) w stand works may
+    run_prompt (Ok n) h = λ less still w number stand works free may. run_waits (world_of c new after d) place key number (Ends n) h.world.belong still (run_all (Ok n) h less) w stand works free may
 
     pub run_kept : (result : Result ℕ Stop) → Stretches c places flights place key most result new after → KeepsSetting z (world_of c new after d)
     run_kept result h = subst (λ t. KeepsSetting t (world_of c new after d)) seen (record { program = refl; bounds = refl; count = h.count })

@@ -26,7 +26,7 @@ still_there (z ∷ zs) ys (suc i) x e = still_there zs ys i x e
 -- ---- moves
 
 exported : (s : Situation) (o : Op) (new : places.Place) (effect : Effect) → Way s o new effect → AreExported s.place new
-exported s o new effect (ways.goes_onward base top g) id e is = ap (λ xs. slice_get xs id) g.exports ∙ still_there s.place.exports g.more id e is
+exported s o new effect (ways.goes_onward base top inside g) id e is = ap (λ xs. slice_get xs id) g.exports ∙ still_there s.place.exports g.more id e is
 exported s o new effect _ id e is = is
 
 pub move_exports : (setting : Setting) (here key : ℕ) (old new : places.Place) (effect : Effect) → Moves setting here old key new effect → AreExported old new

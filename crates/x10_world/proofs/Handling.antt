@@ -11,7 +11,7 @@ use Rattle.x10_model.specs.declared.event.Event.{Event}
 use Rattle.x10_model.specs.declared.event.Event.TheVariants.{Step, Deliver}
 use Rattle.x10_model.specs.Places as machine
 use Rattle.x10_model.specs.Places.{Message, Waits, Effect, receiver}
-use Rattle.x10_model.specs.Worlds.{World, Ideal, Happens, Steps, steps, idle, no_place, no_stay, is_away, not_flying}
+use Rattle.x10_model.specs.Worlds.{World, Ideal, Happens, Steps, steps, idle, no_place, no_stay, is_away, not_flying, is_kept_out}
 use Rattle.x10_model.proofs.Lists.{none_some, set_same}
 use Rattle.x10_verify.specs.Certified.{Certified}
 use Rattle.x10_copy.specs.declared.refusal.Refusal.{Refusal}
@@ -21,7 +21,7 @@ use Rattle.x10_place.specs.declared.sent.Outgoing.{Outgoing}
 use Rattle.x10_place.specs.declared.sent.Sent.{Sent}
 use Rattle.x10_place.specs.Receiving.{IsTaken, IsRefusedBytes, stops}
 use Rattle.x10_place.specs.Stays.{StayState, finish_at}
-use Rattle.x10_place.specs.StandsFor.{PlaceState, Far, StandsFor, Keeps, Answers, LeadsAll, IsHindered, IsIdleAt, nobody, away, context_of, store_of}
+use Rattle.x10_place.specs.StandsFor.{PlaceState, Far, StandsFor, Keeps, Answers, LeadsAll, IsHindered, IsIdleAt, nobody, away, context_of, store_of, inside_at, AreOutside, kept_out, waits}
 use Rattle.x10_world.specs.declared.done.Happening.{Happening}
 use Rattle.x10_world.specs.declared.done.Happening.TheVariants as happening
 use Rattle.x10_world.specs.Happenings.{AreUnchanged, Happened}
@@ -38,6 +38,7 @@ use Rattle.x10_world.proofs.Refusing.{none_is_refused}
 use Rattle.x10_world.proofs.Stopping.{stand_stopped, stand_roomy}
 use Rattle.x10_world.proofs.Courses.{unchanged_self, sent_same}
 use Rattle.x10_world.proofs.Waiting.{idle_prompt}
+use Rattle.x10_place.proofs.Insides.{kept_out_of, outside_by}
 
 -- ---- where frames go
 
@@ -53,6 +54,9 @@ goes_below p m far key out q stand leads =
 abbrev pub MakesIn : Module → List ℕ → List PlaceState → FlightsState → World → Event → List PlaceState → FlightsState → Type 0
 MakesIn program bounds places flights w event new after = (v : World) × (h : Happens Ideal (setting_in program places) w event v) × (flights.flying ≡ [] → IsPrompt Ideal (setting_in program places) w event v h) × AllStandFor program bounds new after v
 
+idle_not : (out : Sent) → stepped.Moved out ≡ stepped.Idle → ⊥
+idle_not out e = cc
+
 module _ (program : Module) (bounds : List ℕ) (places : List PlaceState) (flights : FlightsState) (w : World) (here key : ℕ) (p : PlaceState) (bounds-are : bounds_of program ≡ Ok bounds) (belong : BelongTo program bounds (length places) places) (stand : AllStandFor program bounds places flights w)
     (is : slice_get places here ≡ Some p) where
   -- where no frame flies, a step waits only where its place finds nothing to do
@@ -65,15 +69,36 @@ module _ (program : Module) (bounds : List ℕ) (places : List PlaceState) (flig
   still_stand q answer e =
       subst (λ x. AllStandFor program bounds (slice_set places here q) (after_step flights x) w) (sym e.0) (subst (λ ps. AllStandFor program bounds ps flights w) (sym (ap (λ r. slice_set places here r) e.1 ∙ set_same places here p is)) stand)
 
+  -- another is inside an atomic region
+  kept_makes : (q : PlaceState) (answer : Stepped) (a : StayState) (other : ℕ) → IsMade p q key answer → get p.stays key ≡ Some a → inside_at p.stays other ≡ true → other ≢ key → MakesIn program bounds places flights w (Step here key) (slice_set places here q) (after_step flights answer)
+  kept_makes q answer a other made there inside apart =
+      let old = stand.some here p is in
+      let s = old.2.some key a there in
+      (w, idle (Step here key) (is_kept_out here key old.0 s.0 old.1 s.1 (kept_out_of (far_in w) p old.0 key other old.2 inside apart)), (λ still. tt), still_stand q answer (made.idle (kept_out other inside apart)))
+
+  -- none is
+  free_makes : (q : PlaceState) (answer : Stepped) (a : StayState) → IsMade p q key answer → get p.stays key ≡ Some a → a.away ≡ false → AreOutside p.stays key → MakesIn program bounds places flights w (Step here key) (slice_set places here q) (after_step flights answer)
+  free_makes q answer a made there off outside =
+      let v = step_leads program bounds places flights w here key p q answer bounds-are belong stand is (made.some a there off outside) in
+      (v.0, steps here key v.0 v.1, step_prompt q answer v.0 v.1 made v.2, v.3)
+
+  idle_makes : (q : PlaceState) (a : StayState) → IsMade p q key stepped.Idle → get p.stays key ≡ Some a → a.away ≡ false → IsIdleAt p key → MakesIn program bounds places flights w (Step here key) (slice_set places here q) (after_step flights stepped.Idle)
+  idle_makes q a made there off (nobody none) = absurd (none_some (get p.stays key) a none there)
+  idle_makes q a made there off (away b is_there on) = absurd (let f : true ≡ false = sym on ∙ ap (λ (x : StayState). x.away) (same_Some b a (sym is_there ∙ there)) ∙ off in cc)
+  idle_makes q a made there off (kept_out other inside apart) = kept_makes q stepped.Idle a other made there inside apart
+  idle_makes q a made there off (waits b number outer is_there free fine innermost not) = free_makes q stepped.Idle a made there off free
+
+  ready_makes : (q : PlaceState) (answer : Stepped) (a : StayState) → IsMade p q key answer → get p.stays key ≡ Some a → a.away ≡ false → MakesIn program bounds places flights w (Step here key) (slice_set places here q) (after_step flights answer)
+  ready_makes q stepped.Idle a made there off = idle_makes q a made there off (made.only refl)
+  ready_makes q (stepped.Moved out) a made there off = free_makes q (stepped.Moved out) a made there off (outside_by p.stays key (λ other inside apart. idle_not out (made.idle (kept_out other inside apart)).0))
+
   -- the activity is there, and away or not
   stay_makes : (q : PlaceState) (answer : Stepped) (a : StayState) (b : Bool) → IsMade p q key answer → get p.stays key ≡ Some a → a.away ≡ b → MakesIn program bounds places flights w (Step here key) (slice_set places here q) (after_step flights answer)
   stay_makes q answer a true made there off =
       let old = stand.some here p is in
       let s = old.2.some key a there in
       (w, idle (Step here key) (is_away here key old.0 s.0 old.1 s.1 (s.2.away ∙ off)), (λ still. tt), still_stand q answer (made.idle (away a there off)))
-  stay_makes q answer a false made there off =
-      let v = step_leads program bounds places flights w here key p q answer bounds-are belong stand is (made.some a there off) in
-      (v.0, steps here key v.0 v.1, step_prompt q answer v.0 v.1 made v.2, v.3)
+  stay_makes q answer a false made there off = ready_makes q answer a made there off
 
   step_makes : (q : PlaceState) (answer : Stepped) (o : Option StayState) → IsMade p q key answer → get p.stays key ≡ o → MakesIn program bounds places flights w (Step here key) (slice_set places here q) (after_step flights answer)
   step_makes q answer None made none = (let old = stand.some here p is in (w, idle (Step here key) (no_stay here key old.0 old.1 (old.2.none key none)), (λ still. tt), still_stand q answer (made.idle (nobody none))))
@@ -122,9 +147,6 @@ did_of (stepped.Moved out) = happening.Moved
 moved_is : (out : Sent) → ◌≡◌ {A = Result Stepped Stop} (Ok (stepped.Moved out)) (Ok stepped.Idle) → ⊥
 moved_is out e = cc
 
-idle_not : (out : Sent) → stepped.Moved out ≡ stepped.Idle → ⊥
-idle_not out e = cc
-
 -- an activity that made a step was there, and could
 moved_by : (p q : PlaceState) (key : ℕ) (out : Sent) → IsMade p q key (stepped.Moved out) → LeadsAll p key (stepped.Moved out) q × (IsIdleAt p key → ⊥)
 moved_by p q key out made = (at_stay (get p.stays key) refl, busy)
@@ -134,7 +156,7 @@ moved_by p q key out made = (at_stay (get p.stays key) refl, busy)
 
     ready : (a : StayState) (b : Bool) → get p.stays key ≡ Some a → a.away ≡ b → LeadsAll p key (stepped.Moved out) q
     ready a true is off = absurd (busy (away a is off))
-    ready a false is off = made.some a is off
+    ready a false is off = made.some a is off (outside_by p.stays key (λ other inside apart. busy (kept_out other inside apart)))
 
     at_stay : (o : Option StayState) → get p.stays key ≡ o → LeadsAll p key (stepped.Moved out) q
     at_stay None none = absurd (busy (nobody none))

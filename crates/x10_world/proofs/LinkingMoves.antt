@@ -147,7 +147,7 @@ waits_away net s to at op_is holds = record {
 -- ---- moves
 
 answers : (net : Net) (number : ℕ) (s : Situation) (o : Op) (new : places.Place) (effect : Effect) → Stands net s → s.instr.op ≡ o → Way s o new effect → Answered net number s new effect
-answers net number s o new effect at op_is (ways.goes_onward base top g) = works net number s base (record s.stay { top = top }) at g.stays (refl, same_first top s.stay.top s.stay.callers (same_function s o top g.onward))
+answers net number s o new effect at op_is (ways.goes_onward base top inside g) = works net number s base (record s.stay { top = top; inside = inside }) at g.stays (refl, same_first top s.stay.top s.stay.callers (same_function s o top g.onward))
 answers net number s o new effect at op_is (ways.calls callee arguments passes) = works net number s s.place _ at refl (refl, refl)
 answers net number s o new effect at op_is (ways.returns result caller callers call gives callers_are call_is is_call) =
     let top = resumed caller call.a result in

@@ -9,7 +9,7 @@ use Rattle.x10_model.proofs.Lists.{none_some}
 use Rattle.x10_place.specs.declared.place.Stepped.{Stepped}
 use Rattle.x10_place.specs.declared.place.Stepped.TheVariants as stepped
 use Rattle.x10_place.specs.Stays.{StayState}
-use Rattle.x10_place.specs.StandsFor.{PlaceState, LeadsAll, Keeps, IsIdleAt, IsHindered}
+use Rattle.x10_place.specs.StandsFor.{PlaceState, LeadsAll, Keeps, IsIdleAt, IsHindered, AreOutside}
 use Rattle.x10_world.specs.StandsForWorld.{IsStepped, StepsOne}
 
 -- no such place
@@ -23,7 +23,7 @@ refused_not answer why e = absurd cc
 pub record Answered (p q : PlaceState) (key : ℕ) (result : Result Stepped Stop) : Type 0 where
   pub idle : p.stopped ≢ true → IsIdleAt p key → (result ≡ Ok stepped.Idle) × (q ≡ p)
   pub only : p.stopped ≢ true → result ≡ Ok stepped.Idle → IsIdleAt p key
-  pub some : (a : StayState) → get p.stays key ≡ Some a → a.away ≡ false → IfOk result (λ answer. LeadsAll p key answer q)
+  pub some : (a : StayState) → get p.stays key ≡ Some a → a.away ≡ false → AreOutside p.stays key → IfOk result (λ answer. LeadsAll p key answer q)
   pub stopped : p.stopped ≡ true → result ≡ Err stop.Stopped
   pub refused : p.stopped ≢ true → IfErr result (IsHindered p key)
   pub stop : IfErr result (λ why. q ≡ record p { stopped = true })

@@ -37,6 +37,7 @@ use Rattle.x10_place.proofs.NeverIdle.{no_stride_is_idle}
 use Rattle.x10_world.proofs.Changing.{ChangesOne, belong_set, belong_after, none_stopped_after, length_after, few_after}
 use Rattle.x10_world.proofs.Stopping.{stand_roomy}
 use Rattle.x10_world.proofs.Handling.{goes_below, places_posted}
+use Rattle.x10_model.specs.Places.{IsFree}
 
 -- ---- one place
 
@@ -301,13 +302,13 @@ module _ (c : Certified) (places new : List PlaceState) (flights : FlightsState)
       ran = (halted_repeats before (world_of c new after true) id key most why halted world.world world.stands).2
 
 -- an activity that works and has nothing to do stands in a finish that may not end
-pub run_waits : (y : WorldState) (place key number : ℕ) (X : Type 0) → BelongTo y.program y.bounds (length y.places) y.places → y.flights.flying ≡ [] → IsIdleNow y place key ⊎ X → (w : World) → StandsForWorld y w → WorksIn w place key number → MayEnd w (finish_at place number) → X
-run_waits y place key number X belong still (inr x) w stand works may = x
-run_waits y place key number X belong still (inl idle) w stand works may = at_place (slice_get y.places place) refl
+pub run_waits : (y : WorldState) (place key number : ℕ) (X : Type 0) → BelongTo y.program y.bounds (length y.places) y.places → y.flights.flying ≡ [] → IsIdleNow y place key ⊎ X → (w : World) → StandsForWorld y w → WorksIn w place key number → IsFree (stays_of w.net place) key → MayEnd w (finish_at place number) → X
+run_waits y place key number X belong still (inr x) w stand works free may = x
+run_waits y place key number X belong still (inl idle) w stand works free may = at_place (slice_get y.places place) refl
   where
     at_place : (o : Option PlaceState) → slice_get y.places place ≡ o → X
     at_place None none = absurd (let e : stays_of w.net place key ≡ None = ap (λ o. stays_in o key) (stand.none place none) in none_some (stays_of w.net place key) works.stay e works.is_there)
-    at_place (Some p) is = absurd (idle_works y.program y.bounds y.places y.flights w place key number p belong stand still is (idle p is) works may)
+    at_place (Some p) is = absurd (idle_works y.program y.bounds y.places y.flights w place key number p belong stand still is (idle p is) works free may)
 
 -- ---- a stretch of one place of a list
 

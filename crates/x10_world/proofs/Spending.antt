@@ -148,8 +148,8 @@ nothing_left bounds s r (Some origin) message h = ap (left_for_any bounds) h.2
 -- ---- moves
 
 spends : (bounds : List ℕ) (s : Situation) (o : Op) (new : places.Place) (effect : Effect) → IsBoundedAt bounds s → s.instr.op ≡ o → Way s o new effect → Spends s.setting.program bounds s.place s.key s.stay new effect
-spends bounds s o new effect at is (ways.goes_onward base top g) =
-    let t : Stay = record s.stay { top = top } in
+spends bounds s o new effect at is (ways.goes_onward base top inside g) =
+    let t : Stay = record s.stay { top = top; inside = inside } in
     (t, takes_on bounds s _ t at refl (ap (λ f. with_entry f s.key (Some t)) g.stays) refl (falls_onward bounds s o top at is g.onward))
 spends bounds s o new effect at is (ways.calls callee arguments passing) =
     (_, calls bounds s o callee (record s.stay { top = entry_frame s.instr.x arguments; callers = s.stay.top ∷ s.stay.callers }) at is refl refl passing.callee_is refl (entry_left s.setting.program bounds s.instr.x callee (λ n. 0) at.bounds_are passing.callee_is) refl)

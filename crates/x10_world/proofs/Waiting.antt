@@ -5,17 +5,17 @@ use Rattle.std.proofs.lemmas.Option.{same_Some, slice_get_within}
 use Rattle.x10_code.specs.declared.op.Op.{Op}
 use Rattle.x10_model.specs.Modules.{Module}
 use Rattle.x10_model.specs.Places as machine
-use Rattle.x10_model.specs.Places.{Setting, Finish, Stay, Effect, Waits, Closes}
+use Rattle.x10_model.specs.Places.{Setting, Finish, Stay, IsFree, Effect, Waits, Closes}
 use Rattle.x10_model.specs.Moves.{Situation, Moves}
 use Rattle.x10_model.specs.Worlds.{World}
 use Rattle.x10_finish.specs.Closing.{IsAtItsEnd}
 use Rattle.x10_finish.specs.Nesting.{stays_in, stays_of}
 use Rattle.x10_finish.proofs.Watching.{ended_is_done}
 use Rattle.x10_place.specs.Stays.{StayState, IsDoneHere, finish_at}
-use Rattle.x10_place.specs.StandsFor.{PlaceState, store_of, IsIdleAt, nobody, away, waits}
+use Rattle.x10_place.specs.StandsFor.{PlaceState, store_of, IsIdleAt, nobody, away, kept_out, waits}
 use Rattle.x10_flights.specs.Flights.{FlightsState, flight_among}
 use Rattle.x10_world.specs.Prompt.{MayEnd, WorksIn}
-use Rattle.x10_world.specs.StandsForWorld.{BelongTo, setting_in, counts_in, AllStandFor, EndedIsDoneHere}
+use Rattle.x10_world.specs.StandsForWorld.{BelongTo, setting_in, counts_in, AllStandFor, EndedIsDoneHere, far_in}
 use Rattle.x10_model.proofs.NotWrong.{situation}
 use Rattle.x10_model.proofs.Ways as ways
 use Rattle.x10_model.proofs.Operations.{way_of}
@@ -23,6 +23,7 @@ use Rattle.x10_model.proofs.Ways.{Way}
 use Rattle.x10_model.proofs.Lists.{none_some}
 use Rattle.x10_model.proofs.Found.{head_is}
 use Rattle.x10_world.proofs.Moving.{done_by}
+use Rattle.x10_place.proofs.Insides.{kept_out_of}
 
 -- ---- where a finish may end, its home lets it
 
@@ -52,15 +53,18 @@ ready_away s t a e same on off = (let f : true ≡ false = sym on ∙ sym same �
 
 -- an activity that works and has nothing to do stands at the end of a finish that may not end
 pub idle_works : (program : Module) (bounds : List ℕ) (places : List PlaceState) (flights : FlightsState) (w : World) (here key number : ℕ) (p : PlaceState) → BelongTo program bounds (length places) places → AllStandFor program bounds places flights w → flights.flying ≡ [] → slice_get places here ≡ Some p → IsIdleAt p key
-    → WorksIn w here key number → MayEnd w (finish_at here number) → ⊥
-idle_works program bounds places flights w here key number p belong stand empty is (nobody none) works may =
+    → WorksIn w here key number → IsFree (stays_of w.net here) key → MayEnd w (finish_at here number) → ⊥
+idle_works program bounds places flights w here key number p belong stand empty is (nobody none) works free may =
     let old = stand.some here p is in
     none_some (old.0.stays key) works.stay (old.2.none key none) (same_stay places program bounds flights w here key p works.stay stand is works.is_there)
-idle_works program bounds places flights w here key number p belong stand empty is (away a there on) works may =
+idle_works program bounds places flights w here key number p belong stand empty is (away a there on) works free may =
     let old = stand.some here p is in
     let s = old.2.some key a there in
     ready_away s.0 works.stay a (same_Some s.0 works.stay (sym s.1 ∙ same_stay places program bounds flights w here key p works.stay stand is works.is_there)) s.2.away on works.is_ready
-idle_works program bounds places flights w here key number p belong stand empty is (waits a n outer there fine innermost not) works may =
+idle_works program bounds places flights w here key number p belong stand empty is (kept_out other inside apart) works free may =
+    let old = stand.some here p is in
+    kept_out_of (far_in w) p old.0 key other old.2 inside apart (λ k s there on. free k s (ap (λ o. stays_in o k) old.1 ∙ there) on)
+idle_works program bounds places flights w here key number p belong stand empty is (waits a n outer there outside fine innermost not) works free may =
     let old = stand.some here p is in
     let s = old.2.some key a there in
     let same = same_Some s.0 works.stay (sym s.1 ∙ same_stay places program bounds flights w here key p works.stay stand is works.is_there) in
@@ -79,7 +83,8 @@ move_waits setting here key number old new effect m e = waits_innermost (situati
 -- a place's step that finds nothing to do is such a wait
 pub idle_prompt : (program : Module) (bounds : List ℕ) (places : List PlaceState) (flights : FlightsState) (w : World) (here key number : ℕ) (p : PlaceState) (m new : machine.Place) (effect : Effect) → BelongTo program bounds (length places) places → AllStandFor program bounds places flights w → flights.flying ≡ [] → slice_get places here ≡ Some p
     → IsIdleAt p key → w.net.places here ≡ Some m → Moves (setting_in program places) here m key new effect → effect ≡ Waits number → MayEnd w (finish_at here number) → ⊥
-idle_prompt program bounds places flights w here key number p m new effect belong stand empty is idle there moves e may = idle_works program bounds places flights w here key number p belong stand empty is idle works may
+idle_prompt program bounds places flights w here key number p m new effect belong stand empty is idle there moves e may =
+    idle_works program bounds places flights w here key number p belong stand empty is idle works (λ k s is_there on. moves.is_free k s (ap (λ o. stays_in o k) (sym there) ∙ is_there) on) may
   where
     works : WorksIn w here key number
     works =

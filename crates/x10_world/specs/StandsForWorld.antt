@@ -26,7 +26,7 @@ use Rattle.x10_place.specs.declared.sent.Outgoing.{Outgoing}
 use Rattle.x10_place.specs.declared.sent.Sent.{Sent}
 use Rattle.x10_place.specs.Stays.{StayState, IsDoneHere, finish_at, books_of, kept_in}
 use Rattle.x10_place.specs.Messages.{Carries, CarriesReport, no_sent}
-use Rattle.x10_place.specs.StandsFor.{PlaceState, store_of, Far, StandsFor, LeadsAll, Answers, Keeps, IsIdleAt, IsHindered}
+use Rattle.x10_place.specs.StandsFor.{PlaceState, store_of, Far, StandsFor, LeadsAll, Answers, Keeps, IsIdleAt, IsHindered, AreOutside}
 use Rattle.x10_place.specs.Receiving.{IsTaken, IsRefusedBytes, stops}
 use Rattle.x10_place.specs.Stretches.{Strides, StridesTo, BeginsLast}
 use Rattle.x10_world.specs.Budget.{IsWithinBudget}
@@ -217,7 +217,7 @@ EndedIsDoneHere = (program : Module) (bounds : List ℕ) (places : List PlaceSta
 pub record IsMade (p q : PlaceState) (key : ℕ) (answer : Stepped) : Type 0 where
   pub idle : IsIdleAt p key → (answer ≡ stepped.Idle) × (q ≡ p)
   pub only : answer ≡ stepped.Idle → IsIdleAt p key
-  pub some : (a : StayState) → get p.stays key ≡ Some a → a.away ≡ false → LeadsAll p key answer q
+  pub some : (a : StayState) → get p.stays key ≡ Some a → a.away ≡ false → AreOutside p.stays key → LeadsAll p key answer q
   pub goes : q.stopped ≢ true
 
 -- What a step of a place does. Where it was refused, what it stands for is as it was.

@@ -15,6 +15,8 @@ ghost use Rattle.x10_world.specs.Rounds.{IsBusy, IsTurnAfter, IsQuiet};
 ghost use Rattle.x10_world.specs.Happenings.{Happened, IsStood, IsDone};
 ghost use Rattle.x10_flights.specs.Flights.{flight_of, flies_to, IsNext};
 ghost use Rattle.x10_world.specs.Prompt.{MayEnd, WorksIn};
+ghost use Rattle.x10_model.specs.Places.{IsFree};
+ghost use Rattle.x10_finish.specs.Nesting.{stays_of};
 
 use crate::done::{Done, Happening};
 use crate::ending::copied_outputs;
@@ -197,14 +199,14 @@ impl<'a> World<'a> {
     /// Up to `most` times the event `Step(place, key)`: how many were made. Each is as `run` would make it, several times as
     /// fast, and moves. They are fewer than `most` only where a Step of the key now finds nothing to do, or where the last one
     /// began an activity or put out a frame, so that other events may come. It waits at the end of a finish only where
-    /// something lives that the finish governs, or a frame is in flight. After a Stop, which comes as `run` says, the output is
+    /// something lives that the finish governs, a frame is in flight, or another activity of the place is inside an atomic region. After a Stop, which comes as `run` says, the output is
     /// that of the steps before the one that was refused.
     pub fn run_activity(&mut self, place: u16, key: usize, most: u64) -> Result<u64, Stop>
         ensures ok { IfOk result (λ n. (w : machine.World) → StandsForWorld self.old w → RepeatsThrough self.old w n place key self.new) }
         ensures some { (w : machine.World) → StandsForWorld self.old w → (n : ℕ) × (n ≤ most) × Repeats self.old w n place key self.new }
         ensures few { IfOk result (λ n. n ≤ most) }
         ensures all { IfOk result (λ n. n < most → IsIdleNow self.new place key ⊎ (BeganLast self.old place key n self.new ⊎ SentLast self.old self.new)) }
-        ensures waits { IfOk result (λ n. n < most → self.new.flights.flying ≡ [] → (w : machine.World) (number : ℕ) → StandsForWorld self.new w → WorksIn w place key number → MayEnd w (record { home = place; number = number }) → BeganLast self.old place key n self.new ⊎ SentLast self.old self.new) }
+        ensures waits { IfOk result (λ n. n < most → self.new.flights.flying ≡ [] → (w : machine.World) (number : ℕ) → StandsForWorld self.new w → WorksIn w place key number → IsFree (stays_of w.net place) key → MayEnd w (record { home = place; number = number }) → BeganLast self.old place key n self.new ⊎ SentLast self.old self.new) }
         ensures stopped { self.old.stopped ≡ true → (result ≡ Err stop.Stopped) × (self.new ≡ self.old) }
         ensures goes { IfOk result (λ _. self.new.stopped ≢ true) }
         ensures hindered { self.old.stopped ≢ true → IfErr result (IsHaltedStretch self.old place key most self.new) }

@@ -2,6 +2,7 @@ use Rattle.std.proofs.Common.{◌≡◌, sym, ◌∙◌, rules}
 use Rattle.x10_place.proofs.Delivered.{ok_then, err_then, spawn_is, shift_is, back_is, spawn_taken, spawn_refused, shift_taken, shift_refused, back_taken, back_refused_so}
 use Rattle.x10_place.proofs.Placing.{checked}
 use Rattle.x10_place.proofs.receiving.take.Goals as goal
+use Rattle.x10_place.proofs.Insides.{launched_inside, back_inside}
 
 pub returns-in-Spawn-clause-ok : goal.returns-in-Spawn-clause-ok
 returns-in-Spawn-clause-ok c =
@@ -37,3 +38,12 @@ pub returns-in-Back-clause-refused : goal.returns-in-Back-clause-refused
 returns-in-Back-clause-refused c =
     let here : c.in-Back.to ≡ c.args.store.now.here = search rules in
     err_then c.resume.result (back_refused_so c.args.verified.now c.args.stays.now c.args.store.now c.in-Back.from c.in-Back.to c.in-Back.waiting here c.args.view.now (back_is c.args.view.now c.in-Back.from c.in-Back.to c.in-Back.waiting (sym c.head-head.ensures.value ∙ c.in-Back.is))) c.resume.ensures.refused
+
+pub returns-in-Spawn-clause-inside : goal.returns-in-Spawn-clause-inside
+returns-in-Spawn-clause-inside c = launched_inside c.launch_with.result c.args.verified.now.program c.args.stays.now c.args.store.now c.args.view.now _ c.launch_with.new.stays c.launch_with.new.store c.launch_with.ensures.ok c.launch_with.ensures.err
+
+pub returns-in-Shift-clause-inside : goal.returns-in-Shift-clause-inside
+returns-in-Shift-clause-inside c = launched_inside c.launch_with-in-Shift.result c.args.verified.now.program c.args.stays.now c.args.store.now c.args.view.now _ c.launch_with-in-Shift.new.stays c.launch_with-in-Shift.new.store c.launch_with-in-Shift.ensures.ok c.launch_with-in-Shift.ensures.err
+
+pub returns-in-Back-clause-inside : goal.returns-in-Back-clause-inside
+returns-in-Back-clause-inside c = back_inside c.resume.result c.args.verified.now.program c.args.stays.now c.args.store.now c.args.view.now c.in-Back.from c.in-Back.waiting c.resume.new.stays c.resume.new.store c.resume.ensures.ok c.resume.ensures.err

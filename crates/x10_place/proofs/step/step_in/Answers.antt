@@ -4,45 +4,66 @@ use Rattle.x10_place.specs.declared.place.Stepped.TheVariants as stepped
 use Rattle.x10_place.specs.Stretches.{IsAdvanced}
 use Rattle.x10_place.specs.declared.stay.Outcome.TheVariants as outcome
 use Rattle.x10_place.specs.Stays.{StayState}
-use Rattle.x10_place.specs.StandsFor.{plain}
-use Rattle.x10_place.proofs.Advancing.{steps_as, inside_at, reads_at, advanced_away, for_place, advanced_goes, advanced_left, advanced_placed, hindered_placed, advanced_refused}
+use Rattle.x10_place.specs.StandsFor.{plain, IsInsider}
+use Rattle.x10_place.proofs.Advancing.{steps_as, inside_at, reads_at, advanced_away, for_place, advanced_goes, advanced_left, advanced_placed, hindered_placed, advanced_refused, waits_same, handed}
 use Rattle.x10_place.proofs.Keeping.{written}
 use Rattle.x10_place.proofs.Placing.{checked}
 use Rattle.x10_place.proofs.Striding.{with_same}
 use Rattle.x10_place.proofs.step.step_in.Goals as goal
+use Rattle.x10_place.proofs.Insides.{insider_written, same_insider}
 
 pub instr-instr-requires : goal.instr-instr-requires
-instr-instr-requires c = inside_at c.args.verified.now c.args.stays.now c.args.store.now c.args.key c.in-Some.stay.now c.requires (sym c.in-Some.ensures.value) (ap (λ (a : StayState). a.away) (sym c.stay.view_is) ∙ c.if-stay.false)
+instr-instr-requires c = inside_at c.args.verified.now c.args.stays.now c.args.store.now c.args.key c.in-Some.stay.now c.requires.standing (sym c.in-Some.ensures.value) (ap (λ (a : StayState). a.away) (sym c.stay.view_is) ∙ c.if-stay.false)
 
 pub step-requires-clause-reads : goal.step-requires-clause-reads
 step-requires-clause-reads c =
-    reads_at c.args.verified.now c.args.stays.now c.args.store.now c.args.key c.in-Some.stay.now c.spot-spot.result c.instr-instr.result c.requires (checked c.args.verified.now c.certificate.ensures) (sym c.in-Some.ensures.value) (ap (λ (a : StayState). a.away) (sym c.stay.view_is) ∙ c.if-stay.false) c.instr-instr.ensures c.spot-spot.ensures.here c.spot-spot.ensures.places
+    reads_at c.args.verified.now c.args.stays.now c.args.store.now c.args.key c.in-Some.stay.now c.spot-spot.result c.instr-instr.result c.requires.standing (checked c.args.verified.now c.certificate.ensures) (sym c.in-Some.ensures.value) (ap (λ (a : StayState). a.away) (sym c.stay.view_is) ∙ c.if-stay.false) c.instr-instr.ensures c.spot-spot.ensures.here c.spot-spot.ensures.places
 
 pub by_place-requires : goal.by_place-requires
 by_place-requires c =
-    for_place c.args.verified.now c.args.stays.now c.args.store.now c.args.key c.requires (checked c.args.verified.now c.certificate.ensures) c.in-Some.stay.now (sym c.in-Some.ensures.value) (ap (λ (a : StayState). a.away) (sym c.stay.view_is) ∙ c.if-stay.false) c.instr-instr.result c.instr-instr.ensures c.step.new.self c.step.new.store (steps_as c.args.verified.now.program c.spot-spot.result c.args.store.now c.in-Some.stay.now c.instr-instr.result c.in-Ok-ForPlace.field-0 outcome.ForPlace c.step.new.self c.step.new.store c.spot-spot.ensures.here c.spot-spot.ensures.places c.in-Ok-ForPlace.field-0-is c.in-Ok-ForPlace.ensures.ok)
+    for_place c.args.verified.now c.args.stays.now c.args.store.now c.args.key c.requires.standing (checked c.args.verified.now c.certificate.ensures) c.in-Some.stay.now (sym c.in-Some.ensures.value) (ap (λ (a : StayState). a.away) (sym c.stay.view_is) ∙ c.if-stay.false) c.requires.outside c.instr-instr.result c.instr-instr.ensures c.step.new.self c.step.new.store (steps_as c.args.verified.now.program c.spot-spot.result c.args.store.now c.in-Some.stay.now c.instr-instr.result c.in-Ok-ForPlace.field-0 outcome.ForPlace c.step.new.self c.step.new.store c.spot-spot.ensures.here c.spot-spot.ensures.places c.in-Ok-ForPlace.field-0-is c.in-Ok-ForPlace.ensures.ok)
 
-pub returns-in-Ok-Goes : goal.returns-in-Ok-Goes
-returns-in-Ok-Goes c =
-    subst (λ o. IsAdvanced c.args.verified.now c.args.stays.now c.args.store.now c.args.key (Ok (stepped.Moved o)) (with_value c.args.stays.now c.args.key c.step.new.self) c.step.new.store) (sym c.no_sent.ensures) (advanced_goes c.args.verified.now c.args.stays.now c.args.store.now c.args.key c.requires (checked c.args.verified.now c.certificate.ensures) c.in-Some.stay.now (sym c.in-Some.ensures.value) (ap (λ (a : StayState). a.away) (sym c.stay.view_is) ∙ c.if-stay.false) c.instr-instr.result c.instr-instr.ensures (with_value c.args.stays.now c.args.key c.step.new.self) c.step.new.self c.step.new.store (steps_as c.args.verified.now.program c.spot-spot.result c.args.store.now c.in-Some.stay.now c.instr-instr.result c.in-Ok-Goes.field-0 outcome.Goes c.step.new.self c.step.new.store c.spot-spot.ensures.here c.spot-spot.ensures.places c.in-Ok-Goes.field-0-is c.in-Ok-Goes.ensures.ok) (written c.args.stays.now c.args.key c.in-Some.stay.now c.step.new.self (sym c.in-Some.ensures.value)) (λ limit over. absurd (let f = c.in-Ok-Goes.ensures.full limit over in cc)))
+pub returns-in-Ok-Goes-clause-made : goal.returns-in-Ok-Goes-clause-made
+returns-in-Ok-Goes-clause-made c =
+    subst (λ o. IsAdvanced c.args.verified.now c.args.stays.now c.args.store.now c.args.key (Ok (stepped.Moved o)) (with_value c.args.stays.now c.args.key c.step.new.self) c.step.new.store) (sym c.no_sent.ensures) (advanced_goes c.args.verified.now c.args.stays.now c.args.store.now c.args.key c.requires.standing (checked c.args.verified.now c.certificate.ensures) c.in-Some.stay.now (sym c.in-Some.ensures.value) (ap (λ (a : StayState). a.away) (sym c.stay.view_is) ∙ c.if-stay.false) c.requires.outside c.instr-instr.result c.instr-instr.ensures (with_value c.args.stays.now c.args.key c.step.new.self) c.step.new.self c.step.new.store (steps_as c.args.verified.now.program c.spot-spot.result c.args.store.now c.in-Some.stay.now c.instr-instr.result c.in-Ok-Goes.field-0 outcome.Goes c.step.new.self c.step.new.store c.spot-spot.ensures.here c.spot-spot.ensures.places c.in-Ok-Goes.field-0-is c.in-Ok-Goes.ensures.ok) (written c.args.stays.now c.args.key c.in-Some.stay.now c.step.new.self (sym c.in-Some.ensures.value)) (λ limit over. absurd (let f = c.in-Ok-Goes.ensures.full limit over in cc)))
 
-pub returns-in-Ok-Waits : goal.returns-in-Ok-Waits
-returns-in-Ok-Waits c =
-    advanced_left c.args.verified.now c.args.stays.now c.args.store.now c.args.key c.requires (checked c.args.verified.now c.certificate.ensures) c.in-Some.stay.now (sym c.in-Some.ensures.value) (ap (λ (a : StayState). a.away) (sym c.stay.view_is) ∙ c.if-stay.false) c.instr-instr.result c.instr-instr.ensures c.step.new.self c.step.new.store (steps_as c.args.verified.now.program c.spot-spot.result c.args.store.now c.in-Some.stay.now c.instr-instr.result c.in-Ok-Waits.field-0 outcome.Waits c.step.new.self c.step.new.store c.spot-spot.ensures.here c.spot-spot.ensures.places c.in-Ok-Waits.field-0-is c.in-Ok-Waits.ensures.ok) (λ limit over. absurd (let f = c.in-Ok-Waits.ensures.full limit over in cc))
+pub returns-in-Ok-Waits-clause-made : goal.returns-in-Ok-Waits-clause-made
+returns-in-Ok-Waits-clause-made c =
+    advanced_left c.args.verified.now c.args.stays.now c.args.store.now c.args.key c.requires.standing (checked c.args.verified.now c.certificate.ensures) c.in-Some.stay.now (sym c.in-Some.ensures.value) (ap (λ (a : StayState). a.away) (sym c.stay.view_is) ∙ c.if-stay.false) c.requires.outside c.instr-instr.result c.instr-instr.ensures c.step.new.self c.step.new.store (steps_as c.args.verified.now.program c.spot-spot.result c.args.store.now c.in-Some.stay.now c.instr-instr.result c.in-Ok-Waits.field-0 outcome.Waits c.step.new.self c.step.new.store c.spot-spot.ensures.here c.spot-spot.ensures.places c.in-Ok-Waits.field-0-is c.in-Ok-Waits.ensures.ok) (λ limit over. absurd (let f = c.in-Ok-Waits.ensures.full limit over in cc))
 
-pub returns-in-Ok : goal.returns-in-Ok
-returns-in-Ok c =
-    advanced_placed c.args.verified.now c.args.stays.now c.args.store.now c.args.key c.requires (checked c.args.verified.now c.certificate.ensures) c.in-Some.stay.now (sym c.in-Some.ensures.value) (ap (λ (a : StayState). a.away) (sym c.stay.view_is) ∙ c.if-stay.false) c.instr-instr.result c.instr-instr.ensures c.step.new.self c.step.new.store (steps_as c.args.verified.now.program c.spot-spot.result c.args.store.now c.in-Some.stay.now c.instr-instr.result c.in-Ok-ForPlace.field-0 outcome.ForPlace c.step.new.self c.step.new.store c.spot-spot.ensures.here c.spot-spot.ensures.places c.in-Ok-ForPlace.field-0-is c.in-Ok-ForPlace.ensures.ok) c.by_place.new.stays c.by_place.new.store c.in-Ok.sent c.in-Ok.ensures.ok (λ limit over. absurd (let f = c.in-Ok.ensures.full limit over in cc))
+pub returns-in-Ok-clause-made : goal.returns-in-Ok-clause-made
+returns-in-Ok-clause-made c =
+    advanced_placed c.args.verified.now c.args.stays.now c.args.store.now c.args.key c.requires.standing (checked c.args.verified.now c.certificate.ensures) c.in-Some.stay.now (sym c.in-Some.ensures.value) (ap (λ (a : StayState). a.away) (sym c.stay.view_is) ∙ c.if-stay.false) c.requires.outside c.instr-instr.result c.instr-instr.ensures c.step.new.self c.step.new.store (steps_as c.args.verified.now.program c.spot-spot.result c.args.store.now c.in-Some.stay.now c.instr-instr.result c.in-Ok-ForPlace.field-0 outcome.ForPlace c.step.new.self c.step.new.store c.spot-spot.ensures.here c.spot-spot.ensures.places c.in-Ok-ForPlace.field-0-is c.in-Ok-ForPlace.ensures.ok) c.by_place.new.stays c.by_place.new.store c.in-Ok.sent c.in-Ok.ensures.ok (λ limit over. absurd (let f = c.in-Ok.ensures.full limit over in cc))
 
-pub returns-in-Err-by_place : goal.returns-in-Err-by_place
-returns-in-Err-by_place c =
-    hindered_placed c.args.verified.now c.args.stays.now c.args.store.now c.args.key c.requires (checked c.args.verified.now c.certificate.ensures) c.in-Some.stay.now (sym c.in-Some.ensures.value) (ap (λ (a : StayState). a.away) (sym c.stay.view_is) ∙ c.if-stay.false) c.instr-instr.result c.instr-instr.ensures c.step.new.self c.step.new.store (steps_as c.args.verified.now.program c.spot-spot.result c.args.store.now c.in-Some.stay.now c.instr-instr.result c.in-Ok-ForPlace.field-0 outcome.ForPlace c.step.new.self c.step.new.store c.spot-spot.ensures.here c.spot-spot.ensures.places c.in-Ok-ForPlace.field-0-is c.in-Ok-ForPlace.ensures.ok) c.by_place.new.stays c.by_place.new.store c.in-Err-by_place.why c.in-Err-by_place.ensures.err c.in-Err-by_place.ensures.refused (λ limit over. let f = c.in-Err-by_place.ensures.full limit over in cc)
+pub returns-in-Err-by_place-clause-made : goal.returns-in-Err-by_place-clause-made
+returns-in-Err-by_place-clause-made c =
+    hindered_placed c.args.verified.now c.args.stays.now c.args.store.now c.args.key c.requires.standing (checked c.args.verified.now c.certificate.ensures) c.in-Some.stay.now (sym c.in-Some.ensures.value) (ap (λ (a : StayState). a.away) (sym c.stay.view_is) ∙ c.if-stay.false) c.requires.outside c.instr-instr.result c.instr-instr.ensures c.step.new.self c.step.new.store (steps_as c.args.verified.now.program c.spot-spot.result c.args.store.now c.in-Some.stay.now c.instr-instr.result c.in-Ok-ForPlace.field-0 outcome.ForPlace c.step.new.self c.step.new.store c.spot-spot.ensures.here c.spot-spot.ensures.places c.in-Ok-ForPlace.field-0-is c.in-Ok-ForPlace.ensures.ok) c.by_place.new.stays c.by_place.new.store c.in-Err-by_place.why c.in-Err-by_place.ensures.err c.in-Err-by_place.ensures.refused (λ limit over. let f = c.in-Err-by_place.ensures.full limit over in cc)
 
-pub returns-in-Err : goal.returns-in-Err
-returns-in-Err c =
-    advanced_refused c.args.verified.now c.args.stays.now c.args.store.now c.args.key c.requires (checked c.args.verified.now c.certificate.ensures) c.in-Some.stay.now (sym c.in-Some.ensures.value) (ap (λ (a : StayState). a.away) (sym c.stay.view_is) ∙ c.if-stay.false) c.instr-instr.result c.instr-instr.ensures (with_value c.args.stays.now c.args.key c.step.new.self) c.step.new.store c.in-Err.why (ap plain (ap (with_value c.args.stays.now c.args.key) c.in-Err.ensures.err.0 ∙ with_same c.args.stays.now c.args.key c.in-Some.stay.now (sym c.in-Some.ensures.value))) c.in-Err.ensures.err.1 c.in-Err.ensures.err.2 (λ limit over. let f = c.in-Err.ensures.full limit over in cc)
+pub returns-in-Err-clause-made : goal.returns-in-Err-clause-made
+returns-in-Err-clause-made c =
+    advanced_refused c.args.verified.now c.args.stays.now c.args.store.now c.args.key c.requires.standing (checked c.args.verified.now c.certificate.ensures) c.in-Some.stay.now (sym c.in-Some.ensures.value) (ap (λ (a : StayState). a.away) (sym c.stay.view_is) ∙ c.if-stay.false) c.requires.outside c.instr-instr.result c.instr-instr.ensures (with_value c.args.stays.now c.args.key c.step.new.self) c.step.new.store c.in-Err.why (ap plain (ap (with_value c.args.stays.now c.args.key) c.in-Err.ensures.err.0 ∙ with_same c.args.stays.now c.args.key c.in-Some.stay.now (sym c.in-Some.ensures.value))) c.in-Err.ensures.err.1 c.in-Err.ensures.err.2 (λ limit over. let f = c.in-Err.ensures.full limit over in cc)
 
-pub returns-then-stay : goal.returns-then-stay
-returns-then-stay c =
+pub returns-then-stay-clause-made : goal.returns-then-stay-clause-made
+returns-then-stay-clause-made c =
     subst (λ (slab : Slab StayState). IsAdvanced c.args.verified.now c.args.stays.now c.args.store.now c.args.key (Ok stepped.Idle) slab c.args.store.now) (sym (with_same c.args.stays.now c.args.key c.in-Some.stay.now (sym c.in-Some.ensures.value)))
-    (advanced_away c.args.verified.now c.args.stays.now c.args.store.now c.args.key c.requires (checked c.args.verified.now c.certificate.ensures) c.in-Some.stay.now (sym c.in-Some.ensures.value) (ap (λ (a : StayState). a.away) (sym c.stay.view_is) ∙ c.if-stay.true))
+    (advanced_away c.args.verified.now c.args.stays.now c.args.store.now c.args.key c.requires.standing (checked c.args.verified.now c.certificate.ensures) c.in-Some.stay.now (sym c.in-Some.ensures.value) (ap (λ (a : StayState). a.away) (sym c.stay.view_is) ∙ c.if-stay.true))
+
+pub returns-in-Ok-Goes-clause-inside : goal.returns-in-Ok-Goes-clause-inside
+returns-in-Ok-Goes-clause-inside c = λ before. insider_written c.args.stays.now c.args.key c.in-Some.stay.now c.step.new.self c.insider.result (sym c.in-Some.ensures.value) c.requires.outside c.insider.ensures
+
+pub returns-in-Ok-Waits-clause-inside : goal.returns-in-Ok-Waits-clause-inside
+returns-in-Ok-Waits-clause-inside c = λ before. subst (λ slab. IsInsider slab c.args.inside.now) (sym (waits_same c.args.verified.now c.args.stays.now c.args.store.now c.args.key c.requires.standing (checked c.args.verified.now c.certificate.ensures) c.in-Some.stay.now (sym c.in-Some.ensures.value) (ap (λ (a : StayState). a.away) (sym c.stay.view_is) ∙ c.if-stay.false) c.requires.outside c.instr-instr.result c.instr-instr.ensures c.step.new.self c.step.new.store (steps_as c.args.verified.now.program c.spot-spot.result c.args.store.now c.in-Some.stay.now c.instr-instr.result c.in-Ok-Waits.field-0 outcome.Waits c.step.new.self c.step.new.store c.spot-spot.ensures.here c.spot-spot.ensures.places c.in-Ok-Waits.field-0-is c.in-Ok-Waits.ensures.ok))) before
+
+pub returns-in-Err-clause-inside : goal.returns-in-Err-clause-inside
+returns-in-Err-clause-inside c = λ before. subst (λ slab. IsInsider slab c.args.inside.now) (sym (ap (with_value c.args.stays.now c.args.key) c.in-Err.ensures.err.0 ∙ with_same c.args.stays.now c.args.key c.in-Some.stay.now (sym c.in-Some.ensures.value))) before
+
+pub returns-in-Ok-clause-inside : goal.returns-in-Ok-clause-inside
+returns-in-Ok-clause-inside c = λ before. same_insider (with_value c.args.stays.now c.args.key c.step.new.self) c.by_place.new.stays c.args.inside.now c.by_place.ensures.inside
+    (subst (λ slab. IsInsider slab c.args.inside.now) (sym (handed c.args.verified.now c.args.stays.now c.args.store.now c.args.key c.requires.standing (checked c.args.verified.now c.certificate.ensures) c.in-Some.stay.now (sym c.in-Some.ensures.value) (ap (λ (a : StayState). a.away) (sym c.stay.view_is) ∙ c.if-stay.false) c.requires.outside c.instr-instr.result c.instr-instr.ensures c.step.new.self c.step.new.store (steps_as c.args.verified.now.program c.spot-spot.result c.args.store.now c.in-Some.stay.now c.instr-instr.result c.in-Ok-ForPlace.field-0 outcome.ForPlace c.step.new.self c.step.new.store c.spot-spot.ensures.here c.spot-spot.ensures.places c.in-Ok-ForPlace.field-0-is c.in-Ok-ForPlace.ensures.ok)).0) before)
+
+pub returns-in-Err-by_place-clause-inside : goal.returns-in-Err-by_place-clause-inside
+returns-in-Err-by_place-clause-inside c = λ before. same_insider (with_value c.args.stays.now c.args.key c.step.new.self) c.by_place.new.stays c.args.inside.now c.by_place.ensures.inside
+    (subst (λ slab. IsInsider slab c.args.inside.now) (sym (handed c.args.verified.now c.args.stays.now c.args.store.now c.args.key c.requires.standing (checked c.args.verified.now c.certificate.ensures) c.in-Some.stay.now (sym c.in-Some.ensures.value) (ap (λ (a : StayState). a.away) (sym c.stay.view_is) ∙ c.if-stay.false) c.requires.outside c.instr-instr.result c.instr-instr.ensures c.step.new.self c.step.new.store (steps_as c.args.verified.now.program c.spot-spot.result c.args.store.now c.in-Some.stay.now c.instr-instr.result c.in-Ok-ForPlace.field-0 outcome.ForPlace c.step.new.self c.step.new.store c.spot-spot.ensures.here c.spot-spot.ensures.places c.in-Ok-ForPlace.field-0-is c.in-Ok-ForPlace.ensures.ok)).0) before)
+
+pub returns-then-stay-clause-inside : goal.returns-then-stay-clause-inside
+returns-then-stay-clause-inside c = λ before. subst (λ slab. IsInsider slab c.args.inside.now) (sym (with_same c.args.stays.now c.args.key c.in-Some.stay.now (sym c.in-Some.ensures.value))) before

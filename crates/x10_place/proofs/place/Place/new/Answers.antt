@@ -1,7 +1,7 @@
-use Rattle.std.proofs.Common.{false, sym, ap, ◌∙◌}
-use Rattle.x10_place.specs.StandsFor.{place_of, plain}
+use Rattle.std.proofs.Common.{false, None, sym, ap, subst, ◌∙◌}
+use Rattle.x10_place.specs.StandsFor.{place_of, plain, IsInsider}
 use Rattle.x10_place.specs.Opening.{Opens}
-use Rattle.x10_place.proofs.Openings.{fresh, opened_first, opened_empty, opens_standing}
+use Rattle.x10_place.proofs.Openings.{fresh, opened_first, opened_empty, opens_standing, main_outside, nobody_outside}
 use Rattle.x10_place.proofs.place.Place.new.Goals.{then-id-eq0+in_ok-stays, else-id-eq0}
 use Rattle.x10_place.proofs.place.Place.new.Goals as goal
 
@@ -14,7 +14,13 @@ opens c =
     ]
 
 pub invariant_of-result : goal.invariant_of-result
-invariant_of-result c = opens_standing (place_of c.args.verified.now c.if-id-eq0.stays c.in-Ok.store false) (opens c)
+invariant_of-result c = (
+  opens_standing (place_of c.args.verified.now c.if-id-eq0.stays c.in-Ok.store false) (opens c),
+  elim c.if-id-eq0.branch [
+    | then-id-eq0+in_ok-stays w ↦ subst (λ slab. IsInsider slab None) (sym w.stays-is) (main_outside c.args.verified.now.program w.in_ok-stays.stays w.in_ok-stays.ensures)
+    | else-id-eq0 w ↦ subst (λ slab. IsInsider slab None) (sym w.stays-is) (nobody_outside w.new-stays.result w.new-stays.ensures.empty)
+  ],
+)
 
 pub returns-clause-opening : goal.returns-clause-opening
 returns-clause-opening c = opens c
