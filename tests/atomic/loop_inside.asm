@@ -1,0 +1,38 @@
+; A region may have loops in it. The one activity prints three numbers inside, the other three after it, or before.
+;
+; $ x10p bounds loop_inside.x10
+; 0 14
+; 1 7
+; $ x10p run loop_inside.x10
+; 0: 11
+; 0: 12
+; 0: 13
+; 0: 21
+; 0: 22
+; 0: 23
+version 2
+places 1
+int 1
+int 10
+int 20
+func 2 1 none int
+  INTK 1 0
+  ATOMB
+  LOOP 0 3
+again:
+  ADD 0 0 1
+  PRINT 0
+  ENDL 0 @again
+  ATOME
+  RET 0
+end
+func 1 0 none
+  FINB
+  INTK 0 1
+  ASYNC 0 0
+  INTK 0 2
+  ASYNC 0 0
+  FINE
+  RET 0
+end
+entry 1

@@ -1,0 +1,13 @@
+; The last instruction of a function is RET.
+;
+; $ x10p bounds last_is_atome.x10
+; status 1: verify: Structure Nesting 0 1
+; $ x10p verify last_is_atome.x10
+; status 1: verify: Structure Nesting 0 1
+version 2
+places 1
+func 1 0 none
+ATOMB
+ATOME
+end
+entry 0
