@@ -6,7 +6,9 @@ use std::alloc::{AllocError, Global};
 pub(crate) enum State {
     /// It makes steps.
     Working,
-    /// It is at a FINE, and found that it may not go on yet.
+    /// It makes steps, inside an atomic region.
+    Inside,
+    /// It found that it may not go on yet: it is at a FINE, or another stay of its place is inside an atomic region.
     Waiting,
     /// It goes on at another place, by AT.
     Away,
@@ -191,7 +193,16 @@ impl Column {
         }
     }
 
-    /// From a row on, a stay is in a state. Answers the piece of its bar that ends there, if it was in another state.
+    /// What a stay is doing when it has made a step: it is inside an atomic region as it was before, or at work.
+    pub(crate) fn working(&self, key: usize) -> State {
+        match self.stays.get(key) {
+            Some(Some(stay)) if stay.state == State::Inside => State::Inside,
+            _ => State::Working,
+        }
+    }
+
+    /// From a row on, a stay is in a state. Answers the piece of its bar that ends there, if it was in another state and the
+    /// piece has a length.
     pub(crate) fn change(&mut self, key: usize, state: State, row: u64) -> Option<Span> {
         let span = self.rest(key, row)?;
         if span.state == state {
@@ -202,7 +213,7 @@ impl Column {
             stay.since = row;
             stay.last = row;
         }
-        Some(span)
+        Some(span).filter(|span| span.from != span.to)
     }
 
     /// A stay may not go on yet: if it was at work, it has waited since its last step. Answers the piece of its bar up to that.

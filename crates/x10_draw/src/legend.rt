@@ -3,14 +3,16 @@
 /// What each shape means.
 pub(crate) const LEGEND: &str = r##"<g stroke="#4a76b8">
 <path d="M16 36V50" stroke-width="6"/>
-<path d="M100 36V50" stroke-width="6" stroke-dasharray="1 3"/>
-<path d="M220 36V50" stroke-dasharray="4 3"/>
-<path d="M380 36V50" stroke-width="2"/>
+<path d="M90 36V50" stroke="#17365f" stroke-width="8"/>
+<path d="M200 36V50" stroke-width="6" stroke-dasharray="1 3"/>
+<path d="M262 36V50" stroke-dasharray="4 3"/>
+<path d="M426 36V50" stroke-width="2"/>
 </g>
 <text x="26" y="46">at work</text>
-<text x="110" y="46">waits at FINE</text>
-<text x="230" y="46">away, at another place</text>
-<text x="390" y="46">goes on in another lane, by AT to here</text>
+<text x="100" y="46">atomic region</text>
+<text x="210" y="46">waits</text>
+<text x="272" y="46">away, at another place</text>
+<text x="436" y="46">goes on in another lane, by AT to here</text>
 <path d="M12 66H36" stroke="#1a7f37" marker-end="url(#spawn)"/>
 <path d="M142 66H166" stroke="#b35900" marker-end="url(#shift)"/>
 <path d="M218 66H242" stroke="#7a3db8" stroke-dasharray="7 3" marker-end="url(#back)"/>

@@ -8,13 +8,14 @@ use crate::parts::{Arrow, Bracket, End, Fork, Spot};
 use std::alloc::AllocError;
 use std::fmt::Write;
 
-/// The dash and the width of a bar in a state.
+/// The colour, the width and the dash of a bar in a state.
 fn bar_style(state: State) -> &'static str {
     match state {
-        State::Working => "stroke-width=\"6\"",
-        State::Waiting => "stroke-width=\"6\" stroke-dasharray=\"1 3\"",
-        State::Away => "stroke-dasharray=\"4 3\"",
-        State::Beside => "stroke-width=\"2\"",
+        State::Working => "stroke=\"#4a76b8\" stroke-width=\"6\"",
+        State::Inside => "stroke=\"#17365f\" stroke-width=\"8\"",
+        State::Waiting => "stroke=\"#4a76b8\" stroke-width=\"6\" stroke-dasharray=\"1 3\"",
+        State::Away => "stroke=\"#4a76b8\" stroke-dasharray=\"4 3\"",
+        State::Beside => "stroke=\"#4a76b8\" stroke-width=\"2\"",
     }
 }
 
@@ -63,10 +64,7 @@ pub(crate) fn push_span(out: &mut String, grid: &Grid, span: Span) -> Result<(),
     let x = grid.lane(span.place, span.lane);
     let (from, to) = (row_y(span.from), row_y(span.to));
     let style = bar_style(span.state);
-    writeln!(
-        out,
-        "<path d=\"M{x} {from}V{to}\" stroke=\"#4a76b8\" {style}/>"
-    )
+    writeln!(out, "<path d=\"M{x} {from}V{to}\" {style}/>")
 }
 
 /// A finish: a bracket beside the bar, the outer ones farther away, and open below where the finish is.

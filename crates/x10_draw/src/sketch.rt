@@ -127,7 +127,7 @@ impl Sketch {
         self.push_span(span)
     }
 
-    /// A step that was idle: a stay that was at work is at a FINE.
+    /// A step that was idle: a stay that was at work waits.
     fn waited(&mut self, place: u16, key: usize) -> Result<(), AllocError> {
         let Some(column) = self.columns.get_mut(usize::from(place)) else {
             return Ok(());
@@ -205,7 +205,8 @@ impl Sketch {
         };
         let row = column.next_row(0);
         column.act(step.key, row);
-        self.change(step.place, step.key, State::Working, row)?;
+        let state = state_after(step, column);
+        self.change(step.place, step.key, state, row)?;
         let mut text = text_of(self.alloc, step)?;
         let full = self.tell(world, step, row, &mut text)?;
         for number in first..first.saturating_add(count) {
@@ -236,14 +237,17 @@ impl Sketch {
             return Ok(());
         };
         let row = column.quiet_row();
-        column.act(step.key, column.row());
+        let (state, at) = (state_after(step, column), column.row());
+        column.act(step.key, at);
+        let span = column.change(step.key, state, at);
+        self.push_span(span)?;
         match row {
             Row::Own(at) => {
                 let text = text_of(self.alloc, step)?;
                 self.label(quiet_label(step, at, Tone::Quiet, text))
             }
             Row::Opened(at) => {
-                column.shorten(self.labels.len());
+                self.shorten(step.place);
                 let text = text_of(self.alloc, step)?;
                 self.label(quiet_label(step, at, Tone::Shortened(1), text))
             }
@@ -251,6 +255,13 @@ impl Sketch {
                 self.share(step.place);
                 Ok(())
             }
+        }
+    }
+
+    /// The next label is that of the row that steps share.
+    fn shorten(&mut self, place: u16) {
+        if let Some(column) = self.columns.get_mut(usize::from(place)) {
+            column.shorten(self.labels.len());
         }
     }
 
@@ -461,10 +472,19 @@ impl Sketch {
     }
 }
 
+/// What a stay is doing after a step.
+fn state_after(step: Move, column: &Column) -> State {
+    match step.op {
+        Op::Atomb => State::Inside,
+        Op::Atome => State::Working,
+        _ => column.working(step.key),
+    }
+}
+
 /// Whether an operation is seen only by its own stay, where it puts nothing out and ends no stay.
 fn is_quiet(op: Op) -> bool {
     !matches!(
         op,
-        Op::Async | Op::At | Op::Ata | Op::Finb | Op::Fine | Op::Print
+        Op::Async | Op::At | Op::Ata | Op::Finb | Op::Fine | Op::Atomb | Op::Atome | Op::Print
     )
 }

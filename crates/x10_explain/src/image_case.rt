@@ -64,7 +64,7 @@ pub(crate) fn push_wrong(
     match (fault, field) {
         (ImageFault::Count, Some(field)) => push_count(out, field),
         (ImageFault::Kind, Some(field)) => push_kind(out, field, header.classes),
-        (ImageFault::Code(..), Some(field)) => push_code(out, field),
+        (ImageFault::Code(..), Some(field)) => push_code(out, header.version, field),
         (ImageFault::Entry, _) => push_entry(out, header),
         (ImageFault::Version, _) => {
             let version = header.version;
@@ -137,16 +137,21 @@ fn push_kind(out: &mut String, field: Field, classes: u16) -> Result<(), AllocEr
     out.push_str("Only a global reference has a home flag, so the last byte is 0.\n")
 }
 
-// An instruction.
-fn push_code(out: &mut String, field: Field) -> Result<(), AllocError> {
+// An instruction, in an image of a version.
+fn push_code(out: &mut String, version: u16, field: Field) -> Result<(), AllocError> {
     let code = byte_of(field, 0);
-    match op_with_code(code) {
-        Some(op) if is_known(ImageVersion::Two, op) => {
-            let (name, letter) = (name(op), unused_in(op, field));
-            writeln!(out, "{name} has no operand {letter}, so there it is 0.")
-        }
-        _ => writeln!(out, "No operation has the code {code:02x}."),
+    let Some(op) = op_with_code(code) else {
+        return writeln!(out, "No operation has the code {code:02x}.");
+    };
+    let name = name(op);
+    if version == 1 && !is_known(ImageVersion::One, op) {
+        return writeln!(
+            out,
+            "{name} is an operation of version 2, and the image has version 1."
+        );
     }
+    let letter = unused_in(op, field);
+    writeln!(out, "{name} has no operand {letter}, so there it is 0.")
 }
 
 // The first operand that an operation doesn't use and that isn't 0.

@@ -2,9 +2,7 @@
 
 use std::alloc::{AllocError, Global};
 use strsim::osa_distance;
-use x10_code::{Op, name, op_named, op_with_code};
-use x10_image::is_known;
-use x10_model::ImageVersion;
+use x10_code::{name, op_named, op_with_code};
 
 /// More edits than there are between a word and a name that is near to it.
 pub(crate) const FAR: usize = 3;
@@ -65,14 +63,9 @@ pub(crate) fn edits(alloc: Global, word: &str, name: &str) -> Result<usize, Allo
     }
 }
 
-// Whether there are images that have an operation.
-fn is_in_images(op: Op) -> bool {
-    is_known(ImageVersion::Two, op)
-}
-
 /// Whether a word is the name of an instruction.
 pub(crate) fn is_operation(word: &str) -> bool {
-    op_named(word).is_some_and(is_in_images)
+    op_named(word).is_some()
 }
 
 /// The nearest name of an instruction, given a word in capitals.
@@ -82,9 +75,7 @@ pub(crate) fn nearest_operation(
 ) -> Result<Option<&'static str>, AllocError> {
     let mut nearest = no_name();
     for code in 0..=255 {
-        if let Some(op) = op_with_code(code)
-            && is_in_images(op)
-        {
+        if let Some(op) = op_with_code(code) {
             nearest = nearer(alloc, word, nearest, name(op))?;
         }
     }

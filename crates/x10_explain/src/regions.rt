@@ -1,7 +1,7 @@
 //! Which rule of structure an instruction breaks, and by what.
 
-use crate::head::instr_in;
-use crate::phrase::push_instruction_at;
+use crate::region::Region;
+use crate::site::{Site, held_by, open_at};
 use crate::source::Source;
 use crate::text::push_named_to;
 use std::alloc::{AllocError, Global};
@@ -10,35 +10,6 @@ use x10_bounds::BoundCause;
 use x10_code::{Instr, Op, name};
 use x10_image::ImageView;
 use x10_model::limits::MOST_TURNS;
-
-/// A function of a module, and the text that the module was read from, where there is one.
-#[derive(Clone, Copy)]
-struct Site<'a> {
-    image: &'a ImageView<'a>,
-    source: Option<&'a Source<'a>>,
-    f: usize,
-}
-
-impl Site<'_> {
-    fn instr(&self, pc: usize) -> Option<Instr> {
-        instr_in(self.image, self.f, pc)
-    }
-
-    fn is_op(&self, pc: usize, op: Op) -> bool {
-        matches!(self.instr(pc), Some(instr) if instr.op == op)
-    }
-
-    // An instruction, at the end of a line.
-    fn push(&self, out: &mut String, pc: usize) -> Result<(), AllocError> {
-        push_instruction_at(out, self.image, self.source, self.f, pc)
-    }
-
-    // Words, and an instruction, at the end of a line.
-    fn push_with(&self, out: &mut String, words: &str, pc: usize) -> Result<(), AllocError> {
-        out.push_str(words)?;
-        self.push(out, pc)
-    }
-}
 
 /// Lines on a rule of structure. Linear in the function's instructions.
 pub(crate) fn push_structure(
@@ -59,40 +30,12 @@ pub(crate) fn push_structure(
         BoundCause::Jump => push_jump(alloc, out, &site, pc, instr),
         BoundCause::LoopSlot => push_slot_rule(alloc, out, &site, pc, instr),
         BoundCause::CallOrder => push_order(out, &site, instr),
-        BoundCause::Atomic => {
-            out.push_str("No CALL, AT, ATA, ASYNC, FINB or ATOMB stands in an atomic region.\n")
-        }
+        BoundCause::Atomic => push_kept_out(alloc, out, &site, pc, instr),
         BoundCause::TooLarge => out.push_str(
             "The bound of the function is above 2^48. It is the sum of what its instructions cost, each as often as the loops around it turn together: 1, and of CALL and AT the bound of the called function too.\nTake smaller counts.\n",
         ),
         BoundCause::Memory => Ok(()),
     }
-}
-
-// The openers of the regions that are open before an instruction, the innermost last.
-fn open_at(alloc: Global, site: &Site, pc: usize) -> Result<Vec<usize>, AllocError> {
-    let mut open = Vec::new(alloc);
-    for at in 0..pc {
-        let Some(instr) = site.instr(at) else {
-            return Ok(open);
-        };
-        match instr.op {
-            Op::Loop | Op::Finb | Op::Atomb => open.push(at)?,
-            Op::Endl | Op::Fine | Op::Atome => {
-                open.pop();
-            }
-            _ => {}
-        }
-    }
-    Ok(open)
-}
-
-// The innermost of some regions that is a finish.
-fn finish_in(site: &Site, open: &[usize]) -> Option<usize> {
-    open.iter()
-        .rev()
-        .find(|opener| site.is_op(**opener, Op::Finb))
-        .copied()
 }
 
 fn push_nesting(
@@ -104,12 +47,12 @@ fn push_nesting(
 ) -> Result<(), AllocError> {
     let open = open_at(alloc, site, pc)?;
     let last = open.last().copied();
-    match instr.op {
-        Op::Endl | Op::Fine if !closes(site, instr.op, last) => push_closer(
-            out, site, instr.op, last,
+    match (Region::closed_by(instr.op), instr.op) {
+        (Some(region), op) if !opens(site, last, region) => push_closer(
+            out, site, op, region, last,
         ),
-        Op::Ret => push_return(out, site, &open),
-        op => {
+        (None, Op::Ret) => push_return(out, site, pc, &open),
+        (_, op) => {
             let name = name(op);
             writeln!(
                 out,
@@ -119,49 +62,60 @@ fn push_nesting(
     }
 }
 
-// Whether the innermost region is one that an operation closes.
-fn closes(site: &Site, op: Op, last: Option<usize>) -> bool {
-    let opener = if op == Op::Endl { Op::Loop } else { Op::Finb };
-    last.is_some_and(|last| site.is_op(last, opener))
+// Whether the innermost region is a given one.
+fn opens(site: &Site, last: Option<usize>, region: Region) -> bool {
+    match last {
+        Some(last) => site.opened(last) == Some(region),
+        None => false,
+    }
 }
 
-// An ENDL or a FINE that closes another region, or none.
+// A closer of a region where another region is open, or none.
 fn push_closer(
     out: &mut String,
     site: &Site,
     op: Op,
+    region: Region,
     last: Option<usize>,
 ) -> Result<(), AllocError> {
     let name = name(op);
     let Some(last) = last else {
-        let region = if op == Op::Endl { "loop" } else { "finish" };
+        let region = region.name();
         return writeln!(out, "No {region} is open here, so {name} closes none.");
     };
-    let (region, closer) = if op == Op::Endl {
-        ("finish", "FINE")
-    } else {
-        ("loop", "ENDL")
+    let Some(open) = site.opened(last) else {
+        return Ok(());
     };
+    let (other, closer) = (open.name(), open.closer());
+    out.push_str(if open == Region::Atomic { "An " } else { "A " })?;
     write!(
         out,
-        "A {region} is open here, and its {closer} has to come before this {name}. It begins in "
+        "{other} is open here, and its {closer} has to come before this {name}. It begins in "
     )?;
     site.push(out, last)
 }
 
-// A RET in a finish, or a last one where a loop is open.
-fn push_return(out: &mut String, site: &Site, open: &[usize]) -> Result<(), AllocError> {
-    if let Some(finish) = finish_in(site, open) {
-        return site.push_with(
+// A RET in a finish or an atomic region, or a last one where something is open.
+fn push_return(out: &mut String, site: &Site, pc: usize, open: &[usize]) -> Result<(), AllocError> {
+    if !site.is_last(pc)
+        && let Some((region, opener)) = held_by(site, open)
+    {
+        let (article, name, closer) = (region.article(), region.name(), region.closer());
+        write!(
             out,
-            "RET stands in a finish: jump to the FINE, and return after it. The finish begins in ",
-            finish,
-        );
+            "RET stands in {article} {name}: jump to the {closer}, and return after it. The {name} begins in "
+        )?;
+        return site.push(out, opener);
     }
-    match open.last() {
-        Some(opener) => site.push_with(out, "No ENDL closes the loop that begins in ", *opener),
-        None => Ok(()),
-    }
+    let Some(opener) = open.last() else {
+        return Ok(());
+    };
+    let Some(region) = site.opened(*opener) else {
+        return Ok(());
+    };
+    let (name, closer) = (region.name(), region.closer());
+    write!(out, "No {closer} closes the {name} that begins in ")?;
+    site.push(out, *opener)
 }
 
 fn push_jump(
@@ -211,7 +165,7 @@ fn push_end_of_loop(
     site.push(out, *opener)
 }
 
-// A jump into a loop or a finish, or out of a finish, by what is open at both its ends.
+// A jump into a region, or out of one that is no loop, by what is open at both its ends.
 fn push_crossing(
     out: &mut String,
     site: &Site,
@@ -221,26 +175,33 @@ fn push_crossing(
 ) -> Result<(), AllocError> {
     match there.last() {
         Some(opener) if *opener > pc => {
-            let region = if site.is_op(*opener, Op::Loop) {
-                "loop"
-            } else {
-                "finish"
+            let Some(region) = site.opened(*opener) else {
+                return Ok(());
             };
-            write!(
-                out,
-                "It goes from outside into the {region} that begins in "
-            )?;
+            let name = region.name();
+            write!(out, "It goes from outside into the {name} that begins in ")?;
             site.push(out, *opener)
         }
-        _ => match finish_in(site, here) {
-            Some(finish) => site.push_with(
-                out,
-                "It goes out of a finish, which is left through its FINE alone. The finish begins in ",
-                finish,
-            ),
+        _ => match held_by(site, here) {
+            Some((region, opener)) => push_left(out, site, region, opener),
             None => Ok(()),
         },
     }
+}
+
+// A jump out of a finish or an atomic region.
+fn push_left(
+    out: &mut String,
+    site: &Site,
+    region: Region,
+    opener: usize,
+) -> Result<(), AllocError> {
+    let (article, name, closer) = (region.article(), region.name(), region.closer());
+    write!(
+        out,
+        "It goes out of {article} {name}, which is left through its {closer} alone. The {name} begins in "
+    )?;
+    site.push(out, opener)
 }
 
 // How many loops of some regions there are.
@@ -333,4 +294,37 @@ fn push_order(out: &mut String, site: &Site, instr: Instr) -> Result<(), AllocEr
         out,
         "Function {callee} is below function {f}, and CALL and AT lead only to functions above: put it first."
     )
+}
+
+// An operation that doesn't stand in an atomic region.
+fn push_kept_out(
+    alloc: Global,
+    out: &mut String,
+    site: &Site,
+    pc: usize,
+    instr: Instr,
+) -> Result<(), AllocError> {
+    let open = open_at(alloc, site, pc)?;
+    if let Some((Region::Atomic, opener)) = held_by(site, &open) {
+        let name = name(instr.op);
+        write!(out, "{name} stands in the atomic region that begins in ")?;
+        site.push(out, opener)?;
+    }
+    out.push_str(outside(instr.op))
+}
+
+// Where an operation stands that doesn't stand in an atomic region.
+fn outside(op: Op) -> &'static str {
+    match op {
+        Op::Call =>
+            "Nothing is called inside: put what the function does here, or call it before the ATOMB or after the ATOME.\n",
+        Op::At =>
+            "Nothing goes elsewhere inside: go before the ATOMB or after the ATOME. The function that runs there has a region of its own.\n",
+        Op::Async | Op::Ata =>
+            "Nothing is started inside: start it before the ATOMB or after the ATOME.\n",
+        Op::Finb =>
+            "Nothing waits inside: close the region before the finish, or put it into the finish.\n",
+        _ =>
+            "One region is enough, since nothing else moves here until its ATOME: leave this one out, or close that one before it.\n",
+    }
 }

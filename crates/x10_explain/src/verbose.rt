@@ -12,6 +12,7 @@ ghost use Rattle.x10_asm.specs.Reading.{module_of};
 use crate::commented::push_commented;
 use crate::faults::{Finding, find};
 use crate::head::{head, instr_in};
+use crate::inside::insides;
 use crate::known::push_state;
 use crate::lack::{callee, fields_of};
 use crate::left::steps_left;
@@ -28,6 +29,14 @@ use x10_verify::VerifyCause;
 
 /// How many bytes a comment shows of a text at most.
 const SHOWN: usize = 64;
+
+/// What is said of the instructions of a function whose structure is right: how many steps are left at most before each, and
+/// whether it is inside an atomic region.
+#[derive(Drop)]
+struct Notes {
+    left: Vec<u64>,
+    inside: Vec<bool>,
+}
 
 /// The listing of an image for people: the canonical listing, with comments in lines of their own. They number classes,
 /// constants and functions, and say before each instruction its number, what the verifier knows there and how many steps are
@@ -169,12 +178,25 @@ fn push_code(
     requires { f < length image.now.functions }
     ensures { OnOk result (Tells (string_bytes out.old) (string_bytes out.new) (flat_map instruction_line (code_at image.now f))) }
 {
-    let left = steps_left(alloc, image, f, bounds)?;
+    let notes = notes_of(alloc, image, f, bounds)?;
     for pc in 0..image.code_len(f) {
-        push_notes(alloc, out, image, f, pc, &left, finding)?;
+        push_notes(alloc, out, image, f, pc, &notes, finding)?;
         push_instruction(out, image.instr(f, pc))?;
     }
     Ok(())
+}
+
+/// What is said of the instructions of a function, given the bounds of those before it.
+fn notes_of(
+    alloc: Global,
+    image: &ImageView,
+    f: usize,
+    bounds: &[u64],
+) -> Result<Notes, AllocError> {
+    Ok(Notes {
+        left: steps_left(alloc, image, f, bounds)?,
+        inside: insides(alloc, image, f)?,
+    })
 }
 
 /// The comments before an instruction.
@@ -184,13 +206,13 @@ fn push_notes(
     image: &ImageView,
     f: usize,
     pc: usize,
-    left: &[u64],
+    notes: &Notes,
     finding: &Finding,
 ) -> Result<(), AllocError>
     requires { f < length image.now.functions }
     ensures { OnOk result (Tells (string_bytes out.old) (string_bytes out.new) []) }
 {
-    let note = note(alloc, image, f, pc, left, finding)?;
+    let note = note(alloc, image, f, pc, notes, finding)?;
     push_commented(out, note.as_str())?;
     let Some(fault) = finding.fault else {
         return Ok(());
@@ -211,7 +233,7 @@ fn note(
     image: &ImageView,
     f: usize,
     pc: usize,
-    left: &[u64],
+    notes: &Notes,
     finding: &Finding,
 ) -> Result<String, AllocError>
     requires { f < length image.now.functions }
@@ -224,16 +246,26 @@ fn note(
         } else {
             note.push_str(" no way leads here")?;
         }
-        if finding.bound != 0 && pc < left.len() {
-            let count = left[pc];
-            let steps = steps_word(count);
-            write!(note, "; at most {count} {steps} left")?;
+        if finding.bound != 0 {
+            push_ahead(&mut note, notes, pc)?;
         }
     }
     if let Some(instr) = instr_in(image, f, pc) {
         push_named(&mut note, image, instr)?;
     }
     Ok(note)
+}
+
+// How many steps are left, and whether the instruction is inside an atomic region.
+fn push_ahead(note: &mut String, notes: &Notes, pc: usize) -> Result<(), AllocError> {
+    if let Some(count) = notes.left.get(pc) {
+        let (count, steps) = (*count, steps_word(*count));
+        write!(note, "; at most {count} {steps} left")?;
+    }
+    if notes.inside.get(pc) == Some(&true) {
+        note.push_str("; inside an atomic region")?;
+    }
+    Ok(())
 }
 
 // Whether an instruction is where no states are shown: after a fault of the flow, or anywhere where what is named isn't there,

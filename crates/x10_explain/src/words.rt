@@ -50,6 +50,12 @@ fn push_first(
     small: &str,
     capitals: &str,
 ) -> Result<(), AllocError> {
+    if is_operation(word) {
+        return writeln!(
+            out,
+            "{word} is an instruction of version 2: the text has to begin with the line `version 2`."
+        );
+    }
     if is_operation(capitals) {
         return writeln!(
             out,
