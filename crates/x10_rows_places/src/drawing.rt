@@ -57,6 +57,27 @@ end
 entry 2
 ";
 
+/// Main is inside an atomic region while the stay that it started is stepped; then that one is inside another.
+const REGIONS: &str = "version 2
+places 1
+func 1 0 none
+HERE 0
+ATOMB
+HERE 0
+ATOME
+RET 0
+end
+func 1 0 none
+ASYNC 0 0
+ATOMB
+HERE 0
+HERE 0
+ATOME
+RET 0
+end
+entry 1
+";
+
 /// Notes the events of a run in rounds, at most `limit`.
 fn noted(alloc: Global, world: &mut World, limit: u64) -> Result<Drawing, Fail> {
     let mut drawing = Drawing::new(alloc, world.count())?;
@@ -154,6 +175,22 @@ fn a_stay_beside_another_drawn(rt: HostRuntime) -> Result<(), Fail> {
         "<path d=\"M46 354V402\" stroke=\"#4a76b8\" stroke-width=\"6\" stroke-dasharray=\"1 3\"/>",
         "<path d=\"M46 354H60\" stroke=\"#1a7f37\" marker-end=\"url(#spawn)\"/>",
         "<title>&lt;&amp;&gt;&#10; &apos;a line&apos; that is &quot;longer&quot; than a label shows</title>1:1 PRINT &lt;&amp;&gt;  &apos;a line&apos; that is &quot;longe\u{2026}</text>",
+    ];
+    assert!(rt; has(&svg, &parts));
+    Ok(())
+}
+
+#[test]
+fn regions_drawn(rt: HostRuntime) -> Result<(), Fail> {
+    let svg = pictured(rt.alloc(), REGIONS, 1, 1000)?;
+    let parts = [
+        "Places: 1. Steps: 11, frames taken in: 0, idle events: 3.",
+        // From an ATOMB to its ATOME the bar is another one.
+        "<path d=\"M46 150V174\" stroke=\"#4a76b8\" stroke-width=\"6\"/>\n<path d=\"M46 174V210\" stroke=\"#17365f\" stroke-width=\"8\"/>",
+        // What is kept out waits, to its next step: a quiet one here.
+        "<path d=\"M64 162V222\" stroke=\"#4a76b8\" stroke-width=\"6\" stroke-dasharray=\"1 3\"/>\n<path d=\"M46 210V234\" stroke=\"#4a76b8\" stroke-width=\"6\"/>",
+        "<path d=\"M64 222V246\" stroke=\"#4a76b8\" stroke-width=\"6\"/>\n<path d=\"M64 246V270\" stroke=\"#17365f\" stroke-width=\"8\"/>",
+        ">1:1 ATOMB</text>",
     ];
     assert!(rt; has(&svg, &parts));
     Ok(())
