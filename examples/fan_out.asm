@@ -3,8 +3,8 @@
 ; has a rail, and goes to its home by AT when it is done, to put its number there.
 ;
 ; Two activities that count up one number at the same time lose updates, since one may read the number before the
-; other has written it; `atomic`, which would prevent it, isn't there yet. Here nobody writes where another one does:
-; the rail has a byte for each of them.
+; other has written it (`shared_counter.asm` has a region against it). Here nobody writes where another one does: the
+; rail has a byte for each of them.
 ;
 ; $ x10p run fan_out.x10
 ; 0: 0

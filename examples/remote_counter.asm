@@ -4,7 +4,7 @@
 ; the place that AT goes to. `counter_refused.asm` leaves this out.
 ;
 ; One client counts here. Two at the same time would lose updates: one may read the counter before the other has
-; written it. `atomic`, which would prevent it, isn't there yet.
+; written it. An atomic region around GET, ADD and PUT prevents that: see `shared_counter.asm`.
 ;
 ; $ x10p run remote_counter.x10
 ; 0: 3

@@ -1,6 +1,6 @@
 ; Two activities count the same counter up at the same time, five times each, coming from two places. Each reads the
-; counter, adds 1 and puts the sum back, and between two steps of one the other makes its own. So sums are lost. An
-; atomic section, which isn't there yet, would prevent it.
+; counter, adds 1 and puts the sum back, and between two steps of one the other makes its own. So sums are lost. With
+; an atomic region none is: ../atomic/by_reference.asm.
 ;
 ; $ x10p bounds lost_updates.x10
 ; 0 6
