@@ -8,7 +8,7 @@ syn case match
 " a line that nothing below matches keeps its plain color, so a misspelt name stands out
 syn match x10asmLine "^ *\%(version\|places\|class\|int\|text\|func\|end\|entry\)\>"
 syn match x10asmJump "^ *\%(DIV\|REM\|JMP\|JZ\|ENDL\|PLACEN\|IFHERE\|IFSAME\|IFOBJ\|RAIL\|RGET\|RSET\|TCAT\)\>"
-syn match x10asmActivity "^ *\%(ASYNC\|AT\|ATA\|FINB\|FINE\)\>"
+syn match x10asmActivity "^ *\%(ASYNC\|AT\|ATA\|FINB\|FINE\|ATOMB\|ATOME\)\>"
 syn match x10asmInstruction "^ *\%(INTK\|TEXTK\|MOVE\|ADD\|SUB\|MUL\|LT\|EQ\|LOOP\|PRINT\|HERE\|PLACEK\|PLACEI\|NEXTP\|COUNT\|HOME\|GNEW\|GOPEN\|NEW\|GET\|PUT\|NULL\|RLEN\|TLEN\|CALL\|RET\)\>"
 syn match x10asmKind " \zs\%(int\|place\|text\|rail\|none\|\%(obj\|opt\|gref\|here\):[0-9]\+\)\ze\%( \|$\)"
 syn match x10asmNumber " \zs-\?[0-9]\+\ze\%( \|$\)"
