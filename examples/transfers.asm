@@ -2,7 +2,8 @@
 ; enough, and a second one prints the sum of both. Each does so inside an atomic region, since the sum is wrong between
 ; the two PUTs of a move: what has to change together is changed in one region, and read in one.
 ;
-; A jump inside a region may go to its ATOME, and no farther. What can wait stands outside: the sum is printed there.
+; A jump inside the region goes to its ATOME at most. The sum is printed outside: a region should be short, since it keeps
+; all others of its place waiting.
 ;
 ; $ x10p run transfers.x10
 ; 0: 100

@@ -4,7 +4,7 @@
 ; Atomic, function 1, instruction 2: AT 0 0 0 0
 ; line 17: AT 0 0 0 0
 ; AT stands in the atomic region that begins in line 15: ATOMB
-; Nothing goes elsewhere inside: go before the ATOMB or after the ATOME. The function that runs there has a region of its own.
+; Nothing goes elsewhere inside: go before the ATOMB or after the ATOME. The function that runs there has an atomic region of its own.
 ; status 1: verify: Structure Atomic 1 2
 version 2
 places 1

@@ -4,7 +4,7 @@
 ; Atomic, function 0, instruction 1: ATOMB
 ; line 13: ATOMB
 ; ATOMB stands in the atomic region that begins in line 12: ATOMB
-; One region is enough, since nothing else moves here until its ATOME: leave this one out, or close that one before it.
+; One is enough, since nothing else moves here until its ATOME: leave this one out, or close the first before it.
 ; status 1: verify: Structure Atomic 0 1
 version 2
 places 1

@@ -51,7 +51,8 @@ impl Drawing {
     /// refusal, which is for lack of memory, the event isn't counted, and it may be drawn in part.
     ///
     /// Linear in the bytes of the frames that the event put out and in the line that it printed, otherwise constant. Takes
-    /// memory for what is new in the picture: an idle step, or one among many that put nothing out, adds nothing.
+    /// memory for what is new in the picture: an idle step, or one among many that put nothing out, adds nothing unless a wait
+    /// begins or ends with it.
     pub fn note(&mut self, world: &World, event: Event, done: &Done) -> Result<(), AllocError>
         ensures ok { OnOk result (self.new ≡ counted self.old done.now) }
         ensures err { OnErr result (self.new ≡ self.old) }

@@ -3,7 +3,9 @@ use crate::column::{Column, Row, Span, State};
 use crate::frame_kind::{FrameKind, facts_of, head_of};
 use crate::label::{Label, Tone};
 use crate::parts::{Arrow, Bracket, End, Fork, Spot};
-use crate::telling::{Move, delivery_label, main_label, print, quiet_label, taken_text, text_of};
+use crate::telling::{
+    Move, delivery_label, main_label, print, quiet_label, step_label, taken_text, text_of,
+};
 use std::alloc::{AllocError, Global};
 use std::fmt::Write;
 use x10_code::Op;
@@ -216,19 +218,7 @@ impl Sketch {
             self.end(step.place, step.key, row)?;
             text.push_str(" end")?;
         }
-        let tone = if step.op == Op::Print {
-            Tone::Printed
-        } else {
-            Tone::Notable
-        };
-        self.label(Label {
-            place: step.place,
-            lane: Some(step.key),
-            row,
-            tone,
-            text,
-            full,
-        })
+        self.label(step_label(step, row, text, full))
     }
 
     /// A step that put nothing out.

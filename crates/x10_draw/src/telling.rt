@@ -66,6 +66,23 @@ pub(crate) fn main_label(text: String) -> Label {
     delivery_label(spot, text)
 }
 
+/// The label of a step that others may see, with all of its line of output, where that is cut.
+pub(crate) fn step_label(step: Move, row: u64, text: String, full: Option<String>) -> Label {
+    let tone = if step.op == Op::Print {
+        Tone::Printed
+    } else {
+        Tone::Notable
+    };
+    Label {
+        place: step.place,
+        lane: Some(step.key),
+        row,
+        tone,
+        text,
+        full,
+    }
+}
+
 pub(crate) fn quiet_label(step: Move, row: u64, tone: Tone, text: String) -> Label {
     Label {
         place: step.place,

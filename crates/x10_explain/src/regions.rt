@@ -319,12 +319,12 @@ fn outside(op: Op) -> &'static str {
         Op::Call =>
             "Nothing is called inside: put what the function does here, or call it before the ATOMB or after the ATOME.\n",
         Op::At =>
-            "Nothing goes elsewhere inside: go before the ATOMB or after the ATOME. The function that runs there has a region of its own.\n",
+            "Nothing goes elsewhere inside: go before the ATOMB or after the ATOME. The function that runs there has an atomic region of its own.\n",
         Op::Async | Op::Ata =>
             "Nothing is started inside: start it before the ATOMB or after the ATOME.\n",
         Op::Finb =>
             "Nothing waits inside: close the region before the finish, or put it into the finish.\n",
         _ =>
-            "One region is enough, since nothing else moves here until its ATOME: leave this one out, or close that one before it.\n",
+            "One is enough, since nothing else moves here until its ATOME: leave this one out, or close the first before it.\n",
     }
 }
