@@ -5,7 +5,6 @@ use Rattle.std.proofs.lemmas.Bool.{cases_eq}
 use Rattle.std.proofs.lemmas.Option.{same_Some}
 use Rattle.slab.specs.Slab.{Slab, get, Updates, with_value}
 use Rattle.x10_kinds.specs.declared.stop.Stop.{Stop}
-use Rattle.x10_code.specs.declared.op.Op.TheVariants as op
 use Rattle.x10_model.specs.Frames.{Frame}
 use Rattle.x10_model.specs.Modules.{Module}
 use Rattle.x10_model.specs.Places as machine

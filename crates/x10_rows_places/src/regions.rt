@@ -38,12 +38,14 @@ fn move_on(place: &mut Place, key: usize, steps: usize) -> bool {
     (0..steps).all(|_| matches!(place.step(key), Ok(Stepped::Moved(_))))
 }
 
-/// Whether the activity with a key is inside, and neither main nor the other one has anything to do, also for a stretch.
-fn keeps_others_out(place: &mut Place, key: usize) -> bool {
-    place.inside() == Some(key)
-        && [0, 3 - key]
-            .into_iter()
-            .all(|key| idles(place, key) && ran(place, key, 10) == Some(0))
+/// Whether there is nothing to do for a key, also for a stretch of steps.
+fn is_kept_out(place: &mut Place, key: usize) -> bool {
+    idles(place, key) && ran(place, key, 10) == Some(0)
+}
+
+/// Whether one activity is inside, and keeps out main and another one.
+fn keeps_others_out(place: &mut Place, one: usize, other: usize) -> bool {
+    place.inside() == Some(one) && is_kept_out(place, 0) && is_kept_out(place, other)
 }
 
 #[test]
@@ -56,12 +58,12 @@ fn one_inside_keeps_the_others_out(rt: HostRuntime) -> Result<(), Fail> {
         assert!(rt; place.inside().is_none());
         for _ in 0..6 {
             assert!(rt; move_on(&mut place, one, 1));
-            assert!(rt; keeps_others_out(&mut place, one));
+            assert!(rt; keeps_others_out(&mut place, one, other));
         }
         assert!(rt; move_on(&mut place, one, 1));
         assert!(rt; place.inside().is_none());
         assert!(rt; move_on(&mut place, other, 1));
-        assert!(rt; keeps_others_out(&mut place, other));
+        assert!(rt; keeps_others_out(&mut place, other, one));
     }
     Ok(())
 }
@@ -73,7 +75,7 @@ fn a_stretch_goes_through_a_region(rt: HostRuntime) -> Result<(), Fail> {
     let mut place = opened(rt.alloc(), &verified, 0, 1)?;
     assert!(rt; move_on(&mut place, 0, 5));
     assert!(rt; ran(&mut place, 1, 3) == Some(3));
-    assert!(rt; keeps_others_out(&mut place, 1));
+    assert!(rt; keeps_others_out(&mut place, 1, 2));
     assert!(rt; ran(&mut place, 1, 10) == Some(5));
     assert!(rt; place.inside().is_none());
     assert!(rt; ran(&mut place, 2, 10) == Some(8));

@@ -15,6 +15,6 @@ pub stride_made : (far : Far) (p q : PlaceState) (m : machine.Place) (key : ℕ)
 stride_made far p q m key out stands on stride = record {
   idle = λ still. absurd (no_stride_is_idle far p m key out q stands stride still);
   only = λ e. absurd (moved_not out e);
-  some = λ a there ready. stride.leads;
+  some = λ a there ready outside. stride.leads;
   goes = λ e. on (sym stride.stopped ∙ e);
 }

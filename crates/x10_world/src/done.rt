@@ -4,8 +4,8 @@ use x10_code::Op;
 /// What an event of a world did.
 #[derive(Clone, Copy, Debug, PartialEq, Eq)]
 pub enum Done {
-    /// Nothing. Of a step: there is no such place, no activity with the key there, it is away, or it waits at the end of a
-    /// finish. Of a delivery: no frame with the number is in flight.
+    /// Nothing. Of a step: there is no such place, no activity with the key there, it is away, another activity of the place is
+    /// inside an atomic region, or it waits at the end of a finish. Of a delivery: no frame with the number is in flight.
     Idle,
     /// An activity made a step.
     Moved {

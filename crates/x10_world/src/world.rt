@@ -199,8 +199,8 @@ impl<'a> World<'a> {
     /// Up to `most` times the event `Step(place, key)`: how many were made. Each is as `run` would make it, several times as
     /// fast, and moves. They are fewer than `most` only where a Step of the key now finds nothing to do, or where the last one
     /// began an activity or put out a frame, so that other events may come. It waits at the end of a finish only where
-    /// something lives that the finish governs, a frame is in flight, or another activity of the place is inside an atomic region. After a Stop, which comes as `run` says, the output is
-    /// that of the steps before the one that was refused.
+    /// something lives that the finish governs, a frame is in flight, or another activity of the place is inside an atomic
+    /// region. After a Stop, which comes as `run` says, the output is that of the steps before the one that was refused.
     pub fn run_activity(&mut self, place: u16, key: usize, most: u64) -> Result<u64, Stop>
         ensures ok { IfOk result (λ n. (w : machine.World) → StandsForWorld self.old w → RepeatsThrough self.old w n place key self.new) }
         ensures some { (w : machine.World) → StandsForWorld self.old w → (n : ℕ) × (n ≤ most) × Repeats self.old w n place key self.new }
