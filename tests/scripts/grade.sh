@@ -4,7 +4,7 @@ source "$(dirname "$0")/common"
 answers="$top/examples/answers"
 grade() { "$top/ci/grade" --program "${program-x10p}" "$@"; }
 
-# the answers
+# the answers, which pass
 mkdir -p class/{ada,ben,cleo,dan,fay}
 cp "$answers"/*.asm class/ada/
 # answers with one thing changed: too few turns, the wrong register, a region that ends too soon
@@ -47,7 +47,7 @@ cleo, 10: run --places 1: x10p: places
 cleo, 13: run --places 3: x10p: verify: Structure Atomic 1 3
 dan, 3: run: it prints more than 1,000,000 bytes
 dan, 4: run: x10p: limit
-dan, 5: 5.asm is no file
+dan, 5: 5.asm is no ordinary file
 dan, 10: there are 2 texts: 10_new.asm, 10_old.asm
 not graded: eve_3.asm, in no student's folder
 not graded: dan, three.asm: its name begins with no number
@@ -112,14 +112,16 @@ does 2 "" "grade: nowhere: No such file or directory" grade nowhere
 does 2 "" "grade: checks.json: Not a directory" grade checks.json
 does 2 "" "grade: none has no text to grade, such as none/NAME/3.asm" grade none
 does 2 "" "grade: exercise 7 has no checks; these have: 3, 4, 5, 10, 13" grade class 7
-does 2 "" "grade: exercise three has no checks; these have: 3, 4, 5, 10, 13" grade class three
 does 2 "" .. grade
 program=nowhere does 2 "" .. grade class
 grep -q "^grade: there is no program .*/nowhere: make it by ./build" .err || fail "of no program it told $(cat .err)"
 program=/bin/echo does 2 "" "grade: /bin/echo isn't x10p" grade class
-does 2 "" .. grade --checks nowhere class
-for checks in '' '[]' '{}' '{"a": {}}' '{"1": {}}' '{"1": {"checks": [{"command": "rm", "prints": []}]}}' \
-    '{"1": {"checks": [{"command": "run"}]}}' '{"1": {"checks": [{"command": "run", "prints": [7]}]}}'; do
+does 2 "" .. grade --seconds 0 class
+if [ -c /dev/full ]; then
+    grade class 3 2>.err >/dev/full
+    [ $? = 2 ] && grep -q "^grade: the table can't be written: " .err || fail "to /dev/full: it told $(cat .err)"
+fi
+for checks in '' '[]' '{"1": {"checks": [{"command": "rm", "prints": []}]}}' '{"1": {"checks": [{"command": "run"}]}}'; do
     echo "$checks" >checks.json
     does 2 "" .. grade --checks checks.json class
     [ "$(wc -l <.err)" = 1 ] && grep -q '^grade: checks.json' .err || fail "of the checks $checks it told $(cat .err)"
