@@ -121,6 +121,9 @@ if [ -c /dev/full ]; then
     grade class 3 2>.err >/dev/full
     [ $? = 2 ] && grep -q "^grade: the table can't be written: " .err || fail "to /dev/full: it told $(cat .err)"
 fi
+echo '{"3": {"checks": [{"command": "run --place 3", "prints": []}]}}' >checks.json
+does 2 "" .. grade --checks checks.json class
+grep -q "^grade: a check calls .x10p run - --place 3 .*, which isn't a command: " .err || fail "of a wrong option it told $(cat .err)"
 for checks in '' '[]' '{"1": {"checks": [{"command": "rm", "prints": []}]}}' '{"1": {"checks": [{"command": "run"}]}}'; do
     echo "$checks" >checks.json
     does 2 "" .. grade --checks checks.json class
