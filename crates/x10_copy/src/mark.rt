@@ -19,14 +19,7 @@ const NODE: usize = 3;
 /// How many objects are looked at together before the turn of the first one. Memory then brings them at the same time.
 pub const TOGETHER: usize = 16;
 
-/// Whether the first field holds a negative number.
-#[inline(always)]
-fn is_first_negative(fields: &[u64]) -> bool {
-    matches!(fields.first(), Some(word) if word.cast_signed() < 0)
-}
-
-/// How many bytes these objects take, more or less: without what follows the tags of their fields. It reads the first field of
-/// each too, since its turn comes soon: one byte more where that is negative does no harm.
+/// How many bytes these objects take, without what follows the tags of their fields.
 #[inline(always)]
 pub fn size_of(marks: &Marks, heap: &Heap, from: usize, to: usize) -> usize
     requires there { (k : ℕ) → k < length marks.now.objects → slice_index marks.now.objects k < length heap.now.objects }
@@ -34,9 +27,8 @@ pub fn size_of(marks: &Marks, heap: &Heap, from: usize, to: usize) -> usize
 {
     let mut bytes: usize = 0;
     for k in from..to {
-        let fields = heap.fields(marks.object(k));
-        let more = usize::from(is_first_negative(fields));
-        bytes = bytes.wrapping_add(NODE + more).wrapping_add(fields.len());
+        let tags = heap.fields(marks.object(k)).len();
+        bytes = bytes.wrapping_add(NODE).wrapping_add(tags);
     }
     bytes
 }
