@@ -108,7 +108,9 @@ fn front(name: &str) -> u64
     4_294_967_296 * quad(bytes, 0) + quad(bytes, 4)
 }
 
-/// Labels by their names, each with its front before it, since one comparison of numbers mostly tells two names apart.
+/// Labels by their names, each with its front before it, since one comparison of numbers mostly tells two names apart. The
+/// map is ordered: a look-up takes the logarithm of the number of labels whatever their names are, while a text can be made
+/// that turns a hash map quadratic.
 pub type Table<'a> = BTreeMap<(u64, &'a str), Definition>;
 
 /// What a name defines.
@@ -119,7 +121,7 @@ pub fn definition_of<'a>(table: &Table<'a>, name: &'a str) -> Option<Definition>
     table.get(&key).copied()
 }
 
-/// Adds a label, unless its name is there: then the first one of that name is put back.
+/// Adds a label, unless its name is there: then the first one of that name is put back. So a new label takes one search.
 fn define<'a>(
     table: &mut Table<'a>,
     name: &'a str,

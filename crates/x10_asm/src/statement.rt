@@ -99,7 +99,8 @@ fn begins_name(word: &str) -> bool
     !bytes.is_empty() && bytes[0] < b'a'
 }
 
-/// The statement that begins with a word. Labels and operations, which most lines begin with, are looked for first.
+/// The statement that begins with a word. Labels and operations, which most lines begin with, are looked for first. The
+/// definition asks for the other words before labels; none of them ends in a colon (`label_is` in `proofs/Names.antt`).
 #[tactic(auto, unfolding(crate::specs::Statements::statement_of))]
 fn statement_of(word: &str) -> Statement
     ensures { result ≡ statements.statement_of word.now }

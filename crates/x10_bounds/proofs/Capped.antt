@@ -22,6 +22,7 @@ great a b m le one =
 nothing_or_more : (b : ℕ) → (b ≡ 0) ⊎ (1 ≤ b)
 nothing_or_more b = grind arith
 
+-- a factor may be cut first: where it is great so is the product, but for a factor 0, which gives 0 on both sides
 pub left_factor : (a b m : ℕ) → min (min a m * b) m ≡ min (a * b) m
 left_factor a b m = elim (either a m) [
   | inl e ↦ ap (λ n. min (n * b) m) e

@@ -41,6 +41,8 @@ tail_after earlier code op.Atomb pc i rs ls n e h = tail_same earlier code (leve
 tail_after earlier code op.Finb pc i rs ls n e h = tail_same earlier code (levels_before earlier op.Finb i ls) ls rs refl h
 tail_after earlier code o pc i rs ls n e h = tail_same earlier code (levels_before earlier o i ls) ls rs refl h
 
+-- The levels past a loop are the same at its end as at its first instruction: so an ENDL goes back at the price of having
+-- one turn fewer.
 pub tails : (earlier : List ℕ) (code : List Instr) (pc : ℕ) → AllNest code → pc ≤ length code → IsTail earlier code (levels_from earlier code pc) (around code pc)
 tails earlier code zero fit le = tt
 tails earlier code (suc pc) fit le =

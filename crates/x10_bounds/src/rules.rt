@@ -72,9 +72,9 @@ pub fn nesting_fault(code: &[Instr], spots: &[Spot]) -> Option<u16>
     Some((code.len() - 1) as u16)
 }
 
-/// Whether a jump goes forward, inside the function, and leaves only loops. A region determines the regions around it; so the
-/// target's regions are around the jump too where the innermost of them begins before the jump, and no finish and no atomic
-/// region is left where as many are around both.
+/// Whether a jump goes forward, inside the function, and leaves only loops. A region determines the regions around it; so
+/// the target's regions are around the jump too where the innermost of them begins before the jump, and no finish and no
+/// atomic region is left where as many are around both. Constant time, however many regions there are.
 fn jumps_forward(code: &[Instr], spots: &[Spot], pc: usize, x: u32) -> bool
     requires within { pc < length code.now }
     requires spots { AreSpotsTo code.now (length code.now) spots.now }

@@ -32,7 +32,8 @@ pub struct Spot {
     pub weight: u64,
 }
 
-/// The greatest bound plus one: every greater number of steps is kept as this number.
+/// The greatest bound plus one: every greater number of steps is kept as this number. Products of limits pass 2^128, also in
+/// code that is refused later.
 const TOO_MANY: u64 = (1 << 48) + 1;
 
 pub fn capped_sum(a: u64, b: u64) -> u64

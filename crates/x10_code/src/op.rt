@@ -89,7 +89,7 @@ pub enum Op {
     Finb,
     /// waits until the innermost finish is done, and closes it.
     Fine,
-    /// begins an atomic region: until its end nobody else of this place moves.
+    /// begins an atomic region: until its end no other activity of this place moves.
     Atomb,
     /// ends the atomic region.
     Atome,

@@ -16,7 +16,9 @@ use x10_model::Slot;
 /// How many bytes come before each object's fields.
 const NODE: usize = 3;
 
-/// How many objects are looked at together before the turn of the first one. Memory then brings them at the same time.
+/// How many objects are looked at together before the turn of the first one. Memory then brings them at the same time:
+/// objects that name one another at random lie all over it, and waiting for it takes most of a capture's time. Their fields
+/// are read in their turns.
 pub const TOGETHER: usize = 16;
 
 /// How many bytes these objects take, without what follows the tags of their fields.

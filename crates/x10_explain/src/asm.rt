@@ -37,7 +37,7 @@ fn push_head(out: &mut String, fault: AsmFault) -> Result<(), AllocError>
     write!(out, "{word}, line {line}: ")
 }
 
-// What comes after that, which has `before` bytes.
+// The line itself, to the right of the cause and its number, which take `before` bytes, and what comes below it.
 fn reasons(
     alloc: Global,
     text: &str,
@@ -76,7 +76,8 @@ fn classes_for(text: &str, line: &str) -> usize {
     }
 }
 
-// A line of a text after `before` bytes, with marks beneath the word at fault, and what is wrong with it.
+// A line of a text, to the right of `before` bytes that stand there already, with marks beneath the word at fault, and what
+// is wrong with it.
 fn push_line(
     alloc: Global,
     out: &mut String,

@@ -13,10 +13,10 @@ pub(crate) struct Span {
     pub(crate) to: usize,
 }
 
-/// A line with marks beneath the word at which a line is refused for a cause, by the flaw that it has whatever the other lines
-/// say, and by what is wrong with its quotes: one for each character of the word, with its tabs as they are, and one where a word
-/// is missing. In the line before, `before` bytes of one column each are in front of that line. Nothing where no such word is
-/// found.
+/// A line with marks beneath the word at which a line is refused for a cause, by the flaw that it has whatever the other
+/// lines say, and by what is wrong with its quotes: one for each character of the word, with its tabs as they are, and one
+/// where a word is missing. The refused line stands to the right of `before` bytes that take one column each. Nothing where
+/// no such word is found.
 pub(crate) fn push_marks(
     out: &mut String,
     before: usize,

@@ -16,7 +16,6 @@ use std::fmt::Write;
 use x10_asm::push_slot;
 use x10_code::{Instr, name};
 use x10_image::ImageView;
-use x10_kinds::Term;
 use x10_verify::{Flow, VerifyCause, VerifyFault, known_flow};
 
 /// Why the verifier refuses a module, in at most 10 lines: the rule, the function and the instruction, as the listing writes

@@ -20,6 +20,7 @@ pub struct Book {
     places: u16,
     pairs: Vec<Pair>,
     unequal: usize,
+    /// The place that last disagreed with the home: it is looked at before the others.
     hint: Cell<u16>,
 }
 

@@ -15,10 +15,11 @@ use std::marker::Model;
 use x10_frame::Report;
 use x10_kinds::Stop;
 
-/// What one place counts of each finish that it met. Clauses see the totals of each finish. A finish is found by its hash, in
-/// constant time as a rule, and each call takes that time unless it says otherwise. A finish is met where it is counted for
-/// the first time, which takes memory for two numbers for each place, and now and then a larger table; afterwards counting
-/// takes none.
+/// What one place counts of each finish that it met. Clauses see the totals of each finish. A finish is found by its hash,
+/// in constant time as a rule, and each call takes that time unless it says otherwise. The hash is the same in every run, so
+/// whoever may choose the numbers of finishes can choose ones whose hashes collide; a machine's own finishes are numbered
+/// one after another. A finish is met where it is counted for the first time, which takes memory for two numbers for each
+/// place, and now and then a larger table; afterwards counting takes none.
 #[derive(Drop)]
 pub struct Tally {
     alloc: Global,

@@ -26,8 +26,9 @@ pub struct Sizes {
     pub nodes: u32,
 }
 
-/// A frame that is being written: the head and the sizes, and then the roots, the texts, the rails and
-/// the objects, each in the order of their numbers. Clauses see the bytes so far.
+/// A frame that is being written: the head and the sizes, and then the roots, the texts, the rails and the objects, each in
+/// the order of their numbers. Clauses see the bytes so far. Each call takes the writer and gives it back, so lack of memory
+/// leaves none.
 #[derive(Debug, Drop)]
 pub struct FrameWriter {
     bytes: Vec<u8>,

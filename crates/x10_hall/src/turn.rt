@@ -4,7 +4,8 @@ use std::alloc::Global;
 use std::sync::Arc;
 use x10_place::Line;
 
-/// A frame that was put out: the place that it goes to, and its bytes, which the log and the receiver share.
+/// A frame that was put out: the place that it goes to, and its bytes, which the log and the receiver share. Like `Taken` it
+/// is a struct, since the prover keeps less of a tuple round an `Arc`.
 #[derive(Drop)]
 pub struct Posted {
     /// The place that it goes to.

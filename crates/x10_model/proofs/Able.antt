@@ -147,7 +147,7 @@ ask_placed o s e r m = and_then (ask o s e r APlaceOrReference m) (λ h. let i =
 
 -- ---- going on
 
--- the place after the activity went on with another frame on top
+-- the place after the activity went on with another call frame on top
 abbrev pub on_at : Situation → places.Place → CallFrame → places.Place
 on_at s place top = with_stay place s.key (Some (record s.stay { top = top }))
 

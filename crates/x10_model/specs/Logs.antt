@@ -28,7 +28,7 @@ abbrev pub as_messages : Option Message → List Message
 as_messages None = []
 as_messages (Some message) = message ∷ []
 
--- what a place does by itself: it steps a key, or takes in a message, or a report, which is no affair of the machine
+-- what a place does by itself: it steps a key, or takes in a message, or a report, which the machine doesn't have
 pub data LocalEvent : Type 0 where
   Steps : (key : ℕ) → LocalEvent
   Takes : Message → LocalEvent

@@ -204,7 +204,7 @@ SetsByte s reference bytes z w (Some byte) new effect = ContinuesAt s
     (with_cell s.place reference (Bytes (slice_set bytes (index_of z) (index_of (int_rem_euclid w (pos 256)))))) (next s.stay.top) new effect
 SetsByte s reference bytes z w None new effect = Continues s (goes s.stay.top s.instr.x) new effect
 
--- stays at the end of a finish, or closes it and goes on; when it may go on is the world's affair
+-- stays at the end of a finish, or closes it and goes on; which of the two depends on the whole world
 abbrev pub LeavesFinish : Situation → ℕ → List ℕ → places.Place → Effect → Type 0
 LeavesFinish s number finishes new effect = ((new ≡ s.place) × (effect ≡ Waits number))
     ⊎ ((new ≡ with_stay s.place s.key (Some (record s.stay { top = next s.stay.top; finishes = finishes }))) × (effect ≡ Closes number))

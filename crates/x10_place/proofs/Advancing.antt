@@ -1,5 +1,5 @@
 -- What a step of the stay with a key does to a place, by what becomes of the stay.
-use Rattle.std.proofs.Common.{◌≡◌, ◌≢◌, ℕ, Bool, true, false, List, ◌∷◌, Option, Some, None, Ok, Err, refl, sym, ap, ap₂, subst, ◌∙◌}
+use Rattle.std.proofs.Common.{◌≡◌, ◌≢◌, ◌↔◌, ℕ, Bool, true, false, IsTrue, List, ◌∷◌, Option, Some, None, Ok, Err, refl, sym, ap, ap₂, subst, ◌∙◌}
 use Rattle.std.proofs.lemmas.Option.{same_Some}
 use Rattle.slab.specs.Slab.{Slab, get, Updates, with_value}
 use Rattle.x10_kinds.specs.declared.stop.Stop.{Stop}
@@ -19,13 +19,13 @@ use Rattle.x10_place.specs.declared.stay.Outcome.TheVariants as outcome
 use Rattle.x10_place.specs.declared.stay.Spot.{Spot}
 use Rattle.x10_place.specs.Frames.{IsInside, IsFetchedFor}
 use Rattle.x10_place.specs.Routes.{route_of}
-use Rattle.x10_place.specs.Stays.{StayState, StoreState, IsDoneHere, ClosesFinish, location, ReadsStore, OverfillsBy, Refuses, Steps}
+use Rattle.x10_place.specs.Stays.{StayState, StoreState, IsDoneHere, ClosesFinish, WaitsAtFinish, HasFinish, location, ReadsStore, OverfillsBy, Refuses, Steps}
 use Rattle.x10_place.specs.StandsFor.{PlaceState, place_of, plain, location_of, IsStanding, LeadsAll, IsIdleAt, nobody, away, waits, IsOverfull, IsHindered, Overfills, AreOutside, kept_out}
 use Rattle.x10_place.specs.declared.sent.Sent.{Sent}
 use Rattle.x10_place.specs.Messages.{no_sent}
 use Rattle.x10_place.specs.Stretches.{still, IsUntouched, IsForPlace, IsMade, IsAdvanced}
 use Rattle.x10_place.proofs.Placing.{IsChecked, is_close_finish}
-use Rattle.x10_place.proofs.Reading.{working_reads}
+use Rattle.x10_place.proofs.Reading.{working_reads, has_finish}
 use Rattle.x10_place.proofs.Registering.{registered_after}
 use Rattle.x10_place.proofs.Steps.{step_leads, wait_leads, waits_by}
 use Rattle.x10_place.proofs.Stretching.{left_unchanged}
@@ -94,6 +94,13 @@ module _ (v : Certified) (old : Slab StayState) (s : StoreState) (key : ℕ) (st
         let same = same_Some b a (sym is ∙ e) in
         let at = subst (λ (c : StayState). instr_at v.program c.top.function c.top.pc ≡ Some fine.0) same fine.1 in
         record { is_fine = subst (λ (j : Instr). j.op ≡ op.Fine) (instr_is fine.0 at) fine.2; number = number; outer = outer; innermost = subst (λ (c : StayState). c.finishes ≡ number ∷ outer) same innermost; not_done = not_done }
+
+    -- whether it does
+    pub idle_is : (t : Bool) → (IsTrue t ↔ (i.op ≡ op.Fine) × WaitsAtFinish a s a s) → (stopped : Bool) → IsTrue t ↔ IsIdleAt (place stopped) key
+    idle_is t is stopped = (
+      λ yes. (let w = is.0 yes in waits a w.1.number w.1.outer e outside (i, subst (λ o. instr_in o a.top.pc ≡ Some i) (sym fetched.is_function) fetched.is_instr, w.0) w.1.innermost w.1.waits),
+      λ idle. (let w = idle_waits stopped idle in is.1 (w.is_fine, record { number = w.number; outer = w.outer; innermost = w.innermost; waits = w.not_done; stay = refl; store = refl })),
+    )
 
     -- a step that closes a finish doesn't wait
     goes_on : (b : StayState) (t : StoreState) → IsWaiting → Steps (route_of i.op) (location_of (place false)) a s i outcome.Goes b t → ⊥
@@ -275,6 +282,10 @@ steps_as program spot s a i o p b t here places same steps =
 -- a stay that can move stands at an instruction
 pub inside_at : (v : Certified) (old : Slab StayState) (s : StoreState) (key : ℕ) (a : StayState) → IsStanding (place_of v old s false) → get old key ≡ Some a → a.away ≡ false → IsInside v.program a.top
 inside_at v old s key a standing e ready = (working_at (place_of v old s false) key a standing e ready).typed.stands.placed.top
+
+-- the finish at whose end it stands
+pub finish_there : (v : Certified) (old : Slab StayState) (s : StoreState) (key : ℕ) (a : StayState) (i : Instr) → IsStanding (place_of v old s false) → IsChecked v.program → get old key ≡ Some a → a.away ≡ false → IsFetchedFor v.program a.top i → i.op ≡ op.Fine → HasFinish a s
+finish_there v old s key a i standing checks e ready fetched fine = has_finish (location_of (place_of v old s false)) s a (working_at (place_of v old s false) key a standing e ready) checks i fetched fine
 
 -- what it reads is there
 pub reads_at : (v : Certified) (old : Slab StayState) (s : StoreState) (key : ℕ) (a : StayState) (spot : Spot) (i : Instr) → IsStanding (place_of v old s false) → IsChecked v.program → get old key ≡ Some a → a.away ≡ false → IsFetchedFor v.program a.top i → spot.here ≡ s.here → spot.places ≡ s.places

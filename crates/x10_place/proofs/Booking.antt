@@ -75,7 +75,7 @@ module _ (id opened : ℕ) (stays : ℕ → Option Stay) (books : ℕ → Option
       none k i n s is f = nowhere i n s.finishes (empty s is) f
 
   module _ (s t : Stay) (there : stays key ≡ Some s) where
-    -- who has a book: the root, or what is open in another stay, or what is open still in this one
+    -- which finish has a book: the root, one that is open in another stay, or one that is still open in this one
     only_after : (n : ℕ) → ((id ≡ 0) × (n ≡ 0)) ⊎ IsOpenIn stays n → ((i : ℕ) → nth s.finishes i ≡ Some n → IsOpenIn (with_entry stays key (Some t)) n) → ((id ≡ 0) × (n ≡ 0)) ⊎ IsOpenIn (with_entry stays key (Some t)) n
     only_after n (inl c) still = inl c
     only_after n (inr c) still = inr (elim (cases_eq c.0 key) [

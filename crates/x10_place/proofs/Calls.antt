@@ -1,4 +1,4 @@
--- Calls: what the program does to frames is what the machine does to call frames.
+-- Calls: what the program does to its call frames is what the machine does to its own.
 use Rattle.std.proofs.Common.{◌≡◌, ℕ, zero, suc, ◌+◌, ◌<◌, ◌≤◌, ◌^◌, List, [], ◌∷◌, length, replicate, Option, Some, None, refl, sym, ap, ap₂, subst, ◌∙◌, arith}
 use Rattle.std.specs.Prelude.{IsTrue, slice_get, slice_index}
 use Rattle.std.specs.List.{AllByRecursion}
@@ -124,7 +124,7 @@ module _ (setting : Setting) (here : ℕ) (far : Far) (m : machine.Place) (key :
   abbrev sit : Situation
   sit = situated setting here m key s function i
 
-  -- the callee's frame, at its first instruction
+  -- the callee's call frame, at its first instruction
   entered_stands : (callee : Function) (vs : List Value) (f : CallFrame) → length callee.parameters ≤ 16 → (e : IsEntered setting.program a.top.registers.items i f) → function_at setting.program i.x ≡ Some callee → PassesWords x m.cells here sit a.top.registers.items i.b callee.parameters vs
       → StandsForFrame setting.program assigned x f (entry_frame i.x vs)
   entered_stands callee vs f few e is passed =

@@ -25,6 +25,6 @@ chain_more program (g ∷ gs) f top h calling = (subst (λ n. IsCalling program 
 pub caller_is : (program : Module) (a : StayState) (fs : List CallFrame) (f : CallFrame) → IsPlaced program a → a.callers ≡ fs ++ f ∷ [] → IsCalling program f a.top.function × AreCalling program fs f.function
 caller_is program a fs f placed e = chain_last program fs f a.top.function (subst (λ gs. AreCalling program gs a.top.function) e placed.callers)
 
--- the frames in boxes, where one box more stands last
+-- the call frames in boxes, where one box more stands last
 pub frames_with : {Z : Type 0} (all boxes : List (Box CallFrame Z)) (b : Box CallFrame Z) → all ≡ boxes ++ b ∷ [] → frames_of all ≡ frames_of boxes ++ b.value ∷ []
 frames_with all boxes b e = ap frames_of e ∙ map-append (λ b. b.value) boxes (b ∷ [])

@@ -99,7 +99,7 @@ back_placed program checks words a b call fetched is placed h =
       region = ap (λ (x : StayState). x.inside) h.rest ∙ placed.region ∙ sym kept;
     }
 
--- ---- its frame
+-- ---- its call frame
 
 -- a result that comes, in the register of the AT
 at_result : (program : Module) (function : Function) (i : Instr) (slot : Slot) → i.op ≡ op.At → IsThere program function i (form_of i.op).a i.a → result_of (function_at program i.x) ≡ Some slot → i.a < function.registers
@@ -125,7 +125,7 @@ module _ (program : Module) (assigned : Assigned program) (y : Context) (cells :
       let v = reads y h.state c.registers f.registers.items call.c kind.Place h.words permits.1.2 in
       v.1 ∙ ap Some (v.2.1 ∙ ap values.Place e)
 
-  -- the frame after the AT, with the result that comes
+  -- the call frame after the AT, with the result that comes
   frame_back : (from : ℕ) (slot : Option Slot) (words : List ℕ) (vs : List Value) (t : State) (g : CallFrame) → c.registers call.c ≡ Some (values.Place from) → result_of (function_at program call.x) ≡ slot → GivesResult (point_of program h.function f call) h.state (term.Reg call.c) slot t
       → Reaches (assigned f.function h.function h.is_function).0 (f.pc + 1, t) → AreWordsOf y (kinds_of (slots_of slot)) words vs → FitSlots (IsOfKind cells) from vs (slots_of slot) → GoesNextBy words f call.a g → StandsForFrame program assigned y g (resumed c call.a (first_of vs))
   frame_back from None [] [] t g held result given reached stand fit goes =

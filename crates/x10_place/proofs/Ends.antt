@@ -60,7 +60,7 @@ IsGiven x cells None None word = Unit {0}
 IsGiven x cells (Some slot) (Some v) word = FitsSlotAt (IsOfKind cells) x.here v slot × IsWordOf x slot.kind word v
 IsGiven x cells _ _ word = ⊥
 
--- a caller's frame after its call
+-- a caller's call frame after its call
 call_result : (program : Module) (function : Function) (i : Instr) (slot : Slot) (o : Option Slot) → i.op ≡ op.Call → IsThere program function i (form_of i.op).a i.a → result_of (function_at program i.x) ≡ o → o ≡ Some slot → i.a < function.registers
 call_result program function i slot o e there is some =
     let at = subst (λ q. IsThere program function i (form_of q).a i.a) e there in

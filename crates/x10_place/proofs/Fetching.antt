@@ -1,4 +1,4 @@
--- Instructions as they are fetched for a frame, and what operations of one frame ask of them.
+-- Instructions as they are fetched for a call frame, and what operations of one call frame ask of them.
 use Rattle.std.proofs.Common.{◌≡◌, ◌≢◌, ℕ, ◌+◌, ◌<◌, ◌≤◌, ◌^◌, List, length, Option, Some, None, refl, sym, ap, subst, ◌∙◌, arith}
 use Rattle.std.specs.Prelude.{ℤ, ◌++◌, ◌==◌, nat_le, slice_get, nat_lt, if◌then◌else◌, Bool, true, false}
 use Rattle.std.proofs.Math.ListN.{length-set}
@@ -40,7 +40,7 @@ sizes version classes f fits = record { parameters = fits.parameters; registers 
 
 -- ---- what is there
 
--- the function of a frame that stands at an instruction
+-- the function of a call frame that stands at an instruction
 pub function_within : (program : Module) (index at count n : ℕ) → IsWithin program index at count → n ≡ index → n < length program.functions
 function_within program index at count n h e = subst (λ k. k < length program.functions) (sym e) (slice_get_within program.functions index h.function h.is_function)
 
@@ -71,7 +71,7 @@ fetched_within program index at count f pc i fits inside r = record {
   next = λ ne. subst (λ o. at + 1 < length (code_in o)) inside.is_function (subst (λ k. at + 1 < length (code_at program k)) r.function_is (subst (λ k. k + 1 < length (code_at program f)) r.pc_is (r.follows ne)));
 }
 
--- ---- operations of one frame
+-- ---- operations of one call frame
 
 -- such an operation is no return
 pub local_no_return : (o : Op) (l : Local) → route_of o ≡ route.Local l → o ≢ op.Ret
@@ -177,7 +177,7 @@ module _ (program : Module) (index at count : ℕ) (i : Instr) (h : IsFetched pr
   pub export_next : route_of i.op ≡ route.Export → at + 1 < length h.function.code
   export_next e = h.next (λ f. absurd (let g : route.Return ≡ route.Export = ap route_of (sym f) ∙ e in cc))
 
--- ---- where the frame stands afterwards: at the next instruction or at x
+-- ---- where the call frame stands afterwards: at the next instruction or at x
 
 module _ (i : Instr) (P : ℕ → Type 0) (jump : is_target (form_of i.op).x ≡ true → P i.x) where
   -- a jump goes where P holds
@@ -234,7 +234,7 @@ module _ (i : Instr) (P : ℕ → Type 0) (jump : is_target (form_of i.op).x ≡
   pub site_targets : (k : Site) → route_of i.op ≡ route.Site k → SiteTargets k
   site_targets k r = site_targets_of k (jump_by (route.Site k) r)
 
-  -- the frame lands where P holds, with as many registers
+  -- the call frame lands where P holds, with as many registers
   abbrev pub Lands : Workspace → Workspace → Type 0
   Lands v w = P w.pc × (length w.words ≡ length v.words)
 
@@ -317,7 +317,7 @@ module _ (i : Instr) (P : ℕ → Type 0) (jump : is_target (form_of i.op).x ≡
     pub export_lands : (here : ℕ) (w : Workspace) → ExportsObject here v i w → Lands v w
     export_lands here w exports = lands w _ _ _ _ exports.becomes next (simp length-set refl)
 
--- the frame stands at an instruction of its function again
+-- the call frame stands at an instruction of its function again
 pub within_again : (program : Module) (index : ℕ) (v w : Workspace) (i : Instr) (h : IsFetched program index v.pc (length v.words) i) → (w.pc < length h.function.code) × (length w.words ≡ length v.words) → IsWithin program index w.pc (length w.words)
 within_again program index v w i h lands = record {
   function = h.function;
@@ -331,7 +331,7 @@ pub target_there : (program : Module) (f : Function) (i : Instr) (o : Operand) �
 target_there program f i operand.Target there e = there
 target_there program f i _ there e = absurd cc
 
--- after an operation of the frame alone
+-- after an operation of the call frame alone
 pub local_within : (program : Module) (index : ℕ) (v : Workspace) (i : Instr) (h : IsFetched program index v.pc (length v.words) i) (l : Local) (w : Workspace) → route_of i.op ≡ route.Local l → Acts l program v i w → IsWithin program index w.pc (length w.words)
 local_within program index v i h l w r acts =
     within_again program index v w i h

@@ -85,7 +85,7 @@ module _ (program : Module) (assigned : Assigned program) (y : Context) where
   word_of (s ∷ slots) (word ∷ words) (v ∷ vs) zero want w e = (v, refl, subst (λ k. IsWordOf y k word v) (same_Some s.kind want e) w.0, omega arith)
   word_of (s ∷ slots) (word ∷ words) (v ∷ vs) (suc r) want w e = let u = word_of slots words vs r want w.1 e in let lt = u.3 in (u.0, u.1, u.2, omega (arith, lt))
 
-  -- its frame, at its first instruction
+  -- its call frame, at its first instruction
   pub entered_stands : (cells : Cells) (number count : ℕ) (callee : Function) (words : List ℕ) (vs : List Value) (f : CallFrame) → length callee.parameters ≤ 16 → function_at program number ≡ Some callee → IsEnteredWith number count words f
       → AreWordsOf y (kinds_of callee.parameters) words vs → FitSlots (IsOfKind cells) y.here vs callee.parameters → StandsForFrame program assigned y f (entry_frame number vs)
   entered_stands cells number count callee words vs f few is e stand fit =

@@ -1,4 +1,4 @@
--- A frame that stands for a call frame: the verifier's rule at its instruction, and frames after it.
+-- A call frame that stands for one of the machine: the verifier's rule at its instruction, and call frames after it.
 use Rattle.std.proofs.Common.{◌≡◌, ℕ, ◌<◌, ◌≤◌, List, length, get_or, set, Some, sym, ap, subst, ◌∙◌, inl, inr, arith, get_or-set_same, get_or-set_other}
 use Rattle.std.specs.Prelude.{slice_get, slice_index, slice_set}
 use Rattle.std.proofs.lemmas.Option.{same_Some}
@@ -28,7 +28,7 @@ HasState program assigned n pc s = (function : Function) × (is : function_at pr
 pub has_state : (program : Module) (assigned : Assigned program) (m n pc q : ℕ) (s : State) → m ≡ n → pc ≡ q → HasState program assigned m pc s → HasState program assigned n q s
 has_state program assigned m n pc q s e g h = subst (λ k. HasState program assigned k q s) e (subst (λ k. HasState program assigned m k s) g h)
 
--- a frame of the same function, at an instruction, with these words in its registers, and these turns in its slots
+-- a call frame of the same function, at an instruction, with these words in its registers, and these turns in its slots
 pub record FrameAfter (f g : CallFrame) (pc : ℕ) (words loops : List ℕ) : Type 0 where
   pub function_is : g.function ≡ f.function
   pub pc_is : g.pc ≡ pc
@@ -71,7 +71,7 @@ module _ (program : Module) (assigned : Assigned program) (x : Context) (f : Cal
       let same : p.0 ≡ i = same_Some p.0 i (sym p.2 ∙ is_instr) in
       (p.1, subst (λ (j : Instr). Permits j.op (point_of program h.function f j) h.state p.1) same p.3, p.4)
 
-  -- a frame at an instruction that follows
+  -- a call frame at an instruction that follows
   pub frame_after : (g : CallFrame) (d : machine.CallFrame) (pc : ℕ) (t : State) (words loops : List ℕ) → FrameAfter f g pc words loops → Reaches (assigned f.function h.function h.is_function).0 (pc, t)
       → d.function ≡ c.function → d.pc ≡ pc → HoldRegisters x t d.registers words → AreHomes x.here t.homes d.registers → length loops ≡ 8 → ((slot : ℕ) → slot < 8 → d.loops slot ≡ slice_index loops slot)
       → StandsForFrame program assigned x g d

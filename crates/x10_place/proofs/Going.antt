@@ -39,7 +39,7 @@ one_more : (lines : List Line) (l : Line) → map line_as (lines ++ l ∷ []) �
 one_more [] l = refl
 one_more (x ∷ xs) l = ap (λ ys. line_as x ∷ ys) (one_more xs l)
 
--- ---- an operation of a frame alone
+-- ---- an operation of a call frame alone
 
 module _ (setting : Setting) (here : ℕ) (far : Far) (m : machine.Place) (key : ℕ) (s : Stay) (assigned : Assigned setting.program) (heap : HeapState) (held : HoldsHeap (context setting here heap far) m.cells) (exported : HoldsExports heap m.exports) (spot : IsWithinPlaces setting.program here setting.places) (f : CallFrame) (h : StandsForFrame setting.program assigned (context setting here heap far) f s.top) (i : Instr) (fetched : IsFetchedFor setting.program f i) where
   local_by : (g : CallFrame) (new : HeapState) (l : Local) (o : Op) (out : Edges) → i.op ≡ o → route_of o ≡ route.Local l → g.function ≡ f.function → Acts l setting.program (space_of f heap) i (space_of g new)
@@ -81,7 +81,7 @@ module _ (setting : Setting) (here : ℕ) (far : Far) (m : machine.Place) (key :
     pub works : (number : ℕ) → effect ≡ Waits number → ⊥
     pub silent : IsSilent effect
 
-  -- the stay with another frame at the top
+  -- the stay with another call frame at the top
   with_top : (b : StayState) (new : HeapState) (top : machine.CallFrame) → Grows x (y new) → IsPlaced setting.program b → StandsForFrame setting.program assigned (y new) b.top top → b ≡ record a { top = b.top } → StandsForStay setting.program assigned (y new) b (record s { top = top })
   with_top b new top grows placed frame rest = record {
     placed = placed;
@@ -102,7 +102,7 @@ module _ (setting : Setting) (here : ℕ) (far : Far) (m : machine.Place) (key :
     permits_at : (o : Op) → i.op ≡ o → Permits o (point_of setting.program h.top.function a.top i) h.top.state out
     permits_at o e = subst (λ q. Permits q (point_of setting.program h.top.function a.top i) h.top.state out) e permits
 
-    -- the top frame and the heap alone
+    -- the top call frame and the heap alone
     from_top : (o : Op) → Done setting here far m key s assigned st.heap a.top h.top i fetched o b.top t.heap → b ≡ record a { top = b.top } → t ≡ record st { heap = t.heap } → Goes o b t
     from_top o done rest store = record {
       base = record m { cells = done.cells; exports = done.exports };
@@ -300,6 +300,6 @@ frame_typed program f g heap new i l typed fetched r same acts =
     let done = local_done setting typed.here typed.far (place_with typed.cells heap 0) 0 (stay_of typed.frame) typed.assigned heap typed.holds (record { exports_are = refl; named = typed.named }) typed.site f typed.stands i fetched g new l r same acts in
     record { assigned = typed.assigned; places = typed.places; here = typed.here; site = typed.site; named = done.exported.named; far = typed.far; frame = done.top; stands = done.stands; cells = done.cells; holds = done.holds }
 
--- the top frame of a stay
+-- the top call frame of a stay
 pub typed_top : (at : Location) (a : StayState) (s : StoreState) → IsTyped at s.heap a → IsTypedFrame at.program s.heap a.top
 typed_top at a s t = record { assigned = t.assigned; places = at.places; here = at.here; site = t.site; named = t.named; far = t.far; frame = t.stay.top; stands = t.stands.top; cells = t.cells; holds = t.holds }

@@ -1,4 +1,4 @@
--- Frames and stays, as the heap grows: what they stand for is kept.
+-- Call frames and stays, as the heap grows: what they stand for is kept.
 use Rattle.std.proofs.Common.{◌≡◌, ℕ, List, [], ◌∷◌, Option, Some, sym, subst, ◌∙◌}
 use Rattle.std.specs.Prelude.{slice_get, map}
 use Rattle.x10_model.specs.Modules.{Module}

@@ -1,4 +1,4 @@
--- The operations of one frame that leave the heap as it is.
+-- The operations of one call frame that leave the heap as it is.
 use Rattle.std.proofs.Common.{◌≡◌, ℤ, Bool, true, false, Option, Some, None}
 use Rattle.std.specs.Prelude.{◌==◌}
 use Rattle.x10_code.specs.declared.instr.Instr.{Instr}

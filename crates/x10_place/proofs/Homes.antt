@@ -1,4 +1,4 @@
--- Place equations that are true of a frame: what keeps them true, and that they are true at the entry of a function.
+-- Place equations that are true of a call frame: what keeps them true, and that they are true at the entry of a function.
 use Rattle.std.proofs.Common.{◌≡◌, ℕ, suc, ◌+◌, ◌<◌, ◌≤◌, Bool, true, false, not, ◌==◌, if◌then◌else◌, List, [], ◌∷◌, length, Option, Some, None, refl, sym, ap, ◌∙◌, arith, inl, inr}
 use Rattle.std.specs.Prelude.{slice_get}
 use Rattle.x10_kinds.specs.declared.homes.Term.{Term}

@@ -1,4 +1,4 @@
--- Operations of one frame: what the program does to its words is what the machine does to its values.
+-- Operations of one call frame: what the program does to its words is what the machine does to its values.
 use Rattle.std.proofs.Common.{◌≡◌, ℕ, ℤ, ◌+◌, ◌-◌, ◌<◌, Bool, true, false, List, length, Option, Some, None, refl, sym, ap, subst, ◌∙◌, inl, inr, arith}
 use Rattle.std.specs.Prelude.{◌*◌, ◌==◌, pos, nat_lt, IsTrue, option_map, if◌then◌else◌, slice_get, slice_index, slice_set}
 use Rattle.std.specs.Int.{w64, cast_signed}
@@ -81,7 +81,7 @@ module _ (setting : Setting) (here : ℕ) (far : Far) (m : machine.Place) (key :
   pc_next : s.top.pc + 1 ≡ f.pc + 1
   pc_next = ap (λ n. n + 1) h.pc_is
 
-  -- the frame at another instruction, with nothing changed
+  -- the call frame at another instruction, with nothing changed
   pub goes_to : (g : CallFrame) (pc : ℕ) (t : State) → FrameAfter f g pc f.registers.items f.loops → Reaches states (pc, t) → t ≡ h.state → StandsForFrame setting.program assigned x g (goes s.top pc)
   goes_to g pc t b reached e = after g (goes s.top pc) pc t f.registers.items f.loops b reached refl refl (subst (λ u. HoldRegisters x u s.top.registers f.registers.items) (sym e) h.words) (subst (λ (u : State). AreHomes x.here u.homes s.top.registers) (sym e) h.homes) h.slots h.loops
 
@@ -113,7 +113,7 @@ module _ (setting : Setting) (here : ℕ) (far : Far) (m : machine.Place) (key :
 
   -- ---- the operations
 
-  -- what an operation makes of the frame, and that the machine does it
+  -- what an operation makes of the call frame, and that the machine does it
   abbrev Moved : Op → CallFrame → Type 0
   Moved o g = (top : machine.CallFrame) × Does o (situated setting here m key s h.function i) (with_stay m key (Some (record s { top = top }))) Works × StandsForFrame setting.program assigned x g top
 
@@ -190,7 +190,7 @@ module _ (setting : Setting) (here : ℕ) (far : Far) (m : machine.Place) (key :
 
   -- ---- with the heap
 
-  -- what an operation makes of the frame and of the heap, and that the machine does it
+  -- what an operation makes of the call frame and of the heap, and that the machine does it
   pub record Done (o : Op) (g : CallFrame) (new : HeapState) : Type 0 where
     pub top : machine.CallFrame
     pub cells : Cells
@@ -388,7 +388,7 @@ module _ (setting : Setting) (here : ℕ) (far : Far) (m : machine.Place) (key :
     -- ---- the operations
 
     -- the last line is checked for each operation that isn't named above it: those that give a number of two, and those
-    -- that aren't of one frame
+    -- that aren't of one call frame
     pub local_moves : (o : Op) → i.op ≡ o → (o ≡ op.Put → ⊥) → (o ≡ op.Rset → ⊥) → route_of o ≡ route.Local l → Permits o point h.state out → Done o g kept
     local_moves op.Intk e np ns r permits =
         let z = get_below setting.program.ints i.x (there op.Intk e).2 in

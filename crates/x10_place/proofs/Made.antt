@@ -124,7 +124,7 @@ module _ (setting : Setting) (here : ℕ) (far : Far) (m : machine.Place) (key :
   register : (o : Op) → i.op ≡ o → (IsThere setting.program h.function i (form_of o).a i.a → i.a < h.function.registers) → i.a < length f.registers.items
   register = room setting here far m key s assigned heap f h i fetched
 
-  -- the frame stands in the heap as it is now
+  -- the call frame stands for the same beside the heap as it is now
   abbrev later : (new : HeapState) → Grows x (y new) → StandsForFrame setting.program assigned (y new) f s.top
   later new grows = frame_kept x (y new) grows setting.program assigned f s.top h
 

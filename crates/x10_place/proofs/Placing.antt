@@ -1,4 +1,4 @@
--- Each stay stands where it can go on, with as many finishes open as its frames stand in: what keeps that.
+-- Each stay stands where it can go on, with as many finishes open as its call frames stand in: what keeps that.
 use Rattle.std.proofs.Common.{◌≡◌, ◌≢◌, ℕ, ◌+◌, ◌<◌, ◌≤◌, Bool, true, false, List, [], ◌∷◌, ◌++◌, length, Option, Some, None, refl, sym, ap, ap₂, subst, ◌∙◌, ◌⊎◌, inl, inr, arith}
 use Rattle.std.proofs.Math.ListN.{length-set}
 use Rattle.x10_code.specs.declared.op.Op.{Op}
@@ -104,9 +104,9 @@ checked c certified = record {
   regions = λ f function is. function_keeps c.program c.bounds f function certified.verified.bounds_are is;
 }
 
--- ---- one frame
+-- ---- one call frame
 
--- the frame at another instruction of its function
+-- the call frame at another instruction of its function
 inside_at : (program : Module) (f g : CallFrame) (h : IsInside program f) → g.function ≡ f.function → g.pc < length h.function.code → length g.registers.items ≡ length f.registers.items → IsInside program g
 inside_at program f g h same lt count = record {
   function = h.function;
@@ -121,16 +121,16 @@ inside_next program f g h lt goes = inside_at program f g h goes.function_is (su
 pub inside_with : (program : Module) (f g : CallFrame) (register word : ℕ) (h : IsInside program f) → f.pc + 1 < length h.function.code → GoesNextWith f register word g → IsInside program g
 inside_with program f g register word h lt goes = inside_at program f g h goes.function_is (subst (λ n. n < length h.function.code) (sym goes.pc_is) lt) (ap length goes.words_are ∙ simp length-set refl)
 
--- a frame that an instruction was fetched for stands at one
+-- a call frame that an instruction was fetched for stands at one
 abbrev pub fetched_inside : (program : Module) (f : CallFrame) (i : Instr) (fetched : IsFetchedFor program f i) → f.pc < length fetched.function.code → IsInside program f
 fetched_inside program f i fetched lt = record { function = fetched.function; is_function = fetched.is_function; pc = lt; registers = fetched.registers }
 
--- an instruction of a frame that was fetched
+-- an instruction of a call frame that was fetched
 module _ (program : Module) (checks : IsChecked program) (f : CallFrame) (i : Instr) (fetched : IsFetchedFor program f i) where
   matches : FinishesMatch fetched.function.code
   matches = checks.finishes f.function fetched.function fetched.is_function
 
-  -- how many finishes a frame of this function stands in
+  -- how many finishes a call frame of this function stands in
   open_by : (g : CallFrame) → g.function ≡ f.function → open_at program g ≡ finishes_around fetched.function.code g.pc
   open_by g same = ap (λ o. finishes_around (code_in o) g.pc) (ap (λ n. function_at program n) same ∙ fetched.is_function)
 
@@ -154,7 +154,7 @@ module _ (program : Module) (checks : IsChecked program) (f : CallFrame) (i : In
   keeps : RegionsMatch fetched.function.code
   keeps = checks.regions f.function fetched.function fetched.is_function
 
-  -- whether a frame of this function stands in an atomic region
+  -- whether a call frame of this function stands in an atomic region
   region_by : (g : CallFrame) → g.function ≡ f.function → in_region program g ≡ is_inside fetched.function.code g.pc
   region_by g same = ap (λ o. is_inside (code_in o) g.pc) (ap (λ n. function_at program n) same ∙ fetched.is_function)
 
@@ -195,8 +195,8 @@ module _ (program : Module) (checks : IsChecked program) (f : CallFrame) (i : In
 
 -- ---- stays
 
--- a stay whose top frame executes the same function in as many finishes and in the same atomic region, with the same callers
--- and finishes
+-- a stay whose top call frame executes the same function in as many finishes and in the same atomic region, with the same
+-- callers and finishes
 same_function : (program : Module) (a b : StayState) → IsPlaced program a → IsInside program b.top → b.top.function ≡ a.top.function → open_at program b.top ≡ open_at program a.top → in_region program b.top ≡ in_region program a.top → b.callers ≡ a.callers → b.finishes ≡ a.finishes → b.inside ≡ a.inside → IsPlaced program b
 same_function program a b placed inside same stood region callers finishes kept = record {
   top = inside;
@@ -205,7 +205,7 @@ same_function program a b placed inside same stood region callers finishes kept 
   region = kept ∙ placed.region ∙ sym region;
 }
 
--- the top frame and the heap alone changed, and it landed where as many finishes are open
+-- the top call frame and the heap alone changed, and it landed where as many finishes are open
 top_placed : (change : Workspace → Workspace → Type 0) (program : Module) (checks : IsChecked program) (a b : StayState) (s t : StoreState) (i : Instr) (fetched : IsFetchedFor program a.top i) → IsPlaced program a → ChangesTop change a s b t
     → StaysOpen program checks a.top i fetched b.top.pc × (length b.top.registers.items ≡ length a.top.registers.items) → IsPlaced program b
 top_placed change program checks a b s t i fetched placed h lands =
@@ -226,7 +226,7 @@ open_more : (program : Module) (fs : List CallFrame) (f : CallFrame) → open_in
 open_more program [] f = omega arith
 open_more program (g ∷ fs) f = let e = open_more program fs f in omega (arith, e)
 
--- a frame at the first instruction of its function stands in no finish
+-- a call frame at the first instruction of its function stands in no finish
 pub open_first : (program : Module) (f : CallFrame) → f.pc ≡ 0 → open_at program f ≡ 0
 open_first program f e = ap (finishes_around (code_at program f.function)) e
 

@@ -135,7 +135,7 @@ module _ (at : Location) (s : StoreState) (a : StayState) (w : IsWorking at s a)
   abbrev x : Context
   x = context (record { program = at.program; places = at.places }) at.here s.heap t.far
 
-  has_finish : i.op ≡ op.Fine → HasFinish a s
+  pub has_finish : i.op ≡ op.Fine → HasFinish a s
   has_finish e = let open_one = some_open at.program checks a i t.stands.placed fetched e in (open_one.0, open_one.1, open_one.2, (w.registered.are_open 0 open_one.0 (ap (λ ns. nth ns 0) open_one.2)).0)
 
   stored : (r : Route) → route_of i.op ≡ r → ReadsStore r at a s i

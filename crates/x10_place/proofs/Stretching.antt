@@ -20,9 +20,9 @@ use Rattle.x10_place.proofs.Going.{typed_after}
 use Rattle.x10_place.proofs.Placing.{IsChecked}
 use Rattle.x10_place.proofs.Registering.{registered_after}
 
--- ---- of one frame
+-- ---- of one call frame
 
--- the stay with its top frame as a workspace says, and the store with its heap
+-- the stay with its top call frame as a workspace says, and the store with its heap
 abbrev pub stay_at : StayState → Workspace → StayState
 stay_at a w = record a { top = with_space a.top w }
 
@@ -52,7 +52,7 @@ steps_by : (at : Location) (a b : StayState) (s t : StoreState) (i : Instr) (l :
 steps_by at a b s t i l e h = subst (λ r. Steps r at a s i outcome.Goes b t) (sym e) h
 
 module _ (at : Location) (checks : IsChecked at.program) (a : StayState) (s : StoreState) (working : IsWorking at s a) where
-  -- so many operations of the top frame are so many steps, and the stay can make further ones
+  -- so many operations of the top call frame are so many steps, and the stay can make further ones
   pub record Reaches (n : ℕ) (w : Workspace) : Type 0 where
     pub stretch : Stretch at a s n (stay_at a w) (store_at s w)
     pub stands : IsWorking at (store_at s w) (stay_at a w)

@@ -168,7 +168,7 @@ pub record IsWaitingFor (program : Module) (a : StayState) (from : ℕ) (call : 
   pub is_at : call.op ≡ op.At
   pub from_is : word_at a.top.registers.items call.c ≡ from
 
--- the frame goes on to the next instruction, with the first word, if there is one, in a register
+-- the call frame goes on to the next instruction, with the first word, if there is one, in a register
 abbrev pub GoesNextBy : List ℕ → CallFrame → ℕ → CallFrame → Type 0
 GoesNextBy [] f register g = GoesNext f g
 GoesNextBy (word ∷ words) f register g = GoesNextWith f register word g

@@ -30,7 +30,7 @@ use Rattle.x10_place.specs.declared.route.Make.TheVariants as make
 use Rattle.x10_place.specs.declared.route.Site.{Site}
 use Rattle.x10_place.specs.declared.route.Site.TheVariants as site
 
--- what an operation of one frame works on: the number of the next instruction, the words in the registers, the turns
+-- what an operation of one call frame works on: the number of the next instruction, the words in the registers, the turns
 -- that open loops have left, and the heap of the place
 pub record Workspace : Type 0 where
   pub pc : ℕ
@@ -72,7 +72,7 @@ pub record HasSizes (classes : ℕ) (f : Function) : Type 0 where
   pub result : IfSome f.result (FitsSlot classes)
   pub length : (1 ≤ length f.code) × (length f.code ≤ 4096)
 
--- a frame with so many registers stands at an instruction of its function; it may have more than the function has
+-- a call frame with so many registers stands at an instruction of its function; it may have more than the function has
 pub record IsWithin (program : Module) (number at count : ℕ) : Type 0 where
   pub function : Function
   pub is_function : function_at program number ≡ Some function
@@ -82,7 +82,7 @@ pub record IsWithin (program : Module) (number at count : ℕ) : Type 0 where
 abbrev pub IsInside : Module → CallFrame → Type 0
 IsInside program f = IsWithin program f.function f.pc (length f.registers.items)
 
--- an instruction as it was fetched for a frame of a function
+-- an instruction as it was fetched for a call frame of a function
 pub record IsFetched (program : Module) (number pc count : ℕ) (i : Instr) : Type 0 where
   pub function : Function
   pub is_function : function_at program number ≡ Some function
@@ -151,7 +151,7 @@ abbrev pub numbered : ℕ → ℤ → Option ℕ
 numbered places (pos n) = if nat_lt n places then Some n else None
 numbered places (negsuc n) = None
 
--- ---- operations of one frame
+-- ---- operations of one call frame
 
 abbrev pub as_value : Option ℤ → Option Value
 as_value None = None
@@ -212,7 +212,7 @@ abbrev pub SetsByte : Option ℕ → List ℕ → Workspace → Instr → Worksp
 SetsByte (Some byte) bytes w i v = Becomes v (w.pc + 1) w.words w.loops (byte_set w.heap (word_at w.words i.a) bytes (int_at w.words i.b) (int_at w.words i.c))
 SetsByte None bytes w i v = Becomes v i.x w.words w.loops w.heap
 
--- what an operation of one frame does
+-- what an operation of one call frame does
 abbrev pub Acts : Local → Module → Workspace → Instr → Workspace → Type 0
 Acts (local.Number n) program w i v = (z : ℤ) × (Some (Int z) ≡ given n program w.heap w.words i) × Writes w i z v
 Acts (local.Partial d) program w i v = (z : Option ℤ) × (as_value z ≡ tried d w.heap w.words i) × Takes w i z v
@@ -241,7 +241,7 @@ AsksNumber number.TextLength program registers i = (i.a < registers) × (i.b < r
 AsksNumber number.PlaceNumber program registers i = (i.a < registers) × (i.b < registers)
 AsksNumber _ program registers i = (i.a < registers) × (i.b < registers) × (i.c < registers)
 
--- what an operation of one frame asks: the registers, slots and constants that it names are there, and its target is a
+-- what an operation of one call frame asks: the registers, slots and constants that it names are there, and its target is a
 -- number of an instruction
 abbrev pub Asks : Local → Module → ℕ → Instr → Type 0
 Asks (local.Number n) program registers i = AsksNumber n program registers i
@@ -261,7 +261,7 @@ Asks local.JumpIfZero program registers i = (i.a < registers) × (i.x < 2 ^ 16)
 Asks local.Loop program registers i = i.a < 8
 Asks local.EndLoop program registers i = (i.a < 8) × (i.x < 2 ^ 16)
 
--- what an operation of one frame reads in the heap is there
+-- what an operation of one call frame reads in the heap is there
 abbrev pub ReadsNumber : Number → HeapState → List ℕ → Instr → Type 0
 ReadsNumber number.RailLength heap words i = word_at words i.b < length heap.rails
 ReadsNumber number.TextLength heap words i = word_at words i.b < length heap.texts
@@ -400,7 +400,7 @@ Passes op.Call = Unit {0}
 Passes op.Async = Unit {0}
 Passes _ = ⊥
 
--- the frame of the function that an instruction calls, at its beginning
+-- the call frame of the function that an instruction calls, at its beginning
 pub record IsEntered (program : Module) (words : List ℕ) (i : Instr) (f : CallFrame) : Type 0 where
   pub callee : Function
   pub is_callee : function_at program i.x ≡ Some callee
@@ -410,7 +410,7 @@ pub record IsEntered (program : Module) (words : List ℕ) (i : Instr) (f : Call
   pub arguments : (r : ℕ) → r < length callee.parameters → word_at f.registers.items r ≡ word_at words (i.b + r)
   pub loops_are : f.loops ≡ replicate 8 0
 
--- a frame at the first instruction of a function, with so many registers, of which the first ones have these words
+-- a call frame at the first instruction of a function, with so many registers, of which the first ones have these words
 pub record IsEnteredWith (function count : ℕ) (words : List ℕ) (f : CallFrame) : Type 0 where
   pub function_is : f.function ≡ function
   pub pc_is : f.pc ≡ 0

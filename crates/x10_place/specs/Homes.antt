@@ -1,4 +1,4 @@
--- The places that terms stand for in a frame, and when place equations are true of it.
+-- The places that terms stand for in a call frame, and when place equations are true of it.
 use Rattle.std.specs.Prelude.{◌≡◌, ℕ, IsTrue, Option, Some, None}
 use Rattle.x10_kinds.specs.declared.homes.Term.{Term}
 use Rattle.x10_kinds.specs.declared.homes.Term.TheVariants as term

@@ -63,7 +63,7 @@ pub record PlaceState : Type 0 where
 abbrev pub store_of : PlaceState → StoreState
 store_of p = record { heap = p.heap; lines = p.lines; opened = p.opened; here = p.id; places = p.places; ledger = p.ledger; books = p.books }
 
--- how much room there is for stays is nobody's affair
+-- how much room there is for stays isn't part of what callers see
 abbrev pub plain : Slab StayState → Slab StayState
 plain slab = record slab { capacity = 0 }
 
@@ -136,8 +136,8 @@ abbrev pub HoldRegisters : Context → State → (ℕ → Option Value) → List
 HoldRegisters x s registers words = (r : ℕ) (kind : Kind) → s.kinds r ≡ Some kind
     → (v : Value) × (registers r ≡ Some v) × IsWordOf x kind (slice_index words r) v
 
--- a frame of the program stands for a call frame: at the same instruction of the same function, with words for the
--- values of each register of which the assignment knows the kind there, with homes as it knows them, and the same turns
+-- a call frame of the program stands for one of the machine: at the same instruction of the same function, with words for
+-- the values of each register of which the assignment knows the kind there, with homes as it knows them, and the same turns
 pub record StandsForFrame (program : Module) (assigned : Assigned program) (x : Context) (f : CallFrame) (c : machine.CallFrame) : Type 0 where
   pub function_is : c.function ≡ f.function
   pub pc_is : c.pc ≡ f.pc
@@ -150,7 +150,8 @@ pub record StandsForFrame (program : Module) (assigned : Assigned program) (x : 
   pub slots : length f.loops ≡ 8
   pub loops : (slot : ℕ) → slot < 8 → c.loops slot ≡ slice_index f.loops slot
 
--- frames stand for the machine's callers, of which the last one is the first
+-- Call frames stand for the machine's callers, of which the last one is the first. Each stands at its CALL on both sides: so
+-- a return rests on the rule of that CALL and on its own.
 abbrev pub StandForCallers : (program : Module) → Assigned program → Context → List CallFrame → List machine.CallFrame → Type 0
 StandForCallers program assigned x fs [] = fs ≡ []
 StandForCallers program assigned x fs (c ∷ cs) = (before : List CallFrame) × (f : CallFrame) × (fs ≡ before ++ f ∷ []) × StandsForFrame program assigned x f c
@@ -219,7 +220,8 @@ pub record IsRegistered (at : Location) (s : StoreState) (a : StayState) : Type 
   pub are_open : (i n : ℕ) → nth a.finishes i ≡ Some n → HasBook (books_in s) n × (n < s.opened)
   pub once : (i j n : ℕ) → nth a.finishes i ≡ Some n → nth a.finishes j ≡ Some n → i ≡ j
 
--- a stay that can make steps at its place
+-- A stay that can make steps at its place. Steps of one stretch need no other fact: by `typed` what an operation reads in
+-- the heap is there, and by `registered` a FINE finds its book.
 pub record IsWorking (at : Location) (s : StoreState) (a : StayState) : Type 0 where
   pub ready : a.away ≡ false
   pub typed : IsTyped at s.heap a
@@ -251,9 +253,10 @@ pub record AreBooked (id : ℕ) (stays : ℕ → Option Stay) (opened : ℕ) (bo
   pub root : id ≡ 0 → HasBook books 0
   pub only : (n : ℕ) → HasBook books n → ((id ≡ 0) × (n ≡ 0)) ⊎ IsOpenIn stays n
 
--- A place of the program stands for a place of the machine, where it is known what other places export: the same stays
--- under the same keys, the same heap, exports and output, and as many finishes opened. It has counted how many of its
--- stays inherited each finish, and keeps a book of each finish that is open here.
+-- A place of the program stands for a place of the machine, where it is known what other places export: the same stays under
+-- the same keys, the same heap, exports and output, and as many finishes opened. It has counted how many of its stays
+-- inherited each finish, and keeps a book of each finish that is open here: this is what a place can know of counts by
+-- itself, and the machine's place has none.
 pub record StandsFor (far : Far) (p : PlaceState) (m : machine.Place) : Type 0 where
   pub assigned : Assigned p.program
   pub none : (key : ℕ) → get p.stays key ≡ None → m.stays key ≡ None

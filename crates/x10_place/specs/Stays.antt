@@ -36,8 +36,8 @@ use Rattle.x10_place.specs.declared.route.Route.TheVariants as route
 use Rattle.x10_place.specs.Frames.{Workspace, space_of, word_at, int_at, IsInside, IsFetchedFor, Acts, Reads, Makes, ReadsMake, Overfills}
 use Rattle.x10_place.specs.Frames.{IsRefused, ActsAt, ReadsAt, ExportsObject, NamesObject, IsExportRefused, IsEntered}
 
--- what callers see of a stay: the frame of the function that it executes, and those of the functions that called it, the
--- last one last; the numbers of the finishes that it opened and hasn't closed, the last one first, and the one that it
+-- what callers see of a stay: the call frame of the function that it executes, and those of the functions that called it,
+-- the last one last; the numbers of the finishes that it opened and hasn't closed, the last one first, and the one that it
 -- inherited; whether it waits for an at, whether it is inside an atomic region, and where its result goes
 pub record StayState : Type 0 where
   pub top : CallFrame
@@ -48,7 +48,7 @@ pub record StayState : Type 0 where
   pub inside : Bool
   pub back : Option Origin
 
--- the frames that boxes hold
+-- the call frames that boxes hold
 abbrev pub frames_of : {Z : Type 0} → List (Box CallFrame Z) → List CallFrame
 frames_of bs = map (λ b. b.value) bs
 
@@ -140,7 +140,7 @@ origin_as (Some o) = Some (record { place = o.place; key = o.key })
 
 -- ---- where stays stand
 
--- a frame stands at a call of a function
+-- a call frame stands at a call of a function
 pub record IsCalling (program : Module) (f : CallFrame) (callee : ℕ) : Type 0 where
   pub inside : IsInside program f
   pub call : Instr
@@ -148,17 +148,17 @@ pub record IsCalling (program : Module) (f : CallFrame) (callee : ℕ) : Type 0 
   pub op_is : call.op ≡ op.Call
   pub callee_is : call.x ≡ callee
 
--- the function of the first frame, or the one at the top
+-- the function of the first call frame, or the one at the top
 abbrev pub next_function : List CallFrame → ℕ → ℕ
 next_function [] top = top
 next_function (f ∷ fs) top = f.function
 
--- each frame stands at a call of the function of the next one
+-- each call frame stands at a call of the function of the next one
 abbrev pub AreCalling : Module → List CallFrame → ℕ → Type 0
 AreCalling program [] top = Unit {0}
 AreCalling program (f ∷ fs) top = IsCalling program f (next_function fs top) × AreCalling program fs top
 
--- how many finishes of its function a frame stands in
+-- how many finishes of its function a call frame stands in
 abbrev pub open_at : Module → CallFrame → ℕ
 open_at program f = finishes_around (code_at program f.function) f.pc
 
@@ -166,12 +166,12 @@ abbrev pub open_in : Module → List CallFrame → ℕ
 open_in program [] = 0
 open_in program (f ∷ fs) = open_at program f + open_in program fs
 
--- whether a frame stands in an atomic region of its function
+-- whether a call frame stands in an atomic region of its function
 abbrev pub in_region : Module → CallFrame → Bool
 in_region program f = is_inside (code_at program f.function) f.pc
 
--- the stay stands where it can go on, with as many finishes open as its frames stand in, and is inside an atomic region
--- exactly where its top frame stands in one
+-- the stay stands where it can go on, with as many finishes open as its call frames stand in, and is inside an atomic region
+-- exactly where its top call frame stands in one
 pub record IsPlaced (program : Module) (a : StayState) : Type 0 where
   pub top : IsInside program a.top
   pub callers : AreCalling program a.callers a.top.function
@@ -180,21 +180,21 @@ pub record IsPlaced (program : Module) (a : StayState) : Type 0 where
 
 -- ---- steps
 
--- the top frame and the heap change so, and nothing else does
+-- the top call frame and the heap change so, and nothing else does
 pub record ChangesTop (change : Workspace → Workspace → Type 0) (a : StayState) (s : StoreState) (b : StayState) (t : StoreState) : Type 0 where
   pub changes : change (space_of a.top s.heap) (space_of b.top t.heap)
   pub function_is : b.top.function ≡ a.top.function
   pub rest : b ≡ record a { top = b.top }
   pub store : t ≡ record s { heap = t.heap }
 
--- the frame goes on to the next instruction
+-- the call frame goes on to the next instruction
 pub record GoesNext (f g : CallFrame) : Type 0 where
   pub function_is : g.function ≡ f.function
   pub pc_is : g.pc ≡ f.pc + 1
   pub words_are : g.registers.items ≡ f.registers.items
   pub loops_are : g.loops ≡ f.loops
 
--- the frame goes on to the next instruction, with a word in a register
+-- the call frame goes on to the next instruction, with a word in a register
 pub record GoesNextWith (f : CallFrame) (register word : ℕ) (g : CallFrame) : Type 0 where
   pub function_is : g.function ≡ f.function
   pub pc_is : g.pc ≡ f.pc + 1
@@ -211,7 +211,7 @@ abbrev pub GoesOn : Option Slot → CallFrame → Instr → CallFrame → Instr 
 GoesOn None caller call top i f = GoesNext caller f
 GoesOn (Some slot) caller call top i f = GoesNextWith caller call.a (word_at top.registers.items i.a) f
 
--- the frame, which stands at its call of the function that ends, goes on
+-- the call frame, which stands at its call of the function that ends, goes on
 pub record GoesBack (program : Module) (top : CallFrame) (i : Instr) (caller f : CallFrame) : Type 0 where
   pub call : Instr
   pub fetched : IsFetchedFor program caller call

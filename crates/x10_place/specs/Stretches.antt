@@ -25,9 +25,9 @@ use Rattle.x10_place.specs.StandsFor.{PlaceState, place_of, location_of, plain, 
 use Rattle.x10_place.specs.StandsFor.{IsHindered, OverfillsBegin, inside_at}
 use Rattle.x10_place.specs.Routes.{route_of}
 
--- ---- of one frame
+-- ---- of one call frame
 
--- a step of a frame of a function, by an operation of that frame alone
+-- a step of a call frame of a function, by an operation of that call frame alone
 pub record IsLocalStep (program : Module) (function : ℕ) (v w : Workspace) : Type 0 where
   pub instr : Instr
   pub fetched : IsFetched program function v.pc (length v.words) instr

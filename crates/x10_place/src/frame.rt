@@ -24,7 +24,7 @@ use x10_verify::Verified;
 
 /// A function that is being executed: the number of its next instruction, a word for each register, and how many turns each
 /// open loop still makes. A word is a number's 64 bits, a place's number, or a reference's; it has no tag, since the verifier
-/// knows its kind. There may be more registers than the function has: a frame is reused.
+/// knows its kind. There may be more registers than the function has: a call frame is reused.
 #[derive(Drop)]
 pub struct CallFrame {
     pub(crate) function: u16,
@@ -33,7 +33,7 @@ pub struct CallFrame {
     pub(crate) loops: [u32; 8],
 }
 
-/// A frame at the first instruction of a function, with `registers` registers, which are 0.
+/// A call frame at the first instruction of a function, with `registers` registers, which are 0.
 pub(crate) fn first_frame(
     alloc: Global,
     function: u16,
@@ -116,7 +116,7 @@ fn attempt(registers: &[u64], heap: &Heap, partial: Partial, instr: Instr) -> Op
     }
 }
 
-/// An operation of one frame, which stands at an instruction: the number of the next one.
+/// An operation of one call frame, which stands at an instruction: the number of the next one.
 #[inline(always)]
 fn act(
     registers: &mut [u64],
@@ -256,7 +256,7 @@ impl CallFrame {
         self.pc += 1;
     }
 
-    /// One operation of this frame alone.
+    /// One operation of this call frame alone.
     pub(crate) fn act(&mut self, heap: &mut Heap, verified: &Verified, local: Local, instr: Instr)
         requires asks { Asks local verified.now.program (length self.old.registers.items) instr }
         requires reads { Reads local heap.old self.old.registers.items instr }
@@ -276,8 +276,8 @@ impl CallFrame {
         );
     }
 
-    /// Operations of this frame alone, one after another: as many as come before one that isn't, and at most `most`. How many
-    /// there were, and the instruction at which the frame then stands, if it isn't of this frame alone.
+    /// Operations of this call frame alone, one after another: as many as come before one that isn't, and at most `most`.
+    /// How many there were, and the instruction at which the call frame then stands, if it isn't of this one alone.
     #[inline(always)]
     pub(crate) fn stretch(
         &mut self,
@@ -323,8 +323,8 @@ impl CallFrame {
         self.loops = [0; 8];
     }
 
-    /// The frame of the function that an instruction calls, or begins an activity with, at its first instruction, with the
-    /// arguments in its first registers.
+    /// The call frame of the function that an instruction calls, or begins an activity with, at its first instruction, with
+    /// the arguments in its first registers.
     #[inline(always)]
     pub(crate) fn callee(
         &self,
@@ -349,7 +349,7 @@ impl CallFrame {
         }
         Ok(frame)
     }
-    /// Goes on after the call at which the frame stands, with the result of the function that ended, if it gives one.
+    /// Goes on after the call at which the call frame stands, with the result of the function that ended, if it gives one.
     #[inline(always)]
     pub(crate) fn resume(&mut self, verified: &Verified, ended: &CallFrame, instr: Instr)
         requires calling { IsCalling verified.now.program self.old ended.now.function }

@@ -60,7 +60,7 @@ fn put_words(registers: &mut [u64], words: &[u64])
     registers[..words.len()].copy_from_slice(words);
 }
 
-/// The frame goes to the first instruction of a function, with these words in its first registers.
+/// The call frame goes to the first instruction of a function, with these words in its first registers.
 fn enter(frame: &mut CallFrame, function: u16, words: &Roots)
     requires { length words.now.items ≤ length frame.old.registers.items }
     ensures { IsEnteredWith function (length frame.old.registers.items) words.now.items frame.new }

@@ -40,6 +40,9 @@ pub struct Place<'a> {
     alloc: Global,
     verified: &'a Verified<'a>,
     stays: Slab<Stay>,
+    /// The key of the stay that is inside an atomic region: a step of another key is idle after one comparison. Only `step`
+    /// and `run` change it: what comes in, begins or ends is outside, since no instruction that does such things stands in a
+    /// region.
     inside: Option<usize>,
     store: Store,
     stopped: bool,
@@ -56,20 +59,19 @@ impl<'a> Model for Place<'a> {
 }
 
 impl<'a> Place<'a> {
-    /// One step of the activity with a key, and what it puts out. It is Idle, and nothing has changed, exactly where there is
-    /// no such activity, where it is away, where another is inside an atomic region, or where it stands at the end of a finish
-    /// that may not end yet. A Stop comes only
-    /// where a growth was refused, where there can be no more of what the step would make (Limit 1: objects, 2: texts, 3:
-    /// rails, 4: global references, 5: finishes; at most 2^32 - 1 of each; 6: activities that live under one finish, or were
-    /// sent to one place under it; 10: the number of a key), where what the step sends leads to more than 65,535 objects,
-    /// texts or rails (Limit 7, 8, 9), or after another Stop; the output is then that of the steps before it.
+    /// One step of the activity with a key, and what it puts out. It is Idle, and nothing has changed, exactly where there
+    /// is no such activity, where it is away, where another is inside an atomic region, or where it stands at the end of a
+    /// finish that may not end yet. A Stop comes only where a growth was refused, where there can be no more of what the
+    /// step would make (Limit 1: objects, 2: texts, 3: rails, 4: global references, 5: finishes; at most 2^32 - 1 of each;
+    /// 6: activities that live under one finish, or were sent to one place under it; 10: the number of a key), where what
+    /// the step sends leads to more than 1,048,576 objects, texts or rails (Limit 7, 8, 9), or after another Stop; the
+    /// output is then that of the steps before it.
     ///
     /// Constant time, except that CALL, ASYNC, NEW, RAIL, TEXTK, TCAT and PRINT of a text also copy or fill what they make,
     /// that AT, ATA and a RET that sends a result back copy all that they send, that FINB makes two numbers for each pair of
     /// places, that FINE looks at the places where nothing lives under its finish here, that the book of an open finish is
     /// looked up in logarithmic time, that a report has two numbers for each place, and that a list or table that grows is
-    /// copied now and then.
-    /// What makes, prints or sends something takes memory, and so do CALL, ASYNC and FINB.
+    /// copied now and then. What makes, prints or sends something takes memory, and so do CALL, ASYNC and FINB.
     #[inline(always)]
     pub fn step(&mut self, key: usize) -> Result<Stepped, Stop>
         ensures idle { self.old.stopped ≢ true → IsIdleAt self.old key → (result ≡ Ok Stepped.Idle) × (self.new ≡ self.old) }
@@ -169,7 +171,9 @@ impl<'a> Place<'a> {
 }
 
 impl<'a> Place<'a> {
-    /// A place at the beginning: main at place 0, no activity elsewhere. Takes memory only at place 0.
+    /// A place at the beginning: main at place 0, no activity elsewhere. The number of places is one that the module permits
+    /// (`enough`), since PLACEK writes a number below the module's least one, which has to be a place of the run. Takes
+    /// memory only at place 0.
     pub fn new(
         alloc: Global,
         verified: &'a Verified<'a>,
@@ -291,6 +295,22 @@ impl<'a> Place<'a> {
         let (function, pc) = (top.function, top.pc);
         let instr = self.verified.fetch(usize::from(function), usize::from(pc));
         Some((function, pc, instr.op))
+    }
+
+    /// Whether a step of the activity with a key would find nothing to do: there is none, it is away, another is inside an
+    /// atomic region, or it stands at the end of a finish that may not end yet. Takes what `step` takes to find that out.
+    pub fn is_idle(&self, key: usize) -> bool
+        ensures { IsTrue result ↔ IsIdleAt self.now key }
+    {
+        if self.is_kept_out(key) {
+            return true;
+        }
+        let verified = self.verified;
+        verified.certificate();
+        match self.stays.get(key) {
+            Some(stay) => stay.away || stay.is_waiting(verified, &self.store),
+            None => true,
+        }
     }
 
     /// The lines of output so far.

@@ -32,7 +32,9 @@ pub(crate) fn parameters(signature: &SigView) -> [Slot; 16]
     slots
 }
 
-/// The frame with a head that takes words along, of the kinds of these slots, and all that they lead to.
+/// The frame with a head that takes words along, of the kinds of these slots, and all that they lead to. That the words
+/// stand for values follows from the verifier's rule at the AT or RET; that the numbers of the head fit, from `IsOfRun` and
+/// from `keys` of `StandsFor`.
 pub(crate) fn frame(
     alloc: Global,
     verified: &Verified,

@@ -1,5 +1,5 @@
 //! The stay of an activity at this place, and one step of it.
-ghost use Rattle.std.specs.Prelude.{◌≡◌, ◌+◌, ◌<◌, ◌≤◌, ◌^◌, ◌⊎◌, ℕ, Err, OnErr, OnOk, IfErr, IfOk, length, IfNone, IfSome};
+ghost use Rattle.std.specs.Prelude.{◌≡◌, ◌+◌, ◌<◌, ◌≤◌, ◌^◌, ◌⊎◌, ◌↔◌, ℕ, IsTrue, Err, OnErr, OnOk, IfErr, IfOk, length, IfNone, IfSome};
 ghost use Rattle.x10_code.specs.declared.op.Op.TheVariants as op;
 ghost use Rattle.x10_kinds.specs.declared.stop.Stop.TheVariants as stop;
 ghost use Rattle.x10_code.specs.declared.instr.Instr.{Instr};
@@ -9,7 +9,7 @@ ghost use Rattle.x10_place.specs.Routes.{route_of};
 ghost use Rattle.x10_heap.specs.Heaps.{IsFull};
 ghost use Rattle.x10_place.specs.StandsFor.{IsTypedFrame, IsWorking};
 ghost use Rattle.x10_place.specs.declared.stay.Spot.{Spot};
-ghost use Rattle.x10_place.specs.Stays.{location, finish_as, innermost_at, IsBegun, IsPlaced, Calls, Returns, IsPrinted, Prints, GoesOnInside, OpensFinish, LeavesFinish, HasFinish, ReadsStore, OverfillsBy, Refuses, Steps};
+ghost use Rattle.x10_place.specs.Stays.{location, finish_as, innermost_at, IsBegun, IsPlaced, Calls, Returns, IsPrinted, Prints, GoesOnInside, OpensFinish, LeavesFinish, HasFinish, WaitsAtFinish, ReadsStore, OverfillsBy, Refuses, Steps};
 ghost use Rattle.x10_place.specs.Stretches.{Stretched, Paused};
 
 use crate::frame::CallFrame;
@@ -18,7 +18,7 @@ use crate::route::{Route, classify};
 use crate::store::Store;
 use std::alloc::{AllocError, Global};
 use std::marker::Model;
-use x10_code::Instr;
+use x10_code::{Instr, Op};
 use x10_finish::Finish;
 use x10_heap::Heap;
 use x10_kinds::Stop;
@@ -40,7 +40,8 @@ pub struct Origin {
 
 /// The stay of an activity at this place: the function that it executes, and those that called it, the last one last; the
 /// finishes that it opened, the last one last, and the one that it inherited; whether it waits for an `at`, whether it is
-/// inside an atomic region, and where its result goes.
+/// inside an atomic region, and where its result goes. Call frames are boxed, so that a call and a return move pointers and
+/// no words.
 #[derive(Drop)]
 pub struct Stay {
     pub(crate) top: Box<CallFrame>,
@@ -223,6 +224,28 @@ impl Stay {
         Outcome::Goes
     }
 
+    /// Whether the stay stands at the end of a finish that may not end yet.
+    pub(crate) fn is_waiting(&self, verified: &Verified, store: &Store) -> bool
+        requires inside { IsInside verified.now.program self.now.top }
+        requires open { (i : Instr) → IsFetchedFor verified.now.program self.now.top i → i.op ≡ op.Fine → HasFinish self.now store.now }
+        ensures { (i : Instr) × IsFetchedFor verified.now.program self.now.top i × (IsTrue result ↔ (i.op ≡ op.Fine) × WaitsAtFinish self.now store.now self.now store.now) }
+    {
+        let instr = self.instr(verified);
+        match instr.op {
+            Op::Fine => self.has_open_finish(store),
+            _ => false,
+        }
+    }
+
+    /// Whether the innermost finish may not end yet.
+    fn has_open_finish(&self, store: &Store) -> bool
+        requires { HasFinish self.now store.now }
+        ensures { IsTrue result ↔ WaitsAtFinish self.now store.now self.now store.now }
+    {
+        let last = self.finishes.len() - 1;
+        !store.is_done(self.finishes[last])
+    }
+
     /// The line that a PRINT of a register gives: its number, or its text, which is copied.
     fn line(
         &self,
@@ -337,8 +360,8 @@ pub(crate) enum Pause {
 }
 
 impl Stay {
-    /// Operations of the top frame alone: as many as come before one that isn't, and at most `most`. How many there were, and
-    /// the instruction at which the stay then stands, if it isn't of the frame alone.
+    /// Operations of the top call frame alone: as many as come before one that isn't, and at most `most`. How many there
+    /// were, and the instruction at which the stay then stands, if it isn't of that call frame alone.
     #[inline(always)]
     fn stretch(&mut self, verified: &Verified, store: &mut Store, most: u64) -> (u64, Option<Instr>)
         requires inside { IsInside verified.now.program self.old.top }
@@ -353,7 +376,8 @@ impl Stay {
         self.top.stretch(&mut store.heap, verified, most)
     }
 
-    /// Operations of the top frame alone, and then a step of any kind, but at most `most` steps in all: how many were made.
+    /// Operations of the top call frame alone, and then a step of any kind, but at most `most` steps in all: how many were
+    /// made.
     fn stride(
         &mut self,
         alloc: Global,

@@ -37,6 +37,7 @@ pub(crate) struct Store {
     tally: Tally,
     books: BTreeMap<u32, Book>,
     pub(crate) marks: Marks,
+    /// A call or an activity that begins takes one of these, so that calls in a loop ask for no more memory.
     spare: Vec<Box<CallFrame>>,
 }
 
@@ -116,7 +117,7 @@ impl Store {
         Ok(frame)
     }
 
-    /// Takes the call frame of a function that ended. Takes no memory: where there is no room for the frame, it is dropped.
+    /// Takes the call frame of a function that ended. Takes no memory: where there is no room for it, it is dropped.
     #[inline(always)]
     pub(crate) fn keep(&mut self, frame: Box<CallFrame>)
         ensures { self.new ≡ self.old }

@@ -13,7 +13,7 @@ use Rattle.x10_model.specs.Assignments.{State, HasAssignment}
 use Rattle.x10_verify.specs.Certified.{Certified, IsCertified}
 use Rattle.x10_verify.specs.Least.{HasLeast}
 
--- the flow reaches a PRINT, and every consistent assignment knows a text in its register
+-- the flow reaches a PRINT, and the least consistent assignment, and so every one, knows a text in its register
 pub record PrintsText (program : Module) (index pc : ℕ) : Type 0 where
   pub function : Function
   pub is_function : function_at program index ≡ Some function

@@ -116,7 +116,8 @@ impl<'a> Verified<'a> {
     }
 
     /// Whether the PRINT at an instruction of a function prints a text: true where the flow reaches it and each consistent
-    /// assignment knows a text in its register; false for a number, and everywhere else. Constant time, no memory.
+    /// assignment knows a text in its register; false for a number, and everywhere else. Where the flow doesn't reach, an
+    /// assignment may know anything, so `number` speaks only of what is reached. Constant time, no memory.
     pub fn prints_text(&self, f: usize, pc: usize) -> bool
         ensures exact { IsTrue result ↔ PrintsText self.now.program f pc }
         ensures text { IsTrue result → (function : Function) → function_at self.now.program f ≡ Some function → (i : instrs.Instr) → slice_get function.code pc ≡ Some i → (a : HasAssignment self.now.program function) (s : State) → a.0 pc ≡ Some s → IsKind s i.a kind.Text }
@@ -125,7 +126,8 @@ impl<'a> Verified<'a> {
         noted(&self.rows, f, pc)
     }
 
-    /// An instruction, with all that is known of it. Constant time, no memory.
+    /// An instruction, with all that is known of it. That another one follows, unless it is a RET, comes from the structure:
+    /// a function that nests ends with RET. Constant time, no memory.
     #[inline(always)]
     pub fn fetch(&self, f: usize, pc: usize) -> Instr
         requires function { f < length self.now.program.functions }

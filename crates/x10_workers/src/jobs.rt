@@ -21,7 +21,9 @@ pub(crate) enum Failure {
     Thread,
 }
 
-/// What the workers of a run do, each given the number of its place.
+/// What the workers of a run do, each given the number of its place. It is a trait, since a closure that holds a reference
+/// to something that borrows, as a `Verified` borrows an image, tells the prover nothing about its result; a closure over a
+/// type parameter does.
 pub(crate) trait Job {
     ghost use Rattle.std.specs.Prelude.{ℕ, Result};
     ghost use Rattle.x10_workers.specs.declared.halt.Halt.{Halt};
@@ -40,7 +42,8 @@ pub(crate) trait Job {
     fn stop(&self);
 }
 
-/// What a thread promises: what the work of its place gives.
+/// What a thread promises: what the work of its place gives. That is a `Kept` and no `Trail`: a promise of trails would name
+/// a lifetime, and a check of each trail after the join can't tell whether two are of one module.
 #[derive(Drop)]
 struct Given<'j, J: Job> {
     job: &'j J,

@@ -1,17 +1,21 @@
 -- What a world answers of its places and frames, told of the machine's world.
-use Rattle.std.proofs.Common.{◌≡◌, ◌⊎◌, ◌↔◌, ℕ, Bool, List, [], Option, Some, None, refl, sym, ap, subst, ◌∙◌, inl, inr, arith}
+use Rattle.std.proofs.Common.{◌≡◌, ◌⊎◌, ◌↔◌, ℕ, Bool, true, false, not, List, [], Option, Some, None, refl, sym, ap, subst, ◌∙◌, inl, inr, arith}
 use Rattle.std.specs.Borrow.{Bor}
-use Rattle.std.specs.Prelude.{IsTrue, MatchOption, IfSome, length, slice_get}
-use Rattle.std.proofs.lemmas.Option.{slice_get_within, slice_get-get_or}
+use Rattle.std.specs.Prelude.{IsTrue, MatchOption, IfSome, is_some, length, slice_get}
+use Rattle.std.proofs.lemmas.Option.{same_Some, slice_get_within, slice_get-get_or}
 use Rattle.x10_model.specs.Modules.{Module}
+use Rattle.x10_model.specs.declared.event.Event.{Event}
+use Rattle.x10_model.specs.declared.event.Event.TheVariants.{Step, Deliver}
 use Rattle.x10_model.specs.Places.{root}
 use Rattle.x10_model.specs.Worlds.{World, IsOver}
 use Rattle.x10_finish.specs.Watching.{NothingFlies}
 use Rattle.x10_finish.proofs.Watching.{done_is_over, over_is_done}
 use Rattle.x10_place.specs.Stays.{IsDoneHere}
-use Rattle.x10_place.specs.StandsFor.{PlaceState, store_of}
+use Rattle.x10_model.proofs.Lists.{none_some}
+use Rattle.x10_place.specs.StandsFor.{PlaceState, store_of, IsIdleAt}
 use Rattle.x10_flights.specs.Flights.{Flight, flight_of, flight_among}
 use Rattle.x10_world.specs.StandsForWorld.{WorldState, BelongsTo, BelongTo, counts_in, StandsForWorld}
+use Rattle.x10_world.specs.Happenings.{CanHappen}
 use Rattle.x10_world.specs.Queries.{IsFlyingTo, IsReportTo}
 use Rattle.x10_world.proofs.Lists.{at_first}
 use Rattle.x10_world.proofs.Moving.{done_in, done_by}
@@ -55,3 +59,20 @@ pub frames_are : (x z : WorldState) (number : ℕ) (o : Option (ℕ × Bor (List
     → (w : World) → StandsForWorld z w → IfSome o (λ f. IsFlyingTo w number f.0 ⊎ IsReportTo w number f.0)
 frames_are x z number None seen h w stand = tt
 frames_are x z number (Some f) seen h w stand = frame_is x w number f.0 (record { number = number; to = f.0; bytes = f.1.now }) (subst (λ t. StandsForWorld t w) (sym seen) stand) h refl
+
+-- whether a step would do something
+pub step_can : (x z : WorldState) (event : Event) (id key : ℕ) (p : PlaceState) (t : Bool) → x ≡ z → event ≡ Step id key → slice_get x.places id ≡ Some p → IsTrue t ↔ IsIdleAt p key → IsTrue (not t) ↔ CanHappen z event
+step_can x z event id key p t seen is there idle = subst (λ y. IsTrue (not t) ↔ CanHappen y event) seen (subst (λ e. IsTrue (not t) ↔ CanHappen x e) (sym is) (by_answer t idle))
+  where
+    by_answer : (b : Bool) → IsTrue b ↔ IsIdleAt p key → IsTrue (not b) ↔ CanHappen x (Step id key)
+    by_answer true h = ((λ y. absurd cc), (λ can. absurd (can.2 (subst (λ q. IsIdleAt q key) (same_Some p can.0 (sym there ∙ can.1)) (h.0 refl)))))
+    by_answer false h = ((λ y. (p, there, (λ rests. absurd (let f = h.1 rests in cc)))), (λ can. refl))
+
+-- whether a delivery would
+pub delivery_can : (x z : WorldState) (event : Event) (number : ℕ) (o : Option (ℕ × Bor (List ℕ))) (t : Bool) → x ≡ z → event ≡ Deliver number
+    → MatchOption o (flight_of x.flights number ≡ None) (λ f. flight_of x.flights number ≡ Some (record { number = number; to = f.0; bytes = f.1.now })) → t ≡ is_some o → IsTrue t ↔ CanHappen z event
+delivery_can x z event number o t seen is answer e = subst (λ b. IsTrue b ↔ CanHappen z event) (sym e) (subst (λ y. IsTrue (is_some o) ↔ CanHappen y event) seen (subst (λ e. IsTrue (is_some o) ↔ CanHappen x e) (sym is) (by_answer o answer)))
+  where
+    by_answer : (a : Option (ℕ × Bor (List ℕ))) → MatchOption a (flight_of x.flights number ≡ None) (λ f. flight_of x.flights number ≡ Some (record { number = number; to = f.0; bytes = f.1.now })) → IsTrue (is_some a) ↔ CanHappen x (Deliver number)
+    by_answer None h = ((λ y. absurd cc), (λ can. absurd (none_some (flight_of x.flights number) can.0 h can.1)))
+    by_answer (Some f) h = ((λ y. (record { number = number; to = f.0; bytes = f.1.now }, h)), (λ can. refl))

@@ -49,7 +49,7 @@ place_only (kind.GRef c) f = f
 same_place : (a b : ℕ) → Place a ≡ Place b → a ≡ b
 same_place a b e = cc
 
--- where a frame stands at an at, the word of its place register is the place's number
+-- where a call frame stands at an AT, the word of its place register is the place's number
 place_word : (program : Module) (assigned : Assigned program) (x : Context) (f : CallFrame) (c : machine.CallFrame) (call : Instr) (to : ℕ) → StandsForFrame program assigned x f c → instr_at program f.function f.pc ≡ Some call → call.op ≡ op.At
     → c.registers call.c ≡ Some (Place to) → slice_index f.registers.items call.c ≡ to
 place_word program assigned x f c call to h call-is at holds =

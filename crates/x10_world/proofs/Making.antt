@@ -1,11 +1,12 @@
 -- Events, as a world makes them one after another.
-use Rattle.std.proofs.Common.{◌≡◌, ◌≢◌, ℕ, ◌+◌, ◌≤◌, true, List, replicate, [], ◌∷◌, ◌++◌, Result, Ok, Err, refl, sym, subst, ◌∙◌}
+use Rattle.std.proofs.Common.{◌≡◌, ◌≢◌, ℕ, ◌+◌, ◌≤◌, Bool, true, false, List, replicate, [], ◌∷◌, ◌++◌, Result, Ok, Err, refl, sym, subst, ◌∙◌}
 use Rattle.std.specs.Prelude.{IfOk, take}
 use Rattle.x10_kinds.specs.declared.stop.Stop.{Stop}
 use Rattle.x10_model.specs.declared.event.Event.{Event}
-use Rattle.x10_model.specs.declared.event.Event.TheVariants.{Step}
+use Rattle.x10_model.specs.declared.event.Event.TheVariants.{Step, Deliver}
 use Rattle.x10_model.specs.Worlds.{World, Ideal, Happens, Run, done, WithinBounds}
 use Rattle.x10_world.specs.declared.done.Happening.{Happening}
+use Rattle.x10_world.specs.declared.done.Happening.TheVariants as happening
 use Rattle.x10_world.specs.Happenings.{Happened}
 use Rattle.x10_world.specs.Prompt.{IsPrompt}
 use Rattle.x10_world.specs.StandsForWorld.{WorldState, KeepsSetting, setting_of, StandsForWorld, Makes}
@@ -17,6 +18,16 @@ use Rattle.x10_world.proofs.Courses.{same_self, stand_same, course_more, course_
 pub follows_by : (x y : WorldState) (event : Event) (result : Result Happening Stop) → IfOk result (λ did. Happened x.places x.flights event did y.places y.flights) → KeepsSetting x y → IfOk result (λ did. y.stopped ≢ true) → ((why : Stop) → result ≡ Err why → ⊥) → Follows x event y
 follows_by x y event (Ok did) told kept goes never = record { did = did; happened = told; kept = kept; goes = goes }
 follows_by x y event (Err why) told kept goes never = absurd (never why refl)
+
+not_true : (b c : Bool) → b ≢ true → c ≢ true → c ≡ b
+not_true true c f g = absurd (f refl)
+not_true false true f g = absurd (g refl)
+not_true false false f g = refl
+
+-- one that found nothing to do leaves the state as it was
+pub idle_same : (x y : WorldState) (event : Event) → Happened x.places x.flights event happening.Idle y.places y.flights → KeepsSetting x y → x.stopped ≢ true → y.stopped ≢ true → IsSame x y
+idle_same x y (Step id key) h kept on goes = record { places = h.places_are; flights = h.flights_are; kept = kept; stopped = not_true x.stopped y.stopped on goes }
+idle_same x y (Deliver number) h kept on goes = record { places = h.places_are; flights = h.flights_are; kept = kept; stopped = not_true x.stopped y.stopped on goes }
 
 -- the run of no event
 abbrev pub through_none : (x : WorldState) (w : World) → StandsForWorld x w → RunsThrough x w [] x

@@ -1,8 +1,10 @@
 -- Runs one after another.
-use Rattle.std.proofs.Common.{◌≡◌, ℕ, ◌+◌, ◌≤◌, zero, suc, [], ◌∷◌, ◌++◌, refl, sym, ap, subst, ◌∙◌, arith, length, replicate}
+use Rattle.std.proofs.Common.{◌≡◌, ◌≢◌, ◌⊎◌, ℕ, ◌+◌, ◌-◌, ◌*◌, ◌/◌, ◌%◌, ◌<◌, ◌≤◌, add-mul, min, inl, inr, zero, suc, [], ◌∷◌, ◌++◌, refl, sym, ap, subst, ◌∙◌, arith, length, replicate}
 use Rattle.std.specs.Prelude.{Result, Ok, Err, IfErr, MatchResult}
 use Rattle.std.specs.Result.{IsErrAnd}
+use Rattle.std.proofs.lemmas.Grind.{div_ceil_times}
 use Rattle.std.proofs.lemmas.List.{length-append, length-replicate}
+use Rattle.std.proofs.lemmas.Nat.{mul-le}
 use Rattle.x10_kinds.specs.declared.stop.Stop.{Stop}
 use Rattle.x10_model.specs.declared.event.Event.{Event}
 use Rattle.x10_model.specs.declared.event.Event.TheVariants.{Step}
@@ -10,11 +12,11 @@ use Rattle.x10_model.specs.Worlds.{World, Ideal, Run, done, WithinBounds}
 use Rattle.x10_world.specs.declared.rounds.Halt.{Halt}
 use Rattle.x10_world.specs.declared.rounds.Halt.TheVariants as halt
 use Rattle.x10_world.specs.StandsForWorld.{WorldState, KeepsSetting, setting_of, StandsForWorld, Makes}
-use Rattle.x10_world.specs.Runs.{Runs, IsHaltedRun, IsHaltedAt, IsHaltedStretch, RepeatsThrough}
+use Rattle.x10_world.specs.Runs.{IsSame, StopsAt, RunsThrough, IsHaltedStretch, RepeatsThrough}
 use Rattle.x10_world.specs.Rounds.{RunsTo, RunsIn, IsHaltedIn, IsCut, IsHalted, AdvancesOrEnds}
 use Rattle.x10_world.proofs.Running.{within, keeps_more, keeps_self, setting_kept, run_more, run_on}
 use Rattle.x10_world.proofs.Courses.{stop_stands}
-use Rattle.x10_world.proofs.Making.{through_none, through_on}
+use Rattle.x10_world.proofs.Making.{through_none, through_on, through_same}
 
 -- what holds of an error that is told as another one
 pub err_is : {T : Type 0} (r : Result T Halt) (why : Halt) (P : Halt → Type 0) (Q : T → Type 0) → IsErrAnd r (λ made. made ≡ why) → P why → MatchResult r Q P
@@ -24,6 +26,10 @@ err_is (Err made) why P Q e h = subst P (sym e) h
 pub err_if : {T : Type 0} (r : Result T Halt) (why : Halt) (P : Halt → Type 0) → IsErrAnd r (λ made. made ≡ why) → P why → IfErr r P
 err_if (Ok x) why P e h = absurd e
 err_if (Err made) why P e h = subst P (sym e) h
+
+-- so for each limit
+pub cut_is : {T : Type 0} (r : Result T Halt) (why : Halt) (x y : WorldState) → IsErrAnd r (λ made. made ≡ why) → ((limit : ℕ) → IsCut x limit y why) → IfErr r (λ e. (limit : ℕ) → IsCut x limit y e)
+cut_is r why x y e h = err_if r why (λ e. (limit : ℕ) → IsCut x limit y e) e h
 
 -- what holds whatever the error is
 pub if_err : {T E : Type 0} (r : Result T E) (P : E → Type 0) → ((e : E) → P e) → IfErr r P
@@ -79,9 +85,38 @@ in_on x y z m n first second = record {
 pub in_repeats : (x y : WorldState) (n here key : ℕ) → KeepsSetting x y → ((w : World) → StandsForWorld x w → RepeatsThrough x w n here key y) → RunsIn x n y
 in_repeats x y n here key kept repeats = record { kept = kept; runs = λ w stand. let r = repeats w stand in (replicate n (Step here key), length-replicate n (Step here key), r.runs) }
 
--- one event of a list of one
-pub in_one : (x y : WorldState) (event : Event) → KeepsSetting x y → ((w : World) → StandsForWorld x w → Runs x w 1 (event ∷ []) y) → RunsIn x 1 y
+-- one event
+pub in_one : (x y : WorldState) (event : Event) → KeepsSetting x y → ((w : World) → StandsForWorld x w → RunsThrough x w (event ∷ []) y) → RunsIn x 1 y
 in_one x y event kept runs = record { kept = kept; runs = λ w stand. (event ∷ [], refl, runs w stand) }
+
+-- no event, with more room
+pub in_same : (x y : WorldState) → IsSame x y → RunsIn x 0 y
+in_same x y same = record { kept = same.kept; runs = λ w stand. ([], refl, through_same x x y w [] same (through_none x w stand)) }
+
+same_back : (x y : WorldState) → IsSame x y → IsSame y x
+same_back x y same = record {
+  places = sym same.places;
+  flights = record { posted = sym same.flights.posted; flying = sym same.flights.flying };
+  kept = record { program = sym same.kept.program; bounds = sym same.kept.bounds; count = sym same.kept.count };
+  stopped = sym same.stopped;
+}
+
+in_back : (x y : WorldState) (n : ℕ) → IsSame x y → RunsIn x n y → RunsIn x n x
+in_back x y n same r = record {
+  kept = keeps_self x;
+  runs = λ w stand. let a = r.runs w stand in (a.0, a.1, through_same x y x w a.0 (same_back x y same) a.2);
+}
+
+-- What is idle may be tried as often as you like.
+pub in_idle : (x y : WorldState) (n : ℕ) → IsSame x y → RunsIn x 1 y → RunsIn x n y
+in_idle x y zero same one = in_same x y same
+in_idle x y (suc n) same one =
+    let all : 1 + n ≡ suc n = omega arith in
+    subst (λ k. RunsIn x k y) all (in_on x x y 1 n (in_back x y 1 same one) (in_idle x y n same one))
+
+-- so many steps of one activity, with idle ones between them
+pub in_beside : (x y z : WorldState) (idle steps : ℕ) → IsSame x y → RunsIn x 1 y → RunsIn y steps z → RunsIn x (idle + steps) z
+in_beside x y z idle steps same one more = in_on x y z idle steps (in_idle x y idle same one) more
 
 pub in_to : (x y : WorldState) (n : ℕ) → RunsIn x n y → RunsTo x y
 in_to x y n r = record { kept = r.kept; runs = λ w stand. let a = r.runs w stand in (a.0, a.2.last, a.2.run, a.2.stands) }
@@ -106,16 +141,52 @@ cut_is_halt x y limit (halt.Stop why) h = h
 cut_is_halt x y limit halt.Limit h = absurd h
 cut_is_halt x y limit halt.Memory h = h
 
+-- ---- rounds of so many events
+
+-- how many rounds begin within so many events
+abbrev pub rounds_in : ℕ → ℕ → ℕ
+rounds_in left round = left / round + min 1 (left % round)
+
+lt_or_le : (a b : ℕ) → (a < b) ⊎ (b ≤ a)
+lt_or_le a b = grind arith
+
+-- The steps of one activity, of which each but the first comes a round after the one before it, are within what is left,
+-- where they are no more than the rounds that begin within it.
+pub rounds_few : (left round steps : ℕ) → 1 < round → steps ≤ rounds_in left round → steps ≢ 0 → (steps - 1) * round + 1 ≤ left
+rounds_few left round zero p few some = absurd (some refl)
+rounds_few left round (suc k) p few some =
+    let times = (div_ceil_times left round (omega (arith, p))).1 in
+    let more : (suc k) * round ≤ (rounds_in left round) * round = mul-le (suc k) round (rounds_in left round) round few (omega arith) in
+    let same : (1 + k) * round ≡ 1 * round + k * round = add-mul 1 k round in
+    let one : 1 + k ≡ suc k = omega arith in
+    let back : suc k - 1 ≡ k = omega arith in
+    let whole = subst (λ n. n * round ≡ 1 * round + k * round) one same in
+    subst (λ n. n * round + 1 ≤ left) (sym back) (omega (arith, times, more, whole))
+
+pub rounds_within : (left round : ℕ) → 1 < round → rounds_in left round ≤ left
+rounds_within left round p = elim (lt_or_le left (rounds_in left round)) [
+  | inl less ↦
+      (let back : suc left - 1 ≡ left = omega arith in
+      let most = subst (λ n. n * round + 1 ≤ left) back (rounds_few left round (suc left) p (omega (arith, less)) (λ e. absurd cc)) in
+      let least = mul-le left 1 left round (omega arith) (omega (arith, p)) in
+      let one : left * 1 ≡ left = omega arith in
+      omega (arith, most, least, one))
+  | inr few ↦ few
+]
+
+-- the steps among these events
+pub rounds_all : (round steps : ℕ) → 1 < round → steps ≢ 0 → (steps - 1) * round + 1 - steps + steps ≡ (steps - 1) * round + 1
+rounds_all round steps p some =
+    let least = mul-le (steps - 1) 1 (steps - 1) round (omega arith) (omega (arith, p)) in
+    let one : (steps - 1) * 1 ≡ steps - 1 = omega arith in
+    omega (arith, least, one, some)
+
 keeps_back : (x y z : WorldState) → KeepsSetting x z → KeepsSetting y z → KeepsSetting x y
 keeps_back x y z k l = record { program = sym l.program ∙ k.program; bounds = sym l.bounds ∙ k.bounds; count = sym l.count ∙ k.count }
 
 -- the one event was refused
-pub cut_one : (x y : WorldState) (event : Event) (limit : ℕ) (why : Stop) → KeepsSetting x y → IsHaltedRun x (event ∷ []) y why → IsHaltedIn x limit y why
-cut_one x y event limit why kept (n, h) = at_number n h
-  where
-    at_number : (m : ℕ) → IsHaltedAt x (event ∷ []) m y why → IsHaltedIn x limit y why
-    at_number zero a = record { done = 0; few = omega arith; state = a.state; runs = record { kept = keeps_back x a.state y kept a.stops.kept; runs = λ w stand. ([], refl, a.runs w stand) }; event = a.event; stops = a.stops }
-    at_number (suc m) a = (let e = a.is_next in absurd cc)
+pub cut_one : (x y : WorldState) (event : Event) (limit : ℕ) (why : Stop) → StopsAt x event why y → IsHaltedIn x limit y why
+cut_one x y event limit why stops = record { done = 0; few = omega arith; state = x; runs = in_none x; event = event; stops = stops }
 
 -- one of several steps of an activity was
 pub cut_stretch : (x y : WorldState) (here key most : ℕ) (why : Stop) → KeepsSetting x y → IsHaltedStretch x here key most y why → IsHaltedIn x most y why

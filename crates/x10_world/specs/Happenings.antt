@@ -73,6 +73,12 @@ Happened places flights (Deliver number) happening.Idle new after = WasNowhere p
 Happened places flights (Deliver number) happening.Moved new after = ⊥
 Happened places flights (Deliver number) (happening.Taken to) new after = HasTaken places flights number to new after
 
+-- An event would do something: there is an activity with the key at the place, and it can move; or there is a frame in flight
+-- with the number.
+abbrev pub CanHappen : WorldState → Event → Type 0
+CanHappen x (Step id key) = (p : PlaceState) × (slice_get x.places id ≡ Some p) × (IsIdleAt p key → ⊥)
+CanHappen x (Deliver number) = (f : Flight) × (flight_of x.flights number ≡ Some f)
+
 -- the activity with a key at a place stands at the instruction with a number of a function, and at an operation
 pub record StandsAt (places : List PlaceState) (id key function pc : ℕ) (op : Op) : Type 0 where
   pub place : PlaceState

@@ -95,7 +95,8 @@ abbrev pub exported_at : Option machine.Place → ℕ → ℕ → Bool
 exported_at None id class = false
 exported_at (Some m) id class = is_export (slice_get m.exports id) class
 
--- which home, number and class name an object in a world
+-- Which home, number and class name an object in a world. A place can't see which exports other places have, so what it
+-- keeps true holds whatever they are; the world sees all places.
 abbrev pub far_in : World → Far
 far_in w home id class = exported_at (w.net.places home) id class
 

@@ -80,6 +80,8 @@ pub(crate) fn copied_outputs(alloc: Global, places: &[Place]) -> Result<Vec<Vec<
 }
 
 /// Reads an image, verifies its module, and runs it at `places` places with these events, up to the first that is refused.
+/// The lines of each place are copied, since a world that callers keep has the same calls; to take a world apart would save
+/// the copy, but be a second way to end a run.
 pub fn run_image(
     alloc: Global,
     bytes: &[u8],

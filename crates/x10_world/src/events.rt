@@ -36,7 +36,8 @@ fn post_all(flights: &mut Flights, sent: Sent)
     post(flights, sent.report);
 }
 
-/// One step of the activity with a key at a place, if they are there. Room for what it may put out is made first.
+/// One step of the activity with a key at a place, if they are there. Room for two frames, a message and a report, is made
+/// first: so nothing that the place puts out is refused after the place has changed.
 #[inline(always)]
 fn step(
     verified: &Verified,

@@ -7,6 +7,7 @@ mod events;
 mod fault;
 mod keys;
 pub mod laws;
+mod lull;
 mod opening;
 mod places;
 mod rounds;

@@ -1,12 +1,11 @@
 //! The order in which a program makes events: round after round, place after place, key after key.
-ghost use Rattle.std.specs.Prelude.{◌≡◌, ◌≢◌, ◌≤◌, ℕ, true, IsTrue, IfOk, IfErr, IfSome, Err, Some, None, List, length};
-ghost use Rattle.x10_kinds.specs.declared.stop.Stop.TheVariants as stop;
+ghost use Rattle.std.specs.Prelude.{◌≡◌, ℕ, IsTrue, IfOk, IfErr, IfSome, Some, None, List};
 ghost use Rattle.x10_world.specs.declared.rounds.Halt.TheVariants as halt;
-ghost use Rattle.x10_world.specs.Queries.{IsClosed};
 ghost use Rattle.x10_world.specs.Living.{keys_at};
-ghost use Rattle.x10_world.specs.Rounds.{HasEnded, RunsTo, Turn, Names, IsTurnOver, Passes, IsNextEvent, IsStepOf, IsFirstInUse, IsQuiet, IsHalted, GoesOn, Advances, AdvancesOrEnds};
+ghost use Rattle.x10_world.specs.Rounds.{Turn, Names, IsTurnOver, Passes, IsNextEvent, IsStepOf, IsFirstInUse, IsQuiet};
 
 use crate::keys::Keys;
+use crate::lull::Lull;
 use crate::world::World;
 use std::alloc::{AllocError, Global};
 use std::marker::Model;
@@ -14,6 +13,10 @@ use std::mem;
 use thiserror::Error;
 use x10_kinds::Stop;
 use x10_model::Event;
+
+mod drive;
+
+pub use drive::run_rounds;
 
 /// Why no more rounds were made before the run had ended.
 #[derive(Clone, Copy, Debug, PartialEq, Eq, Error)]
@@ -71,6 +74,7 @@ pub struct Rounds {
     /// The place whose turn it is.
     place: u16,
     phase: Phase,
+    lull: Lull,
     /// The keys of the turn, while its steps are made; otherwise empty.
     keys: Vec<usize>,
 }
@@ -83,7 +87,8 @@ impl Model for Rounds {
     ghost view = { λ a. record { place = a.place; left = keys_left a.phase a.keys.items } };
 }
 
-/// Whether a list is that of the keys in use at a place, by rising number. Linear in the list.
+/// Whether a list is that of the keys in use at a place, by rising number: it is where its keys rise, each is in use, and
+/// there are as many as there are activities. Linear in the list.
 fn is_exact(keys: &[usize], world: &World, place: u16) -> bool
     ensures { IsTrue result → keys.now ≡ keys_at world.now.places place }
 {
@@ -130,6 +135,7 @@ impl Rounds {
             next_key: None,
             place: 0,
             phase: Phase::TakesIn,
+            lull: Lull::new(),
             keys: Vec::new(alloc),
         })
     }
@@ -253,17 +259,6 @@ impl Rounds {
         self.phase = Phase::TakesIn;
     }
 
-    /// Where the turn is over, begins that of the next busy place, if there is one.
-    #[inline(always)]
-    fn pass(&mut self, world: &World) {
-        if let Phase::TakesIn = self.phase {
-            return;
-        }
-        if let Some(place) = world.busy_after(self.place) {
-            self.begin_turn(place);
-        }
-    }
-
     /// Looks at whether the last event began an activity, and remembers its key.
     #[inline(always)]
     fn look(&mut self, world: &World) -> Result<(), AllocError>
@@ -284,6 +279,7 @@ impl Rounds {
     fn begun(&mut self, place: u16, key: usize) -> Result<(), AllocError>
         ensures { self.new ≡ self.old }
     {
+        self.lull.forget();
         if let Some(list) = self.lists.get_mut(usize::from(place)) {
             list.fresh.push(key)?;
         }
@@ -300,153 +296,4 @@ impl Rounds {
             None => None,
         };
     }
-
-    /// The one activity that there is, by its place and key, where the place's turn has nothing to take in; none where there
-    /// are others, or where a frame is in flight.
-    #[inline(always)]
-    fn lone(&self, world: &World) -> Option<(u16, usize)> {
-        let Phase::TakesIn = self.phase else {
-            return None;
-        };
-        if !world.has_only_one(self.place) {
-            return None;
-        }
-        let list = self.lists.get(usize::from(self.place))?;
-        let key = list.first(world, self.place)?;
-        Some((self.place, key))
-    }
-
-    /// Makes the next events, and answers how many; none only where nothing is in flight and no activity is anywhere. Where
-    /// one activity is alone, its steps are made in one stretch, each a round of its own; otherwise the steps of a turn are
-    /// made one after another.
-    fn advance(&mut self, world: &mut World, left: u64) -> Result<u64, Halt>
-        requires going { world.old.stopped ≢ true }
-        requires some { 1 ≤ left }
-        ensures made { AdvancesOrEnds world.old left result world.new }
-    {
-        self.look(world)?;
-        match self.phase {
-            Phase::Steps(from) if from < self.keys.len() => self.steps_or_more(world, from, left),
-            _ => self.go_on(world, left),
-        }
-    }
-
-    /// Makes the steps of a turn from a position on, and where there is none what comes after the turn.
-    #[inline(always)]
-    fn steps_or_more(&mut self, world: &mut World, position: usize, left: u64) -> Result<u64, Halt>
-        requires going { world.old.stopped ≢ true }
-        requires some { 1 ≤ left }
-        ensures made { AdvancesOrEnds world.old left result world.new }
-    {
-        let made = self.steps(world, position, left)?;
-        if made > 0 {
-            return Ok(made);
-        }
-        self.go_on(world, left)
-    }
-
-    /// Makes what comes next where a turn begins or is over, and answers how many events.
-    fn go_on(&mut self, world: &mut World, left: u64) -> Result<u64, Halt>
-        requires going { world.old.stopped ≢ true }
-        requires some { 1 ≤ left }
-        ensures made { AdvancesOrEnds world.old left result world.new }
-    {
-        self.pass(world);
-        match self.lone(world) {
-            Some((place, key)) => self.stretch(world, place, key, left),
-            None => self.event(world),
-        }
-    }
-
-    /// Makes the steps of a turn from a position on, up to one that leaves place 0 empty, and answers how many.
-    fn steps(&mut self, world: &mut World, from: usize, left: u64) -> Result<u64, Halt>
-        requires going { world.old.stopped ≢ true }
-        requires some { 1 ≤ left }
-        ensures made { Advances world.old left result world.new }
-    {
-        let mut made = 0;
-        for _ in from..self.keys.len() {
-            let Some(event) = self.step(world) else {
-                return Ok(made);
-            };
-            self.watch(world, self.place);
-            made += make(world, event)?;
-            self.look(world)?;
-            if made == left || (self.place == 0 && world.home_is_empty()) {
-                return Ok(made);
-            }
-        }
-        Ok(made)
-    }
-
-    /// Steps of the one activity that there is, up to one that begins an activity or puts out a frame.
-    fn stretch(&mut self, world: &mut World, place: u16, key: usize, left: u64) -> Result<u64, Halt>
-        requires going { world.old.stopped ≢ true }
-        requires some { 1 ≤ left }
-        ensures made { AdvancesOrEnds world.old left result world.new }
-    {
-        self.watch(world, place);
-        let made = world.run_activity(place, key, left)?;
-        self.look(world)?;
-        if made == 0 {
-            return self.event(world);
-        }
-        self.phase = Phase::Over;
-        Ok(made)
-    }
-
-    /// The next event.
-    #[inline(always)]
-    fn event(&mut self, world: &mut World) -> Result<u64, Halt>
-        requires going { world.old.stopped ≢ true }
-        ensures made { (limit : ℕ) → 1 ≤ limit → AdvancesOrEnds world.old limit result world.new }
-    {
-        match self.next(world)? {
-            Some(event) => make(world, event),
-            None => Ok(0),
-        }
-    }
-}
-
-/// Makes one event, and answers how many were made.
-#[inline(always)]
-fn make(world: &mut World, event: Event) -> Result<u64, Halt>
-    requires going { world.old.stopped ≢ true }
-    ensures made { (limit : ℕ) → 1 ≤ limit → Advances world.old limit result world.new }
-    ensures one { IfOk result (λ made. made ≡ 1) }
-{
-    world.run(&[event])?;
-    Ok(1)
-}
-
-/// Runs a world in rounds until the run has ended, with at most `limit` events, idle ones included: those of `Rounds`, one
-/// after another. Whether the run has ended is checked after each event, before whether there may be another one: only events
-/// at place 0 can end it. The answer is Limit exactly where `limit` events were made and the last one didn't end it. A world
-/// that has stopped answers so, and stays as it is.
-pub fn run_rounds(alloc: Global, world: &mut World, limit: u64) -> Result<(), Halt>
-    ensures runs { RunsTo world.old world.new }
-    ensures made { world.old.stopped ≢ true → IfOk result (λ _. (n : ℕ) × GoesOn world.old limit n world.new) }
-    ensures ended { IfOk result (λ _. HasEnded world.new) }
-    ensures closed { IfOk result (λ _. IsClosed world.new.places) }
-    ensures halted { world.old.stopped ≢ true → IfErr result (IsHalted world.old limit world.new) }
-    ensures stopped { world.old.stopped ≡ true → (result ≡ Err (halt.Stop stop.Stopped)) × (world.new ≡ world.old) }
-{
-    world.going()?;
-    let mut rounds = Rounds::new(alloc, world)?;
-    let mut left = limit;
-    for _ in 0..limit {
-        let is_first = left == limit;
-        let made = rounds.advance(world, left)?;
-        if made == 0 {
-            return Ok(());
-        }
-        if (is_first || rounds.place == 0) && world.home_is_empty() && world.closed() {
-            return Ok(());
-        }
-        left -= made;
-        if left == 0 {
-            return Err(Halt::Limit);
-        }
-    }
-    Err(Halt::Limit)
 }

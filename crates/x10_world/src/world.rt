@@ -9,9 +9,6 @@ ghost use Rattle.x10_world.specs.Queries.{IsNoPlace, HasPlace, HasNoKey, IsNotFl
 ghost use Rattle.x10_world.specs.Opening.{IsOpenedWorld, IsForbidden};
 ghost use Rattle.x10_world.specs.StandsForWorld.{StandsForWorld, KeepsSetting, Makes, IsIdleNow, BeganLast, SentLast};
 ghost use Rattle.x10_world.specs.Runs.{Runs, Reaches, StopsAt, IsHaltedAt, IsHaltedRun, Repeats, RepeatsThrough, IsHaltedStretch};
-ghost use Rattle.x10_flights.specs.PlaceSets.{has_place};
-ghost use Rattle.x10_world.specs.Living.{keys_at, live_at};
-ghost use Rattle.x10_world.specs.Rounds.{IsBusy, IsTurnAfter, IsQuiet};
 ghost use Rattle.x10_world.specs.Happenings.{Happened, IsStood, IsDone};
 ghost use Rattle.x10_flights.specs.Flights.{flight_of, flies_to, IsNext};
 ghost use Rattle.x10_world.specs.Prompt.{MayEnd, WorksIn};
@@ -26,11 +23,13 @@ use crate::places::Places;
 use std::alloc::{AllocError, Global};
 use std::marker::Model;
 use x10_code::Op;
-use x10_flights::{Flights, PlaceSet};
+use x10_flights::Flights;
 use x10_kinds::Stop;
 use x10_model::Event;
 use x10_place::Line;
 use x10_verify::Verified;
+
+mod order;
 
 /// A world: the places of a run, and the frames between them that are in flight.
 #[derive(Drop)]
@@ -54,7 +53,7 @@ impl<'a> Model for World<'a> {
 impl<'a> World<'a> {
     /// Refuses where the world has stopped.
     #[inline(always)]
-    pub(crate) fn going(&self) -> Result<(), Stop>
+    pub fn going(&self) -> Result<(), Stop>
         ensures ok { IfOk result (λ _. self.now.stopped ≢ true) }
         ensures err { IfErr result (λ why. (why ≡ stop.Stopped) × (self.now.stopped ≡ true)) }
     {
@@ -258,15 +257,6 @@ impl<'a> World<'a> {
         place.next_key(from)
     }
 
-    /// Whether no activity is at place 0, as is so where the run has ended. Constant time.
-    #[inline(always)]
-    pub(crate) fn home_is_empty(&self) -> bool {
-        match self.places.list().first() {
-            Some(place) => place.is_empty(),
-            None => true,
-        }
-    }
-
     /// Whether there is an activity with a key at a place. Constant time.
     #[inline(always)]
     pub fn has_key(&self, place: u16, key: usize) -> bool
@@ -276,15 +266,6 @@ impl<'a> World<'a> {
             Some(place) => place.contains(key),
             None => false,
         }
-    }
-
-    /// The key that the next activity that begins at a place gets; none where there is no such place. Constant time.
-    #[inline(always)]
-    pub(crate) fn vacant_key(&self, place: u16) -> Option<usize>
-        ensures { MatchOption result (IsNoPlace self.now.places place) (λ key. HasPlace self.now.places place (λ p. key ≡ p.stays.vacant_key)) }
-    {
-        let place = self.places.list().get(usize::from(place))?;
-        Some(place.vacant_key())
     }
 
     /// How many frames were put out so far: they are numbered from 0, in that order. Constant time.
@@ -311,68 +292,6 @@ impl<'a> World<'a> {
         ensures { IsNext (flies_to self.now.flights.flying place) from result }
     {
         self.flights.next_to(place, from)
-    }
-
-    /// The least number of a frame in flight to a place; none where there is none, or no such place. Constant time.
-    #[inline(always)]
-    pub(crate) fn first_frame(&self, place: u16) -> Option<u64>
-        ensures { IsNext (flies_to self.now.flights.flying place) 0 result }
-    {
-        self.flights.first_to(place)
-    }
-
-    /// How many activities are at a place. Constant time.
-    #[inline(always)]
-    pub(crate) fn live(&self, place: u16) -> usize
-        ensures { result ≡ live_at self.now.places place }
-    {
-        match self.places.list().get(usize::from(place)) {
-            Some(place) => place.live(),
-            None => 0,
-        }
-    }
-
-    /// The keys in use at a place, by rising number. Linear in the keys that were ever in use at once.
-    pub(crate) fn keys(&self, alloc: Global, place: u16) -> Result<Vec<usize>, AllocError>
-        ensures { IfOk result (λ keys. keys.items ≡ keys_at self.now.places place) }
-    {
-        match self.places.list().get(usize::from(place)) {
-            Some(place) => place.keys(alloc),
-            None => Ok(Vec::new(alloc)),
-        }
-    }
-
-    /// The places that have an activity, or a frame in flight to them. Constant time.
-    #[inline(always)]
-    fn busy(&self) -> PlaceSet
-        ensures { (id : ℕ) → has_place result id ≡ true ↔ IsBusy self.now id }
-    {
-        self.places.living().union(self.flights.awaited())
-    }
-
-    /// The next place behind one, and behind the last one the first, that has an activity or a frame in flight to it; none
-    /// where no activity is anywhere and no frame is in flight. Constant time.
-    #[inline(always)]
-    pub(crate) fn busy_after(&self, place: u16) -> Option<u16>
-        ensures some { IfSome result (IsTurnAfter self.now place) }
-        ensures none { result ≡ None → IsQuiet self.now }
-    {
-        let _ = &self.verified;
-        let busy = self.busy();
-        match busy.first_from(place.saturating_add(1)) {
-            Some(next) => Some(next),
-            None => busy.first_from(0),
-        }
-    }
-
-    /// Whether one activity is at a place, none is anywhere else, and no frame is in flight. Constant time.
-    #[inline(always)]
-    pub(crate) fn has_only_one(&self, place: u16) -> bool {
-        let living = self.places.living();
-        self.live(place) == 1
-            && living.first_from(0) == Some(place)
-            && living.first_from(place.saturating_add(1)).is_none()
-            && self.flights.awaited().first_from(0).is_none()
     }
 
     /// Whether the run has ended, as place 0 sees it by its own counts and by what was reported to it: then no activity lives.

@@ -4,7 +4,7 @@ use Rattle.x10_place.specs.StandsFor.{IsTypedFrame}
 use Rattle.x10_place.specs.Stretches.{Locally}
 use Rattle.x10_place.proofs.frame.CallFrame.stretch.Given as goal
 
--- so many operations were made, the frame stands at an instruction, and its words have their kinds
+-- so many operations were made, the call frame stands at an instruction, and its words have their kinds
 abbrev pub invariant-loop-done : goal.invariant-loop-done
 invariant-loop-done l =
     IsWithin l.verified.program l.fn.self.function l.pc (length l.registers)

@@ -20,7 +20,7 @@ pub returns-then-made-eq0 : goal.returns-then-made-eq0
 returns-then-made-eq0 c = record {
   made = ends_after c.args.world.now c.run_activity.new.self c.event.new.world c.args.left c.event.result
       (subst (λ n. RunsIn c.args.world.now n c.run_activity.new.self) c.if-made-eq0.true (in_repeats c.args.world.now c.run_activity.new.self c.in_ok-made.made c.args.place c.args.key c.in_ok-made.ensures.kept c.in_ok-made.ensures.ok))
-      (c.event.ensures.made c.args.left c.requires.some);
+      c.event.ensures.made;
 }
 
 pub returns : goal.returns

@@ -1,6 +1,6 @@
 use Rattle.std.specs.Prelude.{◌≡◌, ◌≢◌, ℕ, ◌+◌, ◌<◌, ◌≤◌, true}
 use Rattle.x10_world.specs.Rounds.{RunsIn}
-use Rattle.x10_world.proofs.rounds.run_rounds.Given as goal
+use Rattle.x10_world.proofs.rounds.drive.run_rounds.Given as goal
 
 abbrev pub invariant-loop : goal.invariant-loop
 invariant-loop l = record {

@@ -2,7 +2,7 @@ use Rattle.std.proofs.Common.{◌+◌, subst, arith}
 use Rattle.x10_world.specs.declared.rounds.Halt.TheVariants as halt
 use Rattle.x10_world.specs.Rounds.{RunsIn}
 use Rattle.x10_world.proofs.Rounding.{err_if, runs_self, runs_on, in_none, in_on, in_to, cut_to, cut_on, cut_is_halt}
-use Rattle.x10_world.proofs.rounds.run_rounds.Goals as goal
+use Rattle.x10_world.proofs.rounds.drive.run_rounds.Goals as goal
 
 pub returns-in_err-going-clause-runs : goal.returns-in_err-going-clause-runs
 returns-in_err-going-clause-runs c = runs_self c.args.world.now
