@@ -10,7 +10,7 @@ use x10_place::{Line, Place, Stepped};
 use x10_samples::SEVEN;
 use x10_verify::{Verified, verify};
 
-/// A number and four times that, through three calls; the innermost has one register more than a frame holds in place.
+/// A number and four times that, through three calls; the innermost has one register more than a call frame holds in place.
 /// Then an object, a reference to it, a rail and two texts, of which the second is printed.
 const DEEP: &str = "places 1
 class int

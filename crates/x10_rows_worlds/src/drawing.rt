@@ -1,5 +1,5 @@
 //! Pictures of runs.
-use crate::places::program;
+use crate::programs::program;
 use crate::worlds::world_of;
 use std::alloc::{AllocError, Global};
 use std::test::*;

@@ -1,4 +1,4 @@
-use crate::places::program;
+use crate::programs::program;
 use std::alloc::Global;
 use std::process::Abort;
 use std::test::*;

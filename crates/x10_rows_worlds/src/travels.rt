@@ -1,5 +1,5 @@
 //! Worlds of one to three places, event by event, and the frames that they put out, byte for byte.
-use crate::places::{assembled, program};
+use crate::programs::{assembled, program};
 use crate::worlds::{happens, is_closed, is_flying, lines_of, posted, world_of};
 use std::process::Abort;
 use std::test::*;

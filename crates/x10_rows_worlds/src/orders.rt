@@ -1,5 +1,5 @@
 //! Worlds of five places whose frames come in several orders, and one under many random events.
-use crate::places::program;
+use crate::programs::program;
 use crate::worlds::world_of;
 use std::alloc::Global;
 use std::process::Abort;
