@@ -39,7 +39,7 @@ ben, 3: run: line 1 is \`0: 2318\`, and not \`0: 2418\`
 ben, 4: run: line 2 is \`0: 16\`, and not \`0: 1024\`
 ben, 5: run: x10p: verify: Kind 1 7
 ben, 10: run --places 5: line 1 is \`0: 6\`, and not \`0: 10\`
-ben, 13: it has no atomic region with GET and PUT
+ben, 13: run --places 3 --seed 4: line 1 is \`0: 9\`, and not \`0: 10\`
 cleo, 3: run: x10p: asm: line 1 Word
 cleo, 4: run: x10p: asm: line 1 Order
 cleo, 5: it has no NEW, no LOOP, no CALL
@@ -78,12 +78,12 @@ ben     no
 ben, 1: verify: it is accepted, and not verify: Structure Atomic
 1 of 2 texts passed" "" grade --checks checks.json more
 
-# programs that stand for x10p: one that prints something else in its third run with threads, and one that doesn't end
+# programs that stand for x10p: one that prints something else in its third random order, and one that doesn't end
 cat >third <<'END'
 #!/bin/sh
 case "$*" in
 --version) echo x10p 0.0.0 ;;
-*--threads*) echo >>ran; echo "0: $(wc -l <ran)" | sed 's/[12]$/7/' ;;
+*--seed\ 3) echo 0: 3 ;;
 *) echo 0: 7 ;;
 esac
 END
@@ -98,13 +98,22 @@ rm -r more/ben
 program=./third does 0 "\
          1
 ada     no
-ada, 1: run --threads, 3 of 20: line 1 is \`0: 3\`, and not \`0: 7\`
+ada, 1: run --seed 3: line 1 is \`0: 3\`, and not \`0: 7\`
 0 of 1 texts passed" "" grade --checks checks.json more
 program=./endless does 0 "\
          1
 ada     no
 ada, 1: run: it hadn't ended after 0.2 seconds
 0 of 1 texts passed" "" grade --checks checks.json --seconds 0.2 more
+
+# a text that prints what it should, without the region that it should have
+echo '{"1": {"region": ["GET", "PUT"], "checks": [{"command": "run", "prints": ["0: 7"]}]}}' >checks.json
+prints 7 >more/ada/1.asm
+does 0 "\
+         1
+ada     no
+ada, 1: it has no atomic region with GET and PUT
+0 of 1 texts passed" "" grade --checks checks.json more
 
 # wrong calls: one line each, and status 2
 mkdir none

@@ -21,6 +21,7 @@ use crate::checking::print_check;
 use crate::explain::explanation;
 use crate::fault::Fault;
 use crate::picture::print_picture;
+use crate::schedule::schedule_of;
 use crate::threads::print_threaded;
 use std::alloc::Global;
 use std::io::Write;
@@ -32,10 +33,11 @@ use x10_explain::list_verbose;
 use x10_image::ImageView;
 use x10_model::Event;
 use x10_place::Line;
+use x10_schedule::{Schedule, Scheduler, run_by};
 use x10_task::{Task, Verb};
 use x10_trace::trace_line;
 use x10_verify::{Verified, verify};
-use x10_world::{Rounds, World, run_rounds};
+use x10_world::World;
 
 /// Does what a task asks for with the bytes of its file, and answers the exit status: 0 done, 1 refused, 2 stopped, 4 where a
 /// write failed or a text isn't UTF-8. What is printed goes to `out`: for `asm` the image, and for `draw` the picture. At
@@ -232,7 +234,7 @@ fn print_run<O: Write>(alloc: Global, task: &Task, bytes: &[u8], out: &mut O) ->
 {
     let verified = verified_in(alloc, bytes)?;
     let mut world = opened(alloc, task.places, &verified)?;
-    print_rounds(alloc, &mut world, task.limit, out)
+    print_scheduled(alloc, &mut world, schedule_of(task), task.limit, out)
 }
 
 /// The world in which a run begins, at as many places as were asked for.
@@ -252,9 +254,10 @@ pub(crate) fn opened<'a>(
 }
 
 /// Makes the events of a program until the run has ended, at most `limit`, and prints what its places printed until then.
-fn print_rounds<O: Write>(
+fn print_scheduled<O: Write>(
     alloc: Global,
     world: &mut World,
+    schedule: Schedule,
     limit: u64,
     out: &mut O,
 ) -> Result<(), Fault>
@@ -264,7 +267,7 @@ fn print_rounds<O: Write>(
     ensures stopped { IfErr result (λ e. (e ≡ fault.File) ⊎ Appends (O.contents out.old) (O.contents out.new) (all_lines 0 (lines_at world.new.places))) }
     ensures status { IfErr result (λ e. status_of e ≢ 1) }
 {
-    let ended = run_rounds(alloc, world, limit);
+    let ended = run_by(alloc, world, schedule, limit);
     print_outputs(world, out)?;
     Ok(ended?)
 }
@@ -280,20 +283,26 @@ fn print_trace<O: Write>(alloc: Global, task: &Task, bytes: &[u8], out: &mut O) 
 {
     let verified = verified_in(alloc, bytes)?;
     let mut world = opened(alloc, task.places, &verified)?;
-    trace(alloc, &mut world, task.limit, out)
+    trace(alloc, &mut world, schedule_of(task), task.limit, out)
 }
 
 /// Makes the events of a program until the run has ended, at most `limit`, and prints the lines of each.
-fn trace<O: Write>(alloc: Global, world: &mut World, limit: u64, out: &mut O) -> Result<(), Fault>
+fn trace<O: Write>(
+    alloc: Global,
+    world: &mut World,
+    schedule: Schedule,
+    limit: u64,
+    out: &mut O,
+) -> Result<(), Fault>
     ensures traced { OnOk result (Traces world.old world.new (O.contents out.old) (O.contents out.new)) }
     ensures some { IfErr result (λ e. (e ≡ fault.File) ⊎ TracesSome world.old (O.contents out.old) (O.contents out.new)) }
     ensures runs { RunsTo world.old world.new }
     ensures ended { OnOk result (HasEnded world.new) }
     ensures status { IfErr result (λ e. status_of e ≢ 1) }
 {
-    let mut rounds = Rounds::new(alloc, world)?;
+    let mut scheduler = Scheduler::new(alloc, world, schedule)?;
     for _ in 0..limit {
-        let Some(event) = rounds.next(world)? else {
+        let Some(event) = scheduler.next(world)? else {
             return Err(Fault::Limit);
         };
         print_event(alloc, world, event, out)?;

@@ -6,6 +6,7 @@ mod commands;
 mod explain;
 mod fault;
 mod picture;
+mod schedule;
 mod threads;
 
 pub use checking::is_image;

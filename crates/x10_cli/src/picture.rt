@@ -10,12 +10,14 @@ ghost use Rattle.x10_cli.specs.Answers.{CanBeDone, IsDue, LeavesStopped, Prints,
 
 use crate::commands::{opened, verified_in};
 use crate::fault::Fault;
+use crate::schedule::schedule_of;
 use std::alloc::Global;
 use std::io::Write;
 use x10_draw::Drawing;
 use x10_model::Event;
+use x10_schedule::{Schedule, Scheduler};
 use x10_task::Task;
-use x10_world::{Rounds, World};
+use x10_world::World;
 
 /// Runs a module, and prints the picture of what happened, even where the run stops before its end.
 pub(crate) fn print_picture<O: Write>(
@@ -33,13 +35,14 @@ pub(crate) fn print_picture<O: Write>(
 {
     let verified = verified_in(alloc, bytes)?;
     let mut world = opened(alloc, task.places, &verified)?;
-    print_drawn(alloc, &mut world, task.limit, out)
+    print_drawn(alloc, &mut world, schedule_of(task), task.limit, out)
 }
 
 /// Makes the events of a program until the run has ended, at most `limit`, and prints the picture of what happened.
 fn print_drawn<O: Write>(
     alloc: Global,
     world: &mut World,
+    schedule: Schedule,
     limit: u64,
     out: &mut O,
 ) -> Result<(), Fault>
@@ -50,21 +53,27 @@ fn print_drawn<O: Write>(
     ensures status { IfErr result (λ e. status_of e ≢ 1) }
 {
     let mut drawing = Drawing::new(alloc, world.count())?;
-    let ended = draw(alloc, world, limit, &mut drawing);
+    let ended = draw(alloc, world, schedule, limit, &mut drawing);
     let picture = drawing.svg()?;
     out.write_all(picture.as_bytes())?;
     ended
 }
 
 /// Makes the events of a program until the run has ended, at most `limit`, and notes each.
-fn draw(alloc: Global, world: &mut World, limit: u64, drawing: &mut Drawing) -> Result<(), Fault>
+fn draw(
+    alloc: Global,
+    world: &mut World,
+    schedule: Schedule,
+    limit: u64,
+    drawing: &mut Drawing,
+) -> Result<(), Fault>
     ensures runs { RunsTo world.old world.new }
     ensures ended { OnOk result (HasEnded world.new) }
     ensures status { IfErr result (λ e. status_of e ≢ 1) }
 {
-    let mut rounds = Rounds::new(alloc, world)?;
+    let mut scheduler = Scheduler::new(alloc, world, schedule)?;
     for _ in 0..limit {
-        let Some(event) = rounds.next(world)? else {
+        let Some(event) = scheduler.next(world)? else {
             return Err(Fault::Limit);
         };
         draw_event(world, event, drawing)?;

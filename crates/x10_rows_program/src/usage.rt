@@ -1,6 +1,6 @@
 use std::alloc::Global;
 use std::test::*;
-use x10_task::{Task, Verb};
+use x10_task::{Schedule, Task, Verb};
 use x10_usage::parse;
 
 /// The words of a command line, the program's name first.
@@ -22,6 +22,8 @@ fn words(rt: HostRuntime) -> Result<(), Fail> {
         output: None,
         places: Some(64),
         limit: 1_000_000,
+        schedule: Schedule::Rounds,
+        seed: None,
         threads: false,
         explain: false,
     };
@@ -29,5 +31,28 @@ fn words(rt: HostRuntime) -> Result<(), Fail> {
     let words = words_of(rt.alloc(), &["bounds", "b"])?;
     let found = parse(rt.alloc(), &words).ok().ok_or("it is a task")?;
     assert!(rt; found.verb == Verb::Bounds && found.input == "b");
+    Ok(())
+}
+
+/// The schedule and the seed of the task that some words stand for.
+fn schedule_in(alloc: Global, words: &[&str]) -> Result<(Schedule, Option<u64>), Fail> {
+    let words = words_of(alloc, words)?;
+    let task = parse(alloc, &words).ok().ok_or("it is a task")?;
+    Ok((task.schedule, task.seed))
+}
+
+#[test]
+fn schedules(rt: HostRuntime) -> Result<(), Fail> {
+    let alloc = rt.alloc();
+    let by_seed = schedule_in(alloc, &["run", "a", "--seed", "7"])?;
+    assert!(rt; by_seed == (Schedule::Random, Some(7)));
+    let random = schedule_in(alloc, &["trace", "a", "--schedule", "random"])?;
+    assert!(rt; random == (Schedule::Random, None));
+    let oldest = schedule_in(alloc, &["run", "a", "--schedule", "oldest"])?;
+    assert!(rt; oldest == (Schedule::Oldest, None));
+    let newest = schedule_in(alloc, &["draw", "a", "b.svg", "--schedule", "newest"])?;
+    assert!(rt; newest == (Schedule::Newest, None));
+    let rounds = schedule_in(alloc, &["run", "a", "--schedule", "rounds"])?;
+    assert!(rt; rounds == (Schedule::Rounds, None));
     Ok(())
 }

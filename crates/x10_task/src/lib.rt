@@ -3,4 +3,4 @@
 
 mod task;
 
-pub use task::{Task, Verb};
+pub use task::{Schedule, Task, Verb};

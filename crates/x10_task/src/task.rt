@@ -21,6 +21,19 @@ pub enum Verb {
     Draw,
 }
 
+/// In which order the events of a run happen.
+#[derive(Clone, Copy, Debug, PartialEq, Eq)]
+pub enum Schedule {
+    /// Round after round.
+    Rounds,
+    /// Each drawn from all that can happen.
+    Random,
+    /// Activities before frames, and of these the one that was put out first.
+    Oldest,
+    /// The same, but the one that was put out last.
+    Newest,
+}
+
 /// What the words of a command line ask for.
 #[derive(Clone, Copy, Debug, PartialEq, Eq)]
 pub struct Task<'a> {
@@ -33,6 +46,10 @@ pub struct Task<'a> {
     pub places: Option<u16>,
     /// How many events at most, including those in which nothing moves; with threads, how many turns of workers.
     pub limit: u64,
+    /// In which order the events of a run happen; with threads, Rounds, which doesn't matter then.
+    pub schedule: Schedule,
+    /// Where the generator of a random schedule begins.
+    pub seed: Option<u64>,
     /// Whether a run has a thread for each place. No other verb looks at it.
     pub threads: bool,
     /// Whether more is said about a fault than its line.

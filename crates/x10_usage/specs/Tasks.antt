@@ -1,5 +1,5 @@
 -- Which tasks there are.
-use Rattle.std.specs.Prelude.{◌≡◌, ◌≤◌, ℕ, Bool, true, false, List, Option, Some, None, Err, Ok, IfSome, is_some, option_map, unwrap_or, if◌then◌else◌, codes}
+use Rattle.std.specs.Prelude.{◌≡◌, ◌≢◌, ◌≤◌, ℕ, Bool, true, false, List, Option, Some, None, Err, Ok, IfSome, is_some, option_map, unwrap_or, if◌then◌else◌, codes}
 use Rattle.std.specs.Str.{bytes_eq}
 use Rattle.std.specs.Str.Parse.{ParsesUnsigned}
 use Rattle.std.specs.declared.num.ParseIntError.{ParseIntError}
@@ -9,6 +9,8 @@ use Rattle.clap.specs.Walk.{rows_of}
 use Rattle.clap.specs.declared.parser.matches.ArgMatches.{ArgMatches}
 use Rattle.clap.specs.declared.parser.matches.Found.{Found}
 use Rattle.x10_model.specs.declared.limits.TheConstants.{MOST_PLACES}
+use Rattle.x10_task.specs.declared.task.Schedule.{Schedule}
+use Rattle.x10_task.specs.declared.task.Schedule.TheVariants as order
 use Rattle.x10_task.specs.declared.task.Task.{Task}
 use Rattle.x10_task.specs.declared.task.Verb.{Verb}
 use Rattle.x10_task.specs.declared.task.Verb.TheVariants as verb
@@ -29,13 +31,15 @@ is_run verb.Trace = true
 is_run verb.Draw = true
 is_run _ = false
 
--- a task has what its command takes: a file to write, a number of places, threads; the numbers are in their ranges
+-- a task has what its command takes: a file to write, a number of places, threads, a schedule; the numbers are in their ranges
 pub record IsTask (t : Task) : Type 0 where
   pub output : is_some t.output ≡ has_output t.verb
   pub places : IfSome t.places (IsOneTo MOST_PLACES)
   pub limit : IsOneTo 1000000000 t.limit
   pub run : is_run t.verb ≡ false → (t.places ≡ None) × (t.limit ≡ 1000000)
   pub threads : t.threads ≡ true → t.verb ≡ verb.Run
+  pub schedule : t.schedule ≢ order.Rounds → (is_run t.verb ≡ true) × (t.threads ≡ false)
+  pub seed : is_some t.seed ≡ true → t.schedule ≡ order.Random
 
 -- ---- how a task is read
 
@@ -50,6 +54,15 @@ verb_named name is_verbose =
     else (if bytes_eq name (codes "trace") then verb.Trace
     else (if bytes_eq name (codes "draw") then verb.Draw
     else verb.Run))))))
+
+-- the schedule of a name; where there is none, rounds, or a random one where there is a seed
+abbrev pub schedule_named : Option (List ℕ) → Bool → Schedule
+schedule_named None has_seed = if has_seed then order.Random else order.Rounds
+schedule_named (Some name) has_seed =
+    if bytes_eq name (codes "random") then order.Random
+    else (if bytes_eq name (codes "oldest") then order.Oldest
+    else (if bytes_eq name (codes "newest") then order.Newest
+    else order.Rounds))
 
 -- the number of so many bits that a text spells, if there is a text and it spells one
 abbrev pub IsNumberIn : ℕ → Option (List ℕ) → Option ℕ → Type 0
@@ -79,5 +92,7 @@ pub record IsReadFrom (m : ArgMatches) (t : Task) : Type 0 where
   pub asked : Option ℕ
   pub is_asked : IsNumberIn 64 (one_text found (codes "limit")) asked
   pub limit_is : t.limit ≡ unwrap_or asked 1000000
+  pub schedule_is : t.schedule ≡ schedule_named (first_value found (codes "schedule")) (is_some t.seed)
+  pub seed_is : IsNumberIn 64 (one_text found (codes "seed")) t.seed
   pub threads_is : IsFlagIn (one_text found (codes "threads")) t.threads
   pub explain_is : IsFlagIn (one_text found (codes "explain")) t.explain

@@ -26,7 +26,7 @@ pub const LIST: &str = "Example:
 
 Exit status:
   0  done
-  1  refused: the image
+  1  refused: the text or image
   2  lack of memory
   3  the command line is wrong
   4  a file can't be read, or the output can't be written";
@@ -46,7 +46,7 @@ pub const VERIFY: &str = "Example:
 
 Exit status:
   0  done
-  1  refused: the image, or its module
+  1  refused: the text or image, or its module
   2  lack of memory
   3  the command line is wrong
   4  a file can't be read, or the output can't be written";
@@ -56,18 +56,19 @@ pub const BOUNDS: &str = "Example:
 
 Exit status:
   0  done
-  1  refused: the image, or its module's structure
+  1  refused: the text or image, or its module's structure
   2  lack of memory
   3  the command line is wrong
   4  a file can't be read, or the output can't be written";
 
 pub const RUN: &str = "Example:
   x10p run examples/seven.x10 --places 4
+  x10p run examples/seven.x10 --places 4 --seed 1
   x10p run examples/seven.x10 --places 4 --threads
 
 Exit status:
   0  done
-  1  refused: the image, its module, or the number of places
+  1  refused: the text or image, its module, or the number of places
   2  stopped: lack of memory or of a thread, a limit of the machine, or --limit
   3  the command line is wrong
   4  a file can't be read, or the output can't be written";
@@ -77,7 +78,7 @@ pub const TRACE: &str = "Example:
 
 Exit status:
   0  done
-  1  refused: the image, its module, or the number of places
+  1  refused: the text or image, its module, or the number of places
   2  stopped: lack of memory, a limit of the machine, or --limit
   3  the command line is wrong
   4  a file can't be read, or the output can't be written";
@@ -87,7 +88,7 @@ pub const DRAW: &str = "Example:
 
 Exit status:
   0  done
-  1  refused: the image, its module, or the number of places
+  1  refused: the text or image, its module, or the number of places
   2  stopped: lack of memory, a limit of the machine, or --limit
   3  the command line is wrong
   4  a file can't be read, or the output can't be written";

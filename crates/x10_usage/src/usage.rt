@@ -1,7 +1,7 @@
 //! What the words of a command line ask for.
-ghost use Rattle.std.specs.Prelude.{◌≡◌, ◌≢◌, IfOk, IfErr, IfSome, IsTrue, None, true, is_some};
+ghost use Rattle.std.specs.Prelude.{◌≡◌, ◌≢◌, IfOk, IfErr, IfSome, IsTrue, None, true, false, is_some, option_map};
 ghost use Rattle.clap.specs.Words.{kind_of};
-ghost use Rattle.x10_usage.specs.Tasks.{IsOneTo, IsReadFrom, IsTask, has_output, verb_named};
+ghost use Rattle.x10_usage.specs.Tasks.{IsOneTo, IsReadFrom, IsTask, has_output, schedule_named, verb_named};
 ghost use Rattle.x10_usage.specs.Tasks as tasks;
 ghost use Rattle.x10_usage.specs.Usages.{IsAnswer, text_of};
 
@@ -10,7 +10,7 @@ use clap::error::ErrorKind;
 use clap::{ArgMatches, Command, Error};
 use std::alloc::{AllocError, Global};
 use x10_model::limits::MOST_PLACES;
-use x10_task::{Task, Verb};
+use x10_task::{Schedule, Task, Verb};
 
 /// What is printed instead of doing something: help that was asked for, or what is wrong with the words.
 #[derive(Debug, Drop)]
@@ -101,7 +101,10 @@ fn matched_by<'a>(command: &mut Command<'a>, words: &'a [String]) -> Result<Task
     let matches = command.try_get_matches_from_mut(words)?;
     match task_of(&matches) {
         Some(task) => Ok(task),
-        None => Err(command.error(ErrorKind::MissingSubcommand, "no command was given")?),
+        None => Err(command.error(
+            ErrorKind::ArgumentConflict,
+            "--seed is for a random schedule alone",
+        )?),
     }
 }
 
@@ -118,12 +121,15 @@ fn task_in<'a>(matches: &ArgMatches<'a>) -> Option<Task<'a>>
     ensures { IfSome result (IsReadFrom matches.now) }
 {
     let (name, matches) = matches.subcommand()?;
+    let seed = matches.get_one("seed");
     Some(Task {
         verb: verb_of(name, matches.get_flag("verbose")),
         input: matches.get_str("INPUT")?,
         output: matches.get_str("OUTPUT"),
         places: matches.get_one("places"),
         limit: matches.get_one("limit").unwrap_or(EVENTS),
+        schedule: schedule_of(matches.get_str("schedule"), seed.is_some()),
+        seed,
         threads: matches.get_flag("threads"),
         explain: matches.get_flag("explain"),
     })
@@ -145,6 +151,20 @@ fn verb_of(name: &str, is_verbose: bool) -> Verb
     }
 }
 
+/// The schedule of a name; where none is given, rounds, or, where a seed is, a random one.
+fn schedule_of(name: Option<&str>, has_seed: bool) -> Schedule
+    ensures { result ≡ schedule_named (option_map (λ s. s.now) name.entry) has_seed }
+{
+    match name {
+        None if has_seed => Schedule::Random,
+        None => Schedule::Rounds,
+        Some("random") => Schedule::Random,
+        Some("oldest") => Schedule::Oldest,
+        Some("newest") => Schedule::Newest,
+        Some(_) => Schedule::Rounds,
+    }
+}
+
 /// Whether a task has what its command takes, with its numbers in their ranges.
 fn is_task(task: &Task) -> bool
     ensures { IsTrue result → IsTask task.now }
@@ -154,6 +174,7 @@ fn is_task(task: &Task) -> bool
         && is_event_count(task.limit)
         && (is_run(task.verb) || has_no_numbers(task))
         && threads_are_for_run(task)
+        && is_schedule(task)
 }
 
 fn writes_as_asked(task: &Task) -> bool
@@ -196,4 +217,17 @@ fn threads_are_for_run(task: &Task) -> bool
     ensures { IsTrue result → task.now.threads ≡ true → task.now.verb ≡ Verb.Run }
 {
     !task.threads || matches!(task.verb, Verb::Run)
+}
+
+/// A schedule is for a run in this thread, and a seed for a random one.
+fn is_schedule(task: &Task) -> bool
+    ensures schedule { IsTrue result → task.now.schedule ≢ Schedule.Rounds → (tasks.is_run task.now.verb ≡ true) × (task.now.threads ≡ false) }
+    ensures seed { IsTrue result → is_some task.now.seed ≡ true → task.now.schedule ≡ Schedule.Random }
+{
+    let runs_here = is_run(task.verb) && !task.threads;
+    match task.schedule {
+        Schedule::Random => runs_here,
+        Schedule::Rounds => task.seed.is_none(),
+        Schedule::Oldest | Schedule::Newest => runs_here && task.seed.is_none(),
+    }
 }

@@ -102,7 +102,7 @@ fn bounds<'a>(alloc: Global) -> Result<Command<'a>, AllocError> {
 
 fn run<'a>(alloc: Global) -> Result<Command<'a>, AllocError> {
     let about = "Verify a module, run it, and print each place's lines, `PLACE: LINE` each";
-    run_words(alloc, "run", about, help::RUN)?.arg(threads(alloc))
+    run_words(alloc, "run", about, help::RUN)?.arg(threads(alloc)?)
 }
 
 fn trace<'a>(alloc: Global) -> Result<Command<'a>, AllocError> {
@@ -155,11 +155,30 @@ fn verbose<'a>(alloc: Global) -> Arg<'a> {
         .action(ArgAction::SetTrue)
 }
 
-fn threads<'a>(alloc: Global) -> Arg<'a> {
+fn threads<'a>(alloc: Global) -> Result<Arg<'a>, AllocError> {
     Arg::new(alloc, "threads")
         .long("threads")
-        .help("A thread for each place; --limit then counts turns of workers")
+        .help("A thread for each place, and no schedule; --limit then counts turns of workers")
         .action(ArgAction::SetTrue)
+        .conflicts_with("schedule")?
+        .conflicts_with("seed")
+}
+
+fn schedule<'a>(alloc: Global) -> Arg<'a> {
+    Arg::new(alloc, "schedule")
+        .long("schedule")
+        .value_name("ORDER")
+        .help("The order of events [default: rounds; with --seed: random]")
+        .value_parser(["rounds", "random", "oldest", "newest"].as_slice())
+}
+
+fn seed<'a>(alloc: Global) -> Arg<'a> {
+    Arg::new(alloc, "seed")
+        .long("seed")
+        .value_name("N")
+        .help("Which random order, 0 to 18446744073709551615")
+        .allow_negative_numbers(true)
+        .value_parser(value_parser!(u64))
 }
 
 fn run_words<'a>(
@@ -174,6 +193,8 @@ fn run_words<'a>(
         .arg(image_name(alloc))?
         .arg(places(alloc))?
         .arg(limit(alloc))?
+        .arg(schedule(alloc))?
+        .arg(seed(alloc))?
         .arg(explain(alloc))
 }
 

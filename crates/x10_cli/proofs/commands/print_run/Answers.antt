@@ -32,15 +32,15 @@ returns-in_err-world-clause-stopped w = λ c.
     rw told.1 (λ s. inl (kept_self (w.O.Write.contents c.args.out.now)))
 
 pub returns-clause-due : goal.returns-clause-due
-returns-clause-due w = λ c. due_unless c.print_rounds.result c.args.task.now.places c.args.bytes.now c.print_rounds.ensures.status
+returns-clause-due w = λ c. due_unless c.print_scheduled.result c.args.task.now.places c.args.bytes.now c.print_scheduled.ensures.status
 
 pub returns-clause-printed : goal.returns-clause-printed
 returns-clause-printed w = λ c.
-    run_printed c.print_rounds.result c.args.bytes.now c.in_ok-verified.verified c.args.task.now.places c.in_ok-world.world c.print_rounds.new.world (w.O.Write.contents c.args.out.now) (w.O.Write.contents c.print_rounds.new.out) c.in_ok-verified.ensures.found c.in_ok-world.ensures.opened c.print_rounds.ensures.runs c.print_rounds.ensures.ended c.print_rounds.ensures.printed
+    run_printed c.print_scheduled.result c.args.bytes.now c.in_ok-verified.verified c.args.task.now.places c.in_ok-world.world c.print_scheduled.new.world (w.O.Write.contents c.args.out.now) (w.O.Write.contents c.print_scheduled.new.out) c.in_ok-verified.ensures.found c.in_ok-world.ensures.opened c.print_scheduled.ensures.runs c.print_scheduled.ensures.ended c.print_scheduled.ensures.printed
 
 pub returns-clause-stopped : goal.returns-clause-stopped
 returns-clause-stopped w = λ c.
-    run_left c.print_rounds.result c.args.bytes.now c.in_ok-verified.verified c.args.task.now.places c.in_ok-world.world c.print_rounds.new.world (w.O.Write.contents c.args.out.now) (w.O.Write.contents c.print_rounds.new.out) c.in_ok-verified.ensures.found c.in_ok-world.ensures.opened c.print_rounds.ensures.runs c.print_rounds.ensures.stopped
+    run_left c.print_scheduled.result c.args.bytes.now c.in_ok-verified.verified c.args.task.now.places c.in_ok-world.world c.print_scheduled.new.world (w.O.Write.contents c.args.out.now) (w.O.Write.contents c.print_scheduled.new.out) c.in_ok-verified.ensures.found c.in_ok-world.ensures.opened c.print_scheduled.ensures.runs c.print_scheduled.ensures.stopped
 
 pub returns-clause-done : goal.returns-clause-done
-returns-clause-done w = λ c. done_by c.print_rounds.result (CanBeDone verb.Run c.args.task.now.places c.args.bytes.now) (c.in_ok-verified.verified, c.in_ok-verified.ensures.found, c.in_ok-world.ensures.permitted)
+returns-clause-done w = λ c. done_by c.print_scheduled.result (CanBeDone verb.Run c.args.task.now.places c.args.bytes.now) (c.in_ok-verified.verified, c.in_ok-verified.ensures.found, c.in_ok-world.ensures.permitted)

@@ -5,8 +5,8 @@ use Rattle.x10_world.proofs.Rounding.{runs_self, runs_on}
 use Rattle.x10_cli.proofs.Printing.{traces_none, traces_more}
 use Rattle.x10_cli.proofs.commands.trace.Goals as goal
 
-pub returns-in_err-rounds-clause-runs : goal.returns-in_err-rounds-clause-runs
-returns-in_err-rounds-clause-runs g = λ c. runs_self c.args.world.now
+pub returns-in_err-scheduler-clause-runs : goal.returns-in_err-scheduler-clause-runs
+returns-in_err-scheduler-clause-runs g = λ c. runs_self c.args.world.now
 
 pub loop-init : goal.loop-init
 loop-init g = λ c. record { runs = runs_self c.args.world.now; traced = traces_none c.args.world.now (g.O.Write.contents c.args.out.now) }
@@ -29,8 +29,8 @@ loop-preserved g = λ c. record {
   traced = traces_more c.args.world.now c.loop.world c.print_event.new.world (g.O.Write.contents c.args.out.now) (g.O.Write.contents c.loop.out) (g.O.Write.contents c.print_event.new.out) c.in-Some.event c.loop.invariant.traced c.in_ok-print_event.ensures.traced c.in_ok-print_event.ensures.made;
 }
 
-pub returns-in_err-rounds-clause-some : goal.returns-in_err-rounds-clause-some
-returns-in_err-rounds-clause-some g = λ c.
+pub returns-in_err-scheduler-clause-some : goal.returns-in_err-scheduler-clause-some
+returns-in_err-scheduler-clause-some g = λ c.
     let told = err_from_is_err_and c.from_residual.result c.from_residual.ensures.1 in
     rw told.1 (inr (c.args.world.now, runs_self c.args.world.now, traces_none c.args.world.now (g.O.Write.contents c.args.out.now)))
 

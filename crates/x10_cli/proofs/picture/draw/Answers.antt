@@ -1,8 +1,8 @@
 use Rattle.x10_world.proofs.Rounding.{runs_self, runs_on}
 use Rattle.x10_cli.proofs.picture.draw.Goals as goal
 
-pub returns-in_err-rounds-clause-runs : goal.returns-in_err-rounds-clause-runs
-returns-in_err-rounds-clause-runs c = runs_self c.args.world.now
+pub returns-in_err-scheduler-clause-runs : goal.returns-in_err-scheduler-clause-runs
+returns-in_err-scheduler-clause-runs c = runs_self c.args.world.now
 
 pub loop-init : goal.loop-init
 loop-init c = runs_self c.args.world.now
