@@ -1,6 +1,10 @@
-; The limit is met while main waits at its FINE and two activities are at work: the lines that were printed until then
-; stand there, and main's isn't among them. With as many events as the run takes it ends well.
+; Main stands at its FINE while two activities print. A FINE that can't go on yet changes nothing and is no step of
+; main, but an event of the run: 12 of the events here. Where the limit is met meanwhile, the lines that were printed
+; until then stand there, and main's isn't among them. With as many events as the run takes it ends well.
 ;
+; $ x10p bounds limit_while_main_waits.x10
+; 0 12
+; 1 9
 ; $ x10p run limit_while_main_waits.x10
 ; 0: 1
 ; 0: 2

@@ -1,8 +1,9 @@
 ; A frame takes along 1,048,576 objects at most. This list has one more: the run stops at the AT, by limit 7.
 ;
-; $ x10p run frame_of_1048577_objects.x10 --limit 4000000
+; $ x10p run --explain frame_of_1048577_objects.x10 --limit 4000000
 ; 0: 3
 ; status 2: stop: Limit 7
+; > There may be 1048576 objects in one frame at most, and the next event would make one more.
 places 2
 class opt:0
 int 3

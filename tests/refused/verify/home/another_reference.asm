@@ -1,4 +1,4 @@
-; IFHERE has asked for the home of register 0, and register 1 is opened.
+; IFHERE has asked for the home of register 0, and register 1 is opened. Put right: opened_anywhere_put_right.asm.
 ;
 ; $ x10p verify another_reference.x10
 ; status 1: verify: Home 3 1

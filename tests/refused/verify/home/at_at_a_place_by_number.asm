@@ -1,4 +1,4 @@
-; Place 1 may be the reference's home, or not.
+; Place 1 may be the reference's home, or not. Put right: call_of_any_reference_put_right.asm.
 ;
 ; $ x10p verify at_at_a_place_by_number.x10
 ; status 1: verify: Home 3 1

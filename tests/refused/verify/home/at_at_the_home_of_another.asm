@@ -1,4 +1,4 @@
-; AT goes to the home of register 1, and takes register 0 along.
+; AT goes to the home of register 1, and takes register 0 along. Put right: call_of_any_reference_put_right.asm.
 ;
 ; $ x10p verify at_at_the_home_of_another.x10
 ; status 1: verify: Home 3 1

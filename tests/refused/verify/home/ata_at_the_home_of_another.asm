@@ -1,4 +1,4 @@
-; The activity begins at the home of register 1, and is given register 0.
+; The activity begins at the home of register 1, and is given register 0. Put right: async_of_any_reference_put_right.asm.
 ;
 ; $ x10p verify ata_at_the_home_of_another.x10
 ; status 1: verify: Home 3 1

@@ -1,4 +1,4 @@
-; The order counts: IFHERE comes after the reference was opened.
+; The order counts: IFHERE comes after the reference was opened. Put right: opened_anywhere_put_right.asm.
 ;
 ; $ x10p verify opened_before_it_is_asked.x10
 ; status 1: verify: Home 3 0
