@@ -380,6 +380,11 @@ pub data IsIdleAt (p : PlaceState) (key : ℕ) : Type 0 where
   waits : (a : StayState) (number : ℕ) (outer : List ℕ) → get p.stays key ≡ Some a → AreOutside p.stays key → IsOperation p.program a.top.function a.top.pc op.Fine
       → a.finishes ≡ number ∷ outer → (IsDoneHere (store_of p) number → ⊥) → IsIdleAt p key
 
+-- the activity with the key can move, and none with a lower key can
+pub record IsFirstAble (p : PlaceState) (key : ℕ) : Type 0 where
+  pub able : IsIdleAt p key → ⊥
+  pub first : (before : ℕ) → before < key → IsIdleAt p before
+
 -- the activity with the key stands at an instruction of a function
 abbrev pub IsAt : Slab StayState → ℕ → ℕ → ℕ → Type 0
 IsAt slab key function pc = (a : StayState) × (get slab key ≡ Some a) × (a.top.function ≡ function) × (a.top.pc ≡ pc)

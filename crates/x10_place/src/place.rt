@@ -1,7 +1,7 @@
 ghost use Rattle.std.specs.Prelude.{◌≡◌, ◌≢◌, ◌==◌, ◌<◌, ◌≤◌, ◌↔◌, ◌⊎◌, ℕ, true, false, IsTrue, IfOk, IfErr, IfSome, MatchOption, MatchResult, Ok, Err, Some, None};
 ghost use Rattle.slab.specs.Slab.{get, slab_len, ContainsKey};
 ghost use Rattle.x10_kinds.specs.declared.stop.Stop.TheVariants as stop;
-ghost use Rattle.x10_place.specs.StandsFor.{PlaceState, store_of, LeadsAll, Keeps, IsIdleAt, IsOverfull, IsHindered, IsAt, IsOperation, inside_at, AreOutside, IsInsider};
+ghost use Rattle.x10_place.specs.StandsFor.{PlaceState, store_of, LeadsAll, Keeps, IsIdleAt, IsOverfull, IsHindered, IsFirstAble, IsAt, IsOperation, inside_at, AreOutside, IsInsider};
 ghost use Rattle.x10_place.specs.Opening.{IsNew, IsNextKey, Opens, keys_of};
 ghost use Rattle.x10_place.specs.Stays.{StayState, IsDoneHere};
 ghost use Rattle.x10_place.specs.Messages.{no_sent as nothing_sent};
@@ -311,6 +311,19 @@ impl<'a> Place<'a> {
             Some(stay) => stay.away || stay.is_waiting(verified, &self.store),
             None => true,
         }
+    }
+
+    /// The least key of an activity that can move; none where none can. Takes what `is_idle` takes for each key that it passes
+    /// over.
+    pub fn first_able(&self) -> Option<usize>
+        ensures { MatchOption result ((key : ℕ) → IsIdleAt self.now key) (IsFirstAble self.now) }
+    {
+        for key in 0..self.stays.capacity() {
+            if !self.is_idle(key) {
+                return Some(key);
+            }
+        }
+        None
     }
 
     /// The lines of output so far.

@@ -1,10 +1,15 @@
 -- Runs that go on after some events.
-use Rattle.std.proofs.Common.{◌≡◌, ◌+◌, ℕ, Result, Ok, Err, subst, arith}
+use Rattle.std.proofs.Common.{◌≡◌, ◌+◌, ℕ, Result, Ok, Err, ap, subst, arith}
 use Rattle.std.specs.Prelude.{IfOk, IfErr}
 use Rattle.x10_world.specs.declared.rounds.Halt.{Halt}
 use Rattle.x10_world.specs.declared.rounds.Halt.TheVariants as halt
 use Rattle.x10_world.specs.StandsForWorld.{WorldState}
-use Rattle.x10_world.specs.Rounds.{RunsIn, IsHalted, GoesOn}
+use Rattle.x10_flights.specs.Flights.{flight_of, flight_among}
+use Rattle.x10_model.specs.declared.event.Event.TheVariants.{Step, Deliver}
+use Rattle.x10_model.proofs.Lists.{none_some}
+use Rattle.x10_place.specs.StandsFor.IsIdleAt.{nobody}
+use Rattle.x10_world.specs.Happenings.{NothingCanHappen}
+use Rattle.x10_world.specs.Rounds.{RunsIn, IsHalted, GoesOn, IsQuiet}
 use Rattle.x10_world.proofs.Rounding.{in_on, cut_on}
 
 -- why no more events were made, after some
@@ -21,3 +26,8 @@ err_on x y z m some limit (Err why) first all h = halted_on x y z m some limit w
 pub ok_on : {T : Type 0} (x y z : WorldState) (m some limit : ℕ) (r : Result T Halt) → RunsIn x m y → m + some ≡ limit → IfOk r (λ _. (n : ℕ) × GoesOn y some n z) → IfOk r (λ _. (n : ℕ) × GoesOn x limit n z)
 ok_on x y z m some limit (Ok t) first all h = (m + h.0, record { few = (let few = h.1.few in omega (arith, all, few)); runs = in_on x y z m h.0 first h.1.runs; goes = h.1.goes })
 ok_on x y z m some limit (Err why) first all h = tt
+
+-- where no activity is anywhere and no frame flies, nothing can happen
+pub quiet_nothing : (x : WorldState) → IsQuiet x → NothingCanHappen x
+quiet_nothing x quiet (Step id key) can = can.2 (nobody (quiet.nobody id can.0 can.1 key))
+quiet_nothing x quiet (Deliver number) can = none_some (flight_of x.flights number) can.0 (ap (λ fs. flight_among fs number) quiet.flying) can.1

@@ -13,9 +13,14 @@ use x10_world::World;
 enum Last {
     /// There was none.
     Nothing,
-    /// A step of the activity at this position of the list, at this place and with this key; whether an activity of the place
-    /// was inside an atomic region before it.
-    Step(usize, u16, usize, bool),
+    Step {
+        /// The position of its activity in the list.
+        at: usize,
+        place: u16,
+        key: usize,
+        /// Whether an activity of the place was inside an atomic region before it.
+        entered: bool,
+    },
     /// A delivery.
     Delivery,
 }
@@ -96,7 +101,12 @@ impl Lot {
         match self.last {
             Last::Nothing => {}
             Last::Delivery => self.wake(),
-            Last::Step(at, place, key, entered) => self.look_at(world, at, place, key, entered),
+            Last::Step {
+                at,
+                place,
+                key,
+                entered,
+            } => self.look_at(world, at, place, key, entered),
         }
         self.last = Last::Nothing;
         if let Some((place, key)) = self.vacant
@@ -157,7 +167,12 @@ impl Lot {
         let (place, key) = self.live.get(at).copied()?;
         let event = Event::Step(place, key);
         if world.can_happen(event) {
-            self.last = Last::Step(at, place, key, world.is_entered(place));
+            self.last = Last::Step {
+                at,
+                place,
+                key,
+                entered: world.is_entered(place),
+            };
             self.vacant = with_place(place, world.vacant_key(place));
             return Some(event);
         }

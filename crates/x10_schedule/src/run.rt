@@ -12,7 +12,8 @@ use x10_world::{Halt, World, run_rounds};
 
 /// Runs a world by a schedule until the run has ended, with at most `limit` events: by rounds idle ones are included, and by the
 /// other schedules there are none. The answer is Limit exactly where `limit` events were made and the last one didn't end the
-/// run. A world that has stopped answers so, and stays as it is.
+/// run. Where nothing can happen and the run has not ended, rounds make the rest. A world that has stopped answers so, and stays
+/// as it is.
 pub fn run_by(alloc: Global, world: &mut World, schedule: Schedule, limit: u64) -> Result<(), Halt>
     ensures runs { RunsTo world.old world.new }
     ensures made { world.old.stopped ≢ true → IfOk result (λ _. (n : ℕ) × GoesOn world.old limit n world.new) }
@@ -21,27 +22,9 @@ pub fn run_by(alloc: Global, world: &mut World, schedule: Schedule, limit: u64) 
     ensures halted { world.old.stopped ≢ true → IfErr result (IsHalted world.old limit world.new) }
     ensures stopped { world.old.stopped ≡ true → (result ≡ Err (halt.Stop stop.Stopped)) × (world.new ≡ world.old) }
 {
-    match schedule {
-        Schedule::Rounds => run_rounds(alloc, world, limit),
-        _ => run_scheduled(alloc, world, schedule, limit),
+    if schedule == Schedule::Rounds {
+        return run_rounds(alloc, world, limit);
     }
-}
-
-/// The same by a schedule that names only what can happen. Where it names nothing and the run has not ended, rounds make the
-/// rest.
-fn run_scheduled(
-    alloc: Global,
-    world: &mut World,
-    schedule: Schedule,
-    limit: u64,
-) -> Result<(), Halt>
-    ensures runs { RunsTo world.old world.new }
-    ensures made { world.old.stopped ≢ true → IfOk result (λ _. (n : ℕ) × GoesOn world.old limit n world.new) }
-    ensures ended { IfOk result (λ _. HasEnded world.new) }
-    ensures closed { IfOk result (λ _. IsClosed world.new.places) }
-    ensures halted { world.old.stopped ≢ true → IfErr result (IsHalted world.old limit world.new) }
-    ensures stopped { world.old.stopped ≡ true → (result ≡ Err (halt.Stop stop.Stopped)) × (world.new ≡ world.old) }
-{
     world.going()?;
     let mut scheduler = Scheduler::new(alloc, world, schedule)?;
     for made in 0..limit {
@@ -49,7 +32,7 @@ fn run_scheduled(
             return run_rounds(alloc, world, limit - made);
         };
         world.make_one(event)?;
-        if world.home_is_empty() && world.closed() {
+        if world.live(0) == 0 && world.closed() {
             return Ok(());
         }
     }

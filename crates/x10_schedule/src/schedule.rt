@@ -1,7 +1,8 @@
 //! In which order the events of a run happen.
-ghost use Rattle.std.specs.Prelude.{◌≡◌, ◌≢◌, IfOk, IfSome};
+ghost use Rattle.std.specs.Prelude.{◌≡◌, ◌≢◌, IfOk, IfSome, None};
 ghost use Rattle.x10_schedule.specs.declared.schedule.Schedule.TheVariants as schedule;
-ghost use Rattle.x10_world.specs.Happenings.{CanHappen};
+ghost use Rattle.x10_world.specs.Happenings.{CanHappen, NothingCanHappen};
+ghost use Rattle.x10_world.specs.Rounds.{IsQuiet};
 
 use crate::lot::Lot;
 use crate::turns::Turns;
@@ -65,17 +66,23 @@ impl Scheduler {
         Ok(Scheduler { order })
     }
 
-    /// The event that comes next; none where none was found that can happen. By rounds it may be an idle one, and none comes
-    /// only where no activity is anywhere and no frame is in flight. Takes memory for keys and numbers of frames.
+    /// The event that comes next; none only where nothing can happen. By rounds it may be an idle one, and none comes only
+    /// where no activity is anywhere and no frame is in flight. Takes memory for keys and numbers of frames.
     pub fn next(&mut self, world: &World) -> Result<Option<Event>, AllocError>
         ensures able { self.old ≢ schedule.Rounds → IfOk result (λ event. IfSome event (CanHappen world.now)) }
+        ensures none { IfOk result (λ event. event ≡ None → NothingCanHappen world.now) }
+        ensures quiet { self.old ≡ schedule.Rounds → IfOk result (λ event. event ≡ None → IsQuiet world.now) }
         ensures kept { self.new ≡ self.old }
     {
-        match &mut self.order {
-            Order::Rounds(rounds) => rounds.next(world),
-            Order::Random(_, lot) => lot.next(world),
-            Order::Oldest(turns) => Ok(turns.next(world, false)),
-            Order::Newest(turns) => Ok(turns.next(world, true)),
+        let named = match &mut self.order {
+            Order::Rounds(rounds) => return rounds.next(world),
+            Order::Random(_, lot) => lot.next(world)?,
+            Order::Oldest(turns) => turns.next(world, false),
+            Order::Newest(turns) => turns.next(world, true),
+        };
+        if named.is_some() {
+            return Ok(named);
         }
+        Ok(world.possible_event())
     }
 }

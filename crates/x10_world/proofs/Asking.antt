@@ -2,6 +2,7 @@
 use Rattle.std.proofs.Common.{◌≡◌, ◌⊎◌, ◌↔◌, ℕ, Bool, true, false, not, List, [], Option, Some, None, refl, sym, ap, subst, ◌∙◌, inl, inr, arith}
 use Rattle.std.specs.Borrow.{Bor}
 use Rattle.std.specs.Prelude.{IsTrue, MatchOption, IfSome, is_some, length, slice_get}
+use Rattle.std.proofs.lemmas.Bool.{eq-eqb, both_ways}
 use Rattle.std.proofs.lemmas.Option.{same_Some, slice_get_within, slice_get-get_or}
 use Rattle.x10_model.specs.Modules.{Module}
 use Rattle.x10_model.specs.declared.event.Event.{Event}
@@ -12,10 +13,11 @@ use Rattle.x10_finish.specs.Watching.{NothingFlies}
 use Rattle.x10_finish.proofs.Watching.{done_is_over, over_is_done}
 use Rattle.x10_place.specs.Stays.{IsDoneHere}
 use Rattle.x10_model.proofs.Lists.{none_some}
-use Rattle.x10_place.specs.StandsFor.{PlaceState, store_of, IsIdleAt}
-use Rattle.x10_flights.specs.Flights.{Flight, flight_of, flight_among}
+use Rattle.x10_place.specs.StandsFor.{PlaceState, store_of, IsIdleAt, IsFirstAble}
+use Rattle.x10_flights.specs.Flights.{Flight, flight_of, flight_among, goes_to, flies_to, IsNext}
+use Rattle.x10_flights.specs.PlaceSets.{has_place}
 use Rattle.x10_world.specs.StandsForWorld.{WorldState, BelongsTo, BelongTo, counts_in, StandsForWorld}
-use Rattle.x10_world.specs.Happenings.{CanHappen}
+use Rattle.x10_world.specs.Happenings.{CanHappen, AllIdle, NoneFlies, NothingCanHappen}
 use Rattle.x10_world.specs.Queries.{IsFlyingTo, IsReportTo}
 use Rattle.x10_world.proofs.Lists.{at_first}
 use Rattle.x10_world.proofs.Moving.{done_in, done_by}
@@ -76,3 +78,44 @@ delivery_can x z event number o t seen is answer e = subst (λ b. IsTrue b ↔ C
     by_answer : (a : Option (ℕ × Bor (List ℕ))) → MatchOption a (flight_of x.flights number ≡ None) (λ f. flight_of x.flights number ≡ Some (record { number = number; to = f.0; bytes = f.1.now })) → IsTrue (is_some a) ↔ CanHappen x (Deliver number)
     by_answer None h = ((λ y. absurd cc), (λ can. absurd (none_some (flight_of x.flights number) can.0 h can.1)))
     by_answer (Some f) h = ((λ y. (record { number = number; to = f.0; bytes = f.1.now }, h)), (λ can. refl))
+
+-- ---- what can happen
+
+-- a frame that flies to a place can be taken in
+pub flies_can : (x : WorldState) (place number : ℕ) → flies_to x.flights.flying place number ≡ true → CanHappen x (Deliver number)
+flies_can x place number flies = by_flight (flight_of x.flights number) refl flies
+  where
+    by_flight : (o : Option Flight) → flight_of x.flights number ≡ o → goes_to place o ≡ true → CanHappen x (Deliver number)
+    by_flight None is goes = absurd cc
+    by_flight (Some f) is goes = (f, is)
+
+-- where none flies to any place, none flies
+pub none_awaited : (x : WorldState) → ((place number : ℕ) → flies_to x.flights.flying place number ≡ false) → NoneFlies x
+none_awaited x none number = by_flight (flight_of x.flights number) refl
+  where
+    by_flight : (o : Option Flight) → flight_of x.flights number ≡ o → flight_of x.flights number ≡ None
+    by_flight None is = is
+    by_flight (Some f) is = absurd (both_ways (flies_to x.flights.flying f.to number) (none f.to number) (ap (goes_to f.to) is ∙ eq-eqb f.to f.to refl))
+
+-- where no activity can move and no frame flies
+pub nothing_can : (x : WorldState) → ((id : ℕ) → AllIdle x id) → NoneFlies x → NothingCanHappen x
+nothing_can x idle none (Step id key) can = can.2 (idle id can.0 can.1 key)
+nothing_can x idle none (Deliver number) can = none_some (flight_of x.flights number) can.0 (none number) can.1
+
+-- what a place answers of the first activity that can move
+pub able_key_is : (x z : WorldState) (id : ℕ) (p : PlaceState) (o : Option ℕ) → x ≡ z → slice_get x.places id ≡ Some p → MatchOption o ((key : ℕ) → IsIdleAt p key) (IsFirstAble p) → MatchOption o (AllIdle z id) (λ key. CanHappen z (Step id key))
+able_key_is x z id p None seen there idle = subst (λ y. AllIdle y id) seen (λ q at key. subst (λ r. IsIdleAt r key) (same_Some p q (sym there ∙ at)) (idle key))
+able_key_is x z id p (Some key) seen there first = subst (λ y. CanHappen y (Step id key)) seen (p, there, first.able)
+
+-- no place waits for a frame
+pub no_frame : (x z : WorldState) (places : ℕ) → x ≡ z → ((id : ℕ) → has_place places id ≡ true ↔ ((n : ℕ) × (flies_to x.flights.flying id n ≡ true))) → IsNext (has_place places) 0 None → NoneFlies z
+no_frame x z places seen waits none = subst NoneFlies seen (none_awaited x (λ id number. silent id number (flies_to x.flights.flying id number) refl))
+  where
+    silent : (id number : ℕ) (b : Bool) → flies_to x.flights.flying id number ≡ b → flies_to x.flights.flying id number ≡ false
+    silent id number false is = is
+    silent id number true is = absurd (both_ways (has_place places id) (none id (omega arith)) ((waits id).1 (number, is)))
+
+-- where no activity can move, it is for the frames
+pub event_is : (x : WorldState) (o : Option Event) → ((id : ℕ) → AllIdle x id) → MatchOption o (NoneFlies x) (CanHappen x) → MatchOption o (NothingCanHappen x) (CanHappen x)
+event_is x None idle none = nothing_can x idle none
+event_is x (Some event) idle can = can

@@ -7,7 +7,9 @@ use Rattle.x10_model.specs.declared.event.Event.TheVariants.{Step, Deliver}
 use Rattle.x10_model.specs.Worlds.{World, Ideal, Happens, Run, done, WithinBounds}
 use Rattle.x10_world.specs.declared.done.Happening.{Happening}
 use Rattle.x10_world.specs.declared.done.Happening.TheVariants as happening
-use Rattle.x10_world.specs.Happenings.{Happened}
+use Rattle.x10_world.specs.Happenings.{Happened, CanHappen}
+use Rattle.x10_flights.specs.Flights.{flight_of}
+use Rattle.x10_model.proofs.Lists.{none_some}
 use Rattle.x10_world.specs.Prompt.{IsPrompt}
 use Rattle.x10_world.specs.StandsForWorld.{WorldState, KeepsSetting, setting_of, StandsForWorld, Makes}
 use Rattle.x10_world.specs.Runs.{IsSame, Follows, Course, rests, RunsThrough, Runs, Reaches, IsHaltedAt, MovesOn, Repeats, RepeatsThrough, IsHaltedStretch}
@@ -28,6 +30,20 @@ not_true false false f g = refl
 pub idle_same : (x y : WorldState) (event : Event) → Happened x.places x.flights event happening.Idle y.places y.flights → KeepsSetting x y → x.stopped ≢ true → y.stopped ≢ true → IsSame x y
 idle_same x y (Step id key) h kept on goes = record { places = h.places_are; flights = h.flights_are; kept = kept; stopped = not_true x.stopped y.stopped on goes }
 idle_same x y (Deliver number) h kept on goes = record { places = h.places_are; flights = h.flights_are; kept = kept; stopped = not_true x.stopped y.stopped on goes }
+
+-- it would have done nothing
+pub idle_not : (x y : WorldState) (event : Event) → Happened x.places x.flights event happening.Idle y.places y.flights → CanHappen x event → ⊥
+idle_not x y (Step id key) h can = can.2 (h.idle can.0 can.1)
+idle_not x y (Deliver number) h can = none_some (flight_of x.flights number) can.0 h.none can.1
+
+-- one that did something could happen
+pub moved_can : (x y : WorldState) (event : Event) → Happened x.places x.flights event happening.Moved y.places y.flights → CanHappen x event
+moved_can x y (Step id key) h = (h.1.place, h.1.is_there, h.1.busy)
+moved_can x y (Deliver number) h = absurd h
+
+pub taken_can : (x y : WorldState) (event : Event) (to : ℕ) → Happened x.places x.flights event (happening.Taken to) y.places y.flights → CanHappen x event
+taken_can x y (Step id key) to h = absurd h
+taken_can x y (Deliver number) to h = (h.flight, h.flying)
 
 -- the run of no event
 abbrev pub through_none : (x : WorldState) (w : World) → StandsForWorld x w → RunsThrough x w [] x

@@ -79,6 +79,18 @@ abbrev pub CanHappen : WorldState → Event → Type 0
 CanHappen x (Step id key) = (p : PlaceState) × (slice_get x.places id ≡ Some p) × (IsIdleAt p key → ⊥)
 CanHappen x (Deliver number) = (f : Flight) × (flight_of x.flights number ≡ Some f)
 
+-- no activity of a place can move
+abbrev pub AllIdle : WorldState → ℕ → Type 0
+AllIdle x id = (p : PlaceState) → slice_get x.places id ≡ Some p → (key : ℕ) → IsIdleAt p key
+
+-- no frame is in flight
+abbrev pub NoneFlies : WorldState → Type 0
+NoneFlies x = (number : ℕ) → flight_of x.flights number ≡ None
+
+-- no event would do anything
+abbrev pub NothingCanHappen : WorldState → Type 0
+NothingCanHappen x = (event : Event) → CanHappen x event → ⊥
+
 -- the activity with a key at a place stands at the instruction with a number of a function, and at an operation
 pub record StandsAt (places : List PlaceState) (id key function pc : ℕ) (op : Op) : Type 0 where
   pub place : PlaceState

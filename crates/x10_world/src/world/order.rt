@@ -3,7 +3,9 @@ ghost use Rattle.std.specs.Prelude.{◌≡◌, ◌≢◌, ◌↔◌, ℕ, true, 
 ghost use Rattle.x10_model.specs.Worlds as machine;
 ghost use Rattle.x10_world.specs.Queries.{IsNoPlace, HasPlace};
 ghost use Rattle.x10_world.specs.StandsForWorld.{StandsForWorld, KeepsSetting};
-ghost use Rattle.x10_world.specs.Happenings.{CanHappen};
+ghost use Rattle.x10_model.specs.declared.event.Event.TheVariants.{Step};
+ghost use Rattle.x10_place.specs.StandsFor.{inside_at};
+ghost use Rattle.x10_world.specs.Happenings.{CanHappen, AllIdle, NoneFlies, NothingCanHappen};
 ghost use Rattle.x10_world.specs.Runs.{IsSame, RunsThrough, StopsAt};
 ghost use Rattle.x10_flights.specs.PlaceSets.{has_place};
 ghost use Rattle.x10_flights.specs.Flights.{flies_to, IsNext};
@@ -23,6 +25,7 @@ impl<'a> World<'a> {
     pub fn make_one(&mut self, event: Event) -> Result<bool, Stop>
         requires { self.old.stopped ≢ true }
         ensures made { IfOk result (λ _. (w : machine.World) → StandsForWorld self.old w → RunsThrough self.old w (event ∷ []) self.new) }
+        ensures acts { IfOk result (λ moved. IsTrue moved ↔ CanHappen self.old event) }
         ensures idle { IfOk result (λ moved. moved ≡ false → IsSame self.old self.new) }
         ensures goes { IfOk result (λ _. self.new.stopped ≢ true) }
         ensures stops { IfErr result (λ why. StopsAt self.old event why self.new) }
@@ -30,7 +33,8 @@ impl<'a> World<'a> {
     {
         match self.happen(event)? {
             Happening::Idle => Ok(false),
-            Happening::Moved | Happening::Taken(_) => Ok(true),
+            Happening::Moved => Ok(true),
+            Happening::Taken(_) => Ok(true),
         }
     }
 }
@@ -38,7 +42,7 @@ impl<'a> World<'a> {
 impl<'a> World<'a> {
     /// Whether no activity is at place 0, as is so where the run has ended. Constant time.
     #[inline(always)]
-    pub fn home_is_empty(&self) -> bool {
+    pub(crate) fn home_is_empty(&self) -> bool {
         match self.places.list().first() {
             Some(place) => place.is_empty(),
             None => true,
@@ -130,6 +134,46 @@ impl<'a> World<'a> {
         }
     }
 
+    /// The least key of an activity of a place that can move; none where none can.
+    fn able_key(&self, place: u16) -> Option<usize>
+        ensures { MatchOption result (AllIdle self.now place) (λ key. CanHappen self.now (Step place key)) }
+    {
+        let place = self.places.list().get(usize::from(place))?;
+        place.first_able()
+    }
+
+    /// The first step that would do something, by place and key.
+    fn possible_step(&self) -> Option<Event>
+        ensures { MatchOption result ((id : ℕ) → AllIdle self.now id) (CanHappen self.now) }
+    {
+        for place in 0..self.count() {
+            if let Some(key) = self.able_key(place) {
+                return Some(Event::Step(place, key));
+            }
+        }
+        None
+    }
+
+    /// The delivery of the frame that was put out first of those in flight to a place.
+    fn possible_delivery(&self) -> Option<Event>
+        ensures { MatchOption result (NoneFlies self.now) (CanHappen self.now) }
+    {
+        let place = self.flights.awaited().first_from(0)?;
+        let number = self.flights.first_to(place)?;
+        Some(Event::Deliver(number))
+    }
+
+    /// An event that can happen; none only where none can: the first step by place and key, and where no activity can move a
+    /// delivery. Takes what `can_happen` takes for each key that was ever in use.
+    pub fn possible_event(&self) -> Option<Event>
+        ensures { MatchOption result (NothingCanHappen self.now) (CanHappen self.now) }
+    {
+        match self.possible_step() {
+            Some(event) => Some(event),
+            None => self.possible_delivery(),
+        }
+    }
+
     /// How many activities are at all places. Linear in the places.
     pub(crate) fn all_live(&self) -> u64 {
         let mut count = 0u64;
@@ -141,7 +185,9 @@ impl<'a> World<'a> {
 
     /// Whether an activity of a place is inside an atomic region. Constant time.
     #[inline(always)]
-    pub fn is_entered(&self, place: u16) -> bool {
+    pub fn is_entered(&self, place: u16) -> bool
+        ensures { IsTrue result ↔ HasPlace self.now.places place (λ p. (key : ℕ) × (inside_at p.stays key ≡ true)) }
+    {
         match self.places.list().get(usize::from(place)) {
             Some(place) => place.inside().is_some(),
             None => false,

@@ -1,6 +1,6 @@
 use Rattle.std.specs.Prelude.{◌≢◌, true}
 use Rattle.x10_world.specs.Rounds.{RunsIn}
-use Rattle.x10_schedule.proofs.run.run_scheduled.Given as goal
+use Rattle.x10_schedule.proofs.run.run_by.Given as goal
 
 abbrev pub invariant-loop-made : goal.invariant-loop-made
 invariant-loop-made l = record {

@@ -3,7 +3,7 @@ use Rattle.x10_world.specs.declared.rounds.Halt.TheVariants as halt
 use Rattle.x10_world.specs.Rounds.{RunsIn}
 use Rattle.x10_world.proofs.Rounding.{err_if, runs_self, runs_on, in_none, in_on, in_one, in_to, cut_to, cut_on, cut_one, cut_is_halt}
 use Rattle.x10_schedule.proofs.Scheduling.{err_on, ok_on}
-use Rattle.x10_schedule.proofs.run.run_scheduled.Goals as goal
+use Rattle.x10_schedule.proofs.run.run_by.Goals as goal
 
 pub returns-in_err-going-clause-runs : goal.returns-in_err-going-clause-runs
 returns-in_err-going-clause-runs c = runs_self c.args.world.now
@@ -24,13 +24,13 @@ pub returns-in_err-event-clause-halted : goal.returns-in_err-event-clause-halted
 returns-in_err-event-clause-halted c = λ on. err_if c.from_residual-in_err-event.result halt.Memory _ c.from_residual-in_err-event.ensures.1 (c.loop-made.made, omega (arith, c.loop-made-test.true), c.loop-made.invariant.runs, c.loop-made.invariant.goes)
 
 pub returns-in_default-clause-runs : goal.returns-in_default-clause-runs
-returns-in_default-clause-runs c = runs_on c.args.world.now c.loop-made.world c.run_rounds.new.world (in_to c.args.world.now c.loop-made.world c.loop-made.made c.loop-made.invariant.runs) c.run_rounds.ensures.runs
+returns-in_default-clause-runs c = runs_on c.args.world.now c.loop-made.world c.run_rounds-in_default.new.world (in_to c.args.world.now c.loop-made.world c.loop-made.made c.loop-made.invariant.runs) c.run_rounds-in_default.ensures.runs
 
 pub returns-in_default-clause-made : goal.returns-in_default-clause-made
-returns-in_default-clause-made c = λ on. ok_on c.args.world.now c.loop-made.world c.run_rounds.new.world c.loop-made.made (c.args.limit - c.loop-made.made) c.args.limit c.run_rounds.result c.loop-made.invariant.runs (omega (arith, c.loop-made-test.true)) (c.run_rounds.ensures.made c.loop-made.invariant.goes)
+returns-in_default-clause-made c = λ on. ok_on c.args.world.now c.loop-made.world c.run_rounds-in_default.new.world c.loop-made.made (c.args.limit - c.loop-made.made) c.args.limit c.run_rounds-in_default.result c.loop-made.invariant.runs (omega (arith, c.loop-made-test.true)) (c.run_rounds-in_default.ensures.made c.loop-made.invariant.goes)
 
 pub returns-in_default-clause-halted : goal.returns-in_default-clause-halted
-returns-in_default-clause-halted c = λ on. err_on c.args.world.now c.loop-made.world c.run_rounds.new.world c.loop-made.made (c.args.limit - c.loop-made.made) c.args.limit c.run_rounds.result c.loop-made.invariant.runs (omega (arith, c.loop-made-test.true)) (c.run_rounds.ensures.halted c.loop-made.invariant.goes)
+returns-in_default-clause-halted c = λ on. err_on c.args.world.now c.loop-made.world c.run_rounds-in_default.new.world c.loop-made.made (c.args.limit - c.loop-made.made) c.args.limit c.run_rounds-in_default.result c.loop-made.invariant.runs (omega (arith, c.loop-made-test.true)) (c.run_rounds-in_default.ensures.halted c.loop-made.invariant.goes)
 
 pub returns-in_err-make_one-clause-runs : goal.returns-in_err-make_one-clause-runs
 returns-in_err-make_one-clause-runs c = runs_on c.args.world.now c.loop-made.world c.make_one.new.self (in_to c.args.world.now c.loop-made.world c.loop-made.made c.loop-made.invariant.runs)
