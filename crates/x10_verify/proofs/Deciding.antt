@@ -10,12 +10,12 @@ use Rattle.x10_model.specs.declared.slot.Slot.{Slot}
 use Rattle.x10_model.specs.Modules.{Function}
 use Rattle.x10_model.specs.Assignments.{State, Point, IsKind, FitsAs, like_if}
 use Rattle.x10_verify.specs.declared.fault.FlowCause.{FlowCause}
-use Rattle.x10_verify.specs.declared.table.Effect.{Effect}
-use Rattle.x10_verify.specs.declared.table.Effect.TheVariants.{Keeps, Sets}
-use Rattle.x10_verify.specs.declared.table.Outcome.TheVariants.{Calls, Starts}
-use Rattle.x10_verify.specs.declared.table.Rule.{Rule}
+use Rattle.x10_code.specs.declared.rule.Effect.{Effect}
+use Rattle.x10_code.specs.declared.rule.Effect.TheVariants.{Keeps, Sets}
+use Rattle.x10_code.specs.declared.rule.Outcome.TheVariants.{Calls, Starts}
+use Rattle.x10_code.specs.declared.rule.Rule.{Rule}
 use Rattle.x10_verify.specs.Effects.{IsNarrow}
-use Rattle.x10_verify.specs.Rules.{Asked, Decides, IsCalled, GivesBack, KindsAre, SlotsAre, Settles, Allows}
+use Rattle.x10_verify.specs.Rules.{IsKindIf, Decides, IsCalled, GivesBack, KindsAre, SlotsAre, Settles, Grants}
 
 pub if_err : {T E : Type 0} {A B : E → Type 0} (r : Result T E) → IfErr r A → ((e : E) → A e → B e) → IfErr r B
 if_err (Ok x) h f = tt
@@ -29,10 +29,10 @@ pub undecided : (P : Effect → Type 0) (r : Result Effect FlowCause) → IsErr 
 undecided P (Ok e) is never = absurd cc
 undecided P (Err c) is never = never
 
--- what was asked, and then settled, is allowed
-pub allowed : (r : Rule) (p : Point) (s : State) (answer : Result Effect FlowCause) → Asked s p.instr.a r.a → Asked s p.instr.b r.b → Asked s p.instr.c r.c → Decides (Settles r.outcome p s) answer → Decides (Allows r p s) answer
-allowed r p s (Ok e) a b c d = record { a = a; b = b; c = c; settles = d }
-allowed r p s (Err x) a b c d = λ e h. d e h.settles
+-- what was asked, and then settled, is granted
+pub granted : (r : Rule) (p : Point) (s : State) (answer : Result Effect FlowCause) → IsKindIf s p.instr.a r.a → IsKindIf s p.instr.b r.b → IsKindIf s p.instr.c r.c → Decides (Settles r.outcome p s) answer → Decides (Grants r p s) answer
+granted r p s (Ok e) a b c d = record { a = a; b = b; c = c; settles = d }
+granted r p s (Err x) a b c d = λ e h. d e h.settles
 
 -- ---- registers one after another
 

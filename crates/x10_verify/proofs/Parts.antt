@@ -12,10 +12,11 @@ use Rattle.x10_code.specs.declared.op.Op.TheVariants as op
 use Rattle.x10_model.specs.declared.slot.Slot.{Slot}
 use Rattle.x10_model.specs.Modules.{Module, Function}
 use Rattle.x10_model.specs.Assignments.{State, Point, Edges, IsKind, FitsAs, KindsFit, SlotsFit, CallsWell, GivesResult, Permits, onward, like_if}
-use Rattle.x10_verify.specs.declared.table.Effect.{Effect}
-use Rattle.x10_verify.specs.declared.table.Effect.TheVariants.{Keeps, Sets, Joins}
-use Rattle.x10_verify.specs.declared.table.Outcome.TheVariants.{Calls}
-use Rattle.x10_verify.specs.Rules.{KindsAre, SlotsAre, IsPlaceTerm, IsCalled, GivesBack, Settles, Allows, field_in, field_of, rule_for, after, edges_of}
+use Rattle.x10_code.specs.declared.rule.Effect.{Effect}
+use Rattle.x10_code.specs.declared.rule.Effect.TheVariants.{Keeps, Sets, Joins}
+use Rattle.x10_code.specs.declared.rule.Outcome.TheVariants.{Calls}
+use Rattle.x10_code.specs.Rules.{rule_for}
+use Rattle.x10_verify.specs.Rules.{KindsAre, SlotsAre, IsPlaceTerm, IsCalled, GivesBack, Settles, Grants, field_in, field_of, after, edges_of}
 
 -- ---- registers one by one
 
@@ -87,8 +88,8 @@ from_call p s e at h = (h.0, (h.1.there, slots_fit s at p.instr.b h.0.parameters
 -- The last line of a list is checked for each operation that isn't named above it: those that make a number of two, of
 -- which a new one needs no line.
 
--- what an operation's rule permits is what its row allows, with the edges of its effect
-pub permits_parts : (o : Op) (p : Point) (s : State) (out : Edges) → Permits o p s out → (e : Effect) × Allows (rule_for o p.instr) p s e × (out ≡ edges_of o p s e)
+-- what an operation's rule permits is what its row grants, with the edges of its effect
+pub permits_parts : (o : Op) (p : Point) (s : State) (out : Edges) → Permits o p s out → (e : Effect) × Grants (rule_for o p.instr) p s e × (out ≡ edges_of o p s e)
 -- numbers
 permits_parts op.Intk p s out h = (Sets kind.Int None, record { a = tt; b = tt; c = tt; settles = refl }, h)
 -- control
@@ -140,7 +141,7 @@ permits_parts op.Print p s out h = (Keeps, record { a = tt; b = tt; c = tt; sett
 permits_parts _ p s out h = (Sets kind.Int None, record { a = tt; b = h.0.0; c = h.0.1; settles = refl }, h.1)
 
 -- and the other way round
-pub parts_permit : (o : Op) (p : Point) (s : State) (e : Effect) → Allows (rule_for o p.instr) p s e → Permits o p s (edges_of o p s e)
+pub parts_permit : (o : Op) (p : Point) (s : State) (e : Effect) → Grants (rule_for o p.instr) p s e → Permits o p s (edges_of o p s e)
 -- numbers
 parts_permit op.Intk p s e g = subst (λ x. Permits op.Intk p s (edges_of op.Intk p s x)) (sym g.settles) refl
 -- control

@@ -11,18 +11,18 @@ use Rattle.x10_model.specs.declared.slot.Slot.{Slot}
 use Rattle.x10_model.specs.Modules.{Module, Function, takes_flag}
 use Rattle.x10_model.specs.Ranges.{function_at}
 use Rattle.x10_model.specs.Assignments.{State, IsBelow, IsKind, IsPlaced, Point, FitsAs, ReturnsWell, like_if, holds_place}
-use Rattle.x10_verify.specs.declared.table.Effect.{Effect}
-use Rattle.x10_verify.specs.declared.table.Effect.TheVariants.{Keeps, Sets, Joins}
-use Rattle.x10_verify.specs.declared.table.Outcome.{Outcome}
-use Rattle.x10_verify.specs.declared.table.Outcome.TheVariants.{Fixed, Copies, Calls, Returns, Makes, Gets, Puts, Unwraps, Locates, Exports, Opens, FindsHere, FindsSame, Starts, Prints}
-use Rattle.x10_verify.specs.declared.table.Rule.{Rule}
-use Rattle.x10_verify.specs.Rules.{Asked, IsPlaceTerm, IsCalled, GivesBack, Settles, Allows, field_of}
+use Rattle.x10_code.specs.declared.rule.Effect.{Effect}
+use Rattle.x10_code.specs.declared.rule.Effect.TheVariants.{Keeps, Sets, Joins}
+use Rattle.x10_code.specs.declared.rule.Outcome.{Outcome}
+use Rattle.x10_code.specs.declared.rule.Outcome.TheVariants.{Fixed, Copies, Calls, Returns, Makes, Gets, Puts, Unwraps, Locates, Exports, Opens, FindsHere, FindsSame, Starts, Prints}
+use Rattle.x10_code.specs.declared.rule.Rule.{Rule}
+use Rattle.x10_verify.specs.Rules.{IsKindIf, IsPlaceTerm, IsCalled, GivesBack, Settles, Grants, field_of}
 use Rattle.x10_verify.specs.Effects.{IsNarrow, StandsFor, IsSoundIn, IsSoundFixed, IsSoundOutcome, Leaves}
 use Rattle.x10_verify.proofs.Below.{IsKind-down}
 
 -- ---- what is asked
 
-asked_down : (s t : State) (r : ℕ) (want : Option Kind) → IsBelow s t → Asked t r want → Asked s r want
+asked_down : (s t : State) (r : ℕ) (want : Option Kind) → IsBelow s t → IsKindIf t r want → IsKindIf s r want
 asked_down s t r None below h = tt
 asked_down s t r (Some k) below h = IsKind-down s t r k below h
 
@@ -220,13 +220,13 @@ settles_sound Prints p s e narrow fit sound h = kept s e Keeps h.1 tt
 
 -- ---- rows
 
-pub allows_down : (r : Rule) (p : Point) (s t : State) (f : Effect) → IsNarrow s → IsBelow s t → Allows r p t f → (e : Effect) × Allows r p s e × Leaves e f
-allows_down r p s t f narrow below h =
+pub grants_down : (r : Rule) (p : Point) (s t : State) (f : Effect) → IsNarrow s → IsBelow s t → Grants r p t f → (e : Effect) × Grants r p s e × Leaves e f
+grants_down r p s t f narrow below h =
     let d = settles_down r.outcome p s t f narrow below h.settles in
     (d.0, record { a = asked_down s t p.instr.a r.a below h.a; b = asked_down s t p.instr.b r.b below h.b; c = asked_down s t p.instr.c r.c below h.c; settles = d.1 }, d.2)
 
-pub allows_once : (r : Rule) (p : Point) (s : State) (e f : Effect) → Allows r p s e → Allows r p s f → e ≡ f
-allows_once r p s e f h g = settles_once r.outcome p s e f h.settles g.settles
+pub grants_once : (r : Rule) (p : Point) (s : State) (e f : Effect) → Grants r p s e → Grants r p s f → e ≡ f
+grants_once r p s e f h g = settles_once r.outcome p s e f h.settles g.settles
 
-pub allows_sound : (r : Rule) (p : Point) (s : State) (e : Effect) → IsNarrow s → ResultsFit p.program → IsSoundOutcome r.outcome → Allows r p s e → IsSoundIn s e
-allows_sound r p s e narrow fit sound h = settles_sound r.outcome p s e narrow fit sound h.settles
+pub grants_sound : (r : Rule) (p : Point) (s : State) (e : Effect) → IsNarrow s → ResultsFit p.program → IsSoundOutcome r.outcome → Grants r p s e → IsSoundIn s e
+grants_sound r p s e narrow fit sound h = settles_sound r.outcome p s e narrow fit sound h.settles

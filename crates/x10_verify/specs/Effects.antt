@@ -6,10 +6,10 @@ use Rattle.x10_kinds.specs.declared.homes.Term.TheVariants as term
 use Rattle.x10_kinds.specs.Kinds.{Fits, has_place}
 use Rattle.x10_kinds.specs.Equations.{IsTerm}
 use Rattle.x10_model.specs.Assignments.{State, IsState, holds_place}
-use Rattle.x10_verify.specs.declared.table.Effect.{Effect}
-use Rattle.x10_verify.specs.declared.table.Effect.TheVariants.{Keeps, Sets, Joins}
-use Rattle.x10_verify.specs.declared.table.Outcome.{Outcome}
-use Rattle.x10_verify.specs.declared.table.Outcome.TheVariants.{Fixed}
+use Rattle.x10_code.specs.declared.rule.Effect.{Effect}
+use Rattle.x10_code.specs.declared.rule.Effect.TheVariants.{Keeps, Sets, Joins}
+use Rattle.x10_code.specs.declared.rule.Outcome.{Outcome}
+use Rattle.x10_code.specs.declared.rule.Outcome.TheVariants.{Fixed}
 
 -- only the 64 registers that there may be are set
 abbrev pub IsNarrow : State → Type 0

@@ -1,5 +1,4 @@
--- The rule of each operation by its parts: the kinds that it asks of its registers, what settles its effect, and where it
--- may lead.
+-- What a row of the rules asks of a state, which effect it has there, and where that leads.
 use Rattle.std.specs.Prelude.{◌≡◌, ℕ, ◌+◌, ◌⊎◌, Bool, true, false, IsTrue, List, [], ◌∷◌, ◌++◌, Option, Some, None, Result, Ok, Err, slice_get}
 use Rattle.x10_kinds.specs.declared.kind.Kind.{Kind}
 use Rattle.x10_kinds.specs.declared.kind.Kind.TheVariants as kind
@@ -8,97 +7,26 @@ use Rattle.x10_kinds.specs.declared.homes.Term.TheVariants as term
 use Rattle.x10_kinds.specs.Kinds.{has_place}
 use Rattle.x10_kinds.specs.Equations.{joined}
 use Rattle.x10_code.specs.declared.op.Op.{Op}
-use Rattle.x10_code.specs.declared.op.Op.TheVariants as op
-use Rattle.x10_code.specs.declared.instr.Instr.{Instr}
 use Rattle.x10_code.specs.Table.{form_of}
+use Rattle.x10_code.specs.Rules.{goes_on_of}
 use Rattle.x10_model.specs.declared.slot.Slot.{Slot}
 use Rattle.x10_model.specs.Modules.{Module, Function}
 use Rattle.x10_model.specs.Ranges.{function_at}
 use Rattle.x10_model.specs.Structure.{is_target}
 use Rattle.x10_model.specs.Assignments.{State, Point, Edges, IsKind, IsPlaced, FitsAs, ReturnsWell, like_if, set}
-use Rattle.x10_verify.specs.declared.table.Effect.{Effect}
-use Rattle.x10_verify.specs.declared.table.Effect.TheVariants.{Keeps, Sets, Joins}
-use Rattle.x10_verify.specs.declared.table.Outcome.{Outcome}
-use Rattle.x10_verify.specs.declared.table.Outcome.TheVariants.{Fixed, Copies, Calls, Returns, Makes, Gets, Puts, Unwraps}
-use Rattle.x10_verify.specs.declared.table.Outcome.TheVariants.{Locates, Exports, Opens, FindsHere, FindsSame, Starts, Prints}
-use Rattle.x10_verify.specs.declared.table.Rule.{Rule}
+use Rattle.x10_code.specs.declared.rule.Effect.{Effect}
+use Rattle.x10_code.specs.declared.rule.Effect.TheVariants.{Keeps, Sets, Joins}
+use Rattle.x10_code.specs.declared.rule.Outcome.{Outcome}
+use Rattle.x10_code.specs.declared.rule.Outcome.TheVariants.{Fixed, Copies, Calls, Returns, Makes, Gets, Puts, Unwraps}
+use Rattle.x10_code.specs.declared.rule.Outcome.TheVariants.{Locates, Exports, Opens, FindsHere, FindsSame, Starts, Prints}
+use Rattle.x10_code.specs.declared.rule.Rule.{Rule}
 use Rattle.x10_verify.specs.declared.fault.FlowCause.{FlowCause}
-
--- ---- the table
-
-abbrev pub row : Option Kind → Option Kind → Option Kind → Outcome → Rule
-row a b c outcome = record { a = a; b = b; c = c; outcome = outcome }
-
-abbrev pub keeps : Outcome
-keeps = Fixed Keeps
-
-abbrev pub sets : Kind → Outcome
-sets k = Fixed (Sets k None)
-
-abbrev pub place_of : Term → Outcome
-place_of t = Fixed (Sets kind.Place (Some t))
-
-abbrev pub rule_for : Op → Instr → Rule
--- numbers
-rule_for op.Intk i = row None None None (sets kind.Int)
-rule_for op.Add i = row None (Some kind.Int) (Some kind.Int) (sets kind.Int)
-rule_for op.Sub i = row None (Some kind.Int) (Some kind.Int) (sets kind.Int)
-rule_for op.Mul i = row None (Some kind.Int) (Some kind.Int) (sets kind.Int)
-rule_for op.Div i = row None (Some kind.Int) (Some kind.Int) (sets kind.Int)
-rule_for op.Rem i = row None (Some kind.Int) (Some kind.Int) (sets kind.Int)
-rule_for op.Lt i = row None (Some kind.Int) (Some kind.Int) (sets kind.Int)
-rule_for op.Eq i = row None (Some kind.Int) (Some kind.Int) (sets kind.Int)
--- control
-rule_for op.Move i = row None None None Copies
-rule_for op.Jmp i = row None None None keeps
-rule_for op.Jz i = row (Some kind.Int) None None keeps
-rule_for op.Loop i = row None None None keeps
-rule_for op.Endl i = row None None None keeps
-rule_for op.Call i = row None None None (Calls term.Here)
-rule_for op.Ret i = row None None None Returns
--- text
-rule_for op.Textk i = row None None None (sets kind.Text)
-rule_for op.Tlen i = row None (Some kind.Text) None (sets kind.Int)
-rule_for op.Tcat i = row None (Some kind.Text) (Some kind.Text) (sets kind.Text)
--- objects
-rule_for op.New i = row None None None Makes
-rule_for op.Get i = row None None None Gets
-rule_for op.Put i = row None None None Puts
-rule_for op.Null i = row None None None (sets (kind.Opt i.x))
-rule_for op.Ifobj i = row None None None Unwraps
--- rails
-rule_for op.Rail i = row None (Some kind.Int) None (sets kind.Rail)
-rule_for op.Rget i = row None (Some kind.Rail) (Some kind.Int) (sets kind.Int)
-rule_for op.Rset i = row (Some kind.Rail) (Some kind.Int) (Some kind.Int) keeps
-rule_for op.Rlen i = row None (Some kind.Rail) None (sets kind.Int)
--- places
-rule_for op.Here i = row None None None (place_of term.Here)
-rule_for op.Placek i = row None None None (place_of (term.Place i.x))
-rule_for op.Placen i = row None (Some kind.Int) None (sets kind.Place)
-rule_for op.Placei i = row None (Some kind.Place) None (sets kind.Int)
-rule_for op.Nextp i = row None (Some kind.Place) None (sets kind.Place)
-rule_for op.Count i = row None None None (sets kind.Int)
-rule_for op.Home i = row None None None Locates
-rule_for op.Gnew i = row None None None Exports
-rule_for op.Gopen i = row None None None Opens
-rule_for op.Ifhere i = row None None None FindsHere
-rule_for op.Ifsame i = row None None None FindsSame
--- activities
-rule_for op.Async i = row None None None (Starts term.Here)
-rule_for op.At i = row None None None (Calls (term.Reg i.c))
-rule_for op.Ata i = row None None None (Starts (term.Reg i.c))
-rule_for op.Finb i = row None None None keeps
-rule_for op.Fine i = row None None None keeps
-rule_for op.Atomb i = row None None None keeps
-rule_for op.Atome i = row None None None keeps
--- output
-rule_for op.Print i = row None None None Prints
 
 -- ---- what a row asks
 
-abbrev pub Asked : State → ℕ → Option Kind → Type 0
-Asked s r None = Unit {0}
-Asked s r (Some want) = IsKind s r want
+abbrev pub IsKindIf : State → ℕ → Option Kind → Type 0
+IsKindIf s r None = Unit {0}
+IsKindIf s r (Some want) = IsKind s r want
 
 -- the field of a class, where there are both
 abbrev pub field_in : Option (List Kind) → ℕ → Option Kind
@@ -155,10 +83,10 @@ Settles (Starts at) p s e = (callee : Function) × IsCalled p s at callee × (ca
 Settles Prints p s e = (IsKind s p.instr.a kind.Int ⊎ IsKind s p.instr.a kind.Text) × (e ≡ Keeps)
 
 -- a row permits the instruction in a state, with this effect
-pub record Allows (r : Rule) (p : Point) (s : State) (e : Effect) : Type 0 where
-  pub a : Asked s p.instr.a r.a
-  pub b : Asked s p.instr.b r.b
-  pub c : Asked s p.instr.c r.c
+pub record Grants (r : Rule) (p : Point) (s : State) (e : Effect) : Type 0 where
+  pub a : IsKindIf s p.instr.a r.a
+  pub b : IsKindIf s p.instr.b r.b
+  pub c : IsKindIf s p.instr.c r.c
   pub settles : Settles r.outcome p s e
 
 -- ---- where it leads
@@ -168,11 +96,6 @@ abbrev pub after : ℕ → State → Effect → State
 after a s Keeps = s
 after a s (Sets kind like) = set s a kind like
 after a s (Joins t u) = record s { homes = joined s.homes t u }
-
-abbrev pub goes_on_of : Op → Bool
-goes_on_of op.Jmp = false
-goes_on_of op.Ret = false
-goes_on_of _ = true
 
 abbrev pub edge_if : Bool → ℕ → State → Edges
 edge_if true pc s = (pc, s) ∷ []

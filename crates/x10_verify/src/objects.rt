@@ -11,8 +11,7 @@ ghost use Rattle.x10_verify.specs.Causes.{AnObject, Fitting, IsCauseOf, IsRefuse
 use crate::fault::FlowCause;
 use crate::known::Known;
 use crate::places::reference;
-use crate::table::{Effect, Outcome};
-use x10_code::Instr;
+use x10_code::{Effect, Instr, Outcome};
 use x10_image::{ClassView, ImageView};
 use x10_kinds::{Kind, Term};
 

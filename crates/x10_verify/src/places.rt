@@ -11,8 +11,7 @@ ghost use Rattle.x10_verify.specs.Causes.{APlaceOrReference, AReference, IsCause
 
 use crate::fault::FlowCause;
 use crate::known::Known;
-use crate::table::{Effect, Outcome};
-use x10_code::Instr;
+use x10_code::{Effect, Instr, Outcome};
 use x10_kinds::{Kind, Term};
 
 /// Whether values of a kind stand for a place.
