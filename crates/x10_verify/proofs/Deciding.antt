@@ -15,7 +15,8 @@ use Rattle.x10_code.specs.declared.rule.Effect.TheVariants.{Keeps, Sets}
 use Rattle.x10_code.specs.declared.rule.Outcome.TheVariants.{Calls, Starts}
 use Rattle.x10_code.specs.declared.rule.Rule.{Rule}
 use Rattle.x10_verify.specs.Effects.{IsNarrow}
-use Rattle.x10_verify.specs.Rules.{IsKindIf, Decides, IsCalled, GivesBack, KindsAre, SlotsAre, Settles, Grants}
+use Rattle.x10_model.specs.Assignments.{IsKindIf, IsCalled, GivesBack, KindsAre, SlotsAre, Settles, Grants}
+use Rattle.x10_verify.specs.Effects.{Decides}
 
 pub if_err : {T E : Type 0} {A B : E → Type 0} (r : Result T E) → IfErr r A → ((e : E) → A e → B e) → IfErr r B
 if_err (Ok x) h f = tt

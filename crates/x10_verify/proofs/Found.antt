@@ -26,11 +26,11 @@ use Rattle.x10_verify.specs.Knowledge.{Follows, entered, handed_on, merged, rest
 use Rattle.x10_verify.specs.Merging.{IsMet}
 use Rattle.x10_verify.specs.Effects.{IsNarrow, CanApply}
 use Rattle.x10_code.specs.Rules.{rule_for, goes_on_of}
-use Rattle.x10_verify.specs.Rules.{IsKindIf, field_of, IsPlaceTerm, IsCalled, GivesBack, Settles, Grants, after}
+use Rattle.x10_model.specs.Assignments.{IsKindIf, field_of, IsPlaceTerm, IsCalled, GivesBack, Settles, Grants, after}
 use Rattle.x10_verify.specs.Causes.{Want, Anything, Fitting, AnObject, AnObjectOrNull, AReference, APlaceOrReference, AnIntOrText, Meets, IsRefused, IsUnfit, HasNoField, IsNoPlace, IsUncalled, IsUnreturned, IsCauseOf, IsCauseAt}
 use Rattle.x10_verify.specs.LawsOfFaults.{CausesRefuteRules, FollowedIsKnown, FoundIsWithout}
 use Rattle.x10_verify.proofs.Below.{entry_cases}
-use Rattle.x10_verify.proofs.Parts.{permits_parts}
+use Rattle.x10_model.proofs.Parts.{permits_parts}
 use Rattle.x10_verify.proofs.Settling.{object_once, grants_sound}
 use Rattle.x10_verify.proofs.Tables.{table_sound, can_apply, results_fit}
 use Rattle.x10_verify.proofs.Solving.{least_on, least_jump, least_never, least_same}

@@ -16,7 +16,7 @@ use Rattle.x10_code.specs.declared.rule.Effect.TheVariants.{Keeps, Sets, Joins}
 use Rattle.x10_code.specs.declared.rule.Outcome.{Outcome}
 use Rattle.x10_code.specs.declared.rule.Outcome.TheVariants.{Fixed, Copies, Calls, Returns, Makes, Gets, Puts, Unwraps, Locates, Exports, Opens, FindsHere, FindsSame, Starts, Prints}
 use Rattle.x10_code.specs.declared.rule.Rule.{Rule}
-use Rattle.x10_verify.specs.Rules.{IsKindIf, IsPlaceTerm, IsCalled, GivesBack, Settles, Grants, field_of}
+use Rattle.x10_model.specs.Assignments.{IsKindIf, IsPlaceTerm, IsCalled, GivesBack, Settles, Grants, field_of}
 use Rattle.x10_verify.specs.Effects.{IsNarrow, StandsFor, IsSoundIn, IsSoundFixed, IsSoundOutcome, Leaves}
 use Rattle.x10_verify.proofs.Below.{IsKind-down}
 

@@ -16,12 +16,12 @@ use Rattle.x10_verify.specs.Knowledge.{LeastAt, SameState, handed_on, merged, re
 use Rattle.x10_verify.specs.Known.{state_of}
 use Rattle.x10_verify.specs.Effects.{IsKept, IsNarrow, IsSoundIn, Leaves}
 use Rattle.x10_code.specs.Rules.{rule_for, goes_on_of}
-use Rattle.x10_verify.specs.Rules.{Grants, after, edge_if, edges_of}
+use Rattle.x10_model.specs.Assignments.{Grants, after, edge_if, edges_of}
 use Rattle.x10_verify.specs.States.{state_in, stated, waits, waits_in, is_waiting, IsMetIn, Arrives}
 use Rattle.x10_verify.specs.Solving.{Holds}
 use Rattle.x10_verify.proofs.Below.{IsBelow-refl, IsBelow-trans, SameState-below}
 use Rattle.x10_verify.proofs.Effects.{after_below}
-use Rattle.x10_verify.proofs.Parts.{permits_parts, parts_permit}
+use Rattle.x10_model.proofs.Parts.{permits_parts, parts_permit}
 use Rattle.x10_verify.proofs.Settling.{grants_down, grants_once}
 use Rattle.x10_model.proofs.Lists.{set_same, none_some, set_here, set_off}
 

@@ -19,14 +19,14 @@ use Rattle.x10_verify.specs.Knowledge.{LeastAt, SameState, point}
 use Rattle.x10_verify.specs.Known.{state_of}
 use Rattle.x10_verify.specs.Effects.{IsKept, IsNarrow, IsSoundIn}
 use Rattle.x10_code.specs.Rules.{rule_for, goes_on_of}
-use Rattle.x10_verify.specs.Rules.{Grants, after, edge_if, edges_of}
+use Rattle.x10_model.specs.Assignments.{Grants, after, edge_if, edges_of}
 use Rattle.x10_verify.specs.States.{Takes, state_if, state_in, stated, waits, waits_in, is_waiting, total}
 use Rattle.x10_verify.specs.declared.fault.FlowCause.TheVariants as flow
 use Rattle.x10_verify.specs.Causes.{IsCauseAt}
 use Rattle.x10_verify.specs.Solving.{Holds, LeadsOut, Shows, Solves, JumpsIf, GoesOnIf, Stops}
 use Rattle.x10_verify.proofs.Below.{IsBelow-trans, SameState-below, SameState-sym}
 use Rattle.x10_verify.proofs.Effects.{after_state}
-use Rattle.x10_verify.proofs.Parts.{parts_permit}
+use Rattle.x10_model.proofs.Parts.{parts_permit}
 use Rattle.x10_verify.proofs.Settling.{grants_sound, ResultsFit}
 use Rattle.x10_verify.proofs.Solving.{Works, Arrived, arrived, works_on, reaches_on, reaches_here, least_on, least_jump, least_never, least_past, least_same}
 use Rattle.x10_verify.proofs.Tables.{table_sound}

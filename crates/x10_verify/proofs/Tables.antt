@@ -18,7 +18,7 @@ use Rattle.x10_code.specs.declared.rule.Effect.{Effect}
 use Rattle.x10_code.specs.declared.rule.Effect.TheVariants.{Keeps, Sets, Joins}
 use Rattle.x10_verify.specs.Named.{IsNamed, IsResultNamed}
 use Rattle.x10_code.specs.Rules.{rule_for}
-use Rattle.x10_verify.specs.Rules.{Grants, GivesBack}
+use Rattle.x10_model.specs.Assignments.{Grants, GivesBack}
 use Rattle.x10_verify.specs.Effects.{IsNarrow, IsSoundIn, IsSoundOutcome, IsTermLike, CanApply}
 use Rattle.x10_verify.proofs.Effects.{stands_term}
 use Rattle.x10_verify.proofs.Settling.{FlagFits, ResultsFit, grants_sound}

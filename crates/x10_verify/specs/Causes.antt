@@ -18,7 +18,7 @@ use Rattle.x10_code.specs.declared.rule.Outcome.TheVariants.{Locates, Exports, O
 use Rattle.x10_code.specs.declared.rule.Rule.{Rule}
 use Rattle.x10_verify.specs.Knowledge.{Follows, point}
 use Rattle.x10_code.specs.Rules.{rule_for}
-use Rattle.x10_verify.specs.Rules.{field_of}
+use Rattle.x10_model.specs.Assignments.{field_of}
 
 -- what is asked of a register
 pub data Want : Type 0 where

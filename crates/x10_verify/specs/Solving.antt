@@ -16,7 +16,7 @@ use Rattle.x10_verify.specs.Knowledge.{LeastAt, SameState, point}
 use Rattle.x10_verify.specs.Known.{state_of}
 use Rattle.x10_verify.specs.Effects.{IsKept, IsNarrow}
 use Rattle.x10_code.specs.Rules.{goes_on_of, rule_for}
-use Rattle.x10_verify.specs.Rules.{after}
+use Rattle.x10_model.specs.Assignments.{after}
 use Rattle.x10_verify.specs.Causes.{IsCauseAt, IsFound}
 use Rattle.x10_verify.specs.States.{Arrives, Receives, stated, waits}
 

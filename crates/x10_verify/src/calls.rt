@@ -8,7 +8,8 @@ ghost use Rattle.x10_model.specs.Modules.{Function};
 ghost use Rattle.x10_model.specs.Modules as modules;
 ghost use Rattle.x10_verify.specs.Known.{state_of};
 ghost use Rattle.x10_verify.specs.Knowledge.{point};
-ghost use Rattle.x10_verify.specs.Rules.{Decides, IsCalled, IsPlaceTerm, Settles, SlotsAre};
+ghost use Rattle.x10_model.specs.Assignments.{IsCalled, IsPlaceTerm, Settles, SlotsAre};
+ghost use Rattle.x10_verify.specs.Effects.{Decides};
 ghost use Rattle.x10_verify.specs.Causes.{IsCauseOf, IsNoPlace, IsUncalled, IsUnfit};
 ghost use Rattle.x10_model.specs.declared.slot.Slot as slots;
 

@@ -5,7 +5,7 @@ ghost use Rattle.x10_model.specs.Assignments.{IsKind, IsState, set};
 ghost use Rattle.x10_verify.specs.Effects.{CanApply, IsNarrow};
 ghost use Rattle.x10_verify.specs.Known.{state_of, kind_in};
 ghost use Rattle.x10_verify.specs.Knowledge.{SameState};
-ghost use Rattle.x10_verify.specs.Rules.{after};
+ghost use Rattle.x10_model.specs.Assignments.{after};
 ghost use Rattle.x10_verify.specs.Causes.{Fitting, IsRefused};
 
 use crate::coded::{Kinds, decode, encode};

@@ -1,7 +1,8 @@
 use Rattle.std.proofs.Common.{subst}
 use Rattle.x10_verify.specs.Known.{state_of}
 use Rattle.x10_verify.specs.Knowledge.{point}
-use Rattle.x10_verify.specs.Rules.{Grants, Decides}
+use Rattle.x10_model.specs.Assignments.{Grants}
+use Rattle.x10_verify.specs.Effects.{Decides}
 use Rattle.x10_verify.proofs.Deciding.{granted}
 use Rattle.x10_verify.proofs.decide.decide.Goals as goal
 

@@ -1,6 +1,6 @@
 -- Each operation's rule and its row of the table say the same.
 use Rattle.std.proofs.Common.{◌≡◌, ℕ, zero, suc, ◌+◌, List, [], ◌∷◌, Option, Some, None, refl, sym, ap, subst, ◌∙◌, arith}
-use Rattle.std.specs.Prelude.{slice_get}
+use Rattle.std.specs.Prelude.{◌↔◌, slice_get}
 use Rattle.std.proofs.lemmas.Option.{same_Some}
 use Rattle.x10_kinds.specs.declared.kind.Kind.{Kind}
 use Rattle.x10_kinds.specs.declared.kind.Kind.TheVariants as kind
@@ -12,11 +12,11 @@ use Rattle.x10_code.specs.declared.op.Op.TheVariants as op
 use Rattle.x10_model.specs.declared.slot.Slot.{Slot}
 use Rattle.x10_model.specs.Modules.{Module, Function}
 use Rattle.x10_model.specs.Assignments.{State, Point, Edges, IsKind, FitsAs, KindsFit, SlotsFit, CallsWell, GivesResult, Permits, onward, like_if}
+use Rattle.x10_model.specs.Assignments.{KindsAre, SlotsAre, IsPlaceTerm, IsCalled, GivesBack, Settles, Grants, PermitsByRow, field_in, field_of, after, edges_of}
 use Rattle.x10_code.specs.declared.rule.Effect.{Effect}
 use Rattle.x10_code.specs.declared.rule.Effect.TheVariants.{Keeps, Sets, Joins}
 use Rattle.x10_code.specs.declared.rule.Outcome.TheVariants.{Calls}
 use Rattle.x10_code.specs.Rules.{rule_for}
-use Rattle.x10_verify.specs.Rules.{KindsAre, SlotsAre, IsPlaceTerm, IsCalled, GivesBack, Settles, Grants, field_in, field_of, after, edges_of}
 
 -- ---- registers one by one
 
@@ -191,3 +191,6 @@ parts_permit op.Atome p s e g = subst (λ x. Permits op.Atome p s (edges_of op.A
 parts_permit op.Print p s e g = (g.settles.0, ap (λ x. edges_of op.Print p s x) g.settles.1)
 -- two numbers to a number
 parts_permit o p s e g = subst (λ x. Permits o p s (edges_of o p s x)) (sym g.settles) ((g.b, g.c), refl)
+
+pub rules_are_rows : (o : Op) (p : Point) (s : State) (out : Edges) → Permits o p s out ↔ PermitsByRow o p s out
+rules_are_rows o p s out = (permits_parts o p s out, λ h. subst (λ x. Permits o p s x) (sym h.2) (parts_permit o p s h.0 h.1))
