@@ -31,4 +31,4 @@ pub mod RelayMoves
 pub mod Relayed
 pub mod Refusals
 pub mod Offsets
-pub mod Parts
+pub mod Rules

@@ -2,13 +2,12 @@
 -- scheme of Kildall without its algorithm.
 use Rattle.std.specs.Prelude.{◌≡◌, ℕ, ◌+◌, ◌<◌, ◌⊎◌, Bool, true, false, IsTrue, List, [], ◌∷◌, ◌++◌, Option, Some, None, if◌then◌else◌, slice_get}
 use Rattle.x10_kinds.specs.declared.kind.Kind.{Kind}
-use Rattle.x10_kinds.specs.declared.kind.Kind.TheVariants.{Int, Place, Text, Rail, Obj, Opt, GRef}
+use Rattle.x10_kinds.specs.declared.kind.Kind.TheVariants.{Int, Place, Text, Obj, Opt, GRef}
 use Rattle.x10_kinds.specs.declared.homes.Term.{Term}
 use Rattle.x10_kinds.specs.declared.homes.Term.TheVariants as term
 use Rattle.x10_kinds.specs.Kinds.{Fits, has_place}
 use Rattle.x10_kinds.specs.Equations.{Equations, IsTerm, IsEquivalence, alone, joined, written}
 use Rattle.x10_code.specs.declared.op.Op.{Op}
-use Rattle.x10_code.specs.declared.op.Op.TheVariants as op
 use Rattle.x10_code.specs.declared.instr.Instr.{Instr}
 use Rattle.x10_code.specs.declared.rule.Effect.{Effect}
 use Rattle.x10_code.specs.declared.rule.Effect.TheVariants.{Keeps, Sets, Joins}
@@ -126,9 +125,9 @@ like_if true t = Some t
 like_if false t = None
 
 -- what becomes of register a after a call: the result, if there is one, is there; else a is 0
-abbrev pub GivesBack : Point → Term → Option Slot → Effect → Type 0
-GivesBack p at None e = (p.instr.a ≡ 0) × (e ≡ Keeps)
-GivesBack p at (Some slot) e = e ≡ Sets slot.kind (like_if slot.home_here at)
+abbrev pub GivesResult : Point → Term → Option Slot → Effect → Type 0
+GivesResult p at None e = (p.instr.a ≡ 0) × (e ≡ Keeps)
+GivesResult p at (Some slot) e = e ≡ Sets slot.kind (like_if slot.home_here at)
 
 -- the function's result is in register a; where it has none, a is 0
 abbrev pub ReturnsWell : Point → State → Option Slot → Type 0
@@ -139,7 +138,7 @@ ReturnsWell p s (Some slot) = FitsAs s term.Here p.instr.a slot
 abbrev pub Settles : Outcome → Point → State → Effect → Type 0
 Settles (Fixed effect) p s e = e ≡ effect
 Settles Copies p s e = (kind : Kind) × (s.kinds p.instr.b ≡ Some kind) × (e ≡ Sets kind (like_if (has_place kind) (term.Reg p.instr.b)))
-Settles (Calls at) p s e = (callee : Function) × IsCalled p s at callee × GivesBack p at callee.result e
+Settles (Calls at) p s e = (callee : Function) × IsCalled p s at callee × GivesResult p at callee.result e
 Settles Returns p s e = ReturnsWell p s p.function.result × (e ≡ Keeps)
 Settles Makes p s e = (kinds : List Kind) × (slice_get p.program.classes p.instr.x ≡ Some kinds)
     × KindsAre s p.instr.b kinds × (e ≡ Sets (Obj p.instr.x) None)
@@ -181,108 +180,8 @@ abbrev pub edges_of : Op → Point → State → Effect → Edges
 edges_of o p s e = edge_if (goes_on_of o) (p.pc + 1) (after p.instr.a s e) ++ edge_if (is_target (form_of o).x) p.instr.x s
 
 -- What an instruction asks of the state before it, by its row, and the states that it gives to those that may follow.
-abbrev pub PermitsByRow : Op → Point → State → Edges → Type 0
-PermitsByRow o p s out = (effect : Effect) × Grants (rule_for o p.instr) p s effect × (out ≡ edges_of o p s effect)
-
--- ---- the rules of operations one by one
-
-abbrev pub onward : Point → State → Edges
-onward p s = (p.pc + 1, s) ∷ []
-
--- goes on, or to x with nothing changed
-abbrev pub onward_or : Point → State → State → Edges
-onward_or p s unchanged = (p.pc + 1, s) ∷ (p.instr.x, unchanged) ∷ []
-
--- writes a kind to register a
-abbrev pub gives : Point → State → Kind → Option Term → State
-gives p s kind like = set s p.instr.a kind like
-
--- two numbers to a number
-abbrev pub AreInts : Point → State → Type 0
-AreInts p s = IsKind s p.instr.b Int × IsKind s p.instr.c Int
-
--- the registers from r on have the kinds
-abbrev pub KindsFit : State → ℕ → List Kind → Type 0
-KindsFit s r [] = Unit {0}
-KindsFit s r (kind ∷ kinds) = IsKind s r kind × KindsFit s (r + 1) kinds
-
--- the registers from r on fit the parameters
-abbrev pub SlotsFit : State → Term → ℕ → List Slot → Type 0
-SlotsFit s at r [] = Unit {0}
-SlotsFit s at r (slot ∷ slots) = FitsAs s at r slot × SlotsFit s at (r + 1) slots
-
--- what is known after a call: the result, if there is one, is in register a; else a is 0
-abbrev pub GivesResult : Point → State → Term → Option Slot → State → Type 0
-GivesResult p s at None t = (p.instr.a ≡ 0) × (t ≡ s)
-GivesResult p s at (Some slot) t = t ≡ gives p s slot.kind (like_if slot.home_here at)
-
--- what function x asks for, at the place of a term
-abbrev pub CallsWell : Point → State → Term → Function → Type 0
-CallsWell p s at callee = (function_at p.program p.instr.x ≡ Some callee) × SlotsFit s at p.instr.b callee.parameters
-
--- What an instruction asks of the state before it, and the states that it gives to those that may follow.
 abbrev pub Permits : Op → Point → State → Edges → Type 0
--- numbers
-Permits op.Intk p s out = out ≡ onward p (gives p s Int None)
-Permits op.Add p s out = AreInts p s × (out ≡ onward p (gives p s Int None))
-Permits op.Sub p s out = AreInts p s × (out ≡ onward p (gives p s Int None))
-Permits op.Mul p s out = AreInts p s × (out ≡ onward p (gives p s Int None))
-Permits op.Div p s out = AreInts p s × (out ≡ onward_or p (gives p s Int None) s)
-Permits op.Rem p s out = AreInts p s × (out ≡ onward_or p (gives p s Int None) s)
-Permits op.Lt p s out = AreInts p s × (out ≡ onward p (gives p s Int None))
-Permits op.Eq p s out = AreInts p s × (out ≡ onward p (gives p s Int None))
--- control
-Permits op.Move p s out = (kind : Kind) × (s.kinds p.instr.b ≡ Some kind) × (out ≡ onward p (gives p s kind (like_if (has_place kind) (term.Reg p.instr.b))))
-Permits op.Jmp p s out = out ≡ (p.instr.x, s) ∷ []
-Permits op.Jz p s out = IsKind s p.instr.a Int × (out ≡ onward_or p s s)
-Permits op.Loop p s out = out ≡ onward p s
-Permits op.Endl p s out = out ≡ onward_or p s s
-Permits op.Call p s out = (callee : Function) × (t : State) × CallsWell p s term.Here callee × GivesResult p s term.Here callee.result t × (out ≡ onward p t)
-Permits op.Ret p s out = ReturnsWell p s p.function.result × (out ≡ [])
--- text
-Permits op.Textk p s out = out ≡ onward p (gives p s Text None)
-Permits op.Tlen p s out = IsKind s p.instr.b Text × (out ≡ onward p (gives p s Int None))
-Permits op.Tcat p s out = IsKind s p.instr.b Text × IsKind s p.instr.c Text × (out ≡ onward_or p (gives p s Text None) s)
--- objects
-Permits op.New p s out = (kinds : List Kind) × (slice_get p.program.classes p.instr.x ≡ Some kinds) × KindsFit s p.instr.b kinds
-    × (out ≡ onward p (gives p s (Obj p.instr.x) None))
-Permits op.Get p s out = (class : ℕ) × (kinds : List Kind) × (kind : Kind) × IsKind s p.instr.b (Obj class) × (slice_get p.program.classes class ≡ Some kinds)
-    × (slice_get kinds p.instr.c ≡ Some kind) × (out ≡ onward p (gives p s kind None))
-Permits op.Put p s out = (class : ℕ) × (kinds : List Kind) × (kind : Kind) × IsKind s p.instr.a (Obj class) × (slice_get p.program.classes class ≡ Some kinds)
-    × (slice_get kinds p.instr.c ≡ Some kind) × IsKind s p.instr.b kind × (out ≡ onward p s)
-Permits op.Null p s out = out ≡ onward p (gives p s (Opt p.instr.x) None)
-Permits op.Ifobj p s out = (class : ℕ) × IsKind s p.instr.b (Opt class) × (out ≡ onward_or p (gives p s (Obj class) None) s)
--- rails
-Permits op.Rail p s out = IsKind s p.instr.b Int × (out ≡ onward_or p (gives p s Rail None) s)
-Permits op.Rget p s out = IsKind s p.instr.b Rail × IsKind s p.instr.c Int × (out ≡ onward_or p (gives p s Int None) s)
-Permits op.Rset p s out = IsKind s p.instr.a Rail × IsKind s p.instr.b Int × IsKind s p.instr.c Int × (out ≡ onward_or p s s)
-Permits op.Rlen p s out = IsKind s p.instr.b Rail × (out ≡ onward p (gives p s Int None))
--- places
-Permits op.Here p s out = out ≡ onward p (gives p s Place (Some term.Here))
-Permits op.Placek p s out = out ≡ onward p (gives p s Place (Some (term.Place p.instr.x)))
-Permits op.Placen p s out = IsKind s p.instr.b Int × (out ≡ onward_or p (gives p s Place None) s)
-Permits op.Placei p s out = IsKind s p.instr.b Place × (out ≡ onward p (gives p s Int None))
-Permits op.Nextp p s out = IsKind s p.instr.b Place × (out ≡ onward p (gives p s Place None))
-Permits op.Count p s out = out ≡ onward p (gives p s Int None)
-Permits op.Home p s out = (class : ℕ) × IsKind s p.instr.b (GRef class) × (out ≡ onward p (gives p s Place (Some (term.Reg p.instr.b))))
-Permits op.Gnew p s out = (class : ℕ) × IsKind s p.instr.b (Obj class) × (out ≡ onward p (gives p s (GRef class) (Some term.Here)))
-Permits op.Gopen p s out = (class : ℕ) × IsKind s p.instr.b (GRef class) × IsTrue (s.homes (term.Reg p.instr.b) term.Here)
-    × (out ≡ onward p (gives p s (Obj class) None))
-Permits op.Ifhere p s out = IsPlaced s p.instr.a × (out ≡ onward_or p (record s { homes = joined s.homes (term.Reg p.instr.a) term.Here }) s)
-Permits op.Ifsame p s out = IsPlaced s p.instr.a × IsPlaced s p.instr.b
-    × (out ≡ onward_or p (record s { homes = joined s.homes (term.Reg p.instr.a) (term.Reg p.instr.b) }) s)
--- activities
-Permits op.Async p s out = (callee : Function) × CallsWell p s term.Here callee × (callee.result ≡ None) × (out ≡ onward p s)
-Permits op.At p s out = (callee : Function) × (t : State) × IsKind s p.instr.c Place × CallsWell p s (term.Reg p.instr.c) callee
-    × GivesResult p s (term.Reg p.instr.c) callee.result t × (out ≡ onward p t)
-Permits op.Ata p s out = (callee : Function) × IsKind s p.instr.c Place × CallsWell p s (term.Reg p.instr.c) callee × (callee.result ≡ None)
-    × (out ≡ onward p s)
-Permits op.Finb p s out = out ≡ onward p s
-Permits op.Fine p s out = out ≡ onward p s
-Permits op.Atomb p s out = out ≡ onward p s
-Permits op.Atome p s out = out ≡ onward p s
--- output
-Permits op.Print p s out = (IsKind s p.instr.a Int ⊎ IsKind s p.instr.a Text) × (out ≡ onward p s)
+Permits o p s out = (effect : Effect) × Grants (rule_for o p.instr) p s effect × (out ≡ edges_of o p s effect)
 
 -- ---- assignments
 

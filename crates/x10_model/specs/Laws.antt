@@ -17,7 +17,6 @@ use Rattle.x10_model.specs.Marshalling.{message_of}
 use Rattle.x10_model.specs.Logs.{Turn, events_of}
 use Rattle.x10_model.specs.Worlds.{World, IsWithin, Governs, Rule, Happens, GoesWrong}
 use Rattle.x10_model.specs.declared.event.Event.{Event}
-use Rattle.x10_model.specs.Assignments.{State, Point, Edges, Permits, PermitsByRow}
 use Rattle.x10_model.specs.Totals.{Totals, Happening, Did, Took, totals_after, totals_from, is_last, is_reported, Cut, IsBalanced, is_balanced}
 
 -- what stands within a finish that stands within another stands within that one too
@@ -99,7 +98,3 @@ BalanceIsTested = (places : ℕ) (cut : Cut) → IsTrue (is_balanced places cut)
 -- what happens at an event is not wrong
 abbrev pub EventsAreNotWrong : Type 0
 EventsAreNotWrong = (rule : Rule) (setting : Setting) (w v : World) (event : Event) → Happens rule setting w event v → GoesWrong setting w event → ⊥
-
--- an operation's rule permits what its row allows, with the edges of the row's effect
-abbrev pub RulesAreRows : Type 0
-RulesAreRows = (o : Op) (p : Point) (s : State) (out : Edges) → Permits o p s out ↔ PermitsByRow o p s out

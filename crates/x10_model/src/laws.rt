@@ -1,4 +1,4 @@
-ghost use Rattle.x10_model.specs.Laws.{EnclosingIsTransitive, GoverningIsTransitive, MovesAreNotWrong, DeliveriesAreNotWrong, ReadyIsAbleOrWrong, ArrivedIsTakenOrMisfit, BalanceIsTested, EventsAreNotWrong, TotalsGoOn, ReportsAreDue, LogsGoOn, FramesCarryTo, RulesAreRows};
+ghost use Rattle.x10_model.specs.Laws.{EnclosingIsTransitive, GoverningIsTransitive, MovesAreNotWrong, DeliveriesAreNotWrong, ReadyIsAbleOrWrong, ArrivedIsTakenOrMisfit, BalanceIsTested, EventsAreNotWrong, TotalsGoOn, ReportsAreDue, LogsGoOn, FramesCarryTo};
 
 /// Enclosing is transitive: what is inside a finish that is inside another one is inside that one too.
 pub fn enclosing_is_transitive()
@@ -60,9 +60,4 @@ pub fn logs_go_on()
 /// Where a frame carries a message, it goes to the message's receiver.
 pub fn frames_carry_to()
     ensures { FramesCarryTo }
-{}
-
-/// An operation's rule says what its row says: each permits what the other does.
-pub fn rules_are_rows()
-    ensures { RulesAreRows }
 {}

@@ -15,7 +15,7 @@ use Rattle.x10_code.specs.declared.rule.Effect.TheVariants.{Keeps, Sets}
 use Rattle.x10_code.specs.declared.rule.Outcome.TheVariants.{Calls, Starts}
 use Rattle.x10_code.specs.declared.rule.Rule.{Rule}
 use Rattle.x10_verify.specs.Effects.{IsNarrow}
-use Rattle.x10_model.specs.Assignments.{IsKindIf, IsCalled, GivesBack, KindsAre, SlotsAre, Settles, Grants}
+use Rattle.x10_model.specs.Assignments.{IsKindIf, IsCalled, GivesResult, KindsAre, SlotsAre, Settles, Grants}
 use Rattle.x10_verify.specs.Effects.{Decides}
 
 pub if_err : {T E : Type 0} {A B : E → Type 0} (r : Result T E) → IfErr r A → ((e : E) → A e → B e) → IfErr r B
@@ -68,16 +68,16 @@ same_callee : (p : Point) (s : State) (at : Term) (f g : Function) → IsCalled 
 same_callee p s at f g a b = same_Some f g (sym a.there ∙ b.there)
 
 pub calls_some : (p : Point) (s : State) (at : Term) (signature : Signature) (slot : Slot) → Found p s at signature → signature.result ≡ Some slot → Settles (Calls at) p s (Sets slot.kind (like_if slot.home_here at))
-calls_some p s at signature slot h e = (h.0, h.1, subst (λ o. GivesBack p at o (Sets slot.kind (like_if slot.home_here at))) (sym (result_is signature h.0 (Some slot) h.2 e)) refl)
+calls_some p s at signature slot h e = (h.0, h.1, subst (λ o. GivesResult p at o (Sets slot.kind (like_if slot.home_here at))) (sym (result_is signature h.0 (Some slot) h.2 e)) refl)
 
 pub calls_none : (p : Point) (s : State) (at : Term) (signature : Signature) → Found p s at signature → signature.result ≡ None → p.instr.a ≡ 0 → Settles (Calls at) p s Keeps
-calls_none p s at signature h e a = (h.0, h.1, subst (λ o. GivesBack p at o Keeps) (sym (result_is signature h.0 None h.2 e)) (a, refl))
+calls_none p s at signature h e a = (h.0, h.1, subst (λ o. GivesResult p at o Keeps) (sym (result_is signature h.0 None h.2 e)) (a, refl))
 
 pub calls_bad : (p : Point) (s : State) (at : Term) (signature : Signature) → Found p s at signature → signature.result ≡ None → (p.instr.a ≡ 0 → ⊥) → (e : Effect) → Settles (Calls at) p s e → ⊥
 calls_bad p s at signature h e a f g =
     let same = same_callee p s at g.0 h.0 g.1 h.1 in
     let none : g.0.result ≡ None = ap (λ (x : Function). x.result) same ∙ result_is signature h.0 None h.2 e in
-    a (subst (λ o. GivesBack p at o f) none g.2).0
+    a (subst (λ o. GivesResult p at o f) none g.2).0
 
 pub starts_none : (p : Point) (s : State) (at : Term) (signature : Signature) → Found p s at signature → signature.result ≡ None → Settles (Starts at) p s Keeps
 starts_none p s at signature h e = (h.0, h.1, result_is signature h.0 None h.2 e, refl)

@@ -26,11 +26,10 @@ use Rattle.x10_verify.specs.Knowledge.{Follows, entered, handed_on, merged, rest
 use Rattle.x10_verify.specs.Merging.{IsMet}
 use Rattle.x10_verify.specs.Effects.{IsNarrow, CanApply}
 use Rattle.x10_code.specs.Rules.{rule_for, goes_on_of}
-use Rattle.x10_model.specs.Assignments.{IsKindIf, field_of, IsPlaceTerm, IsCalled, GivesBack, Settles, Grants, after}
+use Rattle.x10_model.specs.Assignments.{IsKindIf, field_of, IsPlaceTerm, IsCalled, GivesResult, Settles, Grants, after}
 use Rattle.x10_verify.specs.Causes.{Want, Anything, Fitting, AnObject, AnObjectOrNull, AReference, APlaceOrReference, AnIntOrText, Meets, IsRefused, IsUnfit, HasNoField, IsNoPlace, IsUncalled, IsUnreturned, IsCauseOf, IsCauseAt}
 use Rattle.x10_verify.specs.LawsOfFaults.{CausesRefuteRules, FollowedIsKnown, FoundIsWithout}
 use Rattle.x10_verify.proofs.Below.{entry_cases}
-use Rattle.x10_model.proofs.Parts.{permits_parts}
 use Rattle.x10_verify.proofs.Settling.{object_once, grants_sound}
 use Rattle.x10_verify.proofs.Tables.{table_sound, can_apply, results_fit}
 use Rattle.x10_verify.proofs.Solving.{least_on, least_jump, least_never, least_same}
@@ -67,7 +66,7 @@ uncalled_not at p s why callee (inr (inr (other, n, slot, there, is, h))) c =
     let same : other ≡ callee = same_Some other callee (sym there ∙ c.there) in
     unfit_not s at (p.instr.b + n) slot why h (c.arguments n slot (subst (λ (g : Function). slice_get g.parameters n ≡ Some slot) same is))
 
-given_not : (p : Point) (at : Term) (o : Option Slot) (e : Effect) → o ≡ None → (p.instr.a ≡ 0 → ⊥) → GivesBack p at o e → ⊥
+given_not : (p : Point) (at : Term) (o : Option Slot) (e : Effect) → o ≡ None → (p.instr.a ≡ 0 → ⊥) → GivesResult p at o e → ⊥
 given_not p at None e none other g = other g.0
 given_not p at (Some slot) e none other g = absurd cc
 
@@ -141,9 +140,7 @@ granted_not row p s why e (inl (r, want, inr (inr at), h)) g = asked_not s r p.i
 granted_not row p s why e (inr h) g = settled_not row.outcome p s why e h g.settles
 
 pub causes_refute_rules : CausesRefuteRules
-causes_refute_rules p s why out cause permits =
-    let parts = permits_parts p.instr.op p s out permits in
-    granted_not (rule_for p.instr.op p.instr) p s why parts.0 cause parts.1
+causes_refute_rules p s why out cause permits = granted_not (rule_for p.instr.op p.instr) p s why permits.0 cause permits.1
 
 -- ---- what follows
 
@@ -175,9 +172,8 @@ passed_entry m f function fits there = record {
 
 passed_edge : (m : Module) (f : ℕ) (function : Function) (pc : ℕ) (s : State) (instr : Instr) (out : Edges) (edge : ℕ × State) → FitsImage m → AreInRange m → function_at m f ≡ Some function
     → IsPassed m function pc s → slice_get function.code pc ≡ Some instr → Permits instr.op (point m function pc instr) s out → IsIn edge out → IsPassed m function edge.0 edge.1
-passed_edge m f function pc s instr out edge fits range there passed is permits leads =
+passed_edge m f function pc s instr out edge fits range there passed is parts leads =
     let p = point m function pc instr in
-    let parts = permits_parts instr.op p s out permits in
     let results = results_fit m fits in
     let named = has_names m f fits range pc instr (ap (λ o. instr_in o pc) there ∙ is) in
     let sound = grants_sound (rule_for instr.op instr) p s parts.0 passed.narrow results (table_sound instr.op instr named.small.place) parts.1 in

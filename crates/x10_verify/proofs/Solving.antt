@@ -21,7 +21,6 @@ use Rattle.x10_verify.specs.States.{state_in, stated, waits, waits_in, is_waitin
 use Rattle.x10_verify.specs.Solving.{Holds}
 use Rattle.x10_verify.proofs.Below.{IsBelow-refl, IsBelow-trans, SameState-below}
 use Rattle.x10_verify.proofs.Effects.{after_below}
-use Rattle.x10_model.proofs.Parts.{permits_parts, parts_permit}
 use Rattle.x10_verify.proofs.Settling.{grants_down, grants_once}
 use Rattle.x10_model.proofs.Lists.{set_same, none_some, set_here, set_off}
 
@@ -35,8 +34,7 @@ rule_at program function at s instr narrow is least states consistent =
     let l = least.below states consistent in
     let h = consistent.permitted at l.0 l.1 in
     let same : h.0 ≡ instr = same_Some h.0 instr (sym h.2 ∙ is) in
-    let permits : Permits instr.op (point program function at instr) l.0 h.1 = subst (λ (i : Instr). Permits i.op (point program function at i) l.0 h.1) same h.3 in
-    let parts = permits_parts instr.op (point program function at instr) l.0 h.1 permits in
+    let parts : Permits instr.op (point program function at instr) l.0 h.1 = subst (λ (i : Instr). Permits i.op (point program function at i) l.0 h.1) same h.3 in
     let down = grants_down (rule_for instr.op instr) (point program function at instr) s l.0 parts.0 narrow l.2 parts.1 in
     (l.0, parts.0, down.0, l.2, down.1, down.2, λ edge m. h.4 edge (subst (λ out. IsIn edge out) (sym parts.2) m))
 
@@ -52,7 +50,7 @@ edge_second a false pc x s t e = absurd cc
 pub least_on : (program : Module) (function : Function) (at : ℕ) (s : State) (instr : Instr) (e : Effect) → IsNarrow s → slice_get function.code at ≡ Some instr → LeastAt program function at s
     → Grants (rule_for instr.op instr) (point program function at instr) s e → IsSoundIn s e → goes_on_of instr.op ≡ true → LeastAt program function (at + 1) (after instr.a s e)
 least_on program function at s instr e narrow is least grants sound on = record {
-  follows = handed_on at s instr (edges_of instr.op (point program function at instr) s e) (at + 1, after instr.a s e) least.follows is (parts_permit instr.op (point program function at instr) s e grants)
+  follows = handed_on at s instr (edges_of instr.op (point program function at instr) s e) (at + 1, after instr.a s e) least.follows is (e, grants, refl)
       (edge_first (goes_on_of instr.op) (at + 1) (after instr.a s e) (edge_if (is_target (form_of instr.op).x) instr.x s) on);
   below = λ states consistent. (
       let r = rule_at program function at s instr narrow is least states consistent in
@@ -65,7 +63,7 @@ least_on program function at s instr e narrow is least grants sound on = record 
 pub least_jump : (program : Module) (function : Function) (at : ℕ) (s : State) (instr : Instr) (e : Effect) → IsNarrow s → slice_get function.code at ≡ Some instr → LeastAt program function at s
     → Grants (rule_for instr.op instr) (point program function at instr) s e → is_target (form_of instr.op).x ≡ true → LeastAt program function instr.x s
 least_jump program function at s instr e narrow is least grants jumps = record {
-  follows = handed_on at s instr (edges_of instr.op (point program function at instr) s e) (instr.x, s) least.follows is (parts_permit instr.op (point program function at instr) s e grants)
+  follows = handed_on at s instr (edges_of instr.op (point program function at instr) s e) (instr.x, s) least.follows is (e, grants, refl)
       (edge_second (goes_on_of instr.op) (is_target (form_of instr.op).x) (at + 1) instr.x (after instr.a s e) s jumps);
   below = λ states consistent. (
       let r = rule_at program function at s instr narrow is least states consistent in

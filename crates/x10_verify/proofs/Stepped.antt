@@ -26,7 +26,6 @@ use Rattle.x10_verify.specs.Causes.{IsCauseAt}
 use Rattle.x10_verify.specs.Solving.{Holds, LeadsOut, Shows, Solves, JumpsIf, GoesOnIf, Stops}
 use Rattle.x10_verify.proofs.Below.{IsBelow-trans, SameState-below, SameState-sym}
 use Rattle.x10_verify.proofs.Effects.{after_state}
-use Rattle.x10_model.proofs.Parts.{parts_permit}
 use Rattle.x10_verify.proofs.Settling.{grants_sound, ResultsFit}
 use Rattle.x10_verify.proofs.Solving.{Works, Arrived, arrived, works_on, reaches_on, reaches_here, least_on, least_jump, least_never, least_past, least_same}
 use Rattle.x10_verify.proofs.Tables.{table_sound}
@@ -181,7 +180,7 @@ finishes program function at s instr effect next table is grants p = record {
     holds : (t : State) → stated table at ≡ Some t → waits table at ≡ false → Holds program function (stated table) at t
     holds t e w = elim p.works.own [
       | inr waiting ↦ absurd (let f = waiting in cc)
-      | inl own ↦ subst (λ x. Holds program function (stated table) at x) (same_Some s t (sym own ∙ e)) (instr, edges_of instr.op (point program function at instr) s effect, is, parts_permit instr.op (point program function at instr) s effect grants, reached)
+      | inl own ↦ subst (λ x. Holds program function (stated table) at x) (same_Some s t (sym own ∙ e)) (instr, edges_of instr.op (point program function at instr) s effect, is, (effect, grants, refl), reached)
     ]
 
 -- ---- the whole step

@@ -18,7 +18,7 @@ use Rattle.x10_code.specs.declared.rule.Effect.{Effect}
 use Rattle.x10_code.specs.declared.rule.Effect.TheVariants.{Keeps, Sets, Joins}
 use Rattle.x10_verify.specs.Named.{IsNamed, IsResultNamed}
 use Rattle.x10_code.specs.Rules.{rule_for}
-use Rattle.x10_model.specs.Assignments.{Grants, GivesBack}
+use Rattle.x10_model.specs.Assignments.{Grants, GivesResult}
 use Rattle.x10_verify.specs.Effects.{IsNarrow, IsSoundIn, IsSoundOutcome, IsTermLike, CanApply}
 use Rattle.x10_verify.proofs.Effects.{stands_term}
 use Rattle.x10_verify.proofs.Settling.{FlagFits, ResultsFit, grants_sound}
@@ -30,7 +30,7 @@ table_sound op.Here i named = refl
 table_sound _ i named = tt
 
 -- what becomes of register a after a call
-called_writes : (p : Point) (at : Term) (o : Option Slot) (k : Kind) (like : Option Term) → GivesBack p at o (Sets k like) → IsResultNamed o p.instr.a → p.instr.a < 64
+called_writes : (p : Point) (at : Term) (o : Option Slot) (k : Kind) (like : Option Term) → GivesResult p at o (Sets k like) → IsResultNamed o p.instr.a → p.instr.a < 64
 called_writes p at None k like g named = absurd (let e = g.1 in cc)
 called_writes p at (Some slot) k like g named = named
 
