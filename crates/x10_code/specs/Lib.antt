@@ -1,3 +1,4 @@
 pub mod Table
 pub mod Spelling
 pub mod Laws
+pub mod Rules

@@ -6,6 +6,7 @@ mod instr;
 pub mod laws;
 mod op;
 mod operands;
+mod rule;
 mod spelling;
 mod table;
 
@@ -13,5 +14,6 @@ pub use groups::Group;
 pub use instr::{CodeFault, Instr};
 pub use op::Op;
 pub use operands::{Form, Operand};
+pub use rule::{Effect, Outcome, Rule, goes_on, rule_of};
 pub use spelling::{decode, decode_slice, encode, has_spelling};
 pub use table::{code, form, group, name, op_named, op_with_code};

@@ -4,11 +4,11 @@ use crate::phrase::are_same;
 use crate::rule::outcome_and_row;
 use crate::source::Source;
 use crate::want::Want;
-use x10_code::Instr;
+use x10_code::{Instr, Outcome};
 use x10_image::{ClassView, ImageView, SigView};
 use x10_kinds::{Kind, Term};
 use x10_model::Slot;
-use x10_verify::{Flow, Outcome, VerifyCause};
+use x10_verify::{Flow, VerifyCause};
 
 /// What a register is asked for.
 #[derive(Clone, Copy, Debug, PartialEq, Eq)]

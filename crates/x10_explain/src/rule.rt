@@ -1,11 +1,10 @@
 //! The verifier's row of an instruction, and what it writes.
 ghost use Rattle.std.specs.Prelude.{IsTrue};
-ghost use Rattle.x10_verify.specs.Named.{NamesSmall};
+ghost use Rattle.x10_code.specs.Rules.{NamesSmall};
 
 use crate::lack::callee;
-use x10_code::{Instr, Operand, form};
+use x10_code::{Effect, Instr, Operand, Outcome, Rule, form, rule_of};
 use x10_image::ImageView;
-use x10_verify::{Effect, Outcome, Rule, rule_of};
 
 /// The row of an instruction, where its class or place is one that can exist.
 pub(crate) fn outcome_and_row(instr: Instr) -> Option<Rule> {

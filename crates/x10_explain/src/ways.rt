@@ -4,10 +4,10 @@ use crate::head::instr_in;
 use crate::phrase::are_same;
 use crate::rule::outcome_and_row;
 use std::alloc::{AllocError, Global};
-use x10_code::{Instr, Op, Operand, form};
+use x10_code::{Instr, Operand, Outcome, form, goes_on};
 use x10_image::ImageView;
 use x10_kinds::Term;
-use x10_verify::{Flow, Outcome};
+use x10_verify::Flow;
 
 /// The jumps that the flow takes to an instruction: how many, and from where the first of them goes.
 #[derive(Clone, Copy, Debug, PartialEq, Eq)]
@@ -32,11 +32,6 @@ pub(crate) enum Way {
 /// Whether an instruction goes to another one than the next.
 pub(crate) fn jumps_to(instr: Instr, target: usize) -> bool {
     form(instr.op).x == Operand::Target && instr.x as usize == target
-}
-
-/// Whether an instruction may go on to the next one.
-pub(crate) fn goes_on(instr: Instr) -> bool {
-    !matches!(instr.op, Op::Jmp | Op::Ret)
 }
 
 /// The jumps to each instruction of a function. One pass; 4 bytes for each instruction.
@@ -80,7 +75,7 @@ pub(crate) fn before(image: &ImageView, flow: &Flow, f: usize, pc: usize) -> Opt
         return None;
     }
     let instr = instr_in(image, f, pc - 1)?;
-    if goes_on(instr) { Some(instr) } else { None }
+    if goes_on(instr.op) { Some(instr) } else { None }
 }
 
 /// How the flow comes to an instruction.

@@ -31,3 +31,4 @@ pub mod RelayMoves
 pub mod Relayed
 pub mod Refusals
 pub mod Offsets
+pub mod Rules

@@ -1,19 +1,27 @@
 -- What is known of the registers before an instruction, and when that is consistent over a whole function: the data-flow
 -- scheme of Kildall without its algorithm.
-use Rattle.std.specs.Prelude.{◌≡◌, ℕ, ◌+◌, ◌<◌, ◌⊎◌, Bool, true, false, IsTrue, List, [], ◌∷◌, Option, Some, None, if◌then◌else◌, slice_get}
+use Rattle.std.specs.Prelude.{◌≡◌, ℕ, ◌+◌, ◌<◌, ◌⊎◌, Bool, true, false, IsTrue, List, [], ◌∷◌, ◌++◌, Option, Some, None, if◌then◌else◌, slice_get}
 use Rattle.x10_kinds.specs.declared.kind.Kind.{Kind}
-use Rattle.x10_kinds.specs.declared.kind.Kind.TheVariants.{Int, Place, Text, Rail, Obj, Opt, GRef}
+use Rattle.x10_kinds.specs.declared.kind.Kind.TheVariants.{Int, Place, Text, Obj, Opt, GRef}
 use Rattle.x10_kinds.specs.declared.homes.Term.{Term}
 use Rattle.x10_kinds.specs.declared.homes.Term.TheVariants as term
 use Rattle.x10_kinds.specs.Kinds.{Fits, has_place}
 use Rattle.x10_kinds.specs.Equations.{Equations, IsTerm, IsEquivalence, alone, joined, written}
 use Rattle.x10_code.specs.declared.op.Op.{Op}
-use Rattle.x10_code.specs.declared.op.Op.TheVariants as op
 use Rattle.x10_code.specs.declared.instr.Instr.{Instr}
+use Rattle.x10_code.specs.declared.rule.Effect.{Effect}
+use Rattle.x10_code.specs.declared.rule.Effect.TheVariants.{Keeps, Sets, Joins}
+use Rattle.x10_code.specs.declared.rule.Outcome.{Outcome}
+use Rattle.x10_code.specs.declared.rule.Outcome.TheVariants.{Fixed, Copies, Calls, Returns, Makes, Gets, Puts, Unwraps}
+use Rattle.x10_code.specs.declared.rule.Outcome.TheVariants.{Locates, Exports, Opens, FindsHere, FindsSame, Starts, Prints}
+use Rattle.x10_code.specs.declared.rule.Rule.{Rule}
+use Rattle.x10_code.specs.Table.{form_of}
+use Rattle.x10_code.specs.Rules.{rule_for, goes_on_of}
 use Rattle.x10_model.specs.Maps.{IsIn, with_entry}
 use Rattle.x10_model.specs.Modules.{Module, Function}
 use Rattle.x10_model.specs.declared.slot.Slot.{Slot}
 use Rattle.x10_model.specs.Ranges.{function_at, IsInRange}
+use Rattle.x10_model.specs.Structure.{is_target}
 
 -- the kinds of registers, where they are known, and which places are known to be the same
 pub record State : Type 0 where
@@ -68,121 +76,112 @@ Edges = List (ℕ × State)
 abbrev pub set : State → ℕ → Kind → Option Term → State
 set s r kind like = record { kinds = with_entry s.kinds r (Some kind); homes = written s.homes r like }
 
-abbrev pub onward : Point → State → Edges
-onward p s = (p.pc + 1, s) ∷ []
+-- ---- what a row asks
 
--- goes on, or to x with nothing changed
-abbrev pub onward_or : Point → State → State → Edges
-onward_or p s unchanged = (p.pc + 1, s) ∷ (p.instr.x, unchanged) ∷ []
+-- a register that a row asks for a kind is set to one that fits
+abbrev pub IsKindIf : State → ℕ → Option Kind → Type 0
+IsKindIf s r None = Unit {0}
+IsKindIf s r (Some want) = IsKind s r want
 
--- writes a kind to register a
-abbrev pub gives : Point → State → Kind → Option Term → State
-gives p s kind like = set s p.instr.a kind like
+-- the register holds a place, or a reference with a home
+abbrev pub IsPlaced : State → ℕ → Type 0
+IsPlaced s r = IsKind s r Place ⊎ ((class : ℕ) × IsKind s r (GRef class))
 
--- two numbers to a number
-abbrev pub AreInts : Point → State → Type 0
-AreInts p s = IsKind s p.instr.b Int × IsKind s p.instr.c Int
+-- the registers from r on have the kinds, one by one
+abbrev pub KindsAre : State → ℕ → List Kind → Type 0
+KindsAre s r kinds = (n : ℕ) (want : Kind) → slice_get kinds n ≡ Some want → IsKind s (r + n) want
+
+-- the register has the slot's kind, and its home is the place of a term where the slot asks for that
+abbrev pub FitsAs : State → Term → ℕ → Slot → Type 0
+FitsAs s at r slot = IsKind s r slot.kind × (IsTrue slot.home_here → IsTrue (s.homes (term.Reg r) at))
+
+-- the registers from r on fit the slots, one by one
+abbrev pub SlotsAre : State → Term → ℕ → List Slot → Type 0
+SlotsAre s at r slots = (n : ℕ) (slot : Slot) → slice_get slots n ≡ Some slot → FitsAs s at (r + n) slot
+
+-- field c of a class, where there are both
+abbrev pub field_in : Option (List Kind) → ℕ → Option Kind
+field_in None c = None
+field_in (Some kinds) c = slice_get kinds c
+
+abbrev pub field_of : Module → ℕ → ℕ → Option Kind
+field_of m class c = field_in (slice_get m.classes class) c
+
+-- a term that a call goes by is here, or the place in a register
+abbrev pub IsPlaceTerm : State → Term → Type 0
+IsPlaceTerm s term.Here = Unit {0}
+IsPlaceTerm s (term.Place p) = ⊥
+IsPlaceTerm s (term.Reg r) = IsKind s r Place
+
+-- what function x asks for is met at the place of a term
+pub record IsCalled (p : Point) (s : State) (at : Term) (callee : Function) : Type 0 where
+  pub place : IsPlaceTerm s at
+  pub there : function_at p.program p.instr.x ≡ Some callee
+  pub arguments : SlotsAre s at p.instr.b callee.parameters
 
 -- where a kind stands for a place, the term whose place it has
 abbrev pub like_if : Bool → Term → Option Term
 like_if true t = Some t
 like_if false t = None
 
--- the register holds a place, or a reference with a home
-abbrev pub IsPlaced : State → ℕ → Type 0
-IsPlaced s r = IsKind s r Place ⊎ ((class : ℕ) × IsKind s r (GRef class))
-
--- the registers from r on have the kinds
-abbrev pub KindsFit : State → ℕ → List Kind → Type 0
-KindsFit s r [] = Unit {0}
-KindsFit s r (kind ∷ kinds) = IsKind s r kind × KindsFit s (r + 1) kinds
-
--- the register has the slot's kind, and its home is the place of a term where the slot asks for that
-abbrev pub FitsAs : State → Term → ℕ → Slot → Type 0
-FitsAs s at r slot = IsKind s r slot.kind × (IsTrue slot.home_here → IsTrue (s.homes (term.Reg r) at))
-
--- the registers from r on fit the parameters
-abbrev pub SlotsFit : State → Term → ℕ → List Slot → Type 0
-SlotsFit s at r [] = Unit {0}
-SlotsFit s at r (slot ∷ slots) = FitsAs s at r slot × SlotsFit s at (r + 1) slots
-
--- what is known after a call: the result, if there is one, is in register a; else a is 0
-abbrev pub GivesResult : Point → State → Term → Option Slot → State → Type 0
-GivesResult p s at None t = (p.instr.a ≡ 0) × (t ≡ s)
-GivesResult p s at (Some slot) t = t ≡ gives p s slot.kind (like_if slot.home_here at)
+-- what becomes of register a after a call: the result, if there is one, is there; else a is 0
+abbrev pub GivesResult : Point → Term → Option Slot → Effect → Type 0
+GivesResult p at None e = (p.instr.a ≡ 0) × (e ≡ Keeps)
+GivesResult p at (Some slot) e = e ≡ Sets slot.kind (like_if slot.home_here at)
 
 -- the function's result is in register a; where it has none, a is 0
 abbrev pub ReturnsWell : Point → State → Option Slot → Type 0
 ReturnsWell p s None = p.instr.a ≡ 0
 ReturnsWell p s (Some slot) = FitsAs s term.Here p.instr.a slot
 
--- what function x asks for, at the place of a term
-abbrev pub CallsWell : Point → State → Term → Function → Type 0
-CallsWell p s at callee = (function_at p.program p.instr.x ≡ Some callee) × SlotsFit s at p.instr.b callee.parameters
+-- what an outcome asks, and its effect
+abbrev pub Settles : Outcome → Point → State → Effect → Type 0
+Settles (Fixed effect) p s e = e ≡ effect
+Settles Copies p s e = (kind : Kind) × (s.kinds p.instr.b ≡ Some kind) × (e ≡ Sets kind (like_if (has_place kind) (term.Reg p.instr.b)))
+Settles (Calls at) p s e = (callee : Function) × IsCalled p s at callee × GivesResult p at callee.result e
+Settles Returns p s e = ReturnsWell p s p.function.result × (e ≡ Keeps)
+Settles Makes p s e = (kinds : List Kind) × (slice_get p.program.classes p.instr.x ≡ Some kinds)
+    × KindsAre s p.instr.b kinds × (e ≡ Sets (Obj p.instr.x) None)
+Settles Gets p s e = (class : ℕ) × (field : Kind) × IsKind s p.instr.b (Obj class) × (field_of p.program class p.instr.c ≡ Some field)
+    × (e ≡ Sets field None)
+Settles Puts p s e = (class : ℕ) × (field : Kind) × IsKind s p.instr.a (Obj class) × (field_of p.program class p.instr.c ≡ Some field)
+    × IsKind s p.instr.b field × (e ≡ Keeps)
+Settles Unwraps p s e = (class : ℕ) × IsKind s p.instr.b (Opt class) × (e ≡ Sets (Obj class) None)
+Settles Locates p s e = (class : ℕ) × IsKind s p.instr.b (GRef class) × (e ≡ Sets Place (Some (term.Reg p.instr.b)))
+Settles Exports p s e = (class : ℕ) × IsKind s p.instr.b (Obj class) × (e ≡ Sets (GRef class) (Some term.Here))
+Settles Opens p s e = (class : ℕ) × IsKind s p.instr.b (GRef class) × IsTrue (s.homes (term.Reg p.instr.b) term.Here)
+    × (e ≡ Sets (Obj class) None)
+Settles FindsHere p s e = IsPlaced s p.instr.a × (e ≡ Joins (term.Reg p.instr.a) term.Here)
+Settles FindsSame p s e = IsPlaced s p.instr.a × IsPlaced s p.instr.b × (e ≡ Joins (term.Reg p.instr.a) (term.Reg p.instr.b))
+Settles (Starts at) p s e = (callee : Function) × IsCalled p s at callee × (callee.result ≡ None) × (e ≡ Keeps)
+Settles Prints p s e = (IsKind s p.instr.a Int ⊎ IsKind s p.instr.a Text) × (e ≡ Keeps)
 
--- What an instruction asks of the state before it, and the states that it gives to those that may follow.
+-- a row grants the instruction in a state, with this effect
+pub record Grants (r : Rule) (p : Point) (s : State) (e : Effect) : Type 0 where
+  pub a : IsKindIf s p.instr.a r.a
+  pub b : IsKindIf s p.instr.b r.b
+  pub c : IsKindIf s p.instr.c r.c
+  pub settles : Settles r.outcome p s e
+
+-- ---- where it leads
+
+-- the state after an effect, which writes register a if it writes one
+abbrev pub after : ℕ → State → Effect → State
+after a s Keeps = s
+after a s (Sets kind like) = set s a kind like
+after a s (Joins t u) = record s { homes = joined s.homes t u }
+
+abbrev pub edge_if : Bool → ℕ → State → Edges
+edge_if true pc s = (pc, s) ∷ []
+edge_if false pc s = []
+
+-- to the next instruction with the effect, and to x with the state as it was
+abbrev pub edges_of : Op → Point → State → Effect → Edges
+edges_of o p s e = edge_if (goes_on_of o) (p.pc + 1) (after p.instr.a s e) ++ edge_if (is_target (form_of o).x) p.instr.x s
+
+-- What an instruction asks of the state before it, by its row, and the states that it gives to those that may follow.
 abbrev pub Permits : Op → Point → State → Edges → Type 0
--- numbers
-Permits op.Intk p s out = out ≡ onward p (gives p s Int None)
-Permits op.Add p s out = AreInts p s × (out ≡ onward p (gives p s Int None))
-Permits op.Sub p s out = AreInts p s × (out ≡ onward p (gives p s Int None))
-Permits op.Mul p s out = AreInts p s × (out ≡ onward p (gives p s Int None))
-Permits op.Div p s out = AreInts p s × (out ≡ onward_or p (gives p s Int None) s)
-Permits op.Rem p s out = AreInts p s × (out ≡ onward_or p (gives p s Int None) s)
-Permits op.Lt p s out = AreInts p s × (out ≡ onward p (gives p s Int None))
-Permits op.Eq p s out = AreInts p s × (out ≡ onward p (gives p s Int None))
--- control
-Permits op.Move p s out = (kind : Kind) × (s.kinds p.instr.b ≡ Some kind) × (out ≡ onward p (gives p s kind (like_if (has_place kind) (term.Reg p.instr.b))))
-Permits op.Jmp p s out = out ≡ (p.instr.x, s) ∷ []
-Permits op.Jz p s out = IsKind s p.instr.a Int × (out ≡ onward_or p s s)
-Permits op.Loop p s out = out ≡ onward p s
-Permits op.Endl p s out = out ≡ onward_or p s s
-Permits op.Call p s out = (callee : Function) × (t : State) × CallsWell p s term.Here callee × GivesResult p s term.Here callee.result t × (out ≡ onward p t)
-Permits op.Ret p s out = ReturnsWell p s p.function.result × (out ≡ [])
--- text
-Permits op.Textk p s out = out ≡ onward p (gives p s Text None)
-Permits op.Tlen p s out = IsKind s p.instr.b Text × (out ≡ onward p (gives p s Int None))
-Permits op.Tcat p s out = IsKind s p.instr.b Text × IsKind s p.instr.c Text × (out ≡ onward_or p (gives p s Text None) s)
--- objects
-Permits op.New p s out = (kinds : List Kind) × (slice_get p.program.classes p.instr.x ≡ Some kinds) × KindsFit s p.instr.b kinds
-    × (out ≡ onward p (gives p s (Obj p.instr.x) None))
-Permits op.Get p s out = (class : ℕ) × (kinds : List Kind) × (kind : Kind) × IsKind s p.instr.b (Obj class) × (slice_get p.program.classes class ≡ Some kinds)
-    × (slice_get kinds p.instr.c ≡ Some kind) × (out ≡ onward p (gives p s kind None))
-Permits op.Put p s out = (class : ℕ) × (kinds : List Kind) × (kind : Kind) × IsKind s p.instr.a (Obj class) × (slice_get p.program.classes class ≡ Some kinds)
-    × (slice_get kinds p.instr.c ≡ Some kind) × IsKind s p.instr.b kind × (out ≡ onward p s)
-Permits op.Null p s out = out ≡ onward p (gives p s (Opt p.instr.x) None)
-Permits op.Ifobj p s out = (class : ℕ) × IsKind s p.instr.b (Opt class) × (out ≡ onward_or p (gives p s (Obj class) None) s)
--- rails
-Permits op.Rail p s out = IsKind s p.instr.b Int × (out ≡ onward_or p (gives p s Rail None) s)
-Permits op.Rget p s out = IsKind s p.instr.b Rail × IsKind s p.instr.c Int × (out ≡ onward_or p (gives p s Int None) s)
-Permits op.Rset p s out = IsKind s p.instr.a Rail × IsKind s p.instr.b Int × IsKind s p.instr.c Int × (out ≡ onward_or p s s)
-Permits op.Rlen p s out = IsKind s p.instr.b Rail × (out ≡ onward p (gives p s Int None))
--- places
-Permits op.Here p s out = out ≡ onward p (gives p s Place (Some term.Here))
-Permits op.Placek p s out = out ≡ onward p (gives p s Place (Some (term.Place p.instr.x)))
-Permits op.Placen p s out = IsKind s p.instr.b Int × (out ≡ onward_or p (gives p s Place None) s)
-Permits op.Placei p s out = IsKind s p.instr.b Place × (out ≡ onward p (gives p s Int None))
-Permits op.Nextp p s out = IsKind s p.instr.b Place × (out ≡ onward p (gives p s Place None))
-Permits op.Count p s out = out ≡ onward p (gives p s Int None)
-Permits op.Home p s out = (class : ℕ) × IsKind s p.instr.b (GRef class) × (out ≡ onward p (gives p s Place (Some (term.Reg p.instr.b))))
-Permits op.Gnew p s out = (class : ℕ) × IsKind s p.instr.b (Obj class) × (out ≡ onward p (gives p s (GRef class) (Some term.Here)))
-Permits op.Gopen p s out = (class : ℕ) × IsKind s p.instr.b (GRef class) × IsTrue (s.homes (term.Reg p.instr.b) term.Here)
-    × (out ≡ onward p (gives p s (Obj class) None))
-Permits op.Ifhere p s out = IsPlaced s p.instr.a × (out ≡ onward_or p (record s { homes = joined s.homes (term.Reg p.instr.a) term.Here }) s)
-Permits op.Ifsame p s out = IsPlaced s p.instr.a × IsPlaced s p.instr.b
-    × (out ≡ onward_or p (record s { homes = joined s.homes (term.Reg p.instr.a) (term.Reg p.instr.b) }) s)
--- activities
-Permits op.Async p s out = (callee : Function) × CallsWell p s term.Here callee × (callee.result ≡ None) × (out ≡ onward p s)
-Permits op.At p s out = (callee : Function) × (t : State) × IsKind s p.instr.c Place × CallsWell p s (term.Reg p.instr.c) callee
-    × GivesResult p s (term.Reg p.instr.c) callee.result t × (out ≡ onward p t)
-Permits op.Ata p s out = (callee : Function) × IsKind s p.instr.c Place × CallsWell p s (term.Reg p.instr.c) callee × (callee.result ≡ None)
-    × (out ≡ onward p s)
-Permits op.Finb p s out = out ≡ onward p s
-Permits op.Fine p s out = out ≡ onward p s
-Permits op.Atomb p s out = out ≡ onward p s
-Permits op.Atome p s out = out ≡ onward p s
--- output
-Permits op.Print p s out = (IsKind s p.instr.a Int ⊎ IsKind s p.instr.a Text) × (out ≡ onward p s)
+Permits o p s out = (effect : Effect) × Grants (rule_for o p.instr) p s effect × (out ≡ edges_of o p s effect)
 
 -- ---- assignments
 

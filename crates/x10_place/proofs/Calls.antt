@@ -20,7 +20,8 @@ use Rattle.x10_model.specs.Signatures.{HasHome, FitsSlotAt, FitSlots}
 use Rattle.x10_model.specs.Places as machine
 use Rattle.x10_model.specs.Places.{Setting, Finish, Stay, innermost, innermost_of, Works, Begins, with_stay, next}
 use Rattle.x10_model.specs.Moves.{Situation, Does, HoldsFrom, place_of, entry_frame, new_stay}
-use Rattle.x10_model.specs.Assignments.{State, Edges, SlotsFit, FitsAs, parameter_kind, entry_state, Permits}
+use Rattle.x10_model.specs.Assignments.{State, Edges, SlotsAre, FitsAs, parameter_kind, entry_state, Permits}
+use Rattle.x10_model.proofs.Rules.{first_slot, next_slots}
 use Rattle.x10_verify.proofs.Wholes.{function_fits}
 use Rattle.x10_place.specs.declared.frame.CallFrame.{CallFrame}
 use Rattle.x10_heap.specs.Heaps.{HeapState}
@@ -88,11 +89,11 @@ kind_is : (slot : Slot) (want : Kind) → parameter_kind (Some slot) ≡ Some wa
 kind_is slot want e = same_Some slot.kind want e
 
 module _ (classes : ℕ) (x : Context) (cells : Cells) (holds : HoldsHeap x cells) (sit : Situation) (s : State) (words : List ℕ) (typed : HoldRegisters x s sit.stay.top.registers words) (homes : AreHomes x.here s.homes sit.stay.top.registers) (to : Term) (there : ℕ) (stands : IsTermOf x sit.stay.top.registers to there) where
-  passes_words : (r : ℕ) (slots : List Slot) → r + length slots ≤ 64 → AllByRecursion (FitsSlot classes) slots → SlotsFit s to r slots → (vs : List Value) × PassesWords x cells there sit words r slots vs
+  passes_words : (r : ℕ) (slots : List Slot) → r + length slots ≤ 64 → AllByRecursion (FitsSlot classes) slots → SlotsAre s to r slots → (vs : List Value) × PassesWords x cells there sit words r slots vs
   passes_words r [] few all fit = ([], record { held = tt; fit = tt; along = tt; words_are = λ k want e. absurd cc })
   passes_words r (slot ∷ slots) few all fit =
-      let v = fits_word classes x cells s sit.stay.top.registers words r slot to there stands holds (omega (arith, few)) all.0 typed homes fit.0 in
-      let rest = passes_words (r + 1) slots (omega (arith, few)) all.1 fit.1 in (
+      let v = fits_word classes x cells s sit.stay.top.registers words r slot to there stands holds (omega (arith, few)) all.0 typed homes (first_slot s to r slot slots fit) in
+      let rest = passes_words (r + 1) slots (omega (arith, few)) all.1 (next_slots s to r slot slots fit) in (
         v.0 ∷ rest.0,
         record { held = (v.1, rest.1.held); fit = (v.2, rest.1.fit); along = (v.3, rest.1.along); words_are = λ k want e. at k want e v rest },
       )
@@ -151,26 +152,26 @@ module _ (setting : Setting) (here : ℕ) (far : Far) (m : machine.Place) (key :
           (v.0, v.1, subst (λ w. IsWordOf x want w v.0) (sym (e.arguments r lt)) v.2)
 
   -- what an instruction passes to a function at a place
-  pub passed_to : (to : Term) (there : ℕ) → IsTermOf x s.top.registers to there → (callee : Function) → FitsImage setting.program → function_at setting.program i.x ≡ Some callee → SlotsFit h.top.state to i.b callee.parameters → i.b + length callee.parameters ≤ function.registers
+  pub passed_to : (to : Term) (there : ℕ) → IsTermOf x s.top.registers to there → (callee : Function) → FitsImage setting.program → function_at setting.program i.x ≡ Some callee → SlotsAre h.top.state to i.b callee.parameters → i.b + length callee.parameters ≤ function.registers
       → (vs : List Value) × PassesWords x m.cells there sit a.top.registers.items i.b callee.parameters vs
   passed_to to there stands callee image is slots counted =
       let few = (small setting.program assigned x a.top s.top h.top i fetched).registers.1 in
       passes_words (length setting.program.classes) x m.cells holds sit h.top.state a.top.registers.items h.top.words h.top.homes to there stands i.b callee.parameters (omega (arith, counted, few)) (function_fits setting.program i.x callee image is).slots slots
 
   -- what a call, or the begin of an activity, passes
-  passed : (callee : Function) → FitsImage setting.program → function_at setting.program i.x ≡ Some callee → SlotsFit h.top.state term.Here i.b callee.parameters → i.b + length callee.parameters ≤ function.registers
+  passed : (callee : Function) → FitsImage setting.program → function_at setting.program i.x ≡ Some callee → SlotsAre h.top.state term.Here i.b callee.parameters → i.b + length callee.parameters ≤ function.registers
       → (vs : List Value) × PassesWords x m.cells here sit a.top.registers.items i.b callee.parameters vs
   passed callee image is slots counted = passed_to term.Here here (record { is_term = tt; place_is = refl }) callee image is slots counted
 
   pub call_moves : (b : StayState) (out : Edges) → FitsImage setting.program → IsPlaced setting.program b → i.op ≡ op.Call → Permits op.Call (point_of setting.program function a.top i) h.top.state out → Calls setting.program a i b
       → (t : Stay) × Does op.Call sit (with_stay m key (Some t)) Works × StandsForStay setting.program assigned x b t
   call_moves b out image placed o permits calls =
-      let callee = permits.0 in
-      let is = permits.2.0 in
+      let callee = permits.1.settles.0 in
+      let is = permits.1.settles.1.there in
       let range = subst (λ q. IsThere setting.program function i (form_of q).b i.b) o (in_range setting.program assigned x a.top s.top h.top i fetched).b in
       let count : AreArgumentRegisters function (argument_count setting.program i op.Call) i.b = subst (λ q. AreArgumentRegisters function (argument_count setting.program i q) i.b) o range in
       let counted : i.b + length callee.parameters ≤ function.registers = subst (λ g. i.b + length (parameters_of g) ≤ function.registers) is count.1 in
-      let passes = passed callee image is permits.2.1 counted in (
+      let passes = passed callee image is permits.1.settles.1.arguments counted in (
         record s { top = entry_frame i.x passes.0; callers = s.top ∷ s.callers },
         (callee, passes.0, record { callee_is = is; held = passes.1.held; fit = passes.1.fit }, refl, refl),
         record {
@@ -200,16 +201,16 @@ module _ (setting : Setting) (here : ℕ) (far : Far) (m : machine.Place) (key :
   pub begin_moves : (other : ℕ) (c : StayState) (out : Edges) → FitsImage setting.program → IsPlaced setting.program c → i.op ≡ op.Async → Permits op.Async (point_of setting.program function a.top i) h.top.state out
       → here < setting.places → (innermost_at here a).number < 2 ^ 32 → IsBegun setting.program a.top.registers.items i (innermost_at here a) c → Begun other c
   begin_moves other c out image placed o permits within few begun =
-      let callee = permits.0 in
-      let is = permits.1.0 in
+      let callee = permits.1.settles.0 in
+      let is = permits.1.settles.1.there in
       let range = subst (λ q. IsThere setting.program function i (form_of q).b i.b) o (in_range setting.program assigned x a.top s.top h.top i fetched).b in
       let count : AreArgumentRegisters function (argument_count setting.program i op.Async) i.b = subst (λ q. AreArgumentRegisters function (argument_count setting.program i q) i.b) o range in
       let counted : i.b + length callee.parameters ≤ function.registers = subst (λ g. i.b + length (parameters_of g) ≤ function.registers) is count.1 in
-      let passes = passed callee image is permits.1.1 counted in
+      let passes = passed callee image is permits.1.settles.1.arguments counted in
       let under : innermost here s ≡ innermost_at here a = ap₂ (λ f ns. innermost_of here f ns) h.inherited h.finishes in
       record {
         child = new_stay i.x passes.0 (innermost here s) None;
-        does = λ free. (callee, passes.0, other, record { callee_is = is; held = passes.1.held; fit = passes.1.fit }, permits.2, free, refl, refl);
+        does = λ free. (callee, passes.0, other, record { callee_is = is; held = passes.1.held; fit = passes.1.fit }, permits.1.settles.2, free, refl, refl);
         stands = record {
           placed = placed;
           top = entered_stands callee passes.0 c.top (function_fits setting.program i.x callee image is).parameters begun.entered is passes.1;

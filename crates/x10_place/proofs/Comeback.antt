@@ -7,11 +7,13 @@ use Rattle.x10_kinds.specs.declared.kind.Kind.TheVariants as kind
 use Rattle.x10_kinds.specs.declared.homes.Term.TheVariants as term
 use Rattle.x10_code.specs.declared.op.Op.TheVariants as op
 use Rattle.x10_code.specs.declared.instr.Instr.{Instr}
+use Rattle.x10_code.specs.declared.rule.Effect.{Effect}
+use Rattle.x10_code.specs.declared.rule.Effect.TheVariants.{Sets}
 use Rattle.x10_code.specs.Table.{form_of}
 use Rattle.x10_heap.specs.Words.{Context, AreWordsOf}
 use Rattle.x10_heap.proofs.Growing.{Grows}
 use Rattle.x10_model.specs.declared.slot.Slot.{Slot}
-use Rattle.x10_model.specs.Assignments.{State, GivesResult, gives, like_if, Permits, Reaches, Edges}
+use Rattle.x10_model.specs.Assignments.{State, GivesResult, like_if, Permits, Reaches, Edges, after as after_effect}
 use Rattle.x10_model.specs.Copies.{Snapshot, IsOfKindIn}
 use Rattle.x10_model.specs.Deliveries.{FitsResultAt, first_of, WaitsFor, Resumes, Receives}
 use Rattle.x10_model.specs.Frames as frames
@@ -38,7 +40,7 @@ use Rattle.x10_verify.specs.Certified.{Certified}
 use Rattle.x10_place.specs.declared.frame.CallFrame.{CallFrame}
 use Rattle.x10_place.specs.Arrivals.{GoesNextBy, GoesOnBy, ComesBack}
 use Rattle.x10_place.specs.Frames.{word_at, IsInside, IsFetchedFor}
-use Rattle.x10_place.specs.Homes.{AreHomes, place_in}
+use Rattle.x10_place.specs.Homes.{place_in}
 use Rattle.x10_place.specs.Receiving.{Admits, TakesFrame}
 use Rattle.x10_place.specs.Sending.{slots_of}
 use Rattle.x10_place.specs.Stays.{StayState, StoreState, IsPlaced, AreCalling, open_in, totals_in, books_of}
@@ -122,32 +124,32 @@ module _ (program : Module) (assigned : Assigned program) (y : Context) (cells :
 
   pub place_held : (from : ℕ) → word_at f.registers.items call.c ≡ from → c.registers call.c ≡ Some (values.Place from)
   place_held from e =
-      let v = reads y h.state c.registers f.registers.items call.c kind.Place h.words permits.1.2 in
+      let v = reads y h.state c.registers f.registers.items call.c kind.Place h.words permits.1.1.settles.1.place in
       v.1 ∙ ap Some (v.2.1 ∙ ap values.Place e)
 
   -- the call frame after the AT, with the result that comes
-  frame_back : (from : ℕ) (slot : Option Slot) (words : List ℕ) (vs : List Value) (t : State) (g : CallFrame) → c.registers call.c ≡ Some (values.Place from) → result_of (function_at program call.x) ≡ slot → GivesResult (point_of program h.function f call) h.state (term.Reg call.c) slot t
-      → Reaches (assigned f.function h.function h.is_function).0 (f.pc + 1, t) → AreWordsOf y (kinds_of (slots_of slot)) words vs → FitSlots (IsOfKind cells) from vs (slots_of slot) → GoesNextBy words f call.a g → StandsForFrame program assigned y g (resumed c call.a (first_of vs))
-  frame_back from None [] [] t g held result given reached stand fit goes =
-      frame_after program assigned y f c h call fetched g (next c) (f.pc + 1) t f.registers.items f.loops (record { function_is = goes.function_is; pc_is = goes.pc_is; words_are = goes.words_are; loops_are = goes.loops_are }) reached refl (ap (λ n. n + 1) h.pc_is)
-      (subst (λ u. HoldRegisters y u c.registers f.registers.items) (sym given.1) h.words) (subst (λ (u : State). AreHomes y.here u.homes c.registers) (sym given.1) h.homes) h.slots h.loops
-  frame_back from (Some slot) (word ∷ []) (v ∷ []) t g held result given reached stand fit goes =
+  frame_back : (from : ℕ) (slot : Option Slot) (words : List ℕ) (vs : List Value) (e : Effect) (g : CallFrame) → c.registers call.c ≡ Some (values.Place from) → result_of (function_at program call.x) ≡ slot → GivesResult (point_of program h.function f call) (term.Reg call.c) slot e
+      → Reaches (assigned f.function h.function h.is_function).0 (f.pc + 1, after_effect call.a h.state e) → AreWordsOf y (kinds_of (slots_of slot)) words vs → FitSlots (IsOfKind cells) from vs (slots_of slot) → GoesNextBy words f call.a g → StandsForFrame program assigned y g (resumed c call.a (first_of vs))
+  frame_back from None [] [] e g held result given reached stand fit goes =
+      frame_after program assigned y f c h call fetched g (next c) (f.pc + 1) h.state f.registers.items f.loops (record { function_is = goes.function_is; pc_is = goes.pc_is; words_are = goes.words_are; loops_are = goes.loops_are })
+      (subst (λ q. Reaches (assigned f.function h.function h.is_function).0 (f.pc + 1, after_effect call.a h.state q)) given.1 reached) refl (ap (λ n. n + 1) h.pc_is) h.words h.homes h.slots h.loops
+  frame_back from (Some slot) (word ∷ []) (v ∷ []) e g held result given reached stand fit goes =
       let there = at_result program h.function call slot is (in_range program assigned y f c h call fetched).a result in
       let lt : call.a < length f.registers.items = omega (arith, there, count program assigned y f c h call fetched) in
       let like = like_if slot.home_here (term.Reg call.c) in
-      let known = gives (point_of program h.function f call) h.state slot.kind like in
+      let known = after_effect call.a h.state (Sets slot.kind like) in
       let typed : HoldRegisters y known (with_entry c.registers call.a (Some v)) (slice_set f.registers.items call.a word) = words_written y h.state c.registers f.registers.items call.a slot.kind like v word lt h.words stand.0 in
       frame_after program assigned y f c h call fetched g (writes c call.a v) (f.pc + 1) known (slice_set f.registers.items call.a word) f.loops
       (record { function_is = goes.function_is; pc_is = goes.pc_is; words_are = goes.words_are; loops_are = goes.loops_are })
-      (subst (λ u. Reaches (assigned f.function h.function h.is_function).0 (f.pc + 1, u)) given reached) refl (ap (λ n. n + 1) h.pc_is)
+      (subst (λ q. Reaches (assigned f.function h.function h.is_function).0 (f.pc + 1, after_effect call.a h.state q)) given reached) refl (ap (λ n. n + 1) h.pc_is)
       typed (homes_written y.here h.state.homes c.registers call.a like v h.homes (slot_like cells y.here from c.registers (term.Reg call.c) v slot register_few (ap place_in held) fit.0)) h.slots h.loops
-  frame_back from None [] (v ∷ vs) t g held result given reached stand fit goes = absurd stand
-  frame_back from None (w ∷ ws) vs t g held result given reached stand fit goes = absurd stand
-  frame_back from (Some slot) [] vs t g held result given reached stand fit goes = absurd stand
-  frame_back from (Some slot) (w ∷ ws) [] t g held result given reached stand fit goes = absurd stand
-  frame_back from (Some slot) (w ∷ (x ∷ ws)) (v ∷ []) t g held result given reached stand fit goes = absurd stand.1
-  frame_back from (Some slot) (w ∷ []) (v ∷ (u ∷ vs)) t g held result given reached stand fit goes = absurd stand.1
-  frame_back from (Some slot) (w ∷ (x ∷ ws)) (v ∷ (u ∷ vs)) t g held result given reached stand fit goes = absurd stand.1
+  frame_back from None [] (v ∷ vs) e g held result given reached stand fit goes = absurd stand
+  frame_back from None (w ∷ ws) vs e g held result given reached stand fit goes = absurd stand
+  frame_back from (Some slot) [] vs e g held result given reached stand fit goes = absurd stand
+  frame_back from (Some slot) (w ∷ ws) [] e g held result given reached stand fit goes = absurd stand
+  frame_back from (Some slot) (w ∷ (x ∷ ws)) (v ∷ []) e g held result given reached stand fit goes = absurd stand.1
+  frame_back from (Some slot) (w ∷ []) (v ∷ (u ∷ vs)) e g held result given reached stand fit goes = absurd stand.1
+  frame_back from (Some slot) (w ∷ (x ∷ ws)) (v ∷ (u ∷ vs)) e g held result given reached stand fit goes = absurd stand.1
 
 -- the roots of a result fit what is asked of it
 result_fits : (s : Snapshot) (from : ℕ) (slot : Option Slot) (vs : List Value) → FitSlots (IsOfKindIn s) from vs (slots_of slot) → FitsResultAt s from slot vs
@@ -193,11 +195,13 @@ module _ (far : Far) (p : PlaceState) (m : machine.Place) (stands : StandsFor fa
   top_back : StandsForFrame p.program stands.assigned y h.next.top (resumed found.0.top h.call.a (first_of taken.values))
   top_back =
       let at = permits p.program stands.assigned y taken.cells h.stay.top found.0.top top h.call h.waits.fetched h.waits.is_at in
-      let call = at.1 in
-      let same_callee : call.0 ≡ h.callee = same_Some call.0 h.callee (sym call.3.0 ∙ h.callee_is) in
-      let given = subst (λ (g : Function). GivesResult (point_of p.program top.function h.stay.top h.call) top.state (term.Reg h.call.c) g.result call.1) same_callee call.4 in
-      let reached = at.2 (h.stay.top.pc + 1, call.1) (subst (λ (o : Edges). IsIn (h.stay.top.pc + 1, call.1) o) (sym call.5) (0, refl)) in
-      frame_back p.program stands.assigned y taken.cells h.stay.top found.0.top top h.call h.waits.fetched h.waits.is_at from h.callee.result h.roots taken.values call.1 h.next.top held (ap result_of h.callee_is) given reached taken.words fit h.goes.goes
+      let effect = at.1.0 in
+      let asked = at.1.1.settles in
+      let next = after_effect h.call.a top.state effect in
+      let same_callee : asked.0 ≡ h.callee = same_Some asked.0 h.callee (sym asked.1.there ∙ h.callee_is) in
+      let given = subst (λ (g : Function). GivesResult (point_of p.program top.function h.stay.top h.call) (term.Reg h.call.c) g.result effect) same_callee asked.2 in
+      let reached = at.2 (h.stay.top.pc + 1, next) (subst (λ (o : Edges). IsIn (h.stay.top.pc + 1, next) o) (sym at.1.2) (0, refl)) in
+      frame_back p.program stands.assigned y taken.cells h.stay.top found.0.top top h.call h.waits.fetched h.waits.is_at from h.callee.result h.roots taken.values effect h.next.top held (ap result_of h.callee_is) given reached taken.words fit h.goes.goes
 
   abbrev to : Stay
   to = record found.0 { top = resumed found.0.top h.call.a (first_of taken.values); away = false }

@@ -17,7 +17,8 @@ use Rattle.x10_model.specs.Moves.{Does, Situation, Holds, Passes}
 use Rattle.x10_model.specs.Marshalling.{snapshot_of}
 use Rattle.x10_model.specs.Maps.{IsIn}
 use Rattle.x10_model.specs.Frames as frames
-use Rattle.x10_model.specs.Assignments.{State, Reaches, Edges, Permits, CallsWell, IsKind}
+use Rattle.x10_model.specs.Assignments.{State, Reaches, Edges, Permits, IsCalled}
+use Rattle.x10_model.proofs.Rules.{leads}
 use Rattle.x10_model.specs.Totals.{Totals, Did, sends_to, is_reported}
 use Rattle.x10_model.specs.Worlds.{sent}
 use Rattle.x10_model.proofs.Lists.{none_some}
@@ -140,15 +141,15 @@ module _ (far : Far) (p : PlaceState) (m : machine.Place) (stands : StandsFor fa
     pub passes : Passes sit to callee values
     pub snapshot : IsSnapshot x m.cells (kinds_of (slots_of_call p.program i)) values h d.message.bytes.items
 
-  sends_by : (callee : Function) (hd : Head) → hd ≡ head_sent i.op p.id d.message.to key (innermost_at p.id a) i.x → i.b + length callee.parameters ≤ h.top.function.registers → i.c < h.top.function.registers → IsKind h.top.state i.c kind.Place → CallsWell (point_of p.program h.top.function a.top i) h.top.state (term.Reg i.c) callee → Sends callee hd
-  sends_by callee hd head_is counted there known calls =
-      let held = reads x h.top.state s.top.registers a.top.registers.items i.c kind.Place h.top.words known in
+  sends_by : (callee : Function) (hd : Head) → hd ≡ head_sent i.op p.id d.message.to key (innermost_at p.id a) i.x → i.b + length callee.parameters ≤ h.top.function.registers → i.c < h.top.function.registers → IsCalled (point_of p.program h.top.function a.top i) h.top.state (term.Reg i.c) callee → Sends callee hd
+  sends_by callee hd head_is counted there calls =
+      let held = reads x h.top.state s.top.registers a.top.registers.items i.c kind.Place h.top.words calls.place in
       let few = (small p.program stands.assigned x a.top s.top h.top i d.fetched).registers.1 in
       let many = count p.program stands.assigned x a.top s.top h.top i d.fetched in
       let place : s.top.registers i.c ≡ Some (Place to) = held.1 ∙ ap Some held.2.1 in
       let is_to : IsTermOf x s.top.registers (term.Reg i.c) to = record { is_term = omega (arith, there, few); place_is = ap place_in place } in
-      let passed = passed_to (setting_of p) p.id far m key s stands.assigned p.heap stands.heap a h i d.fetched (term.Reg i.c) to is_to callee checks.fits calls.0 calls.1 counted in
-      let slots : slots_of_call p.program i ≡ callee.parameters = ap parameters_of calls.0 in
+      let passed = passed_to (setting_of p) p.id far m key s stands.assigned p.heap stands.heap a h i d.fetched (term.Reg i.c) to is_to callee checks.fits calls.there calls.arguments counted in
+      let slots : slots_of_call p.program i ≡ callee.parameters = ap parameters_of calls.there in
       let range = range_at a.top.registers.items i.b (length callee.parameters) (omega (arith, counted, many)) in
       let words : AreWordsOf x (kinds_of (slots_of_call p.program i)) (words_from a.top i.b (slots_of_call p.program i)) passed.0 =
       subst (λ ss. AreWordsOf x (kinds_of ss) (words_from a.top i.b ss) passed.0) (sym slots) (subst (λ ws. AreWordsOf x (kinds_of callee.parameters) ws passed.0) (sym range) passed.1.along) in
@@ -156,7 +157,7 @@ module _ (far : Far) (p : PlaceState) (m : machine.Place) (stands : StandsFor fa
         holds_place = place;
         within = held.2.0;
         values = passed.0;
-        passes = record { callee_is = calls.0; held = passed.1.held; fit = passed.1.fit };
+        passes = record { callee_is = calls.there; held = passed.1.held; fit = passed.1.fit };
         snapshot = subst (λ k. IsSnapshot x m.cells (kinds_of (slots_of_call p.program i)) passed.0 k d.message.bytes.items) (sym head_is) (d.frame x m.cells passed.0 refl refl refl stands.heap words);
       }
 
@@ -198,10 +199,11 @@ module _ (far : Far) (p : PlaceState) (m : machine.Place) (stands : StandsFor fa
       let permits = subst (λ q. Permits q (point_of p.program h.top.function a.top i) h.top.state at.0) e at.1 in
       let range = in_range p.program stands.assigned x a.top s.top h.top i d.fetched in
       let those = subst (λ q. AreArgumentRegisters h.top.function (argument_count p.program i q) i.b) e (subst (λ q. IsThere p.program h.top.function i (form_of q).b i.b) e range.b) in
-      let counted = arguments_there op.At those permits.0 permits.3.0 refl in
+      let asked = permits.1.settles in
+      let counted = arguments_there op.At those asked.0 asked.1.there refl in
       let there : i.c < h.top.function.registers = subst (λ q. IsThere p.program h.top.function i (form_of q).c i.c) e range.c in
       let named : i.x < length p.program.functions = subst (λ q. IsThere p.program h.top.function i (form_of q).x i.x) e range.x in
-      let made = sends_by permits.0 (head.Shift p.id d.message.to key u.home u.number i.x) (ap (λ q. head_sent q p.id d.message.to key u i.x) (sym e)) counted there permits.2 permits.3 in
+      let made = sends_by asked.0 (head.Shift p.id d.message.to key u.home u.number i.x) (ap (λ q. head_sent q p.id d.message.to key u i.x) (sym e)) counted there asked.1 in
       let graph = snapshot_of made.snapshot.graph in
       let message : Message = machine.Shift p.id to key under i.x graph in
       let same : machine.Shift p.id d.message.to key u i.x graph ≡ message = ap₂ (λ n f. machine.Shift p.id n key f i.x graph) d.to_is (sym under_is) in
@@ -210,7 +212,7 @@ module _ (far : Far) (p : PlaceState) (m : machine.Place) (stands : StandsFor fa
         message = message;
         effect = Shifts message under;
         does = subst (λ q. Does q sit (with_stay m key (Some (record s { away = true }))) (Shifts message under)) (sym e)
-            (permits.0, made.values, to, graph, made.holds_place, made.passes, made.snapshot.captures, refl, refl);
+            (asked.0, made.values, to, graph, made.holds_place, made.passes, made.snapshot.captures, refl, refl);
         goes_on = waits_there (subst (λ q. DepartsBy q a d.next) e d.departs);
         counted = shifts_count (store_of p) t message under (recounted d.store);
         booked = (d.store.opened_is, d.store.books_are);
@@ -236,7 +238,7 @@ module _ (far : Far) (p : PlaceState) (m : machine.Place) (stands : StandsFor fa
       → StandsForStay p.program stands.assigned x d.next (record s { top = next s.top })
   goes_next e out permits edges goes rest = record {
     placed = next_placed p.program checks a d.next i route.Send h.placed d.fetched d.route_is tt (λ f. absurd (let g = sym e ∙ f in cc)) goes rest;
-    top = next_stands (setting_of p) p.id far m key s stands.assigned p.heap stands.heap stands.site.few a h i d.fetched d.next out permits.4 edges goes;
+    top = next_stands (setting_of p) p.id far m key s stands.assigned p.heap stands.heap stands.site.few a h i d.fetched d.next out (leads op.Ata (point_of p.program h.top.function a.top i) h.top.state out permits permits.1.settles.3) edges goes;
     callers = subst (λ fs. StandForCallers p.program stands.assigned x fs s.callers) (sym (ap (λ (q : StayState). q.callers) rest)) h.callers;
     finishes = h.finishes ∙ ap (λ (q : StayState). q.finishes) (sym rest);
     inherited = h.inherited ∙ ap (λ (q : StayState). q.inherited) (sym rest);
@@ -253,10 +255,11 @@ module _ (far : Far) (p : PlaceState) (m : machine.Place) (stands : StandsFor fa
       let permits = subst (λ q. Permits q (point_of p.program h.top.function a.top i) h.top.state at.0) e at.1 in
       let range = in_range p.program stands.assigned x a.top s.top h.top i d.fetched in
       let those = subst (λ q. AreArgumentRegisters h.top.function (argument_count p.program i q) i.b) e (subst (λ q. IsThere p.program h.top.function i (form_of q).b i.b) e range.b) in
-      let counted = arguments_there op.Ata those permits.0 permits.2.0 refl in
+      let asked = permits.1.settles in
+      let counted = arguments_there op.Ata those asked.0 asked.1.there refl in
       let there : i.c < h.top.function.registers = subst (λ q. IsThere p.program h.top.function i (form_of q).c i.c) e range.c in
       let named : i.x < length p.program.functions = subst (λ q. IsThere p.program h.top.function i (form_of q).x i.x) e range.x in
-      let made = sends_by permits.0 (head.Spawn p.id d.message.to u.home u.number i.x) (ap (λ q. head_sent q p.id d.message.to key u i.x) (sym e)) counted there permits.1 permits.2 in
+      let made = sends_by asked.0 (head.Spawn p.id d.message.to u.home u.number i.x) (ap (λ q. head_sent q p.id d.message.to key u i.x) (sym e)) counted there asked.1 in
       let graph = snapshot_of made.snapshot.graph in
       let message : Message = machine.Spawn p.id to under i.x graph in
       let same : machine.Spawn p.id d.message.to u i.x graph ≡ message = ap₂ (λ n f. machine.Spawn p.id n f i.x graph) d.to_is (sym under_is) in
@@ -266,7 +269,7 @@ module _ (far : Far) (p : PlaceState) (m : machine.Place) (stands : StandsFor fa
         message = message;
         effect = Spawns message i.x under;
         does = subst (λ q. Does q sit (with_stay m key (Some (record s { top = next s.top }))) (Spawns message i.x under)) (sym e)
-            (permits.0, made.values, to, graph, made.holds_place, made.passes, permits.3, made.snapshot.captures, refl, refl);
+            (asked.0, made.values, to, graph, made.holds_place, made.passes, asked.2, made.snapshot.captures, refl, refl);
         goes_on = goes_next e at.0 permits at.2 departs.0 departs.1;
         counted = spawns_count (store_of p) t message i.x under (recounted d.store);
         booked = (d.store.opened_is, d.store.books_are);

@@ -6,6 +6,8 @@ use Rattle.x10_kinds.specs.declared.kind.Kind.TheVariants as kind
 use Rattle.x10_kinds.specs.declared.homes.Term.TheVariants as term
 use Rattle.x10_code.specs.declared.op.Op.TheVariants as op
 use Rattle.x10_code.specs.declared.instr.Instr.{Instr}
+use Rattle.x10_code.specs.declared.rule.Effect.{Effect}
+use Rattle.x10_code.specs.declared.rule.Effect.TheVariants.{Sets}
 use Rattle.x10_code.specs.Table.{form_of}
 use Rattle.x10_model.specs.Maps.{with_entry, IsIn}
 use Rattle.x10_model.specs.Modules.{Module, Function, FitsSlot}
@@ -14,13 +16,13 @@ use Rattle.x10_model.specs.Ranges.{function_at, instr_at, instr_in, result_of, r
 use Rattle.x10_model.specs.Values.{Value, Int, Text, Cells, IsOfKind}
 use Rattle.x10_model.specs.Signatures.{FitsSlotAt}
 use Rattle.x10_model.specs.Places as machine
-use Rattle.x10_model.specs.Places.{Setting, Stay, Message, Effect, Works, Ends, with_stay, next, writes}
+use Rattle.x10_model.specs.Places.{Setting, Stay, Message, Works, Ends, with_stay, next, writes}
 use Rattle.x10_model.specs.Moves.{Situation, Does, GivesBack, SendsBack, Returns, resumed, line_of, with_line}
-use Rattle.x10_model.specs.Assignments.{State, Edges, ReturnsWell, GivesResult, onward, gives, like_if, Permits, Reaches}
+use Rattle.x10_model.specs.Assignments.{State, Edges, ReturnsWell, GivesResult, like_if, Permits, Reaches, after as after_effect}
+use Rattle.x10_model.proofs.Rules.{leads}
 use Rattle.x10_place.specs.declared.frame.CallFrame.{CallFrame}
 use Rattle.x10_heap.specs.Heaps.{HeapState}
 use Rattle.x10_heap.specs.Words.{Context, IsWordOf, HoldsHeap}
-use Rattle.x10_place.specs.Homes.{AreHomes}
 use Rattle.x10_place.specs.Frames.{word_at, IsFetchedFor}
 use Rattle.x10_place.specs.declared.line.Line.{Line}
 use Rattle.x10_place.specs.declared.line.Line.TheVariants as line
@@ -28,7 +30,7 @@ use Rattle.x10_place.specs.Stays.{StayState, IsPlaced, GoesNext, Resumes, GoesOn
 use Rattle.x10_place.specs.StandsFor.{Far, context, line_as, Assigned, HoldRegisters, StandsForFrame, StandForCallers, IsOfRun, StandsForStay}
 use Rattle.x10_place.proofs.Words.{reads, reads_int, words_written}
 use Rattle.x10_place.proofs.Homes.{homes_written, result_like}
-use Rattle.x10_place.proofs.Framed.{FrameAfter, point_of, in_range, small, count, rule, frame_after}
+use Rattle.x10_place.proofs.Framed.{FrameAfter, point_of, onward, in_range, small, count, rule, frame_after}
 use Rattle.x10_place.proofs.Local.{situated}
 use Rattle.x10_place.proofs.Reading.{text_known}
 use Rattle.x10_place.proofs.Calls.{fits_word}
@@ -69,23 +71,23 @@ call_result program function i slot o e there is some =
 
 module _ (program : Module) (assigned : Assigned program) (x : Context) (cells : Cells) (f : CallFrame) (c : machine.CallFrame) (h : StandsForFrame program assigned x f c) (call : Instr) (fetched : IsFetchedFor program f call) (o : call.op ≡ op.Call) where
   -- the caller goes on after its call
-  pub goes_after : (slot : Option Slot) (result : Option Value) (word : ℕ) (t : State) (top g : CallFrame) (i : Instr) → result_of (function_at program call.x) ≡ slot → GivesResult (point_of program h.function f call) h.state term.Here slot t
-      → Reaches (assigned f.function h.function h.is_function).0 (f.pc + 1, t) → IsGiven x cells slot result word → word ≡ word_at top.registers.items i.a → GoesOn slot f call top i g → StandsForFrame program assigned x g (resumed c call.a result)
-  goes_after None None word t top g i is given reached back same goes =
-      frame_after program assigned x f c h call fetched g (next c) (f.pc + 1) t f.registers.items f.loops (record { function_is = goes.function_is; pc_is = goes.pc_is; words_are = goes.words_are; loops_are = goes.loops_are }) reached refl (ap (λ n. n + 1) h.pc_is)
-      (subst (λ u. HoldRegisters x u c.registers f.registers.items) (sym given.1) h.words) (subst (λ (u : State). AreHomes x.here u.homes c.registers) (sym given.1) h.homes) h.slots h.loops
-  goes_after (Some slot) (Some v) word t top g i is given reached back same goes =
+  pub goes_after : (slot : Option Slot) (result : Option Value) (word : ℕ) (e : Effect) (top g : CallFrame) (i : Instr) → result_of (function_at program call.x) ≡ slot → GivesResult (point_of program h.function f call) term.Here slot e
+      → Reaches (assigned f.function h.function h.is_function).0 (f.pc + 1, after_effect call.a h.state e) → IsGiven x cells slot result word → word ≡ word_at top.registers.items i.a → GoesOn slot f call top i g → StandsForFrame program assigned x g (resumed c call.a result)
+  goes_after None None word e top g i is given reached back same goes =
+      frame_after program assigned x f c h call fetched g (next c) (f.pc + 1) h.state f.registers.items f.loops (record { function_is = goes.function_is; pc_is = goes.pc_is; words_are = goes.words_are; loops_are = goes.loops_are })
+      (subst (λ q. Reaches (assigned f.function h.function h.is_function).0 (f.pc + 1, after_effect call.a h.state q)) given.1 reached) refl (ap (λ n. n + 1) h.pc_is) h.words h.homes h.slots h.loops
+  goes_after (Some slot) (Some v) word e top g i is given reached back same goes =
       let there = call_result program h.function call slot (Some slot) o (in_range program assigned x f c h call fetched).a is refl in
       let lt : call.a < length f.registers.items = omega (arith, there, count program assigned x f c h call fetched) in
       let like = like_if slot.home_here term.Here in
-      let known = gives (point_of program h.function f call) h.state slot.kind like in
+      let known = after_effect call.a h.state (Sets slot.kind like) in
       let typed : HoldRegisters x known (with_entry c.registers call.a (Some v)) (slice_set f.registers.items call.a word) = words_written x h.state c.registers f.registers.items call.a slot.kind like v word lt h.words back.1 in
       frame_after program assigned x f c h call fetched g (writes c call.a v) (f.pc + 1) known (slice_set f.registers.items call.a word) f.loops
       (subst (λ w. FrameAfter f g (f.pc + 1) (slice_set f.registers.items call.a w) f.loops) (sym same) (record { function_is = goes.function_is; pc_is = goes.pc_is; words_are = goes.words_are; loops_are = goes.loops_are }))
-      (subst (λ u. Reaches (assigned f.function h.function h.is_function).0 (f.pc + 1, u)) given reached) refl (ap (λ n. n + 1) h.pc_is)
+      (subst (λ q. Reaches (assigned f.function h.function h.is_function).0 (f.pc + 1, after_effect call.a h.state q)) given reached) refl (ap (λ n. n + 1) h.pc_is)
       typed (homes_written x.here h.state.homes c.registers call.a like v h.homes (result_like cells x.here c.registers v slot back.0)) h.slots h.loops
-  goes_after None (Some v) word t top g i is given reached back same goes = absurd back
-  goes_after (Some slot) None word t top g i is given reached back same goes = absurd back
+  goes_after None (Some v) word e top g i is given reached back same goes = absurd back
+  goes_after (Some slot) None word e top g i is given reached back same goes = absurd back
 
 -- ---- the end of a function
 
@@ -137,7 +139,7 @@ module _ (setting : Setting) (here : ℕ) (far : Far) (m : machine.Place) (key :
 
   pub ret_ends : (out : Edges) → i.op ≡ op.Ret → Permits op.Ret (point_of setting.program function a.top i) h.top.state out → a.callers ≡ [] → a.finishes ≡ [] → Ending
   ret_ends out o permits none closed =
-      let given = gives_back function.result o refl permits.0 in
+      let given = gives_back function.result o refl permits.1.settles.0 in
       record { result = given.0; given = given.2; does = λ back sends. ends_stay given.0 back s.callers refl h.callers none closed given.1 sends }
 
   -- a called function ends
@@ -150,10 +152,11 @@ module _ (setting : Setting) (here : ℕ) (far : Far) (m : machine.Place) (key :
       let at = rule setting.program assigned x r.caller c stands r.back.call r.back.fetched in
       let call = subst (λ q. Permits q (point_of setting.program stands.function r.caller r.back.call) stands.state at.0) r.back.op_is at.1 in
       let callee : function_at setting.program r.back.call.x ≡ Some function = ap (λ n. function_at setting.program n) r.back.callee_is ∙ h.top.is_function in
-      let same-callee : call.0 ≡ function = same_Some call.0 function (sym call.2.0 ∙ callee) in
-      let t = call.1 in
-      let gives : GivesResult (point_of setting.program stands.function r.caller r.back.call) stands.state term.Here function.result t = subst (λ (g : Function). GivesResult (point_of setting.program stands.function r.caller r.back.call) stands.state term.Here g.result t) same-callee call.3 in
-      let reached = at.2 (r.caller.pc + 1, t) (subst (λ (o : Edges). IsIn (r.caller.pc + 1, t) o) (sym call.4) (0, refl)) in
+      let asked = call.1.settles in
+      let same-callee : asked.0 ≡ function = same_Some asked.0 function (sym asked.1.there ∙ callee) in
+      let t = after_effect r.back.call.a stands.state call.0 in
+      let gives : GivesResult (point_of setting.program stands.function r.caller r.back.call) term.Here function.result call.0 = subst (λ (g : Function). GivesResult (point_of setting.program stands.function r.caller r.back.call) term.Here g.result call.0) same-callee asked.2 in
+      let reached = at.2 (r.caller.pc + 1, t) (subst (λ (o : Edges). IsIn (r.caller.pc + 1, t) o) (sym call.2) (0, refl)) in
       let goes = subst (λ o. GoesOn o r.caller r.back.call a.top i b.top) (ap result_of h.top.is_function) r.back.goes in
       let call-is : instr_at setting.program c.function c.pc ≡ Some r.back.call =
       ap (λ n. instr_at setting.program n c.pc) stands.function_is ∙ ap (λ n. instr_at setting.program r.caller.function n) stands.pc_is ∙ subst (λ o. instr_in o r.caller.pc ≡ Some r.back.call) (sym r.back.fetched.is_function) r.back.fetched.is_instr in (
@@ -161,7 +164,7 @@ module _ (setting : Setting) (here : ℕ) (far : Far) (m : machine.Place) (key :
         (result, given, subst (λ ks. Returns sit ks result (with_stay m key (Some (record s { top = resumed c r.back.call.a result; callers = cs }))) Works) (sym is) (r.back.call, call-is, r.back.op_is, refl, refl)),
         record {
           placed = placed;
-          top = goes_after setting.program assigned x m.cells r.caller c stands r.back.call r.back.fetched r.back.op_is function.result result (word_at a.top.registers.items i.a) t a.top b.top i (ap result_of callee) gives reached word refl goes;
+          top = goes_after setting.program assigned x m.cells r.caller c stands r.back.call r.back.fetched r.back.op_is function.result result (word_at a.top.registers.items i.a) call.0 a.top b.top i (ap result_of callee) gives reached word refl goes;
           callers = subst (λ fs. StandForCallers setting.program assigned x fs cs) (sym same.0) callers.4;
           finishes = h.finishes ∙ ap (λ (y : StayState). y.finishes) (sym r.rest);
           inherited = h.inherited ∙ ap (λ (y : StayState). y.inherited) (sym r.rest);
@@ -173,7 +176,7 @@ module _ (setting : Setting) (here : ℕ) (far : Far) (m : machine.Place) (key :
       )
 
   pub ret_resumes : (b : StayState) (out : Edges) → IsPlaced setting.program b → i.op ≡ op.Ret → Permits op.Ret (point_of setting.program function a.top i) h.top.state out → Resumes setting.program a i b → (t : Stay) × Does op.Ret sit (with_stay m key (Some t)) Works × StandsForStay setting.program assigned x b t
-  ret_resumes b out placed o permits r = let back = gives_back function.result o refl permits.0 in resumes_stay b placed r back.0 s.callers refl h.callers back.1 back.2
+  ret_resumes b out placed o permits r = let back = gives_back function.result o refl permits.1.settles.0 in resumes_stay b placed r back.0 s.callers refl h.callers back.1 back.2
 
   -- ---- the next instruction
 
@@ -204,5 +207,5 @@ module _ (setting : Setting) (here : ℕ) (far : Far) (m : machine.Place) (key :
   print_moves b out l is permits edges goes =
       let v = printed l is in (
         (v.0, line_as l, v.1, v.2, (refl, refl)),
-        next_stands b out permits.1 edges goes,
+        next_stands b out (leads op.Print (point_of setting.program function a.top i) h.top.state out permits permits.1.settles.1) edges goes,
       )

@@ -1,14 +1,17 @@
 -- A call frame that stands for one of the machine: the verifier's rule at its instruction, and call frames after it.
-use Rattle.std.proofs.Common.{◌≡◌, ℕ, ◌<◌, ◌≤◌, List, length, get_or, set, Some, sym, ap, subst, ◌∙◌, inl, inr, arith, get_or-set_same, get_or-set_other}
+use Rattle.std.proofs.Common.{◌≡◌, ℕ, ◌+◌, ◌<◌, ◌≤◌, List, [], ◌∷◌, length, get_or, set, Option, Some, sym, ap, subst, ◌∙◌, inl, inr, arith, get_or-set_same, get_or-set_other}
 use Rattle.std.specs.Prelude.{slice_get, slice_index, slice_set}
 use Rattle.std.proofs.lemmas.Option.{same_Some}
 use Rattle.std.proofs.lemmas.Bool.{cases_eq}
+use Rattle.x10_kinds.specs.declared.kind.Kind.{Kind}
+use Rattle.x10_kinds.specs.declared.homes.Term.{Term}
 use Rattle.x10_code.specs.declared.instr.Instr.{Instr}
 use Rattle.x10_model.specs.Maps.{with_entry, IsIn}
 use Rattle.x10_model.specs.Modules.{Module, Function}
 use Rattle.x10_model.specs.Ranges.{function_at, IsInRange}
 use Rattle.x10_model.specs.Places as machine
 use Rattle.x10_model.specs.Assignments.{State, Point, Edges, Permits, Reaches}
+use Rattle.x10_model.specs.Assignments.{set as set_kind}
 use Rattle.x10_model.proofs.Maps.{at_key, off_key}
 use Rattle.x10_place.specs.declared.frame.CallFrame.{CallFrame}
 use Rattle.x10_heap.specs.Heaps.{HeapState}
@@ -37,6 +40,18 @@ pub record FrameAfter (f g : CallFrame) (pc : ℕ) (words loops : List ℕ) : Ty
 
 pub after_of : (f g : CallFrame) (heap kept : HeapState) (pc : ℕ) (words loops : List ℕ) → g.function ≡ f.function → Becomes (space_of g heap) pc words loops kept → FrameAfter f g pc words loops
 after_of f g heap kept pc words loops same b = record { function_is = same; pc_is = b.pc_is; words_are = b.words_are; loops_are = b.loops_are }
+
+-- to the next instruction
+abbrev pub onward : Point → State → Edges
+onward p s = (p.pc + 1, s) ∷ []
+
+-- to the next instruction, or to x with what was known before
+abbrev pub onward_or : Point → State → State → Edges
+onward_or p s before = (p.pc + 1, s) ∷ (p.instr.x, before) ∷ []
+
+-- register a is written
+abbrev pub gives : Point → State → Kind → Option Term → State
+gives p s kind like = set_kind s p.instr.a kind like
 
 abbrev pub point_of : Module → Function → CallFrame → Instr → Point
 point_of program function f i = record { program = program; function = function; pc = f.pc; instr = i }

@@ -3,6 +3,7 @@ use Rattle.std.proofs.Common.{◌≡◌, ℕ, ◌+◌, Bool, true, false, List, 
 use Rattle.x10_code.specs.declared.op.Op.{Op}
 use Rattle.x10_code.specs.declared.op.Op.TheVariants as op
 use Rattle.x10_code.specs.declared.instr.Instr.{Instr}
+use Rattle.x10_code.specs.declared.rule.Effect.TheVariants.{Keeps}
 use Rattle.x10_model.specs.Maps.{IsIn, with_entry}
 use Rattle.x10_model.specs.Modules.{Module, FitsImage}
 use Rattle.x10_model.specs.Values.{Cells}
@@ -10,7 +11,8 @@ use Rattle.x10_model.specs.Places as machine
 use Rattle.x10_model.specs.Places.{Setting, Stay, innermost, Effect, Waits, Works, Opens, Closes, root, with_stay, next}
 use Rattle.x10_model.specs.Totals.{zeros}
 use Rattle.x10_model.specs.Moves.{Does, with_line}
-use Rattle.x10_model.specs.Assignments.{State, Edges, onward, Permits, Reaches}
+use Rattle.x10_model.specs.Assignments.{State, Edges, Permits, Reaches, edges_of}
+use Rattle.x10_model.proofs.Rules.{leads}
 use Rattle.x10_heap.specs.Heaps.{HeapState}
 use Rattle.x10_heap.specs.Words.{Context, HoldsHeap, export_as}
 use Rattle.x10_heap.proofs.Growing.{Grows, grows_not}
@@ -25,7 +27,7 @@ use Rattle.x10_place.specs.Routes.{route_of}
 use Rattle.x10_place.specs.declared.stay.Outcome.TheVariants as outcome
 use Rattle.x10_place.specs.Stays.{StayState, StoreState, Location, books_in, GoesNext, IsPlaced, Prints, GoesOnInside, OpensFinish, ClosesFinish, Steps}
 use Rattle.x10_place.specs.StandsFor.{Far, context, line_as, Assigned, StandsForFrame, StandForCallers, IsOfRun, StandsForStay, HoldsExports, IsWithinPlaces, IsCountedBy, IsTyped, IsTypedFrame}
-use Rattle.x10_place.proofs.Framed.{point_of, rule}
+use Rattle.x10_place.proofs.Framed.{point_of, onward, rule}
 use Rattle.x10_place.proofs.Growing.{callers_kept}
 use Rattle.x10_place.proofs.Local.{situated, Done, local_moves}
 use Rattle.x10_place.proofs.Made.{make_moves, put_moves, rset_moves}
@@ -101,6 +103,10 @@ module _ (setting : Setting) (here : ℕ) (far : Far) (m : machine.Place) (key :
   module _ (b : StayState) (t : StoreState) (placed : IsPlaced setting.program b) (out : Edges) (permits : Permits i.op (point_of setting.program h.top.function a.top i) h.top.state out) (edges : (edge : ℕ × State) → IsIn edge out → Reaches states edge) where
     permits_at : (o : Op) → i.op ≡ o → Permits o (point_of setting.program h.top.function a.top i) h.top.state out
     permits_at o e = subst (λ q. Permits q (point_of setting.program h.top.function a.top i) h.top.state out) e permits
+
+    -- where an operation leads that leaves what is known as it was
+    edges_by : (o : Op) (e : i.op ≡ o) → (permits_at o e).0 ≡ Keeps → out ≡ edges_of o (point_of setting.program h.top.function a.top i) h.top.state Keeps
+    edges_by o e same = leads o (point_of setting.program h.top.function a.top i) h.top.state out (permits_at o e) same
 
     -- the top call frame and the heap alone
     from_top : (o : Op) → Done setting here far m key s assigned st.heap a.top h.top i fetched o b.top t.heap → b ≡ record a { top = b.top } → t ≡ record st { heap = t.heap } → Goes o b t
@@ -178,10 +184,10 @@ module _ (setting : Setting) (here : ℕ) (far : Far) (m : machine.Place) (key :
     }
 
     enters : i.op ≡ op.Atomb → GoesOnInside true a b → t ≡ st → Goes op.Atomb b t
-    enters e made same = from_stay op.Atomb (record s { top = next s.top; inside = true }) (refl, refl) (marked true (permits_at op.Atomb e) made) same
+    enters e made same = from_stay op.Atomb (record s { top = next s.top; inside = true }) (refl, refl) (marked true (edges_by op.Atomb e (permits_at op.Atomb e).1.settles) made) same
 
     leaves : i.op ≡ op.Atome → GoesOnInside false a b → t ≡ st → Goes op.Atome b t
-    leaves e made same = from_stay op.Atome (record s { top = next s.top; inside = false }) (refl, refl) (marked false (permits_at op.Atome e) made) same
+    leaves e made same = from_stay op.Atome (record s { top = next s.top; inside = false }) (refl, refl) (marked false (edges_by op.Atome e (permits_at op.Atome e).1.settles) made) same
 
     -- the stay goes on to the next instruction with other finishes open, and the heap is as it was
     with_finishes : (heap : t.heap ≡ st.heap) (ns : List ℕ) → out ≡ onward (point_of setting.program h.top.function a.top i) h.top.state → GoesNext a.top b.top → b ≡ record a { top = b.top; finishes = ns } → StandsForStay setting.program assigned (y t.heap) b (record s { top = next s.top; finishes = ns })
@@ -219,7 +225,7 @@ module _ (setting : Setting) (here : ℕ) (far : Far) (m : machine.Place) (key :
           now_exported = heap_exports r.heap;
           lines = λ is. is ∙ sym (ap (λ ls. map line_as ls) r.lines);
           does = (refl, refl);
-          stands = with_finishes r.heap (m.opened ∷ s.finishes) (permits_at op.Finb e) made.top (subst (λ ns. b ≡ record a { top = b.top; finishes = ns }) same made.rest);
+          stands = with_finishes r.heap (m.opened ∷ s.finishes) (edges_by op.Finb e (permits_at op.Finb e).1.settles) made.top (subst (λ ns. b ≡ record a { top = b.top; finishes = ns }) same made.rest);
           holds = heap_holds r.heap;
           grows = heap_grows r.heap;
           counted = λ none. subst (λ n. IsCountedBy st (Opens n (innermost here s)) t) (sym opened_is) (opens_count st t (innermost here s) none r);
@@ -239,7 +245,7 @@ module _ (setting : Setting) (here : ℕ) (far : Far) (m : machine.Place) (key :
           now_exported = heap_exports r.heap;
           lines = λ is. is ∙ sym (ap (λ ls. map line_as ls) r.lines);
           does = (made.number, b.finishes, h.finishes ∙ made.innermost, inr (refl, refl));
-          stands = with_finishes r.heap b.finishes (permits_at op.Fine e) made.top made.rest;
+          stands = with_finishes r.heap b.finishes (edges_by op.Fine e (permits_at op.Fine e).1.settles) made.top made.rest;
           holds = heap_holds r.heap;
           grows = heap_grows r.heap;
           counted = λ none. closes_count st t made.number made.done r;

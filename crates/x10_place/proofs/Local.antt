@@ -11,7 +11,9 @@ use Rattle.x10_kinds.specs.Kinds.{has_place}
 use Rattle.x10_code.specs.declared.op.Op.{Op}
 use Rattle.x10_code.specs.declared.op.Op.TheVariants as op
 use Rattle.x10_code.specs.declared.instr.Instr.{Instr}
+use Rattle.x10_code.specs.declared.rule.Effect.{Effect}
 use Rattle.x10_code.specs.Table.{form_of}
+use Rattle.x10_code.specs.Rules.{asks, sets}
 use Rattle.x10_model.specs.Maps.{with_entry, IsIn}
 use Rattle.x10_model.specs.Modules.{Function}
 use Rattle.x10_model.specs.Ranges.{IsThere}
@@ -19,7 +21,8 @@ use Rattle.x10_model.specs.Values.{Value, Int, Place, Object, Null, Ref, Bytes, 
 use Rattle.x10_model.specs.Places as machine
 use Rattle.x10_model.specs.Places.{Setting, Stay, Works, with_stay, goes, next, writes}
 use Rattle.x10_model.specs.Moves.{Situation, Does, is_zero, place_of, writes_or_goes, next_or_goes, byte_at, byte_value}
-use Rattle.x10_model.specs.Assignments.{State, Point, Edges, onward, onward_or, gives, like_if, IsKind, IsPlaced, AreInts, Permits, Reaches}
+use Rattle.x10_model.specs.Assignments.{State, Point, Edges, like_if, IsKind, IsPlaced, Grants, Permits, Reaches, after as after_effect, edges_of}
+use Rattle.x10_model.proofs.Rules.{class_of_field, leads}
 use Rattle.x10_heap.specs.declared.export.Export.{Export}
 use Rattle.x10_heap.specs.Heaps.{HeapState, ObjectState}
 use Rattle.x10_heap.specs.Words.{Context, IsWordOf, rail_cell, HoldsHeap, export_as, has_class}
@@ -46,7 +49,7 @@ use Rattle.x10_place.proofs.HeapKept.{Keeps, heap_kept}
 use Rattle.x10_place.proofs.Words.{Reads, reads, reads_int, words_written}
 use Rattle.x10_place.proofs.Objects.{ObjectAt, object_at, word_in}
 use Rattle.x10_place.proofs.Homes.{homes_written, homes_joined, move_like}
-use Rattle.x10_place.proofs.Framed.{FrameAfter, after_of, point_of, slots_written, in_range, small, count, frame_after}
+use Rattle.x10_place.proofs.Framed.{FrameAfter, after_of, point_of, onward, onward_or, gives, slots_written, in_range, small, count, frame_after}
 
 abbrev pub situated : (setting : Setting) (here : ℕ) (m : machine.Place) (key : ℕ) (s : Stay) → Function → Instr → Situation
 situated setting here m key s function i = record { setting = setting; here = here; place = m; key = key; stay = s; function = function; instr = i }
@@ -356,12 +359,16 @@ module _ (setting : Setting) (here : ℕ) (far : Far) (m : machine.Place) (key :
     abbrev Held : ℤ → ℤ → Type 0
     Held y z = (s.top.registers i.b ≡ Some (Int y)) × (s.top.registers i.c ≡ Some (Int z))
 
+    -- what the row of two numbers to a number permits
+    abbrev PermitsTwo : Type 0
+    PermitsTwo = (e : Effect) × Grants (asks None (Some kind.Int) (Some kind.Int) (sets kind.Int)) point h.state e × (out ≡ onward point (after_effect i.a h.state e))
+
     -- its route and its form, what it gives, what its rule permits, and that it does so
     abbrev IsOfTwo : Op → Type 0
     IsOfTwo o = (route_of o ≡ route.Local (local.Number (number_by (route_of o))))
         × (IsThere setting.program h.function i (form_of o).a i.a → i.a < h.function.registers)
         × (given_by o ≡ Some (value_in (given_by o)))
-        × (Permits o point h.state out → AreInts point h.state × (out ≡ onward point (gives point h.state kind.Int None)))
+        × (Permits o point h.state out → PermitsTwo)
         × (Held (int_at f.registers.items i.b) (int_at f.registers.items i.c) → Does o (situated setting here m key s h.function i) (moved_by o) Works)
 
     -- the same of any operation, with nothing said
@@ -383,69 +390,81 @@ module _ (setting : Setting) (here : ℕ) (far : Far) (m : machine.Place) (key :
     two_moves o e two r permits =
         let t : IsOfTwo o = subst (λ b. IsOneOf b o) two (two_of o) in
         let asked = t.3 permits in
-        sums o (number_by (route_of o)) (value_in (given_by o)) e t.2 t.1 (sym t.0 ∙ r) asked.1 (t.4 (number_of i.b asked.0.0, number_of i.c asked.0.1))
+        sums o (number_by (route_of o)) (value_in (given_by o)) e t.2 t.1 (sym t.0 ∙ r) (asked.2 ∙ ap (λ q. onward point (after_effect i.a h.state q)) asked.1.settles) (t.4 (number_of i.b asked.1.b, number_of i.c asked.1.c))
 
     -- ---- the operations
+
+    -- where an operation leads, with the effect that its row settles
+    edges_by : {e : Effect} (o : Op) (permits : Permits o point h.state out) → permits.0 ≡ e → out ≡ edges_of o point h.state e
+    edges_by o permits same = leads o point h.state out permits same
 
     -- the last line is checked for each operation that isn't named above it: those that give a number of two, and those
     -- that aren't of one call frame
     pub local_moves : (o : Op) → i.op ≡ o → (o ≡ op.Put → ⊥) → (o ≡ op.Rset → ⊥) → route_of o ≡ route.Local l → Permits o point h.state out → Done o g kept
     local_moves op.Intk e np ns r permits =
         let z = get_below setting.program.ints i.x (there op.Intk e).2 in
-        sums op.Intk number.Constant (Int z.0) e (ap as_value z.1) (λ a. a) r permits (z.0, z.1, (refl, refl))
-    local_moves op.Div e np ns r permits = attempts op.Div partial.Quotient _ e refl (λ a. a) r permits.1 (int_at f.registers.items i.b, int_at f.registers.items i.c, number_of i.b permits.0.0, number_of i.c permits.0.1, (refl, refl))
-    local_moves op.Rem e np ns r permits = attempts op.Rem partial.Remainder _ e refl (λ a. a) r permits.1 (int_at f.registers.items i.b, int_at f.registers.items i.c, number_of i.b permits.0.0, number_of i.c permits.0.1, (refl, refl))
+        sums op.Intk number.Constant (Int z.0) e (ap as_value z.1) (λ a. a) r (edges_by op.Intk permits permits.1.settles) (z.0, z.1, (refl, refl))
+    local_moves op.Div e np ns r permits = attempts op.Div partial.Quotient _ e refl (λ a. a) r (edges_by op.Div permits permits.1.settles) (int_at f.registers.items i.b, int_at f.registers.items i.c, number_of i.b permits.1.b, number_of i.c permits.1.c, (refl, refl))
+    local_moves op.Rem e np ns r permits = attempts op.Rem partial.Remainder _ e refl (λ a. a) r (edges_by op.Rem permits permits.1.settles) (int_at f.registers.items i.b, int_at f.registers.items i.c, number_of i.b permits.1.b, number_of i.c permits.1.c, (refl, refl))
     local_moves op.Tlen e np ns r permits =
-        let t = reads x h.state s.top.registers f.registers.items i.b kind.Text h.words permits.0 in
-        sums op.Tlen number.TextLength (Int (pos (length t.2.0))) e (ap size t.2.1) (λ a. a) r permits.1 (t.2.0, t.1 ∙ ap Some t.2.2, (refl, refl))
+        let t = reads x h.state s.top.registers f.registers.items i.b kind.Text h.words permits.1.b in
+        sums op.Tlen number.TextLength (Int (pos (length t.2.0))) e (ap size t.2.1) (λ a. a) r (edges_by op.Tlen permits permits.1.settles) (t.2.0, t.1 ∙ ap Some t.2.2, (refl, refl))
     local_moves op.Rlen e np ns r permits =
-        let t = reads x h.state s.top.registers f.registers.items i.b kind.Rail h.words permits.0 in
-        sums op.Rlen number.RailLength (Int (pos (length t.2.0))) e (ap size t.2.1) (λ a. a) r permits.1
+        let t = reads x h.state s.top.registers f.registers.items i.b kind.Rail h.words permits.1.b in
+        sums op.Rlen number.RailLength (Int (pos (length t.2.0))) e (ap size t.2.1) (λ a. a) r (edges_by op.Rlen permits permits.1.settles)
         (2 * word_at f.registers.items i.b + 1, t.2.0, t.1 ∙ ap Some t.2.2, rail_cell_at (word_at f.registers.items i.b) t.2.0 t.2.1, (refl, refl))
     local_moves op.Rget e np ns r permits =
-        let t = reads x h.state s.top.registers f.registers.items i.b kind.Rail h.words permits.0 in
+        let t = reads x h.state s.top.registers f.registers.items i.b kind.Rail h.words permits.1.b in
         let z = int_at f.registers.items i.c in
-        attempts op.Rget partial.Byte (byte_value (byte_at t.2.0 z)) e (ap (λ o. byte_in o z) t.2.1) (λ a. a) r permits.2
-        (2 * word_at f.registers.items i.b + 1, t.2.0, z, t.1 ∙ ap Some t.2.2, rail_cell_at (word_at f.registers.items i.b) t.2.0 t.2.1, number_of i.c permits.1, (refl, refl))
+        attempts op.Rget partial.Byte (byte_value (byte_at t.2.0 z)) e (ap (λ o. byte_in o z) t.2.1) (λ a. a) r (edges_by op.Rget permits permits.1.settles)
+        (2 * word_at f.registers.items i.b + 1, t.2.0, z, t.1 ∙ ap Some t.2.2, rail_cell_at (word_at f.registers.items i.b) t.2.0 t.2.1, number_of i.c permits.1.c, (refl, refl))
     local_moves op.Placei e np ns r permits =
-        let t = reads x h.state s.top.registers f.registers.items i.b kind.Place h.words permits.0 in
-        sums op.Placei number.PlaceNumber (Int (pos (word_at f.registers.items i.b))) e refl (λ a. a) r permits.1 (word_at f.registers.items i.b, t.1 ∙ ap Some t.2.1, (refl, refl))
+        let t = reads x h.state s.top.registers f.registers.items i.b kind.Place h.words permits.1.b in
+        sums op.Placei number.PlaceNumber (Int (pos (word_at f.registers.items i.b))) e refl (λ a. a) r (edges_by op.Placei permits permits.1.settles) (word_at f.registers.items i.b, t.1 ∙ ap Some t.2.1, (refl, refl))
     local_moves op.Placek e np ns r permits =
         let lt : i.x < setting.program.least_places = (there op.Placek e).2 in
         unchanged local.Place op.Placek tt r (
           writes s.top i.a (Place i.x),
           (refl, refl),
           writes_like g kind.Place (Some (term.Place i.x)) (Place i.x) i.x (omega (arith, lt, site.enough), refl) (omega (arith, lt, site.enough, site.few), refl) (room op.Placek e (λ a. a))
-              (went (f.pc + 1) (slice_set f.registers.items i.a i.x) f.loops (by local.Place r)) (edge_next out (gives point h.state kind.Place (Some (term.Place i.x))) edges permits),
+              (went (f.pc + 1) (slice_set f.registers.items i.a i.x) f.loops (by local.Place r)) (edge_next out (gives point h.state kind.Place (Some (term.Place i.x))) edges (edges_by op.Placek permits permits.1.settles)),
         )
-    local_moves op.Home e np ns r permits = unchanged local.Home op.Home tt r (homes_in permits.0 e (reads x h.state s.top.registers f.registers.items i.b (kind.GRef permits.0) h.words permits.1) (by local.Home r) permits.2)
+    local_moves op.Home e np ns r permits =
+        let asked = permits.1.settles in
+        unchanged local.Home op.Home tt r (homes_in asked.0 e (reads x h.state s.top.registers f.registers.items i.b (kind.GRef asked.0) h.words asked.1) (by local.Home r) (edges_by op.Home permits asked.2))
     local_moves op.Gopen e np ns r permits =
-        unchanged local.Open op.Gopen tt r (opens permits.0 e (reads x h.state s.top.registers f.registers.items i.b (kind.GRef permits.0) h.words permits.1) permits.2 (by local.Open r) permits.3)
-    local_moves op.Ifsame e np ns r permits = unchanged local.SamePlace op.Ifsame tt r (compares (are_same f.registers.items i.a i.b) e refl permits.0 permits.1 (by local.SamePlace r) permits.2)
+        let asked = permits.1.settles in
+        unchanged local.Open op.Gopen tt r (opens asked.0 e (reads x h.state s.top.registers f.registers.items i.b (kind.GRef asked.0) h.words asked.1) asked.2 (by local.Open r) (edges_by op.Gopen permits asked.3))
+    local_moves op.Ifsame e np ns r permits =
+        let asked = permits.1.settles in
+        unchanged local.SamePlace op.Ifsame tt r (compares (are_same f.registers.items i.a i.b) e refl asked.0 asked.1 (by local.SamePlace r) (edges_by op.Ifsame permits asked.2))
     local_moves op.Null e np ns r permits = unchanged local.Null op.Null tt r (
       writes s.top i.a Null,
       (refl, refl),
-      writes_word g (kind.Opt i.x) Null 0 (inl (refl, refl)) (room op.Null e (λ a. a)) (went (f.pc + 1) (slice_set f.registers.items i.a 0) f.loops (by local.Null r)) (edge_next out (gives point h.state (kind.Opt i.x) None) edges permits),
+      writes_word g (kind.Opt i.x) Null 0 (inl (refl, refl)) (room op.Null e (λ a. a)) (went (f.pc + 1) (slice_set f.registers.items i.a 0) f.loops (by local.Null r)) (edge_next out (gives point h.state (kind.Opt i.x) None) edges (edges_by op.Null permits permits.1.settles)),
     )
     local_moves op.Ifobj e np ns r permits =
-        unchanged local.NotNull op.Ifobj tt r (copies permits.0 (word_at f.registers.items i.b == 0) e refl (reads x h.state s.top.registers f.registers.items i.b (kind.Opt permits.0) h.words permits.1) (by local.NotNull r) permits.2)
+        let asked = permits.1.settles in
+        unchanged local.NotNull op.Ifobj tt r (copies asked.0 (word_at f.registers.items i.b == 0) e refl (reads x h.state s.top.registers f.registers.items i.b (kind.Opt asked.0) h.words asked.1) (by local.NotNull r) (edges_by op.Ifobj permits asked.2))
     local_moves op.Get e np ns r permits =
-        unchanged local.GetField op.Get tt r (gets permits.0 permits.1 permits.2 e (reads x h.state s.top.registers f.registers.items i.b (kind.Obj permits.0) h.words permits.3) permits.4 permits.5 (by local.GetField r) permits.6)
+        let asked = permits.1.settles in
+        let of = class_of_field (slice_get setting.program.classes asked.0) i.c asked.1 asked.3 in
+        unchanged local.GetField op.Get tt r (gets asked.0 of.0 asked.1 e (reads x h.state s.top.registers f.registers.items i.b (kind.Obj asked.0) h.words asked.2) of.1 of.2 (by local.GetField r) (edges_by op.Get permits asked.4))
     local_moves op.Put e np ns r permits = absurd (np refl)
     local_moves op.Rset e np ns r permits = absurd (ns refl)
     local_moves op.Move e np ns r permits = unchanged local.Copy op.Move tt r
-        (moves_word g out permits.0 edges permits.1 permits.2 (room op.Move e (λ a. a)) (register_few op.Move e (λ b. b)) (went (f.pc + 1) (slice_set f.registers.items i.a (word_at f.registers.items i.b)) f.loops (by local.Copy r)))
+        (moves_word g out permits.1.settles.0 edges permits.1.settles.1 (edges_by op.Move permits permits.1.settles.2) (room op.Move e (λ a. a)) (register_few op.Move e (λ b. b)) (went (f.pc + 1) (slice_set f.registers.items i.a (word_at f.registers.items i.b)) f.loops (by local.Copy r)))
     local_moves op.Jmp e np ns r permits = unchanged local.Jump op.Jmp tt r
-        (goes s.top i.x, (refl, refl), goes_to g i.x h.state (went i.x f.registers.items f.loops (by local.Jump r)) (edges (i.x, h.state) (subst (λ (o : Edges). IsIn (i.x, h.state) o) (sym permits) (0, refl))) refl)
+        (goes s.top i.x, (refl, refl), goes_to g i.x h.state (went i.x f.registers.items f.loops (by local.Jump r)) (edges (i.x, h.state) (subst (λ (o : Edges). IsIn (i.x, h.state) o) (sym (edges_by op.Jmp permits permits.1.settles)) (0, refl))) refl)
     local_moves op.Jz e np ns r permits = unchanged local.JumpIfZero op.Jz tt r (
       _,
-      (int_at f.registers.items i.a, number_of i.a permits.0, (refl, refl)),
-      jumps_if g (is_zero (int_at f.registers.items i.a)) (went _ f.registers.items f.loops (by local.JumpIfZero r)) (edge_first out h.state h.state edges permits.1) (edge_target out h.state h.state edges permits.1),
+      (int_at f.registers.items i.a, number_of i.a permits.1.a, (refl, refl)),
+      jumps_if g (is_zero (int_at f.registers.items i.a)) (went _ f.registers.items f.loops (by local.JumpIfZero r)) (edge_first out h.state h.state edges (edges_by op.Jz permits permits.1.settles)) (edge_target out h.state h.state edges (edges_by op.Jz permits permits.1.settles)),
     )
     local_moves op.Loop e np ns r permits = unchanged local.Loop op.Loop tt r
-        (_, (refl, refl), loops_set g i.x (s.top.pc + 1) (f.pc + 1) (slot_there op.Loop e (λ a. a)) pc_next (went (f.pc + 1) f.registers.items (slice_set f.loops i.a i.x) (by local.Loop r)) (edge_next out h.state edges permits))
+        (_, (refl, refl), loops_set g i.x (s.top.pc + 1) (f.pc + 1) (slot_there op.Loop e (λ a. a)) pc_next (went (f.pc + 1) f.registers.items (slice_set f.loops i.a i.x) (by local.Loop r)) (edge_next out h.state edges (edges_by op.Loop permits permits.1.settles)))
     local_moves op.Endl e np ns r permits =
         let lt = slot_there op.Endl e (λ a. a) in
         unchanged local.EndLoop op.Endl tt r
-        (_, (refl, refl), loop_turns g (s.top.loops i.a - 1) lt (ap (λ n. n - 1) (sym (h.loops i.a lt))) (went _ f.registers.items _ (by local.EndLoop r)) (edge_first out h.state h.state edges permits) (edge_target out h.state h.state edges permits))
+        (_, (refl, refl), loop_turns g (s.top.loops i.a - 1) lt (ap (λ n. n - 1) (sym (h.loops i.a lt))) (went _ f.registers.items _ (by local.EndLoop r)) (edge_first out h.state h.state edges (edges_by op.Endl permits permits.1.settles)) (edge_target out h.state h.state edges (edges_by op.Endl permits permits.1.settles)))
     local_moves o e np ns r permits = two_moves o e (let two : of_two (route_of o) ≡ true = cc in two) r permits

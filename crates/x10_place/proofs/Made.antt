@@ -12,6 +12,7 @@ use Rattle.x10_kinds.specs.declared.kind.Kind.TheVariants as kind
 use Rattle.x10_code.specs.declared.op.Op.{Op}
 use Rattle.x10_code.specs.declared.op.Op.TheVariants as op
 use Rattle.x10_code.specs.declared.instr.Instr.{Instr}
+use Rattle.x10_code.specs.declared.rule.Effect.{Effect}
 use Rattle.x10_code.specs.Table.{form_of}
 use Rattle.x10_model.specs.declared.limits.TheConstants.{MOST_BYTES}
 use Rattle.x10_model.specs.Maps.{with_entry, IsIn}
@@ -22,7 +23,8 @@ use Rattle.x10_model.specs.Places as machine
 use Rattle.x10_model.specs.Places.{Setting, Stay, Works, with_stay, goes, next, writes}
 use Rattle.x10_model.specs.Moves as moves
 use Rattle.x10_model.specs.Moves.{Situation, Does, HoldsFrom, writes_or_goes, joined_text, rail_length, byte_at, index_of}
-use Rattle.x10_model.specs.Assignments.{State, Edges, IsKind, KindsFit, onward, onward_or, gives, Permits, Reaches}
+use Rattle.x10_model.specs.Assignments.{State, Edges, IsKind, KindsAre, Permits, Reaches, edges_of}
+use Rattle.x10_model.proofs.Rules.{first_kind, next_kinds, class_of_field, leads}
 use Rattle.x10_heap.specs.Heaps.{HeapState, ObjectState, with_object, with_rail, with_text, with_field}
 use Rattle.x10_heap.specs.Words.{Context, IsWordOf, AreWordsOf, HoldsObject, rail_cell, HoldsHeap}
 use Rattle.x10_heap.proofs.Growing.{Grows, grows_not, IsWritten, written_last, written_at, last_kept, words_kept, holds_object, holds_rail, holds_texts}
@@ -35,7 +37,7 @@ use Rattle.x10_place.specs.Frames.{space_of, Becomes, IsFetchedFor, Acts, SetsFi
 use Rattle.x10_place.specs.Routes.{route_of}
 use Rattle.x10_place.specs.StandsFor.{Far, context, Assigned, HoldRegisters, StandsForFrame, HoldsExports}
 use Rattle.x10_place.proofs.Words.{Reads, reads, reads_int, of_kind}
-use Rattle.x10_place.proofs.Framed.{FrameAfter, after_of, in_range, count}
+use Rattle.x10_place.proofs.Framed.{FrameAfter, after_of, onward, onward_or, gives, in_range, count}
 use Rattle.x10_place.proofs.Growing.{frame_kept, exports_kept}
 use Rattle.x10_place.proofs.Local.{situated, Done, states, point, room, goes_to, goes_next, writes_word, edge_next, edge_first, edge_target}
 use Rattle.x10_place.proofs.Objects.{ObjectAt, object_at, word_in, words_set}
@@ -91,11 +93,11 @@ pub record GivesFields (x : Context) (cells : Cells) (sit : Situation) (words : 
   pub of_kinds : AreOfKinds (IsOfKind cells) values kinds
   pub words_are : AreWordsOf x kinds (slice_range words b (b + length kinds)) values
 
-gives_fields : (x : Context) (cells : Cells) (sit : Situation) (s : State) (words : List ℕ) → HoldsHeap x cells → HoldRegisters x s sit.stay.top.registers words → (b : ℕ) (kinds : List Kind) → KindsFit s b kinds → b + length kinds ≤ length words → GivesFields x cells sit words b kinds
+gives_fields : (x : Context) (cells : Cells) (sit : Situation) (s : State) (words : List ℕ) → HoldsHeap x cells → HoldRegisters x s sit.stay.top.registers words → (b : ℕ) (kinds : List Kind) → KindsAre s b kinds → b + length kinds ≤ length words → GivesFields x cells sit words b kinds
 gives_fields x cells sit s words holds typed b [] fit few = record { values = []; held = tt; of_kinds = tt; words_are = subst (λ ws. AreWordsOf x [] ws []) (sym (range_none words b)) tt }
 gives_fields x cells sit s words holds typed b (k ∷ kinds) fit few =
-    let v = reads x s sit.stay.top.registers words b k typed fit.0 in
-    let rest = gives_fields x cells sit s words holds typed (b + 1) kinds fit.1 (omega (arith, few)) in
+    let v = reads x s sit.stay.top.registers words b k typed (first_kind s b k kinds fit) in
+    let rest = gives_fields x cells sit s words holds typed (b + 1) kinds (next_kinds s b k kinds fit) (omega (arith, few)) in
     record {
       values = v.0 ∷ rest.values;
       held = (v.1, rest.held);
@@ -192,7 +194,7 @@ module _ (setting : Setting) (here : ℕ) (far : Far) (m : machine.Place) (key :
     grows_object : (class : ℕ) (fields : List ℕ) → Grows x (y (with_object heap class fields))
     grows_object class fields = record { classes = refl; here = refl; places = refl; objects = λ n o e. (o, last_kept heap.objects _ n o e, refl); rails = λ n bytes e. (bytes, e); texts = λ n t e. e; exports = λ id e is. is; far = λ home id class e. e }
 
-    object_made : (kinds : List Kind) → i.op ≡ op.New → slice_get setting.program.classes i.x ≡ Some kinds → KindsFit h.state i.b kinds → i.b + length kinds ≤ length f.registers.items → MakesObject (space_of f heap) i (length kinds) (space_of g kept)
+    object_made : (kinds : List Kind) → i.op ≡ op.New → slice_get setting.program.classes i.x ≡ Some kinds → KindsAre h.state i.b kinds → i.b + length kinds ≤ length f.registers.items → MakesObject (space_of f heap) i (length kinds) (space_of g kept)
         → out ≡ onward (point setting here far m key s assigned heap f h i fetched) (gives (point setting here far m key s assigned heap f h i fetched) h.state (kind.Obj i.x) None) → Result op.New g kept
     object_made kinds e known fit few makes to =
         let from : GivesFields x m.cells sit f.registers.items i.b kinds = gives_fields x m.cells sit h.state f.registers.items held h.words i.b kinds fit few in
@@ -363,6 +365,10 @@ module _ (setting : Setting) (here : ℕ) (far : Far) (m : machine.Place) (key :
     permits_at : (o : Op) → i.op ≡ o → Permits i.op (point setting here far m key s assigned heap f h i fetched) h.state out → Permits o (point setting here far m key s assigned heap f h i fetched) h.state out
     permits_at o e permits = subst (λ q. Permits q (point setting here far m key s assigned heap f h i fetched) h.state out) e permits
 
+    -- where an operation leads, with the effect that its row settles
+    edges_by : {e : Effect} (o : Op) (permits : Permits o (point setting here far m key s assigned heap f h i fetched) h.state out) → permits.0 ≡ e → out ≡ edges_of o (point setting here far m key s assigned heap f h i fetched) h.state e
+    edges_by o permits same = leads o (point setting here far m key s assigned heap f h i fetched) h.state out permits same
+
     -- the fields of a class that is there
     fields_fit : (kinds : List Kind) → i.op ≡ op.New → slice_get setting.program.classes i.x ≡ Some kinds → i.b + length kinds ≤ length f.registers.items
     fields_fit kinds e known =
@@ -373,22 +379,26 @@ module _ (setting : Setting) (here : ℕ) (far : Far) (m : machine.Place) (key :
 
     pub make_moves : (k : Make) (o : Op) → i.op ≡ o → route_of o ≡ route.Make k → Permits o (point setting here far m key s assigned heap f h i fetched) h.state out → Makes k setting.program (space_of f heap) i (space_of g kept) → Result o g kept
     make_moves make.Text op.Textk e r permits makes = text_made op.Textk makes.0 e (λ a. a) makes.2
-        (edge_next setting here far m key s assigned heap f h i fetched out (gives (point setting here far m key s assigned heap f h i fetched) h.state kind.Text None) edges permits) (makes.0, makes.1, (refl, refl))
+        (edge_next setting here far m key s assigned heap f h i fetched out (gives (point setting here far m key s assigned heap f h i fetched) h.state kind.Text None) edges (edges_by op.Textk permits permits.1.settles)) (makes.0, makes.1, (refl, refl))
     make_moves make.JoinedText op.Tcat e r permits makes =
-        let t = reads x h.state s.top.registers f.registers.items i.b kind.Text h.words permits.0 in
-        let u = reads x h.state s.top.registers f.registers.items i.c kind.Text h.words permits.1 in
+        let t = reads x h.state s.top.registers f.registers.items i.b kind.Text h.words permits.1.b in
+        let u = reads x h.state s.top.registers f.registers.items i.c kind.Text h.words permits.1.c in
         let same_t : t.2.0 ≡ makes.0 = same_Some t.2.0 makes.0 (sym t.2.1 ∙ makes.2) in
         let same_u : u.2.0 ≡ makes.1 = same_Some u.2.0 makes.1 (sym u.2.1 ∙ makes.3) in
-        joined (nat_le (length makes.0 + length makes.1) MOST_BYTES) makes.0 makes.1 e refl (t.1 ∙ ap Some (t.2.2 ∙ ap Text same_t)) (u.1 ∙ ap Some (u.2.2 ∙ ap Text same_u)) makes.4 permits.2
+        joined (nat_le (length makes.0 + length makes.1) MOST_BYTES) makes.0 makes.1 e refl (t.1 ∙ ap Some (t.2.2 ∙ ap Text same_t)) (u.1 ∙ ap Some (u.2.2 ∙ ap Text same_u)) makes.4 (edges_by op.Tcat permits permits.1.settles)
     make_moves make.Object op.New e r permits makes =
-        let same_kinds : makes.0 ≡ permits.0 = same_Some makes.0 permits.0 (sym makes.1 ∙ permits.1) in
-        object_made permits.0 e permits.1 permits.2 (fields_fit permits.0 e permits.1) (subst (λ ks. MakesObject (space_of f heap) i (length ks) (space_of g kept)) same_kinds makes.2) permits.3
-    make_moves make.Rail op.Rail e r permits makes = rail_made (rail_length (int_at f.registers.items i.b)) e refl permits.0 makes permits.1
+        let asked = permits.1.settles in
+        let same_kinds : makes.0 ≡ asked.0 = same_Some makes.0 asked.0 (sym makes.1 ∙ asked.1) in
+        object_made asked.0 e asked.1 asked.2 (fields_fit asked.0 e asked.1) (subst (λ ks. MakesObject (space_of f heap) i (length ks) (space_of g kept)) same_kinds makes.2) (edges_by op.New permits asked.3)
+    make_moves make.Rail op.Rail e r permits makes = rail_made (rail_length (int_at f.registers.items i.b)) e refl permits.1.b makes (edges_by op.Rail permits permits.1.settles)
     make_moves k o e r permits makes = absurd cc
 
     pub put_moves : i.op ≡ op.Put → Permits op.Put (point setting here far m key s assigned heap f h i fetched) h.state out → SetsField (space_of f heap) i (space_of g kept) → Result op.Put g kept
-    put_moves e permits sets = field_set permits.0 permits.1 permits.2 e (reads x h.state s.top.registers f.registers.items i.a (kind.Obj permits.0) h.words permits.3) permits.4 permits.5
-        (reads x h.state s.top.registers f.registers.items i.b permits.2 h.words permits.6) sets permits.7
+    put_moves e permits sets =
+        let asked = permits.1.settles in
+        let of = class_of_field (slice_get setting.program.classes asked.0) i.c asked.1 asked.3 in
+        field_set asked.0 of.0 asked.1 e (reads x h.state s.top.registers f.registers.items i.a (kind.Obj asked.0) h.words asked.2) of.1 of.2
+        (reads x h.state s.top.registers f.registers.items i.b asked.1 h.words asked.4) sets (edges_by op.Put permits asked.5)
 
     pub rset_moves : Permits op.Rset (point setting here far m key s assigned heap f h i fetched) h.state out → Acts local.SetByte setting.program (space_of f heap) i (space_of g kept) → Result op.Rset g kept
-    rset_moves permits acts = byte_sets (byte_at acts.0 (int_at f.registers.items i.b)) acts.0 acts.1 refl (reads x h.state s.top.registers f.registers.items i.a kind.Rail h.words permits.0) permits.1 permits.2 acts.2 permits.3
+    rset_moves permits acts = byte_sets (byte_at acts.0 (int_at f.registers.items i.b)) acts.0 acts.1 refl (reads x h.state s.top.registers f.registers.items i.a kind.Rail h.words permits.1.a) permits.1.b permits.1.c acts.2 (edges_by op.Rset permits permits.1.settles)

@@ -14,7 +14,8 @@ use Rattle.x10_kinds.specs.declared.homes.Term.TheVariants as term
 use Rattle.x10_model.specs.Moves.{place_of}
 use Rattle.x10_model.specs.Ranges.{IsThere}
 use Rattle.x10_model.specs.Places as machine
-use Rattle.x10_model.specs.Assignments.{State, HasAssignment, Edges, IsKind, Permits}
+use Rattle.x10_model.specs.Assignments.{State, HasAssignment, Edges, IsKind, Permits, field_of}
+use Rattle.x10_model.proofs.Rules.{class_of_field}
 use Rattle.x10_model.specs.Values.{Cells}
 use Rattle.x10_verify.specs.Printing.{PrintsText}
 use Rattle.x10_heap.specs.Heaps.{HeapState}
@@ -45,11 +46,13 @@ module _ (program : Module) (assigned : Assigned program) (x : Context) (same_cl
   rail_there r k = let t = reads x h.state c.registers f.registers.items r kind.Rail h.words k in slice_get_within x.heap.rails (word_at f.registers.items r) t.2.0 t.2.1
 
   -- an object with the field
-  field_at : (r class : ℕ) (kinds : List Kind) (n : ℕ) (k : Kind) → IsKind h.state r (kind.Obj class) → slice_get program.classes class ≡ Some kinds → slice_get kinds n ≡ Some k → NamesField x.heap f.registers.items r n
-  field_at r class kinds n k known classes field =
+  field_at : (r class n : ℕ) (k : Kind) → IsKind h.state r (kind.Obj class) → field_of program class n ≡ Some k → NamesField x.heap f.registers.items r n
+  field_at r class n k known is =
+      let of = class_of_field (slice_get program.classes class) n k is in
+      let kinds = of.0 in
       let v = reads x h.state c.registers f.registers.items r (kind.Obj class) h.words known in
-      let o = object_at x cells class kinds (word_at f.registers.items r) v.0 holds v.2 (ap (λ cs. slice_get cs class) same_classes ∙ classes) in
-      record { not_null = o.not_null; has_field = field_there x cells class kinds (word_at f.registers.items r) v.0 n k o field }
+      let o = object_at x cells class kinds (word_at f.registers.items r) v.0 holds v.2 (ap (λ cs. slice_get cs class) same_classes ∙ of.1) in
+      record { not_null = o.not_null; has_field = field_there x cells class kinds (word_at f.registers.items r) v.0 n k o of.2 }
 
   -- a global reference that is known to be of this place
   export_there : (r class : ℕ) → r < 64 → IsKind h.state r (kind.GRef class) → IsTrue (h.state.homes (term.Reg r) term.Here) → id_of (word_at f.registers.items r) < length x.heap.exports
@@ -108,17 +111,17 @@ module _ (program : Module) (assigned : Assigned program) (x : Context) (same_cl
 
   -- the last line is checked for each operation that isn't named above it: these read nothing there
   reads_of : (o : Op) → i.op ≡ o → (out : Edges) → Permits o (point_of program h.function f i) h.state out → Read (route_of o)
-  reads_of op.Tlen e out p = text_there i.b p.0
-  reads_of op.Tcat e out p = (text_there i.b p.0, text_there i.c p.1)
-  reads_of op.Get e out p = field_at i.b p.0 p.1 i.c p.2 p.3 p.4 p.5
-  reads_of op.Put e out p = field_at i.a p.0 p.1 i.c p.2 p.3 p.4 p.5
-  reads_of op.Rget e out p = rail_there i.b p.0
-  reads_of op.Rset e out p = rail_there i.a p.0
-  reads_of op.Rlen e out p = rail_there i.b p.0
-  reads_of op.Placei e out p = let lt = place_there i.b p.0 in omega (arith, lt, few)
-  reads_of op.Nextp e out p = place_there i.b p.0
-  reads_of op.Gnew e out p = object_there i.b p.0 p.1
-  reads_of op.Gopen e out p = export_there i.b p.0 (register_small e) p.1 p.2
+  reads_of op.Tlen e out p = text_there i.b p.1.b
+  reads_of op.Tcat e out p = (text_there i.b p.1.b, text_there i.c p.1.c)
+  reads_of op.Get e out p = let asked = p.1.settles in field_at i.b asked.0 i.c asked.1 asked.2 asked.3
+  reads_of op.Put e out p = let asked = p.1.settles in field_at i.a asked.0 i.c asked.1 asked.2 asked.3
+  reads_of op.Rget e out p = rail_there i.b p.1.b
+  reads_of op.Rset e out p = rail_there i.a p.1.a
+  reads_of op.Rlen e out p = rail_there i.b p.1.b
+  reads_of op.Placei e out p = let lt = place_there i.b p.1.b in omega (arith, lt, few)
+  reads_of op.Nextp e out p = place_there i.b p.1.b
+  reads_of op.Gnew e out p = object_there i.b p.1.settles.0 p.1.settles.1
+  reads_of op.Gopen e out p = export_there i.b p.1.settles.0 (register_small e) p.1.settles.1 p.1.settles.2
   reads_of _ e out p = tt
 
   by_route : (r : Route) → route_of i.op ≡ r → Read r

@@ -11,6 +11,7 @@ use Rattle.x10_kinds.specs.Equations.{joined}
 use Rattle.x10_code.specs.declared.op.Op.{Op}
 use Rattle.x10_code.specs.declared.op.Op.TheVariants as op
 use Rattle.x10_code.specs.declared.instr.Instr.{Instr}
+use Rattle.x10_code.specs.declared.rule.Effect.{Effect}
 use Rattle.x10_code.specs.Table.{form_of}
 use Rattle.x10_model.specs.Maps.{IsIn}
 use Rattle.x10_model.specs.Ranges.{IsThere}
@@ -18,7 +19,8 @@ use Rattle.x10_model.specs.Values.{Value, Int, Place, Object, Ref, Fields, IsOfK
 use Rattle.x10_model.specs.Places as machine
 use Rattle.x10_model.specs.Places.{Setting, Stay, Works, with_stay, goes, next, writes}
 use Rattle.x10_model.specs.Moves.{Situation, Does, place_number, writes_or_goes, next_or_goes}
-use Rattle.x10_model.specs.Assignments.{State, Edges, IsKind, IsPlaced, onward, onward_or, gives, Permits, Reaches}
+use Rattle.x10_model.specs.Assignments.{State, Edges, IsKind, IsPlaced, Permits, Reaches, edges_of}
+use Rattle.x10_model.proofs.Rules.{leads}
 use Rattle.x10_heap.specs.declared.export.Export.{Export}
 use Rattle.x10_heap.specs.Heaps.{HeapState, ObjectState, with_export}
 use Rattle.x10_heap.specs.Words.{Context, IsWordOf, HoldsHeap, export_as, has_class, is_named}
@@ -32,7 +34,7 @@ use Rattle.x10_place.specs.Frames.{space_of, Becomes, Writes, IsFetchedFor, Puts
 use Rattle.x10_place.specs.Routes.{route_of}
 use Rattle.x10_place.specs.StandsFor.{Far, context, Assigned, StandsForFrame, HoldsExports, IsWithinPlaces}
 use Rattle.x10_place.proofs.Words.{Reads, reads, reads_int, of_kind}
-use Rattle.x10_place.proofs.Framed.{FrameAfter, after_of}
+use Rattle.x10_place.proofs.Framed.{FrameAfter, after_of, onward, onward_or, gives}
 use Rattle.x10_place.proofs.Growing.{frame_kept}
 use Rattle.x10_place.proofs.Local.{situated, Done, states, point, room, register_small, placed_in, goes_to, goes_joined, writes_like, writes_word, edge_next, edge_first, edge_target}
 
@@ -143,14 +145,18 @@ module _ (setting : Setting) (here : ℕ) (far : Far) (m : machine.Place) (key :
         (goes_to setting here far m key s assigned heap f h i fetched g i.x h.state (went i.x f.registers.items f.loops c)
         (edge_target setting here far m key s assigned heap f h i fetched out (record h.state { homes = joined h.state.homes (term.Reg i.a) term.Here }) h.state edges to) refl)
 
+    -- where an operation leads, with the effect that its row settles
+    edges_by : {e : Effect} (o : Op) (permits : Permits o (point setting here far m key s assigned heap f h i fetched) h.state out) → permits.0 ≡ e → out ≡ edges_of o (point setting here far m key s assigned heap f h i fetched) h.state e
+    edges_by o permits same = leads o (point setting here far m key s assigned heap f h i fetched) h.state out permits same
+
     pub site_moves : (k : Site) (o : Op) → i.op ≡ o → route_of o ≡ route.Site k → Permits o (point setting here far m key s assigned heap f h i fetched) h.state out → ActsAt k here setting.places (space_of f heap) i (space_of g kept) → Result o g kept
     site_moves site.Here op.Here e r permits p = unchanged op.Here (writes s.top i.a (Place here)) p.heap_is (refl, refl)
         (writes_like setting here far m key s assigned heap f h i fetched g kind.Place (Some term.Here) (Place here) here (spot.within, refl) (tt, refl) (register op.Here e (λ a. a)) (went (f.pc + 1) (slice_set f.registers.items i.a here) f.loops p)
-        (edge_next setting here far m key s assigned heap f h i fetched out (gives (point setting here far m key s assigned heap f h i fetched) h.state kind.Place (Some term.Here)) edges permits))
-    site_moves site.Count op.Count e r permits p = counts e p permits
-    site_moves site.Next op.Nextp e r permits p = next_place e (reads x h.state s.top.registers f.registers.items i.b kind.Place h.words permits.0) p permits.1
-    site_moves site.Numbered op.Placen e r permits p = numbers (numbered setting.places (int_at f.registers.items i.b)) e refl permits.0 p permits.1
-    site_moves site.IsHere op.Ifhere e r permits p = is_here (is_at f.registers.items i.a here) e refl permits.0 p permits.1
+        (edge_next setting here far m key s assigned heap f h i fetched out (gives (point setting here far m key s assigned heap f h i fetched) h.state kind.Place (Some term.Here)) edges (edges_by op.Here permits permits.1.settles)))
+    site_moves site.Count op.Count e r permits p = counts e p (edges_by op.Count permits permits.1.settles)
+    site_moves site.Next op.Nextp e r permits p = next_place e (reads x h.state s.top.registers f.registers.items i.b kind.Place h.words permits.1.b) p (edges_by op.Nextp permits permits.1.settles)
+    site_moves site.Numbered op.Placen e r permits p = numbers (numbered setting.places (int_at f.registers.items i.b)) e refl permits.1.b p (edges_by op.Placen permits permits.1.settles)
+    site_moves site.IsHere op.Ifhere e r permits p = is_here (is_at f.registers.items i.a here) e refl permits.1.settles.0 p (edges_by op.Ifhere permits permits.1.settles.1)
     site_moves k o e r permits p = absurd cc
 
     -- ---- global references
@@ -217,11 +223,12 @@ module _ (setting : Setting) (here : ℕ) (far : Far) (m : machine.Place) (key :
 
     pub export_moves : i.op ≡ op.Gnew → Permits op.Gnew (point setting here far m key s assigned heap f h i fetched) h.state out → ExportsObject here (space_of f heap) i (space_of g kept) → Result op.Gnew g kept
     export_moves e permits made =
-        let read = reads x h.state s.top.registers f.registers.items i.b (kind.Obj permits.0) h.words permits.1 in
+        let asked = permits.1.settles in
+        let read = reads x h.state s.top.registers f.registers.items i.b (kind.Obj asked.0) h.words asked.1 in
         let some = read.2 in
         let number_is : some.number ≡ object_in f.registers.items i.b = omega (arith, some.word_is) in
         let same_object : some.object ≡ made.object = same_Some some.object made.object (sym (subst (λ n. slice_get heap.objects n ≡ Some some.object) number_is some.is_there) ∙ made.is_object) in
-        let class_is : made.object.class ≡ permits.0 = ap (λ (q : ObjectState). q.class) (sym same_object) ∙ some.class_is in
-        let cell : IsOfKind m.cells (Object (2 * some.number)) (kind.Obj permits.0) = subst (λ v. IsOfKind m.cells v (kind.Obj permits.0)) some.value_is (of_kind x m.cells (kind.Obj permits.0) (word_at f.registers.items i.b) read.0 held some) in
-        exports_object permits.0 made class_is e cell.0 (read.1 ∙ ap Some (some.value_is ∙ ap (λ n. Object (2 * n)) number_is))
-        (ap (λ n. m.cells (2 * n)) (sym number_is) ∙ cell.1 ∙ ap (λ c. Some (Fields c cell.0)) (sym class_is)) permits.2
+        let class_is : made.object.class ≡ asked.0 = ap (λ (q : ObjectState). q.class) (sym same_object) ∙ some.class_is in
+        let cell : IsOfKind m.cells (Object (2 * some.number)) (kind.Obj asked.0) = subst (λ v. IsOfKind m.cells v (kind.Obj asked.0)) some.value_is (of_kind x m.cells (kind.Obj asked.0) (word_at f.registers.items i.b) read.0 held some) in
+        exports_object asked.0 made class_is e cell.0 (read.1 ∙ ap Some (some.value_is ∙ ap (λ n. Object (2 * n)) number_is))
+        (ap (λ n. m.cells (2 * n)) (sym number_is) ∙ cell.1 ∙ ap (λ c. Some (Fields c cell.0)) (sym class_is)) (edges_by op.Gnew permits asked.2)

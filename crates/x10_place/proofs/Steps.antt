@@ -3,6 +3,7 @@ use Rattle.std.proofs.Common.{◌≡◌, ℕ, ◌≤◌, ◌^◌, false, Option,
 use Rattle.std.specs.Prelude.{map, slice_get}
 use Rattle.std.proofs.lemmas.Bool.{cases_eq}
 use Rattle.slab.specs.Slab.{Slab, get, Updates}
+use Rattle.x10_code.specs.declared.op.Op.TheVariants as op
 use Rattle.x10_code.specs.declared.instr.Instr.{Instr}
 use Rattle.x10_model.specs.Maps.{with_entry}
 use Rattle.x10_model.specs.Modules.{Module}
@@ -11,6 +12,7 @@ use Rattle.x10_model.specs.Places as machine
 use Rattle.x10_model.specs.Places.{Setting, Finish, Stay, IsFree, innermost, innermost_of, Effect, Waits, Begins, with_stay, next}
 use Rattle.x10_model.specs.Moves.{Does, Moves}
 use Rattle.x10_model.specs.Assignments.{Permits}
+use Rattle.x10_model.proofs.Rules.{leads}
 use Rattle.x10_model.proofs.Lists.{none_some}
 use Rattle.x10_model.proofs.Maps.{at_key, off_key}
 use Rattle.x10_finish.proofs.Stays.{stays_change}
@@ -176,7 +178,7 @@ module _ (far : Far) (p : PlaceState) (m : machine.Place) (stands : StandsFor fa
       let counted = subst (λ f. IsCountedBy (store_of p) (Begins begins.other i.x f) t) (sym under) (begins_count (store_of p) t begins.other i.x (innermost_at p.id a) r) in
       let stay : StandsForStay p.program stands.assigned (context_of far p) b to = record {
         placed = next_placed p.program checks a b i route.Begin h.placed begins.fetched (ap route_of begins.is_async) tt (λ e. absurd (let f = sym begins.is_async ∙ e in cc)) begins.goes begins.rest;
-        top = next_stands (setting_of p) p.id far m key s stands.assigned p.heap stands.heap stands.site.few a h i begins.fetched b at.0 permits.3 at.2 begins.goes;
+        top = next_stands (setting_of p) p.id far m key s stands.assigned p.heap stands.heap stands.site.few a h i begins.fetched b at.0 (leads op.Async (point_of p.program h.top.function a.top i) h.top.state at.0 permits permits.1.settles.3) at.2 begins.goes;
         callers = subst (λ fs. StandForCallers p.program stands.assigned (context_of far p) fs s.callers) (sym (ap (λ (q : StayState). q.callers) begins.rest)) h.callers;
         finishes = h.finishes ∙ ap (λ (q : StayState). q.finishes) (sym begins.rest);
         inherited = h.inherited ∙ ap (λ (q : StayState). q.inherited) (sym begins.rest);

@@ -17,7 +17,7 @@ use Rattle.x10_model.specs.Values.{Place}
 use Rattle.x10_model.specs.Places as machine
 use Rattle.x10_model.specs.Places.{Finish, Origin, Stay}
 use Rattle.x10_model.specs.Moves.{as_list}
-use Rattle.x10_model.specs.Assignments.{Permits, CallsWell, IsKind}
+use Rattle.x10_model.specs.Assignments.{Permits, IsCalled}
 use Rattle.x10_verify.specs.Certified.{Certified}
 use Rattle.x10_heap.specs.Words.{Context, AreWordsOf}
 use Rattle.x10_frame.specs.declared.head.Head.{Head}
@@ -77,8 +77,7 @@ module _ (v : Certified) (old : Slab StayState) (s : StoreState) (key : ℕ) (i 
   -- what the verifier knows of an AT or ATA
   record Known : Type 0 where
     pub callee : Function
-    pub place : IsKind sh.top.state i.c kind.Place
-    pub calls : CallsWell (point_of p.program sh.top.function a.top i) sh.top.state (term.Reg i.c) callee
+    pub calls : IsCalled (point_of p.program sh.top.function a.top i) sh.top.state (term.Reg i.c) callee
     pub counted : i.b + length callee.parameters ≤ sh.top.function.registers
     pub there : i.c < sh.top.function.registers
     pub named : i.x < length p.program.functions
@@ -93,10 +92,9 @@ module _ (v : Certified) (old : Slab StayState) (s : StoreState) (key : ℕ) (i 
       let range = in_range p.program stands.assigned x a.top st.top sh.top i h.fetched in
       let those = subst (λ q. AreArgumentRegisters sh.top.function (argument_count p.program i q) i.b) e (subst (λ q. IsThere p.program sh.top.function i (form_of q).b i.b) e range.b) in
       record {
-        callee = permits.0;
-        place = permits.2;
-        calls = permits.3;
-        counted = counted_by op.At permits.0 those permits.3.0 refl;
+        callee = permits.1.settles.0;
+        calls = permits.1.settles.1;
+        counted = counted_by op.At permits.1.settles.0 those permits.1.settles.1.there refl;
         there = subst (λ q. IsThere p.program sh.top.function i (form_of q).c i.c) e range.c;
         named = subst (λ q. IsThere p.program sh.top.function i (form_of q).x i.x) e range.x;
       }
@@ -108,10 +106,9 @@ module _ (v : Certified) (old : Slab StayState) (s : StoreState) (key : ℕ) (i 
       let range = in_range p.program stands.assigned x a.top st.top sh.top i h.fetched in
       let those = subst (λ q. AreArgumentRegisters sh.top.function (argument_count p.program i q) i.b) e (subst (λ q. IsThere p.program sh.top.function i (form_of q).b i.b) e range.b) in
       record {
-        callee = permits.0;
-        place = permits.1;
-        calls = permits.2;
-        counted = counted_by op.Ata permits.0 those permits.2.0 refl;
+        callee = permits.1.settles.0;
+        calls = permits.1.settles.1;
+        counted = counted_by op.Ata permits.1.settles.0 those permits.1.settles.1.there refl;
         there = subst (λ q. IsThere p.program sh.top.function i (form_of q).c i.c) e range.c;
         named = subst (λ q. IsThere p.program sh.top.function i (form_of q).x i.x) e range.x;
       }
@@ -121,7 +118,7 @@ module _ (v : Certified) (old : Slab StayState) (s : StoreState) (key : ℕ) (i 
 
   -- the place that it names is one of the run
   pub place_within : route_of i.op ≡ route.Send → word_at a.top.registers.items i.c < s.places
-  place_within e = (reads x sh.top.state st.top.registers a.top.registers.items i.c kind.Place sh.top.words (known e).place).2.0
+  place_within e = (reads x sh.top.state st.top.registers a.top.registers.items i.c kind.Place sh.top.words (known e).calls.place).2.0
 
   pub function_small : route_of i.op ≡ route.Send → i.x < 2 ^ 16
   function_small e = let few = checks.fits.functions.1 in let lt = (known e).named in omega (arith, lt, few)
@@ -130,14 +127,14 @@ module _ (v : Certified) (old : Slab StayState) (s : StoreState) (key : ℕ) (i 
   pub arguments_stand : route_of i.op ≡ route.Send → StandForSome v.program s (slots_of_call v.program i) (words_from a.top i.b (slots_of_call v.program i))
   arguments_stand e =
       let k = known e in
-      let held = reads x sh.top.state st.top.registers a.top.registers.items i.c kind.Place sh.top.words k.place in
+      let held = reads x sh.top.state st.top.registers a.top.registers.items i.c kind.Place sh.top.words k.calls.place in
       let few = (small p.program stands.assigned x a.top st.top sh.top i h.fetched).registers.1 in
       let many = count p.program stands.assigned x a.top st.top sh.top i h.fetched in
       let to = word_at a.top.registers.items i.c in
       let place : st.top.registers i.c ≡ Some (Place to) = held.1 ∙ ap Some held.2.1 in
       let is_to : IsTermOf x st.top.registers (term.Reg i.c) to = record { is_term = (let lt = k.there in omega (arith, lt, few)); place_is = ap place_in place } in
-      let passed = passed_to (setting_of p) p.id any m key st stands.assigned p.heap stands.heap a sh i h.fetched (term.Reg i.c) to is_to k.callee checks.fits k.calls.0 k.calls.1 k.counted in
-      let slots : slots_of_call p.program i ≡ k.callee.parameters = ap parameters_of k.calls.0 in
+      let passed = passed_to (setting_of p) p.id any m key st stands.assigned p.heap stands.heap a sh i h.fetched (term.Reg i.c) to is_to k.callee checks.fits k.calls.there k.calls.arguments k.counted in
+      let slots : slots_of_call p.program i ≡ k.callee.parameters = ap parameters_of k.calls.there in
       let range = range_at a.top.registers.items i.b (length k.callee.parameters) (let n = k.counted in omega (arith, n, many)) in
       record {
         context = x;

@@ -10,12 +10,13 @@ use Rattle.x10_model.specs.declared.slot.Slot.{Slot}
 use Rattle.x10_model.specs.Modules.{Function}
 use Rattle.x10_model.specs.Assignments.{State, Point, IsKind, FitsAs, like_if}
 use Rattle.x10_verify.specs.declared.fault.FlowCause.{FlowCause}
-use Rattle.x10_verify.specs.declared.table.Effect.{Effect}
-use Rattle.x10_verify.specs.declared.table.Effect.TheVariants.{Keeps, Sets}
-use Rattle.x10_verify.specs.declared.table.Outcome.TheVariants.{Calls, Starts}
-use Rattle.x10_verify.specs.declared.table.Rule.{Rule}
+use Rattle.x10_code.specs.declared.rule.Effect.{Effect}
+use Rattle.x10_code.specs.declared.rule.Effect.TheVariants.{Keeps, Sets}
+use Rattle.x10_code.specs.declared.rule.Outcome.TheVariants.{Calls, Starts}
+use Rattle.x10_code.specs.declared.rule.Rule.{Rule}
 use Rattle.x10_verify.specs.Effects.{IsNarrow}
-use Rattle.x10_verify.specs.Rules.{Asked, Decides, IsCalled, GivesBack, KindsAre, SlotsAre, Settles, Allows}
+use Rattle.x10_model.specs.Assignments.{IsKindIf, IsCalled, GivesResult, KindsAre, SlotsAre, Settles, Grants}
+use Rattle.x10_verify.specs.Effects.{Decides}
 
 pub if_err : {T E : Type 0} {A B : E → Type 0} (r : Result T E) → IfErr r A → ((e : E) → A e → B e) → IfErr r B
 if_err (Ok x) h f = tt
@@ -29,10 +30,10 @@ pub undecided : (P : Effect → Type 0) (r : Result Effect FlowCause) → IsErr 
 undecided P (Ok e) is never = absurd cc
 undecided P (Err c) is never = never
 
--- what was asked, and then settled, is allowed
-pub allowed : (r : Rule) (p : Point) (s : State) (answer : Result Effect FlowCause) → Asked s p.instr.a r.a → Asked s p.instr.b r.b → Asked s p.instr.c r.c → Decides (Settles r.outcome p s) answer → Decides (Allows r p s) answer
-allowed r p s (Ok e) a b c d = record { a = a; b = b; c = c; settles = d }
-allowed r p s (Err x) a b c d = λ e h. d e h.settles
+-- what was asked, and then settled, is granted
+pub granted : (r : Rule) (p : Point) (s : State) (answer : Result Effect FlowCause) → IsKindIf s p.instr.a r.a → IsKindIf s p.instr.b r.b → IsKindIf s p.instr.c r.c → Decides (Settles r.outcome p s) answer → Decides (Grants r p s) answer
+granted r p s (Ok e) a b c d = record { a = a; b = b; c = c; settles = d }
+granted r p s (Err x) a b c d = λ e h. d e h.settles
 
 -- ---- registers one after another
 
@@ -67,16 +68,16 @@ same_callee : (p : Point) (s : State) (at : Term) (f g : Function) → IsCalled 
 same_callee p s at f g a b = same_Some f g (sym a.there ∙ b.there)
 
 pub calls_some : (p : Point) (s : State) (at : Term) (signature : Signature) (slot : Slot) → Found p s at signature → signature.result ≡ Some slot → Settles (Calls at) p s (Sets slot.kind (like_if slot.home_here at))
-calls_some p s at signature slot h e = (h.0, h.1, subst (λ o. GivesBack p at o (Sets slot.kind (like_if slot.home_here at))) (sym (result_is signature h.0 (Some slot) h.2 e)) refl)
+calls_some p s at signature slot h e = (h.0, h.1, subst (λ o. GivesResult p at o (Sets slot.kind (like_if slot.home_here at))) (sym (result_is signature h.0 (Some slot) h.2 e)) refl)
 
 pub calls_none : (p : Point) (s : State) (at : Term) (signature : Signature) → Found p s at signature → signature.result ≡ None → p.instr.a ≡ 0 → Settles (Calls at) p s Keeps
-calls_none p s at signature h e a = (h.0, h.1, subst (λ o. GivesBack p at o Keeps) (sym (result_is signature h.0 None h.2 e)) (a, refl))
+calls_none p s at signature h e a = (h.0, h.1, subst (λ o. GivesResult p at o Keeps) (sym (result_is signature h.0 None h.2 e)) (a, refl))
 
 pub calls_bad : (p : Point) (s : State) (at : Term) (signature : Signature) → Found p s at signature → signature.result ≡ None → (p.instr.a ≡ 0 → ⊥) → (e : Effect) → Settles (Calls at) p s e → ⊥
 calls_bad p s at signature h e a f g =
     let same = same_callee p s at g.0 h.0 g.1 h.1 in
     let none : g.0.result ≡ None = ap (λ (x : Function). x.result) same ∙ result_is signature h.0 None h.2 e in
-    a (subst (λ o. GivesBack p at o f) none g.2).0
+    a (subst (λ o. GivesResult p at o f) none g.2).0
 
 pub starts_none : (p : Point) (s : State) (at : Term) (signature : Signature) → Found p s at signature → signature.result ≡ None → Settles (Starts at) p s Keeps
 starts_none p s at signature h e = (h.0, h.1, result_is signature h.0 None h.2 e, refl)

@@ -12,9 +12,9 @@ use Rattle.x10_kinds.proofs.Equivalences.{alone_ways, ways, joined_is, joined-mo
 use Rattle.x10_kinds.proofs.Terms.{same_term-is}
 use Rattle.x10_model.specs.Maps.{with_entry}
 use Rattle.x10_model.specs.Assignments.{State, IsState, IsBelow, IsKind, holds_place, set}
-use Rattle.x10_verify.specs.declared.table.Effect.{Effect}
-use Rattle.x10_verify.specs.declared.table.Effect.TheVariants.{Keeps, Sets, Joins}
-use Rattle.x10_verify.specs.Rules.{after}
+use Rattle.x10_code.specs.declared.rule.Effect.{Effect}
+use Rattle.x10_code.specs.declared.rule.Effect.TheVariants.{Keeps, Sets, Joins}
+use Rattle.x10_model.specs.Assignments.{after}
 use Rattle.x10_verify.specs.Effects.{StandsFor, IsSoundIn, Leaves, IsTermLike}
 use Rattle.x10_verify.proofs.Below.{entry_cases}
 

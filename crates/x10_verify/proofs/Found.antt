@@ -16,21 +16,21 @@ use Rattle.x10_model.specs.Structure.{is_target}
 use Rattle.x10_model.specs.Assignments.{State, IsBelow, IsKind, IsPlaced, FitsAs, ReturnsWell, Point, Edges, Permits, AreInRange, entry_state, parameter_kind}
 use Rattle.x10_verify.specs.declared.fault.FlowCause.{FlowCause}
 use Rattle.x10_verify.specs.declared.fault.FlowCause.TheVariants as flow
-use Rattle.x10_verify.specs.declared.table.Effect.{Effect}
-use Rattle.x10_verify.specs.declared.table.Effect.TheVariants.{Keeps, Sets, Joins}
-use Rattle.x10_verify.specs.declared.table.Outcome.{Outcome}
-use Rattle.x10_verify.specs.declared.table.Outcome.TheVariants.{Fixed, Copies, Calls, Returns, Makes, Gets, Puts, Unwraps}
-use Rattle.x10_verify.specs.declared.table.Outcome.TheVariants.{Locates, Exports, Opens, FindsHere, FindsSame, Starts, Prints}
-use Rattle.x10_verify.specs.declared.table.Rule.{Rule}
+use Rattle.x10_code.specs.declared.rule.Effect.{Effect}
+use Rattle.x10_code.specs.declared.rule.Effect.TheVariants.{Keeps, Sets, Joins}
+use Rattle.x10_code.specs.declared.rule.Outcome.{Outcome}
+use Rattle.x10_code.specs.declared.rule.Outcome.TheVariants.{Fixed, Copies, Calls, Returns, Makes, Gets, Puts, Unwraps}
+use Rattle.x10_code.specs.declared.rule.Outcome.TheVariants.{Locates, Exports, Opens, FindsHere, FindsSame, Starts, Prints}
+use Rattle.x10_code.specs.declared.rule.Rule.{Rule}
 use Rattle.x10_verify.specs.Knowledge.{Follows, entered, handed_on, merged, restated, LeastAt, point}
 use Rattle.x10_verify.specs.Merging.{IsMet}
 use Rattle.x10_verify.specs.Effects.{IsNarrow, CanApply}
-use Rattle.x10_verify.specs.Rules.{Asked, field_of, IsPlaceTerm, IsCalled, GivesBack, Settles, Allows, rule_for, after, goes_on_of}
+use Rattle.x10_code.specs.Rules.{rule_for, goes_on_of}
+use Rattle.x10_model.specs.Assignments.{IsKindIf, field_of, IsPlaceTerm, IsCalled, GivesResult, Settles, Grants, after}
 use Rattle.x10_verify.specs.Causes.{Want, Anything, Fitting, AnObject, AnObjectOrNull, AReference, APlaceOrReference, AnIntOrText, Meets, IsRefused, IsUnfit, HasNoField, IsNoPlace, IsUncalled, IsUnreturned, IsCauseOf, IsCauseAt}
 use Rattle.x10_verify.specs.LawsOfFaults.{CausesRefuteRules, FollowedIsKnown, FoundIsWithout}
 use Rattle.x10_verify.proofs.Below.{entry_cases}
-use Rattle.x10_verify.proofs.Parts.{permits_parts}
-use Rattle.x10_verify.proofs.Settling.{object_once, allows_sound}
+use Rattle.x10_verify.proofs.Settling.{object_once, grants_sound}
 use Rattle.x10_verify.proofs.Tables.{table_sound, can_apply, results_fit}
 use Rattle.x10_verify.proofs.Solving.{least_on, least_jump, least_never, least_same}
 use Rattle.x10_verify.proofs.Stepped.{edges_in}
@@ -66,7 +66,7 @@ uncalled_not at p s why callee (inr (inr (other, n, slot, there, is, h))) c =
     let same : other ≡ callee = same_Some other callee (sym there ∙ c.there) in
     unfit_not s at (p.instr.b + n) slot why h (c.arguments n slot (subst (λ (g : Function). slice_get g.parameters n ≡ Some slot) same is))
 
-given_not : (p : Point) (at : Term) (o : Option Slot) (e : Effect) → o ≡ None → (p.instr.a ≡ 0 → ⊥) → GivesBack p at o e → ⊥
+given_not : (p : Point) (at : Term) (o : Option Slot) (e : Effect) → o ≡ None → (p.instr.a ≡ 0 → ⊥) → GivesResult p at o e → ⊥
 given_not p at None e none other g = other g.0
 given_not p at (Some slot) e none other g = absurd cc
 
@@ -129,20 +129,18 @@ settled_not (Starts at) p s why e (inr (callee, result, there, some)) g = some (
 settled_not Prints p s why e h (inl k, g) = refused_not s p.instr.a AnIntOrText why k.0 h k.1 (inl k.2)
 settled_not Prints p s why e h (inr k, g) = refused_not s p.instr.a AnIntOrText why k.0 h k.1 (inr k.2)
 
-asked_not : (s : State) (r q : ℕ) (o : Option Kind) (want : Kind) (why : FlowCause) → o ≡ Some want → r ≡ q → IsRefused s r (Fitting want) why → Asked s q o → ⊥
+asked_not : (s : State) (r q : ℕ) (o : Option Kind) (want : Kind) (why : FlowCause) → o ≡ Some want → r ≡ q → IsRefused s r (Fitting want) why → IsKindIf s q o → ⊥
 asked_not s r q None want why is here h a = absurd cc
 asked_not s r q (Some k) want why is here h a = unkind_not s q k why (subst (λ n. IsRefused s n (Fitting k) why) here (subst (λ x. IsRefused s r (Fitting x) why) (sym (same_Some k want is)) h)) a
 
-allowed_not : (row : Rule) (p : Point) (s : State) (why : FlowCause) (e : Effect) → IsCauseAt row p s why → Allows row p s e → ⊥
-allowed_not row p s why e (inl (r, want, inl at, h)) g = asked_not s r p.instr.a row.a want why at.0 at.1 h g.a
-allowed_not row p s why e (inl (r, want, inr (inl at), h)) g = asked_not s r p.instr.b row.b want why at.0 at.1 h g.b
-allowed_not row p s why e (inl (r, want, inr (inr at), h)) g = asked_not s r p.instr.c row.c want why at.0 at.1 h g.c
-allowed_not row p s why e (inr h) g = settled_not row.outcome p s why e h g.settles
+granted_not : (row : Rule) (p : Point) (s : State) (why : FlowCause) (e : Effect) → IsCauseAt row p s why → Grants row p s e → ⊥
+granted_not row p s why e (inl (r, want, inl at, h)) g = asked_not s r p.instr.a row.a want why at.0 at.1 h g.a
+granted_not row p s why e (inl (r, want, inr (inl at), h)) g = asked_not s r p.instr.b row.b want why at.0 at.1 h g.b
+granted_not row p s why e (inl (r, want, inr (inr at), h)) g = asked_not s r p.instr.c row.c want why at.0 at.1 h g.c
+granted_not row p s why e (inr h) g = settled_not row.outcome p s why e h g.settles
 
 pub causes_refute_rules : CausesRefuteRules
-causes_refute_rules p s why out cause permits =
-    let parts = permits_parts p.instr.op p s out permits in
-    allowed_not (rule_for p.instr.op p.instr) p s why parts.0 cause parts.1
+causes_refute_rules p s why out cause permits = granted_not (rule_for p.instr.op p.instr) p s why permits.0 cause permits.1
 
 -- ---- what follows
 
@@ -174,12 +172,11 @@ passed_entry m f function fits there = record {
 
 passed_edge : (m : Module) (f : ℕ) (function : Function) (pc : ℕ) (s : State) (instr : Instr) (out : Edges) (edge : ℕ × State) → FitsImage m → AreInRange m → function_at m f ≡ Some function
     → IsPassed m function pc s → slice_get function.code pc ≡ Some instr → Permits instr.op (point m function pc instr) s out → IsIn edge out → IsPassed m function edge.0 edge.1
-passed_edge m f function pc s instr out edge fits range there passed is permits leads =
+passed_edge m f function pc s instr out edge fits range there passed is parts leads =
     let p = point m function pc instr in
-    let parts = permits_parts instr.op p s out permits in
     let results = results_fit m fits in
     let named = has_names m f fits range pc instr (ap (λ o. instr_in o pc) there ∙ is) in
-    let sound = allows_sound (rule_for instr.op instr) p s parts.0 passed.narrow results (table_sound instr.op instr named.small.place) parts.1 in
+    let sound = grants_sound (rule_for instr.op instr) p s parts.0 passed.narrow results (table_sound instr.op instr named.small.place) parts.1 in
     let can = can_apply p s parts.0 passed.narrow results named parts.1 in
     elim (edges_in (goes_on_of instr.op) (is_target (form_of instr.op).x) (pc + 1) instr.x (after instr.a s parts.0) s edge (subst (λ o. IsIn edge o) parts.2 leads)) [
       | inl on ↦ subst (λ (e : ℕ × State). IsPassed m function e.0 e.1) (sym on.1) (record {
@@ -224,4 +221,4 @@ pub found_is_without : FoundIsWithout
 found_is_without m f pc function why fits range there found a =
     let h = passed m f function fits range there pc found.state found.follows in
     least_never m function pc found.state found.instr h.narrow found.is_instr h.least
-    (λ e. allowed_not (rule_for found.instr.op found.instr) (point m function pc found.instr) found.state why e found.cause) a
+    (λ e. granted_not (rule_for found.instr.op found.instr) (point m function pc found.instr) found.state why e found.cause) a

@@ -4,7 +4,6 @@ pub mod Entries
 pub mod Wholes
 pub mod Refuted
 pub mod Below
-pub mod Parts
 pub mod Effects
 pub mod Settling
 pub mod Tables

@@ -67,7 +67,7 @@ fits_text _ e = absurd cc
 
 -- the register is set to a number or to a text, and to nothing else
 permits_print : (program : Module) (function : Function) (pc : ℕ) (i : Instr) (s : State) (out : Edges) → i.op ≡ op.Print → Permits i.op (point program function pc i) s out → (s.kinds i.a ≡ Some Int) ⊎ (s.kinds i.a ≡ Some Text)
-permits_print program function pc i s out is permits = chosen (subst (λ o. Permits o (point program function pc i) s out) is permits).0
+permits_print program function pc i s out is permits = chosen (subst (λ o. Permits o (point program function pc i) s out) is permits).1.settles.0
   where
     chosen : IsKind s i.a Int ⊎ IsKind s i.a Text → (s.kinds i.a ≡ Some Int) ⊎ (s.kinds i.a ≡ Some Text)
     chosen (inl h) = inl (h.1 ∙ ap Some (fits_int h.0 h.2))

@@ -12,7 +12,7 @@ use Rattle.x10_model.specs.Assignments.{AreInRange}
 use Rattle.x10_verify.specs.declared.fault.FlowCause.{FlowCause}
 use Rattle.x10_verify.specs.declared.fault.FlowCause.TheVariants as flow
 use Rattle.x10_verify.specs.Faults.{flow_cause, HasBounds, IsFoundIn, RefutesBy}
-use Rattle.x10_verify.specs.Rules.{goes_on_of}
+use Rattle.x10_code.specs.Rules.{goes_on_of}
 use Rattle.x10_verify.specs.Solving.{LeadsOut, StopsIn}
 use Rattle.x10_verify.specs.Verdict.{IsFirstWithout}
 use Rattle.x10_verify.proofs.Structured.{bounds_each, has_next}

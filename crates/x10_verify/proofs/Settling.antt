@@ -11,18 +11,18 @@ use Rattle.x10_model.specs.declared.slot.Slot.{Slot}
 use Rattle.x10_model.specs.Modules.{Module, Function, takes_flag}
 use Rattle.x10_model.specs.Ranges.{function_at}
 use Rattle.x10_model.specs.Assignments.{State, IsBelow, IsKind, IsPlaced, Point, FitsAs, ReturnsWell, like_if, holds_place}
-use Rattle.x10_verify.specs.declared.table.Effect.{Effect}
-use Rattle.x10_verify.specs.declared.table.Effect.TheVariants.{Keeps, Sets, Joins}
-use Rattle.x10_verify.specs.declared.table.Outcome.{Outcome}
-use Rattle.x10_verify.specs.declared.table.Outcome.TheVariants.{Fixed, Copies, Calls, Returns, Makes, Gets, Puts, Unwraps, Locates, Exports, Opens, FindsHere, FindsSame, Starts, Prints}
-use Rattle.x10_verify.specs.declared.table.Rule.{Rule}
-use Rattle.x10_verify.specs.Rules.{Asked, IsPlaceTerm, IsCalled, GivesBack, Settles, Allows, field_of}
+use Rattle.x10_code.specs.declared.rule.Effect.{Effect}
+use Rattle.x10_code.specs.declared.rule.Effect.TheVariants.{Keeps, Sets, Joins}
+use Rattle.x10_code.specs.declared.rule.Outcome.{Outcome}
+use Rattle.x10_code.specs.declared.rule.Outcome.TheVariants.{Fixed, Copies, Calls, Returns, Makes, Gets, Puts, Unwraps, Locates, Exports, Opens, FindsHere, FindsSame, Starts, Prints}
+use Rattle.x10_code.specs.declared.rule.Rule.{Rule}
+use Rattle.x10_model.specs.Assignments.{IsKindIf, IsPlaceTerm, IsCalled, GivesResult, Settles, Grants, field_of}
 use Rattle.x10_verify.specs.Effects.{IsNarrow, StandsFor, IsSoundIn, IsSoundFixed, IsSoundOutcome, Leaves}
 use Rattle.x10_verify.proofs.Below.{IsKind-down}
 
 -- ---- what is asked
 
-asked_down : (s t : State) (r : ℕ) (want : Option Kind) → IsBelow s t → Asked t r want → Asked s r want
+asked_down : (s t : State) (r : ℕ) (want : Option Kind) → IsBelow s t → IsKindIf t r want → IsKindIf s r want
 asked_down s t r None below h = tt
 asked_down s t r (Some k) below h = IsKind-down s t r k below h
 
@@ -121,7 +121,7 @@ reference_class c d e = cc
 reference_once : (s : State) (r : ℕ) (c d : ℕ) → IsKind s r (kind.GRef c) → IsKind s r (kind.GRef d) → c ≡ d
 reference_once s r c d h g = reference_class c d (sym (reference_is h.0 c h.2) ∙ kind_once s r h.0 g.0 h.1 g.1 ∙ reference_is g.0 d g.2)
 
-back_once : (p : Point) (at : Term) (slot : Option Slot) (e f : Effect) → GivesBack p at slot e → GivesBack p at slot f → e ≡ f
+back_once : (p : Point) (at : Term) (slot : Option Slot) (e f : Effect) → GivesResult p at slot e → GivesResult p at slot f → e ≡ f
 back_once p at None e f h g = h.1 ∙ sym g.1
 back_once p at (Some slot) e f h g = h ∙ sym g
 
@@ -133,7 +133,7 @@ settles_once (Fixed x) p s e f h g = h ∙ sym g
 settles_once Copies p s e f h g = h.2 ∙ ap (λ k. Sets k (like_if (has_place k) (term.Reg p.instr.b))) (kind_once s p.instr.b h.0 g.0 h.1 g.1) ∙ sym g.2
 settles_once (Calls at) p s e f h g =
     let same : g.0 ≡ h.0 = same_Some g.0 h.0 (sym g.1.there ∙ h.1.there) in
-    back_once p at h.0.result e f h.2 (subst (λ (c : Function). GivesBack p at c.result f) same g.2)
+    back_once p at h.0.result e f h.2 (subst (λ (c : Function). GivesResult p at c.result f) same g.2)
 settles_once Returns p s e f h g = h.1 ∙ sym g.1
 settles_once Makes p s e f h g = h.3 ∙ sym g.3
 settles_once Gets p s e f h g = h.4 ∙ ap (λ k. Sets k None) (field_once p h.0 g.0 h.1 g.1 (object_once s p.instr.b h.0 g.0 h.2 g.2) h.3 g.3) ∙ sym g.4
@@ -190,7 +190,7 @@ like_sound : (s : State) (at : Term) (k : Kind) (b : Bool) → StandsFor s at �
 like_sound s at k true stands flag = (flag_place k (flag refl), stands)
 like_sound s at k false stands flag = tt
 
-back_sound : (p : Point) (s : State) (at : Term) (slot : Option Slot) (e : Effect) → StandsFor s at → FlagFits slot → GivesBack p at slot e → IsSoundIn s e
+back_sound : (p : Point) (s : State) (at : Term) (slot : Option Slot) (e : Effect) → StandsFor s at → FlagFits slot → GivesResult p at slot e → IsSoundIn s e
 back_sound p s at None e stands flag h = subst (λ x. IsSoundIn s x) (sym h.1) tt
 back_sound p s at (Some slot) e stands flag h = subst (λ x. IsSoundIn s x) (sym h) (like_sound s at slot.kind slot.home_here stands flag)
 
@@ -220,13 +220,13 @@ settles_sound Prints p s e narrow fit sound h = kept s e Keeps h.1 tt
 
 -- ---- rows
 
-pub allows_down : (r : Rule) (p : Point) (s t : State) (f : Effect) → IsNarrow s → IsBelow s t → Allows r p t f → (e : Effect) × Allows r p s e × Leaves e f
-allows_down r p s t f narrow below h =
+pub grants_down : (r : Rule) (p : Point) (s t : State) (f : Effect) → IsNarrow s → IsBelow s t → Grants r p t f → (e : Effect) × Grants r p s e × Leaves e f
+grants_down r p s t f narrow below h =
     let d = settles_down r.outcome p s t f narrow below h.settles in
     (d.0, record { a = asked_down s t p.instr.a r.a below h.a; b = asked_down s t p.instr.b r.b below h.b; c = asked_down s t p.instr.c r.c below h.c; settles = d.1 }, d.2)
 
-pub allows_once : (r : Rule) (p : Point) (s : State) (e f : Effect) → Allows r p s e → Allows r p s f → e ≡ f
-allows_once r p s e f h g = settles_once r.outcome p s e f h.settles g.settles
+pub grants_once : (r : Rule) (p : Point) (s : State) (e f : Effect) → Grants r p s e → Grants r p s f → e ≡ f
+grants_once r p s e f h g = settles_once r.outcome p s e f h.settles g.settles
 
-pub allows_sound : (r : Rule) (p : Point) (s : State) (e : Effect) → IsNarrow s → ResultsFit p.program → IsSoundOutcome r.outcome → Allows r p s e → IsSoundIn s e
-allows_sound r p s e narrow fit sound h = settles_sound r.outcome p s e narrow fit sound h.settles
+pub grants_sound : (r : Rule) (p : Point) (s : State) (e : Effect) → IsNarrow s → ResultsFit p.program → IsSoundOutcome r.outcome → Grants r p s e → IsSoundIn s e
+grants_sound r p s e narrow fit sound h = settles_sound r.outcome p s e narrow fit sound h.settles

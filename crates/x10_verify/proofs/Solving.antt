@@ -11,32 +11,31 @@ use Rattle.x10_model.specs.Structure.{is_target}
 use Rattle.x10_model.specs.Assignments.{State, IsBelow, Edges, Permits, Reaches, IsConsistent, HasAssignment, entry_state}
 use Rattle.x10_verify.specs.declared.known.Known.{Known}
 use Rattle.x10_verify.specs.declared.states.Entry.{Entry}
-use Rattle.x10_verify.specs.declared.table.Effect.{Effect}
+use Rattle.x10_code.specs.declared.rule.Effect.{Effect}
 use Rattle.x10_verify.specs.Knowledge.{LeastAt, SameState, handed_on, merged, restated, point}
 use Rattle.x10_verify.specs.Known.{state_of}
 use Rattle.x10_verify.specs.Effects.{IsKept, IsNarrow, IsSoundIn, Leaves}
-use Rattle.x10_verify.specs.Rules.{Allows, rule_for, after, edge_if, edges_of, goes_on_of}
+use Rattle.x10_code.specs.Rules.{rule_for, goes_on_of}
+use Rattle.x10_model.specs.Assignments.{Grants, after, edge_if, edges_of}
 use Rattle.x10_verify.specs.States.{state_in, stated, waits, waits_in, is_waiting, IsMetIn, Arrives}
 use Rattle.x10_verify.specs.Solving.{Holds}
 use Rattle.x10_verify.proofs.Below.{IsBelow-refl, IsBelow-trans, SameState-below}
 use Rattle.x10_verify.proofs.Effects.{after_below}
-use Rattle.x10_verify.proofs.Parts.{permits_parts, parts_permit}
-use Rattle.x10_verify.proofs.Settling.{allows_down, allows_once}
+use Rattle.x10_verify.proofs.Settling.{grants_down, grants_once}
 use Rattle.x10_model.proofs.Lists.{set_same, none_some, set_here, set_off}
 
 -- ---- what every consistent assignment knows
 
 -- the rule of an assignment, where s knows at least as much: the edges of an effect that leaves no more
 rule_at : (program : Module) (function : Function) (at : ℕ) (s : State) (instr : Instr) → IsNarrow s → slice_get function.code at ≡ Some instr → LeastAt program function at s
-    → (states : ℕ → Option State) → IsConsistent program function states → (t : State) × (f : Effect) × (e : Effect) × IsBelow s t × Allows (rule_for instr.op instr) (point program function at instr) s e × Leaves e f
+    → (states : ℕ → Option State) → IsConsistent program function states → (t : State) × (f : Effect) × (e : Effect) × IsBelow s t × Grants (rule_for instr.op instr) (point program function at instr) s e × Leaves e f
     × ((edge : ℕ × State) → IsIn edge (edges_of instr.op (point program function at instr) t f) → Reaches states edge)
 rule_at program function at s instr narrow is least states consistent =
     let l = least.below states consistent in
     let h = consistent.permitted at l.0 l.1 in
     let same : h.0 ≡ instr = same_Some h.0 instr (sym h.2 ∙ is) in
-    let permits : Permits instr.op (point program function at instr) l.0 h.1 = subst (λ (i : Instr). Permits i.op (point program function at i) l.0 h.1) same h.3 in
-    let parts = permits_parts instr.op (point program function at instr) l.0 h.1 permits in
-    let down = allows_down (rule_for instr.op instr) (point program function at instr) s l.0 parts.0 narrow l.2 parts.1 in
+    let parts : Permits instr.op (point program function at instr) l.0 h.1 = subst (λ (i : Instr). Permits i.op (point program function at i) l.0 h.1) same h.3 in
+    let down = grants_down (rule_for instr.op instr) (point program function at instr) s l.0 parts.0 narrow l.2 parts.1 in
     (l.0, parts.0, down.0, l.2, down.1, down.2, λ edge m. h.4 edge (subst (λ out. IsIn edge out) (sym parts.2) m))
 
 edge_first : (b : Bool) (pc : ℕ) (s : State) (rest : Edges) → b ≡ true → IsIn (pc, s) (edge_if b pc s ++ rest)
@@ -49,22 +48,22 @@ edge_second false true pc x s t e = (0, refl)
 edge_second a false pc x s t e = absurd cc
 
 pub least_on : (program : Module) (function : Function) (at : ℕ) (s : State) (instr : Instr) (e : Effect) → IsNarrow s → slice_get function.code at ≡ Some instr → LeastAt program function at s
-    → Allows (rule_for instr.op instr) (point program function at instr) s e → IsSoundIn s e → goes_on_of instr.op ≡ true → LeastAt program function (at + 1) (after instr.a s e)
-least_on program function at s instr e narrow is least allows sound on = record {
-  follows = handed_on at s instr (edges_of instr.op (point program function at instr) s e) (at + 1, after instr.a s e) least.follows is (parts_permit instr.op (point program function at instr) s e allows)
+    → Grants (rule_for instr.op instr) (point program function at instr) s e → IsSoundIn s e → goes_on_of instr.op ≡ true → LeastAt program function (at + 1) (after instr.a s e)
+least_on program function at s instr e narrow is least grants sound on = record {
+  follows = handed_on at s instr (edges_of instr.op (point program function at instr) s e) (at + 1, after instr.a s e) least.follows is (e, grants, refl)
       (edge_first (goes_on_of instr.op) (at + 1) (after instr.a s e) (edge_if (is_target (form_of instr.op).x) instr.x s) on);
   below = λ states consistent. (
       let r = rule_at program function at s instr narrow is least states consistent in
-      let same : e ≡ r.2 = allows_once (rule_for instr.op instr) (point program function at instr) s e r.2 allows r.4 in
+      let same : e ≡ r.2 = grants_once (rule_for instr.op instr) (point program function at instr) s e r.2 grants r.4 in
       let leaves : Leaves e r.1 = subst (λ x. Leaves x r.1) (sym same) r.5 in
       let reached = r.6 (at + 1, after instr.a r.0 r.1) (edge_first (goes_on_of instr.op) (at + 1) (after instr.a r.0 r.1) (edge_if (is_target (form_of instr.op).x) instr.x r.0) on) in
       (reached.0, reached.1, IsBelow-trans (after instr.a s e) (after instr.a r.0 r.1) reached.0 (after_below instr.a s r.0 e r.1 sound leaves r.3) reached.2));
 }
 
 pub least_jump : (program : Module) (function : Function) (at : ℕ) (s : State) (instr : Instr) (e : Effect) → IsNarrow s → slice_get function.code at ≡ Some instr → LeastAt program function at s
-    → Allows (rule_for instr.op instr) (point program function at instr) s e → is_target (form_of instr.op).x ≡ true → LeastAt program function instr.x s
-least_jump program function at s instr e narrow is least allows jumps = record {
-  follows = handed_on at s instr (edges_of instr.op (point program function at instr) s e) (instr.x, s) least.follows is (parts_permit instr.op (point program function at instr) s e allows)
+    → Grants (rule_for instr.op instr) (point program function at instr) s e → is_target (form_of instr.op).x ≡ true → LeastAt program function instr.x s
+least_jump program function at s instr e narrow is least grants jumps = record {
+  follows = handed_on at s instr (edges_of instr.op (point program function at instr) s e) (instr.x, s) least.follows is (e, grants, refl)
       (edge_second (goes_on_of instr.op) (is_target (form_of instr.op).x) (at + 1) instr.x (after instr.a s e) s jumps);
   below = λ states consistent. (
       let r = rule_at program function at s instr narrow is least states consistent in
@@ -73,7 +72,7 @@ least_jump program function at s instr e narrow is least allows jumps = record {
 }
 
 pub least_never : (program : Module) (function : Function) (at : ℕ) (s : State) (instr : Instr) → IsNarrow s → slice_get function.code at ≡ Some instr → LeastAt program function at s
-    → ((e : Effect) → Allows (rule_for instr.op instr) (point program function at instr) s e → ⊥) → HasAssignment program function → ⊥
+    → ((e : Effect) → Grants (rule_for instr.op instr) (point program function at instr) s e → ⊥) → HasAssignment program function → ⊥
 least_never program function at s instr narrow is least never a =
     let r = rule_at program function at s instr narrow is least a.0 a.1 in
     never r.2 r.4

@@ -14,19 +14,19 @@ use Rattle.x10_verify.specs.declared.known.Known.{Known}
 use Rattle.x10_verify.specs.declared.states.Mark.{Mark}
 use Rattle.x10_verify.specs.declared.states.Mark.TheVariants.{Waiting, Done}
 use Rattle.x10_verify.specs.declared.states.Entry.{Entry}
-use Rattle.x10_verify.specs.declared.table.Effect.{Effect}
+use Rattle.x10_code.specs.declared.rule.Effect.{Effect}
 use Rattle.x10_verify.specs.Knowledge.{LeastAt, SameState, point}
 use Rattle.x10_verify.specs.Known.{state_of}
 use Rattle.x10_verify.specs.Effects.{IsKept, IsNarrow, IsSoundIn}
-use Rattle.x10_verify.specs.Rules.{Allows, rule_for, after, edge_if, edges_of, goes_on_of}
+use Rattle.x10_code.specs.Rules.{rule_for, goes_on_of}
+use Rattle.x10_model.specs.Assignments.{Grants, after, edge_if, edges_of}
 use Rattle.x10_verify.specs.States.{Takes, state_if, state_in, stated, waits, waits_in, is_waiting, total}
 use Rattle.x10_verify.specs.declared.fault.FlowCause.TheVariants as flow
 use Rattle.x10_verify.specs.Causes.{IsCauseAt}
 use Rattle.x10_verify.specs.Solving.{Holds, LeadsOut, Shows, Solves, JumpsIf, GoesOnIf, Stops}
 use Rattle.x10_verify.proofs.Below.{IsBelow-trans, SameState-below, SameState-sym}
 use Rattle.x10_verify.proofs.Effects.{after_state}
-use Rattle.x10_verify.proofs.Parts.{parts_permit}
-use Rattle.x10_verify.proofs.Settling.{allows_sound, ResultsFit}
+use Rattle.x10_verify.proofs.Settling.{grants_sound, ResultsFit}
 use Rattle.x10_verify.proofs.Solving.{Works, Arrived, arrived, works_on, reaches_on, reaches_here, least_on, least_jump, least_never, least_past, least_same}
 use Rattle.x10_verify.proofs.Tables.{table_sound}
 use Rattle.x10_verify.proofs.Tabled.{arrives_size, arrives_total, done_total}
@@ -98,14 +98,14 @@ pub record Followed (program : Module) (function : Function) (at : ℕ) (s : Sta
   pub jumped : jumps ≡ true → Reaches (stated table) (instr.x, s)
 
 pub jump_on : (program : Module) (function : Function) (at len : ℕ) (instr : Instr) (known : Known) (effect : Effect) (old new : List Entry) (next : ℕ) (b : Bool) → length function.code ≡ len → is_target (form_of instr.op).x ≡ b → slice_get function.code at ≡ Some instr
-    → IsKept (state_of known) → LeastAt program function at (state_of known) → Allows (rule_for instr.op instr) (point program function at instr) (state_of known) effect → JumpsIf b instr at len known old next new → Works program function at (state_of known) (at + 1) old → Followed program function at (state_of known) instr next new b
-jump_on program function at len instr known effect old new next false size jumps is kept least allows j w = record {
+    → IsKept (state_of known) → LeastAt program function at (state_of known) → Grants (rule_for instr.op instr) (point program function at instr) (state_of known) effect → JumpsIf b instr at len known old next new → Works program function at (state_of known) (at + 1) old → Followed program function at (state_of known) instr next new b
+jump_on program function at len instr known effect old new next false size jumps is kept least grants j w = record {
   works = subst (λ n. Works program function at (state_of known) n new) (sym j.0) (subst (λ t. Works program function at (state_of known) (at + 1) t) (sym j.1) w);
   near = (let e = j.0 in omega arith);
   jumped = λ f. absurd cc;
 }
-jump_on program function at len instr known effect old new next true size jumps is kept least allows j w = record {
-  works = works_on program function at (state_of known) (at + 1) next old instr.x (state_of known) new j.0 (state_of j.2.entry.known) a (let l = j.1 in omega arith) kept (least_jump program function at (state_of known) instr effect kept.narrow is least allows jumps) near room w;
+jump_on program function at len instr known effect old new next true size jumps is kept least grants j w = record {
+  works = works_on program function at (state_of known) (at + 1) next old instr.x (state_of known) new j.0 (state_of j.2.entry.known) a (let l = j.1 in omega arith) kept (least_jump program function at (state_of known) instr effect kept.narrow is least grants jumps) near room w;
   near = near;
   jumped = λ f. reaches_here old instr.x (state_of known) new j.0 (state_of j.2.entry.known) a kept w.kept;
 }
@@ -125,16 +125,16 @@ pub record Passed (program : Module) (function : Function) (at : ℕ) (s : State
   pub onward : on ≡ true → Reaches (stated table) (at + 1, after instr.a s effect)
 
 pub go_on_on : (program : Module) (function : Function) (at len : ℕ) (instr : Instr) (known : Known) (effect : Effect) (old new : List Entry) (next : ℕ) (j b : Bool) → length function.code ≡ len → goes_on_of instr.op ≡ b → slice_get function.code at ≡ Some instr
-    → IsKept (state_of known) → LeastAt program function at (state_of known) → Allows (rule_for instr.op instr) (point program function at instr) (state_of known) effect → IsSoundIn (state_of known) effect
+    → IsKept (state_of known) → LeastAt program function at (state_of known) → Grants (rule_for instr.op instr) (point program function at instr) (state_of known) effect → IsSoundIn (state_of known) effect
     → GoesOnIf b instr at len effect known old new → Followed program function at (state_of known) instr next old j → Passed program function at (state_of known) instr effect next new j b
-go_on_on program function at len instr known effect old new next j false size on is kept least allows sound g f = record {
+go_on_on program function at len instr known effect old new next j false size on is kept least grants sound g f = record {
   works = subst (λ t. Works program function at (state_of known) next t) (sym g) f.works;
   jumped = λ e. subst (λ t. Reaches (stated t) (instr.x, state_of known)) (sym g) (f.jumped e);
   onward = λ e. absurd cc;
 }
-go_on_on program function at len instr known effect old new next j true size on is kept least allows sound g f = record {
+go_on_on program function at len instr known effect old new next j true size on is kept least grants sound g f = record {
   works = works_on program function at (state_of known) next next old (at + 1) (state_of g.1) new g.0 (state_of g.5.entry.known) a (let l = g.2 in omega arith) kept_t
-      (least_same program function (at + 1) (after instr.a (state_of known) effect) (state_of g.1) (g.4 kept.state) (least_on program function at (state_of known) instr effect kept.narrow is least allows sound on)) (omega arith) (λ e. f.near) f.works;
+      (least_same program function (at + 1) (after instr.a (state_of known) effect) (state_of g.1) (g.4 kept.state) (least_on program function at (state_of known) instr effect kept.narrow is least grants sound on)) (omega arith) (λ e. f.near) f.works;
   jumped = λ e. reaches_on old (at + 1) (state_of g.1) new g.0 (state_of g.5.entry.known) a kept_t f.works.kept (instr.x, state_of known) (f.jumped e);
   onward = λ e. (let r = reaches_here old (at + 1) (state_of g.1) new g.0 (state_of g.5.entry.known) a kept_t f.works.kept in
       (r.0, r.1, IsBelow-trans (after instr.a (state_of known) effect) (state_of g.1) r.0 (SameState-below (after instr.a (state_of known) effect) (state_of g.1) (SameState-sym (state_of g.1) (after instr.a (state_of known) effect) (g.4 kept.state))) r.2));
@@ -158,8 +158,8 @@ edges_in false true pc x s t edge (suc i, e) = absurd cc
 edges_in false false pc x s t edge (i, e) = absurd cc
 
 pub finishes : (program : Module) (function : Function) (at : ℕ) (s : State) (instr : Instr) (effect : Effect) (next : ℕ) (table : List Entry) → slice_get function.code at ≡ Some instr
-    → Allows (rule_for instr.op instr) (point program function at instr) s effect → Passed program function at s instr effect next table (is_target (form_of instr.op).x) (goes_on_of instr.op) → Solves program function next table
-finishes program function at s instr effect next table is allows p = record {
+    → Grants (rule_for instr.op instr) (point program function at instr) s effect → Passed program function at s instr effect next table (is_target (form_of instr.op).x) (goes_on_of instr.op) → Solves program function next table
+finishes program function at s instr effect next table is grants p = record {
   inside = p.works.inside;
   entry = p.works.entry;
   kept = p.works.kept;
@@ -180,23 +180,23 @@ finishes program function at s instr effect next table is allows p = record {
     holds : (t : State) → stated table at ≡ Some t → waits table at ≡ false → Holds program function (stated table) at t
     holds t e w = elim p.works.own [
       | inr waiting ↦ absurd (let f = waiting in cc)
-      | inl own ↦ subst (λ x. Holds program function (stated table) at x) (same_Some s t (sym own ∙ e)) (instr, edges_of instr.op (point program function at instr) s effect, is, parts_permit instr.op (point program function at instr) s effect allows, reached)
+      | inl own ↦ subst (λ x. Holds program function (stated table) at x) (same_Some s t (sym own ∙ e)) (instr, edges_of instr.op (point program function at instr) s effect, is, (effect, grants, refl), reached)
     ]
 
 -- ---- the whole step
 
 pub step_on : (program : Module) (function : Function) (at len : ℕ) (instr : Instr) (known : Known) (effect : Effect) (next : ℕ) (t0 t1 t2 t3 : List Entry) → length function.code ≡ len → slice_get function.code at ≡ Some instr
-    → ResultsFit program → ((form_of instr.op).x ≡ operand.Place → instr.x < 64) → Takes t0 at known t1 → Allows (rule_for instr.op instr) (point program function at instr) (state_of known) effect
+    → ResultsFit program → ((form_of instr.op).x ≡ operand.Place → instr.x < 64) → Takes t0 at known t1 → Grants (rule_for instr.op instr) (point program function at instr) (state_of known) effect
     → JumpsIf (is_target (form_of instr.op).x) instr at len known t1 next t2 → GoesOnIf (goes_on_of instr.op) instr at len effect known t2 t3 → Solves program function at t0 → Solves program function next t3
-step_on program function at len instr known effect next t0 t1 t2 t3 size is fit place t allows j g h =
+step_on program function at len instr known effect next t0 t1 t2 t3 size is fit place t grants j g h =
     let own = taken_state t0 at known t1 t in
     let kept : IsKept (state_of known) = h.kept at (state_of known) own in
     let least : LeastAt program function at (state_of known) = h.least at (state_of known) own in
-    let sound = allows_sound (rule_for instr.op instr) (point program function at instr) (state_of known) effect kept.narrow fit (table_sound instr.op instr place) allows in
+    let sound = grants_sound (rule_for instr.op instr) (point program function at instr) (state_of known) effect kept.narrow fit (table_sound instr.op instr place) grants in
     let w = takes program function at known t0 t1 t h in
-    let f = jump_on program function at len instr known effect t1 t2 next (is_target (form_of instr.op).x) size refl is kept least allows j w in
-    let p = go_on_on program function at len instr known effect t2 t3 next (is_target (form_of instr.op).x) (goes_on_of instr.op) size refl is kept least allows sound g f in
-    finishes program function at (state_of known) instr effect next t3 is allows p
+    let f = jump_on program function at len instr known effect t1 t2 next (is_target (form_of instr.op).x) size refl is kept least grants j w in
+    let p = go_on_on program function at len instr known effect t2 t3 next (is_target (form_of instr.op).x) (goes_on_of instr.op) size refl is kept least grants sound g f in
+    finishes program function at (state_of known) instr effect next t3 is grants p
 
 -- the state of a taken instruction stays in the table
 pub taken_there : (old : List Entry) (at : ℕ) (known : Known) (new : List Entry) → Takes old at known new → stated new at ≡ Some (state_of known)
@@ -227,7 +227,7 @@ straight_size instr at len effect old known t1 t3 true t g = arrives_size t1 (at
 
 -- a rule that does not hold
 pub step_refused : (program : Module) (function : Function) (at : ℕ) (instr : Instr) (known : Known) (why : FlowCause) (t0 t1 : List Entry) → slice_get function.code at ≡ Some instr → Takes t0 at known t1
-    → ((e : Effect) → Allows (rule_for instr.op instr) (point program function at instr) (state_of known) e → ⊥) → IsCauseAt (rule_for instr.op instr) (point program function at instr) (state_of known) why
+    → ((e : Effect) → Grants (rule_for instr.op instr) (point program function at instr) (state_of known) e → ⊥) → IsCauseAt (rule_for instr.op instr) (point program function at instr) (state_of known) why
     → Solves program function at t0 → (HasAssignment program function → ⊥) × Stops program function at why × Shows program function at why t1
 step_refused program function at instr known why t0 t1 is t never cause h =
     let own = taken_state t0 at known t1 t in
@@ -239,30 +239,30 @@ step_refused program function at instr known why t0 t1 is t never cause h =
 
 -- a jump out of the function
 pub step_jumps_out : (program : Module) (function : Function) (at len : ℕ) (instr : Instr) (known : Known) (effect : Effect) (why : FlowCause) (t0 t1 t2 : List Entry) → length function.code ≡ len → slice_get function.code at ≡ Some instr → Takes t0 at known t1
-    → Allows (rule_for instr.op instr) (point program function at instr) (state_of known) effect → is_target (form_of instr.op).x ≡ true → len ≤ instr.x → why ≡ flow.Unset → t2 ≡ t1
+    → Grants (rule_for instr.op instr) (point program function at instr) (state_of known) effect → is_target (form_of instr.op).x ≡ true → len ≤ instr.x → why ≡ flow.Unset → t2 ≡ t1
     → Solves program function at t0 → (HasAssignment program function → ⊥) × Stops program function at why × Shows program function at why t2
-step_jumps_out program function at len instr known effect why t0 t1 t2 size is t allows jumps out unset same h =
+step_jumps_out program function at len instr known effect why t0 t1 t2 size is t grants jumps out unset same h =
     let own = taken_state t0 at known t1 t in
     let least = h.least at (state_of known) own in
     let leads : LeadsOut function at instr why = (unset, inl (jumps, (let e : length function.code ≤ instr.x = omega arith in e))) in (
-      least_past program function instr.x (state_of known) (omega arith) (least_jump program function at (state_of known) instr effect (h.kept at (state_of known) own).narrow is least allows jumps),
+      least_past program function instr.x (state_of known) (omega arith) (least_jump program function at (state_of known) instr effect (h.kept at (state_of known) own).narrow is least grants jumps),
       inr (instr, is, leads),
       subst (λ x. Shows program function at why x) (sym same) (record { least = (takes program function at known t0 t1 t h).least; stops = inr (instr, is, leads) }),
     )
 
 -- the last instruction goes on
 pub step_runs_out : (program : Module) (function : Function) (at len : ℕ) (instr : Instr) (known : Known) (effect : Effect) (why : FlowCause) (next : ℕ) (t0 t1 t2 t3 : List Entry) → length function.code ≡ len → slice_get function.code at ≡ Some instr → ResultsFit program
-    → ((form_of instr.op).x ≡ operand.Place → instr.x < 64) → Takes t0 at known t1 → Allows (rule_for instr.op instr) (point program function at instr) (state_of known) effect → JumpsIf (is_target (form_of instr.op).x) instr at len known t1 next t2
+    → ((form_of instr.op).x ≡ operand.Place → instr.x < 64) → Takes t0 at known t1 → Grants (rule_for instr.op instr) (point program function at instr) (state_of known) effect → JumpsIf (is_target (form_of instr.op).x) instr at len known t1 next t2
     → goes_on_of instr.op ≡ true → len ≤ at + 1 → why ≡ flow.Unset → t3 ≡ t2
     → Solves program function at t0 → (HasAssignment program function → ⊥) × Stops program function at why × Shows program function at why t3
-step_runs_out program function at len instr known effect why next t0 t1 t2 t3 size is fit place t allows j on out unset same h =
+step_runs_out program function at len instr known effect why next t0 t1 t2 t3 size is fit place t grants j on out unset same h =
     let own = taken_state t0 at known t1 t in
     let kept : IsKept (state_of known) = h.kept at (state_of known) own in
     let least = h.least at (state_of known) own in
-    let sound = allows_sound (rule_for instr.op instr) (point program function at instr) (state_of known) effect kept.narrow fit (table_sound instr.op instr place) allows in
-    let f = jump_on program function at len instr known effect t1 t2 next (is_target (form_of instr.op).x) size refl is kept least allows j (takes program function at known t0 t1 t h) in
+    let sound = grants_sound (rule_for instr.op instr) (point program function at instr) (state_of known) effect kept.narrow fit (table_sound instr.op instr place) grants in
+    let f = jump_on program function at len instr known effect t1 t2 next (is_target (form_of instr.op).x) size refl is kept least grants j (takes program function at known t0 t1 t h) in
     let leads : LeadsOut function at instr why = (unset, inr (on, (let e : length function.code ≤ at + 1 = omega arith in e))) in (
-      least_past program function (at + 1) (after instr.a (state_of known) effect) (omega arith) (least_on program function at (state_of known) instr effect kept.narrow is least allows sound on),
+      least_past program function (at + 1) (after instr.a (state_of known) effect) (omega arith) (least_on program function at (state_of known) instr effect kept.narrow is least grants sound on),
       inr (instr, is, leads),
       subst (λ x. Shows program function at why x) (sym same) (record { least = f.works.least; stops = inr (instr, is, leads) }),
     )

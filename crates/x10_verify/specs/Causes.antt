@@ -12,12 +12,13 @@ use Rattle.x10_model.specs.Ranges.{function_at}
 use Rattle.x10_model.specs.Assignments.{State, Point, IsKind}
 use Rattle.x10_verify.specs.declared.fault.FlowCause.{FlowCause}
 use Rattle.x10_verify.specs.declared.fault.FlowCause.TheVariants as flow
-use Rattle.x10_verify.specs.declared.table.Outcome.{Outcome}
-use Rattle.x10_verify.specs.declared.table.Outcome.TheVariants.{Fixed, Copies, Calls, Returns, Makes, Gets, Puts, Unwraps}
-use Rattle.x10_verify.specs.declared.table.Outcome.TheVariants.{Locates, Exports, Opens, FindsHere, FindsSame, Starts, Prints}
-use Rattle.x10_verify.specs.declared.table.Rule.{Rule}
+use Rattle.x10_code.specs.declared.rule.Outcome.{Outcome}
+use Rattle.x10_code.specs.declared.rule.Outcome.TheVariants.{Fixed, Copies, Calls, Returns, Makes, Gets, Puts, Unwraps}
+use Rattle.x10_code.specs.declared.rule.Outcome.TheVariants.{Locates, Exports, Opens, FindsHere, FindsSame, Starts, Prints}
+use Rattle.x10_code.specs.declared.rule.Rule.{Rule}
 use Rattle.x10_verify.specs.Knowledge.{Follows, point}
-use Rattle.x10_verify.specs.Rules.{field_of, rule_for}
+use Rattle.x10_code.specs.Rules.{rule_for}
+use Rattle.x10_model.specs.Assignments.{field_of}
 
 -- what is asked of a register
 pub data Want : Type 0 where

@@ -1,15 +1,21 @@
--- Effects that keep what is known of places right.
-use Rattle.std.specs.Prelude.{◌≡◌, ℕ, ◌<◌, ◌⊎◌, Option, Some, None, true}
+-- Answers that name an effect, and effects that keep what is known of places right.
+use Rattle.std.specs.Prelude.{◌≡◌, ℕ, ◌<◌, ◌⊎◌, Option, Some, None, true, Result, Ok, Err}
 use Rattle.x10_kinds.specs.declared.kind.Kind.{Kind}
 use Rattle.x10_kinds.specs.declared.homes.Term.{Term}
 use Rattle.x10_kinds.specs.declared.homes.Term.TheVariants as term
 use Rattle.x10_kinds.specs.Kinds.{Fits, has_place}
 use Rattle.x10_kinds.specs.Equations.{IsTerm}
 use Rattle.x10_model.specs.Assignments.{State, IsState, holds_place}
-use Rattle.x10_verify.specs.declared.table.Effect.{Effect}
-use Rattle.x10_verify.specs.declared.table.Effect.TheVariants.{Keeps, Sets, Joins}
-use Rattle.x10_verify.specs.declared.table.Outcome.{Outcome}
-use Rattle.x10_verify.specs.declared.table.Outcome.TheVariants.{Fixed}
+use Rattle.x10_verify.specs.declared.fault.FlowCause.{FlowCause}
+use Rattle.x10_code.specs.declared.rule.Effect.{Effect}
+use Rattle.x10_code.specs.declared.rule.Effect.TheVariants.{Keeps, Sets, Joins}
+use Rattle.x10_code.specs.declared.rule.Outcome.{Outcome}
+use Rattle.x10_code.specs.declared.rule.Outcome.TheVariants.{Fixed}
+
+-- an answer is an effect for which the property holds, or there is none
+abbrev pub Decides : (Effect → Type 0) → Result Effect FlowCause → Type 0
+Decides P (Ok e) = P e
+Decides P (Err cause) = (e : Effect) → P e → ⊥
 
 -- only the 64 registers that there may be are set
 abbrev pub IsNarrow : State → Type 0

@@ -5,7 +5,7 @@ use Rattle.x10_model.specs.Ranges.{function_at}
 use Rattle.x10_model.specs.Assignments.{State, Point, Edges, Permits, Reaches, HasAssignment, AreInRange}
 use Rattle.x10_verify.specs.declared.fault.FlowCause.{FlowCause}
 use Rattle.x10_verify.specs.Knowledge.{Follows}
-use Rattle.x10_verify.specs.Rules.{rule_for}
+use Rattle.x10_code.specs.Rules.{rule_for}
 use Rattle.x10_verify.specs.Causes.{IsCauseAt, IsFound}
 
 -- where a cause holds at an instruction in a state, the instruction's rule doesn't hold there

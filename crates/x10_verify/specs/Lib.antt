@@ -8,7 +8,6 @@ pub mod Certified
 pub mod Least
 pub mod Printing
 pub mod Named
-pub mod Rules
 pub mod Causes
 pub mod Effects
 pub mod Merging

@@ -1,17 +1,13 @@
 -- What the flow needs of the numbers in an instruction: all of it follows from their naming what is there.
-use Rattle.std.specs.Prelude.{◌≡◌, ℕ, ◌<◌, ◌^◌, Option, Some, None, true}
+use Rattle.std.specs.Prelude.{◌≡◌, ℕ, ◌<◌, Option, Some, None, true}
 use Rattle.x10_code.specs.declared.instr.Instr.{Instr}
 use Rattle.x10_code.specs.declared.operands.Operand.TheVariants as operand
 use Rattle.x10_code.specs.Table.{form_of}
+use Rattle.x10_code.specs.Rules.{NamesSmall}
 use Rattle.x10_model.specs.declared.slot.Slot.{Slot}
 use Rattle.x10_model.specs.Modules.{Module}
 use Rattle.x10_model.specs.Ranges.{function_at, instr_at, result_of}
 use Rattle.x10_model.specs.Structure.{is_call}
-
--- a class and a place have numbers that fit a kind and a term
-pub record NamesSmall (i : Instr) : Type 0 where
-  pub class : (form_of i.op).x ≡ operand.Class → i.x < 2 ^ 16
-  pub place : (form_of i.op).x ≡ operand.Place → i.x < 64
 
 -- where there is a result, its register is one of the 64 that there may be
 abbrev pub IsResultNamed : Option Slot → ℕ → Type 0

@@ -11,11 +11,12 @@ use Rattle.x10_verify.specs.declared.fault.FlowCause.{FlowCause}
 use Rattle.x10_verify.specs.declared.fault.FlowCause.TheVariants.{Unset}
 use Rattle.x10_verify.specs.declared.known.Known.{Known}
 use Rattle.x10_verify.specs.declared.states.Entry.{Entry}
-use Rattle.x10_verify.specs.declared.table.Effect.{Effect}
+use Rattle.x10_code.specs.declared.rule.Effect.{Effect}
 use Rattle.x10_verify.specs.Knowledge.{LeastAt, SameState, point}
 use Rattle.x10_verify.specs.Known.{state_of}
 use Rattle.x10_verify.specs.Effects.{IsKept, IsNarrow}
-use Rattle.x10_verify.specs.Rules.{after, goes_on_of, rule_for}
+use Rattle.x10_code.specs.Rules.{goes_on_of, rule_for}
+use Rattle.x10_model.specs.Assignments.{after}
 use Rattle.x10_verify.specs.Causes.{IsCauseAt, IsFound}
 use Rattle.x10_verify.specs.States.{Arrives, Receives, stated, waits}
 

@@ -8,15 +8,15 @@ ghost use Rattle.x10_model.specs.Modules.{Function};
 ghost use Rattle.x10_model.specs.Modules as modules;
 ghost use Rattle.x10_verify.specs.Known.{state_of};
 ghost use Rattle.x10_verify.specs.Knowledge.{point};
-ghost use Rattle.x10_verify.specs.Rules.{Decides, IsCalled, IsPlaceTerm, Settles, SlotsAre};
+ghost use Rattle.x10_model.specs.Assignments.{IsCalled, IsPlaceTerm, Settles, SlotsAre};
+ghost use Rattle.x10_verify.specs.Effects.{Decides};
 ghost use Rattle.x10_verify.specs.Causes.{IsCauseOf, IsNoPlace, IsUncalled, IsUnfit};
 ghost use Rattle.x10_model.specs.declared.slot.Slot as slots;
 
 use crate::fault::FlowCause;
 use crate::known::Known;
 use crate::places::like_if;
-use crate::table::{Effect, Outcome};
-use x10_code::Instr;
+use x10_code::{Effect, Instr, Outcome};
 use x10_image::{ImageView, SigView};
 use x10_kinds::{Kind, Term};
 use x10_model::Slot;

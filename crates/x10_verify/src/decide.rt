@@ -3,8 +3,10 @@ ghost use Rattle.std.specs.Prelude.{◌≡◌, ℕ, MatchResult, Ok, Err, Some, 
 ghost use Rattle.x10_model.specs.Modules.{Function};
 ghost use Rattle.x10_verify.specs.Known.{state_of};
 ghost use Rattle.x10_verify.specs.Knowledge.{point};
-ghost use Rattle.x10_verify.specs.Named.{NamesSmall};
-ghost use Rattle.x10_verify.specs.Rules.{Allows, Asked, Decides, Settles, rule_for};
+ghost use Rattle.x10_code.specs.Rules.{NamesSmall};
+ghost use Rattle.x10_code.specs.Rules.{rule_for};
+ghost use Rattle.x10_model.specs.Assignments.{Grants, IsKindIf, Settles};
+ghost use Rattle.x10_verify.specs.Effects.{Decides};
 ghost use Rattle.x10_verify.specs.Causes.{Fitting, IsCauseAt, IsCauseOf, IsRefused};
 ghost use Rattle.x10_kinds.specs.declared.kind.Kind as kinds;
 
@@ -13,8 +15,7 @@ use crate::fault::FlowCause;
 use crate::known::Known;
 use crate::objects::{exported, got, made, opened, put, unwrapped};
 use crate::places::{copied, found_here, found_same, located, printed};
-use crate::table::{Effect, Outcome, rule_of};
-use x10_code::Instr;
+use x10_code::{Effect, Instr, Outcome, rule_of};
 use x10_image::ImageView;
 use x10_kinds::Kind;
 use x10_model::Slot;
@@ -28,7 +29,7 @@ pub(crate) fn decide(
     known: &Known,
 ) -> Result<Effect, FlowCause>
     requires { NamesSmall instr }
-    ensures decides { (function : Function) (pc : ℕ) → function.result ≡ slot → Decides (Allows (rule_for instr.op instr) (point image.now function pc instr) (state_of known.now)) result }
+    ensures decides { (function : Function) (pc : ℕ) → function.result ≡ slot → Decides (Grants (rule_for instr.op instr) (point image.now function pc instr) (state_of known.now)) result }
     ensures cause { IfErr result (λ why. (function : Function) (pc : ℕ) → function.result ≡ slot → IsCauseAt (rule_for instr.op instr) (point image.now function pc instr) (state_of known.now) why) }
 {
     let rule = rule_of(instr);
@@ -40,7 +41,7 @@ pub(crate) fn decide(
 
 // A register is asked for a kind, or for nothing.
 fn asked(register: u8, want: Option<Kind>, known: &Known) -> Result<(), FlowCause>
-    ensures asked { MatchResult result (λ _. Asked (state_of known.now) register want) (λ _. Asked (state_of known.now) register want → ⊥) }
+    ensures asked { MatchResult result (λ _. IsKindIf (state_of known.now) register want) (λ _. IsKindIf (state_of known.now) register want → ⊥) }
     ensures cause { IfErr result (λ why. (kind : kinds.Kind) × (want ≡ Some kind) × IsRefused (state_of known.now) register (Fitting kind) why) }
 {
     match want {

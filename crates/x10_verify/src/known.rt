@@ -5,13 +5,13 @@ ghost use Rattle.x10_model.specs.Assignments.{IsKind, IsState, set};
 ghost use Rattle.x10_verify.specs.Effects.{CanApply, IsNarrow};
 ghost use Rattle.x10_verify.specs.Known.{state_of, kind_in};
 ghost use Rattle.x10_verify.specs.Knowledge.{SameState};
-ghost use Rattle.x10_verify.specs.Rules.{after};
+ghost use Rattle.x10_model.specs.Assignments.{after};
 ghost use Rattle.x10_verify.specs.Causes.{Fitting, IsRefused};
 
 use crate::coded::{Kinds, decode, encode};
 use crate::fault::FlowCause;
 use crate::places::holds_place;
-use crate::table::Effect;
+use x10_code::Effect;
 use x10_kinds::{Homes, Kind, Term, fits};
 
 /// What is known before an instruction: the kind of each register that is set, and which places are known to be the

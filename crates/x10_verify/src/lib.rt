@@ -17,11 +17,9 @@ mod ranges;
 mod solver;
 mod states;
 mod step;
-mod table;
 mod verified;
 mod whole;
 
 pub use fault::{VerifyCause, VerifyFault};
 pub use flow::{Flow, known_flow};
-pub use table::{Effect, Outcome, Rule, rule_of};
 pub use verified::{Verified, verify};

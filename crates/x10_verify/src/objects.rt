@@ -5,14 +5,14 @@ ghost use Rattle.x10_model.specs.Assignments.{IsKind};
 ghost use Rattle.x10_model.specs.Modules.{Module, Function};
 ghost use Rattle.x10_verify.specs.Known.{state_of};
 ghost use Rattle.x10_verify.specs.Knowledge.{point};
-ghost use Rattle.x10_verify.specs.Rules.{Decides, KindsAre, Settles, field_of};
+ghost use Rattle.x10_model.specs.Assignments.{KindsAre, Settles, field_of};
+ghost use Rattle.x10_verify.specs.Effects.{Decides};
 ghost use Rattle.x10_verify.specs.Causes.{AnObject, Fitting, IsCauseOf, IsRefused};
 
 use crate::fault::FlowCause;
 use crate::known::Known;
 use crate::places::reference;
-use crate::table::{Effect, Outcome};
-use x10_code::Instr;
+use x10_code::{Effect, Instr, Outcome};
 use x10_image::{ClassView, ImageView};
 use x10_kinds::{Kind, Term};
 

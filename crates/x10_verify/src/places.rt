@@ -6,13 +6,13 @@ ghost use Rattle.x10_model.specs.Assignments.{IsKind, IsPlaced};
 ghost use Rattle.x10_model.specs.Modules.{Module, Function};
 ghost use Rattle.x10_verify.specs.Known.{state_of};
 ghost use Rattle.x10_verify.specs.Knowledge.{point};
-ghost use Rattle.x10_verify.specs.Rules.{Decides, Settles};
+ghost use Rattle.x10_model.specs.Assignments.{Settles};
+ghost use Rattle.x10_verify.specs.Effects.{Decides};
 ghost use Rattle.x10_verify.specs.Causes.{APlaceOrReference, AReference, IsCauseOf, IsRefused};
 
 use crate::fault::FlowCause;
 use crate::known::Known;
-use crate::table::{Effect, Outcome};
-use x10_code::Instr;
+use x10_code::{Effect, Instr, Outcome};
 use x10_kinds::{Kind, Term};
 
 /// Whether values of a kind stand for a place.

@@ -6,8 +6,8 @@ ghost use Rattle.x10_verify.specs.Solving.{Advances, ReceivesAfter};
 ghost use Rattle.x10_verify.specs.States.{Arrives, IsFresh, Receives, Takes, state_in, waits};
 
 use crate::known::Known;
-use crate::table::Effect;
 use std::alloc::{AllocError, Global};
+use x10_code::Effect;
 use x10_kinds::Homes;
 
 /// What has become of an instruction.

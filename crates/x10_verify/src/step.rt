@@ -12,8 +12,7 @@ use crate::decide::decide;
 use crate::fault::FlowCause;
 use crate::known::Known;
 use crate::states::{Entry, advance, arrive, finish, known_at, take};
-use crate::table::{Effect, goes_on, jumps};
-use x10_code::Instr;
+use x10_code::{Effect, Instr, Op, Operand, form, goes_on};
 use x10_image::ImageView;
 use x10_model::Slot;
 
@@ -162,4 +161,11 @@ fn hand_on(
     }
     advance(table, at, instr.a, effect);
     Ok(())
+}
+
+// Whether an instruction may lead to instruction x.
+fn jumps(op: Op) -> bool
+    ensures { result ≡ is_target (form_of op).x }
+{
+    form(op).x == Operand::Target
 }

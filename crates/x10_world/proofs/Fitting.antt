@@ -66,7 +66,7 @@ place_word program assigned x f c call to h call-is at holds =
         let permitted = (assigned f.function h.function h.is_function).1.consistent.permitted f.pc h.state h.is_state in
         let found : slice_get h.function.code f.pc ≡ Some call = sym (ap (λ g. instr_in g f.pc) h.is_function) ∙ call-is in
         let same : permitted.0 ≡ call = same_Some permitted.0 call (sym permitted.2 ∙ found) in
-        (subst (λ o. Permits o (point call) h.state permitted.1) at (subst (λ (i : Instr). Permits i.op (point i) h.state permitted.1) same permitted.3)).2
+        (subst (λ o. Permits o (point call) h.state permitted.1) at (subst (λ (i : Instr). Permits i.op (point i) h.state permitted.1) same permitted.3)).1.settles.1.place
 
     value : (v : Value) × (c.registers call.c ≡ Some v) × IsWordOf x kind.Place word v
     value = h.words call.c kind.Place (asks.1 ∙ ap Some (place_only asks.0 asks.2))

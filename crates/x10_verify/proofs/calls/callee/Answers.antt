@@ -1,6 +1,6 @@
 use Rattle.std.proofs.Common.{subst}
 use Rattle.x10_verify.specs.Known.{state_of}
-use Rattle.x10_verify.specs.Rules.{SlotsAre}
+use Rattle.x10_model.specs.Assignments.{SlotsAre}
 use Rattle.x10_verify.proofs.Deciding.{unmatched}
 use Rattle.x10_verify.proofs.InFunction.{parameters_are}
 use Rattle.x10_verify.proofs.calls.callee.Goals as goal

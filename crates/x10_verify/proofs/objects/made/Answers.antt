@@ -1,7 +1,7 @@
 use Rattle.std.proofs.Common.{sym, ◌∙◌, subst}
 use Rattle.std.proofs.lemmas.Option.{same_Some}
 use Rattle.x10_verify.specs.Known.{state_of}
-use Rattle.x10_verify.specs.Rules.{KindsAre}
+use Rattle.x10_model.specs.Assignments.{KindsAre}
 use Rattle.x10_verify.proofs.Deciding.{undecided}
 use Rattle.x10_verify.proofs.objects.made.Goals as goal
 

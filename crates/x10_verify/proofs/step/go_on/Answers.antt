@@ -1,6 +1,6 @@
 use Rattle.std.proofs.Common.{◌≡◌, ◌+◌, true, arith, refl}
 use Rattle.std.proofs.lemmas.Option.{slice_get_read}
-use Rattle.x10_verify.specs.Rules.{goes_on_of}
+use Rattle.x10_code.specs.Rules.{goes_on_of}
 use Rattle.x10_verify.proofs.step.go_on.Goals as goal
 
 pub returns : goal.returns

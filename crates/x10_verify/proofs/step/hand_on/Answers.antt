@@ -1,5 +1,5 @@
 use Rattle.std.proofs.Common.{◌≡◌, true, arith}
-use Rattle.x10_verify.specs.Rules.{goes_on_of}
+use Rattle.x10_code.specs.Rules.{goes_on_of}
 use Rattle.x10_verify.proofs.step.hand_on.Goals as goal
 
 pub returns : goal.returns

@@ -4,7 +4,7 @@ use Rattle.x10_model.specs.Modules.{Function}
 use Rattle.x10_model.specs.Structure.{is_target}
 use Rattle.x10_verify.specs.Known.{state_of}
 use Rattle.x10_verify.specs.Knowledge.{point}
-use Rattle.x10_verify.specs.Rules.{goes_on_of}
+use Rattle.x10_code.specs.Rules.{goes_on_of}
 use Rattle.std.proofs.lemmas.Result.{err_from_is_err_and}
 use Rattle.x10_verify.proofs.Stepped.{step_on, step_refused, step_runs_out, step_total, straight_size, taken_entry, taken_read, no_jump, handed_on}
 use Rattle.x10_verify.proofs.Tables.{can_apply, results_fit}

@@ -1,12 +1,9 @@
-//! The table of rules: what each operation asks of its registers, and what it does to the state that goes on.
-ghost use Rattle.std.specs.Prelude.{◌≡◌, ◌<◌, IsTrue};
-ghost use Rattle.x10_code.specs.declared.op.Op.TheVariants as op;
-ghost use Rattle.x10_code.specs.Table.{form_of};
-ghost use Rattle.x10_model.specs.Structure.{is_target};
-ghost use Rattle.x10_verify.specs.Named.{NamesSmall};
-ghost use Rattle.x10_verify.specs.Rules.{rule_for, goes_on_of};
+//! The rules as data: what each operation asks of its registers, what it does to what is known, and whether it goes on.
+ghost use Rattle.std.specs.Prelude.{◌≡◌};
+ghost use Rattle.x10_code.specs.Rules.{NamesSmall, rule_for, goes_on_of};
 
-use x10_code::{Instr, Op, Operand, form};
+use crate::instr::Instr;
+use crate::op::Op;
 use x10_kinds::{Kind, Term};
 
 /// What an instruction does to the state that goes on to the next one.
@@ -75,54 +72,55 @@ pub fn rule_of(instr: Instr) -> Rule
     const PLACE: Option<Kind> = Some(Kind::Place);
     match instr.op {
         // numbers
-        Op::Intk => row(None, None, None, sets(Kind::Int)),
+        Op::Intk => asks(None, None, None, sets(Kind::Int)),
         Op::Add | Op::Sub | Op::Mul | Op::Div | Op::Rem | Op::Lt | Op::Eq => {
-            row(None, INT, INT, sets(Kind::Int))
+            asks(None, INT, INT, sets(Kind::Int))
         }
         // control
-        Op::Move => row(None, None, None, Outcome::Copies),
-        Op::Jmp | Op::Loop | Op::Endl => row(None, None, None, keeps()),
-        Op::Jz => row(INT, None, None, keeps()),
-        Op::Call => row(None, None, None, Outcome::Calls(Term::Here)),
-        Op::Ret => row(None, None, None, Outcome::Returns),
+        Op::Move => asks(None, None, None, Outcome::Copies),
+        Op::Jmp | Op::Loop | Op::Endl => asks(None, None, None, keeps()),
+        Op::Jz => asks(INT, None, None, keeps()),
+        Op::Call => asks(None, None, None, Outcome::Calls(Term::Here)),
+        Op::Ret => asks(None, None, None, Outcome::Returns),
         // text
-        Op::Textk => row(None, None, None, sets(Kind::Text)),
-        Op::Tlen => row(None, TEXT, None, sets(Kind::Int)),
-        Op::Tcat => row(None, TEXT, TEXT, sets(Kind::Text)),
+        Op::Textk => asks(None, None, None, sets(Kind::Text)),
+        Op::Tlen => asks(None, TEXT, None, sets(Kind::Int)),
+        Op::Tcat => asks(None, TEXT, TEXT, sets(Kind::Text)),
         // objects
-        Op::New => row(None, None, None, Outcome::Makes),
-        Op::Get => row(None, None, None, Outcome::Gets),
-        Op::Put => row(None, None, None, Outcome::Puts),
-        Op::Null => row(None, None, None, sets(Kind::Opt(instr.x as u16))),
-        Op::Ifobj => row(None, None, None, Outcome::Unwraps),
+        Op::New => asks(None, None, None, Outcome::Makes),
+        Op::Get => asks(None, None, None, Outcome::Gets),
+        Op::Put => asks(None, None, None, Outcome::Puts),
+        Op::Null => asks(None, None, None, sets(Kind::Opt(instr.x as u16))),
+        Op::Ifobj => asks(None, None, None, Outcome::Unwraps),
         // rails
-        Op::Rail => row(None, INT, None, sets(Kind::Rail)),
-        Op::Rget => row(None, RAIL, INT, sets(Kind::Int)),
-        Op::Rset => row(RAIL, INT, INT, keeps()),
-        Op::Rlen => row(None, RAIL, None, sets(Kind::Int)),
+        Op::Rail => asks(None, INT, None, sets(Kind::Rail)),
+        Op::Rget => asks(None, RAIL, INT, sets(Kind::Int)),
+        Op::Rset => asks(RAIL, INT, INT, keeps()),
+        Op::Rlen => asks(None, RAIL, None, sets(Kind::Int)),
         // places
-        Op::Here => row(None, None, None, place_of(Term::Here)),
-        Op::Placek => row(None, None, None, place_of(Term::Place(instr.x as u16))),
-        Op::Placen => row(None, INT, None, sets(Kind::Place)),
-        Op::Placei => row(None, PLACE, None, sets(Kind::Int)),
-        Op::Nextp => row(None, PLACE, None, sets(Kind::Place)),
-        Op::Count => row(None, None, None, sets(Kind::Int)),
-        Op::Home => row(None, None, None, Outcome::Locates),
-        Op::Gnew => row(None, None, None, Outcome::Exports),
-        Op::Gopen => row(None, None, None, Outcome::Opens),
-        Op::Ifhere => row(None, None, None, Outcome::FindsHere),
-        Op::Ifsame => row(None, None, None, Outcome::FindsSame),
+        Op::Here => asks(None, None, None, sets_place(Term::Here)),
+        Op::Placek => asks(None, None, None, sets_place(Term::Place(instr.x as u16))),
+        Op::Placen => asks(None, INT, None, sets(Kind::Place)),
+        Op::Placei => asks(None, PLACE, None, sets(Kind::Int)),
+        Op::Nextp => asks(None, PLACE, None, sets(Kind::Place)),
+        Op::Count => asks(None, None, None, sets(Kind::Int)),
+        Op::Home => asks(None, None, None, Outcome::Locates),
+        Op::Gnew => asks(None, None, None, Outcome::Exports),
+        Op::Gopen => asks(None, None, None, Outcome::Opens),
+        Op::Ifhere => asks(None, None, None, Outcome::FindsHere),
+        Op::Ifsame => asks(None, None, None, Outcome::FindsSame),
         // activities
-        Op::Async => row(None, None, None, Outcome::Starts(Term::Here)),
-        Op::At => row(None, None, None, Outcome::Calls(Term::Reg(instr.c))),
-        Op::Ata => row(None, None, None, Outcome::Starts(Term::Reg(instr.c))),
-        Op::Finb | Op::Fine | Op::Atomb | Op::Atome => row(None, None, None, keeps()),
+        Op::Async => asks(None, None, None, Outcome::Starts(Term::Here)),
+        Op::At => asks(None, None, None, Outcome::Calls(Term::Reg(instr.c))),
+        Op::Ata => asks(None, None, None, Outcome::Starts(Term::Reg(instr.c))),
+        Op::Finb | Op::Fine | Op::Atomb | Op::Atome => asks(None, None, None, keeps()),
         // output
-        Op::Print => row(None, None, None, Outcome::Prints),
+        Op::Print => asks(None, None, None, Outcome::Prints),
     }
 }
 
-fn row(a: Option<Kind>, b: Option<Kind>, c: Option<Kind>, outcome: Outcome) -> Rule
+// A row, by what it asks of registers a, b and c, and what settles its effect.
+fn asks(a: Option<Kind>, b: Option<Kind>, c: Option<Kind>, outcome: Outcome) -> Rule
     ensures { result ≡ record { a = a; b = b; c = c; outcome = outcome } }
 {
     Rule { a, b, c, outcome }
@@ -140,22 +138,15 @@ fn sets(kind: Kind) -> Outcome
     Outcome::Fixed(Effect::Sets(kind, None))
 }
 
-fn place_of(term: Term) -> Outcome
+fn sets_place(term: Term) -> Outcome
     ensures { result ≡ Outcome.Fixed (Effect.Sets Kind.Place (Some term)) }
 {
     Outcome::Fixed(Effect::Sets(Kind::Place, Some(term)))
 }
 
 /// Whether an instruction may lead to the next one.
-pub(crate) fn goes_on(op: Op) -> bool
+pub fn goes_on(op: Op) -> bool
     ensures { result ≡ goes_on_of op }
 {
     !matches!(op, Op::Jmp | Op::Ret)
-}
-
-/// Whether an instruction may lead to instruction x.
-pub(crate) fn jumps(op: Op) -> bool
-    ensures { result ≡ is_target (form_of op).x }
-{
-    form(op).x == Operand::Target
 }
