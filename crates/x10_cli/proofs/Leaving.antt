@@ -46,6 +46,7 @@ refused_kept verb.ListVerbose a b c p k = Keeps-trans a b c p k
 refused_kept verb.Verify a b c p k = Keeps-trans a b c p k
 refused_kept verb.Bounds a b c p k = Keeps-trans a b c p k
 refused_kept verb.Run a b c p k = Keeps-trans a b c p k
+refused_kept verb.Runs a b c p k = Keeps-trans a b c p k
 refused_kept verb.Trace a b c p k = Keeps-trans a b c p k
 refused_kept verb.Draw a b c p k = Keeps-trans a b c p k
 
@@ -64,6 +65,7 @@ stopped_kept verb.Trace threads asked bytes a b c (inr p) k = inr (
 )
 stopped_kept verb.Draw threads asked bytes a b c (inl p) k = inl (Keeps-trans a b c p k)
 stopped_kept verb.Draw threads asked bytes a b c (inr p) k = inr (p.0, p.1, p.2, p.3, Appends-kept a b c p.1 p.4 k)
+stopped_kept verb.Runs threads asked bytes a b c p k = Keeps-trans a b c p k
 stopped_kept verb.Asm threads asked bytes a b c p k = Keeps-trans a b c p k
 stopped_kept verb.List threads asked bytes a b c p k = Keeps-trans a b c p k
 stopped_kept verb.ListVerbose threads asked bytes a b c p k = Keeps-trans a b c p k

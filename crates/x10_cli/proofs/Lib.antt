@@ -3,3 +3,4 @@ pub mod Printing
 pub mod Leaving
 pub mod Dues
 pub mod Running
+pub mod Found

@@ -146,6 +146,7 @@ prints_kept verb.ListVerbose asked bytes a b c p k = (p.0, p.1, p.2, p.3, p.4, A
 prints_kept verb.Check asked bytes a b c p k = (p.0, p.1, Appends-kept a b c _ p.2 k)
 prints_kept verb.Verify asked bytes a b c p k = (p.0, p.1, p.2, p.3, Appends-kept a b c _ p.4 k)
 prints_kept verb.Bounds asked bytes a b c p k = (p.0, p.1, p.2, p.3, Appends-kept a b c _ p.4 k)
+prints_kept verb.Runs asked bytes a b c p k = (p.0, (p.1.0, p.1.1, p.1.2, p.1.3, Appends-kept a b c _ p.1.4 k))
 prints_kept verb.Run asked bytes a b c p k = (p.0, p.1, p.2, p.3, Appends-kept a b c _ p.4 k)
 prints_kept verb.Draw asked bytes a b c p k = (p.0, p.1, p.2, p.3, Appends-kept a b c _ p.4 k)
 prints_kept verb.Trace asked bytes a b c p k =

@@ -33,7 +33,9 @@ use Rattle.x10_trace.specs.Trace.{Traced}
 use Rattle.x10_draw.specs.Pages.{IsPage}
 use Rattle.x10_world.specs.declared.rounds.Halt.{Halt}
 use Rattle.x10_world.specs.declared.rounds.Halt.TheVariants as halt
+use Rattle.x10_findings.specs.Findings.{FindingsState}
 use Rattle.x10_cli.specs.Lines.{bound_lines, all_lines}
+use Rattle.x10_cli.specs.Runs.{FoundIn, findings_text}
 use Rattle.x10_kinds.specs.declared.stop.Stop.{Stop}
 use Rattle.x10_kinds.specs.declared.stop.Stop.TheVariants as stop
 use Rattle.x10_image.specs.declared.fault.ImageFault.{ImageFault}
@@ -94,6 +96,7 @@ CanBeDone verb.Check places bytes = IsChecked bytes
 CanBeDone verb.Verify places bytes = IsVerifiedImage bytes
 CanBeDone verb.Bounds places bytes = (m : Module) × IsImage bytes m × HasBounds m
 CanBeDone verb.Run places bytes = (c : Certified) × IsImageOf bytes c × (IsForbidden c (places_for places c) → ⊥)
+CanBeDone verb.Runs places bytes = (c : Certified) × IsImageOf bytes c × (IsForbidden c (places_for places c) → ⊥)
 CanBeDone verb.Trace places bytes = (c : Certified) × IsImageOf bytes c × (IsForbidden c (places_for places c) → ⊥)
 CanBeDone verb.Draw places bytes = (c : Certified) × IsImageOf bytes c × (IsForbidden c (places_for places c) → ⊥)
 
@@ -135,8 +138,13 @@ pub record HasDrawn (c : Certified) (places : ℕ) (picture : List ℕ) : Type 0
   pub ended : HasEnded last
   pub page : IsPage picture
 
+-- what so many runs of the module printed was appended
+abbrev pub PrintsRuns : Option ℕ → ℕ → List ℕ → Option (List ℕ) → Option (List ℕ) → Type 0
+PrintsRuns asked runs bytes old new = (c : Certified) × (s : FindingsState) × IsImageOf bytes c × FoundIn c (places_for asked c) runs s × Appends old new (findings_text runs s)
+
 -- what is appended to what is known to be written: the image of the text's module, the listing of the image's, perhaps
--- with comments between, which is read as the module again, the verdict, the bounds of its functions, the lines of a run that has ended, or those of its events, or its picture, at as many
+-- with comments between, which is read as the module again, the verdict, the bounds of its
+-- functions, the lines of a run that has ended, what many runs printed, the lines of a run's events, or its picture, at as many
 -- places as were asked for
 abbrev pub Prints : Verb → Option ℕ → List ℕ → Option (List ℕ) → Option (List ℕ) → Type 0
 Prints verb.Asm asked bytes old new = (m : Module) × (module_of bytes ≡ Ok m) × Appends old new (spelling m)
@@ -146,6 +154,7 @@ Prints verb.Check asked bytes old new = (text : List ℕ) × IsChecked bytes × 
 Prints verb.Verify asked bytes old new = (c : Certified) × (bound : ℕ) × IsImageOf bytes c × (slice_get c.bounds c.program.entry ≡ Some bound)
     × Appends old new (verdict_line (length c.program.functions) bound)
 Prints verb.Bounds asked bytes old new = (m : Module) × (bounds : List ℕ) × IsImage bytes m × (bounds_of m ≡ Ok bounds) × Appends old new (bound_lines 0 bounds)
+Prints verb.Runs asked bytes old new = (runs : ℕ) × PrintsRuns asked runs bytes old new
 Prints verb.Trace asked bytes old new = (c : Certified) × IsImageOf bytes c × HasTraced c (places_for asked c) old new
 Prints verb.Draw asked bytes old new = (c : Certified) × (picture : List ℕ) × IsImageOf bytes c × HasDrawn c (places_for asked c) picture
     × Appends old new picture
@@ -224,6 +233,7 @@ IsDue asked bytes _ = Unit {0}
 abbrev pub IsVerifying : Verb → Type 0
 IsVerifying verb.Verify = Unit {0}
 IsVerifying verb.Run = Unit {0}
+IsVerifying verb.Runs = Unit {0}
 IsVerifying verb.Trace = Unit {0}
 IsVerifying verb.Draw = Unit {0}
 IsVerifying _ = ⊥

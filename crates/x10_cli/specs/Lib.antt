@@ -1,4 +1,5 @@
 pub mod Lines
+pub mod Runs
 pub mod Answers
 pub mod Telling
 pub mod Schedules

@@ -14,13 +14,14 @@ ghost use Rattle.x10_trace.specs.Trace.{trace_lines};
 ghost use Rattle.x10_cli.specs.Lines.{numbered, place_lines, all_lines};
 ghost use Rattle.x10_task.specs.declared.task.Verb.TheVariants as verb;
 ghost use Rattle.x10_cli.specs.declared.fault.Fault.TheVariants as fault;
-ghost use Rattle.x10_cli.specs.Answers.{IsImage, IsVerifiedImage, IsVerifying, CanBeDone, IsStatus, IsDue, Prints, Traces, TracesSome, LeavesRefused, LeavesStopped, places_for, status_of};
+ghost use Rattle.x10_cli.specs.Answers.{IsImage, IsVerifiedImage, IsVerifying, CanBeDone, IsStatus, IsDue, Prints, PrintsRuns, Traces, TracesSome, LeavesRefused, LeavesStopped, places_for, status_of};
 ghost use Rattle.x10_cli.specs.Telling.{SaysFault, Tells, fault_line};
 
 use crate::checking::print_check;
 use crate::explain::explanation;
 use crate::fault::Fault;
 use crate::picture::print_picture;
+use crate::runs::print_runs;
 use crate::schedule::schedule_of;
 use crate::threads::print_threaded;
 use std::alloc::Global;
@@ -57,6 +58,7 @@ pub fn execute<R: Threads + Wait + Sync, O: Write, E: Write>(
     ensures status { IsStatus result }
     ensures done { result ≡ 0 → CanBeDone task.now.verb task.now.places bytes.now }
     ensures printed { result ≡ 0 → Prints task.now.verb task.now.places bytes.now (O.contents out.old) (O.contents out.new) }
+    ensures counted { result ≡ 0 → task.now.verb ≡ verb.Runs → PrintsRuns task.now.places task.now.seeds bytes.now (O.contents out.old) (O.contents out.new) }
     ensures verified { result ≡ 0 → IsVerifying task.now.verb → IsVerifiedImage bytes.now }
     ensures refused { result ≡ 1 → CanBeDone task.now.verb task.now.places bytes.now → ⊥ }
     ensures left_refused { result ≡ 1 → LeavesRefused task.now.verb (O.contents out.old) (O.contents out.new) }
@@ -112,6 +114,7 @@ fn perform<R: Threads + Wait + Sync, O: Write>(
 ) -> Result<(), Fault>
     ensures done { IfOk result (λ _. CanBeDone task.now.verb task.now.places bytes.now) }
     ensures printed { OnOk result (Prints task.now.verb task.now.places bytes.now (O.contents out.old) (O.contents out.new)) }
+    ensures counted { OnOk result (task.now.verb ≡ verb.Runs → PrintsRuns task.now.places task.now.seeds bytes.now (O.contents out.old) (O.contents out.new)) }
     ensures refused { IfErr result (λ e. status_of e ≡ 1 → CanBeDone task.now.verb task.now.places bytes.now → ⊥) }
     ensures due { IfErr result (IsDue task.now.places bytes.now) }
     ensures left_refused { IfErr result (λ e. status_of e ≡ 1 → LeavesRefused task.now.verb (O.contents out.old) (O.contents out.new)) }
@@ -126,6 +129,7 @@ fn perform<R: Threads + Wait + Sync, O: Write>(
         Verb::Bounds => print_bounds(alloc, bytes, out),
         Verb::Run if task.threads => print_threaded(rt, alloc, task, bytes, out),
         Verb::Run => print_run(alloc, task, bytes, out),
+        Verb::Runs => print_runs(alloc, task, bytes, out),
         Verb::Trace => print_trace(alloc, task, bytes, out),
         Verb::Draw => print_picture(alloc, task, bytes, out),
     }
@@ -334,7 +338,7 @@ fn print_event<O: Write>(
 }
 
 /// The lines of each place.
-fn print_outputs<O: Write>(world: &World, out: &mut O) -> Result<(), Fault>
+pub(crate) fn print_outputs<O: Write>(world: &World, out: &mut O) -> Result<(), Fault>
     ensures ok { OnOk result (Appends (O.contents out.old) (O.contents out.new) (all_lines 0 (lines_at world.now.places))) }
     ensures err { IfErr result (λ e. e ≡ fault.File) }
 {

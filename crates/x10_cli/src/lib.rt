@@ -6,6 +6,7 @@ mod commands;
 mod explain;
 mod fault;
 mod picture;
+mod runs;
 mod schedule;
 mod threads;
 

@@ -1,16 +1,15 @@
 //! What a drawing has seen: columns with their stays, pieces of bars, arrows, brackets and labels.
 use crate::column::{Column, Row, Span, State};
-use crate::frame_kind::{FrameKind, facts_of, head_of};
 use crate::label::{Label, Tone};
-use crate::parts::{Arrow, Bracket, End, Fork, Spot};
-use crate::telling::{
-    Move, delivery_label, main_label, print, quiet_label, step_label, taken_text, text_of,
-};
+use crate::parts::{Arrow, Bracket, End, Fork};
+use crate::telling::{Move, main_label, quiet_label, step_label, text_of};
 use std::alloc::{AllocError, Global};
-use std::fmt::Write;
 use x10_code::Op;
 use x10_model::Event;
 use x10_world::{Done, World};
+
+mod deliveries;
+mod steps;
 
 /// How much is shown of each event.
 #[derive(Clone, Copy, Debug, PartialEq, Eq)]
@@ -265,199 +264,6 @@ impl Sketch {
         };
         if let Tone::Shortened(steps) = label.tone {
             label.tone = Tone::Shortened(steps.saturating_add(1));
-        }
-    }
-}
-
-impl Sketch {
-    /// What a step did besides its place in the code, and all of its line of output, where that is cut.
-    fn tell(
-        &mut self,
-        world: &World,
-        step: Move,
-        row: u64,
-        text: &mut String,
-    ) -> Result<Option<String>, AllocError> {
-        match step.op {
-            Op::Print => {
-                let lines = world.output(step.place);
-                return print(self.alloc, lines, self.detail.letters, text);
-            }
-            Op::Async => self.fork(world, step, row)?,
-            Op::Finb => self.open(step, row, text)?,
-            Op::Fine => self.close(step, row, text)?,
-            _ => {}
-        }
-        Ok(None)
-    }
-
-    /// A stay begins beside the one that started it.
-    fn fork(&mut self, world: &World, step: Move, row: u64) -> Result<(), AllocError> {
-        let Some(key) = self.begin(world, step.place, row)? else {
-            return Ok(());
-        };
-        self.forks.push(Fork {
-            place: step.place,
-            from: step.key,
-            to: key,
-            row,
-        })?;
-        Ok(())
-    }
-
-    /// A stay opens a finish.
-    fn open(&mut self, step: Move, row: u64, text: &mut String) -> Result<(), AllocError> {
-        let Some(column) = self.columns.get_mut(usize::from(step.place)) else {
-            return Ok(());
-        };
-        let number = column.open_finish();
-        let depth = column.depth(step.key);
-        column.push_finish(step.key, self.brackets.len())?;
-        self.brackets.push(Bracket {
-            place: step.place,
-            lane: step.key,
-            depth,
-            number,
-            from: row,
-            to: None,
-        })?;
-        let place = step.place;
-        write!(text, " finish {place}.{number}")
-    }
-
-    /// A stay closes its innermost finish.
-    fn close(&mut self, step: Move, row: u64, text: &mut String) -> Result<(), AllocError> {
-        let Some(column) = self.columns.get_mut(usize::from(step.place)) else {
-            return Ok(());
-        };
-        let Some(index) = column.pop_finish(step.key) else {
-            return Ok(());
-        };
-        let Some(bracket) = self.brackets.get_mut(index) else {
-            return Ok(());
-        };
-        bracket.to = Some(row);
-        let (place, number) = (step.place, bracket.number);
-        write!(text, " finish {place}.{number}")
-    }
-
-    /// A frame that a step put out, if it is in flight.
-    fn post(
-        &mut self,
-        world: &World,
-        step: Move,
-        row: u64,
-        number: u64,
-        text: &mut String,
-    ) -> Result<(), AllocError> {
-        let Some((to, bytes)) = world.frame(number) else {
-            return Ok(());
-        };
-        let Some(head) = head_of(self.alloc, bytes, world.count())? else {
-            return Ok(());
-        };
-        let (kind, waiting, function) = facts_of(head);
-        let from = Spot {
-            place: step.place,
-            lane: Some(step.key),
-            row,
-        };
-        self.arrows.push(Arrow {
-            number,
-            kind,
-            function,
-            waiting,
-            from,
-            to,
-            head: None,
-        })?;
-        let name = kind.name();
-        write!(text, " {name} {number}")?;
-        if kind == FrameKind::Shift {
-            return self.leave(step, to, row);
-        }
-        Ok(())
-    }
-
-    /// A stay goes on by a Shift to a place.
-    fn leave(&mut self, step: Move, to: u16, row: u64) -> Result<(), AllocError> {
-        let state = if to == step.place {
-            State::Beside
-        } else {
-            State::Away
-        };
-        self.change(step.place, step.key, state, row)
-    }
-}
-
-impl Sketch {
-    /// The arrow of a frame and where it is, by its number: frames are numbered in the order in which they are put out.
-    /// Constant time.
-    fn arrow_at(&self, number: u64) -> Option<(usize, Arrow)> {
-        let first = self.arrows.first()?;
-        let at = usize::try_from(number.checked_sub(first.number)?).ok()?;
-        let arrow = *self.arrows.get(at)?;
-        if arrow.number == number {
-            Some((at, arrow))
-        } else {
-            None
-        }
-    }
-
-    /// A place took a frame in.
-    fn taken(&mut self, world: &World, number: u64, to: u16) -> Result<(), AllocError> {
-        let Some((at, arrow)) = self.arrow_at(number) else {
-            return self.stranger(number, to);
-        };
-        let Some(column) = self.columns.get_mut(usize::from(to)) else {
-            return Ok(());
-        };
-        let row = column.next_row(arrow.from.row);
-        let lane = self.land(world, arrow, to, row)?;
-        let spot = Spot {
-            place: to,
-            lane,
-            row,
-        };
-        if let Some(arrow) = self.arrows.get_mut(at) {
-            arrow.head = Some(spot);
-        }
-        let text = taken_text(self.alloc, arrow)?;
-        self.label(delivery_label(spot, text))
-    }
-
-    /// A place took in a frame that wasn't seen to be put out.
-    fn stranger(&mut self, number: u64, to: u16) -> Result<(), AllocError> {
-        let Some(column) = self.columns.get_mut(usize::from(to)) else {
-            return Ok(());
-        };
-        let spot = Spot {
-            place: to,
-            lane: None,
-            row: column.next_row(0),
-        };
-        let text = format!(in self.alloc; "frame {number}")?;
-        self.label(delivery_label(spot, text))
-    }
-
-    /// What a frame does where it is taken in: the lane of the stay that begins or goes on by it.
-    fn land(
-        &mut self,
-        world: &World,
-        arrow: Arrow,
-        to: u16,
-        row: u64,
-    ) -> Result<Option<usize>, AllocError> {
-        match arrow.kind {
-            FrameKind::Spawn | FrameKind::Shift => self.begin(world, to, row),
-            FrameKind::Back => {
-                let Some(key) = arrow.waiting else {
-                    return Ok(None);
-                };
-                self.change(to, key, State::Working, row)?;
-                Ok(Some(key))
-            }
-            FrameKind::Report => Ok(None),
         }
     }
 }

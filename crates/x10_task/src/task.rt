@@ -15,6 +15,8 @@ pub enum Verb {
     Bounds,
     /// Verify it, run it, and print what it prints.
     Run,
+    /// Verify it, run it by many seeds, and print each different output once.
+    Runs,
     /// Verify it, run it, and print what happens, event by event.
     Trace,
     /// Verify it, run it, and draw what happens.
@@ -50,6 +52,8 @@ pub struct Task<'a> {
     pub schedule: Schedule,
     /// Where the generator of a random schedule begins.
     pub seed: Option<u64>,
+    /// How many runs there are, by the seeds 1, 2 and so on. No other verb than `Runs` looks at it.
+    pub seeds: u64,
     /// Whether a run has a thread for each place. No other verb looks at it.
     pub threads: bool,
     /// Whether more is said about a fault than its line.

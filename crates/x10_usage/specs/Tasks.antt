@@ -27,15 +27,19 @@ has_output _ = false
 -- the commands that run a module
 abbrev pub is_run : Verb → Bool
 is_run verb.Run = true
+is_run verb.Runs = true
 is_run verb.Trace = true
 is_run verb.Draw = true
 is_run _ = false
 
--- a task has what its command takes: a file to write, a number of places, threads, a schedule; the numbers are in their ranges
+-- a task has what its command takes: a file to write, a number of places, threads, a schedule, a number of seeds; the numbers are in their ranges
 pub record IsTask (t : Task) : Type 0 where
   pub output : is_some t.output ≡ has_output t.verb
   pub places : IfSome t.places (IsOneTo MOST_PLACES)
   pub limit : IsOneTo 1000000000 t.limit
+  pub seeds : IsOneTo 1000000 t.seeds
+  pub runs : t.verb ≢ verb.Runs → t.seeds ≡ 100
+  pub seeded : t.verb ≡ verb.Runs → t.schedule ≡ order.Rounds
   pub run : is_run t.verb ≡ false → (t.places ≡ None) × (t.limit ≡ 1000000)
   pub threads : t.threads ≡ true → t.verb ≡ verb.Run
   pub schedule : t.schedule ≢ order.Rounds → (is_run t.verb ≡ true) × (t.threads ≡ false)
@@ -51,9 +55,10 @@ verb_named name is_verbose =
     else (if bytes_eq name (codes "check") then verb.Check
     else (if bytes_eq name (codes "verify") then verb.Verify
     else (if bytes_eq name (codes "bounds") then verb.Bounds
+    else (if bytes_eq name (codes "runs") then verb.Runs
     else (if bytes_eq name (codes "trace") then verb.Trace
     else (if bytes_eq name (codes "draw") then verb.Draw
-    else verb.Run))))))
+    else verb.Run)))))))
 
 -- the schedule of a name; where there is none, rounds, or a random one where there is a seed
 abbrev pub schedule_named : Option (List ℕ) → Bool → Schedule
@@ -94,5 +99,8 @@ pub record IsReadFrom (m : ArgMatches) (t : Task) : Type 0 where
   pub limit_is : t.limit ≡ unwrap_or asked 1000000
   pub schedule_is : t.schedule ≡ schedule_named (first_value found (codes "schedule")) (is_some t.seed)
   pub seed_is : IsNumberIn 64 (one_text found (codes "seed")) t.seed
+  pub asked_seeds : Option ℕ
+  pub are_asked : IsNumberIn 64 (one_text found (codes "seeds")) asked_seeds
+  pub seeds_is : t.seeds ≡ unwrap_or asked_seeds 100
   pub threads_is : IsFlagIn (one_text found (codes "threads")) t.threads
   pub explain_is : IsFlagIn (one_text found (codes "explain")) t.explain

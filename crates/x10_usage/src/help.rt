@@ -73,6 +73,16 @@ Exit status:
   3  the command line is wrong
   4  a file can't be read, or the output can't be written";
 
+pub const RUNS: &str = "Example:
+  x10p runs examples/any_order.asm --seeds 200
+
+Exit status:
+  0  done; also where a run was at its limit
+  1  refused: the text or image, its module, or the number of places
+  2  stopped: lack of memory, or a limit of the machine
+  3  the command line is wrong
+  4  a file can't be read, or the output can't be written";
+
 pub const TRACE: &str = "Example:
   x10p trace examples/seven.x10 --limit 100
 

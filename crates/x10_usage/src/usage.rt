@@ -5,7 +5,7 @@ ghost use Rattle.x10_usage.specs.Tasks.{IsOneTo, IsReadFrom, IsTask, has_output,
 ghost use Rattle.x10_usage.specs.Tasks as tasks;
 ghost use Rattle.x10_usage.specs.Usages.{IsAnswer, text_of};
 
-use crate::words::{MOST_EVENTS, program};
+use crate::words::{MOST_EVENTS, MOST_SEEDS, program};
 use clap::error::ErrorKind;
 use clap::{ArgMatches, Command, Error};
 use std::alloc::{AllocError, Global};
@@ -36,6 +36,9 @@ impl Usage {
 
 /// How many events a run has at most, where the words don't say so.
 const EVENTS: u64 = 1_000_000;
+
+/// How many runs there are, where the words don't say so.
+const SEEDS: u64 = 100;
 
 /// Reads the words of a command line, of which the program's name is the first. A task has what its command takes, and its
 /// numbers are in their ranges.
@@ -130,6 +133,7 @@ fn task_in<'a>(matches: &ArgMatches<'a>) -> Option<Task<'a>>
         limit: matches.get_one("limit").unwrap_or(EVENTS),
         schedule: schedule_of(matches.get_str("schedule"), seed.is_some()),
         seed,
+        seeds: matches.get_one("seeds").unwrap_or(SEEDS),
         threads: matches.get_flag("threads"),
         explain: matches.get_flag("explain"),
     })
@@ -145,6 +149,7 @@ fn verb_of(name: &str, is_verbose: bool) -> Verb
         "check" => Verb::Check,
         "verify" => Verb::Verify,
         "bounds" => Verb::Bounds,
+        "runs" => Verb::Runs,
         "trace" => Verb::Trace,
         "draw" => Verb::Draw,
         _ => Verb::Run,
@@ -172,6 +177,7 @@ fn is_task(task: &Task) -> bool
     writes_as_asked(task)
         && is_place_count(task.places)
         && is_event_count(task.limit)
+        && is_seed_count(task)
         && (is_run(task.verb) || has_no_numbers(task))
         && threads_are_for_run(task)
         && is_schedule(task)
@@ -201,10 +207,20 @@ fn is_event_count(limit: u64) -> bool
     limit >= 1 && limit <= MOST_EVENTS
 }
 
+/// There is at least one run, and how many there are is said only where there are several.
+fn is_seed_count(task: &Task) -> bool
+    ensures seeds { IsTrue result → IsOneTo 1000000 task.now.seeds }
+    ensures runs { IsTrue result → task.now.verb ≢ Verb.Runs → task.now.seeds ≡ 100 }
+{
+    task.seeds >= 1
+        && task.seeds <= MOST_SEEDS
+        && (task.seeds == SEEDS || matches!(task.verb, Verb::Runs))
+}
+
 fn is_run(verb: Verb) -> bool
     ensures { result ≡ tasks.is_run verb }
 {
-    matches!(verb, Verb::Run | Verb::Trace | Verb::Draw)
+    matches!(verb, Verb::Run | Verb::Runs | Verb::Trace | Verb::Draw)
 }
 
 fn has_no_numbers(task: &Task) -> bool
@@ -222,9 +238,10 @@ fn threads_are_for_run(task: &Task) -> bool
 /// A schedule is for a run in this thread, and a seed for a random one.
 fn is_schedule(task: &Task) -> bool
     ensures schedule { IsTrue result → task.now.schedule ≢ Schedule.Rounds → (tasks.is_run task.now.verb ≡ true) × (task.now.threads ≡ false) }
+    ensures runs { IsTrue result → task.now.verb ≡ Verb.Runs → task.now.schedule ≡ Schedule.Rounds }
     ensures seed { IsTrue result → is_some task.now.seed ≡ true → task.now.schedule ≡ Schedule.Random }
 {
-    let runs_here = is_run(task.verb) && !task.threads;
+    let runs_here = is_run(task.verb) && !matches!(task.verb, Verb::Runs) && !task.threads;
     match task.schedule {
         Schedule::Random => runs_here,
         Schedule::Rounds => task.seed.is_none(),

@@ -7,6 +7,9 @@ use x10_model::limits::MOST_PLACES;
 /// The greatest number of events that can be asked for.
 pub(crate) const MOST_EVENTS: u64 = 1_000_000_000;
 
+/// The greatest number of runs that can be asked for.
+pub(crate) const MOST_SEEDS: u64 = 1_000_000;
+
 const VERSION: &str = "0.1.0";
 
 const ABOUT: &str =
@@ -34,6 +37,7 @@ fn with_looks<'a>(alloc: Global, command: Command<'a>) -> Result<Command<'a>, Al
 /// With the commands that run a module.
 fn with_runs<'a>(alloc: Global, command: Command<'a>) -> Result<Command<'a>, AllocError> {
     let command = with(command, run(alloc))?;
+    let command = with(command, runs(alloc))?;
     let command = with(command, trace(alloc))?;
     with(command, draw(alloc))
 }
@@ -103,6 +107,19 @@ fn bounds<'a>(alloc: Global) -> Result<Command<'a>, AllocError> {
 fn run<'a>(alloc: Global) -> Result<Command<'a>, AllocError> {
     let about = "Verify a module, run it, and print each place's lines, `PLACE: LINE` each";
     run_words(alloc, "run", about, help::RUN)?.arg(threads(alloc)?)
+}
+
+fn runs<'a>(alloc: Global) -> Result<Command<'a>, AllocError> {
+    Command::new(alloc, "runs")
+        .about(
+            "Verify a module, run it in many random orders, and print each different output once",
+        )
+        .after_help(help::RUNS)
+        .arg(image_name(alloc))?
+        .arg(seeds(alloc))?
+        .arg(places(alloc))?
+        .arg(limit(alloc))?
+        .arg(explain(alloc))
 }
 
 fn trace<'a>(alloc: Global) -> Result<Command<'a>, AllocError> {
@@ -179,6 +196,16 @@ fn seed<'a>(alloc: Global) -> Arg<'a> {
         .help("Which random order, 0 to 18446744073709551615")
         .allow_negative_numbers(true)
         .value_parser(value_parser!(u64))
+}
+
+fn seeds<'a>(alloc: Global) -> Arg<'a> {
+    Arg::new(alloc, "seeds")
+        .long("seeds")
+        .value_name("N")
+        .help("How many runs, by the seeds 1 to N; N is 1 to 1000000")
+        .default_value("100")
+        .allow_negative_numbers(true)
+        .value_parser(value_parser!(u64).range(1..=MOST_SEEDS as i64))
 }
 
 fn run_words<'a>(

@@ -23,6 +23,9 @@ returns c = record {
   limit_is = c.unwrap_or.ensures;
   schedule_is = c.schedule_of.ensures ∙ ap (λ o. schedule_named o c.is_some.result) c.get_str-3.ensures ∙ ap (λ b. schedule_named (first_value (found_of c.in_ok-name.matches.now) (codes "schedule")) b) c.is_some.ensures;
   seed_is = number_read 64 (λ bs r. ParsesUnsigned 64 10 bs r × ExplainsUnsignedError 10 bs r × HasUnsignedDigitsIfOk bs r) (one_text (found_of c.in_ok-name.matches.now) (codes "seed")) c.get_one-seed.result (λ bs r g. g.0) c.get_one-seed.ensures.none c.get_one-seed.ensures.value;
+  asked_seeds = c.get_one-3.result;
+  are_asked = number_read 64 (λ bs r. ParsesUnsigned 64 10 bs r × ExplainsUnsignedError 10 bs r × HasUnsignedDigitsIfOk bs r) (one_text (found_of c.in_ok-name.matches.now) (codes "seeds")) c.get_one-3.result (λ bs r g. g.0) c.get_one-3.ensures.none c.get_one-3.ensures.value;
+  seeds_is = c.unwrap_or-2.ensures;
   threads_is = record { none = c.get_flag-2.ensures.none; yes = c.get_flag-2.ensures.value; no = c.get_flag-2.ensures.other };
   explain_is = record { none = c.get_flag-3.ensures.none; yes = c.get_flag-3.ensures.value; no = c.get_flag-3.ensures.other };
 }
