@@ -65,10 +65,10 @@ none_in : (word n a b c x mask k l m y : ℕ) → a < 256 → b < 256 → c < 25
     → (bit_and word mask ≡ 0) ↔ ((bit_and a k ≡ 0) × (bit_and b l ≡ 0) × (bit_and c m ≡ 0) × (bit_and x y ≡ 0))
 none_in word n a b c x mask k l m y a_below b_below c_below x_below k_below l_below m_below y_below word_is mask_is =
     let bits : bit_and word mask ≡ ((bit_and a k * 256 + bit_and b l) * 256 + bit_and c m) * 4294967296 + bit_and x y =
-        ap₂ bit_and word_is mask_is ∙ apart n a b c x k l m y a_below b_below c_below x_below k_below l_below m_below y_below in (
+    ap₂ bit_and word_is mask_is ∙ apart n a b c x k l m y a_below b_below c_below x_below k_below l_below m_below y_below in (
       λ none.
-        let all : ((bit_and a k * 256 + bit_and b l) * 256 + bit_and c m) * 4294967296 + bit_and x y ≡ 0 = sym bits ∙ none in
-        (omega (arith, all), omega (arith, all), omega (arith, all), omega (arith, all)),
+          let all : ((bit_and a k * 256 + bit_and b l) * 256 + bit_and c m) * 4294967296 + bit_and x y ≡ 0 = sym bits ∙ none in
+          (omega (arith, all), omega (arith, all), omega (arith, all), omega (arith, all)),
       λ each. let one = each.0 in let two = each.1 in let three = each.2 in let four = each.3 in bits ∙ omega (arith, one, two, three, four),
     )
 
@@ -84,13 +84,13 @@ unused_fits o word n a b c x a_below b_below c_below x_below word_is =
     let b_moves = moves (form_of o).b in
     let c_moves = moves (form_of o).c in
     let each = none_in word n a b c x (unused_of (form_of o)) (bits_if (form_of o).a 255) (bits_if (form_of o).b 255) (bits_if (form_of o).c 255) (bits_if (form_of o).x 4294967295)
-        a_below b_below c_below x_below a_moves.3 b_moves.3 c_moves.3 (moves (form_of o).x).4 word_is (omega (arith, a_moves.0, b_moves.1, c_moves.2)) in (
+    a_below b_below c_below x_below a_moves.3 b_moves.3 c_moves.3 (moves (form_of o).x).4 word_is (omega (arith, a_moves.0, b_moves.1, c_moves.2)) in (
       λ none. let e = each.0 none in and_from _ _ (and_from _ _ (and_from _ _ (a_fits.0 e.0) (b_fits.0 e.1)) (c_fits.0 e.2)) (x_fits.0 e.3),
       λ fits.
-        let one = and_parts (fits_operand (form_of o).a a && fits_operand (form_of o).b b && fits_operand (form_of o).c c) (fits_operand (form_of o).x x) fits in
-        let two = and_parts (fits_operand (form_of o).a a && fits_operand (form_of o).b b) (fits_operand (form_of o).c c) one.0 in
-        let three = and_parts (fits_operand (form_of o).a a) (fits_operand (form_of o).b b) two.0 in
-        each.1 (a_fits.1 three.0, b_fits.1 three.1, c_fits.1 two.1, x_fits.1 one.1),
+          let one = and_parts (fits_operand (form_of o).a a && fits_operand (form_of o).b b && fits_operand (form_of o).c c) (fits_operand (form_of o).x x) fits in
+          let two = and_parts (fits_operand (form_of o).a a && fits_operand (form_of o).b b) (fits_operand (form_of o).c c) one.0 in
+          let three = and_parts (fits_operand (form_of o).a a) (fits_operand (form_of o).b b) two.0 in
+          each.1 (a_fits.1 three.0, b_fits.1 three.1, c_fits.1 two.1, x_fits.1 one.1),
     )
 
 -- the last four of eight bytes
