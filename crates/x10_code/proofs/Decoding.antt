@@ -1,16 +1,17 @@
 -- What the reader and the writer of instructions compute is what their definitions say.
-use Rattle.std.proofs.Common.{◌≡◌, ℕ, ◌<◌, Bool, true, false, List, [], ◌∷◌, ◌++◌, length, take, drop, Option, Some, None, Result, Ok, Err, refl, sym, ap, subst, ◌∙◌, arith}
-use Rattle.std.specs.Prelude.{◌≢◌, ◌↔◌, IfOk, IsErrOf, slice_index}
+use Rattle.std.proofs.Common.{◌≡◌, ℕ, ◌<◌, Bool, true, false, List, [], ◌∷◌, ◌++◌, length, take, drop, Option, Some, None, Result, Ok, Err, refl, sym, ap, subst, ◌∙◌, inl, inr, arith}
+use Rattle.std.proofs.lemmas.Bool.{cases_Bool}
+use Rattle.std.specs.Prelude.{◌≢◌, ◌↔◌, IfOk, IsErrOf, IsTrue, slice_index}
 use Rattle.std.specs.Int.{w32, from_be_bytes}
 use Rattle.byteorder.specs.Endian.{big_number, big_bytes}
 use Rattle.x10_code.specs.declared.op.Op.{Op}
 use Rattle.x10_code.specs.declared.instr.Instr.{Instr}
 use Rattle.x10_code.specs.declared.instr.CodeFault.{CodeFault}
-use Rattle.x10_code.specs.declared.instr.CodeFault.TheVariants.{UnknownOp}
+use Rattle.x10_code.specs.declared.instr.CodeFault.TheVariants.{UnknownOp, UnusedNotZero}
 use Rattle.x10_code.specs.Table.{code_of}
-use Rattle.x10_code.specs.Spelling.{IsInstr, spelling, op_of, fitted, decoded_as, decoded}
+use Rattle.x10_code.specs.Spelling.{IsInstr, spelling, fits_form, op_of, fitted, decoded_as, decoded}
 use Rattle.x10_code.proofs.Operations.{some_of, op_of-code_of, code_of-op_of}
-use Rattle.x10_code.proofs.Instructions.{instr, if_fits, decoded_again, decoded_takes}
+use Rattle.x10_code.proofs.Instructions.{instr, if_fits, fitted_fits, decoded_again, decoded_takes}
 
 -- a code and an x in four bytes make the spelling
 pub encoded : (i : Instr) (n : ℕ) (tail : List ℕ) → n ≡ code_of i.op → tail ≡ big_bytes 4 i.x ++ [] → n ∷ i.a ∷ i.b ∷ i.c ∷ (tail ++ []) ≡ spelling i
@@ -28,6 +29,21 @@ unfolding decoded
 read_known bytes o x some x_is =
     let same : from_be_bytes w32 (take 4 (drop 4 bytes)) ≡ x = omega (arith, x_is) in
     ap (λ (o : Option Op). decoded_as o bytes) some ∙ ap (λ (n : ℕ). fitted (instr o (slice_index bytes 1) (slice_index bytes 2) (slice_index bytes 3) n)) same
+
+-- an operation whose form fits, and one whose form doesn't
+pub read_used : (bytes : List ℕ) (o : Op) (x : ℕ) → op_of (slice_index bytes 0) ≡ Some o → x ≡ big_number 4 (take 4 (drop 4 bytes)) → IsTrue (fits_form (instr o (slice_index bytes 1) (slice_index bytes 2) (slice_index bytes 3) x))
+    → Ok (instr o (slice_index bytes 1) (slice_index bytes 2) (slice_index bytes 3) x) ≡ decoded bytes
+read_used bytes o x some x_is fits = sym (read_known bytes o x some x_is ∙ fitted_fits (instr o (slice_index bytes 1) (slice_index bytes 2) (slice_index bytes 3) x) fits)
+
+fitted_not : (i : Instr) → (IsTrue (fits_form i) → ⊥) → fitted i ≡ Err UnusedNotZero
+fitted_not i not = elim (cases_Bool (fits_form i)) [
+  | inl fits ↦ absurd (not fits)
+  | inr none ↦ ap (λ (b : Bool). if_fits b i) none
+]
+
+pub read_unused : (bytes : List ℕ) (o : Op) (x : ℕ) → op_of (slice_index bytes 0) ≡ Some o → x ≡ big_number 4 (take 4 (drop 4 bytes)) → (IsTrue (fits_form (instr o (slice_index bytes 1) (slice_index bytes 2) (slice_index bytes 3) x)) → ⊥)
+    → Err UnusedNotZero ≡ decoded bytes
+read_unused bytes o x some x_is not = sym (read_known bytes o x some x_is ∙ fitted_not (instr o (slice_index bytes 1) (slice_index bytes 2) (slice_index bytes 3) x) not)
 
 -- the three clauses of decoding, each from the exact answer
 pub is_found : (bytes : List ℕ) (r : Result Instr CodeFault) → length bytes ≡ 8 → ((k : ℕ) → slice_index bytes k < 256) → r ≡ decoded bytes → IfOk r (λ i. IsInstr i × (bytes ≡ spelling i))

@@ -21,7 +21,7 @@ abbrev pub if_fits : Bool → Instr → Result Instr CodeFault
 if_fits b i = cond b (Ok i) (Err UnusedNotZero)
 
 -- an instruction that its form fits is its own answer
-fitted_fits : (i : Instr) → IsTrue (fits_form i) → fitted i ≡ Ok i
+pub fitted_fits : (i : Instr) → IsTrue (fits_form i) → fitted i ≡ Ok i
 fitted_fits i fits = ap (λ (b : Bool). if_fits b i) fits
 
 -- an answer is the instruction itself, and its form fits

@@ -1,3 +1,4 @@
 pub mod Operations
 pub mod Instructions
 pub mod Decoding
+pub mod Unused

@@ -1,10 +1,11 @@
 -- An instruction as eight bytes: the operation's code, the operands a, b and c, and x in four bytes, the highest first.
-use Rattle.std.specs.Prelude.{ℕ, ◌<◌, ◌^◌, Bool, true, ◌==◌, ◌&&◌, List, ◌∷◌, take, drop, Option, Some, None, Result, Ok, Err, if◌then◌else◌}
+use Rattle.std.specs.Prelude.{ℕ, ◌+◌, ◌<◌, ◌^◌, Bool, true, ◌==◌, ◌&&◌, List, ◌∷◌, take, drop, Option, Some, None, Result, Ok, Err, if◌then◌else◌}
 use Rattle.std.specs.Prelude.{IsTrue, slice_index, find}
 use Rattle.std.specs.Int.{w32, to_be_bytes, from_be_bytes}
 use Rattle.x10_code.specs.declared.op.Op.{Op}
 use Rattle.x10_code.specs.declared.operands.Operand.{Operand}
 use Rattle.x10_code.specs.declared.operands.Operand.TheVariants as operand
+use Rattle.x10_code.specs.declared.operands.Form.{Form}
 use Rattle.x10_code.specs.declared.instr.Instr.{Instr}
 use Rattle.x10_code.specs.declared.instr.CodeFault.{CodeFault}
 use Rattle.x10_code.specs.declared.instr.CodeFault.TheVariants.{UnknownOp, UnusedNotZero}
@@ -18,6 +19,15 @@ fits_operand _ n = true
 -- no operand says what its operation doesn't ask
 abbrev pub fits_form : Instr → Bool
 fits_form i = fits_operand (form_of i.op).a i.a && fits_operand (form_of i.op).b i.b && fits_operand (form_of i.op).c i.c && fits_operand (form_of i.op).x i.x
+
+-- the bits of an operand, where the form doesn't use it
+abbrev pub bits_if : Operand → ℕ → ℕ
+bits_if operand.Unused bits = bits
+bits_if _ bits = 0
+
+-- the bits that have to be 0 in the eight bytes as one number, the first highest
+abbrev pub unused_of : Form → ℕ
+unused_of f = bits_if f.a 0x00ff000000000000 + bits_if f.b 0x0000ff0000000000 + bits_if f.c 0x000000ff00000000 + bits_if f.x 0x00000000ffffffff
 
 -- the instructions that have a spelling
 pub record IsInstr (i : Instr) : Type 0 where

@@ -3,11 +3,11 @@ ghost use Rattle.x10_code.specs.declared.op.Op.{Op};
 ghost use Rattle.x10_code.specs.declared.instr.Instr.{Instr};
 ghost use Rattle.x10_code.specs.declared.instr.CodeFault.TheVariants.{UnknownOp};
 ghost use Rattle.x10_code.specs.Table.{code_of};
-ghost use Rattle.x10_code.specs.Spelling.{fits_operand, fits_form, IsInstr, spelling, fitted, decoded};
+ghost use Rattle.x10_code.specs.Spelling.{fits_operand, fits_form, IsInstr, spelling, decoded};
 
 use crate::instr::{CodeFault, Instr};
 use crate::operands::Operand;
-use crate::table::{code, form, op_with_code};
+use crate::table::{code, form, op_with_code, unused};
 use byteorder::{BigEndian, ByteOrder};
 
 /// The instruction that eight bytes spell: the code, a, b and c in a byte each, and x in four, the
@@ -36,27 +36,19 @@ fn read(bytes: &[u8]) -> Result<Instr, CodeFault>
     requires { length bytes.now ≡ 8 }
     ensures { result ≡ decoded bytes.now }
 {
-    match op_with_code(bytes[0]) {
-        None => Err(CodeFault::UnknownOp),
-        Some(op) => checked(Instr {
-            op,
-            a: bytes[1],
-            b: bytes[2],
-            c: bytes[3],
-            x: BigEndian::read_u32(&bytes[4..8]),
-        }),
+    let Some(op) = op_with_code(bytes[0]) else {
+        return Err(CodeFault::UnknownOp);
+    };
+    if BigEndian::read_u64(bytes) & unused(op) != 0 {
+        return Err(CodeFault::UnusedNotZero);
     }
-}
-
-#[inline(always)]
-fn checked(instr: Instr) -> Result<Instr, CodeFault>
-    ensures { result ≡ fitted instr }
-{
-    if has_spelling(instr) {
-        Ok(instr)
-    } else {
-        Err(CodeFault::UnusedNotZero)
-    }
+    Ok(Instr {
+        op,
+        a: bytes[1],
+        b: bytes[2],
+        c: bytes[3],
+        x: BigEndian::read_u32(&bytes[4..8]),
+    })
 }
 
 /// The eight bytes that spell an instruction.

@@ -1,7 +1,7 @@
 ghost use Rattle.std.specs.Prelude.{◌≡◌, Some, IfSome};
 ghost use Rattle.x10_code.specs.declared.op.Op.{Op};
 ghost use Rattle.x10_code.specs.Table.{code_of, name_of, group_of, form_of, op_of_name};
-ghost use Rattle.x10_code.specs.Spelling.{op_of};
+ghost use Rattle.x10_code.specs.Spelling.{op_of, unused_of};
 
 use crate::groups::Group;
 use crate::op::{OPERATIONS, Op, table};
@@ -57,6 +57,29 @@ macro_rules! form_in {
     };
 }
 
+// The bits of an operand, where it is one that isn't used.
+macro_rules! bits_of {
+    (Unused, $bits:literal) => {
+        $bits
+    };
+    ($operand:ident, $bits:literal) => {
+        0
+    };
+}
+
+macro_rules! unused_in {
+    (($op:expr) $($variant:ident row($code:literal, $name:literal, $group:ident, $a:ident, $b:ident, $c:ident, $x:ident);)*) => {
+        match $op {
+            $(Op::$variant => {
+                bits_of!($a, 0x00ff_0000_0000_0000)
+                    + bits_of!($b, 0x0000_ff00_0000_0000)
+                    + bits_of!($c, 0x0000_00ff_0000_0000)
+                    + bits_of!($x, 0x0000_0000_ffff_ffff)
+            })*
+        }
+    };
+}
+
 /// The first byte of an operation's spelling.
 pub fn code(op: Op) -> u8
     ensures value { result ≡ code_of op }
@@ -90,6 +113,14 @@ pub fn form(op: Op) -> Form
     ensures value { result ≡ form_of op }
 {
     table!(form_in(op))
+}
+
+/// Where an instruction has to be 0, since its operation doesn't use the operand: bits of its eight bytes as one number, the
+/// first byte highest.
+pub(crate) fn unused(op: Op) -> u64
+    ensures value { result ≡ unused_of (form_of op) }
+{
+    table!(unused_in(op))
 }
 
 /// The operation with a name, which is in capitals. Constant time, except where no operation has the name: then it compares the

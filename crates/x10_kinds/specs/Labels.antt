@@ -1,5 +1,6 @@
 -- Labels: the terms in one row, each labelled by the first term that it is known to be equal to.
-use Rattle.std.specs.Prelude.{◌≡◌, ◌≢◌, ℕ, ◌<◌, ◌≤◌, Bool, ◌==◌, ◌&&◌, ◌||◌, not, IsTrue, List, slice_index, if◌then◌else◌}
+use Rattle.std.specs.Prelude.{◌≡◌, ◌≢◌, ℕ, ◌+◌, ◌<◌, ◌≤◌, Bool, ◌==◌, ◌&&◌, ◌||◌, not, IsTrue, List, [], ◌∷◌, slice_index, if◌then◌else◌}
+use Rattle.std.specs.Int.{w64, from_le_bytes}
 
 -- each label is the number of the first term of its class, so one equivalence has one row of labels
 pub record IsCanonical (labels : List ℕ) : Type 0 where
@@ -49,3 +50,17 @@ pub record IsFirstAlike (a b : List ℕ) (at first : ℕ) : Type 0 where
   pub left : slice_index a first ≡ slice_index a at
   pub right : slice_index b first ≡ slice_index b at
   pub least : (i : ℕ) → i < first → slice_index a i ≡ slice_index a at → slice_index b i ≢ slice_index b at
+
+-- two rows have the same labels from one term up to another
+abbrev pub AreSameIn : List ℕ → List ℕ → ℕ → ℕ → Type 0
+AreSameIn a b from to = (i : ℕ) → from ≤ i → i < to → slice_index a i ≡ slice_index b i
+
+-- eight labels as one number, the first lowest
+unfoldable pub eight_from : List ℕ → ℕ → ℕ
+eight_from labels at = from_le_bytes w64 (slice_index labels at ∷ slice_index labels (at + 1) ∷ slice_index labels (at + 2) ∷ slice_index labels (at + 3)
+    ∷ slice_index labels (at + 4) ∷ slice_index labels (at + 5) ∷ slice_index labels (at + 6) ∷ slice_index labels (at + 7) ∷ [])
+
+-- the first n terms have their first terms in both rows as labels, the others what they have in the one
+pub record IsMetTo (a b : List ℕ) (n : ℕ) (labels : List ℕ) : Type 0 where
+  pub done : (i : ℕ) → i < n → IsFirstAlike a b i (slice_index labels i)
+  pub rest : (i : ℕ) → n ≤ i → slice_index labels i ≡ slice_index a i

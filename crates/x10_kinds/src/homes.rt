@@ -33,8 +33,8 @@ impl Term {
 }
 
 /// An equivalence on the 129 terms: which of them are known to be the same place. It is 129 bytes, and no operation
-/// takes memory. `same` takes constant time, every other operation one pass over the bytes; in that of `meet`, a term
-/// that is the first of its class on neither side looks for its class among at most 129 terms before it.
+/// takes memory. `same` takes constant time, every other operation one pass over the bytes; in those of `meet` and `weaken`,
+/// a term whose class has its first term on neither side looks for it among at most 129 terms before it.
 #[derive(Clone, Copy, Debug)]
 pub struct Homes {
     labels: Labels,
@@ -93,9 +93,9 @@ impl Homes {
     pub fn meet(&self, other: &Homes) -> Homes
         ensures { SameEquations (equations result) (met (equations self.now) (equations other.now)) }
     {
-        Homes {
-            labels: labels::meet(&self.labels, &other.labels),
-        }
+        let mut both = *self;
+        both.weaken(other);
+        both
     }
 
     /// Whether every equation that `other` knows is known here too.
@@ -112,11 +112,7 @@ impl Homes {
         ensures kept { result ≡ false → self.new ≡ self.old }
         ensures fewer { result ≡ true → rank self.new < rank self.old }
     {
-        if other.entails(self) {
-            return false;
-        }
-        *self = self.meet(other);
-        true
+        labels::weaken(&mut self.labels, &other.labels)
     }
 
     // The register stands for the place of the term.

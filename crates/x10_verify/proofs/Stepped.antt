@@ -1,5 +1,5 @@
 -- One waiting instruction more: the states so far stay sound and least, or there is no consistent assignment.
-use Rattle.std.proofs.Common.{◌≡◌, ◌⊎◌, ℕ, zero, suc, ◌+◌, ◌<◌, ◌≤◌, Bool, true, false, List, ◌++◌, length, Some, refl, sym, ap, subst, ◌∙◌, inl, inr, arith}
+use Rattle.std.proofs.Common.{◌≡◌, ◌⊎◌, ℕ, zero, suc, ◌+◌, ◌<◌, ◌≤◌, Bool, true, false, List, ◌++◌, length, Some, Result, refl, sym, ap, subst, ◌∙◌, inl, inr, arith}
 use Rattle.std.specs.Prelude.{slice_get}
 use Rattle.std.proofs.lemmas.Bool.{cases_eq}
 use Rattle.x10_code.specs.declared.instr.Instr.{Instr}
@@ -20,10 +20,10 @@ use Rattle.x10_verify.specs.Known.{state_of}
 use Rattle.x10_verify.specs.Effects.{IsKept, IsNarrow, IsSoundIn}
 use Rattle.x10_code.specs.Rules.{rule_for, goes_on_of}
 use Rattle.x10_model.specs.Assignments.{Grants, after, edge_if, edges_of}
-use Rattle.x10_verify.specs.States.{Takes, state_if, state_in, stated, waits, waits_in, is_waiting, total}
+use Rattle.x10_verify.specs.States.{IsDone, Takes, state_if, state_in, stated, waits, waits_in, is_waiting, total}
 use Rattle.x10_verify.specs.declared.fault.FlowCause.TheVariants as flow
 use Rattle.x10_verify.specs.Causes.{IsCauseAt}
-use Rattle.x10_verify.specs.Solving.{Holds, LeadsOut, Shows, Solves, JumpsIf, GoesOnIf, Stops}
+use Rattle.x10_verify.specs.Solving.{Holds, LeadsOut, Shows, Solves, Jumps, JumpsIf, GoesOn, GoesOnIf, Stops}
 use Rattle.x10_verify.proofs.Below.{IsBelow-trans, SameState-below, SameState-sym}
 use Rattle.x10_verify.proofs.Effects.{after_state}
 use Rattle.x10_verify.proofs.Settling.{grants_sound, ResultsFit}
@@ -206,24 +206,40 @@ taken_there old at known new t = ap state_in (ap (λ xs. slice_get xs at) t.is �
 pub taken_entry : (old : List Entry) (at : ℕ) (known : Known) (new : List Entry) → Takes old at known new → (entry : Entry) × (slice_get new at ≡ Some entry) × (entry.known ≡ known)
 taken_entry old at known new t = (record { mark = Done; known = t.before.known }, ap (λ xs. slice_get xs at) t.is ∙ set_here old at (record { mark = Done; known = t.before.known }) (slice_get_within old at t.before t.was), t.known_is)
 
+pub taken_done : (old : List Entry) (at : ℕ) (known : Known) (new : List Entry) → Takes old at known new → IsDone new at
+taken_done old at known new t = (t.before.known, ap (λ xs. slice_get xs at) t.is ∙ set_here old at (record { mark = Done; known = t.before.known }) (slice_get_within old at t.before t.was))
+
 -- what is read where it is kept is what was taken
 pub taken_read : (old : List Entry) (at : ℕ) (known read : Known) (new : List Entry) → Takes old at known new → ((entry : Entry) → slice_get new at ≡ Some entry → read ≡ entry.known) → Takes old at read new
 taken_read old at known read new t reads = let e = taken_entry old at known new t in subst (λ k. Takes old at k new) (sym (reads e.0 e.1 ∙ e.2)) t
 
--- an operation that doesn't jump
-pub no_jump : (instr : Instr) (at len : ℕ) (known : Known) (table : List Entry) (b : Bool) → b ≡ false → JumpsIf b instr at len known table (at + 1) table
-no_jump instr at len known table false e = (refl, refl)
-no_jump instr at len known table true e = absurd cc
+-- where the state that was taken is led
+pub jumped_on : (instr : Instr) (at len : ℕ) (old : List Entry) (known : Known) (t1 : List Entry) (r : Result ℕ FlowCause) (t2 : List Entry) → Takes old at known t1
+    → ((entry : Entry) → slice_get t1 at ≡ Some entry → Jumps instr at len entry.known t1 r t2) → Jumps instr at len known t1 r t2
+jumped_on instr at len old known t1 r t2 t says = let e = taken_entry old at known t1 t in subst (λ (k : Known). Jumps instr at len k t1 r t2) e.2 (says e.0 e.1)
 
--- where the state that was taken goes on
-pub handed_on : (instr : Instr) (at len : ℕ) (effect : Effect) (old : List Entry) (known : Known) (t1 t3 : List Entry) (b : Bool) → Takes old at known t1
-    → ((entry : Entry) → slice_get t1 at ≡ Some entry → GoesOnIf b instr at len effect entry.known t1 t3) → GoesOnIf b instr at len effect known t1 t3
-handed_on instr at len effect old known t1 t3 b t says = let e = taken_entry old at known t1 t in subst (λ (k : Known). GoesOnIf b instr at len effect k t1 t3) e.2 (says e.0 e.1)
+-- where it goes on, after that
+pub handed_on : (instr : Instr) (at len : ℕ) (effect : Effect) (old : List Entry) (known : Known) (t1 t2 : List Entry) (r : Result Unit FlowCause) (t3 : List Entry) → Takes old at known t1 → slice_get t2 at ≡ slice_get t1 at
+    → ((entry : Entry) → slice_get t2 at ≡ Some entry → GoesOn instr at len effect entry.known t2 r t3) → GoesOn instr at len effect known t2 r t3
+handed_on instr at len effect old known t1 t2 r t3 t same says = let e = taken_entry old at known t1 t in subst (λ (k : Known). GoesOn instr at len effect k t2 r t3) e.2 (says e.0 (same ∙ e.1))
 
 -- the table keeps its length
-pub straight_size : (instr : Instr) (at len : ℕ) (effect : Effect) (old : List Entry) (known : Known) (t1 t3 : List Entry) (b : Bool) → Takes old at known t1 → GoesOnIf b instr at len effect known t1 t3 → length t3 ≡ length old
-straight_size instr at len effect old known t1 t3 false t g = ap length g ∙ ap length t.is ∙ length-set old at (record { mark = Done; known = t.before.known })
-straight_size instr at len effect old known t1 t3 true t g = arrives_size t1 (at + 1) g.1 t3 g.0 g.5 ∙ ap length t.is ∙ length-set old at (record { mark = Done; known = t.before.known })
+jump_size : (instr : Instr) (at len : ℕ) (known : Known) (next : ℕ) (t1 t2 : List Entry) (b : Bool) → JumpsIf b instr at len known t1 next t2 → length t2 ≡ length t1
+jump_size instr at len known next t1 t2 false j = ap length j.1
+jump_size instr at len known next t1 t2 true j = arrives_size t1 instr.x known t2 j.0 j.2
+
+go_on_size : (instr : Instr) (at len : ℕ) (effect : Effect) (known : Known) (t2 t3 : List Entry) (b : Bool) → GoesOnIf b instr at len effect known t2 t3 → length t3 ≡ length t2
+go_on_size instr at len effect known t2 t3 false g = ap length g
+go_on_size instr at len effect known t2 t3 true g = arrives_size t2 (at + 1) g.1 t3 g.0 g.5
+
+pub jumped_size : (instr : Instr) (at len : ℕ) (known : Known) (next : ℕ) (t0 t1 t2 : List Entry) → Takes t0 at known t1 → JumpsIf (is_target (form_of instr.op).x) instr at len known t1 next t2 → length t2 ≡ length t0
+jumped_size instr at len known next t0 t1 t2 t j =
+    jump_size instr at len known next t1 t2 (is_target (form_of instr.op).x) j ∙ ap length t.is ∙ length-set t0 at (record { mark = Done; known = t.before.known })
+
+pub step_size : (instr : Instr) (at len : ℕ) (known : Known) (effect : Effect) (next : ℕ) (t0 t1 t2 t3 : List Entry) → Takes t0 at known t1 → JumpsIf (is_target (form_of instr.op).x) instr at len known t1 next t2 → GoesOnIf (goes_on_of instr.op) instr at len effect known t2 t3
+    → length t3 ≡ length t0
+step_size instr at len known effect next t0 t1 t2 t3 t j g =
+    go_on_size instr at len effect known t2 t3 (goes_on_of instr.op) g ∙ jumped_size instr at len known next t0 t1 t2 t j
 
 -- a rule that does not hold
 pub step_refused : (program : Module) (function : Function) (at : ℕ) (instr : Instr) (known : Known) (why : FlowCause) (t0 t1 : List Entry) → slice_get function.code at ≡ Some instr → Takes t0 at known t1

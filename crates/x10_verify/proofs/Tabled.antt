@@ -1,9 +1,10 @@
 -- Tables of states: one entry changed, none known, and how often they can change.
-use Rattle.std.proofs.Common.{◌≡◌, ℕ, zero, suc, ◌*◌, ◌<◌, ◌≤◌, Bool, true, List, [], ◌∷◌, ◌++◌, length, set, Option, Some, None, refl, sym, ap, subst, ◌∙◌, inl, inr, arith}
+use Rattle.std.proofs.Common.{◌≡◌, ◌≢◌, ℕ, zero, suc, ◌+◌, ◌*◌, ◌<◌, ◌≤◌, Bool, true, false, List, [], ◌∷◌, ◌++◌, length, get_or, take, drop, set, Option, Some, None, refl, sym, ap, subst, ◌∙◌, inl, inr, arith}
 use Rattle.std.specs.Prelude.{slice_get}
 use Rattle.std.proofs.lemmas.Bool.{cases_eq, cases_Bool}
 use Rattle.std.proofs.Math.ListN.{length-set}
-use Rattle.std.proofs.lemmas.Option.{slice_get_within}
+use Rattle.std.proofs.lemmas.List.{append-nil, drop_all, length-append, set-append_left, set-append_right, take_all}
+use Rattle.std.proofs.lemmas.Option.{same_Some, slice_get_read, slice_get_within}
 use Rattle.x10_kinds.specs.declared.kind.Kind.{Kind}
 use Rattle.x10_kinds.specs.declared.kind.Kind.TheVariants.{Obj}
 use Rattle.x10_kinds.specs.Ranks.{sum_below, rank}
@@ -14,8 +15,9 @@ use Rattle.x10_verify.specs.declared.states.Mark.TheVariants.{Unreached, Waiting
 use Rattle.x10_verify.specs.declared.states.Entry.{Entry}
 use Rattle.x10_verify.specs.Known.{kind_in, state_of}
 use Rattle.x10_verify.specs.Merging.{weight, rank_of}
-use Rattle.x10_verify.specs.States.{state_if, waits, is_waiting, IsFresh, IsMetIn, Receives, Arrives, height_if, height_in, total}
-use Rattle.x10_model.proofs.Lists.{set_here, set_off}
+use Rattle.x10_verify.specs.States.{IsDone, state_if, waits, is_waiting, IsFresh, IsMetIn, Receives, Arrives, height_if, height_in, total}
+use Rattle.x10_model.proofs.Lists.{set_here, set_off, set_same}
+use Rattle.x10_verify.proofs.Below.{IsBelow-refl}
 
 -- ---- entries of a list
 
@@ -96,3 +98,84 @@ done_total old at before was waits =
 
 pub arrives_size : (old : List Entry) (target : ℕ) (known : Known) (new : List Entry) (changed : Bool) → Arrives old target known new changed → length new ≡ length old
 arrives_size old target known new changed a = ap length a.is ∙ length-set old target a.entry
+
+-- ---- a state that is led elsewhere
+
+-- an instruction that is done brings itself nothing new
+itself_received : (k : Known) → Receives (record { mark = Done; known = k }) k (record { mark = Done; known = k }) false
+itself_received k = record {
+  reached = refl;
+  met = λ kept again. record { kept = kept; first = IsBelow-refl (state_of k); second = IsBelow-refl (state_of k); least = λ w is one two. one };
+  same = λ f. refl;
+  waiting = λ f. absurd cc;
+  falls = λ f. absurd cc;
+}
+
+pub led_to_itself : (table : List Entry) (at : ℕ) → IsDone table at → (entry : Entry) → slice_get table at ≡ Some entry → Arrives table at entry.known table false
+led_to_itself table at done entry is =
+    let there : Entry = record { mark = Done; known = done.0 } in
+    let same : there ≡ entry = same_Some there entry (sym done.1 ∙ is) in
+    subst (λ (e : Entry). Arrives table at e.known table false) same
+    (record { entry = there; before = there; was = done.1; received = itself_received done.0; is = sym (set_same table at there done.1) })
+
+-- what stands in the first or in the second of two parts
+first_part : (one two : List Entry) (i : ℕ) (e : Entry) → slice_get one i ≡ Some e → slice_get (one ++ two) i ≡ Some e
+first_part [] two i e is = absurd cc
+first_part (x ∷ one) two zero e is = is
+first_part (x ∷ one) two (suc i) e is = first_part one two i e is
+
+second_part : (one two : List Entry) (n : ℕ) (e : Entry) → length one ≡ n → slice_get two 0 ≡ Some e → slice_get (one ++ two) n ≡ Some e
+second_part [] two zero e size is = is
+second_part [] two (suc n) e size is = absurd (omega arith)
+second_part (x ∷ one) two zero e size is = absurd (omega arith)
+second_part (x ∷ one) two (suc n) e size is = second_part one two n e (omega arith) is
+
+abbrev Leads : List Entry → ℕ → ℕ → List Entry → Bool → Type 0
+Leads table at target new changed = ((entry : Entry) → slice_get table at ≡ Some entry → Arrives table target entry.known new changed) × (slice_get new at ≡ slice_get table at)
+
+leads : (table : List Entry) (at target : ℕ) (from before entry : Entry) (new : List Entry) (changed : Bool) → at ≢ target → slice_get table at ≡ Some from → slice_get table target ≡ Some before
+    → Receives before from.known entry changed → new ≡ set table target entry → Leads table at target new changed
+leads table at target from before entry new changed other is was received made = (
+  (λ e e_is. subst (λ (e : Entry). Arrives table target e.known new changed) (same_Some from e (sym is ∙ e_is))
+      (record { entry = entry; before = before; was = was; received = received; is = made })),
+  ap (λ xs. slice_get xs at) made ∙ set_off table target at entry other,
+)
+
+-- a table's entries, once its two parts are put back
+put_back : (n : ℕ) (xs items : List Entry) → n ≡ length items → length xs ≡ length items → take n (xs ++ drop (length xs) items) ≡ xs
+put_back n xs items one two =
+    let rest : drop (length xs) items ≡ [] = drop_all (length xs) items (omega arith) in
+    let whole : xs ++ drop (length xs) items ≡ xs = ap (λ ys. xs ++ ys) rest ∙ append-nil xs in
+    ap (take n) whole ∙ take_all n xs (omega arith)
+
+-- from the second part to the first
+pub led_back : (items one two : List Entry) (n at target : ℕ) (from before entry : Entry) (changed : Bool) → items ≡ one ++ two → n ≡ length items → length one ≡ at → target < at → at < length items
+    → from ≡ get_or two 0 from → before ≡ get_or one target before → Receives (get_or one target before) (get_or two 0 from).known entry changed
+    → Leads items at target (take n (set one target entry ++ two ++ drop (length (set one target entry ++ two)) items)) changed
+led_back items one two n at target from before entry changed parts len size less within from_is before_is received =
+    let room : length items ≡ length one + length two = ap length parts ∙ length-append one two in
+    let kept : length (set one target entry ++ two) ≡ length items = length-append (set one target entry) two ∙ ap (λ k. k + length two) (length-set one target entry) ∙ sym room in
+    let is : slice_get two 0 ≡ Some from = slice_get_read two _ 0 from refl (omega arith) from_is in
+    let was : slice_get one target ≡ Some before = slice_get_read one _ target before refl (omega arith) before_is in
+    subst (λ new. Leads items at target new changed) (sym (put_back n (set one target entry ++ two) items len kept))
+    (leads items at target from before entry (set one target entry ++ two) changed (omega arith)
+    (ap (λ xs. slice_get xs at) parts ∙ second_part one two at from size is)
+    (ap (λ xs. slice_get xs target) parts ∙ first_part one two target before was)
+    (subst (λ (b : Entry). Receives b from.known entry changed) (sym before_is) (subst (λ (f : Entry). Receives (get_or one target before) f.known entry changed) (sym from_is) received))
+    (sym (ap (λ xs. set xs target entry) parts ∙ set-append_left one two target entry (omega arith))))
+
+-- from the first part to the second
+pub led_on : (items one two : List Entry) (n at target : ℕ) (from before entry : Entry) (changed : Bool) → items ≡ one ++ two → n ≡ length items → length one ≡ target → at < target → target < length items
+    → from ≡ get_or one at from → before ≡ get_or two 0 before → Receives (get_or two 0 before) (get_or one at from).known entry changed
+    → Leads items at target (take n (one ++ set two 0 entry ++ drop (length (one ++ set two 0 entry)) items)) changed
+led_on items one two n at target from before entry changed parts len size less within from_is before_is received =
+    let room : length items ≡ length one + length two = ap length parts ∙ length-append one two in
+    let kept : length (one ++ set two 0 entry) ≡ length items = length-append one (set two 0 entry) ∙ ap (λ k. length one + k) (length-set two 0 entry) ∙ sym room in
+    let is : slice_get one at ≡ Some from = slice_get_read one _ at from refl (omega arith) from_is in
+    let was : slice_get two 0 ≡ Some before = slice_get_read two _ 0 before refl (omega arith) before_is in
+    subst (λ new. Leads items at target new changed) (sym (put_back n (one ++ set two 0 entry) items len kept))
+    (leads items at target from before entry (one ++ set two 0 entry) changed (omega arith)
+    (ap (λ xs. slice_get xs at) parts ∙ first_part one two at from is)
+    (ap (λ xs. slice_get xs target) parts ∙ second_part one two target before size was)
+    (subst (λ (b : Entry). Receives b from.known entry changed) (sym before_is) (subst (λ (f : Entry). Receives (get_or two 0 before) f.known entry changed) (sym from_is) received))
+    (sym (ap (λ xs. set xs target entry) parts ∙ set-append_right one two target target entry size (omega arith) ∙ ap (λ k. one ++ set two k entry) (omega arith))))

@@ -76,6 +76,10 @@ pub record Takes (old : List Entry) (at : ℕ) (known : Known) (new : List Entry
   pub waited : is_waiting before.mark ≡ true
   pub is : new ≡ slice_set old at (record { mark = Done; known = before.known })
 
+-- an instruction has been looked at
+abbrev pub IsDone : List Entry → ℕ → Type 0
+IsDone table at = (known : Known) × (slice_get table at ≡ Some (record { mark = Done; known = known }))
+
 -- how often the table can still change, at most
 unfoldable pub total : List Entry → ℕ
 total table = sum_below (length table) (λ q. height_in (slice_get table q))

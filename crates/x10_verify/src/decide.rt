@@ -24,13 +24,13 @@ use x10_model::Slot;
 /// operands. `slot` is the result of the function that it belongs to.
 pub(crate) fn decide(
     image: &ImageView,
-    slot: Option<Slot>,
+    slot: &Option<Slot>,
     instr: Instr,
     known: &Known,
 ) -> Result<Effect, FlowCause>
     requires { NamesSmall instr }
-    ensures decides { (function : Function) (pc : ℕ) → function.result ≡ slot → Decides (Grants (rule_for instr.op instr) (point image.now function pc instr) (state_of known.now)) result }
-    ensures cause { IfErr result (λ why. (function : Function) (pc : ℕ) → function.result ≡ slot → IsCauseAt (rule_for instr.op instr) (point image.now function pc instr) (state_of known.now) why) }
+    ensures decides { (function : Function) (pc : ℕ) → function.result ≡ slot.now → Decides (Grants (rule_for instr.op instr) (point image.now function pc instr) (state_of known.now)) result }
+    ensures cause { IfErr result (λ why. (function : Function) (pc : ℕ) → function.result ≡ slot.now → IsCauseAt (rule_for instr.op instr) (point image.now function pc instr) (state_of known.now) why) }
 {
     let rule = rule_of(instr);
     asked(instr.a, rule.a, known)?;
@@ -53,19 +53,19 @@ fn asked(register: u8, want: Option<Kind>, known: &Known) -> Result<(), FlowCaus
 // What a row asks besides kinds, and the effect.
 fn settled(
     image: &ImageView,
-    slot: Option<Slot>,
+    slot: &Option<Slot>,
     instr: Instr,
     outcome: Outcome,
     known: &Known,
 ) -> Result<Effect, FlowCause>
-    ensures decides { (function : Function) (pc : ℕ) → function.result ≡ slot → Decides (Settles outcome (point image.now function pc instr) (state_of known.now)) result }
-    ensures cause { IfErr result (λ why. (function : Function) (pc : ℕ) → function.result ≡ slot → IsCauseOf outcome (point image.now function pc instr) (state_of known.now) why) }
+    ensures decides { (function : Function) (pc : ℕ) → function.result ≡ slot.now → Decides (Settles outcome (point image.now function pc instr) (state_of known.now)) result }
+    ensures cause { IfErr result (λ why. (function : Function) (pc : ℕ) → function.result ≡ slot.now → IsCauseOf outcome (point image.now function pc instr) (state_of known.now) why) }
 {
     match outcome {
         Outcome::Fixed(effect) => Ok(effect),
         Outcome::Copies => copied(instr, known),
         Outcome::Calls(at) => called(image, instr, at, known),
-        Outcome::Returns => returned(slot, instr, known),
+        Outcome::Returns => returned(*slot, instr, known),
         Outcome::Makes => made(image, instr, known),
         Outcome::Gets => got(image, instr, known),
         Outcome::Puts => put(image, instr, known),

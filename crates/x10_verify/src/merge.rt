@@ -32,24 +32,24 @@ impl Known {
         }
         let mut changed = false;
         for register in 0..64_u8 {
-            if self.weaken_register(register, other.kind(register)) {
+            if self.weaken_register(register, other) {
                 changed = true;
             }
         }
         changed
     }
 
-    // The same of one register.
-    fn weaken_register(&mut self, register: u8, other: Option<Kind>) -> bool
+    // The same of one register. Most have one number on both ways, and aren't decoded.
+    fn weaken_register(&mut self, register: u8, other: &Known) -> bool
         requires { register < 64 }
-        ensures same { result ≡ false → (self.new ≡ self.old) × (common_of (kind_in self.old.kinds register) other ≡ kind_in self.old.kinds register) }
-        ensures changed { result ≡ true → (common_of (kind_in self.old.kinds register) other ≢ kind_in self.old.kinds register) × SameState (state_of self.new) (parted (state_of self.old) register (common_of (kind_in self.old.kinds register) other)) }
+        ensures same { result ≡ false → (self.new ≡ self.old) × (common_of (kind_in self.old.kinds register) (kind_in other.now.kinds register) ≡ kind_in self.old.kinds register) }
+        ensures changed { result ≡ true → (common_of (kind_in self.old.kinds register) (kind_in other.now.kinds register) ≢ kind_in self.old.kinds register) × SameState (state_of self.new) (parted (state_of self.old) register (common_of (kind_in self.old.kinds register) (kind_in other.now.kinds register))) }
     {
-        let have = self.kind(register);
-        if is_same(other, have) {
+        if self.kinds[register as usize] == other.kinds[register as usize] {
             return false;
         }
-        let common = common(have, other);
+        let have = self.kind(register);
+        let common = common(have, other.kind(register));
         if is_same(common, have) {
             return false;
         }

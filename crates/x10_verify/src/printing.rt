@@ -33,8 +33,9 @@ pub(crate) fn note(image: &ImageView, f: usize, table: &Vec<Entry>, row: &mut Ve
     ensures noted { (pc : ℕ) → bit_in row.new.items pc ≡ prints_in (instr_at image.now f pc) (stated table.now.items pc) }
     ensures size { length row.new.items ≡ length row.old.items }
 {
+    let code = image.code(f);
     for pc in 0..image.code_len(f) {
-        row[pc] = prints(image.instr(f, pc), &table[pc]);
+        row[pc] = prints(image.instr_from(code, f, pc), &table[pc]);
     }
 }
 

@@ -1,6 +1,8 @@
 //! Whether a function has a consistent assignment: the least solution over its instructions, from a list of those that
 //! wait, the least first.
 ghost use Rattle.std.specs.Prelude.{◌≡◌, ◌⊎◌, ◌+◌, ◌<◌, ◌≤◌, ℕ, length, MatchResult, IfErr, IfOk, Some, slice_get, Ok};
+ghost use Rattle.std.specs.List.{flat_map};
+ghost use Rattle.x10_code.specs.Spelling.{spelling as instruction};
 ghost use Rattle.x10_image.specs.Parts.{code_at};
 ghost use Rattle.x10_model.specs.Assignments.{HasAssignment};
 ghost use Rattle.x10_model.specs.Modules.{Module, Function};
@@ -42,13 +44,14 @@ pub(crate) fn solve(image: &ImageView, f: usize, table: &mut Vec<Entry>) -> Resu
 {
     let signature = image.signature(f);
     let slot = signature.result();
+    let code = image.code(f);
     let len = image.code_len(f);
     let first = entry(&signature);
     first.narrow();
     arrive(table, 0, &first);
     let mut at = 0;
     while at < len {
-        match pass(image, f, slot, at, len, table) {
+        match pass(image, code, f, &slot, at, len, table) {
             Err(cause) => return Err(FlowFault { cause, pc: at }),
             Ok(next) => at = next,
         }
@@ -85,26 +88,28 @@ pub(crate) fn check_function(
     Ok(())
 }
 
-// The instruction at the front, if it waits.
+// The instruction at the front, if it waits. `code` is the function's.
 fn pass(
     image: &ImageView,
+    code: &[u8],
     f: usize,
-    slot: Option<Slot>,
+    slot: &Option<Slot>,
     at: usize,
     len: usize,
     table: &mut Vec<Entry>,
 ) -> Result<usize, FlowCause>
     requires there { f < length image.now.functions }
     requires names { HasNames image.now f }
+    requires code { code.now ≡ flat_map instruction (code_at image.now f) }
     requires len { len ≡ length (code_at image.now f) }
     requires at { at < len }
     requires room { len ≤ length table.old.items }
-    ensures steps { (function : Function) → function_at image.now f ≡ Some function → function.result ≡ slot → Steps image.now function at table.old.items result table.new.items }
+    ensures steps { (function : Function) → function_at image.now f ≡ Some function → function.result ≡ slot.now → Steps image.now function at table.old.items result table.new.items }
     ensures size { IfOk result (λ _. length table.new.items ≡ length table.old.items) }
     ensures falls { IfOk result (λ next. ((next ≡ at + 1) × (total table.new.items ≤ total table.old.items)) ⊎ ((next ≤ at) × (total table.new.items < total table.old.items))) }
 {
     if !is_waiting(table, at) {
         return Ok(at + 1);
     }
-    step(image, slot, image.instr(f, at), at, len, table)
+    step(image, slot, image.instr_from(code, f, at), at, len, table)
 }

@@ -3,7 +3,7 @@ ghost use Rattle.std.specs.Prelude.{◌≡◌, ◌+◌, ◌<◌, ◌≤◌, ℕ,
 ghost use Rattle.x10_verify.specs.Effects.{CanApply, IsNarrow};
 ghost use Rattle.x10_verify.specs.Known.{state_of};
 ghost use Rattle.x10_verify.specs.Solving.{Advances, ReceivesAfter};
-ghost use Rattle.x10_verify.specs.States.{Arrives, IsFresh, Receives, Takes, state_in, waits};
+ghost use Rattle.x10_verify.specs.States.{Arrives, IsDone, IsFresh, Receives, Takes, state_in, waits};
 
 use crate::known::Known;
 use std::alloc::{AllocError, Global};
@@ -74,19 +74,6 @@ pub(crate) fn is_waiting(table: &Vec<Entry>, at: usize) -> bool
     table[at].mark == Mark::Waiting
 }
 
-/// The state of a waiting instruction, which is done from then on.
-pub(crate) fn take(table: &mut Vec<Entry>, at: usize) -> Known
-    requires within { at < length table.old.items }
-    requires waiting { waits table.old.items at ≡ true }
-    ensures taken { Takes table.old.items at result table.new.items }
-    ensures narrow { IsNarrow (state_of result) }
-{
-    let entry = &mut table[at];
-    entry.mark = Mark::Done;
-    entry.known.narrow();
-    entry.known
-}
-
 /// A waiting instruction is done from then on; its state stays where it is.
 pub(crate) fn finish(table: &mut Vec<Entry>, at: usize)
     requires within { at < length table.old.items }
@@ -116,6 +103,26 @@ pub(crate) fn advance(table: &mut Vec<Entry>, at: usize, register: u8, effect: E
 {
     let known = table[at].known;
     table[at + 1].receive_after(&known, register, effect);
+}
+
+/// What is known before an instruction that is done arrives at another one as it is, from where it is kept. Answers whether the
+/// state there changed. One that leads to itself brings it nothing new.
+pub(crate) fn lead(table: &mut Vec<Entry>, at: usize, target: usize) -> bool
+    requires within { at < length table.old.items }
+    requires target { target < length table.old.items }
+    requires done { IsDone table.old.items at }
+    ensures arrives { (entry : Entry) → slice_get table.old.items at ≡ Some entry → Arrives table.old.items target entry.known table.new.items result }
+    ensures kept { slice_get table.new.items at ≡ slice_get table.old.items at }
+{
+    if target == at {
+        return false;
+    }
+    if target < at {
+        let (before, rest) = table.split_at_mut(at);
+        return before[target].receive(&rest[0].known);
+    }
+    let (before, rest) = table.split_at_mut(target);
+    rest[0].receive(&before[at].known)
 }
 
 /// One more way to an instruction. Answers whether its state changed.
