@@ -10,8 +10,8 @@
 ; status 1: asm: line 21 Word
 ; $ x10p asm --explain atomb_in_version_1.asm atomb.x10
 ; status 1: asm: line 21 Word
-; > Word, line 21: ATOMB
-; >                ^^^^^
+; > atomb_in_version_1.asm:21:1: Word: ATOMB
+; >                                    ^^^^^
 ; > ATOMB is an instruction of version 2: the text has to begin with the line `version 2`.
 places 1
 class int

@@ -2,8 +2,8 @@
 ;
 ; $ x10p asm --explain backslash_before_the_last_quote.asm backslash_before_the_last_quote.x10
 ; status 1: asm: line 9 Text
-; > Text, line 9: text "C:\\dir\"
-; >                    ^
+; > backslash_before_the_last_quote.asm:9:6: Text: text "C:\\dir\"
+; >                                                     ^
 ; > The last quote belongs to the text, since a backslash is before it; no quote closes it.
 places 1
 text "C:\\dir\"

@@ -2,8 +2,8 @@
 ;
 ; $ x10p asm --explain behind_entry.asm behind_entry.x10
 ; status 1: asm: line 13 Order
-; > Order, line 13: func 1 0 none
-; >                 ^^^^
+; > behind_entry.asm:13:1: Order: func 1 0 none
+; >                               ^^^^
 ; > The text ends with `entry`, which is in line 12.
 places 1
 func 1 0 none

@@ -2,8 +2,8 @@
 ;
 ; $ x10p asm --explain byte_order_mark.asm byte_order_mark.x10
 ; status 1: asm: line 1 Word
-; > Word, line 1: ﻿; A byte order mark before the first line.
-; >               ^^
+; > byte_order_mark.asm:1:1: Word: ﻿; A byte order mark before the first line.
+; >                                ^^
 ; > The text begins with a byte order mark: save it without one.
 places 1
 int 7

@@ -2,8 +2,8 @@
 ;
 ; $ x10p asm --explain class_after_int.asm class_after_int.x10
 ; status 1: asm: line 10 Order
-; > Order, line 10: class int
-; >                 ^^^^^
+; > class_after_int.asm:10:1: Order: class int
+; >                                  ^^^^^
 ; > `class` has to come before the first `int`, which is in line 9.
 places 1
 int 7

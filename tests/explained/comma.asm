@@ -2,8 +2,8 @@
 ;
 ; $ x10p asm --explain comma.asm comma.x10
 ; status 1: asm: line 11 Number
-; > Number, line 11: INTK 0, 0
-; >                       ^^
+; > comma.asm:11:6: Number: INTK 0, 0
+; >                              ^^
 ; > Words are separated by spaces, without commas.
 places 1
 int 7

@@ -2,8 +2,8 @@
 ;
 ; $ x10p asm --explain comment_behind.asm comment_behind.x10
 ; status 1: asm: line 11 Count
-; > Count, line 11: INTK 0 0 ; seven
-; >                          ^
+; > comment_behind.asm:11:10: Count: INTK 0 0 ; seven
+; >                                           ^
 ; > A comment needs a line of its own.
 places 1
 int 7

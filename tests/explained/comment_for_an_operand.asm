@@ -2,8 +2,8 @@
 ;
 ; $ x10p asm --explain comment_for_an_operand.asm comment_for_an_operand.x10
 ; status 1: asm: line 11 Number
-; > Number, line 11: INTK 0 ; seven
-; >                         ^
+; > comment_for_an_operand.asm:11:8: Number: INTK 0 ; seven
+; >                                                 ^
 ; > A comment needs a line of its own.
 places 1
 int 7

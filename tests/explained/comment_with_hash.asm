@@ -2,8 +2,8 @@
 ;
 ; $ x10p asm --explain comment_with_hash.asm comment_with_hash.x10
 ; status 1: asm: line 11 Word
-; > Word, line 11: # the constant
-; >                ^
+; > comment_with_hash.asm:11:1: Word: # the constant
+; >                                   ^
 ; > A comment begins with a semicolon, on a line of its own.
 places 1
 int 7

@@ -2,8 +2,8 @@
 ;
 ; $ x10p asm --explain comment_with_slashes.asm comment_with_slashes.x10
 ; status 1: asm: line 11 Count
-; > Count, line 11: INTK 0 0 // seven
-; >                          ^^
+; > comment_with_slashes.asm:11:10: Count: INTK 0 0 // seven
+; >                                                 ^^
 ; > A comment begins with a semicolon, on a line of its own.
 places 1
 int 7

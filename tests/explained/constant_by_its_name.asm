@@ -2,8 +2,8 @@
 ;
 ; $ x10p asm --explain constant_by_its_name.asm constant_by_its_name.x10
 ; status 1: asm: line 12 Number
-; > Number, line 12: INTK 0 seven
-; >                         ^^^^^
+; > constant_by_its_name.asm:12:8: Number: INTK 0 seven
+; >                                               ^^^^^
 ; > `seven` isn't a number; this word is the number of a constant.
 ; > Expected: INTK REGISTER INT.
 places 1

@@ -2,8 +2,8 @@
 ;
 ; $ x10p asm --explain end_twice.asm end_twice.x10
 ; status 1: asm: line 12 Order
-; > Order, line 12: end
-; >                 ^^^
+; > end_twice.asm:12:1: Order: end
+; >                            ^^^
 ; > This `end` ends no function: the last one ended in line 11.
 places 1
 func 1 0 none

@@ -2,8 +2,8 @@
 ;
 ; $ x10p asm --explain entry_with_a_result.asm entry_with_a_result.x10
 ; status 1: asm: line 14 Entry
-; > Entry, line 14: entry 0
-; >                       ^
+; > entry_with_a_result.asm:14:7: Entry: entry 0
+; >                                            ^
 ; > A run begins with a function that takes and gives nothing; function 0, begun in line 10, has a result.
 places 1
 int 7

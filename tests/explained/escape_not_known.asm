@@ -2,8 +2,8 @@
 ;
 ; $ x10p asm --explain escape_not_known.asm escape_not_known.x10
 ; status 1: asm: line 9 Text
-; > Text, line 9: text "seven\teight"
-; >                          ^^
+; > escape_not_known.asm:9:12: Text: text "seven\teight"
+; >                                             ^^
 ; > A backslash stands before a quote, a backslash or an n alone: \", \\ and \n.
 places 1
 text "seven\teight"

@@ -2,8 +2,8 @@
 ;
 ; $ x10p asm --explain function_with_a_name.asm function_with_a_name.x10
 ; status 1: asm: line 10 Word
-; > Word, line 10: func main 1 0 none
-; >                     ^^^^
+; > function_with_a_name.asm:10:6: Word: func main 1 0 none
+; >                                           ^^^^
 ; > `main` isn't the number of registers: functions have no names, but numbers, from 0 on.
 ; > Expected: func REGISTERS LOOPS RESULT PARAMETER .., where RESULT is none or a kind, and a PARAMETER is a kind.
 places 1

@@ -2,8 +2,8 @@
 ;
 ; $ x10p asm --explain here_in_a_class.asm here_in_a_class.x10
 ; status 1: asm: line 9 Word
-; > Word, line 9: class here:0
-; >                     ^^^^^^
+; > here_in_a_class.asm:9:7: Word: class here:0
+; >                                      ^^^^^^
 ; > `here:0` is for parameters and results alone; the kind of a field is gref.
 places 1
 class here:0

@@ -2,8 +2,8 @@
 ;
 ; $ x10p asm --explain hexadecimal.asm hexadecimal.x10
 ; status 1: asm: line 10 Number
-; > Number, line 10: int 0x7
-; >                      ^^^
+; > hexadecimal.asm:10:5: Number: int 0x7
+; >                                   ^^^
 ; > `0x7` isn't a decimal number, and there are no others.
 ; > Expected: int N, from -9223372036854775808 to 9223372036854775807.
 places 1

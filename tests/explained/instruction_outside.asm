@@ -2,8 +2,8 @@
 ;
 ; $ x10p asm --explain instruction_outside.asm instruction_outside.x10
 ; status 1: asm: line 14 Order
-; > Order, line 14: PRINT 0
-; >                 ^^^^^
+; > instruction_outside.asm:14:1: Order: PRINT 0
+; >                                      ^^^^^
 ; > `PRINT` is in no function: the last one ended in line 13.
 places 1
 int 7

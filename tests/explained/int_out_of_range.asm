@@ -2,8 +2,8 @@
 ;
 ; $ x10p asm --explain int_out_of_range.asm int_out_of_range.x10
 ; status 1: asm: line 9 Number
-; > Number, line 9: int 9223372036854775808
-; >                     ^^^^^^^^^^^^^^^^^^^
+; > int_out_of_range.asm:9:5: Number: int 9223372036854775808
+; >                                       ^^^^^^^^^^^^^^^^^^^
 ; > `9223372036854775808` is out of range: the number is -9223372036854775808 to 9223372036854775807.
 places 1
 int 9223372036854775808

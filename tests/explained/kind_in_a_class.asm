@@ -2,8 +2,8 @@
 ;
 ; $ x10p asm --explain kind_in_a_class.asm kind_in_a_class.x10
 ; status 1: asm: line 10 Word
-; > Word, line 10: class int integer place
-; >                          ^^^^^^^
+; > kind_in_a_class.asm:10:11: Word: class int integer place
+; >                                            ^^^^^^^
 ; > `integer` isn't a kind. Did you mean int?
 places 1
 class int place

@@ -2,8 +2,8 @@
 ;
 ; $ x10p asm --explain kind_near.asm kind_near.x10
 ; status 1: asm: line 9 Word
-; > Word, line 9: func 1 0 none integer
-; >                             ^^^^^^^
+; > kind_near.asm:9:15: Word: func 1 0 none integer
+; >                                         ^^^^^^^
 ; > `integer` isn't a kind. Did you mean int?
 places 1
 func 1 0 none integer

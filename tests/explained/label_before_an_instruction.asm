@@ -2,8 +2,8 @@
 ;
 ; $ x10p asm --explain label_before_an_instruction.asm label_before_an_instruction.x10
 ; status 1: asm: line 14 Count
-; > Count, line 14: out: RET 0
-; >                      ^^^
+; > label_before_an_instruction.asm:14:6: Count: out: RET 0
+; >                                                   ^^^
 ; > A label is alone on its line.
 places 1
 int 7

@@ -2,8 +2,8 @@
 ;
 ; $ x10p asm --explain label_for_a_number.asm label_for_a_number.x10
 ; status 1: asm: line 13 Number
-; > Number, line 13: INTK 0 @seven
-; >                         ^^^^^^
+; > label_for_a_number.asm:13:8: Number: INTK 0 @seven
+; >                                             ^^^^^^
 ; > `@seven` is a label, and this word is the number of a constant.
 ; > Expected: INTK REGISTER INT.
 places 1

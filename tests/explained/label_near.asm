@@ -2,8 +2,8 @@
 ;
 ; $ x10p asm --explain label_near.asm label_near.x10
 ; status 1: asm: line 12 Label
-; > Label, line 12: JMP @uot
-; >                     ^^^^
+; > label_near.asm:12:5: Label: JMP @uot
+; >                                 ^^^^
 ; > Function 0 has no label `uot`. The nearest is `out`, in line 14.
 places 1
 int 7

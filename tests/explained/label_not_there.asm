@@ -2,8 +2,8 @@
 ;
 ; $ x10p asm --explain label_not_there.asm label_not_there.x10
 ; status 1: asm: line 12 Label
-; > Label, line 12: JMP @over
-; >                     ^^^^^
+; > label_not_there.asm:12:5: Label: JMP @over
+; >                                      ^^^^^
 ; > Function 0 has no label `over`.
 places 1
 int 7

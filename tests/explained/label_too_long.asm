@@ -2,8 +2,8 @@
 ;
 ; $ x10p asm --explain label_too_long.asm label_too_long.x10
 ; status 1: asm: line 12 Label
-; > Label, line 12: aaaaaaaaaaaaaaaaaaaaaaaaaaaaaaaaa:
-; >                 ^^^^^^^^^^^^^^^^^^^^^^^^^^^^^^^^^^
+; > label_too_long.asm:12:1: Label: aaaaaaaaaaaaaaaaaaaaaaaaaaaaaaaaa:
+; >                                 ^^^^^^^^^^^^^^^^^^^^^^^^^^^^^^^^^^
 ; > The name of a label has 32 characters at most; this one has 33.
 places 1
 int 7

@@ -2,8 +2,8 @@
 ;
 ; $ x10p asm --explain label_twice.asm label_twice.x10
 ; status 1: asm: line 13 Label
-; > Label, line 13:  here:
-; >                  ^^^^^
+; > label_twice.asm:13:2: Label:  here:
+; >                               ^^^^^
 ; > `here` is defined already, in line 11.
 places 1
 int 7

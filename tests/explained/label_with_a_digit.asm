@@ -2,8 +2,8 @@
 ;
 ; $ x10p asm --explain label_with_a_digit.asm label_with_a_digit.x10
 ; status 1: asm: line 12 Label
-; > Label, line 12: 2nd:
-; >                 ^^^^
+; > label_with_a_digit.asm:12:1: Label: 2nd:
+; >                                     ^^^^
 ; > The name of a label doesn't begin with a digit.
 places 1
 int 7

@@ -2,8 +2,8 @@
 ;
 ; $ x10p asm --explain label_with_its_colon.asm label_with_its_colon.x10
 ; status 1: asm: line 12 Label
-; > Label, line 12: JMP @out:
-; >                     ^^^^^
+; > label_with_its_colon.asm:12:5: Label: JMP @out:
+; >                                           ^^^^^
 ; > A jump names the label without its colon: @out
 places 1
 int 7

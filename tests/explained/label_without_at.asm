@@ -2,8 +2,8 @@
 ;
 ; $ x10p asm --explain label_without_at.asm label_without_at.x10
 ; status 1: asm: line 13 Number
-; > Number, line 13: JMP out
-; >                      ^^^
+; > label_without_at.asm:13:5: Number: JMP out
+; >                                        ^^^
 ; > `out` isn't a number; a label has an at sign: @out
 ; > Expected: JMP INSTRUCTION, where INSTRUCTION is a number, or @NAME of a label.
 places 1

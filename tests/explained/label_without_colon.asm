@@ -2,8 +2,8 @@
 ;
 ; $ x10p asm --explain label_without_colon.asm label_without_colon.x10
 ; status 1: asm: line 12 Label
-; > Label, line 12: JMP @again
-; >                     ^^^^^^
+; > label_without_colon.asm:12:5: Label: JMP @again
+; >                                          ^^^^^^
 ; > Function 0 has no label `again`.
 places 1
 int 7

@@ -2,8 +2,8 @@
 ;
 ; $ x10p asm --explain name_misspelt.asm name_misspelt.x10
 ; status 1: asm: line 12 Word
-; > Word, line 12: PRNT 0
-; >                ^^^^
+; > name_misspelt.asm:12:1: Word: PRNT 0
+; >                               ^^^^
 ; > `PRNT` isn't an instruction. Did you mean PRINT?
 places 1
 int 7

@@ -2,8 +2,8 @@
 ;
 ; $ x10p asm --explain name_too_long.asm name_too_long.x10
 ; status 1: asm: line 12 Word
-; > Word, line 12: PRINTS 0
-; >                ^^^^^^
+; > name_too_long.asm:12:1: Word: PRINTS 0
+; >                               ^^^^^^
 ; > `PRINTS` isn't an instruction. Did you mean PRINT?
 places 1
 int 7

@@ -2,8 +2,8 @@
 ;
 ; $ x10p asm --explain no_end.asm no_end.x10
 ; status 1: asm: line 14 Order
-; > Order, line 14: entry 0
-; >                 ^^^^^
+; > no_end.asm:14:1: Order: entry 0
+; >                         ^^^^^
 ; > Function 0, begun in line 10, has no `end`.
 places 1
 int 7

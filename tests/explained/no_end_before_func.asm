@@ -2,8 +2,8 @@
 ;
 ; $ x10p asm --explain no_end_before_func.asm no_end_before_func.x10
 ; status 1: asm: line 11 Order
-; > Order, line 11: func 1 0 none
-; >                 ^^^^
+; > no_end_before_func.asm:11:1: Order: func 1 0 none
+; >                                     ^^^^
 ; > Function 0, begun in line 9, has no `end`.
 places 1
 func 1 0 none

@@ -2,7 +2,7 @@
 ;
 ; $ x10p asm --explain no_entry.asm no_entry.x10
 ; status 1: asm: line 14 Order
-; > Order, line 14: the text ends before it.
+; > no_entry.asm:14:1: Order: the text ends before it.
 ; > There is no line `entry N`, which names the function that a run begins with.
 places 1
 int 7

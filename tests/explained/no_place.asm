@@ -2,8 +2,8 @@
 ;
 ; $ x10p asm --explain no_place.asm no_place.x10
 ; status 1: asm: line 8 Limit
-; > Limit, line 8: places 0
-; >                       ^
+; > no_place.asm:8:8: Limit: places 0
+; >                                 ^
 ; > A module asks for 1 to 64 places.
 places 0
 func 1 0 none

@@ -2,8 +2,8 @@
 ;
 ; $ x10p asm --explain no_places.asm no_places.x10
 ; status 1: asm: line 8 Order
-; > Order, line 8: int 7
-; >                ^^^
+; > no_places.asm:8:1: Order: int 7
+; >                           ^^^
 ; > A text begins with a line `places N`.
 int 7
 places 1

@@ -2,8 +2,8 @@
 ;
 ; $ x10p asm --explain no_quotes.asm no_quotes.x10
 ; status 1: asm: line 9 Text
-; > Text, line 9: text seven
-; >                    ^^^^^
+; > no_quotes.asm:9:6: Text: text seven
+; >                               ^^^^^
 ; > A text is between quotes: text "..".
 places 1
 text seven

@@ -2,8 +2,8 @@
 ;
 ; $ x10p asm --explain no_result_named.asm no_result_named.x10
 ; status 1: asm: line 10 Count
-; > Count, line 10: func 1 0
-; >                          ^
+; > no_result_named.asm:10:10: Count: func 1 0
+; >                                            ^
 ; > A word is missing: the kind of the result, or none.
 ; > Expected: func REGISTERS LOOPS RESULT PARAMETER .., where RESULT is none or a kind, and a PARAMETER is a kind.
 places 1

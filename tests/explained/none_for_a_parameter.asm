@@ -2,8 +2,8 @@
 ;
 ; $ x10p asm --explain none_for_a_parameter.asm none_for_a_parameter.x10
 ; status 1: asm: line 9 Word
-; > Word, line 9: func 1 0 none none
-; >                             ^^^^
+; > none_for_a_parameter.asm:9:15: Word: func 1 0 none none
+; >                                                    ^^^^
 ; > `none` is for a result alone; here no word is needed.
 places 1
 func 1 0 none none

@@ -2,8 +2,8 @@
 ;
 ; $ x10p asm --explain number_below_zero.asm number_below_zero.x10
 ; status 1: asm: line 12 Number
-; > Number, line 12: INTK 0 -1
-; >                         ^^
+; > number_below_zero.asm:12:8: Number: INTK 0 -1
+; >                                            ^^
 ; > `-1` isn't the number of a constant: a number below 0 is a line `int`, and INTK puts it into a register.
 ; > Expected: INTK REGISTER INT.
 places 1

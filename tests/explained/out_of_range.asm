@@ -2,8 +2,8 @@
 ;
 ; $ x10p asm --explain out_of_range.asm out_of_range.x10
 ; status 1: asm: line 11 Number
-; > Number, line 11: INTK 256 0
-; >                       ^^^
+; > out_of_range.asm:11:6: Number: INTK 256 0
+; >                                     ^^^
 ; > `256` is out of range: the number of a register is 0 to 63.
 places 1
 int 7

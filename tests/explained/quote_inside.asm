@@ -2,8 +2,8 @@
 ;
 ; $ x10p asm --explain quote_inside.asm quote_inside.x10
 ; status 1: asm: line 9 Text
-; > Text, line 9: text "a "big" seven"
-; >                        ^^^^
+; > quote_inside.asm:9:10: Text: text "a "big" seven"
+; >                                       ^^^^
 ; > `big"` comes right after the second quote, which ends the text; a quote inside it has a backslash before it.
 places 1
 text "a "big" seven"

@@ -2,8 +2,8 @@
 ;
 ; $ x10p asm --explain quote_inside_between_spaces.asm quote_inside_between_spaces.x10
 ; status 1: asm: line 9 Count
-; > Count, line 9: text "a " b"
-; >                          ^^
+; > quote_inside_between_spaces.asm:9:11: Count: text "a " b"
+; >                                                        ^^
 ; > A text ends at its second quote, and nothing comes after it; a quote inside it has a backslash before it.
 places 1
 text "a " b"

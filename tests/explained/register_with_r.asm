@@ -2,8 +2,8 @@
 ;
 ; $ x10p asm --explain register_with_r.asm register_with_r.x10
 ; status 1: asm: line 12 Number
-; > Number, line 12: INTK r0 0
-; >                       ^^
+; > register_with_r.asm:12:6: Number: INTK r0 0
+; >                                        ^^
 ; > `r0`: a register is its number alone, without r.
 ; > Expected: INTK REGISTER INT.
 places 1

@@ -2,8 +2,8 @@
 ;
 ; $ x10p asm --explain single_quotes.asm single_quotes.x10
 ; status 1: asm: line 9 Text
-; > Text, line 9: text 'seven'
-; >                    ^^^^^^^
+; > single_quotes.asm:9:6: Text: text 'seven'
+; >                                   ^^^^^^^
 ; > A text is between straight double quotes, "; ' is another character.
 places 1
 text 'seven'

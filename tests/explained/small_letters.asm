@@ -2,8 +2,8 @@
 ;
 ; $ x10p asm --explain small_letters.asm small_letters.x10
 ; status 1: asm: line 11 Word
-; > Word, line 11: intk 0 0
-; >                ^^^^
+; > small_letters.asm:11:1: Word: intk 0 0
+; >                               ^^^^
 ; > The names of instructions are in capitals: INTK.
 places 1
 int 7

@@ -2,8 +2,8 @@
 ;
 ; $ x10p asm --explain tab.asm tab.x10
 ; status 1: asm: line 11 Word
-; > Word, line 11: INTK	0 0
-; >                ^^^^	^
+; > tab.asm:11:1: Word: INTK	0 0
+; >                     ^^^^	^
 ; > Words are separated by spaces, not tabs.
 places 1
 int 7

@@ -2,8 +2,8 @@
 ;
 ; $ x10p asm --explain tabs_before.asm tabs_before.x10
 ; status 1: asm: line 9 Count
-; > Count, line 9: text "a	b	c" more
-; >                       	 	   ^^^^
+; > tabs_before.asm:9:14: Count: text "a	b	c" more
+; >                                     	 	   ^^^^
 ; > A text ends at its second quote, and nothing comes after it; a quote inside it has a backslash before it.
 places 1
 text "a	b	c" more

@@ -2,8 +2,8 @@
 ;
 ; $ x10p asm --explain text_not_closed.asm text_not_closed.x10
 ; status 1: asm: line 9 Text
-; > Text, line 9: text "seven
-; >                    ^
+; > text_not_closed.asm:9:6: Text: text "seven
+; >                                     ^
 ; > No second quote closes the text.
 places 1
 text "seven

@@ -2,8 +2,8 @@
 ;
 ; $ x10p asm --explain too_few_operands.asm too_few_operands.x10
 ; status 1: asm: line 12 Count
-; > Count, line 12: INTK 0
-; >                        ^
+; > too_few_operands.asm:12:8: Count: INTK 0
+; >                                          ^
 ; > A word is missing: the number of a constant.
 ; > Expected: INTK REGISTER INT.
 places 1

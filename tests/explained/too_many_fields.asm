@@ -2,8 +2,8 @@
 ;
 ; $ x10p asm --explain too_many_fields.asm too_many_fields.x10
 ; status 1: asm: line 9 Limit
-; > Limit, line 9: class int int int int int int int int int int int int int int int int int
-; >                                                                                      ^^^
+; > too_many_fields.asm:9:71: Limit: class int int int int int int int int int int int int int int int int int
+; >                                                                                                        ^^^
 ; > A class has 16 fields at most.
 places 1
 class{{17 *  int}}

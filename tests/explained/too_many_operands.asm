@@ -2,8 +2,8 @@
 ;
 ; $ x10p asm --explain too_many_operands.asm too_many_operands.x10
 ; status 1: asm: line 13 Count
-; > Count, line 13:    ADD  0 0   0 17 18
-; >                                 ^^
+; > too_many_operands.asm:13:17: Count:    ADD  0 0   0 17 18
+; >                                                     ^^
 ; > `17` is one word too many.
 ; > Expected: ADD REGISTER REGISTER REGISTER.
 places 1

@@ -2,8 +2,8 @@
 ;
 ; $ x10p asm --explain version_3.asm version_3.x10
 ; status 1: asm: line 8 Number
-; > Number, line 8: version 3
-; >                         ^
+; > version_3.asm:8:9: Number: version 3
+; >                                    ^
 ; > `3` isn't 2; a text of version 1 has no line `version`.
 version 3
 places 1

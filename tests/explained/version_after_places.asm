@@ -2,8 +2,8 @@
 ;
 ; $ x10p asm --explain version_after_places.asm version.x10
 ; status 1: asm: line 9 Order
-; > Order, line 9: version 2
-; >                ^^^^^^^
+; > version_after_places.asm:9:1: Order: version 2
+; >                                      ^^^^^^^
 ; > `version` stands once, before all other lines.
 places 1
 version 2

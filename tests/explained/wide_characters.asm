@@ -2,8 +2,8 @@
 ;
 ; $ x10p asm --explain wide_characters.asm wide_characters.x10
 ; status 1: asm: line 9 Count
-; > Count, line 9: text "drüben — Ænima" zwölf
-; >                                      ^^^^^
+; > wide_characters.asm:9:23: Count: text "drüben — Ænima" zwölf
+; >                                                        ^^^^^
 ; > A text ends at its second quote, and nothing comes after it; a quote inside it has a backslash before it.
 places 1
 text "drüben — Ænima" zwölf

@@ -2,8 +2,8 @@
 ;
 ; $ x10p asm --explain wide_space.asm wide_space.x10
 ; status 1: asm: line 11 Word
-; > Word, line 11: INTK 0 0
-; >                ^^^^^^
+; > wide_space.asm:11:1: Word: INTK 0 0
+; >                            ^^^^^^
 ; > Words are separated by plain spaces; the white space here is another character.
 places 1
 int 7

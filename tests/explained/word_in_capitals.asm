@@ -2,8 +2,8 @@
 ;
 ; $ x10p asm --explain word_in_capitals.asm word_in_capitals.x10
 ; status 1: asm: line 9 Word
-; > Word, line 9: FUNC 1 0 none
-; >               ^^^^
+; > word_in_capitals.asm:9:1: Word: FUNC 1 0 none
+; >                                 ^^^^
 ; > This word is in small letters: func.
 places 1
 FUNC 1 0 none

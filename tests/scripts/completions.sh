@@ -57,7 +57,12 @@ completes "4.svg folder made more" draw 3.x10 --limit 5 ''
 completes "" draw - 5
 completes "--explain" verify 1.asm --e
 # where there is no argument more, options are offered
-completes "--explain --help -h" check 1.asm ''
+completes "--color --explain --help --json -h" check 1.asm ''
+# a value that may be left out stands behind `=`
+completes "no yes" run --explain = ''
+completes "--places" run --explain = yes --pl
+completes "always auto never" verify --color ''
+completes "Kind" explain Ki
 completes "" check -- 1.asm ''
 completes "list" help li
 completes "" help list ''

@@ -27,7 +27,7 @@ doubles=examples/doubles.asm
 mkdir examples
 prints 5 >"$doubles"
 cp seven.x10 examples/
-for command in "" asm list check verify bounds run trace draw; do
+for command in "" asm list check verify bounds run trace draw explain; do
     x10p $command --help >.help 2>.err || fail "x10p $command --help: status $?"
     grep -q "Exit status:" .help && grep -q "  4  " .help || fail "the help of x10p $command has no statuses"
     grep "^  x10p " .help >.examples || fail "the help of x10p $command has no example"
@@ -35,6 +35,25 @@ for command in "" asm list check verify bounds run trace draw; do
         does 0 "$(x10p $words 2>/dev/null)" "" x10p $words
     done <.examples
 done
+# the help of `help` is the program's
+does 0 "$(x10p --help)" "" x10p help --help
+does 0 "$(x10p --help)" "" x10p help -h
+does 0 "$(x10p --help)" "" x10p help
+
+# options that are right one by one, and don't go together: it is said which
+told() {
+    local what=$1
+    shift
+    does 3 "" .. x10p "$@"
+    grep -qF -e "$what" .err || fail "x10p $*: it told $(cat .err)"
+}
+for schedule in rounds oldest newest; do
+    told "--seed is for a random schedule alone" run seven.x10 --seed 1 --schedule $schedule
+done
+told "'--threads' cannot be used with '--seed <N>'" run seven.x10 --threads --seed 1
+told "'--threads' cannot be used with '--schedule <ORDER>'" run seven.x10 --threads --schedule random
+told "'--json' cannot be used with '--verbose'" list seven.x10 --json --verbose
+
 does 0 "$(x10p --version)" "" x10p -V
 x10p --version | grep -qx 'x10p [0-9]*\.[0-9]*\.[0-9]*' || fail "the version is $(x10p --version)"
 exit $wrong

@@ -12,6 +12,15 @@
 ; $ x10p help
 ; ..
 ;   4  a file can't be read, or the output can't be written
+; $ x10p help --help
+; Runs programs that are spread over places, after it has proved that they can't go wrong
+; ..
+; $ x10p help -h
+; ..
+;   4  a file can't be read, or the output can't be written
+; $ x10p help run
+; ..
+;   4  a file can't be read, or the output can't be written
 ; $ x10p run --help
 ; ..
 ;   4  a file can't be read, or the output can't be written

@@ -1,5 +1,5 @@
 -- What the commands' answers say of a file.
-use Rattle.std.proofs.Common.{◌≡◌, ℕ, ◌<◌, List, length, Option, Some, None, true, Result, Ok, refl, sym, ap, subst, ◌∙◌, inl, inr, slice_get, arith}
+use Rattle.std.proofs.Common.{◌≡◌, ℕ, ◌<◌, List, length, Option, Some, None, Bool, true, false, Result, Ok, refl, sym, ap, subst, ◌∙◌, inl, inr, slice_get, arith}
 use Rattle.std.specs.Prelude.{◌⊎◌}
 use Rattle.std.specs.Io.KnownBytes.{Appends, Keeps}
 use Rattle.x10_model.specs.Modules.{Module, FitsImage}
@@ -125,17 +125,17 @@ not_worked bytes c places n f told image forbids en e is done =
     not_permitted bytes c places n image (forbids (refused_by f (ap status_of (sym e) ∙ is))) en done
 
 -- what a run with threads left that didn't end
-pub work_left : (bytes : List ℕ) (v : Certified) (asked : Option ℕ) (n turns : ℕ) (f : WorkFault) (a b : Option (List ℕ)) → IsImageOf bytes v → n ≡ places_for asked v → IsTold n turns f → Appends a b (all_lines 0 (lines_told f)) → LeavesStopped verb.Run true asked bytes a b
-work_left bytes v asked n turns (work.Stop place why report) a b is en told p = inr (v, report.log.items, lines_in report.outputs.items, is, subst (λ k. AreLinesBy k report.log.items (lines_in report.outputs.items)) en told, p)
-work_left bytes v asked n turns (work.Turns report) a b is en told p = inr (v, report.log.items, lines_in report.outputs.items, is, subst (λ k. AreLinesBy k report.log.items (lines_in report.outputs.items)) en told.0, p)
-work_left bytes v asked n turns (work.Refused place why) a b is en told p = inl (none_appended a b p)
-work_left bytes v asked n turns (work.Differs turn) a b is en told p = inl (none_appended a b p)
-work_left bytes v asked n turns work.Memory a b is en told p = inl (none_appended a b p)
-work_left bytes v asked n turns work.Places a b is en told p = inl (none_appended a b p)
-work_left bytes v asked n turns work.Thread a b is en told p = inl (none_appended a b p)
+pub work_left : (json : Bool) (bytes : List ℕ) (v : Certified) (asked : Option ℕ) (n turns : ℕ) (f : WorkFault) (a b : Option (List ℕ)) → IsImageOf bytes v → n ≡ places_for asked v → IsTold n turns f → Appends a b (all_lines json 0 (lines_told f)) → LeavesStopped verb.Run json true asked bytes a b
+work_left json bytes v asked n turns (work.Stop place why report) a b is en told p = inr (v, report.log.items, lines_in report.outputs.items, is, subst (λ k. AreLinesBy k report.log.items (lines_in report.outputs.items)) en told, p)
+work_left json bytes v asked n turns (work.Turns report) a b is en told p = inr (v, report.log.items, lines_in report.outputs.items, is, subst (λ k. AreLinesBy k report.log.items (lines_in report.outputs.items)) en told.0, p)
+work_left json bytes v asked n turns (work.Refused place why) a b is en told p = inl (none_appended a b p)
+work_left json bytes v asked n turns (work.Differs turn) a b is en told p = inl (none_appended a b p)
+work_left json bytes v asked n turns work.Memory a b is en told p = inl (none_appended a b p)
+work_left json bytes v asked n turns work.Places a b is en told p = inl (none_appended a b p)
+work_left json bytes v asked n turns work.Thread a b is en told p = inl (none_appended a b p)
 
-pub work_kept : (f : WorkFault) (told : Fault) (a b : Option (List ℕ)) → told ≡ of_work f → Appends a b (all_lines 0 (lines_told f)) → status_of told ≡ 1 → Keeps a b
-work_kept f told a b e p s = none_appended a b (subst (λ (g : WorkFault). Appends a b (all_lines 0 (lines_told g))) (refused_by f (ap status_of (sym e) ∙ s)) p)
+pub work_kept : (json : Bool) (f : WorkFault) (told : Fault) (a b : Option (List ℕ)) → told ≡ of_work f → Appends a b (all_lines json 0 (lines_told f)) → status_of told ≡ 1 → Keeps a b
+work_kept json f told a b e p s = none_appended a b (subst (λ (g : WorkFault). Appends a b (all_lines json 0 (lines_told g))) (refused_by f (ap status_of (sym e) ∙ s)) p)
 
 -- ---- statuses
 
@@ -145,7 +145,7 @@ status_told n f (inr e) = inr (fault.File, e)
 
 -- ---- the verdict
 
-pub printed_verdict : (bytes : List ℕ) (c : Certified) (image : Module) (functions entry at bound : ℕ) (old new : Option (List ℕ)) → IsImageOf bytes c → image ≡ c.program → functions ≡ length image.functions → entry ≡ image.entry → at ≡ entry → slice_get c.bounds at ≡ Some bound → Appends old new (verdict_line functions bound) → Prints verb.Verify None bytes old new
+pub printed_verdict : (bytes : List ℕ) (c : Certified) (image : Module) (functions entry at bound : ℕ) (old new : Option (List ℕ)) → IsImageOf bytes c → image ≡ c.program → functions ≡ length image.functions → entry ≡ image.entry → at ≡ entry → slice_get c.bounds at ≡ Some bound → Appends old new (verdict_line functions bound) → Prints verb.Verify false None bytes old new
 printed_verdict bytes c image functions entry at bound old new is same count first place got line =
     let from : at ≡ c.program.entry = place ∙ first ∙ ap (λ (m : Module). m.entry) same in
     let many : functions ≡ length c.program.functions = count ∙ ap (λ (m : Module). length m.functions) same in

@@ -25,10 +25,10 @@ pub leaves_refused : {T : Type 0} (r : Result T Fault) (v w : Verb) (a b : Optio
 leaves_refused (Ok x) v w a b is leaves k = tt
 leaves_refused (Err e) v w a b is leaves k = λ s. subst (λ (x : Verb). LeavesRefused x a b) (sym is) (leaves (kept_by e 1 a b k s (λ x. omega (arith, x))))
 
-pub leaves_stopped : {T : Type 0} (r : Result T Fault) (v w : Verb) (threads : Bool) (asked : Option ℕ) (bytes : List ℕ) (a b : Option (List ℕ)) → v ≡ w → (Keeps a b → LeavesStopped w threads asked bytes a b) → IfErr r (λ e. (e ≡ fault.File) ⊎ Keeps a b)
-    → IfErr r (λ e. status_of e ≡ 2 → LeavesStopped v threads asked bytes a b)
-leaves_stopped (Ok x) v w threads asked bytes a b is leaves k = tt
-leaves_stopped (Err e) v w threads asked bytes a b is leaves k = λ s. subst (λ (x : Verb). LeavesStopped x threads asked bytes a b) (sym is) (leaves (kept_by e 2 a b k s (λ x. omega (arith, x))))
+pub leaves_stopped : {T : Type 0} (r : Result T Fault) (v w : Verb) (json : Bool) (threads : Bool) (asked : Option ℕ) (bytes : List ℕ) (a b : Option (List ℕ)) → v ≡ w → (Keeps a b → LeavesStopped w json threads asked bytes a b) → IfErr r (λ e. (e ≡ fault.File) ⊎ Keeps a b)
+    → IfErr r (λ e. status_of e ≡ 2 → LeavesStopped v json threads asked bytes a b)
+leaves_stopped (Ok x) v w json threads asked bytes a b is leaves k = tt
+leaves_stopped (Err e) v w json threads asked bytes a b is leaves k = λ s. subst (λ (x : Verb). LeavesStopped x json threads asked bytes a b) (sym is) (leaves (kept_by e 2 a b k s (λ x. omega (arith, x))))
 
 -- nothing was appended
 pub none_appended : (a b : Option (List ℕ)) → Appends a b [] → Keeps a b
@@ -49,29 +49,31 @@ refused_kept verb.Run a b c p k = Keeps-trans a b c p k
 refused_kept verb.Runs a b c p k = Keeps-trans a b c p k
 refused_kept verb.Trace a b c p k = Keeps-trans a b c p k
 refused_kept verb.Draw a b c p k = Keeps-trans a b c p k
+refused_kept verb.Explain a b c p k = Keeps-trans a b c p k
 
-run_kept : (threads : Bool) (asked : Option ℕ) (bytes : List ℕ) (a b c : Option (List ℕ)) → LeavesRun threads asked bytes a b → Keeps b c → LeavesRun threads asked bytes a c
-run_kept false asked bytes a b c p k = (p.0, p.1, p.2, p.3, Appends-kept a b c _ p.4 k)
-run_kept true asked bytes a b c p k = (p.0, p.1, p.2, p.3, p.4, Appends-kept a b c _ p.5 k)
+run_kept : (json : Bool) (threads : Bool) (asked : Option ℕ) (bytes : List ℕ) (a b c : Option (List ℕ)) → LeavesRun json threads asked bytes a b → Keeps b c → LeavesRun json threads asked bytes a c
+run_kept json false asked bytes a b c p k = (p.0, p.1, p.2, p.3, Appends-kept a b c _ p.4 k)
+run_kept json true asked bytes a b c p k = (p.0, p.1, p.2, p.3, p.4, Appends-kept a b c _ p.5 k)
 
-pub stopped_kept : (v : Verb) (threads : Bool) (asked : Option ℕ) (bytes : List ℕ) (a b c : Option (List ℕ)) → LeavesStopped v threads asked bytes a b → Keeps b c → LeavesStopped v threads asked bytes a c
-stopped_kept verb.Run threads asked bytes a b c (inl p) k = inl (Keeps-trans a b c p k)
-stopped_kept verb.Run threads asked bytes a b c (inr p) k = inr (run_kept threads asked bytes a b c p k)
-stopped_kept verb.Trace threads asked bytes a b c (inl p) k = inl (Keeps-trans a b c p k)
-stopped_kept verb.Trace threads asked bytes a b c (inr p) k = inr (
+pub stopped_kept : (v : Verb) (json : Bool) (threads : Bool) (asked : Option ℕ) (bytes : List ℕ) (a b c : Option (List ℕ)) → LeavesStopped v json threads asked bytes a b → Keeps b c → LeavesStopped v json threads asked bytes a c
+stopped_kept verb.Run json threads asked bytes a b c (inl p) k = inl (Keeps-trans a b c p k)
+stopped_kept verb.Run json threads asked bytes a b c (inr p) k = inr (run_kept json threads asked bytes a b c p k)
+stopped_kept verb.Trace json threads asked bytes a b c (inl p) k = inl (Keeps-trans a b c p k)
+stopped_kept verb.Trace json threads asked bytes a b c (inr p) k = inr (
   p.0,
   p.1,
   record { first = p.2.first; last = p.2.last; opened = p.2.opened; traces = (p.2.traces.0, p.2.traces.1, Appends-kept a b c p.2.traces.0 p.2.traces.2 k); runs = p.2.runs },
 )
-stopped_kept verb.Draw threads asked bytes a b c (inl p) k = inl (Keeps-trans a b c p k)
-stopped_kept verb.Draw threads asked bytes a b c (inr p) k = inr (p.0, p.1, p.2, p.3, Appends-kept a b c p.1 p.4 k)
-stopped_kept verb.Runs threads asked bytes a b c p k = Keeps-trans a b c p k
-stopped_kept verb.Asm threads asked bytes a b c p k = Keeps-trans a b c p k
-stopped_kept verb.List threads asked bytes a b c p k = Keeps-trans a b c p k
-stopped_kept verb.ListVerbose threads asked bytes a b c p k = Keeps-trans a b c p k
-stopped_kept verb.Check threads asked bytes a b c p k = (p.0, Appends-kept a b c p.0 p.1 k)
-stopped_kept verb.Verify threads asked bytes a b c p k = Keeps-trans a b c p k
-stopped_kept verb.Bounds threads asked bytes a b c p k = Keeps-trans a b c p k
+stopped_kept verb.Draw json threads asked bytes a b c (inl p) k = inl (Keeps-trans a b c p k)
+stopped_kept verb.Draw json threads asked bytes a b c (inr p) k = inr (p.0, p.1, p.2, p.3, Appends-kept a b c p.1 p.4 k)
+stopped_kept verb.Runs json threads asked bytes a b c p k = Keeps-trans a b c p k
+stopped_kept verb.Asm json threads asked bytes a b c p k = Keeps-trans a b c p k
+stopped_kept verb.List json threads asked bytes a b c p k = Keeps-trans a b c p k
+stopped_kept verb.ListVerbose json threads asked bytes a b c p k = Keeps-trans a b c p k
+stopped_kept verb.Check json threads asked bytes a b c p k = (p.0, Appends-kept a b c p.0 p.1 k)
+stopped_kept verb.Verify json threads asked bytes a b c p k = Keeps-trans a b c p k
+stopped_kept verb.Bounds json threads asked bytes a b c p k = Keeps-trans a b c p k
+stopped_kept verb.Explain json threads asked bytes a b c p k = Keeps-trans a b c p k
 
 -- ---- a check
 
@@ -83,10 +85,10 @@ pub report_refused : {T : Type 0} (r : Result T Fault) (v : Verb) (a b : Option 
 report_refused (Ok x) v a b is h = tt
 report_refused (Err e) v a b is h = λ s. subst (λ (x : Verb). LeavesRefused x a b) (sym is) (reported_by e 1 a b h s (λ x. omega (arith, x)))
 
-pub report_stopped : {T : Type 0} (r : Result T Fault) (v : Verb) (threads : Bool) (asked : Option ℕ) (bytes : List ℕ) (a b : Option (List ℕ)) → v ≡ verb.Check → IfErr r (λ e. (e ≡ fault.File) ⊎ ((text : List ℕ) × Appends a b text))
-    → IfErr r (λ e. status_of e ≡ 2 → LeavesStopped v threads asked bytes a b)
-report_stopped (Ok x) v threads asked bytes a b is h = tt
-report_stopped (Err e) v threads asked bytes a b is h = λ s. subst (λ (x : Verb). LeavesStopped x threads asked bytes a b) (sym is) (reported_by e 2 a b h s (λ x. omega (arith, x)))
+pub report_stopped : {T : Type 0} (r : Result T Fault) (v : Verb) (json : Bool) (threads : Bool) (asked : Option ℕ) (bytes : List ℕ) (a b : Option (List ℕ)) → v ≡ verb.Check → IfErr r (λ e. (e ≡ fault.File) ⊎ ((text : List ℕ) × Appends a b text))
+    → IfErr r (λ e. status_of e ≡ 2 → LeavesStopped v json threads asked bytes a b)
+report_stopped (Ok x) v json threads asked bytes a b is h = tt
+report_stopped (Err e) v json threads asked bytes a b is h = λ s. subst (λ (x : Verb). LeavesStopped x json threads asked bytes a b) (sym is) (reported_by e 2 a b h s (λ x. omega (arith, x)))
 
 -- ---- a run
 
@@ -94,10 +96,10 @@ pub run_refused : {T : Type 0} (r : Result T Fault) (v w : Verb) (a b : Option (
 run_refused (Ok x) v w a b is leaves k = tt
 run_refused (Err e) v w a b is leaves k = λ s. subst (λ (x : Verb). LeavesRefused x a b) (sym is) (leaves (k s))
 
-pub run_stopped : {T : Type 0} (r : Result T Fault) (v w : Verb) (threads told : Bool) (asked : Option ℕ) (bytes : List ℕ) (a b : Option (List ℕ)) → v ≡ w → threads ≡ told → IfErr r (λ e. status_of e ≡ 2 → LeavesStopped w told asked bytes a b)
-    → IfErr r (λ e. status_of e ≡ 2 → LeavesStopped v threads asked bytes a b)
-run_stopped (Ok x) v w threads told asked bytes a b is same k = tt
-run_stopped (Err e) v w threads told asked bytes a b is same k = λ s. subst (λ (x : Verb). LeavesStopped x threads asked bytes a b) (sym is) (subst (λ (t : Bool). LeavesStopped w t asked bytes a b) (sym same) (k s))
+pub run_stopped : {T : Type 0} (r : Result T Fault) (v w : Verb) (json : Bool) (threads told : Bool) (asked : Option ℕ) (bytes : List ℕ) (a b : Option (List ℕ)) → v ≡ w → threads ≡ told → IfErr r (λ e. status_of e ≡ 2 → LeavesStopped w json told asked bytes a b)
+    → IfErr r (λ e. status_of e ≡ 2 → LeavesStopped v json threads asked bytes a b)
+run_stopped (Ok x) v w json threads told asked bytes a b is same k = tt
+run_stopped (Err e) v w json threads told asked bytes a b is same k = λ s. subst (λ (x : Verb). LeavesStopped x json threads asked bytes a b) (sym is) (subst (λ (t : Bool). LeavesStopped w json t asked bytes a b) (sym same) (k s))
 
 -- ---- a trace
 

@@ -1,5 +1,5 @@
 -- What is printed line after line.
-use Rattle.std.proofs.Common.{◌≡◌, ℕ, zero, suc, ◌+◌, ◌<◌, List, [], ◌∷◌, ◌++◌, length, get_or, map, Option, Some, None, sym, ap, subst, ◌∙◌, arith, append_assoc}
+use Rattle.std.proofs.Common.{◌≡◌, ℕ, zero, suc, ◌+◌, ◌<◌, List, [], ◌∷◌, ◌++◌, Bool, true, false, length, get_or, map, Option, Some, None, sym, ap, subst, ◌∙◌, arith, append_assoc}
 use Rattle.std.specs.Prelude.{slice_get, take, Vec}
 use Rattle.std.specs.Global.{Global}
 use Rattle.std.proofs.lemmas.List.{append-nil}
@@ -23,21 +23,21 @@ use Rattle.x10_world.proofs.Finishing.{map_length, lines_are}
 use Rattle.x10_task.specs.declared.task.Verb.{Verb}
 use Rattle.x10_task.specs.declared.task.Verb.TheVariants as verb
 use Rattle.x10_cli.specs.Answers.{HasBegun, HasRun, Prints, Traces}
-use Rattle.x10_cli.specs.Lines.{numbered, place_lines, all_lines, bound_line, bound_lines}
+use Rattle.x10_cli.specs.Lines.{line_in, place_lines, all_lines, bound_line, bound_lines}
 
 -- one item more of a list
-lines_more : (place n : ℕ) (lines : List Line) (line : Line) → slice_get lines n ≡ Some line → place_lines place (map line_as (take (suc n) lines)) ≡ place_lines place (map line_as (take n lines)) ++ numbered place (line_as line)
-lines_more place n [] line e = absurd cc
-lines_more place zero (l ∷ ls) line e = ap (λ x. numbered place (line_as x) ++ []) (same_Some l line e) ∙ append-nil (numbered place (line_as line))
-lines_more place (suc n) (l ∷ ls) line e = ap (λ bs. numbered place (line_as l) ++ bs) (lines_more place n ls line e) ∙ sym (append_assoc (numbered place (line_as l)) (place_lines place (map line_as (take n ls))) (numbered place (line_as line)))
+lines_more : (json : Bool) (place n : ℕ) (lines : List Line) (line : Line) → slice_get lines n ≡ Some line → place_lines json place (map line_as (take (suc n) lines)) ≡ place_lines json place (map line_as (take n lines)) ++ line_in json place (line_as line)
+lines_more json place n [] line e = absurd cc
+lines_more json place zero (l ∷ ls) line e = ap (λ x. line_in json place (line_as x) ++ []) (same_Some l line e) ∙ append-nil (line_in json place (line_as line))
+lines_more json place (suc n) (l ∷ ls) line e = ap (λ bs. line_in json place (line_as l) ++ bs) (lines_more json place n ls line e) ∙ sym (append_assoc (line_in json place (line_as l)) (place_lines json place (map line_as (take n ls))) (line_in json place (line_as line)))
 
-outputs_more : (from n : ℕ) (outputs : List (List machine.Line)) (lines : List machine.Line) → slice_get outputs n ≡ Some lines → all_lines from (take (suc n) outputs) ≡ all_lines from (take n outputs) ++ place_lines (from + n) lines
-outputs_more from n [] lines e = absurd cc
-outputs_more from zero (l ∷ ls) lines e = append-nil (place_lines from l) ∙ ap (λ x. place_lines from x) (same_Some l lines e) ∙ ap (λ k. place_lines k lines) (omega arith)
-outputs_more from (suc n) (l ∷ ls) lines e =
-    ap (λ bs. place_lines from l ++ bs) (outputs_more (from + 1) n ls lines e)
-    ∙ sym (append_assoc (place_lines from l) (all_lines (from + 1) (take n ls)) (place_lines (from + 1 + n) lines))
-    ∙ ap (λ k. (place_lines from l ++ all_lines (from + 1) (take n ls)) ++ place_lines k lines) (omega arith)
+outputs_more : (json : Bool) (from n : ℕ) (outputs : List (List machine.Line)) (lines : List machine.Line) → slice_get outputs n ≡ Some lines → all_lines json from (take (suc n) outputs) ≡ all_lines json from (take n outputs) ++ place_lines json (from + n) lines
+outputs_more json from n [] lines e = absurd cc
+outputs_more json from zero (l ∷ ls) lines e = append-nil (place_lines json from l) ∙ ap (λ x. place_lines json from x) (same_Some l lines e) ∙ ap (λ k. place_lines json k lines) (omega arith)
+outputs_more json from (suc n) (l ∷ ls) lines e =
+    ap (λ bs. place_lines json from l ++ bs) (outputs_more json (from + 1) n ls lines e)
+    ∙ sym (append_assoc (place_lines json from l) (all_lines json (from + 1) (take n ls)) (place_lines json (from + 1 + n) lines))
+    ∙ ap (λ k. (place_lines json from l ++ all_lines json (from + 1) (take n ls)) ++ place_lines json k lines) (omega arith)
 
 bounds_more : (from n : ℕ) (bounds : List ℕ) (bound : ℕ) → slice_get bounds n ≡ Some bound → bound_lines from (take (suc n) bounds) ≡ bound_lines from (take n bounds) ++ bound_line (from + n) bound
 bounds_more from n [] bound e = absurd cc
@@ -49,8 +49,8 @@ bounds_more from (suc n) (b ∷ bs) bound e =
 
 -- ---- as they are written
 
-pub line_more : (a b c : Option (List ℕ)) (place n m : ℕ) (lines : List Line) (line : Line) → m ≡ suc n → slice_get lines n ≡ Some line → Appends a b (place_lines place (map line_as (take n lines))) → Appends b c (numbered place (line_as line)) → Appends a c (place_lines place (map line_as (take m lines)))
-line_more a b c place n m lines line e is before one = subst (λ k. Appends a c (place_lines place (map line_as (take k lines)))) (sym e) (subst (λ bs. Appends a c bs) (sym (lines_more place n lines line is)) (Appends-trans a b c _ _ before one))
+pub line_more : (json : Bool) (a b c : Option (List ℕ)) (place n m : ℕ) (lines : List Line) (line : Line) → m ≡ suc n → slice_get lines n ≡ Some line → Appends a b (place_lines json place (map line_as (take n lines))) → Appends b c (line_in json place (line_as line)) → Appends a c (place_lines json place (map line_as (take m lines)))
+line_more json a b c place n m lines line e is before one = subst (λ k. Appends a c (place_lines json place (map line_as (take k lines)))) (sym e) (subst (λ bs. Appends a c bs) (sym (lines_more json place n lines line is)) (Appends-trans a b c _ _ before one))
 
 pub bound_more : (a b c : Option (List ℕ)) (n m : ℕ) (bounds : List ℕ) (bound : ℕ) → m ≡ suc n → slice_get bounds n ≡ Some bound → Appends a b (bound_lines 0 (take n bounds)) → Appends b c (bound_line n bound) → Appends a c (bound_lines 0 (take m bounds))
 bound_more a b c n m bounds bound e is before one =
@@ -63,24 +63,24 @@ lines_there (q ∷ qs) zero p e = ap (λ (x : PlaceState). Some (map line_as x.l
 lines_there (q ∷ qs) (suc n) p e = lines_there qs n p e
 
 -- the lines of one place more
-outputs_on : (a b c : Option (List ℕ)) (n m : ℕ) (outputs : List (List machine.Line)) (lines : List machine.Line) → m ≡ suc n → slice_get outputs n ≡ Some lines → Appends a b (all_lines 0 (take n outputs)) → Appends b c (place_lines n lines) → Appends a c (all_lines 0 (take m outputs))
-outputs_on a b c n m outputs lines e is before one =
+outputs_on : (json : Bool) (a b c : Option (List ℕ)) (n m : ℕ) (outputs : List (List machine.Line)) (lines : List machine.Line) → m ≡ suc n → slice_get outputs n ≡ Some lines → Appends a b (all_lines json 0 (take n outputs)) → Appends b c (place_lines json n lines) → Appends a c (all_lines json 0 (take m outputs))
+outputs_on json a b c n m outputs lines e is before one =
     let at : 0 + n ≡ n = omega arith in
-    let more = outputs_more 0 n outputs lines is ∙ ap (λ k. all_lines 0 (take n outputs) ++ place_lines k lines) at in
-    subst (λ k. Appends a c (all_lines 0 (take k outputs))) (sym e) (subst (λ bs. Appends a c bs) (sym more) (Appends-trans a b c _ _ before one))
+    let more = outputs_more json 0 n outputs lines is ∙ ap (λ k. all_lines json 0 (take n outputs) ++ place_lines json k lines) at in
+    subst (λ k. Appends a c (all_lines json 0 (take k outputs))) (sym e) (subst (λ bs. Appends a c bs) (sym more) (Appends-trans a b c _ _ before one))
 
-pub output_more : (a b c : Option (List ℕ)) (n m : ℕ) (places : List PlaceState) (p : PlaceState) (lines : List Line) → m ≡ suc n → slice_get places n ≡ Some p → lines ≡ p.lines → Appends a b (all_lines 0 (take n (lines_at places))) → Appends b c (place_lines n (map line_as lines)) → Appends a c (all_lines 0 (take m (lines_at places)))
-output_more a b c n m places p lines e is same before one =
-    outputs_on a b c n m (lines_at places) (map line_as p.lines) e (lines_there places n p is) before (subst (λ ls. Appends b c (place_lines n (map line_as ls))) same one)
+pub output_more : (json : Bool) (a b c : Option (List ℕ)) (n m : ℕ) (places : List PlaceState) (p : PlaceState) (lines : List Line) → m ≡ suc n → slice_get places n ≡ Some p → lines ≡ p.lines → Appends a b (all_lines json 0 (take n (lines_at places))) → Appends b c (place_lines json n (map line_as lines)) → Appends a c (all_lines json 0 (take m (lines_at places)))
+output_more json a b c n m places p lines e is same before one =
+    outputs_on json a b c n m (lines_at places) (map line_as p.lines) e (lines_there places n p is) before (subst (λ ls. Appends b c (place_lines json n (map line_as ls))) same one)
 
 lines_read : (outputs : List (Vec Line Global)) (n : ℕ) (row : Vec Line Global) → slice_get outputs n ≡ Some row → slice_get (lines_in outputs) n ≡ Some (map line_as row.items)
 lines_read [] n row e = absurd cc
 lines_read (o ∷ os) zero row e = ap (λ (x : Vec Line Global). Some (map line_as x.items)) (same_Some o row e)
 lines_read (o ∷ os) (suc n) row e = lines_read os n row e
 
-pub report_more : (a b c : Option (List ℕ)) (n m : ℕ) (outputs : List (Vec Line Global)) (row : Vec Line Global) (lines : List Line) → m ≡ suc n → slice_get outputs n ≡ Some row → lines ≡ row.items → Appends a b (all_lines 0 (take n (lines_in outputs))) → Appends b c (place_lines n (map line_as lines)) → Appends a c (all_lines 0 (take m (lines_in outputs)))
-report_more a b c n m outputs row lines e is same before one =
-    outputs_on a b c n m (lines_in outputs) (map line_as row.items) e (lines_read outputs n row is) before (subst (λ ls. Appends b c (place_lines n (map line_as ls))) same one)
+pub report_more : (json : Bool) (a b c : Option (List ℕ)) (n m : ℕ) (outputs : List (Vec Line Global)) (row : Vec Line Global) (lines : List Line) → m ≡ suc n → slice_get outputs n ≡ Some row → lines ≡ row.items → Appends a b (all_lines json 0 (take n (lines_in outputs))) → Appends b c (place_lines json n (map line_as lines)) → Appends a c (all_lines json 0 (take m (lines_in outputs)))
+report_more json a b c n m outputs row lines e is same before one =
+    outputs_on json a b c n m (lines_in outputs) (map line_as row.items) e (lines_read outputs n row is) before (subst (λ ls. Appends b c (place_lines json n (map line_as ls))) same one)
 
 pub nothing_printed : (a : Option (List ℕ)) → Appends a a []
 nothing_printed a = Appends-nil a
@@ -139,17 +139,18 @@ pub traces_more : (x y z : WorldState) (a b c : Option (List ℕ)) (event : Even
 traces_more x y z a b c event before one makes = (before.0 ++ trace_lines z event one.0, goes_on x y z before.0 event one.0 before.1 one.1 makes, Appends-trans a b c before.0 (trace_lines z event one.0) before.2 one.2)
 
 -- what was printed stays where nothing more is written
-pub prints_kept : (v : Verb) (asked : Option ℕ) (bytes : List ℕ) (a b c : Option (List ℕ)) → Prints v asked bytes a b → Keeps b c → Prints v asked bytes a c
-prints_kept verb.Asm asked bytes a b c p k = (p.0, p.1, Appends-kept a b c _ p.2 k)
-prints_kept verb.List asked bytes a b c p k = (p.0, p.1, Appends-kept a b c _ p.2 k)
-prints_kept verb.ListVerbose asked bytes a b c p k = (p.0, p.1, p.2, p.3, p.4, Appends-kept a b c _ p.5 k)
-prints_kept verb.Check asked bytes a b c p k = (p.0, p.1, Appends-kept a b c _ p.2 k)
-prints_kept verb.Verify asked bytes a b c p k = (p.0, p.1, p.2, p.3, Appends-kept a b c _ p.4 k)
-prints_kept verb.Bounds asked bytes a b c p k = (p.0, p.1, p.2, p.3, Appends-kept a b c _ p.4 k)
-prints_kept verb.Runs asked bytes a b c p k = (p.0, (p.1.0, p.1.1, p.1.2, p.1.3, Appends-kept a b c _ p.1.4 k))
-prints_kept verb.Run asked bytes a b c p k = (p.0, p.1, p.2, p.3, Appends-kept a b c _ p.4 k)
-prints_kept verb.Draw asked bytes a b c p k = (p.0, p.1, p.2, p.3, Appends-kept a b c _ p.4 k)
-prints_kept verb.Trace asked bytes a b c p k =
+pub prints_kept : (v : Verb) (json : Bool) (asked : Option ℕ) (bytes : List ℕ) (a b c : Option (List ℕ)) → Prints v json asked bytes a b → Keeps b c → Prints v json asked bytes a c
+prints_kept verb.Asm json asked bytes a b c p k = (p.0, p.1, Appends-kept a b c _ p.2 k)
+prints_kept verb.List json asked bytes a b c p k = (p.0, p.1, p.2, p.3, Appends-kept a b c _ p.4 k)
+prints_kept verb.ListVerbose json asked bytes a b c p k = (p.0, p.1, p.2, p.3, p.4, Appends-kept a b c _ p.5 k)
+prints_kept verb.Check json asked bytes a b c p k = (p.0, p.1, Appends-kept a b c _ p.2 k)
+prints_kept verb.Verify json asked bytes a b c p k = (p.0, p.1, p.2, p.3, Appends-kept a b c _ p.4 k)
+prints_kept verb.Bounds json asked bytes a b c p k = (p.0, p.1, p.2, p.3, Appends-kept a b c _ p.4 k)
+prints_kept verb.Runs json asked bytes a b c p k = (p.0, (p.1.0, p.1.1, p.1.2, p.1.3, Appends-kept a b c _ p.1.4 k))
+prints_kept verb.Run json asked bytes a b c p k = (p.0, p.1, p.2, p.3, Appends-kept a b c _ p.4 k)
+prints_kept verb.Explain json asked bytes a b c p k = (p.0, Appends-kept a b c _ p.1 k)
+prints_kept verb.Draw json asked bytes a b c p k = (p.0, p.1, p.2, p.3, Appends-kept a b c _ p.4 k)
+prints_kept verb.Trace json asked bytes a b c p k =
     let h = p.2 in
     (p.0, p.1, record { first = h.first; last = h.last; opened = h.opened; traces = (h.traces.0, h.traces.1, Appends-kept a b c h.traces.0 h.traces.2 k); runs = h.runs; ended = h.ended })
 

@@ -99,6 +99,7 @@ CanBeDone verb.Run places bytes = (c : Certified) × IsImageOf bytes c × (IsFor
 CanBeDone verb.Runs places bytes = (c : Certified) × IsImageOf bytes c × (IsForbidden c (places_for places c) → ⊥)
 CanBeDone verb.Trace places bytes = (c : Certified) × IsImageOf bytes c × (IsForbidden c (places_for places c) → ⊥)
 CanBeDone verb.Draw places bytes = (c : Certified) × IsImageOf bytes c × (IsForbidden c (places_for places c) → ⊥)
+CanBeDone verb.Explain places bytes = Unit {0}
 
 -- how many functions a verified module has, and the bound of its entry function
 abbrev pub verdict_line : ℕ → ℕ → List ℕ
@@ -142,24 +143,29 @@ pub record HasDrawn (c : Certified) (places : ℕ) (picture : List ℕ) : Type 0
 abbrev pub PrintsRuns : Option ℕ → ℕ → List ℕ → Option (List ℕ) → Option (List ℕ) → Type 0
 PrintsRuns asked runs bytes old new = (c : Certified) × (s : FindingsState) × IsImageOf bytes c × FoundIn c (places_for asked c) runs s × Appends old new (findings_text runs s)
 
--- what is appended to what is known to be written: the image of the text's module, the listing of the image's, perhaps
--- with comments between, which is read as the module again, the verdict, the bounds of its
--- functions, the lines of a run that has ended, what many runs printed, the lines of a run's events, or its picture, at as many
--- places as were asked for
-abbrev pub Prints : Verb → Option ℕ → List ℕ → Option (List ℕ) → Option (List ℕ) → Type 0
-Prints verb.Asm asked bytes old new = (m : Module) × (module_of bytes ≡ Ok m) × Appends old new (spelling m)
-Prints verb.List asked bytes old new = (m : Module) × IsImage bytes m × Appends old new (listing m)
-Prints verb.ListVerbose asked bytes old new = (m : Module) × (text : List ℕ) × IsImage bytes m × (said text ≡ said (listing m)) × (module_of text ≡ Ok m) × Appends old new text
-Prints verb.Check asked bytes old new = (text : List ℕ) × IsChecked bytes × Appends old new text
-Prints verb.Verify asked bytes old new = (c : Certified) × (bound : ℕ) × IsImageOf bytes c × (slice_get c.bounds c.program.entry ≡ Some bound)
+-- the canonical listing of a module; of what JSON has of it nothing is said
+abbrev pub IsListing : Bool → Module → List ℕ → Type 0
+IsListing false m text = text ≡ listing m
+IsListing true m text = Unit {0}
+
+-- what is appended to what is known to be written: the image of the text's module, the listing of the image's or what JSON has of it, perhaps
+-- with comments between, which is read as the module again, the verdict, the bounds of its functions, the lines of a run that has ended, or those of its events, or its picture, at as many
+-- places as were asked for; or what is known of a cause
+abbrev pub Prints : Verb → Bool → Option ℕ → List ℕ → Option (List ℕ) → Option (List ℕ) → Type 0
+Prints verb.Asm json asked bytes old new = (m : Module) × (module_of bytes ≡ Ok m) × Appends old new (spelling m)
+Prints verb.List json asked bytes old new = (m : Module) × (text : List ℕ) × IsImage bytes m × IsListing json m text × Appends old new text
+Prints verb.ListVerbose json asked bytes old new = (m : Module) × (text : List ℕ) × IsImage bytes m × (said text ≡ said (listing m)) × (module_of text ≡ Ok m) × Appends old new text
+Prints verb.Check json asked bytes old new = (text : List ℕ) × IsChecked bytes × Appends old new text
+Prints verb.Verify json asked bytes old new = (c : Certified) × (bound : ℕ) × IsImageOf bytes c × (slice_get c.bounds c.program.entry ≡ Some bound)
     × Appends old new (verdict_line (length c.program.functions) bound)
-Prints verb.Bounds asked bytes old new = (m : Module) × (bounds : List ℕ) × IsImage bytes m × (bounds_of m ≡ Ok bounds) × Appends old new (bound_lines 0 bounds)
-Prints verb.Runs asked bytes old new = (runs : ℕ) × PrintsRuns asked runs bytes old new
-Prints verb.Trace asked bytes old new = (c : Certified) × IsImageOf bytes c × HasTraced c (places_for asked c) old new
-Prints verb.Draw asked bytes old new = (c : Certified) × (picture : List ℕ) × IsImageOf bytes c × HasDrawn c (places_for asked c) picture
+Prints verb.Bounds json asked bytes old new = (m : Module) × (bounds : List ℕ) × IsImage bytes m × (bounds_of m ≡ Ok bounds) × Appends old new (bound_lines 0 bounds)
+Prints verb.Runs json asked bytes old new = (runs : ℕ) × PrintsRuns asked runs bytes old new
+Prints verb.Trace json asked bytes old new = (c : Certified) × IsImageOf bytes c × HasTraced c (places_for asked c) old new
+Prints verb.Draw json asked bytes old new = (c : Certified) × (picture : List ℕ) × IsImageOf bytes c × HasDrawn c (places_for asked c) picture
     × Appends old new picture
-Prints verb.Run asked bytes old new = (c : Certified) × (outputs : List (List machine.Line)) × IsImageOf bytes c × HasRun c (places_for asked c) outputs
-    × Appends old new (all_lines 0 outputs)
+Prints verb.Explain json asked bytes old new = (text : List ℕ) × Appends old new text
+Prints verb.Run json asked bytes old new = (c : Certified) × (outputs : List (List machine.Line)) × IsImageOf bytes c × HasRun c (places_for asked c) outputs
+    × Appends old new (all_lines json 0 outputs)
 
 -- ---- where a command isn't done
 
@@ -200,20 +206,20 @@ LeavesRefused verb.Check old new = (text : List ℕ) × Appends old new text
 LeavesRefused _ old new = Keeps old new
 
 -- what a run leaves that stopped, if it began: the lines of its places; with threads those of a log
-abbrev pub LeavesRun : Bool → Option ℕ → List ℕ → Option (List ℕ) → Option (List ℕ) → Type 0
-LeavesRun false asked bytes old new = (c : Certified) × (outputs : List (List machine.Line)) × IsImageOf bytes c × HasBegun c (places_for asked c) outputs
-    × Appends old new (all_lines 0 outputs)
-LeavesRun true asked bytes old new = (c : Certified) × (log : List Turn) × (outputs : List (List machine.Line)) × IsImageOf bytes c
-    × AreLinesBy (places_for asked c) log outputs × Appends old new (all_lines 0 outputs)
+abbrev pub LeavesRun : Bool → Bool → Option ℕ → List ℕ → Option (List ℕ) → Option (List ℕ) → Type 0
+LeavesRun json false asked bytes old new = (c : Certified) × (outputs : List (List machine.Line)) × IsImageOf bytes c × HasBegun c (places_for asked c) outputs
+    × Appends old new (all_lines json 0 outputs)
+LeavesRun json true asked bytes old new = (c : Certified) × (log : List Turn) × (outputs : List (List machine.Line)) × IsImageOf bytes c
+    × AreLinesBy (places_for asked c) log outputs × Appends old new (all_lines json 0 outputs)
 
 -- what a command that stopped appends: nothing, or what a run left until then; a check a report, which may be empty
-abbrev pub LeavesStopped : Verb → Bool → Option ℕ → List ℕ → Option (List ℕ) → Option (List ℕ) → Type 0
-LeavesStopped verb.Run threads asked bytes old new = Keeps old new ⊎ LeavesRun threads asked bytes old new
-LeavesStopped verb.Trace threads asked bytes old new = Keeps old new ⊎ ((c : Certified) × IsImageOf bytes c × HasTracedSome c (places_for asked c) old new)
-LeavesStopped verb.Draw threads asked bytes old new = Keeps old new ⊎ ((c : Certified) × (picture : List ℕ) × IsImageOf bytes c
+abbrev pub LeavesStopped : Verb → Bool → Bool → Option ℕ → List ℕ → Option (List ℕ) → Option (List ℕ) → Type 0
+LeavesStopped verb.Run json threads asked bytes old new = Keeps old new ⊎ LeavesRun json threads asked bytes old new
+LeavesStopped verb.Trace json threads asked bytes old new = Keeps old new ⊎ ((c : Certified) × IsImageOf bytes c × HasTracedSome c (places_for asked c) old new)
+LeavesStopped verb.Draw json threads asked bytes old new = Keeps old new ⊎ ((c : Certified) × (picture : List ℕ) × IsImageOf bytes c
     × HasDrawnSome c (places_for asked c) picture × Appends old new picture)
-LeavesStopped verb.Check threads asked bytes old new = (text : List ℕ) × Appends old new text
-LeavesStopped _ threads asked bytes old new = Keeps old new
+LeavesStopped verb.Check json threads asked bytes old new = (text : List ℕ) × Appends old new text
+LeavesStopped _ json threads asked bytes old new = Keeps old new
 
 -- the module of a file: the one whose image it is, or that it spells as a text
 abbrev pub IsModuleOf : List ℕ → Module → Type 0

@@ -1,5 +1,6 @@
 -- Lines that the program prints.
-use Rattle.std.specs.Prelude.{ℕ, ◌+◌, List, [], ◌∷◌, ◌++◌, codes, decimal}
+use Rattle.json.specs.Print.{quoted}
+use Rattle.std.specs.Prelude.{ℕ, ◌+◌, Bool, true, false, List, [], ◌∷◌, ◌++◌, codes, decimal}
 use Rattle.std.specs.List.{flat_map}
 use Rattle.std.specs.Fmt.{signed_decimal}
 use Rattle.x10_model.specs.Places as machine
@@ -14,13 +15,23 @@ shown (Words text) = text
 abbrev pub numbered : ℕ → machine.Line → List ℕ
 numbered place line = decimal place ++ (codes ": " ++ (shown line ++ 10 ∷ []))
 
-abbrev pub place_lines : ℕ → List machine.Line → List ℕ
-place_lines place lines = flat_map (numbered place) lines
+-- the same as a JSON object in a line, with the number or the text as a member
+abbrev pub object_line : ℕ → machine.Line → List ℕ
+object_line place (Number z) = codes "{\"place\":" ++ (decimal place ++ (codes ",\"number\":" ++ (signed_decimal z ++ codes "}\n")))
+object_line place (Words text) = codes "{\"place\":" ++ (decimal place ++ (codes ",\"text\":" ++ (quoted text ++ codes "}\n")))
+
+-- a line of a place: as JSON, or for people
+abbrev pub line_in : Bool → ℕ → machine.Line → List ℕ
+line_in true place line = object_line place line
+line_in false place line = numbered place line
+
+abbrev pub place_lines : Bool → ℕ → List machine.Line → List ℕ
+place_lines json place lines = flat_map (line_in json place) lines
 
 -- the lines of each place, from a number on
-abbrev pub all_lines : ℕ → List (List machine.Line) → List ℕ
-all_lines place [] = []
-all_lines place (lines ∷ rest) = place_lines place lines ++ all_lines (place + 1) rest
+abbrev pub all_lines : Bool → ℕ → List (List machine.Line) → List ℕ
+all_lines json place [] = []
+all_lines json place (lines ∷ rest) = place_lines json place lines ++ all_lines json (place + 1) rest
 
 -- a function's number and its bound
 abbrev pub bound_line : ℕ → ℕ → List ℕ

@@ -14,7 +14,7 @@ use Rattle.x10_cli.specs.Lines.{all_lines}
 
 -- a text is what a world had printed where a run from it ended, or where it was at its limit
 abbrev pub IsOutput : WorldState → Bool → List ℕ → Type 0
-IsOutput x ended text = (y : WorldState) × RunsTo x y × (ended ≡ true → HasEnded y) × (text ≡ all_lines 0 (lines_at y.places))
+IsOutput x ended text = (y : WorldState) × RunsTo x y × (ended ≡ true → HasEnded y) × (text ≡ all_lines false 0 (lines_at y.places))
 
 -- What so many runs of a module printed, from its beginning at so many places: the runs with the seeds 1, 2 and so on were
 -- counted one after another.

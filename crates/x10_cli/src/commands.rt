@@ -1,8 +1,8 @@
 //! What each command does, given an image's bytes and a writer.
 ghost use Rattle.std.specs.Prelude.{false, ◌≡◌, ◌≢◌, ◌⊎◌, ℕ, List, Option, IfOk, IfErr, OnOk, None, map};
 ghost use Rattle.std.specs.Io.KnownBytes.{Appends, Keeps};
+ghost use Rattle.std.specs.String.{string_bytes};
 ghost use Rattle.x10_model.specs.Modules.{Module};
-ghost use Rattle.x10_place.specs.StandsFor.{line_as};
 ghost use Rattle.x10_world.specs.Endings.{IsImageOf, lines_at};
 ghost use Rattle.x10_world.specs.Opening.{IsForbidden, IsOpenedWorld};
 ghost use Rattle.x10_model.specs.Worlds as machine;
@@ -11,29 +11,30 @@ ghost use Rattle.x10_world.specs.Happenings.{IsDone};
 ghost use Rattle.x10_world.specs.Rounds.{HasEnded, RunsTo};
 ghost use Rattle.x10_world.specs.StandsForWorld.{StandsForWorld, KeepsSetting, Makes};
 ghost use Rattle.x10_trace.specs.Trace.{trace_lines};
-ghost use Rattle.x10_cli.specs.Lines.{numbered, place_lines, all_lines};
+ghost use Rattle.x10_cli.specs.Lines.{all_lines};
 ghost use Rattle.x10_task.specs.declared.task.Verb.TheVariants as verb;
 ghost use Rattle.x10_cli.specs.declared.fault.Fault.TheVariants as fault;
-ghost use Rattle.x10_cli.specs.Answers.{IsImage, IsVerifiedImage, IsVerifying, CanBeDone, IsStatus, IsDue, Prints, PrintsRuns, Traces, TracesSome, LeavesRefused, LeavesStopped, places_for, status_of};
+ghost use Rattle.x10_cli.specs.Answers.{IsImage, IsListing, IsVerifiedImage, IsVerifying, CanBeDone, IsStatus, IsDue, Prints, PrintsRuns, Traces, TracesSome, LeavesRefused, LeavesStopped, places_for, status_of};
 ghost use Rattle.x10_cli.specs.Telling.{SaysFault, Tells, fault_line};
 
+use crate::cause::print_section;
 use crate::checking::print_check;
 use crate::explain::explanation;
 use crate::fault::Fault;
+use crate::lines::print_outputs;
 use crate::picture::print_picture;
 use crate::runs::print_runs;
 use crate::schedule::schedule_of;
 use crate::threads::print_threaded;
-use std::alloc::Global;
+use std::alloc::{AllocError, Global};
 use std::io::Write;
 use std::sync::Wait;
 use std::thread::Threads;
 use x10_asm::{assemble, list};
 use x10_bounds::bounds;
-use x10_explain::list_verbose;
+use x10_explain::{list_json, list_verbose};
 use x10_image::ImageView;
 use x10_model::Event;
-use x10_place::Line;
 use x10_schedule::{Schedule, Scheduler, run_by};
 use x10_task::{Task, Verb};
 use x10_trace::trace_line;
@@ -46,23 +47,25 @@ use x10_world::World;
 /// where the task says so, lines that explain it; at status 1 it is the fault that is due. At status 2 a run has printed what
 /// it had printed until then, or nothing, and the other commands nothing; for a run with threads these are the lines of the
 /// turns in its log, where the fault is `Turns` or a stop, and none where it is another. With threads it may wait: nothing is
-/// promised about when, or whether, it returns then.
+/// promised about when, or whether, it returns then. `source` is the text from which the bytes of an image were assembled, if
+/// they were: then explanations name its lines. For `explain` the bytes are the name of a cause.
 pub fn execute<R: Threads + Wait + Sync, O: Write, E: Write>(
     rt: &R,
     alloc: Global,
     task: &Task,
     bytes: &[u8],
+    source: Option<&str>,
     out: &mut O,
     err: &mut E,
 ) -> u8
     ensures status { IsStatus result }
     ensures done { result ≡ 0 → CanBeDone task.now.verb task.now.places bytes.now }
-    ensures printed { result ≡ 0 → Prints task.now.verb task.now.places bytes.now (O.contents out.old) (O.contents out.new) }
+    ensures printed { result ≡ 0 → Prints task.now.verb task.now.json task.now.places bytes.now (O.contents out.old) (O.contents out.new) }
     ensures counted { result ≡ 0 → task.now.verb ≡ verb.Runs → PrintsRuns task.now.places task.now.seeds bytes.now (O.contents out.old) (O.contents out.new) }
     ensures verified { result ≡ 0 → IsVerifying task.now.verb → IsVerifiedImage bytes.now }
     ensures refused { result ≡ 1 → CanBeDone task.now.verb task.now.places bytes.now → ⊥ }
     ensures left_refused { result ≡ 1 → LeavesRefused task.now.verb (O.contents out.old) (O.contents out.new) }
-    ensures left_stopped { result ≡ 2 → LeavesStopped task.now.verb task.now.threads task.now.places bytes.now (O.contents out.old) (O.contents out.new) }
+    ensures left_stopped { result ≡ 2 → LeavesStopped task.now.verb task.now.json task.now.threads task.now.places bytes.now (O.contents out.old) (O.contents out.new) }
     ensures told { (result ≡ 1) ⊎ (result ≡ 2) → Tells task.now.explain task.now.places bytes.now result (E.contents err.old) (E.contents err.new) }
 {
     let done = perform(rt, alloc, task, bytes, out);
@@ -71,12 +74,19 @@ pub fn execute<R: Threads + Wait + Sync, O: Write, E: Write>(
     }
     match done {
         Ok(()) => 0,
-        Err(fault) => refuse(alloc, task, bytes, fault, err),
+        Err(fault) => refuse(alloc, task, bytes, source, fault, err),
     }
 }
 
 /// Reports a fault, and what is asked for besides its line. Where there is no memory for that, its line has to do.
-fn refuse<E: Write>(alloc: Global, task: &Task, bytes: &[u8], fault: Fault, err: &mut E) -> u8
+fn refuse<E: Write>(
+    alloc: Global,
+    task: &Task,
+    bytes: &[u8],
+    source: Option<&str>,
+    fault: Fault,
+    err: &mut E,
+) -> u8
     ensures status { (result ≡ status_of fault) ⊎ (result ≡ 4) }
     ensures told { result ≢ 4 → SaysFault task.now.explain fault (E.contents err.old) (E.contents err.new) }
 {
@@ -84,7 +94,7 @@ fn refuse<E: Write>(alloc: Global, task: &Task, bytes: &[u8], fault: Fault, err:
     if !task.explain {
         return status;
     }
-    let Ok(text) = explanation(alloc, task, bytes, fault) else {
+    let Ok(text) = explanation(alloc, task, bytes, source, fault) else {
         return status;
     };
     match err.write_all(text.as_bytes()) {
@@ -113,18 +123,18 @@ fn perform<R: Threads + Wait + Sync, O: Write>(
     out: &mut O,
 ) -> Result<(), Fault>
     ensures done { IfOk result (λ _. CanBeDone task.now.verb task.now.places bytes.now) }
-    ensures printed { OnOk result (Prints task.now.verb task.now.places bytes.now (O.contents out.old) (O.contents out.new)) }
+    ensures printed { OnOk result (Prints task.now.verb task.now.json task.now.places bytes.now (O.contents out.old) (O.contents out.new)) }
     ensures counted { OnOk result (task.now.verb ≡ verb.Runs → PrintsRuns task.now.places task.now.seeds bytes.now (O.contents out.old) (O.contents out.new)) }
     ensures refused { IfErr result (λ e. status_of e ≡ 1 → CanBeDone task.now.verb task.now.places bytes.now → ⊥) }
     ensures due { IfErr result (IsDue task.now.places bytes.now) }
     ensures left_refused { IfErr result (λ e. status_of e ≡ 1 → LeavesRefused task.now.verb (O.contents out.old) (O.contents out.new)) }
-    ensures left_stopped { IfErr result (λ e. status_of e ≡ 2 → LeavesStopped task.now.verb task.now.threads task.now.places bytes.now (O.contents out.old) (O.contents out.new)) }
+    ensures left_stopped { IfErr result (λ e. status_of e ≡ 2 → LeavesStopped task.now.verb task.now.json task.now.threads task.now.places bytes.now (O.contents out.old) (O.contents out.new)) }
 {
     match task.verb {
         Verb::Asm => print_image(alloc, bytes, out),
-        Verb::List => print_listing(alloc, bytes, out),
+        Verb::List => print_listing(alloc, task, bytes, out),
         Verb::ListVerbose => print_verbose(alloc, bytes, out),
-        Verb::Check => print_check(alloc, bytes, out),
+        Verb::Check => print_check(alloc, task, bytes, out),
         Verb::Verify => print_verdict(alloc, bytes, out),
         Verb::Bounds => print_bounds(alloc, bytes, out),
         Verb::Run if task.threads => print_threaded(rt, alloc, task, bytes, out),
@@ -132,6 +142,7 @@ fn perform<R: Threads + Wait + Sync, O: Write>(
         Verb::Runs => print_runs(alloc, task, bytes, out),
         Verb::Trace => print_trace(alloc, task, bytes, out),
         Verb::Draw => print_picture(alloc, task, bytes, out),
+        Verb::Explain => print_section(bytes, out),
     }
 }
 
@@ -157,7 +168,7 @@ pub(crate) fn verified_in<'a>(alloc: Global, bytes: &'a [u8]) -> Result<Verified
 /// The image that a text spells.
 fn print_image<O: Write>(alloc: Global, bytes: &[u8], out: &mut O) -> Result<(), Fault>
     ensures done { IfOk result (λ _. CanBeDone verb.Asm None bytes.now) }
-    ensures printed { OnOk result (Prints verb.Asm None bytes.now (O.contents out.old) (O.contents out.new)) }
+    ensures printed { OnOk result (Prints verb.Asm false None bytes.now (O.contents out.old) (O.contents out.new)) }
     ensures refused { IfErr result (λ e. status_of e ≡ 1 → CanBeDone verb.Asm None bytes.now → ⊥) }
     ensures due { (asked : Option ℕ) → IfErr result (IsDue asked bytes.now) }
     ensures kept { IfErr result (λ e. (e ≡ fault.File) ⊎ Keeps (O.contents out.old) (O.contents out.new)) }
@@ -169,23 +180,38 @@ fn print_image<O: Write>(alloc: Global, bytes: &[u8], out: &mut O) -> Result<(),
     Ok(())
 }
 
-fn print_listing<O: Write>(alloc: Global, bytes: &[u8], out: &mut O) -> Result<(), Fault>
+/// The canonical listing, or what JSON has of the module.
+fn print_listing<O: Write>(
+    alloc: Global,
+    task: &Task,
+    bytes: &[u8],
+    out: &mut O,
+) -> Result<(), Fault>
     ensures done { IfOk result (λ _. CanBeDone verb.List None bytes.now) }
-    ensures printed { OnOk result (Prints verb.List None bytes.now (O.contents out.old) (O.contents out.new)) }
+    ensures printed { OnOk result (Prints verb.List task.now.json None bytes.now (O.contents out.old) (O.contents out.new)) }
     ensures refused { IfErr result (λ e. status_of e ≡ 1 → CanBeDone verb.List None bytes.now → ⊥) }
     ensures due { (asked : Option ℕ) → IfErr result (IsDue asked bytes.now) }
     ensures kept { IfErr result (λ e. (e ≡ fault.File) ⊎ Keeps (O.contents out.old) (O.contents out.new)) }
 {
     let image = image_of(alloc, bytes)?;
-    let listing = list(alloc, &image)?;
+    let listing = listing_of(alloc, task, &image)?;
     out.write_all(listing.as_bytes())?;
     Ok(())
+}
+
+fn listing_of(alloc: Global, task: &Task, image: &ImageView) -> Result<String, AllocError>
+    ensures { IfOk result (λ s. IsListing task.now.json image.now (string_bytes s)) }
+{
+    if task.json {
+        return list_json(alloc, image, task.input);
+    }
+    list(alloc, image)
 }
 
 /// The listing with what the verifier knows.
 fn print_verbose<O: Write>(alloc: Global, bytes: &[u8], out: &mut O) -> Result<(), Fault>
     ensures done { IfOk result (λ _. CanBeDone verb.ListVerbose None bytes.now) }
-    ensures printed { OnOk result (Prints verb.ListVerbose None bytes.now (O.contents out.old) (O.contents out.new)) }
+    ensures printed { OnOk result (Prints verb.ListVerbose false None bytes.now (O.contents out.old) (O.contents out.new)) }
     ensures refused { IfErr result (λ e. status_of e ≡ 1 → CanBeDone verb.ListVerbose None bytes.now → ⊥) }
     ensures due { (asked : Option ℕ) → IfErr result (IsDue asked bytes.now) }
     ensures kept { IfErr result (λ e. (e ≡ fault.File) ⊎ Keeps (O.contents out.old) (O.contents out.new)) }
@@ -198,7 +224,7 @@ fn print_verbose<O: Write>(alloc: Global, bytes: &[u8], out: &mut O) -> Result<(
 
 fn print_verdict<O: Write>(alloc: Global, bytes: &[u8], out: &mut O) -> Result<(), Fault>
     ensures done { IfOk result (λ _. IsVerifiedImage bytes.now) }
-    ensures printed { OnOk result (Prints verb.Verify None bytes.now (O.contents out.old) (O.contents out.new)) }
+    ensures printed { OnOk result (Prints verb.Verify false None bytes.now (O.contents out.old) (O.contents out.new)) }
     ensures refused { IfErr result (λ e. status_of e ≡ 1 → IsVerifiedImage bytes.now → ⊥) }
     ensures due { (asked : Option ℕ) → IfErr result (IsDue asked bytes.now) }
     ensures kept { IfErr result (λ e. (e ≡ fault.File) ⊎ Keeps (O.contents out.old) (O.contents out.new)) }
@@ -213,7 +239,7 @@ fn print_verdict<O: Write>(alloc: Global, bytes: &[u8], out: &mut O) -> Result<(
 
 fn print_bounds<O: Write>(alloc: Global, bytes: &[u8], out: &mut O) -> Result<(), Fault>
     ensures done { IfOk result (λ _. CanBeDone verb.Bounds None bytes.now) }
-    ensures printed { OnOk result (Prints verb.Bounds None bytes.now (O.contents out.old) (O.contents out.new)) }
+    ensures printed { OnOk result (Prints verb.Bounds false None bytes.now (O.contents out.old) (O.contents out.new)) }
     ensures refused { IfErr result (λ e. status_of e ≡ 1 → CanBeDone verb.Bounds None bytes.now → ⊥) }
     ensures due { (asked : Option ℕ) → IfErr result (IsDue asked bytes.now) }
     ensures kept { IfErr result (λ e. (e ≡ fault.File) ⊎ Keeps (O.contents out.old) (O.contents out.new)) }
@@ -230,15 +256,16 @@ fn print_bounds<O: Write>(alloc: Global, bytes: &[u8], out: &mut O) -> Result<()
 /// Runs a module, and prints what its places printed, even where the run stops before its end.
 fn print_run<O: Write>(alloc: Global, task: &Task, bytes: &[u8], out: &mut O) -> Result<(), Fault>
     ensures done { IfOk result (λ _. CanBeDone verb.Run task.now.places bytes.now) }
-    ensures printed { OnOk result (Prints verb.Run task.now.places bytes.now (O.contents out.old) (O.contents out.new)) }
+    ensures printed { OnOk result (Prints verb.Run task.now.json task.now.places bytes.now (O.contents out.old) (O.contents out.new)) }
     ensures refused { IfErr result (λ e. status_of e ≡ 1 → CanBeDone verb.Run task.now.places bytes.now → ⊥) }
     ensures due { IfErr result (IsDue task.now.places bytes.now) }
     ensures refused_early { IfErr result (λ e. status_of e ≡ 1 → Keeps (O.contents out.old) (O.contents out.new)) }
-    ensures stopped { IfErr result (λ e. status_of e ≡ 2 → LeavesStopped verb.Run false task.now.places bytes.now (O.contents out.old) (O.contents out.new)) }
+    ensures stopped { IfErr result (λ e. status_of e ≡ 2 → LeavesStopped verb.Run task.now.json false task.now.places bytes.now (O.contents out.old) (O.contents out.new)) }
 {
     let verified = verified_in(alloc, bytes)?;
     let mut world = opened(alloc, task.places, &verified)?;
-    print_scheduled(alloc, &mut world, schedule_of(task), task.limit, out)
+    let schedule = schedule_of(task);
+    print_scheduled(alloc, &mut world, schedule, task.limit, task.json, out)
 }
 
 /// The world in which a run begins, at as many places as were asked for.
@@ -263,27 +290,28 @@ fn print_scheduled<O: Write>(
     world: &mut World,
     schedule: Schedule,
     limit: u64,
+    json: bool,
     out: &mut O,
 ) -> Result<(), Fault>
     ensures runs { RunsTo world.old world.new }
     ensures ended { OnOk result (HasEnded world.new) }
-    ensures printed { OnOk result (Appends (O.contents out.old) (O.contents out.new) (all_lines 0 (lines_at world.new.places))) }
-    ensures stopped { IfErr result (λ e. (e ≡ fault.File) ⊎ Appends (O.contents out.old) (O.contents out.new) (all_lines 0 (lines_at world.new.places))) }
+    ensures printed { OnOk result (Appends (O.contents out.old) (O.contents out.new) (all_lines json 0 (lines_at world.new.places))) }
+    ensures stopped { IfErr result (λ e. (e ≡ fault.File) ⊎ Keeps (O.contents out.old) (O.contents out.new) ⊎ Appends (O.contents out.old) (O.contents out.new) (all_lines json 0 (lines_at world.new.places))) }
     ensures status { IfErr result (λ e. status_of e ≢ 1) }
 {
     let ended = run_by(alloc, world, schedule, limit);
-    print_outputs(world, out)?;
+    print_outputs(alloc, world, json, out)?;
     Ok(ended?)
 }
 
 /// Runs a module, and prints the lines of each event when it has happened.
 fn print_trace<O: Write>(alloc: Global, task: &Task, bytes: &[u8], out: &mut O) -> Result<(), Fault>
     ensures done { IfOk result (λ _. CanBeDone verb.Trace task.now.places bytes.now) }
-    ensures printed { OnOk result (Prints verb.Trace task.now.places bytes.now (O.contents out.old) (O.contents out.new)) }
+    ensures printed { OnOk result (Prints verb.Trace false task.now.places bytes.now (O.contents out.old) (O.contents out.new)) }
     ensures refused { IfErr result (λ e. status_of e ≡ 1 → CanBeDone verb.Trace task.now.places bytes.now → ⊥) }
     ensures due { IfErr result (IsDue task.now.places bytes.now) }
     ensures refused_early { IfErr result (λ e. status_of e ≡ 1 → Keeps (O.contents out.old) (O.contents out.new)) }
-    ensures stopped { IfErr result (λ e. status_of e ≡ 2 → LeavesStopped verb.Trace false task.now.places bytes.now (O.contents out.old) (O.contents out.new)) }
+    ensures stopped { IfErr result (λ e. status_of e ≡ 2 → LeavesStopped verb.Trace false false task.now.places bytes.now (O.contents out.old) (O.contents out.new)) }
 {
     let verified = verified_in(alloc, bytes)?;
     let mut world = opened(alloc, task.places, &verified)?;
@@ -337,20 +365,6 @@ fn print_event<O: Write>(
     Ok(())
 }
 
-/// The lines of each place.
-pub(crate) fn print_outputs<O: Write>(world: &World, out: &mut O) -> Result<(), Fault>
-    ensures ok { OnOk result (Appends (O.contents out.old) (O.contents out.new) (all_lines 0 (lines_at world.now.places))) }
-    ensures err { IfErr result (λ e. e ≡ fault.File) }
-{
-    for place in 0..world.count() {
-        match world.output(place) {
-            Some(lines) => print_lines(usize::from(place), lines, out)?,
-            None => {}
-        }
-    }
-    Ok(())
-}
-
 /// How many places a run has.
 pub(crate) fn places_of(asked: Option<u16>, verified: &Verified) -> u16
     ensures { result ≡ places_for asked verified.now }
@@ -359,27 +373,4 @@ pub(crate) fn places_of(asked: Option<u16>, verified: &Verified) -> u16
         Some(places) => places,
         None => verified.image().least(),
     }
-}
-
-/// The lines of a place, each with its number.
-pub(crate) fn print_lines<O: Write>(place: usize, lines: &[Line], out: &mut O) -> Result<(), Fault>
-    ensures ok { OnOk result (Appends (O.contents out.old) (O.contents out.new) (place_lines place (map line_as lines.now))) }
-    ensures err { IfErr result (λ e. e ≡ fault.File) }
-{
-    for line in lines {
-        print_line(place, line, out)?;
-    }
-    Ok(())
-}
-
-/// A line of a place.
-fn print_line<O: Write>(place: usize, line: &Line, out: &mut O) -> Result<(), Fault>
-    ensures ok { OnOk result (Appends (O.contents out.old) (O.contents out.new) (numbered place (line_as line.now))) }
-    ensures err { IfErr result (λ e. e ≡ fault.File) }
-{
-    match line {
-        Line::Int(number) => writeln!(out, "{place}: {number}")?,
-        Line::Text(text) => writeln!(out, "{place}: {text}")?,
-    }
-    Ok(())
 }

@@ -4,26 +4,28 @@ use crate::fault::Fault;
 use std::alloc::{AllocError, Global};
 use x10_asm::AsmFault;
 use x10_bounds::{BoundFault, bounds};
-use x10_explain::{explain_asm, explain_image, explain_verify};
+use x10_explain::{explain_asm_in, explain_image, explain_verify, explain_verify_in};
 use x10_image::ImageView;
 use x10_model::limits::MOST_WIDE;
 use x10_task::{Task, Verb};
 use x10_verify::{VerifyCause, VerifyFault};
 
-/// Sentences on a fault of a task over the bytes of its file, a line each; none where there is nothing to add.
+/// Sentences on a fault of a task over the bytes of its file, a line each; none where there is nothing to add. Where they were
+/// assembled from a text, its lines are named.
 pub(crate) fn explanation(
     alloc: Global,
     task: &Task,
     bytes: &[u8],
+    source: Option<&str>,
     fault: Fault,
 ) -> Result<String, AllocError> {
     match fault {
         // a check has said all of this
         _ if task.verb == Verb::Check && fault.status() == 1 => Ok(String::new(alloc)),
-        Fault::Asm(fault) => of_asm(alloc, bytes, fault),
+        Fault::Asm(fault) => of_asm(alloc, task, bytes, fault),
         Fault::Image(fault) => explain_image(alloc, bytes, fault),
-        Fault::Verify(fault) => of_verify(alloc, bytes, fault),
-        Fault::Bounds(fault) => of_verify(alloc, bytes, structure(fault)),
+        Fault::Verify(fault) => of_verify(alloc, task, bytes, source, fault),
+        Fault::Bounds(fault) => of_verify(alloc, task, bytes, source, structure(fault)),
         Fault::Places => of_places(alloc, task, bytes),
         Fault::Memory => line(alloc, "The system gives no more memory to the program."),
         Fault::StopMemory => of_memory(alloc, task, bytes),
@@ -37,17 +39,26 @@ pub(crate) fn explanation(
     }
 }
 
-fn of_asm(alloc: Global, bytes: &[u8], fault: AsmFault) -> Result<String, AllocError> {
+fn of_asm(alloc: Global, task: &Task, bytes: &[u8], fault: AsmFault) -> Result<String, AllocError> {
     match str::from_utf8(bytes) {
-        Ok(text) => explain_asm(alloc, text, fault),
+        Ok(text) => explain_asm_in(alloc, task.input, text, fault),
         Err(_) => Ok(String::new(alloc)),
     }
 }
 
-fn of_verify(alloc: Global, bytes: &[u8], fault: VerifyFault) -> Result<String, AllocError> {
-    match ImageView::read(alloc, bytes) {
-        Ok(image) => explain_verify(alloc, &image, fault),
-        Err(_) => Err(AllocError),
+fn of_verify(
+    alloc: Global,
+    task: &Task,
+    bytes: &[u8],
+    source: Option<&str>,
+    fault: VerifyFault,
+) -> Result<String, AllocError> {
+    let Ok(image) = ImageView::read(alloc, bytes) else {
+        return Err(AllocError);
+    };
+    match source {
+        Some(text) => explain_verify_in(alloc, &image, task.input, text, fault),
+        None => explain_verify(alloc, &image, fault),
     }
 }
 

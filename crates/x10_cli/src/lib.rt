@@ -1,10 +1,12 @@
 //! The program's commands: the work that a task asks for, over bytes and writers.
 #![tactic(auto)]
 
+mod cause;
 mod checking;
 mod commands;
 mod explain;
 mod fault;
+mod lines;
 mod picture;
 mod runs;
 mod schedule;

@@ -27,11 +27,11 @@ pub(crate) fn print_picture<O: Write>(
     out: &mut O,
 ) -> Result<(), Fault>
     ensures done { IfOk result (λ _. CanBeDone verb.Draw task.now.places bytes.now) }
-    ensures printed { OnOk result (Prints verb.Draw task.now.places bytes.now (O.contents out.old) (O.contents out.new)) }
+    ensures printed { OnOk result (Prints verb.Draw false task.now.places bytes.now (O.contents out.old) (O.contents out.new)) }
     ensures refused { IfErr result (λ e. status_of e ≡ 1 → CanBeDone verb.Draw task.now.places bytes.now → ⊥) }
     ensures due { IfErr result (IsDue task.now.places bytes.now) }
     ensures refused_early { IfErr result (λ e. status_of e ≡ 1 → Keeps (O.contents out.old) (O.contents out.new)) }
-    ensures stopped { IfErr result (λ e. status_of e ≡ 2 → LeavesStopped verb.Draw false task.now.places bytes.now (O.contents out.old) (O.contents out.new)) }
+    ensures stopped { IfErr result (λ e. status_of e ≡ 2 → LeavesStopped verb.Draw false false task.now.places bytes.now (O.contents out.old) (O.contents out.new)) }
 {
     let verified = verified_in(alloc, bytes)?;
     let mut world = opened(alloc, task.places, &verified)?;

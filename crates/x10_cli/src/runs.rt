@@ -8,8 +8,9 @@ ghost use Rattle.x10_cli.specs.declared.fault.Fault.TheVariants as fault;
 ghost use Rattle.x10_cli.specs.Answers.{CanBeDone, IsDue, PrintsRuns, places_for, status_of};
 ghost use Rattle.x10_cli.specs.Runs.{FoundIn, IsOutput, end_text, findings_text, head_of, often};
 
-use crate::commands::{opened, print_outputs, verified_in};
+use crate::commands::{opened, verified_in};
 use crate::fault::Fault;
+use crate::lines::print_outputs;
 use std::alloc::Global;
 use std::io::Write;
 use x10_findings::{Finding, Findings};
@@ -71,7 +72,7 @@ fn output_by(
         Err(why) => return Err(why.into()),
     };
     let mut output = Vec::new(alloc);
-    match print_outputs(world, &mut output) {
+    match print_outputs(alloc, world, false, &mut output) {
         Ok(()) => Ok((output, ended)),
         Err(_) => Err(Fault::Memory),
     }

@@ -60,6 +60,14 @@ asm_word asm.Memory = codes "Memory"
 abbrev pub asm_head : AsmFault → List ℕ
 asm_head fault = asm_word fault.cause ++ (codes ", line " ++ (decimal fault.line ++ codes ": "))
 
+-- where a fault is in a text, in the form that editors jump to
+abbrev pub placed : List ℕ → ℕ → ℕ → List ℕ
+placed name line column = name ++ (codes ":" ++ (decimal line ++ (codes ":" ++ (decimal column ++ codes ": "))))
+
+-- the same, and the cause
+abbrev pub placed_asm_head : List ℕ → ℕ → AsmFault → List ℕ
+placed_asm_head name column fault = name ++ (codes ":" ++ (decimal fault.line ++ (codes ":" ++ (decimal column ++ (codes ": " ++ (asm_word fault.cause ++ codes ": "))))))
+
 -- ---- of an image
 
 abbrev pub image_word : ImageFault → List ℕ

@@ -1,9 +1,9 @@
 //! Why the assembler refuses a text.
 ghost use Rattle.std.specs.Prelude.{◌≡◌, ◌++◌, List, ℕ, IfOk, OnOk, IsUtf8};
 ghost use Rattle.std.specs.String.{string_bytes};
-ghost use Rattle.x10_explain.specs.Heads.{asm_head};
+ghost use Rattle.x10_explain.specs.Heads.{asm_head, placed_asm_head};
 
-use crate::caret::{Span, push_marks, quoted};
+use crate::caret::{Span, column_in, push_marks, quoted};
 use crate::flaws::push_flaw;
 use crate::labels::{push_definition, push_use};
 use crate::limits::{push_entry, push_limit};
@@ -28,6 +28,45 @@ pub fn explain_asm(alloc: Global, text: &str, fault: AsmFault) -> Result<String,
     Ok(out)
 }
 
+/// The same, but the text's name, the line, and the column of the word at fault come first, in the form that editors jump to:
+/// `first.asm:6:3: Number: `. Columns are counted in characters, from 1 on.
+pub fn explain_asm_in(
+    alloc: Global,
+    name: &str,
+    text: &str,
+    fault: AsmFault,
+) -> Result<String, AllocError>
+    ensures { IfOk result (λ s. (column : ℕ) × (rest : List ℕ) × (string_bytes s ≡ placed_asm_head name.now column fault ++ rest)) }
+{
+    let mut out = String::new(alloc);
+    push_placed_head(&mut out, name, column_of(text, fault), fault)?;
+    let rest = reasons(alloc, text, fault, out.chars().count())?;
+    out.push_str(&rest)?;
+    Ok(out)
+}
+
+// The text's name, the line and the column, and the cause.
+fn push_placed_head(
+    out: &mut String,
+    name: &str,
+    column: usize,
+    fault: AsmFault,
+) -> Result<(), AllocError>
+    ensures { OnOk result (string_bytes out.new ≡ string_bytes out.old ++ placed_asm_head name.now column fault) }
+{
+    let (word, number) = (asm_name(fault.cause), fault.line);
+    write!(out, "{name}:{number}:{column}: {word}: ")
+}
+
+/// The column of the word at fault, in characters, from 1 on.
+pub(crate) fn column_of(text: &str, fault: AsmFault) -> usize {
+    let Some(line) = line_at(text, fault.line) else {
+        return 1;
+    };
+    let flaw = flaw_of(line, classes_for(text, line), version_in(text));
+    column_in(line, fault.cause, flaw, quotes_in(line, fault.cause))
+}
+
 // The cause and the line's number.
 fn push_head(out: &mut String, fault: AsmFault) -> Result<(), AllocError>
     ensures { OnOk result (string_bytes out.new ≡ string_bytes out.old ++ asm_head fault) }
@@ -37,7 +76,7 @@ fn push_head(out: &mut String, fault: AsmFault) -> Result<(), AllocError>
     write!(out, "{word}, line {line}: ")
 }
 
-// The line itself, to the right of the cause and its number, which take `before` bytes, and what comes below it.
+// The line itself, to the right of what stands there already, `before` columns, and what comes below it.
 fn reasons(
     alloc: Global,
     text: &str,
@@ -76,6 +115,15 @@ fn classes_for(text: &str, line: &str) -> usize {
     }
 }
 
+// What is wrong with the quotes of a line that is refused for them.
+fn quotes_in(line: &str, cause: AsmCause) -> Option<(Misquoted, Span)> {
+    if cause == AsmCause::Text {
+        quoted(line)
+    } else {
+        None
+    }
+}
+
 // A line of a text, to the right of `before` bytes that stand there already, with marks beneath the word at fault, and what
 // is wrong with it.
 fn push_line(
@@ -89,11 +137,7 @@ fn push_line(
 ) -> Result<(), AllocError> {
     push_shown(out, line)?;
     let flaw = flaw_of(line, classes, version_in(text));
-    let quotes = if fault.cause == AsmCause::Text {
-        quoted(line)
-    } else {
-        None
-    };
+    let quotes = quotes_in(line, fault.cause);
     push_marks(out, before, line, fault.cause, flaw, quotes)?;
     match flaw {
         Some(flaw) if flaw.cause == fault.cause => push_flaw(alloc, out, line, flaw, classes),
@@ -156,6 +200,14 @@ fn push_label(
 /// The greatest number of faulty lines that are explained after the first: each has 4 lines at most.
 const MOST_LINES: usize = 6;
 
+/// A line that is faulty by itself, in a text that has so many classes as far as the line may name one.
+#[derive(Clone, Copy)]
+pub(crate) struct Faulty<'a> {
+    pub(crate) fault: AsmFault,
+    line: &'a str,
+    classes: usize,
+}
+
 /// The lines after a faulty one that are faulty by themselves, each explained.
 pub(crate) fn push_others(
     alloc: Global,
@@ -163,28 +215,47 @@ pub(crate) fn push_others(
     text: &str,
     first: usize,
 ) -> Result<(), AllocError> {
-    let version = version_in(text);
-    let mut classes: Option<usize> = None;
-    let mut told: usize = 0;
-    for (index, line) in text.lines().enumerate().skip(first) {
-        if names_class(line) && classes.is_none() {
-            classes = Some(classes_in(text));
-        }
-        let count = classes.unwrap_or(0);
-        let Some(flaw) = flaw_of(line, count, version) else {
-            continue;
-        };
+    let others = others_in(alloc, text, first)?;
+    for (told, other) in others.iter().enumerate() {
         if told >= MOST_LINES {
             return out.push_str("and there are more faulty lines\n");
         }
-        told = told.saturating_add(1);
+        push_other(alloc, out, text, *other)?;
+    }
+    Ok(())
+}
+
+/// The first lines after a faulty one that are faulty by themselves, with one more than are explained.
+pub(crate) fn others_in<'a>(
+    alloc: Global,
+    text: &'a str,
+    first: usize,
+) -> Result<Vec<Faulty<'a>>, AllocError> {
+    let version = version_in(text);
+    let mut others = Vec::new(alloc);
+    let mut known: Option<usize> = None;
+    for (index, line) in text.lines().enumerate().skip(first) {
+        if names_class(line) && known.is_none() {
+            known = Some(classes_in(text));
+        }
+        let classes = known.unwrap_or(0);
+        let Some(flaw) = flaw_of(line, classes, version) else {
+            continue;
+        };
         let fault = AsmFault {
             line: index.saturating_add(1),
             cause: flaw.cause,
         };
-        push_other(alloc, out, text, line, fault, count)?;
+        others.push(Faulty {
+            fault,
+            line,
+            classes,
+        })?;
+        if others.len() > MOST_LINES {
+            break;
+        }
     }
-    Ok(())
+    Ok(others)
 }
 
 // A faulty line, with its cause and its number.
@@ -192,12 +263,18 @@ fn push_other(
     alloc: Global,
     out: &mut String,
     text: &str,
-    line: &str,
-    fault: AsmFault,
-    classes: usize,
+    other: Faulty,
 ) -> Result<(), AllocError> {
     let before = out.len();
-    push_head(out, fault)?;
+    push_head(out, other.fault)?;
     let wide = out.len().saturating_sub(before);
-    push_line(alloc, out, wide, text, line, fault, classes)
+    push_line(
+        alloc,
+        out,
+        wide,
+        text,
+        other.line,
+        other.fault,
+        other.classes,
+    )
 }

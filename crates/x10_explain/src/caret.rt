@@ -33,6 +33,39 @@ pub(crate) fn push_marks(
     }
 }
 
+/// The column of the word at which a line is refused, in characters, from 1 on; where no such word is found, that of its first
+/// word.
+pub(crate) fn column_in(
+    line: &str,
+    cause: AsmCause,
+    flaw: Option<Flaw>,
+    quotes: Option<(Misquoted, Span)>,
+) -> usize {
+    match marked(line, cause, flaw, quotes) {
+        Some(span) => column_at(line, span.from),
+        None => first_column(line),
+    }
+}
+
+/// The column of the first word of a line.
+pub(crate) fn first_column(line: &str) -> usize {
+    let blanks = line
+        .len()
+        .saturating_sub(line.trim_start_matches(' ').len());
+    blanks.saturating_add(1)
+}
+
+// The column of a byte of a line, or of one after its end.
+fn column_at(line: &str, at: usize) -> usize {
+    let before = line.get(..at).unwrap_or(line);
+    let behind = at.saturating_sub(before.len());
+    before
+        .chars()
+        .count()
+        .saturating_add(behind)
+        .saturating_add(1)
+}
+
 // What is put in place of a byte before the marks: a tab stays one, and the later bytes of a character have no column.
 fn blank(byte: u8) -> &'static str {
     match byte {

@@ -3,10 +3,11 @@ ghost use Rattle.std.specs.Prelude.{◌≡◌, ◌↔◌, IfOk, IsTrue, List, �
 ghost use Rattle.x10_verify.specs.declared.fault.VerifyCause.TheVariants.{Memory};
 ghost use Rattle.x10_explain.specs.Verdicts.{IsVerifiedImage, IsVerifiedText, Reports, RefusesImage, RefusesText};
 
-use crate::asm::{explain_asm, push_others};
+use crate::asm::{explain_asm, others_in, push_others};
 use crate::faults::find;
 use crate::head::head;
 use crate::image::explain_image;
+use crate::json::{CheckJson, FaultJson, json_line, of_asm, of_image, of_verify};
 use crate::source::{Source, push_source};
 use crate::verify::explained;
 use std::alloc::{AllocError, Global};
@@ -23,6 +24,15 @@ pub enum Refusal {
     Verify(VerifyFault),
 }
 
+/// How a report is written.
+#[derive(Clone, Copy, Debug, PartialEq, Eq)]
+pub enum Form<'a> {
+    /// Lines for people.
+    Lines,
+    /// JSON, in a line, where the file has this name.
+    Json(&'a str),
+}
+
 /// What is found of a module.
 #[derive(Debug, Drop)]
 pub struct Report {
@@ -30,7 +40,7 @@ pub struct Report {
     pub verified: bool,
     /// Why it isn't.
     pub refusal: Option<Refusal>,
-    /// Its bounds, a line for each function; or its faults, each explained, in at most 60 lines.
+    /// Its bounds, a line for each function; or its faults, each explained, in at most 60 lines. As JSON both are in one line.
     pub text: String,
 }
 
@@ -40,29 +50,29 @@ const MOST_FAULTS: usize = 6;
 /// Whether an image is verified, which is `verify`'s answer; and the bound of each function, or the first fault of each
 /// function that has one. Where it isn't verified this costs `verify` of all functions at most twice, and the explanations of
 /// at most 6 functions.
-pub fn check_image(alloc: Global, bytes: &[u8]) -> Result<Report, AllocError>
+pub fn check_image(alloc: Global, bytes: &[u8], form: Form) -> Result<Report, AllocError>
     ensures verdict { IfOk result (λ report. IsTrue report.verified ↔ IsVerifiedImage bytes.now) }
     ensures why { IfOk result (λ report. Reports report.verified report.refusal (RefusesImage bytes.now)) }
 {
-    check_bytes(alloc, bytes, None)
+    check_bytes(alloc, bytes, None, form)
 }
 
 /// The same of the module that a text spells, each fault with its line of the text; or why it spells none: its first faulty
 /// line, and at most 6 more that are faulty wherever they stand.
-pub fn check_text(alloc: Global, text: &str) -> Result<Report, AllocError>
+pub fn check_text(alloc: Global, text: &str, form: Form) -> Result<Report, AllocError>
     ensures verdict { IfOk result (λ report. IsTrue report.verified ↔ IsVerifiedText text.now) }
     ensures why { IfOk result (λ report. Reports report.verified report.refusal (RefusesText text.now)) }
 {
     match assemble(alloc, text) {
         Ok(bytes) => {
-            let report = check_bytes(alloc, &bytes, Some(text))?;
+            let report = check_bytes(alloc, &bytes, Some(text), form)?;
             Ok(report)
         }
         Err(fault) => {
             if fault.cause == AsmCause::Memory {
                 return Err(AllocError);
             }
-            let text = lines_of(alloc, text, fault)?;
+            let text = faults_of_text(alloc, text, fault, form)?;
             Ok(Report {
                 verified: false,
                 refusal: Some(Refusal::Asm(fault)),
@@ -73,13 +83,64 @@ pub fn check_text(alloc: Global, text: &str) -> Result<Report, AllocError>
 }
 
 // The first faulty line of a text, and those after it that are faulty by themselves.
-fn lines_of(alloc: Global, text: &str, fault: AsmFault) -> Result<String, AllocError> {
-    let mut out = explain_asm(alloc, text, fault)?;
-    push_others(alloc, &mut out, text, fault.line)?;
-    Ok(out)
+fn faults_of_text(
+    alloc: Global,
+    text: &str,
+    fault: AsmFault,
+    form: Form,
+) -> Result<String, AllocError> {
+    let Form::Json(file) = form else {
+        let mut out = explain_asm(alloc, text, fault)?;
+        push_others(alloc, &mut out, text, fault.line)?;
+        return Ok(out);
+    };
+    let mut faults = Vec::new(alloc);
+    faults.push(of_asm(alloc, file, text, fault)?)?;
+    let others = others_in(alloc, text, fault.line)?;
+    for other in &others {
+        faults.push(of_asm(alloc, file, text, other.fault)?)?;
+    }
+    refused_json(alloc, file, faults)
 }
 
-fn check_bytes(alloc: Global, bytes: &[u8], source: Option<&str>) -> Result<Report, AllocError>
+// A module that isn't verified, as JSON.
+fn refused_json<'a>(
+    alloc: Global,
+    file: &'a str,
+    faults: Vec<FaultJson<'a>>,
+) -> Result<String, AllocError> {
+    json_line(
+        alloc,
+        &CheckJson {
+            file,
+            verified: false,
+            bounds: None,
+            faults,
+        },
+    )
+}
+
+// Why bytes are no image.
+fn fault_of_image(
+    alloc: Global,
+    bytes: &[u8],
+    fault: ImageFault,
+    form: Form,
+) -> Result<String, AllocError> {
+    let Form::Json(file) = form else {
+        return explain_image(alloc, bytes, fault);
+    };
+    let mut faults = Vec::new(alloc);
+    faults.push(of_image(alloc, file, bytes, fault)?)?;
+    refused_json(alloc, file, faults)
+}
+
+fn check_bytes(
+    alloc: Global,
+    bytes: &[u8],
+    source: Option<&str>,
+    form: Form,
+) -> Result<Report, AllocError>
     ensures verdict { IfOk result (λ report. IsTrue report.verified ↔ IsVerifiedImage bytes.now) }
     ensures why { IfOk result (λ report. Reports report.verified report.refusal (RefusesImage bytes.now)) }
 {
@@ -87,7 +148,7 @@ fn check_bytes(alloc: Global, bytes: &[u8], source: Option<&str>) -> Result<Repo
         Ok(image) => image,
         Err(ImageFault::Memory) => return Err(AllocError),
         Err(fault) => {
-            let text = explain_image(alloc, bytes, fault)?;
+            let text = fault_of_image(alloc, bytes, fault, form)?;
             return Ok(Report {
                 verified: false,
                 refusal: Some(Refusal::Image(fault)),
@@ -97,7 +158,7 @@ fn check_bytes(alloc: Global, bytes: &[u8], source: Option<&str>) -> Result<Repo
     };
     match verify(alloc, image) {
         Ok(verified) => {
-            let text = bounds_of(alloc, &verified)?;
+            let text = bounds_of(alloc, &verified, form)?;
             Ok(Report {
                 verified: true,
                 refusal: None,
@@ -108,7 +169,7 @@ fn check_bytes(alloc: Global, bytes: &[u8], source: Option<&str>) -> Result<Repo
             if is_memory(fault.cause) {
                 return Err(AllocError);
             }
-            let text = faults_of(alloc, bytes, source)?;
+            let text = faults_of(alloc, bytes, source, form)?;
             Ok(Report {
                 verified: false,
                 refusal: Some(Refusal::Verify(fault)),
@@ -126,7 +187,10 @@ fn is_memory(cause: VerifyCause) -> bool
 }
 
 // A line for each function: its number and its bound.
-fn bounds_of(alloc: Global, verified: &Verified) -> Result<String, AllocError> {
+fn bounds_of(alloc: Global, verified: &Verified, form: Form) -> Result<String, AllocError> {
+    if let Form::Json(file) = form {
+        return bounds_json(alloc, verified, file);
+    }
     let mut out = String::new(alloc);
     for f in 0..verified.image().functions() {
         let bound = verified.bound(f);
@@ -135,14 +199,62 @@ fn bounds_of(alloc: Global, verified: &Verified) -> Result<String, AllocError> {
     Ok(out)
 }
 
-// The first fault of each function that has one.
-fn faults_of(alloc: Global, bytes: &[u8], source: Option<&str>) -> Result<String, AllocError> {
-    let mut out = String::new(alloc);
-    match ImageView::read(alloc, bytes) {
-        Ok(image) => push_faults(alloc, &mut out, &image, source_of(alloc, source)?.as_ref())?,
-        Err(_) => return Err(AllocError),
+fn bounds_json(alloc: Global, verified: &Verified, file: &str) -> Result<String, AllocError> {
+    let mut bounds = Vec::new(alloc);
+    for f in 0..verified.image().functions() {
+        bounds.push(verified.bound(f))?;
     }
+    json_line(
+        alloc,
+        &CheckJson {
+            file,
+            verified: true,
+            bounds: Some(bounds),
+            faults: Vec::new(alloc),
+        },
+    )
+}
+
+// The first fault of each function that has one.
+fn faults_of(
+    alloc: Global,
+    bytes: &[u8],
+    source: Option<&str>,
+    form: Form,
+) -> Result<String, AllocError> {
+    let Ok(image) = ImageView::read(alloc, bytes) else {
+        return Err(AllocError);
+    };
+    let source = source_of(alloc, source)?;
+    if let Form::Json(file) = form {
+        let faults = faults_json(alloc, &image, source.as_ref(), file)?;
+        return refused_json(alloc, file, faults);
+    }
+    let mut out = String::new(alloc);
+    push_faults(alloc, &mut out, &image, source.as_ref())?;
     Ok(out)
+}
+
+fn faults_json<'a>(
+    alloc: Global,
+    image: &ImageView,
+    source: Option<&Source>,
+    file: &'a str,
+) -> Result<Vec<FaultJson<'a>>, AllocError> {
+    let mut bounds = Vec::new(alloc);
+    let mut faults = Vec::new(alloc);
+    for _ in 0..image.functions() {
+        let f = bounds.len();
+        if f >= image.functions() || faults.len() >= MOST_FAULTS {
+            break;
+        }
+        let finding = find(alloc, image, f, &bounds)?;
+        bounds.push(finding.bound)?;
+        if let Some(fault) = finding.fault {
+            faults.push(of_verify(alloc, file, image, source, &finding, fault)?)?;
+        }
+    }
+    Ok(faults)
 }
 
 // A text, if there is one, with where its functions are.

@@ -2,7 +2,7 @@
 ghost use Rattle.std.specs.Prelude.{◌≡◌, ◌++◌, OnOk, IfOk, codes, decimal};
 ghost use Rattle.std.specs.String.{string_bytes};
 ghost use Rattle.x10_model.specs.Ranges.{instr_at};
-ghost use Rattle.x10_explain.specs.Heads.{head_line, line_if, position_of};
+ghost use Rattle.x10_explain.specs.Heads.{head_line, line_if, placed, position_of};
 
 use crate::names::verify_name;
 use std::alloc::{AllocError, Global};
@@ -40,6 +40,18 @@ fn push_position(out: &mut String, fault: VerifyFault) -> Result<(), AllocError>
     let word = verify_name(fault.cause);
     let (function, pc) = (fault.function, fault.pc);
     write!(out, "{word}, function {function}, instruction {pc}: ")
+}
+
+/// Where a fault is in a text, in the form that editors jump to.
+pub(crate) fn push_place(
+    out: &mut String,
+    name: &str,
+    line: usize,
+    column: usize,
+) -> Result<(), AllocError>
+    ensures { OnOk result (string_bytes out.new ≡ string_bytes out.old ++ placed name.now line column) }
+{
+    write!(out, "{name}:{line}:{column}: ")
 }
 
 /// The rule, the function, and the instruction as the listing writes it.

@@ -1,7 +1,7 @@
 //! What is known before an instruction, in one line.
 
 use crate::phrase::{are_same, push_term};
-use std::alloc::AllocError;
+use std::alloc::{AllocError, Global};
 use std::fmt::Write;
 use x10_asm::push_kind;
 use x10_image::ImageView;
@@ -42,15 +42,37 @@ fn push_place(
     register: u8,
     kind: Kind,
 ) -> Result<(), AllocError> {
-    if !matches!(kind, Kind::Place | Kind::GRef(_)) {
-        return Ok(());
-    }
-    match term_of(image, flow, pc, register) {
+    match placed_at(image, flow, pc, register, kind) {
         None => Ok(()),
         Some(term) => {
             out.push_str(" at ")?;
             push_term(out, term)
         }
+    }
+}
+
+/// The place that a register is known to be at, in words.
+pub(crate) fn place_of(
+    alloc: Global,
+    image: &ImageView,
+    flow: &Flow,
+    pc: usize,
+    register: u8,
+    kind: Kind,
+) -> Result<Option<String>, AllocError> {
+    let Some(term) = placed_at(image, flow, pc, register, kind) else {
+        return Ok(None);
+    };
+    let mut words = String::new(alloc);
+    push_term(&mut words, term)?;
+    Ok(Some(words))
+}
+
+// The same as a term; only a place or a global reference is at one.
+fn placed_at(image: &ImageView, flow: &Flow, pc: usize, register: u8, kind: Kind) -> Option<Term> {
+    match kind {
+        Kind::Place | Kind::GRef(_) => term_of(image, flow, pc, register),
+        _ => None,
     }
 }
 

@@ -33,9 +33,21 @@ const SHOWN: usize = 64;
 /// What is said of the instructions of a function whose structure is right: how many steps are left at most before each, and
 /// whether it is inside an atomic region.
 #[derive(Drop)]
-struct Notes {
+pub(crate) struct Notes {
     left: Vec<u64>,
     inside: Vec<bool>,
+}
+
+impl Notes {
+    /// How many steps are left at most before an instruction.
+    pub(crate) fn left_at(&self, pc: usize) -> Option<u64> {
+        self.left.get(pc).copied()
+    }
+
+    /// Whether an instruction is inside an atomic region.
+    pub(crate) fn is_inside(&self, pc: usize) -> bool {
+        self.inside.get(pc) == Some(&true)
+    }
 }
 
 /// The listing of an image for people: the canonical listing, with comments in lines of their own. They number classes,
@@ -187,7 +199,7 @@ fn push_code(
 }
 
 /// What is said of the instructions of a function, given the bounds of those before it.
-fn notes_of(
+pub(crate) fn notes_of(
     alloc: Global,
     image: &ImageView,
     f: usize,
@@ -258,19 +270,19 @@ fn note(
 
 // How many steps are left, and whether the instruction is inside an atomic region.
 fn push_ahead(note: &mut String, notes: &Notes, pc: usize) -> Result<(), AllocError> {
-    if let Some(count) = notes.left.get(pc) {
-        let (count, steps) = (*count, steps_word(*count));
+    if let Some(count) = notes.left_at(pc) {
+        let steps = steps_word(count);
         write!(note, "; at most {count} {steps} left")?;
     }
-    if notes.inside.get(pc) == Some(&true) {
+    if notes.is_inside(pc) {
         note.push_str("; inside an atomic region")?;
     }
     Ok(())
 }
 
-// Whether an instruction is where no states are shown: after a fault of the flow, or anywhere where what is named isn't there,
+/// Whether an instruction is where no states are shown: after a fault of the flow, or anywhere where what is named isn't there,
 // since the flow wasn't looked at then.
-fn is_past(finding: &Finding, pc: usize) -> bool {
+pub(crate) fn is_past(finding: &Finding, pc: usize) -> bool {
     match finding.flow.fault() {
         None => false,
         Some(fault) => fault.cause == VerifyCause::Index || pc > usize::from(fault.pc),

@@ -1,9 +1,10 @@
 //! Why the verifier refuses a module.
 ghost use Rattle.std.specs.Prelude.{◌≡◌, ◌++◌, List, ℕ, IfOk};
 ghost use Rattle.std.specs.String.{string_bytes};
-ghost use Rattle.x10_explain.specs.Heads.{head_line};
+ghost use Rattle.x10_explain.specs.Heads.{head_line, placed};
 
-use crate::head::{head, instr_in};
+use crate::caret::first_column;
+use crate::head::{head, instr_in, push_place};
 use crate::index::push_index;
 use crate::lack::{Lack, Role, Spot, callee, fields_of, first_lack};
 use crate::origin::push_origin;
@@ -30,22 +31,57 @@ pub fn explain_verify(
     ensures { IfOk result (λ s. (rest : List ℕ) × (string_bytes s ≡ head_line image.now fault ++ rest)) }
 {
     let mut out = head(alloc, image, fault)?;
-    let rest = reasons(alloc, image, fault)?;
+    let rest = reasons(alloc, image, None, fault)?;
     out.push_str(&rest)?;
     Ok(out)
 }
 
+/// The same of a module that was read from a text: the text's name, the line and the column of the instruction come first, in
+/// the form that editors jump to, `first.asm:6:3: `; and other instructions are named by their lines.
+pub fn explain_verify_in(
+    alloc: Global,
+    image: &ImageView,
+    name: &str,
+    text: &str,
+    fault: VerifyFault,
+) -> Result<String, AllocError>
+    ensures { IfOk result (λ s. (line : ℕ) × (column : ℕ) × (rest : List ℕ) × (string_bytes s ≡ placed name.now line column ++ (head_line image.now fault ++ rest))) }
+{
+    let source = Source::read(alloc, text)?;
+    let (line, column) = place_in(&source, fault);
+    let mut out = String::new(alloc);
+    push_place(&mut out, name, line, column)?;
+    let head = head(alloc, image, fault)?;
+    out.push_str(&head)?;
+    let rest = reasons(alloc, image, Some(&source), fault)?;
+    out.push_str(&rest)?;
+    Ok(out)
+}
+
+/// The line and the column of a faulty instruction in a text; the first ones where the fault isn't this text's.
+pub(crate) fn place_in(source: &Source, fault: VerifyFault) -> (usize, usize) {
+    match source.line_of(usize::from(fault.function), usize::from(fault.pc)) {
+        None => (1, 1),
+        Some((number, line)) => (number, first_column(line)),
+    }
+}
+
 // What comes below the first line.
-fn reasons(alloc: Global, image: &ImageView, fault: VerifyFault) -> Result<String, AllocError> {
+fn reasons(
+    alloc: Global,
+    image: &ImageView,
+    source: Option<&Source>,
+    fault: VerifyFault,
+) -> Result<String, AllocError> {
     let f = usize::from(fault.function);
     if f >= image.functions() {
         return Ok(String::new(alloc));
     }
     if !is_of_flow(fault.cause) {
-        return without_flow(alloc, image, None, fault);
+        return without_flow(alloc, image, source, fault);
     }
     let flow = known_flow(alloc, image, f)?;
-    explained(alloc, image, None, &flow, fault)
+    explained(alloc, image, source, &flow, fault)
 }
 
 /// Whether a fault is one of what is known in a function, for which the states are wanted.
@@ -123,57 +159,92 @@ pub(crate) fn push_flow_fault(
         pc,
         instr,
     };
-    let lack = first_lack(&spot);
-    let have = match lack.register() {
-        None => None,
-        Some(register) => flow.kind(pc, register),
-    };
-    if !flow.is_reached(pc) || lack.cause(have) != fault.cause {
+    let Some(lack) = lack_of_fault(&spot, fault) else {
         return out.push_str("What is known there meets the rule: the fault isn't this module's.\n");
-    }
+    };
     push_lack(out, &spot, lack)?;
     let meets = push_origin(alloc, out, &spot, lack)?;
     push_repair(out, &spot, lack, meets)
 }
 
+/// What is missing where a fault of the flow is; nothing where the fault isn't this module's.
+pub(crate) fn lack_of_fault(spot: &Spot, fault: VerifyFault) -> Option<Lack> {
+    let lack = first_lack(spot);
+    let have = match lack.register() {
+        None => None,
+        Some(register) => spot.flow.kind(spot.pc, register),
+    };
+    if spot.flow.is_reached(spot.pc) && lack.cause(have) == fault.cause {
+        Some(lack)
+    } else {
+        None
+    }
+}
+
 // What is asked, and what is known of it.
 fn push_lack(out: &mut String, spot: &Spot, lack: Lack) -> Result<(), AllocError> {
+    push_asked(out, spot, lack)?;
+    if is_known_of(lack) {
+        out.push_str("; ")?;
+        push_found(out, spot, lack)?;
+    }
+    out.push_str(".\n")
+}
+
+// Whether what is asked is of something that the verifier knows something of.
+pub(crate) fn is_known_of(lack: Lack) -> bool {
+    !matches!(lack, Lack::Dropped | Lack::LeadsOut)
+}
+
+// What is asked.
+pub(crate) fn push_asked(out: &mut String, spot: &Spot, lack: Lack) -> Result<(), AllocError> {
     let name = name(spot.instr.op);
-    let (a, c, x) = (spot.instr.a, spot.instr.c, spot.instr.x);
+    let (c, x) = (spot.instr.c, spot.instr.x);
     match lack {
         Lack::Register(register, want, role) => {
             write!(out, "{name} asks that r{register} is")?;
             want.push(out)?;
-            push_role(out, spot, role)?;
-            out.push_str("; ")?;
-            push_known(out, register, spot.flow.kind(spot.pc, register))?;
-            out.push_str(".\n")
+            push_role(out, spot, role)
         }
-        Lack::NoField(register, class) => {
-            let count = match fields_of(spot.image, usize::from(class)) {
-                None => 0,
-                Some(fields) => fields.len(),
-            };
-            writeln!(
+        Lack::NoField(register, _) => {
+            write!(
                 out,
-                "{name} asks for field {c} of the object in r{register}; its class {class} has {count} fields, numbered from 0."
+                "{name} asks for field {c} of the object in r{register}"
             )
         }
         Lack::Home(register, at, role) => {
             write!(out, "{name} asks that the home of r{register} is ")?;
             push_term(out, at)?;
-            push_role(out, spot, role)?;
-            out.push_str("; it isn't known to be.\n")
+            push_role(out, spot, role)
         }
-        Lack::NoResult => writeln!(
+        Lack::NoResult => write!(out, "{name} has no result here, so its first number is 0"),
+        Lack::Dropped => write!(
             out,
-            "{name} has no result here, so its first number is 0; it is {a}."
+            "{name} starts an activity with function {x}, whose result nothing would take: it may give none"
         ),
-        Lack::Dropped => writeln!(
-            out,
-            "{name} starts an activity with function {x}, whose result nothing would take: it may give none."
-        ),
-        Lack::LeadsOut => out.push_str("The function goes on past its last instruction.\n"),
+        Lack::LeadsOut => out.push_str("The function goes on past its last instruction"),
+    }
+}
+
+// What is known of what is asked.
+pub(crate) fn push_found(out: &mut String, spot: &Spot, lack: Lack) -> Result<(), AllocError> {
+    match lack {
+        Lack::Register(register, ..) => {
+            push_known(out, register, spot.flow.kind(spot.pc, register))
+        }
+        Lack::NoField(_, class) => {
+            let count = match fields_of(spot.image, usize::from(class)) {
+                None => 0,
+                Some(fields) => fields.len(),
+            };
+            write!(out, "its class {class} has {count} fields, numbered from 0")
+        }
+        Lack::Home(..) => out.push_str("it isn't known to be"),
+        Lack::NoResult => {
+            let a = spot.instr.a;
+            write!(out, "it is {a}")
+        }
+        Lack::Dropped | Lack::LeadsOut => Ok(()),
     }
 }
 

@@ -3,7 +3,7 @@ use std::process::Abort;
 use std::test::*;
 use x10_asm::{AsmCause, AsmFault, assemble};
 use x10_explain::{
-    check_image, check_text, explain_asm, explain_image, explain_verify, list_verbose,
+    Form, check_image, check_text, explain_asm, explain_image, explain_verify, list_verbose,
 };
 use x10_image::{ImageFault, ImageView};
 use x10_kinds::{Kind, Term};
@@ -59,13 +59,13 @@ fn what_is_known(rt: HostRuntime) -> Result<(), Fail> {
 
 /// Whether a text is called verified, and what is said of it.
 fn checked(alloc: Global, text: &str) -> Result<(bool, String), Fail> {
-    let report = check_text(alloc, text)?;
+    let report = check_text(alloc, text, Form::Lines)?;
     Ok((report.verified, report.text))
 }
 
 /// The same of an image.
 fn checked_image(alloc: Global, bytes: &[u8]) -> Result<(bool, String), Fail> {
-    let report = check_image(alloc, bytes)?;
+    let report = check_image(alloc, bytes, Form::Lines)?;
     Ok((report.verified, report.text))
 }
 

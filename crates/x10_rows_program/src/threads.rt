@@ -27,7 +27,7 @@ fn does<R: Threads + Wait + Sync>(
     wanted: (u8, &str, &str),
 ) -> bool {
     let (mut out, mut err) = (Vec::new(alloc), Vec::new(alloc));
-    let status = execute(rt, alloc, task, image, &mut out, &mut err);
+    let status = execute(rt, alloc, task, image, None, &mut out, &mut err);
     let (wanted, text, fault) = wanted;
     status == wanted && out.as_slice() == text.as_bytes() && err.as_slice() == fault.as_bytes()
 }
@@ -37,7 +37,7 @@ fn a_thread_for_each_place(rt: HostRuntime) -> Result<(), Fail> {
     let alloc = rt.alloc();
     let image = assemble(alloc, RELAY)?;
     let words = words_of(alloc, &["run", "F", "--threads"])?;
-    let task = parse(alloc, &words).ok().ok_or("it is a task")?;
+    let task = parse(alloc, &words, false).ok().ok_or("it is a task")?;
     let wanted = (0, "0: 5\n0: 2\n1: 4\n1: 1\n2: 3\n", "");
     assert!(rt; task.threads && does(&rt, alloc, &task, &image, wanted));
     Ok(())
@@ -48,7 +48,7 @@ fn lines_before_a_fault(rt: HostRuntime) -> Result<(), Fail> {
     let alloc = rt.alloc();
     let image = assemble(alloc, ENDLESS)?;
     let words = words_of(alloc, &["run", "F", "--threads", "--limit", "100"])?;
-    let task = parse(alloc, &words).ok().ok_or("it is a task")?;
+    let task = parse(alloc, &words, false).ok().ok_or("it is a task")?;
     assert!(rt; does(&rt, alloc, &task, &image, (2, "0: 1\n", "x10p: turns\n")));
     // where they can't be written, that is the fault
     assert!(rt; fails(&rt, alloc, &task, &image, "0: 1\n"));

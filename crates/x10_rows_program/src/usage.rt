@@ -1,6 +1,6 @@
 use std::alloc::Global;
 use std::test::*;
-use x10_task::{Schedule, Task, Verb};
+use x10_task::{Color, Schedule, Task, Verb};
 use x10_usage::parse;
 
 /// The words of a command line, the program's name first.
@@ -25,11 +25,13 @@ fn words(rt: HostRuntime) -> Result<(), Fail> {
         schedule: Schedule::Rounds,
         seed: None,
         threads: false,
+        json: false,
         explain: false,
+        color: Color::Auto,
     };
-    assert!(rt; parse(rt.alloc(), &words).ok() == Some(task));
+    assert!(rt; parse(rt.alloc(), &words, false).ok() == Some(task));
     let words = words_of(rt.alloc(), &["bounds", "b"])?;
-    let found = parse(rt.alloc(), &words).ok().ok_or("it is a task")?;
+    let found = parse(rt.alloc(), &words, false).ok().ok_or("it is a task")?;
     assert!(rt; found.verb == Verb::Bounds && found.input == "b");
     Ok(())
 }
@@ -37,7 +39,7 @@ fn words(rt: HostRuntime) -> Result<(), Fail> {
 /// The schedule and the seed of the task that some words stand for.
 fn schedule_in(alloc: Global, words: &[&str]) -> Result<(Schedule, Option<u64>), Fail> {
     let words = words_of(alloc, words)?;
-    let task = parse(alloc, &words).ok().ok_or("it is a task")?;
+    let task = parse(alloc, &words, false).ok().ok_or("it is a task")?;
     Ok((task.schedule, task.seed))
 }
 

@@ -49,7 +49,7 @@ fn narrowed<R: Threads + Wait + Sync>(
     room: usize,
 ) -> (u8, Vec<u8>, Vec<u8>) {
     let (mut out, mut err) = (narrow_to(alloc, room), Vec::new(alloc));
-    let status = execute(rt, alloc, task, image, &mut out, &mut err);
+    let status = execute(rt, alloc, task, image, None, &mut out, &mut err);
     (status, out.taken, err)
 }
 
@@ -80,7 +80,7 @@ fn each_write_fails(rt: HostRuntime) -> Result<(), Fail> {
     ];
     for (verb, text) in rows {
         let words = words_of(rt.alloc(), &[verb, "F"])?;
-        let task = parse(rt.alloc(), &words).ok().ok_or("it is a task")?;
+        let task = parse(rt.alloc(), &words, false).ok().ok_or("it is a task")?;
         assert!(rt; fails(&rt, rt.alloc(), &task, &SEVEN, text), "{verb}");
     }
     Ok(())
@@ -90,9 +90,9 @@ fn each_write_fails(rt: HostRuntime) -> Result<(), Fail> {
 fn a_fault_that_cannot_be_told(rt: HostRuntime) -> Result<(), Fail> {
     let alloc = rt.alloc();
     let words = words_of(alloc, &["run", "F"])?;
-    let task = parse(alloc, &words).ok().ok_or("it is a task")?;
+    let task = parse(alloc, &words, false).ok().ok_or("it is a task")?;
     let (mut out, mut err) = (narrow_to(alloc, 0), narrow_to(alloc, 3));
-    assert!(rt; execute(&rt, alloc, &task, &[], &mut out, &mut err) == 4);
+    assert!(rt; execute(&rt, alloc, &task, &[], None, &mut out, &mut err) == 4);
     assert!(rt; err.taken.as_slice() == "x10".as_bytes());
     Ok(())
 }

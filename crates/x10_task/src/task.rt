@@ -21,6 +21,8 @@ pub enum Verb {
     Trace,
     /// Verify it, run it, and draw what happens.
     Draw,
+    /// Print what is known of a cause of faults. Its name stands in place of a file's.
+    Explain,
 }
 
 /// In which order the events of a run happen.
@@ -34,6 +36,15 @@ pub enum Schedule {
     Oldest,
     /// The same, but the one that was put out last.
     Newest,
+}
+
+/// Whether what is said about a fault has colors.
+#[derive(Clone, Copy, Debug, PartialEq, Eq)]
+pub enum Color {
+    /// On a terminal, unless the environment says otherwise.
+    Auto,
+    Always,
+    Never,
 }
 
 /// What the words of a command line ask for.
@@ -56,6 +67,10 @@ pub struct Task<'a> {
     pub seeds: u64,
     /// Whether a run has a thread for each place. No other verb looks at it.
     pub threads: bool,
+    /// Whether what is printed is JSON, for other programs. Only for `list`, `check` and `run`.
+    pub json: bool,
     /// Whether more is said about a fault than its line.
     pub explain: bool,
+    /// Whether that has colors.
+    pub color: Color,
 }

@@ -9,6 +9,8 @@ use Rattle.clap.specs.Walk.{rows_of}
 use Rattle.clap.specs.declared.parser.matches.ArgMatches.{ArgMatches}
 use Rattle.clap.specs.declared.parser.matches.Found.{Found}
 use Rattle.x10_model.specs.declared.limits.TheConstants.{MOST_PLACES}
+use Rattle.x10_task.specs.declared.task.Color.{Color}
+use Rattle.x10_task.specs.declared.task.Color.TheVariants as color
 use Rattle.x10_task.specs.declared.task.Schedule.{Schedule}
 use Rattle.x10_task.specs.declared.task.Schedule.TheVariants as order
 use Rattle.x10_task.specs.declared.task.Task.{Task}
@@ -32,6 +34,13 @@ is_run verb.Trace = true
 is_run verb.Draw = true
 is_run _ = false
 
+-- the commands that can print JSON
+abbrev pub has_json : Verb → Bool
+has_json verb.List = true
+has_json verb.Check = true
+has_json verb.Run = true
+has_json _ = false
+
 -- a task has what its command takes: a file to write, a number of places, threads, a schedule, a number of seeds; the numbers are in their ranges
 pub record IsTask (t : Task) : Type 0 where
   pub output : is_some t.output ≡ has_output t.verb
@@ -44,6 +53,7 @@ pub record IsTask (t : Task) : Type 0 where
   pub threads : t.threads ≡ true → t.verb ≡ verb.Run
   pub schedule : t.schedule ≢ order.Rounds → (is_run t.verb ≡ true) × (t.threads ≡ false)
   pub seed : is_some t.seed ≡ true → t.schedule ≡ order.Random
+  pub json : t.json ≡ true → has_json t.verb ≡ true
 
 -- ---- how a task is read
 
@@ -58,7 +68,8 @@ verb_named name is_verbose =
     else (if bytes_eq name (codes "runs") then verb.Runs
     else (if bytes_eq name (codes "trace") then verb.Trace
     else (if bytes_eq name (codes "draw") then verb.Draw
-    else verb.Run)))))))
+    else (if bytes_eq name (codes "explain") then verb.Explain
+    else verb.Run))))))))
 
 -- the schedule of a name; where there is none, rounds, or a random one where there is a seed
 abbrev pub schedule_named : Option (List ℕ) → Bool → Schedule
@@ -68,6 +79,19 @@ schedule_named (Some name) has_seed =
     else (if bytes_eq name (codes "oldest") then order.Oldest
     else (if bytes_eq name (codes "newest") then order.Newest
     else order.Rounds))
+
+-- whether more is said about a fault: by the word that asks for it, or as it is without one
+abbrev pub explained_by : Option (List ℕ) → Bool → Bool
+explained_by None otherwise = otherwise
+explained_by (Some word) otherwise = if bytes_eq word (codes "no") then false else true
+
+-- the colors of a name; where there is none, as the terminal says
+abbrev pub color_named : Option (List ℕ) → Color
+color_named None = color.Auto
+color_named (Some name) =
+    if bytes_eq name (codes "always") then color.Always
+    else (if bytes_eq name (codes "never") then color.Never
+    else color.Auto)
 
 -- the number of so many bits that a text spells, if there is a text and it spells one
 abbrev pub IsNumberIn : ℕ → Option (List ℕ) → Option ℕ → Type 0
@@ -82,8 +106,8 @@ pub record IsFlagIn (text : Option (List ℕ)) (is_there : Bool) : Type 0 where
   pub no : text ≡ Some (codes "false") → is_there ≡ false
 
 -- a task is what was found in the words: its command, the names of its files, its numbers and its options. What was found are
--- the rows of the command that the parse met
-pub record IsReadFrom (m : ArgMatches) (t : Task) : Type 0 where
+-- the rows of the command that the parse met. Where the words don't say whether faults are explained, the first argument does
+pub record IsReadFrom (explain : Bool) (m : ArgMatches) (t : Task) : Type 0 where
   pub name : List ℕ
   pub is_verbose : Bool
   pub found : Found
@@ -103,4 +127,6 @@ pub record IsReadFrom (m : ArgMatches) (t : Task) : Type 0 where
   pub are_asked : IsNumberIn 64 (one_text found (codes "seeds")) asked_seeds
   pub seeds_is : t.seeds ≡ unwrap_or asked_seeds 100
   pub threads_is : IsFlagIn (one_text found (codes "threads")) t.threads
-  pub explain_is : IsFlagIn (one_text found (codes "explain")) t.explain
+  pub json_is : IsFlagIn (one_text found (codes "json")) t.json
+  pub explain_is : t.explain ≡ explained_by (first_value found (codes "explain")) explain
+  pub color_is : t.color ≡ color_named (first_value found (codes "color"))

@@ -102,3 +102,12 @@ Exit status:
   2  stopped: lack of memory, a limit of the machine, or --limit
   3  the command line is wrong
   4  a file can't be read, or the output can't be written";
+
+pub const EXPLAIN: &str = "Example:
+  x10p explain Kind
+
+Exit status:
+  0  done
+  2  lack of memory
+  3  the command line is wrong
+  4  the output can't be written";

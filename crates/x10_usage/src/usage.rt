@@ -1,7 +1,7 @@
 //! What the words of a command line ask for.
 ghost use Rattle.std.specs.Prelude.{◌≡◌, ◌≢◌, IfOk, IfErr, IfSome, IsTrue, None, true, false, is_some, option_map};
 ghost use Rattle.clap.specs.Words.{kind_of};
-ghost use Rattle.x10_usage.specs.Tasks.{IsOneTo, IsReadFrom, IsTask, has_output, schedule_named, verb_named};
+ghost use Rattle.x10_usage.specs.Tasks.{IsOneTo, IsReadFrom, IsTask, color_named, explained_by, has_output, schedule_named, verb_named};
 ghost use Rattle.x10_usage.specs.Tasks as tasks;
 ghost use Rattle.x10_usage.specs.Usages.{IsAnswer, text_of};
 
@@ -10,7 +10,7 @@ use clap::error::ErrorKind;
 use clap::{ArgMatches, Command, Error};
 use std::alloc::{AllocError, Global};
 use x10_model::limits::MOST_PLACES;
-use x10_task::{Schedule, Task, Verb};
+use x10_task::{Color, Schedule, Task, Verb};
 
 /// What is printed instead of doing something: help that was asked for, or what is wrong with the words.
 #[derive(Debug, Drop)]
@@ -41,15 +41,27 @@ const EVENTS: u64 = 1_000_000;
 const SEEDS: u64 = 100;
 
 /// Reads the words of a command line, of which the program's name is the first. A task has what its command takes, and its
-/// numbers are in their ranges.
-pub fn parse<'a>(alloc: Global, words: &'a [String]) -> Result<Task<'a>, Usage>
+/// numbers are in their ranges. Where the words don't say whether more is said about a fault than its line, `explain` does.
+pub fn parse<'a>(alloc: Global, words: &'a [String], explain: bool) -> Result<Task<'a>, Usage>
     ensures task { IfOk result IsTask }
     ensures answer { IfErr result IsAnswer }
 {
-    match matched(alloc, words) {
+    match matched(alloc, without_help_of_help(words), explain) {
         Ok(task) => Ok(task),
         Err(error) => Err(refusal(alloc, &error)),
     }
+}
+
+/// The words, but for an option that asks for the help of `help`: that is the program's.
+fn without_help_of_help(words: &[String]) -> &[String] {
+    if words.len() == 3 && words[1].as_str() == "help" && is_help(words[2].as_str()) {
+        return &words[..2];
+    }
+    words
+}
+
+fn is_help(word: &str) -> bool {
+    word == "--help" || word == "-h"
 }
 
 /// What to say where a word of the command line isn't UTF-8: no name of a file is taken that isn't, as the system's names
@@ -91,37 +103,41 @@ fn refusal(alloc: Global, error: &Error) -> Usage
     }
 }
 
-fn matched<'a>(alloc: Global, words: &'a [String]) -> Result<Task<'a>, Error>
+fn matched<'a>(alloc: Global, words: &'a [String], explain: bool) -> Result<Task<'a>, Error>
     ensures { IfOk result IsTask }
 {
     let mut command = program(alloc)?;
-    matched_by(&mut command, words)
-}
-
-fn matched_by<'a>(command: &mut Command<'a>, words: &'a [String]) -> Result<Task<'a>, Error>
-    ensures { IfOk result IsTask }
-{
-    let matches = command.try_get_matches_from_mut(words)?;
-    match task_of(&matches) {
-        Some(task) => Ok(task),
-        None => Err(command.error(
-            ErrorKind::ArgumentConflict,
-            "--seed is for a random schedule alone",
-        )?),
-    }
+    matched_by(&mut command, words, explain)
 }
 
 /// The task that was asked for. What a command takes and the ranges of its numbers are looked at again here, so that they don't
 /// rest on how the command is put together.
-fn task_of<'a>(matches: &ArgMatches<'a>) -> Option<Task<'a>>
-    ensures { IfSome result IsTask }
+fn matched_by<'a>(
+    command: &mut Command<'a>,
+    words: &'a [String],
+    explain: bool,
+) -> Result<Task<'a>, Error>
+    ensures { IfOk result IsTask }
 {
-    let task = task_in(matches)?;
-    if is_task(&task) { Some(task) } else { None }
+    let matches = command.try_get_matches_from_mut(words)?;
+    let why = match task_in(&matches, explain) {
+        Some(task) if is_task(&task) => return Ok(task),
+        Some(task) => why_not(&task),
+        None => "a command and what it works with are wanted",
+    };
+    Err(command.error(ErrorKind::ArgumentConflict, why)?)
 }
 
-fn task_in<'a>(matches: &ArgMatches<'a>) -> Option<Task<'a>>
-    ensures { IfSome result (IsReadFrom matches.now) }
+/// What is wrong with options that are right one by one. The library refuses all other words by itself.
+fn why_not(task: &Task) -> &'static str {
+    if task.seed.is_some() && task.schedule != Schedule::Random {
+        return "--seed is for a random schedule alone";
+    }
+    "these options don't go together"
+}
+
+fn task_in<'a>(matches: &ArgMatches<'a>, explain: bool) -> Option<Task<'a>>
+    ensures { IfSome result (IsReadFrom explain matches.now) }
 {
     let (name, matches) = matches.subcommand()?;
     let seed = matches.get_one("seed");
@@ -135,7 +151,9 @@ fn task_in<'a>(matches: &ArgMatches<'a>) -> Option<Task<'a>>
         seed,
         seeds: matches.get_one("seeds").unwrap_or(SEEDS),
         threads: matches.get_flag("threads"),
-        explain: matches.get_flag("explain"),
+        json: matches.get_flag("json"),
+        explain: is_explained(matches.get_str("explain"), explain),
+        color: color_of(matches.get_str("color")),
     })
 }
 
@@ -152,6 +170,7 @@ fn verb_of(name: &str, is_verbose: bool) -> Verb
         "runs" => Verb::Runs,
         "trace" => Verb::Trace,
         "draw" => Verb::Draw,
+        "explain" => Verb::Explain,
         _ => Verb::Run,
     }
 }
@@ -170,6 +189,28 @@ fn schedule_of(name: Option<&str>, has_seed: bool) -> Schedule
     }
 }
 
+/// Whether more is said about a fault, by the word that asks for it; where there is none, as it is without one.
+fn is_explained(word: Option<&str>, otherwise: bool) -> bool
+    ensures { result ≡ explained_by (option_map (λ s. s.now) word.entry) otherwise }
+{
+    match word {
+        None => otherwise,
+        Some("no") => false,
+        Some(_) => true,
+    }
+}
+
+/// The colors of a name.
+fn color_of(name: Option<&str>) -> Color
+    ensures { result ≡ color_named (option_map (λ s. s.now) name.entry) }
+{
+    match name {
+        Some("always") => Color::Always,
+        Some("never") => Color::Never,
+        _ => Color::Auto,
+    }
+}
+
 /// Whether a task has what its command takes, with its numbers in their ranges.
 fn is_task(task: &Task) -> bool
     ensures { IsTrue result → IsTask task.now }
@@ -181,6 +222,7 @@ fn is_task(task: &Task) -> bool
         && (is_run(task.verb) || has_no_numbers(task))
         && threads_are_for_run(task)
         && is_schedule(task)
+        && json_is_for_few(task)
 }
 
 fn writes_as_asked(task: &Task) -> bool
@@ -233,6 +275,12 @@ fn threads_are_for_run(task: &Task) -> bool
     ensures { IsTrue result → task.now.threads ≡ true → task.now.verb ≡ Verb.Run }
 {
     !task.threads || matches!(task.verb, Verb::Run)
+}
+
+fn json_is_for_few(task: &Task) -> bool
+    ensures { IsTrue result → task.now.json ≡ true → tasks.has_json task.now.verb ≡ true }
+{
+    !task.json || matches!(task.verb, Verb::List | Verb::Check | Verb::Run)
 }
 
 /// A schedule is for a run in this thread, and a seed for a random one.

@@ -2,6 +2,7 @@
 use crate::help;
 use clap::{Arg, ArgAction, Command, value_parser};
 use std::alloc::{AllocError, Global};
+use x10_faults::CAUSES;
 use x10_model::limits::MOST_PLACES;
 
 /// The greatest number of events that can be asked for.
@@ -31,7 +32,8 @@ fn with_looks<'a>(alloc: Global, command: Command<'a>) -> Result<Command<'a>, Al
     let command = with(command, list(alloc))?;
     let command = with(command, check(alloc))?;
     let command = with(command, verify(alloc))?;
-    with(command, bounds(alloc))
+    let command = with(command, bounds(alloc))?;
+    with(command, cause(alloc))
 }
 
 /// With the commands that run a module.
@@ -62,7 +64,8 @@ fn asm<'a>(alloc: Global) -> Result<Command<'a>, AllocError> {
             "The file of the assembler text, or - for standard input",
         ))?
         .arg(output(alloc, "IMAGE", "The file to write, the module's image"))?
-        .arg(explain(alloc))
+        .arg(explain(alloc))?
+        .arg(color(alloc))
 }
 
 fn list<'a>(alloc: Global) -> Result<Command<'a>, AllocError> {
@@ -71,7 +74,9 @@ fn list<'a>(alloc: Global) -> Result<Command<'a>, AllocError> {
         .after_help(help::LIST)
         .arg(image_name(alloc))?
         .arg(verbose(alloc))?
-        .arg(explain(alloc))
+        .arg(json(alloc).conflicts_with("verbose")?)?
+        .arg(explain(alloc))?
+        .arg(color(alloc))
 }
 
 fn check<'a>(alloc: Global) -> Result<Command<'a>, AllocError> {
@@ -83,7 +88,9 @@ fn check<'a>(alloc: Global) -> Result<Command<'a>, AllocError> {
             "FILE",
             "The file of a text, or of a module's image, or - for standard input",
         ))?
-        .arg(explain(alloc))
+        .arg(json(alloc))?
+        .arg(explain(alloc))?
+        .arg(color(alloc))
 }
 
 fn verify<'a>(alloc: Global) -> Result<Command<'a>, AllocError> {
@@ -93,7 +100,8 @@ fn verify<'a>(alloc: Global) -> Result<Command<'a>, AllocError> {
         )
         .after_help(help::VERIFY)
         .arg(image_name(alloc))?
-        .arg(explain(alloc))
+        .arg(explain(alloc))?
+        .arg(color(alloc))
 }
 
 fn bounds<'a>(alloc: Global) -> Result<Command<'a>, AllocError> {
@@ -101,12 +109,28 @@ fn bounds<'a>(alloc: Global) -> Result<Command<'a>, AllocError> {
         .about("Print the most steps that each function takes, a line `FUNCTION STEPS` each")
         .after_help(help::BOUNDS)
         .arg(image_name(alloc))?
-        .arg(explain(alloc))
+        .arg(explain(alloc))?
+        .arg(color(alloc))
+}
+
+/// The command `explain`.
+fn cause<'a>(alloc: Global) -> Result<Command<'a>, AllocError> {
+    let name = input(alloc, "CAUSE", "The name that the fault's line has")
+        .value_parser(CAUSES.as_slice())
+        .ignore_case(true);
+    Command::new(alloc, "explain")
+        .about(
+            "Tell what a cause of faults means, with a small program that has it, and its repair",
+        )
+        .after_help(help::EXPLAIN)
+        .arg(name)
 }
 
 fn run<'a>(alloc: Global) -> Result<Command<'a>, AllocError> {
     let about = "Verify a module, run it, and print each place's lines, `PLACE: LINE` each";
-    run_words(alloc, "run", about, help::RUN)?.arg(threads(alloc)?)
+    run_words(alloc, "run", about, help::RUN)?
+        .arg(threads(alloc)?)?
+        .arg(json(alloc))
 }
 
 fn runs<'a>(alloc: Global) -> Result<Command<'a>, AllocError> {
@@ -119,7 +143,8 @@ fn runs<'a>(alloc: Global) -> Result<Command<'a>, AllocError> {
         .arg(seeds(alloc))?
         .arg(places(alloc))?
         .arg(limit(alloc))?
-        .arg(explain(alloc))
+        .arg(explain(alloc))?
+        .arg(color(alloc))
 }
 
 fn trace<'a>(alloc: Global) -> Result<Command<'a>, AllocError> {
@@ -161,14 +186,33 @@ fn input<'a>(alloc: Global, name: &'a str, help: &'a str) -> Arg<'a> {
 fn explain<'a>(alloc: Global) -> Arg<'a> {
     Arg::new(alloc, "explain")
         .long("explain")
-        .help("Say more about a fault, in lines after its own")
-        .action(ArgAction::SetTrue)
+        .value_name("WHETHER")
+        .help("Say more about a fault, in lines after its own [default: on a terminal alone]")
+        .num_args(0..=1)
+        .require_equals(true)
+        .default_missing_value("yes")
+        .value_parser(["yes", "no"].as_slice())
+}
+
+fn color<'a>(alloc: Global) -> Arg<'a> {
+    Arg::new(alloc, "color")
+        .long("color")
+        .value_name("WHEN")
+        .help("Say it in colors [default: auto, on a terminal where NO_COLOR isn't set]")
+        .value_parser(["auto", "always", "never"].as_slice())
 }
 
 fn verbose<'a>(alloc: Global) -> Arg<'a> {
     Arg::new(alloc, "verbose")
         .long("verbose")
         .help("With what the verifier knows at each instruction, in comments")
+        .action(ArgAction::SetTrue)
+}
+
+fn json<'a>(alloc: Global) -> Arg<'a> {
+    Arg::new(alloc, "json")
+        .long("json")
+        .help("Print JSON, for other programs")
         .action(ArgAction::SetTrue)
 }
 
@@ -222,7 +266,8 @@ fn run_words<'a>(
         .arg(limit(alloc))?
         .arg(schedule(alloc))?
         .arg(seed(alloc))?
-        .arg(explain(alloc))
+        .arg(explain(alloc))?
+        .arg(color(alloc))
 }
 
 fn places<'a>(alloc: Global) -> Arg<'a> {

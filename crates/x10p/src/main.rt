@@ -4,13 +4,15 @@
 ghost use Rattle.std.specs.Prelude.{◌≡◌, IsTrue};
 
 mod input;
+mod terminal;
 mod text;
 mod trouble;
 
+use crate::terminal::{say, show_report, shows_report};
 use crate::text::{Given, as_told, is_input, is_text, read, read_input};
 use crate::trouble::Trouble;
 use std::fs::{self, File};
-use std::io::{BufWriter, ErrorKind, Write};
+use std::io::{BufWriter, ErrorKind, IsTerminal, Write};
 use std::process::ExitCode;
 use std::sync::Wait;
 use std::thread::Threads;
@@ -26,7 +28,7 @@ fn main(rt: HostRuntime) -> ExitCode {
         Err(error) if error.kind() == ErrorKind::OutOfMemory => {
             ExitCode::from(tell(Fault::Memory, &mut rt.stderr()))
         }
-        Err(_) => ExitCode::from(show(&rt, &no_text(rt.alloc()))),
+        Err(_) => ExitCode::from(help(&rt, &no_text(rt.alloc()))),
     }
 }
 
@@ -36,29 +38,37 @@ fn words(rt: &HostRuntime) -> io::Result<Vec<String>> {
 }
 
 fn follow<R: Threads + Wait + Sync>(rt: &HostRuntime, threads: &R, words: &[String]) -> u8 {
-    match parse(rt.alloc(), words) {
+    match parse(rt.alloc(), words, rt.stderr().is_terminal()) {
         Ok(task) => match perform(rt, threads, &task) {
             Ok(status) => status,
             Err(trouble) => trouble.tell(rt, &task),
         },
-        Err(usage) => show(rt, &usage),
+        Err(usage) => help(rt, &usage),
     }
 }
 
-/// Reads what the task names and does the work, which reports its own faults.
+/// Reads what the task names and does the work, which reports its own faults. A cause is a name alone.
 fn perform<R: Threads + Wait + Sync>(
     rt: &HostRuntime,
     threads: &R,
     task: &Task,
 ) -> Result<u8, Trouble> {
-    let bytes = match read_named(rt, threads, task)? {
-        Given::Bytes(bytes) => bytes,
+    if task.verb == Verb::Explain {
+        return print(rt, threads, task, task.input.as_bytes(), None);
+    }
+    let (bytes, text) = match read_named(rt, threads, task)? {
+        Given::Bytes(bytes, text) => (bytes, text),
         Given::Refused(told, status) => return Ok(speak(rt, task, None, told.bytes(), status)),
     };
     let task = &as_told(task);
+    let source = match &text {
+        Some(text) => str::from_utf8(text).ok(),
+        None => None,
+    };
     match task.output {
-        Some(output) => write(rt, threads, task, &bytes, output),
-        None => print(rt, threads, task, &bytes),
+        Some(output) => write(rt, threads, task, &bytes, source, output),
+        None if shows_report(rt, task) => show(rt, threads, task, &bytes),
+        None => print(rt, threads, task, &bytes, source),
     }
 }
 
@@ -107,6 +117,7 @@ fn print<R: Threads + Wait + Sync>(
     threads: &R,
     task: &Task,
     bytes: &[u8],
+    source: Option<&str>,
 ) -> Result<u8, Trouble> {
     let Ok(mut out) = BufWriter::new(rt.alloc(), Output::new(rt.stdout())) else {
         return Err(Trouble::Memory);
@@ -114,8 +125,45 @@ fn print<R: Threads + Wait + Sync>(
     let Ok(mut told) = Told::new(rt.alloc()) else {
         return Err(Trouble::Memory);
     };
-    let status = execute(threads, rt.alloc(), task, bytes, &mut out, &mut told);
+    let status = execute(
+        threads,
+        rt.alloc(),
+        task,
+        bytes,
+        source,
+        &mut out,
+        &mut told,
+    );
     Ok(speak(rt, task, out.get_ref().failure(), told.bytes(), status))
+}
+
+/// Checks, and prints the report as people at a terminal read it.
+fn show<R: Threads + Wait + Sync>(
+    rt: &HostRuntime,
+    threads: &R,
+    task: &Task,
+    bytes: &[u8],
+) -> Result<u8, Trouble> {
+    let mut report = Output::new(Vec::new(rt.alloc()));
+    let Ok(mut told) = Told::new(rt.alloc()) else {
+        return Err(Trouble::Memory);
+    };
+    let status = execute(
+        threads,
+        rt.alloc(),
+        task,
+        bytes,
+        None,
+        &mut report,
+        &mut told,
+    );
+    if report.wants_memory() {
+        return Err(Trouble::Memory);
+    }
+    match show_report(rt, task, status == 0, report.writer()) {
+        Ok(()) => Ok(speak(rt, task, None, told.bytes(), status)),
+        Err(error) => Err(Trouble::writing(error)),
+    }
 }
 
 /// Prints what was said about a fault, and answers the exit status. Where the reader of a pipe has gone, nothing is printed.
@@ -126,14 +174,13 @@ fn speak(
     told: &[u8],
     status: u8,
 ) -> u8 {
-    let mut err = rt.stderr();
     let said = match failure {
         Some(error) if error.kind() == ErrorKind::BrokenPipe => Ok(()),
-        Some(error) if task.explain => err.write_all(told).and_then(|()| writeln!(
-            err,
+        Some(error) if task.explain => say(rt, task, told).and_then(|()| writeln!(
+            rt.stderr(),
             "Standard output can't be written: {error}."
         )),
-        _ => err.write_all(told),
+        _ => say(rt, task, told),
     };
     match said {
         Ok(()) => status,
@@ -147,13 +194,22 @@ fn write<R: Threads + Wait + Sync>(
     threads: &R,
     task: &Task,
     bytes: &[u8],
+    source: Option<&str>,
     output: &str,
 ) -> Result<u8, Trouble> {
     let mut made = Output::new(Vec::new(rt.alloc()));
     let Ok(mut told) = Told::new(rt.alloc()) else {
         return Err(Trouble::Memory);
     };
-    let status = execute(threads, rt.alloc(), task, bytes, &mut made, &mut told);
+    let status = execute(
+        threads,
+        rt.alloc(),
+        task,
+        bytes,
+        source,
+        &mut made,
+        &mut told,
+    );
     if made.wants_memory() {
         return Err(Trouble::Memory);
     }
@@ -175,7 +231,7 @@ fn is_written(verb: Verb, status: u8) -> bool
 }
 
 /// Prints help on standard output, and what is wrong with the words on standard error.
-fn show(rt: &HostRuntime, usage: &Usage) -> u8 {
+fn help(rt: &HostRuntime, usage: &Usage) -> u8 {
     let shown = if usage.status == 0 {
         rt.stdout().write_all(usage.text().as_bytes())
     } else {

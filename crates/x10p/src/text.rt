@@ -14,7 +14,8 @@ const TEXT: &str = ".asm";
 /// What a command works with.
 #[derive(Drop)]
 pub enum Given {
-    Bytes(Vec<u8>),
+    /// Bytes, and the text from which they were assembled, if they were.
+    Bytes(Vec<u8>, Option<Vec<u8>>),
     /// There is no image, since the text is refused: what is said about that, and the status.
     Refused(Told, u8),
 }
@@ -50,9 +51,9 @@ pub fn read<R: Threads + Wait + Sync>(
 ) -> Result<Given, Trouble> {
     if is_text(task.input) && takes_image(task.verb) {
         let text = input::read(rt, Verb::Asm, file)?;
-        return assembled(rt, threads, task, &text);
+        return assembled(rt, threads, task, text);
     }
-    Ok(Given::Bytes(input::read(rt, task.verb, file)?))
+    Ok(Given::Bytes(input::read(rt, task.verb, file)?, None))
 }
 
 /// Reads standard input as far as it can be what the command takes. Where the command takes an image, its first bytes say whether
@@ -64,18 +65,18 @@ pub fn read_input<R: Threads + Wait + Sync>(
 ) -> Result<Given, Trouble> {
     let mut reader = rt.reader();
     if !takes_image(task.verb) {
-        return Ok(Given::Bytes(input::read(rt, task.verb, &mut reader)?));
+        return Ok(Given::Bytes(input::read(rt, task.verb, &mut reader)?, None));
     }
     // as far as it can be either, as for a check
     let bytes = input::read(rt, Verb::Check, &mut reader)?;
     if is_image(&bytes) {
-        return Ok(Given::Bytes(bytes));
+        return Ok(Given::Bytes(bytes, None));
     }
-    assembled(rt, threads, &as_told(task), &bytes)
+    assembled(rt, threads, &as_told(task), bytes)
 }
 
 fn takes_image(verb: Verb) -> bool {
-    !matches!(verb, Verb::Asm | Verb::Check)
+    !matches!(verb, Verb::Asm | Verb::Check | Verb::Explain)
 }
 
 /// The image that a text spells, or why it spells none.
@@ -83,7 +84,7 @@ fn assembled<R: Threads + Wait + Sync>(
     rt: &HostRuntime,
     threads: &R,
     task: &Task,
-    text: &[u8],
+    text: Vec<u8>,
 ) -> Result<Given, Trouble> {
     let mut asm = *task;
     asm.verb = Verb::Asm;
@@ -91,12 +92,20 @@ fn assembled<R: Threads + Wait + Sync>(
     let Ok(mut told) = Told::new(rt.alloc()) else {
         return Err(Trouble::Memory);
     };
-    let status = execute(threads, rt.alloc(), &asm, text, &mut image, &mut told);
+    let status = execute(
+        threads,
+        rt.alloc(),
+        &asm,
+        &text,
+        None,
+        &mut image,
+        &mut told,
+    );
     if image.wants_memory() {
         return Err(Trouble::Memory);
     }
     if status != 0 {
         return Ok(Given::Refused(told, status));
     }
-    Ok(Given::Bytes(image.into_writer()))
+    Ok(Given::Bytes(image.into_writer(), Some(text)))
 }

@@ -64,7 +64,7 @@ impl Trouble {
             Trouble::Memory => writeln!(err, "There is no memory for the bytes of {input}."),
             Trouble::Read(error) => writeln!(err, "{input} can't be read: {error}."),
             Trouble::Written(error) => {
-                let output = task.output.unwrap_or_default();
+                let output = task.output.unwrap_or("Standard output");
                 writeln!(err, "{output} can't be written: {error}.")
             }
             Trouble::TooLong => writeln!(err, "{input} is longer than a text can be."),

@@ -12,9 +12,9 @@ pub returns-in-Err-clause-status : goal.returns-in-Err-clause-status
 returns-in-Err-clause-status w = λ c. status_told _ c.in-Err.fault c.refuse.ensures.status
 
 pub returns-in-Ok-clause-printed : goal.returns-in-Ok-clause-printed
-returns-in-Ok-clause-printed w = λ c. λ e. prints_kept c.args.task.now.verb c.args.task.now.places c.args.bytes.now (w.O.Write.contents c.args.out.now) (w.O.Write.contents c.perform-done.new.out) (w.O.Write.contents c.flush.new.self) c.in-Ok.ensures.printed c.flush.ensures.bytes
+returns-in-Ok-clause-printed w = λ c. λ e. prints_kept c.args.task.now.verb c.args.task.now.json c.args.task.now.places c.args.bytes.now (w.O.Write.contents c.args.out.now) (w.O.Write.contents c.perform-done.new.out) (w.O.Write.contents c.flush.new.self) c.in-Ok.ensures.printed c.flush.ensures.bytes
 
 pub returns-in-Err-clause-left_stopped : goal.returns-in-Err-clause-left_stopped
 returns-in-Err-clause-left_stopped w = λ c. λ s.
-    stopped_kept c.args.task.now.verb c.args.task.now.threads c.args.task.now.places c.args.bytes.now (w.O.Write.contents c.args.out.now) (w.O.Write.contents c.perform-done.new.out) (w.O.Write.contents c.flush.new.self)
+    stopped_kept c.args.task.now.verb c.args.task.now.json c.args.task.now.threads c.args.task.now.places c.args.bytes.now (w.O.Write.contents c.args.out.now) (w.O.Write.contents c.perform-done.new.out) (w.O.Write.contents c.flush.new.self)
     (c.in-Err.ensures.left_stopped (same_status c.refuse.result 2 c.in-Err.fault c.refuse.ensures.status s (λ x. omega (arith, x)))) c.flush.ensures.bytes

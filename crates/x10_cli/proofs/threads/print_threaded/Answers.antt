@@ -26,8 +26,8 @@ returns-clause-due g = λ c.
     due_work c.args.task.now.places c.args.bytes.now c.in_ok-verified.verified c.places_of-places.result c.in-Err.why c.from.result c.in_ok-verified.ensures.found (λ e. c.in-Err.ensures.places.0 (rw e refl)) c.places_of-places.ensures c.from.ensures
 
 pub returns-clause-refused_early : goal.returns-clause-refused_early
-returns-clause-refused_early g = λ c. work_kept c.in-Err.why c.from.result (g.O.Write.contents c.args.out.now) (g.O.Write.contents c.print_told.new.out) c.from.ensures c.in_ok-print_told-in-Err.ensures.ok
+returns-clause-refused_early g = λ c. work_kept c.args.task.now.json c.in-Err.why c.from.result (g.O.Write.contents c.args.out.now) (g.O.Write.contents c.print_told.new.out) c.from.ensures c.in_ok-print_told-in-Err.ensures.ok
 
 pub returns-clause-stopped : goal.returns-clause-stopped
 returns-clause-stopped g = λ c. λ s.
-    work_left c.args.bytes.now c.in_ok-verified.verified c.args.task.now.places c.places_of-places.result c.args.task.now.limit c.in-Err.why (g.O.Write.contents c.args.out.now) (g.O.Write.contents c.print_told.new.out) c.in_ok-verified.ensures.found c.places_of-places.ensures c.in-Err.ensures.told c.in_ok-print_told-in-Err.ensures.ok
+    work_left c.args.task.now.json c.args.bytes.now c.in_ok-verified.verified c.args.task.now.places c.places_of-places.result c.args.task.now.limit c.in-Err.why (g.O.Write.contents c.args.out.now) (g.O.Write.contents c.print_told.new.out) c.in_ok-verified.ensures.found c.places_of-places.ensures c.in-Err.ensures.told c.in_ok-print_told-in-Err.ensures.ok

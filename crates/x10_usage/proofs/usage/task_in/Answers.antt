@@ -2,7 +2,7 @@ use Rattle.std.proofs.Common.{sym, ap, ◌∙◌}
 use Rattle.std.specs.Prelude.{codes}
 use Rattle.std.specs.Str.Parse.{ParsesUnsigned, ExplainsUnsignedError, HasUnsignedDigitsIfOk}
 use Rattle.clap.specs.Matches.{found_of, first_value, one_text}
-use Rattle.x10_usage.specs.Tasks.{schedule_named}
+use Rattle.x10_usage.specs.Tasks.{color_named, explained_by, schedule_named}
 use Rattle.x10_usage.proofs.Tasking.{number_read}
 use Rattle.x10_usage.proofs.usage.task_in.Goals as goal
 
@@ -27,5 +27,7 @@ returns c = record {
   are_asked = number_read 64 (λ bs r. ParsesUnsigned 64 10 bs r × ExplainsUnsignedError 10 bs r × HasUnsignedDigitsIfOk bs r) (one_text (found_of c.in_ok-name.matches.now) (codes "seeds")) c.get_one-3.result (λ bs r g. g.0) c.get_one-3.ensures.none c.get_one-3.ensures.value;
   seeds_is = c.unwrap_or-2.ensures;
   threads_is = record { none = c.get_flag-2.ensures.none; yes = c.get_flag-2.ensures.value; no = c.get_flag-2.ensures.other };
-  explain_is = record { none = c.get_flag-3.ensures.none; yes = c.get_flag-3.ensures.value; no = c.get_flag-3.ensures.other };
+  json_is = record { none = c.get_flag-3.ensures.none; yes = c.get_flag-3.ensures.value; no = c.get_flag-3.ensures.other };
+  explain_is = c.is_explained.ensures ∙ ap (λ o. explained_by o c.args.explain) c.get_str-4.ensures;
+  color_is = c.color_of.ensures ∙ ap (λ o. color_named o) c.get_str-5.ensures;
 }

@@ -1,0 +1,205 @@
+//! What the page of faults says of a cause. Written by `make` beside `src` from docs/FAULTS.md; change that, not this.
+
+pub(crate) const WORD: &str = "asm: Word: a first word that isn't known.
+
+    ; $ x10p asm word.asm word.x10
+    ; status 1: asm: line 5 Word
+    places 1
+    func 1 0 none
+      print 0
+      RET 0
+    end
+    entry 0
+
+Names of instructions are in capitals: `PRINT 0`. Word is also an unknown kind
+(`integer`, `here:0` in a class), ATOMB or ATOME without `version 2`, and a tab:
+only spaces separate words.
+";
+
+pub(crate) const NUMBER: &str =
+    "asm: Number: a word that should be a number. Here `--explain` marks the word:
+
+    ; $ x10p asm --explain number.asm number.x10
+    ; status 1: asm: line 8 Number
+    ; > number.asm:8:5: Number: int 7.5
+    ; >                             ^^^
+    ; > `7.5` isn't a whole number, and there are no others.
+    ; > Expected: int N, from -9223372036854775808 to 9223372036854775807.
+    places 1
+    int 7.5
+    func 1 0 none
+      RET 0
+    end
+    entry 0
+
+There are only whole decimal numbers: `int 7`. Number is also what doesn't fit
+into its field (an `int` above 2^63 - 1, an operand above 255), a class that
+isn't there (`obj:3` with three classes), and `@label` where there is no jump.
+";
+
+pub(crate) const COUNT: &str = "asm: Count: too few or too many words.
+
+    ; $ x10p asm count.asm count.x10
+    ; status 1: asm: line 6 Count
+    places 1
+    int 7
+    func 1 0 none
+      INTK 0
+      RET 0
+    end
+    entry 0
+
+`INTK 0 0`: the register and the constant. docs/INSTRUCTIONS.md has the operands
+of each instruction.
+
+asm: Count again: a comment after an instruction.
+
+    ; $ x10p asm comment.asm comment.x10
+    ; status 1: asm: line 7 Count
+    places 1
+    int 7
+    func 1 0 none
+      INTK 0 0
+      PRINT 0 ; the number
+      RET 0
+    end
+    entry 0
+
+A comment needs a line of its own. Where an operand is missing, as in `INTK 0 ;
+seven`, this is Number.
+
+image: Count. A number outside its range; here the least number of places is 0.
+
+    ; $ x10p verify least.x10
+    ; status 1: image: Count
+    58313050 0001 0000 0000 0000 0000 0001 0000 0000
+";
+
+pub(crate) const ORDER: &str = "asm: Order: a line out of order, or one that is missing.
+
+    ; $ x10p asm order.asm order.x10
+    ; status 1: asm: line 7 Order
+    places 1
+    func 1 0 none
+      RET 0
+    end
+
+Add `entry 0`. A missing line is reported after the last one. The order is
+`places`, all `class`, all `int`, all `text`, the functions, `entry`.
+";
+
+pub(crate) const LABEL: &str = "asm: Label: unknown, there twice, or not well formed.
+
+    ; $ x10p asm label.asm label.x10
+    ; status 1: asm: line 5 Label
+    places 1
+    func 1 0 none
+      JMP @uot
+    out:
+      RET 0
+    end
+    entry 0
+
+`JMP @out`. A label is known in its own function only.
+";
+
+pub(crate) const TEXT: &str = "asm: Text: quotes, escapes, or too many bytes.
+
+    ; $ x10p asm quotes.asm quotes.x10
+    ; status 1: asm: line 4 Text
+    places 1
+    text \"hello
+    func 1 0 none
+      RET 0
+    end
+    entry 0
+
+Close the quotes. Inside them the escapes are `\\\"`, `\\\\` and `\\n`.
+
+image: Text. A text isn't UTF-8.
+
+    ; $ x10p verify text.x10
+    ; status 1: image: Text
+    58313050 0001 0001 0000 0000 0001 0001 0000 0000
+    0001 ff
+";
+
+pub(crate) const LIMIT: &str = "asm: Limit: a number beyond what a module may have.
+
+    ; $ x10p asm many.asm many.x10
+    ; status 1: asm: line 4 Limit
+    places 1
+    func 65 0 none
+      RET 0
+    end
+    entry 0
+
+A function has 1 to 64 registers, and not fewer than parameters; for the other
+ranges see docs/FORMATS.md. A function without an instruction is Limit at its
+`end`.
+
+limit: as many events were made as `--limit` permits, and the run isn't over.
+
+    ; $ x10p run endless.x10 --limit 100
+    ; status 2: limit
+    places 1
+    func 1 0 none
+      ASYNC 0 0
+      RET 0
+    end
+    entry 0
+
+Each activity here ends, but first it starts another one. Where a run is just
+long, give a greater `--limit` (without one it is 1,000,000); idle events count
+too.
+
+stop: Limit n: a count of the machine would be passed.
+
+    ; $ x10p run list.x10 --limit 3000000
+    ; status 2: stop: Limit 7
+    places 1
+    class opt:0
+    func 1 0 none opt:0
+      RET 0
+    end
+    func 2 2 none
+      NULL 0 0
+      LOOP 0 1024
+    turn:
+      LOOP 1 1024
+    again:
+      NEW 0 0 0
+      ENDL 1 @again
+      ENDL 0 @turn
+      NEW 0 0 0
+      HERE 1
+      ATA 0 1 0
+      RET 0
+    end
+    entry 1
+
+1,048,577 objects are too many for one frame: send them in parts. Of all limits
+(docs/PROGRAM.md) a program can meet this one, 8 (texts) and 9 (rails).
+";
+
+pub(crate) const ENTRY: &str =
+    "asm: Entry: the entry function isn't there, or has a parameter or a result.
+
+    ; $ x10p asm main.asm main.x10
+    ; status 1: asm: line 7 Entry
+    places 1
+    func 1 0 none int
+      RET 0
+    end
+    entry 0
+
+Main takes nothing and gives nothing: `func 1 0 none`.
+
+image: Entry. No function has the entry's number, or it has a parameter or a
+result.
+
+    ; $ x10p verify entry.x10
+    ; status 1: image: Entry
+    58313050 0001 0001 0000 0000 0000 0001 0001 0000
+    00010000 00000000 0001 0000 2900000000000000
+";

@@ -1,0 +1,18 @@
+//! What docs/FAULTS.md says of each cause of a fault.
+#![tactic(auto)]
+
+mod asm;
+mod image;
+mod run;
+mod structure;
+mod table;
+mod verify;
+
+pub use table::CAUSES;
+
+/// What the page says of a cause, as it is printed, with its line ends; capitals and small letters are the same. Where several
+/// parts of the page have a cause of this name, what each says.
+pub fn section(cause: &str) -> Option<&'static str> {
+    let name = CAUSES.iter().find(|name| name.eq_ignore_ascii_case(cause))?;
+    table::text_of(name)
+}
