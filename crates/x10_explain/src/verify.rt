@@ -12,6 +12,7 @@ use crate::phrase::{push_known, push_term};
 use crate::regions::push_structure;
 use crate::repair::push_repair;
 use crate::source::Source;
+use crate::want::push_want;
 use std::alloc::{AllocError, Global};
 use std::fmt::Write;
 use x10_asm::push_slot;
@@ -203,7 +204,7 @@ pub(crate) fn push_asked(out: &mut String, spot: &Spot, lack: Lack) -> Result<()
     match lack {
         Lack::Register(register, want, role) => {
             write!(out, "{name} asks that r{register} is")?;
-            want.push(out)?;
+            push_want(out, want)?;
             push_role(out, spot, role)
         }
         Lack::NoField(register, _) => {
