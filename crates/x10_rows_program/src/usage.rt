@@ -24,6 +24,7 @@ fn words(rt: HostRuntime) -> Result<(), Fail> {
         limit: 1_000_000,
         schedule: Schedule::Rounds,
         seed: None,
+        seeds: 100,
         threads: false,
         json: false,
         explain: false,
