@@ -2,52 +2,69 @@
 # Written by completions/make from the program's help; change that, not this.
 # shellcheck shell=bash disable=SC2034
 
-# _x10p_has COMMAND: its options, and what is offered for the value of an option and for each argument; where COMMAND is empty,
-# those of the program
+# _x10p_has COMMAND: its options, and what is offered for the value of an option and for each argument; which options may lack
+# their value; where COMMAND is empty, those of the program
 _x10p_has() {
-    options=() values=() arguments=()
+    options=() values=() optional=() arguments=()
     case $1 in
     '')
         options=(-h --help -V --version)
-        arguments=('words asm list check verify bounds run trace draw help')
+        arguments=('words asm list check verify bounds explain run trace draw help')
         ;;
     asm)
-        options=(--explain -h --help)
+        options=(--explain --color -h --help)
+        values=([--explain]='words yes no' [--color]='words auto always never')
+        optional=(--explain)
         arguments=('files asm x10' 'files asm x10')
         ;;
     list)
-        options=(--verbose --explain -h --help)
+        options=(--verbose --json --explain --color -h --help)
+        values=([--explain]='words yes no' [--color]='words auto always never')
+        optional=(--explain)
         arguments=('files asm x10')
         ;;
     check)
-        options=(--explain -h --help)
+        options=(--json --explain --color -h --help)
+        values=([--explain]='words yes no' [--color]='words auto always never')
+        optional=(--explain)
         arguments=('files asm x10')
         ;;
     verify)
-        options=(--explain -h --help)
+        options=(--explain --color -h --help)
+        values=([--explain]='words yes no' [--color]='words auto always never')
+        optional=(--explain)
         arguments=('files asm x10')
         ;;
     bounds)
-        options=(--explain -h --help)
+        options=(--explain --color -h --help)
+        values=([--explain]='words yes no' [--color]='words auto always never')
+        optional=(--explain)
         arguments=('files asm x10')
         ;;
+    explain)
+        options=(-h --help)
+        arguments=('words Word Number Count Order Label Text Limit Entry Nesting Jump LoopSlot CallOrder Atomic TooLarge Index Unset Kind Home Result places turns file usage thread refused differs Memory Short Magic Version Reserved Code Trailing')
+        ;;
     run)
-        options=(--places --limit --schedule --seed --explain --threads -h --help)
-        values=([--places]='nothing' [--limit]='nothing' [--schedule]='words rounds random oldest newest' [--seed]='nothing')
+        options=(--places --limit --schedule --seed --explain --color --threads --json -h --help)
+        values=([--places]='nothing' [--limit]='nothing' [--schedule]='words rounds random oldest newest' [--seed]='nothing' [--explain]='words yes no' [--color]='words auto always never')
+        optional=(--explain)
         arguments=('files asm x10')
         ;;
     trace)
-        options=(--places --limit --schedule --seed --explain -h --help)
-        values=([--places]='nothing' [--limit]='nothing' [--schedule]='words rounds random oldest newest' [--seed]='nothing')
+        options=(--places --limit --schedule --seed --explain --color -h --help)
+        values=([--places]='nothing' [--limit]='nothing' [--schedule]='words rounds random oldest newest' [--seed]='nothing' [--explain]='words yes no' [--color]='words auto always never')
+        optional=(--explain)
         arguments=('files asm x10')
         ;;
     draw)
-        options=(--places --limit --schedule --seed --explain -h --help)
-        values=([--places]='nothing' [--limit]='nothing' [--schedule]='words rounds random oldest newest' [--seed]='nothing')
+        options=(--places --limit --schedule --seed --explain --color -h --help)
+        values=([--places]='nothing' [--limit]='nothing' [--schedule]='words rounds random oldest newest' [--seed]='nothing' [--explain]='words yes no' [--color]='words auto always never')
+        optional=(--explain)
         arguments=('files asm x10' 'files svg')
         ;;
     help)
-        arguments=('words asm list check verify bounds run trace draw help')
+        arguments=('words asm list check verify bounds explain run trace draw help')
         ;;
     esac
 }
@@ -80,7 +97,7 @@ _x10p_offer_options() {
 
 _x10p() {
     local IFS=$' \t\n' word=${COMP_WORDS[COMP_CWORD]} command='' option='' given=' ' only_arguments='' count=0 each at
-    local -a options arguments what
+    local -a options optional arguments what
     local -A values
     COMPREPLY=()
     _x10p_has ''
@@ -100,7 +117,7 @@ _x10p() {
             only_arguments=yes
         else
             given+="$each "
-            [ -z "${values[$each]+value}" ] || option=$each
+            [ -z "${values[$each]+value}" ] || [[ " ${optional[*]} " == *" $each "* && ${COMP_WORDS[at + 1]-} != = ]] || option=$each
         fi
     done
     [ "$word" != = ] || word=''

@@ -2,8 +2,8 @@
 ;
 ; $ x10p bounds structure_in_a_text.asm --explain
 ; status 1: verify: Structure Jump 0 1
-; > structure_in_a_text.asm:10:3: Jump, function 0, instruction 1: JMP 0
-; > Only ENDL goes back, and a jump goes to a later instruction; this one goes to line 9: HERE 0
+; > structure_in_a_text.asm:11:3: Jump, function 0, instruction 1: JMP 0
+; > Only ENDL goes back, and a jump goes to a later instruction; this one goes to line 10: HERE 0
 places 1
 func 1 0 none
 again:

@@ -1,27 +1,30 @@
-# JSON: what `check`, `list` and `run` print with --json of the tests and examples, read by another program, which compares it with
-# docs/json.schema.json and with what they print without the option.
+# JSON: what `check`, `list` and `run` print with --json of the examples and of every fifth test, read by another program, which
+# compares it with docs/json.schema.json and with what they print without the option. For all tests, or for random modules, call
+# that program, json_agrees, by hand.
 top="$(cd "$(dirname "$0")/../.." && pwd)"
 source "$(dirname "$0")/common"
 
-# texts under their own names, without those whose pieces are written out by tests/run; and the images of every tenth
+# texts under names of their own, without those whose pieces tests/run writes out; and the images of some
 mkdir texts
-for file in "$top"/examples/*.asm "$top"/tests/*/*.asm; do
-    grep -q '{{' "$file" || cp "$file" "texts/$(basename "$(dirname "$file")")-$(basename "$file")"
-done
-for file in texts/*0*.asm texts/*a_*.asm texts/examples-*.asm; do
+number=0
+while read -r file; do
+    [[ $file == examples/* || $((++number % 5)) = 0 ]] || continue
+    grep -q '{{' "$top/$file" || cp "$top/$file" "texts/${file//\//-}"
+done < <(cd "$top" && find examples tests -name '*.asm' | sort)
+for file in texts/examples-*.asm texts/tests-refused-*.asm; do
     x10p asm "$file" "${file%.asm}.x10" 2>/dev/null
 done
 "$top/tests/scripts/json_agrees" x10p texts/* >told || {
     cat told
     exit 1
 }
-[ "$(ls texts | wc -l)" -ge 500 ] || fail "there are only $(ls texts | wc -l) texts and images"
+[ "$(ls texts | wc -l)" -ge 120 ] || fail "there are only $(ls texts | wc -l) texts and images"
 
 # a line for each line of a place, whatever the text holds
 cat >forged.asm <<'END'
 places 2
-text "a\n1: b\\ \"c\""
 int -9223372036854775808
+text "a\n1: b\\ \"c\""
 func 1 0 none
   TEXTK 0 0
   PRINT 0

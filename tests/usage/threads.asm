@@ -30,7 +30,7 @@
 ; status 3
 ; $ x10p run --help
 ; ..
-;       --threads           A thread for each place, and no schedule; --limit then counts turns of workers
+;       --threads              A thread for each place, and no schedule; --limit then counts turns of workers
 ; ..
 places 1
 int 7
