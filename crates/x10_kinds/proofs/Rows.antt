@@ -3,7 +3,6 @@ use Rattle.std.proofs.Common.{◌≡◌, ◌≢◌, ℕ, zero, suc, ◌<◌, ◌
 use Rattle.std.proofs.lemmas.Bool.{eq-eqb, eqb-true, cases_lt, cases_order}
 use Rattle.std.proofs.lemmas.Bool.Decides.{nat_tests}
 use Rattle.std.proofs.lemmas.Nat.{le_bytes_8}
-use Rattle.std.specs.Int.{w64, from_le_bytes}
 use Rattle.x10_kinds.specs.Labels.{AreSameIn, IsCanonical, IsFirstAlike, IsMetTo, alike, eight_from}
 
 -- a term that one row parts from its first one says that the row lacks an equation of the other
