@@ -3,12 +3,11 @@
 use crate::phrase::are_same;
 use crate::rule::outcome_and_row;
 use crate::source::Source;
-use crate::want::Want;
 use x10_code::{Instr, Outcome};
 use x10_image::{ClassView, ImageView, SigView};
 use x10_kinds::{Kind, Term};
 use x10_model::Slot;
-use x10_verify::{Flow, VerifyCause};
+use x10_verify::{Flow, VerifyCause, Want, is_met};
 
 /// What a register is asked for.
 #[derive(Clone, Copy, Debug, PartialEq, Eq)]
@@ -101,10 +100,10 @@ pub(crate) fn first_lack(spot: &Spot) -> Lack {
 
 // What is missing of a register.
 fn asked(spot: &Spot, register: u8, want: Want, role: Role) -> Option<Lack> {
-    if want.is_met(spot.flow.kind(spot.pc, register)) {
-        return None;
+    match spot.flow.kind(spot.pc, register) {
+        Some(have) if is_met(want, have) => None,
+        _ => Some(Lack::Register(register, want, role)),
     }
-    Some(Lack::Register(register, want, role))
 }
 
 // What is missing of what an outcome asks.

@@ -1,10 +1,11 @@
 //! How what the verifier misses is put right.
 
 use crate::lack::{Lack, Spot};
-use crate::want::Want;
+use crate::want::{takes_int, takes_object};
 use std::alloc::AllocError;
 use std::fmt::Write;
 use x10_kinds::{Kind, Term};
+use x10_verify::Want;
 
 /// A line on how to put right what is missing, where there is a usual way. Where ways meet, what is known comes from them.
 pub(crate) fn push_repair(
@@ -46,11 +47,11 @@ fn push_converted(
 ) -> Result<(), AllocError> {
     let n = register;
     match have {
-        Kind::Opt(_) if want.takes_object() => writeln!(
+        Kind::Opt(_) if takes_object(want) => writeln!(
             out,
             "It may be null. Put `IFOBJ {n} {n} @LABEL` before it, which goes to a label where it is."
         ),
-        Kind::Place if want.takes_int() => {
+        Kind::Place if takes_int(want) => {
             writeln!(
                 out,
                 "Put `PLACEI {n} {n}` before it, which makes the number of a place."
@@ -60,7 +61,7 @@ fn push_converted(
             out,
             "Put `PLACEN {n} {n} @LABEL` before it, which makes a place of a number, and goes to a label where there is none."
         ),
-        Kind::GRef(_) if want.takes_object() => writeln!(
+        Kind::GRef(_) if takes_object(want) => writeln!(
             out,
             "Put `GOPEN {n} {n}` before it, which opens a global reference at its home."
         ),

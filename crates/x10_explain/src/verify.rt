@@ -11,6 +11,7 @@ use crate::phrase::{push_known, push_term};
 use crate::regions::push_structure;
 use crate::repair::push_repair;
 use crate::source::Source;
+use crate::want::push_want;
 use std::alloc::{AllocError, Global};
 use std::fmt::Write;
 use x10_asm::push_slot;
@@ -143,7 +144,7 @@ fn push_lack(out: &mut String, spot: &Spot, lack: Lack) -> Result<(), AllocError
     match lack {
         Lack::Register(register, want, role) => {
             write!(out, "{name} asks that r{register} is")?;
-            want.push(out)?;
+            push_want(out, want)?;
             push_role(out, spot, role)?;
             out.push_str("; ")?;
             push_known(out, register, spot.flow.kind(spot.pc, register))?;

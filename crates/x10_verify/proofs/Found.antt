@@ -27,7 +27,9 @@ use Rattle.x10_verify.specs.Merging.{IsMet}
 use Rattle.x10_verify.specs.Effects.{IsNarrow, CanApply}
 use Rattle.x10_code.specs.Rules.{rule_for, goes_on_of}
 use Rattle.x10_model.specs.Assignments.{IsKindIf, field_of, IsPlaceTerm, IsCalled, GivesResult, Settles, Grants, after}
-use Rattle.x10_verify.specs.Causes.{Want, Anything, Fitting, AnObject, AnObjectOrNull, AReference, APlaceOrReference, AnIntOrText, Meets, IsRefused, IsUnfit, HasNoField, IsNoPlace, IsUncalled, IsUnreturned, IsCauseOf, IsCauseAt}
+use Rattle.x10_verify.specs.declared.want.Want.{Want}
+use Rattle.x10_verify.specs.declared.want.Want.TheVariants.{Anything, Fitting, AnObject, AnObjectOrNull, AReference, APlaceOrReference, AnIntOrText}
+use Rattle.x10_verify.specs.Causes.{Meets, IsRefused, IsUnfit, HasNoField, IsNoPlace, IsUncalled, IsUnreturned, IsCauseOf, IsCauseAt}
 use Rattle.x10_verify.specs.LawsOfFaults.{CausesRefuteRules, FollowedIsKnown, FoundIsWithout}
 use Rattle.x10_verify.proofs.Below.{entry_cases}
 use Rattle.x10_verify.proofs.Settling.{object_once, grants_sound}

@@ -16,16 +16,13 @@ use Rattle.x10_code.specs.declared.rule.Outcome.{Outcome}
 use Rattle.x10_code.specs.declared.rule.Outcome.TheVariants.{Fixed, Copies, Calls, Returns, Makes, Gets, Puts, Unwraps}
 use Rattle.x10_code.specs.declared.rule.Outcome.TheVariants.{Locates, Exports, Opens, FindsHere, FindsSame, Starts, Prints}
 use Rattle.x10_code.specs.declared.rule.Rule.{Rule}
+use Rattle.x10_verify.specs.declared.want.Want.{Want}
+use Rattle.x10_verify.specs.declared.want.Want.TheVariants.{Anything, Fitting, AnObject, AnObjectOrNull, AReference, APlaceOrReference, AnIntOrText}
 use Rattle.x10_verify.specs.Knowledge.{Follows, point}
 use Rattle.x10_code.specs.Rules.{rule_for}
 use Rattle.x10_model.specs.Assignments.{field_of}
 
--- what is asked of a register
-pub data Want : Type 0 where
-  Anything : Want
-  Fitting : Kind → Want
-  AnObject AnObjectOrNull AReference APlaceOrReference AnIntOrText : Want
-
+-- a kind is what is asked of a register
 abbrev pub Meets : Want → Kind → Type 0
 Meets Anything have = Unit {0}
 Meets (Fitting want) have = Fits have want

@@ -7,7 +7,8 @@ ghost use Rattle.x10_code.specs.Rules.{NamesSmall};
 ghost use Rattle.x10_code.specs.Rules.{rule_for};
 ghost use Rattle.x10_model.specs.Assignments.{Grants, IsKindIf, Settles};
 ghost use Rattle.x10_verify.specs.Effects.{Decides};
-ghost use Rattle.x10_verify.specs.Causes.{Fitting, IsCauseAt, IsCauseOf, IsRefused};
+ghost use Rattle.x10_verify.specs.declared.want.Want.TheVariants.{Fitting};
+ghost use Rattle.x10_verify.specs.Causes.{IsCauseAt, IsCauseOf, IsRefused};
 ghost use Rattle.x10_kinds.specs.declared.kind.Kind as kinds;
 
 use crate::calls::{called, returned, started};

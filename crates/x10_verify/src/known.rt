@@ -6,7 +6,8 @@ ghost use Rattle.x10_verify.specs.Effects.{CanApply, IsNarrow};
 ghost use Rattle.x10_verify.specs.Known.{state_of, kind_in};
 ghost use Rattle.x10_verify.specs.Knowledge.{SameState};
 ghost use Rattle.x10_model.specs.Assignments.{after};
-ghost use Rattle.x10_verify.specs.Causes.{Fitting, IsRefused};
+ghost use Rattle.x10_verify.specs.declared.want.Want.TheVariants.{Fitting};
+ghost use Rattle.x10_verify.specs.Causes.{IsRefused};
 
 use crate::coded::{Kinds, decode, encode};
 use crate::fault::FlowCause;

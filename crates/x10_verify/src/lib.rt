@@ -18,8 +18,10 @@ mod solver;
 mod states;
 mod step;
 mod verified;
+mod want;
 mod whole;
 
 pub use fault::{VerifyCause, VerifyFault};
 pub use flow::{Flow, known_flow};
 pub use verified::{Verified, verify};
+pub use want::{Want, is_met};

@@ -7,7 +7,8 @@ ghost use Rattle.x10_verify.specs.Known.{state_of};
 ghost use Rattle.x10_verify.specs.Knowledge.{point};
 ghost use Rattle.x10_model.specs.Assignments.{KindsAre, Settles, field_of};
 ghost use Rattle.x10_verify.specs.Effects.{Decides};
-ghost use Rattle.x10_verify.specs.Causes.{AnObject, Fitting, IsCauseOf, IsRefused};
+ghost use Rattle.x10_verify.specs.declared.want.Want.TheVariants.{AnObject, Fitting};
+ghost use Rattle.x10_verify.specs.Causes.{IsCauseOf, IsRefused};
 
 use crate::fault::FlowCause;
 use crate::known::Known;

@@ -8,7 +8,8 @@ ghost use Rattle.x10_verify.specs.Known.{state_of};
 ghost use Rattle.x10_verify.specs.Knowledge.{point};
 ghost use Rattle.x10_model.specs.Assignments.{Settles};
 ghost use Rattle.x10_verify.specs.Effects.{Decides};
-ghost use Rattle.x10_verify.specs.Causes.{APlaceOrReference, AReference, IsCauseOf, IsRefused};
+ghost use Rattle.x10_verify.specs.declared.want.Want.TheVariants.{APlaceOrReference, AReference};
+ghost use Rattle.x10_verify.specs.Causes.{IsCauseOf, IsRefused};
 
 use crate::fault::FlowCause;
 use crate::known::Known;
