@@ -47,12 +47,7 @@ pub(crate) struct FaultJson<'a> {
 }
 
 impl<'a> FaultJson<'a> {
-    fn new(
-        alloc: Global,
-        file: &'a str,
-        part: &'static str,
-        cause: &'static str,
-    ) -> FaultJson<'a> {
+    fn new(alloc: Global, file: &'a str, part: &'static str, cause: &'static str) -> FaultJson<'a> {
         FaultJson {
             file,
             part,
