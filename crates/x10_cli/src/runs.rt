@@ -39,7 +39,11 @@ pub(crate) fn print_runs<O: Write>(
 }
 
 /// What the runs of a module print. Where it doesn't run at so many places, there is no run.
-fn findings_of<'a>(alloc: Global, task: &Task, verified: &'a Verified<'a>) -> Result<Findings, Fault>
+fn findings_of<'a>(
+    alloc: Global,
+    task: &Task,
+    verified: &'a Verified<'a>,
+) -> Result<Findings, Fault>
     ensures found { IfOk result (FoundIn verified.now (places_for task.now.places verified.now) task.now.seeds) }
     ensures permitted { IfOk result (λ _. IsForbidden verified.now (places_for task.now.places verified.now) → ⊥) }
     ensures due { (bytes : List ℕ) → IsImageOf bytes verified.now → IfErr result (IsDue task.now.places bytes) }

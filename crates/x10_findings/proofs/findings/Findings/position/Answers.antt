@@ -19,7 +19,7 @@ loop-at-preserved c = λ k f less there is. elim (cases_lt k c.loop-at.at) [
   | inr le ↦
       let same : k ≡ c.loop-at.at = omega (arith, less, le) in
       let here = subst (λ (s : FindingsState). slice_get s.found c.loop-at.at ≡ Some c.index.result.now) c.self.view_is
-          (slice_get-get_or c.self.inside.list.items c.loop-at.at c.index.result.now (omega arith) ∙ ap Some (sym c.index.ensures)) in
+      (slice_get-get_or c.self.inside.list.items c.loop-at.at c.index.result.now (omega arith) ∙ ap Some (sym c.index.ensures)) in
       let e = same_Some f c.index.result.now (sym there ∙ ap (λ n. slice_get c.args.self.now.found n) same ∙ here) in
       both_ways c.is_this.result c.if-is_this.false (c.is_this.ensures.1 (subst (λ g. IsThis g c.args.output.now c.args.ended) e is))
 ]
