@@ -9,7 +9,7 @@ _x10p_has() {
     case $1 in
     '')
         options=(-h --help -V --version)
-        arguments=('words asm list check verify bounds explain run trace draw help')
+        arguments=('words asm list check verify bounds explain run runs trace draw help')
         ;;
     asm)
         options=(--explain --color -h --help)
@@ -51,6 +51,12 @@ _x10p_has() {
         optional=(--explain)
         arguments=('files asm x10')
         ;;
+    runs)
+        options=(--seeds --places --limit --explain --color -h --help)
+        values=([--seeds]='nothing' [--places]='nothing' [--limit]='nothing' [--explain]='words yes no' [--color]='words auto always never')
+        optional=(--explain)
+        arguments=('files asm x10')
+        ;;
     trace)
         options=(--places --limit --schedule --seed --explain --color -h --help)
         values=([--places]='nothing' [--limit]='nothing' [--schedule]='words rounds random oldest newest' [--seed]='nothing' [--explain]='words yes no' [--color]='words auto always never')
@@ -64,7 +70,7 @@ _x10p_has() {
         arguments=('files asm x10' 'files svg')
         ;;
     help)
-        arguments=('words asm list check verify bounds explain run trace draw help')
+        arguments=('words asm list check verify bounds explain run runs trace draw help')
         ;;
     esac
 }

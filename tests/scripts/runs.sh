@@ -47,7 +47,11 @@ PY
 cat >orders.asm <<'END'
 places 1
 int 1
-func 1 0 none int
+func 2 1 none int
+LOOP 0 20
+again:
+MOVE 1 0
+ENDL 0 @again
 PRINT 0
 RET 0
 end
