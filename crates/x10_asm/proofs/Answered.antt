@@ -19,6 +19,7 @@ memory_or Memory h = refl
 memory_or Word h = absurd (h (λ e. cc))
 memory_or _ h = absurd (h (λ e. cc))
 
-pub only_spelled : {X : Type 0} (bytes : X → List ℕ) (answer : Result X AsmFault) (read : Result Module AsmFault) (m : Module) → GivesImage bytes answer read → read ≡ Ok m → IsSpelledUnlessMemory bytes answer m
+pub only_spelled : {X : Type 0} (bytes : X → List ℕ) (answer : Result X AsmFault) (read : Result Module AsmFault) (m : Module)
+    → GivesImage bytes answer read → read ≡ Ok m → IsSpelledUnlessMemory bytes answer m
 only_spelled bytes (Ok x) read m g e = g.2 ∙ ap spelling (same_module read g.0 m g.1 e)
 only_spelled bytes (Err fault) read m g e = memory_or fault.cause (λ ne. not_both read m fault e (g ne))

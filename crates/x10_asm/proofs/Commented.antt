@@ -11,7 +11,7 @@ use Rattle.x10_asm.specs.Lines.{grown, begins, lines, words, is_word_end}
 use Rattle.x10_asm.specs.Statements.{statement_in, statement_of}
 use Rattle.x10_asm.specs.Comments.{is_silent, says_something, said, is_feedless, comment, SaysAs, Tells}
 use Rattle.x10_asm.specs.Listing.{spaced, line}
-use Rattle.x10_asm.proofs.Splitting.{no_lines}
+use Rattle.x10_asm.proofs.LinesAndWords.{no_lines}
 
 -- ---- the lines of a text, byte by byte
 
@@ -36,7 +36,8 @@ next_append c false false (f ∷ o) ms h = refl
 
 some_line : (q : List ℕ) → 0 < length (lines (q ++ 10 ∷ []))
 some_line [] = rw (lines_cons 10 []) (omega arith)
-some_line (c ∷ cs) = rw (lines_cons c (cs ++ 10 ∷ [])) (next_some c (c == 10) (c == 13 && begins 10 (cs ++ 10 ∷ [])) (lines (cs ++ 10 ∷ [])) (some_line cs))
+some_line (c ∷ cs) = rw (lines_cons c (cs ++ 10 ∷ [])) (next_some c (c == 10) (c == 13 && begins 10 (cs ++ 10 ∷ [])) (lines (cs ++ 10 ∷ []))
+    (some_line cs))
 
 begins_same : (cs rest : List ℕ) → begins 10 (cs ++ 10 ∷ rest) ≡ begins 10 (cs ++ 10 ∷ [])
 begins_same [] rest = refl
@@ -44,7 +45,8 @@ begins_same (c ∷ cs) rest = refl
 
 -- a line's end parts a text
 pub lines_part : (q rest : List ℕ) → lines (q ++ 10 ∷ rest) ≡ lines (q ++ 10 ∷ []) ++ lines rest
-lines_part [] rest = lines_cons 10 rest ∙ sym (ap (λ (x : List (List ℕ)). x ++ lines rest) (lines_cons 10 [] ∙ ap (λ (x : List (List ℕ)). [] ∷ x) no_lines))
+lines_part [] rest = lines_cons 10 rest ∙ sym (ap (λ (x : List (List ℕ)). x ++ lines rest)
+    (lines_cons 10 [] ∙ ap (λ (x : List (List ℕ)). [] ∷ x) no_lines))
 lines_part (c ∷ cs) rest =
     lines_cons c (cs ++ 10 ∷ rest)
     ∙ ap (λ (d : Bool). next c (c == 10) (c == 13 && d) (lines (cs ++ 10 ∷ rest))) (begins_same cs rest)
@@ -58,17 +60,20 @@ grown_feedless : (c : ℕ) (ls : List (List ℕ)) → (c == 10) ≡ false → li
 grown_feedless c [] e h = rw e refl
 grown_feedless c (f ∷ o) e h = rw e h
 
-next_feedless : (c : ℕ) (b d : Bool) (ls : List (List ℕ)) → (c == 10) ≡ b → list_all is_feedless ls ≡ true → list_all is_feedless (next c b d ls) ≡ true
+next_feedless : (c : ℕ) (b d : Bool) (ls : List (List ℕ)) → (c == 10) ≡ b → list_all is_feedless ls ≡ true
+    → list_all is_feedless (next c b d ls) ≡ true
 next_feedless c true d ls e h = h
 next_feedless c false true ls e h = h
 next_feedless c false false ls e h = grown_feedless c ls e h
 
 pub lines_feedless : (text : List ℕ) → list_all is_feedless (lines text) ≡ true
 lines_feedless [] = ap (list_all is_feedless) no_lines
-lines_feedless (c ∷ cs) = ap (list_all is_feedless) (lines_cons c cs) ∙ next_feedless c (c == 10) (c == 13 && begins 10 cs) (lines cs) refl (lines_feedless cs)
+lines_feedless (c ∷ cs) = ap (list_all is_feedless) (lines_cons c cs)
+    ∙ next_feedless c (c == 10) (c == 13 && begins 10 cs) (lines cs) refl (lines_feedless cs)
 
 pub line_feedless : (text first : List ℕ) (others : List (List ℕ)) → lines text ≡ first ∷ others → is_feedless first ≡ true
-line_feedless text first others e = (and_parts (is_feedless first) (list_all is_feedless others) (sym (ap (list_all is_feedless) e) ∙ lines_feedless text)).0
+line_feedless text first others e = (and_parts (is_feedless first) (list_all is_feedless others)
+    (sym (ap (list_all is_feedless) e) ∙ lines_feedless text)).0
 
 -- ---- a comment
 
@@ -108,7 +113,8 @@ unfolding words
 comment_silent b = words_silent b (is_word_end b)
 
 comment_passed : (b : List ℕ) (ms : List (List ℕ)) → filter says_something ((59 ∷ b) ∷ ms) ≡ filter says_something ms
-comment_passed b ms = ap (λ (t : Bool). cond t ((59 ∷ b) ∷ filter says_something ms) (filter says_something ms)) (ap (λ x. not (is_silent x)) (comment_silent b))
+comment_passed b ms = ap (λ (t : Bool). cond t ((59 ∷ b) ∷ filter says_something ms) (filter says_something ms))
+    (ap (λ x. not (is_silent x)) (comment_silent b))
 
 comment_gone : (body rest : List ℕ) → is_feedless body ≡ true → said (59 ∷ (body ++ 10 ∷ rest)) ≡ said rest
 comment_gone body rest h =
@@ -123,12 +129,15 @@ nothing_says = record { bodies = []; text_says = λ rest. refl; plain_says = λ 
 pub then_says : (t p u q : List ℕ) → SaysAs t p → SaysAs u q → SaysAs (t ++ u) (p ++ q)
 then_says t p u q a b = record {
   bodies = a.bodies ++ b.bodies;
-  text_says = λ rest. ap said (append_assoc t u rest) ∙ a.text_says (u ++ rest) ∙ ap (λ (x : List (List ℕ)). a.bodies ++ x) (b.text_says rest) ∙ sym (append_assoc a.bodies b.bodies (said rest));
-  plain_says = λ rest. ap said (append_assoc p q rest) ∙ a.plain_says (q ++ rest) ∙ ap (λ (x : List (List ℕ)). a.bodies ++ x) (b.plain_says rest) ∙ sym (append_assoc a.bodies b.bodies (said rest));
+  text_says = λ rest. ap said (append_assoc t u rest) ∙ a.text_says (u ++ rest) ∙ ap (λ (x : List (List ℕ)). a.bodies ++ x) (b.text_says rest)
+      ∙ sym (append_assoc a.bodies b.bodies (said rest));
+  plain_says = λ rest. ap said (append_assoc p q rest) ∙ a.plain_says (q ++ rest) ∙ ap (λ (x : List (List ℕ)). a.bodies ++ x) (b.plain_says rest)
+      ∙ sym (append_assoc a.bodies b.bodies (said rest));
 }
 
 ended_says : (q rest : List ℕ) → said ((q ++ 10 ∷ []) ++ rest) ≡ said (q ++ 10 ∷ []) ++ said rest
-ended_says q rest = ap said (append_assoc q (10 ∷ []) rest) ∙ ap (filter says_something) (lines_part q rest) ∙ filter-append says_something (lines (q ++ 10 ∷ [])) (lines rest)
+ended_says q rest = ap said (append_assoc q (10 ∷ []) rest) ∙ ap (filter says_something) (lines_part q rest)
+    ∙ filter-append says_something (lines (q ++ 10 ∷ [])) (lines rest)
 
 -- a line of a listing says what it says
 pub line_says : (first : List ℕ) (others : List (List ℕ)) → SaysAs (line first others) (line first others)
@@ -172,15 +181,18 @@ pub after_silence : (a b c plain : List ℕ) → Tells a b [] → Tells b c plai
 after_silence a b c plain s t = then_told a b c [] plain s t
 
 -- one item more, and all
-pub item_told : {X : Type 0} (f : X → List ℕ) (xs : List X) (i : ℕ) (x : X) (before out new : List ℕ) → Tells before out (flat_map f (take i xs)) → slice_get xs i ≡ Some x → Tells out new (f x) → Tells before new (flat_map f (take (i + 1) xs))
+pub item_told : {X : Type 0} (f : X → List ℕ) (xs : List X) (i : ℕ) (x : X) (before out new : List ℕ) → Tells before out (flat_map f (take i xs))
+    → slice_get xs i ≡ Some x → Tells out new (f x) → Tells before new (flat_map f (take (i + 1) xs))
 item_told f xs i x before out new s h t =
     let within = slice_get_within xs i x h in
     let here = get_or_from_slice_get xs i x x h in
     let more : flat_map f (take i xs) ++ f x ≡ flat_map f (take (i + 1) xs) =
-    flat_map_more f [] (take i xs) x ∙ ap (λ (ys : List _). flat_map f ys) (ap (λ (y : _). take i xs ++ y ∷ []) (sym here) ∙ sym (take_more xs i x within)) in
+    flat_map_more f [] (take i xs) x ∙ ap (λ (ys : List _). flat_map f ys)
+    (ap (λ (y : _). take i xs ++ y ∷ []) (sym here) ∙ sym (take_more xs i x within)) in
     subst (Tells before new) more (then_told before out new (flat_map f (take i xs)) (f x) s t)
 
-pub items_told : {X : Type 0} (f : X → List ℕ) (xs : List X) (i : ℕ) (before out : List ℕ) → Tells before out (flat_map f (take i xs)) → length xs ≤ i → Tells before out (flat_map f xs)
+pub items_told : {X : Type 0} (f : X → List ℕ) (xs : List X) (i : ℕ) (before out : List ℕ) → Tells before out (flat_map f (take i xs)) → length xs ≤ i
+    → Tells before out (flat_map f xs)
 items_told f xs i before out s le = subst (λ (ys : List _). Tells before out (flat_map f ys)) (take_all i xs le) s
 
 pub line_told : (a b : List ℕ) (first : List ℕ) (others : List (List ℕ)) → b ≡ a ++ line first others → Tells a b (line first others)

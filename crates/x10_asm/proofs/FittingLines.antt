@@ -75,9 +75,11 @@ pub last_check : (b : Bool) (c : AsmCause) (u : Unit {0}) → check b c ≡ Ok u
 last_check true c u e = refl
 last_check false c u e = absurd cc
 
-pub version_starts : (s : Stage) (before : ImageVersion) (ws : List (List ℕ)) (u : Unit {0}) → version_of s before ws ≡ Ok u → (is_start s ≡ true) × (is_one before ≡ true)
+pub version_starts : (s : Stage) (before : ImageVersion) (ws : List (List ℕ)) (u : Unit {0}) → version_of s before ws ≡ Ok u
+    → (is_start s ≡ true) × (is_one before ≡ true)
 unfolding version_of
-version_starts s before ws u e = and_parts (is_start s) (is_one before) (last_check (is_start s && is_one before) cause.Order u (then_bound (one_version ws) _ u e))
+version_starts s before ws u e = and_parts (is_start s) (is_one before)
+    (last_check (is_start s && is_one before) cause.Order u (then_bound (one_version ws) _ u e))
 
 pub small_places : (s : Stage) (ws : List (List ℕ)) (n : ℕ) → places_of s ws ≡ Ok n → (1 ≤ n) × (n ≤ 64)
 unfolding places_of
@@ -92,7 +94,8 @@ pub record TakesClass (s : Stage) (classes before : ℕ) (fields : List Kind) : 
   pub room : before < 65535
   pub fits : FitsClass classes fields
 
-pub class_fits : (s : Stage) (classes before : ℕ) (ws : List (List ℕ)) (fields : List Kind) → class_of s classes before ws ≡ Ok fields → TakesClass s classes before fields
+pub class_fits : (s : Stage) (classes before : ℕ) (ws : List (List ℕ)) (fields : List Kind) → class_of s classes before ws ≡ Ok fields
+    → TakesClass s classes before fields
 unfolding class_of
 class_fits s classes before ws fields e =
     let known = checked _ cause.Word _ fields e in
@@ -103,14 +106,20 @@ class_fits s classes before ws fields e =
     record {
       stage_is = order.0;
       room = ltb-true before 65535 b.1;
-      fits = subst (FitsClass classes) (same_ok found.0 fields limit.1) (record { count = leb-true (length found.0) 16 b.0; kinds = each_fits (NamesClassBelow classes) (field_of classes) (field_fits classes) ws found.0 found.1 });
+      fits = subst (FitsClass classes) (same_ok found.0 fields limit.1)
+          (record {
+            count = leb-true (length found.0) 16 b.0;
+            kinds = each_fits (NamesClassBelow classes) (field_of classes)
+                (field_fits classes) ws found.0 found.1;
+          });
     }
 
 pub one_int_fits : (ws : List (List ℕ)) (z : ℤ) → one_int ws ≡ Ok z → FitsSigned w64 z
 one_int_fits [] z e = absurd cc
 one_int_fits (word ∷ others) z e =
     let found = bound (given (int_of word) cause.Number) _ z e in
-    subst (FitsSigned w64) (same_ok found.0 z (then_bound (no_more others) (Ok found.0) z found.2)) (int_fits word found.0 (given_is (int_of word) cause.Number found.0 found.1))
+    subst (FitsSigned w64) (same_ok found.0 z (then_bound (no_more others) (Ok found.0) z found.2))
+    (int_fits word found.0 (given_is (int_of word) cause.Number found.0 found.1))
 
 pub record TakesInt (s : Stage) (before : ℕ) (z : ℤ) : Type 0 where
   pub stage_is : takes_int s ≡ true
@@ -123,7 +132,11 @@ int_taken s before ws z e =
     let found = bound (one_int ws) _ z e in
     let order = checked (takes_int s) cause.Order _ z found.2 in
     let limit = checked (nat_lt before 65535) cause.Limit (Ok found.0) z order.1 in
-    record { stage_is = order.0; room = ltb-true before 65535 limit.0; fits = subst (FitsSigned w64) (same_ok found.0 z limit.1) (one_int_fits ws found.0 found.1) }
+    record {
+      stage_is = order.0;
+      room = ltb-true before 65535 limit.0;
+      fits = subst (FitsSigned w64) (same_ok found.0 z limit.1) (one_int_fits ws found.0 found.1);
+    }
 
 pub record TakesText (s : Stage) (before : ℕ) (text : List ℕ) : Type 0 where
   pub stage_is : takes_text s ≡ true
@@ -137,7 +150,11 @@ text_taken s before rest text e =
     let order = checked (takes_text s) cause.Order _ text count.1 in
     let found = bound (literal rest) _ text order.1 in
     let limit = checked (nat_lt before 65535) cause.Limit (Ok found.0) text found.2 in
-    record { stage_is = order.0; room = ltb-true before 65535 limit.0; fits = subst FitsText (same_ok found.0 text limit.1) (text_fits rest found.0 found.1) }
+    record {
+      stage_is = order.0;
+      room = ltb-true before 65535 limit.0;
+      fits = subst FitsText (same_ok found.0 text limit.1) (text_fits rest found.0 found.1);
+    }
 
 -- the kinds of a function that begins
 pub record HasKinds (classes : ℕ) (f : Function) : Type 0 where
@@ -145,12 +162,18 @@ pub record HasKinds (classes : ℕ) (f : Function) : Type 0 where
   pub result : IfSome f.result (FitsSlot classes)
   pub code : f.code ≡ []
 
-pub kinds_taken : (classes registers loops : ℕ) (ws : List (List ℕ)) (f : Function) → kinds_after classes registers loops ws ≡ Ok f → HasKinds classes f
+pub kinds_taken : (classes registers loops : ℕ) (ws : List (List ℕ)) (f : Function) → kinds_after classes registers loops ws ≡ Ok f
+    → HasKinds classes f
 kinds_taken classes registers loops [] f e = absurd cc
 kinds_taken classes registers loops (word ∷ others) f e =
     let result = bound (result_of classes word) _ f e in
     let slots = bound (each (slot_of classes) others) _ f result.2 in
-    subst (HasKinds classes) (same_ok (function_with registers loops result.0 slots.0) f slots.2) (record { slots = each_fits (FitsSlot classes) (slot_of classes) (slot_fits classes) others slots.0 slots.1; result = result_fits classes word result.0 result.1; code = refl })
+    subst (HasKinds classes) (same_ok (function_with registers loops result.0 slots.0) f slots.2)
+    (record {
+      slots = each_fits (FitsSlot classes) (slot_of classes) (slot_fits classes) others slots.0 slots.1;
+      result = result_fits classes word result.0 result.1;
+      code = refl;
+    })
 
 pub signature_taken : (classes : ℕ) (ws : List (List ℕ)) (f : Function) → signature_of classes ws ≡ Ok f → HasKinds classes f
 signature_taken classes ws f e =
@@ -179,7 +202,8 @@ open_of version classes f t k =
       code = rw k.code tt;
     }
 
-pub func_taken : (version : ImageVersion) (s : Stage) (classes before : ℕ) (ws : List (List ℕ)) (f : Function) → func_of s classes before ws ≡ Ok f → TakesFunction version s classes before f
+pub func_taken : (version : ImageVersion) (s : Stage) (classes before : ℕ) (ws : List (List ℕ)) (f : Function) → func_of s classes before ws ≡ Ok f
+    → TakesFunction version s classes before f
 unfolding func_of
 func_taken version s classes before ws f e =
     let known = checked _ cause.Word _ f e in
@@ -187,7 +211,12 @@ func_taken version s classes before ws f e =
     let order = checked (takes_func s) cause.Order _ f found.2 in
     let limit = checked (signature_fits found.0 && nat_lt before 256) cause.Limit (Ok found.0) f order.1 in
     let b = and_parts (signature_fits found.0) (nat_lt before 256) limit.0 in
-    record { stage_is = order.0; room = ltb-true before 256 b.1; fits = subst (IsOpen version classes) (same_ok found.0 f limit.1) (open_of version classes found.0 b.0 (signature_taken classes ws found.0 found.1)) }
+    record {
+      stage_is = order.0;
+      room = ltb-true before 256 b.1;
+      fits = subst (IsOpen version classes) (same_ok found.0 f limit.1)
+          (open_of version classes found.0 b.0 (signature_taken classes ws found.0 found.1));
+    }
 
 pub record TakesEnd (s : Stage) (count : ℕ) : Type 0 where
   pub stage_is : is_inside s ≡ true
@@ -212,4 +241,8 @@ entry_taken s functions ws n e =
     let order = checked (takes_func s) cause.Order _ n number.2 in
     let limit = checked (nat_lt 0 (length functions)) cause.Limit _ n order.1 in
     let entry = checked (is_entry (slice_get functions number.0)) cause.Entry (Ok number.0) n limit.1 in
-    record { stage_is = order.0; some = ltb-true 0 (length functions) limit.0; entry = subst (λ k. is_entry (slice_get functions k) ≡ true) (same_ok number.0 n entry.1) entry.0 }
+    record {
+      stage_is = order.0;
+      some = ltb-true 0 (length functions) limit.0;
+      entry = subst (λ k. is_entry (slice_get functions k) ≡ true) (same_ok number.0 n entry.1) entry.0;
+    }

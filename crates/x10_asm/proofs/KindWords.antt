@@ -10,9 +10,12 @@ use Rattle.x10_asm.specs.declared.fault.AsmCause.{AsmCause}
 use Rattle.x10_asm.specs.Lines.{stripped}
 use Rattle.x10_asm.specs.Kinds.{each}
 
-pub stripped_is : (prefix word : List ℕ) (r : Option (Bor (List ℕ))) → MatchOption r (FindsTextPrefix prefix word None) (λ x. StripsPrefix (FindsTextPrefix prefix) word x.now) → option_copied r ≡ stripped prefix word
+pub stripped_is : (prefix word : List ℕ) (r : Option (Bor (List ℕ)))
+    → MatchOption r (FindsTextPrefix prefix word None) (λ x. StripsPrefix (FindsTextPrefix prefix) word x.now)
+    → option_copied r ≡ stripped prefix word
 stripped_is prefix word None h = elim (cases_Bool (bytes_eq (take (length prefix) word) prefix)) [
-  | inl e ↦ absurd (h (drop (length prefix) word) (sym (take-append-drop (length prefix) word) ∙ ap (λ (t : List ℕ). t ++ drop (length prefix) word) ((bytes_eq-Decides (take (length prefix) word) prefix).0 e)))
+  | inl e ↦ absurd (h (drop (length prefix) word) (sym (take-append-drop (length prefix) word)
+      ∙ ap (λ (t : List ℕ). t ++ drop (length prefix) word) ((bytes_eq-Decides (take (length prefix) word) prefix).0 e)))
   | inr e ↦ rw e refl
 ]
 stripped_is prefix word (Some x) h =

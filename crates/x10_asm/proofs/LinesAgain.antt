@@ -18,7 +18,7 @@ use Rattle.x10_asm.specs.Statements.{statement_in, statement_of}
 use Rattle.x10_asm.specs.Kinds.{field_of}
 use Rattle.x10_asm.specs.Listing.{spaced, kind_word, quoted}
 use Rattle.x10_asm.specs.Reading.{Source, after_line, after_statement, takes_int, takes_text, no_function, version_of, places_of, class_of, int_line_of, text_of, with_version, with_places, with_class, with_int, with_text}
-use Rattle.x10_asm.proofs.Taking.{line_gives}
+use Rattle.x10_asm.proofs.LinesTakenIn.{line_gives}
 use Rattle.x10_asm.proofs.SpelledLines.{IsWord, line_words, plain_words, word_then}
 use Rattle.x10_asm.proofs.SpelledWords.{number_again, decimal_word, int_again, int_word, field_again, each_again, known_again, all_words, kind_is_word}
 use Rattle.x10_asm.proofs.SpelledTexts.{literal_again, after_text, plain_text}
@@ -35,14 +35,16 @@ abbrev pub body_of : List ℕ → List (List ℕ) → List ℕ
 body_of first others = first ++ flat_map spaced others
 
 -- what a line of words gives
-pub gives : (classes : ℕ) (s : Source) (line : ℕ) (texts others : List (List ℕ)) (first : List ℕ) (st : Statement) → IsWord first → AllByRecursion IsWord others → statement_of first ≡ st
+pub gives : (classes : ℕ) (s : Source) (line : ℕ) (texts others : List (List ℕ)) (first : List ℕ) (st : Statement) → IsWord first
+    → AllByRecursion IsWord others → statement_of first ≡ st
     → after_line classes s line (body_of first others) texts ≡ after_statement classes s line (body_of first others) (first ∷ others) texts st
 gives classes s line texts others first st h hs e =
     let split = line_words first others h hs in
     line_gives classes s line (body_of first others) texts (statement_in (words (body_of first others))) refl st (ap statement_in split ∙ e)
     ∙ ap (λ (ws : List (List ℕ)). after_statement classes s line (body_of first others) ws texts st) split
 
-pub statement_first : (first : List ℕ) (others : List (List ℕ)) (st : Statement) → IsWord first → AllByRecursion IsWord others → statement_of first ≡ st → statement_in (words (body_of first others)) ≡ st
+pub statement_first : (first : List ℕ) (others : List (List ℕ)) (st : Statement) → IsWord first → AllByRecursion IsWord others
+    → statement_of first ≡ st → statement_in (words (body_of first others)) ≡ st
 statement_first first others st h hs e = ap statement_in (line_words first others h hs) ∙ e
 
 word : (first : ℕ) (others : List ℕ) → list_all (nat_lt 32) (first ∷ others) ≡ true → IsWord (first ∷ others)
@@ -110,12 +112,18 @@ version_again : (v : ImageVersion) → v ≡ One → version_of stage.Start v (d
 unfolding version_of
 version_again v e = rw (e, number_again 2 2 (omega arith) (omega arith)) refl
 
-pub version_turns : (classes : ℕ) (m : Module) → m.version ≡ One → Turns classes (body_of (codes "version") (decimal 2 ∷ [])) (outside stage.Start m) (outside stage.Start (record m { version = Two }))
+pub version_turns : (classes : ℕ) (m : Module) → m.version ≡ One
+    → Turns classes (body_of (codes "version") (decimal 2 ∷ [])) (outside stage.Start m) (outside stage.Start (record m { version = Two }))
 version_turns classes m one =
     let hs : AllByRecursion IsWord (decimal 2 ∷ []) = (decimal_word 2 (omega arith), tt) in
     record {
       plain = plain_words (codes "version") (decimal 2 ∷ []) version_word hs;
-      turns = λ line labels others. (labels, gives classes (labelled (outside stage.Start m) labels) line others (decimal 2 ∷ []) (codes "version") statement.Version version_word hs says_version ∙ ap (with_version (labelled (outside stage.Start m) labels)) (version_again m.version one));
+      turns = λ line labels others. (
+        labels,
+        gives classes (labelled (outside stage.Start m) labels) line others (decimal 2 ∷ [])
+            (codes "version") statement.Version version_word hs says_version
+            ∙ ap (with_version (labelled (outside stage.Start m) labels)) (version_again m.version one),
+      );
     }
 
 -- ---- places
@@ -124,17 +132,24 @@ places_again : (n : ℕ) → 1 ≤ n → n ≤ 64 → places_of stage.Start (dec
 unfolding places_of
 places_again n low high = rw (number_again 65535 n (omega arith) (omega arith), le-leb 1 n low, le-leb n 64 high) refl
 
-pub places_turns : (classes n : ℕ) (m : Module) → 1 ≤ n → n ≤ 64 → Turns classes (body_of (codes "places") (decimal n ∷ [])) (outside stage.Start m) (outside stage.Classes (record m { least_places = n }))
+pub places_turns : (classes n : ℕ) (m : Module) → 1 ≤ n → n ≤ 64
+    → Turns classes (body_of (codes "places") (decimal n ∷ [])) (outside stage.Start m) (outside stage.Classes (record m { least_places = n }))
 places_turns classes n m low high =
     let hs : AllByRecursion IsWord (decimal n ∷ []) = (decimal_word n (omega arith), tt) in
     record {
       plain = plain_words (codes "places") (decimal n ∷ []) places_word hs;
-      turns = λ line labels others. (labels, gives classes (labelled (outside stage.Start m) labels) line others (decimal n ∷ []) (codes "places") statement.Places places_word hs says_places ∙ ap (with_places (labelled (outside stage.Start m) labels)) (places_again n low high));
+      turns = λ line labels others. (
+        labels,
+        gives classes (labelled (outside stage.Start m) labels) line others (decimal n ∷ [])
+            (codes "places") statement.Places places_word hs says_places
+            ∙ ap (with_places (labelled (outside stage.Start m) labels)) (places_again n low high),
+      );
     }
 
 -- ---- classes
 
-class_again : (classes before : ℕ) (fields : List Kind) → classes < 2 ^ 16 → AllByRecursion (NamesClassBelow classes) fields → length fields ≤ 16 → before < 65535 → class_of stage.Classes classes before (map kind_word fields) ≡ Ok fields
+class_again : (classes before : ℕ) (fields : List Kind) → classes < 2 ^ 16 → AllByRecursion (NamesClassBelow classes) fields → length fields ≤ 16
+    → before < 65535 → class_of stage.Classes classes before (map kind_word fields) ≡ Ok fields
 unfolding class_of
 class_again classes before fields few h le lt =
     rw (
@@ -144,18 +159,26 @@ class_again classes before fields few h le lt =
       lt-ltb before 65535 lt,
     ) refl
 
-pub class_turns : (classes : ℕ) (m : Module) (fields : List Kind) → classes < 2 ^ 16 → AllByRecursion (NamesClassBelow classes) fields → length fields ≤ 16 → length m.classes < 65535
-    → Turns classes (body_of (codes "class") (map kind_word fields)) (outside stage.Classes m) (outside stage.Classes (record m { classes = m.classes ++ fields ∷ [] }))
+pub class_turns : (classes : ℕ) (m : Module) (fields : List Kind) → classes < 2 ^ 16 → AllByRecursion (NamesClassBelow classes) fields
+    → length fields ≤ 16 → length m.classes < 65535
+    → Turns classes (body_of (codes "class") (map kind_word fields)) (outside stage.Classes m)
+    (outside stage.Classes (record m { classes = m.classes ++ fields ∷ [] }))
 class_turns classes m fields few h le lt =
     let hs = all_words kind_word (NamesClassBelow classes) (λ k f. kind_is_word classes k few f) fields h in
     record {
       plain = plain_words (codes "class") (map kind_word fields) class_word hs;
-      turns = λ line labels others. (labels, gives classes (labelled (outside stage.Classes m) labels) line others (map kind_word fields) (codes "class") statement.Class class_word hs says_class ∙ ap (with_class (labelled (outside stage.Classes m) labels)) (class_again classes (length m.classes) fields few h le lt));
+      turns = λ line labels others. (
+        labels,
+        gives classes (labelled (outside stage.Classes m) labels) line others (map kind_word fields)
+            (codes "class") statement.Class class_word hs says_class
+            ∙ ap (with_class (labelled (outside stage.Classes m) labels)) (class_again classes (length m.classes) fields few h le lt),
+      );
     }
 
 -- ---- constant numbers
 
-int_line_again : (s : Stage) (before : ℕ) (z : ℤ) → takes_int s ≡ true → FitsSigned w64 z → before < 65535 → int_line_of s before (signed_decimal z ∷ []) ≡ Ok z
+int_line_again : (s : Stage) (before : ℕ) (z : ℤ) → takes_int s ≡ true → FitsSigned w64 z → before < 65535
+    → int_line_of s before (signed_decimal z ∷ []) ≡ Ok z
 unfolding int_line_of
 int_line_again s before z t f lt = rw (int_again z f, t, lt-ltb before 65535 lt) refl
 
@@ -165,12 +188,18 @@ int_turns classes s m z t f lt =
     let hs : AllByRecursion IsWord (signed_decimal z ∷ []) = (int_word z f, tt) in
     record {
       plain = plain_words (codes "int") (signed_decimal z ∷ []) int_first hs;
-      turns = λ line labels others. (labels, gives classes (labelled (outside s m) labels) line others (signed_decimal z ∷ []) (codes "int") statement.Int int_first hs says_int ∙ ap (with_int (labelled (outside s m) labels)) (int_line_again s (length m.ints) z t f lt));
+      turns = λ line labels others. (
+        labels,
+        gives classes (labelled (outside s m) labels) line others (signed_decimal z ∷ [])
+            (codes "int") statement.Int int_first hs says_int ∙ ap (with_int (labelled (outside s m) labels))
+            (int_line_again s (length m.ints) z t f lt),
+      );
     }
 
 -- ---- constant texts
 
-text_line_again : (s : Stage) (before : ℕ) (text : List ℕ) → takes_text s ≡ true → FitsText text → before < 65535 → text_of s before (quoted text) ≡ Ok text
+text_line_again : (s : Stage) (before : ℕ) (text : List ℕ) → takes_text s ≡ true → FitsText text → before < 65535
+    → text_of s before (quoted text) ≡ Ok text
 unfolding text_of
 text_line_again s before text t f lt = rw (literal_again text f, t, lt-ltb before 65535 lt) refl
 
@@ -183,7 +212,8 @@ text_turns classes s m text t f lt = record {
   plain = plain_text text;
   turns = λ line labels others. (
     labels,
-    line_gives classes (labelled (outside s m) labels) line (body_of (codes "text") (quoted text ∷ [])) others (statement_in (words (body_of (codes "text") (quoted text ∷ [])))) refl statement.Text (says_text_line text)
+    line_gives classes (labelled (outside s m) labels) line (body_of (codes "text") (quoted text ∷ [])) others
+        (statement_in (words (body_of (codes "text") (quoted text ∷ [])))) refl statement.Text (says_text_line text)
         ∙ ap (λ (rest : List ℕ). with_text (labelled (outside s m) labels) (text_of s (length m.texts) rest)) (after_text text)
         ∙ ap (with_text (labelled (outside s m) labels)) (text_line_again s (length m.texts) text t f lt),
   );

@@ -13,13 +13,15 @@ use Rattle.x10_asm.specs.Lines.{begins, words, after_spaces}
 use Rattle.x10_asm.specs.Labels.{ends_in_colon}
 use Rattle.x10_asm.specs.Statements.{statement_of, label_or_instruction, instruction_or_unknown, statement_in, first_word}
 use Rattle.x10_asm.specs.Reading.{is_class}
-use Rattle.x10_asm.proofs.Splitting.{begins_alike, no_words}
+use Rattle.x10_asm.proofs.LinesAndWords.{begins_alike, no_words}
 
-none_named : (word : List ℕ) (r : Option Op) → op_of_name word ≡ r → ((o : Op) → word ≡ name_of o → ◌≡◌ {A = Option Op} None (Some o)) → ◌≡◌ {A = Option Op} None r
+none_named : (word : List ℕ) (r : Option Op) → op_of_name word ≡ r → ((o : Op) → word ≡ name_of o → ◌≡◌ {A = Option Op} None (Some o))
+    → ◌≡◌ {A = Option Op} None r
 none_named word None e only = refl
 none_named word (Some p) e only = only p (sym (name_of-op_of_name word p e))
 
-pub is_named : (word : List ℕ) (found : Option Op) → IfSome found (λ o. word ≡ name_of o) → ((o : Op) → word ≡ name_of o → found ≡ Some o) → found ≡ op_of_name word
+pub is_named : (word : List ℕ) (found : Option Op) → IfSome found (λ o. word ≡ name_of o) → ((o : Op) → word ≡ name_of o → found ≡ Some o)
+    → found ≡ op_of_name word
 is_named word None f only = none_named word (op_of_name word) refl only
 is_named word (Some o) f only = sym (ap op_of_name f ∙ op_of_name-name_of o)
 
@@ -82,7 +84,8 @@ not_word p word other passes fails = elim (cases_Bool (bytes_eq word other)) [
 
 -- a word that passes a test which no fixed word passes, and that is no comment's, begins a label or an instruction
 pub no_keyword : (p : List ℕ → Bool) (word : List ℕ) → p word ≡ true → begins 59 word ≡ false
-    → p (codes "version") ≡ false → p (codes "places") ≡ false → p (codes "class") ≡ false → p (codes "int") ≡ false → p (codes "text") ≡ false → p (codes "func") ≡ false → p (codes "end") ≡ false → p (codes "entry") ≡ false
+    → p (codes "version") ≡ false → p (codes "places") ≡ false → p (codes "class") ≡ false → p (codes "int") ≡ false → p (codes "text") ≡ false
+    → p (codes "func") ≡ false → p (codes "end") ≡ false → p (codes "entry") ≡ false
     → statement_of word ≡ label_or_instruction word
 unfolding statement_of
 no_keyword p word passes comment version places class int text func end entry =
@@ -99,7 +102,8 @@ no_keyword p word passes comment version places class int text func end entry =
     ) refl
 
 pub label_is : (word : List ℕ) → begins 59 word ≡ false → ends_in_colon word ≡ true → statement_of word ≡ Label
-label_is word comment colon = no_keyword ends_in_colon word colon comment refl refl refl refl refl refl refl refl ∙ cond-true (ends_in_colon word) Label (instruction_or_unknown (op_of_name word)) colon
+label_is word comment colon = no_keyword ends_in_colon word colon comment refl refl refl refl refl refl refl refl
+    ∙ cond-true (ends_in_colon word) Label (instruction_or_unknown (op_of_name word)) colon
 
 -- ---- classes, by their first word alone
 

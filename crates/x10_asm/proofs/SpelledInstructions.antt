@@ -41,7 +41,8 @@ name_is_word o =
 one_number_again : (most n : ℕ) (rest : List (List ℕ)) → n ≤ most → n < 2 ^ 64 → number_at most (decimal n ∷ rest) ≡ Ok (n, rest)
 one_number_again most n rest le small = rw (number_again most n le small) refl
 
-pub operand_again : (o : Operand) (most n : ℕ) (rest : List (List ℕ)) → fits_operand o n ≡ true → n ≤ most → n < 2 ^ 64 → operand_at o most (operand_word o n ++ rest) ≡ Ok (n, rest)
+pub operand_again : (o : Operand) (most n : ℕ) (rest : List (List ℕ)) → fits_operand o n ≡ true → n ≤ most → n < 2 ^ 64
+    → operand_at o most (operand_word o n ++ rest) ≡ Ok (n, rest)
 operand_again operand.Unused most n rest f le small = ap (λ (k : ℕ). Ok (k, rest)) (sym (eqb-true n 0 f))
 operand_again operand.Register most n rest f le small = one_number_again most n rest le small
 operand_again _ most n rest f le small = one_number_again most n rest le small
@@ -54,23 +55,28 @@ no_name : (n : ℕ) → n < 2 ^ 64 → stripped (64 ∷ []) (decimal n) ≡ None
 no_name n small = not_stripped (decimal n) (decimal_begins 64 n (inr (omega arith)) small)
 
 target_again : (n : ℕ) → n ≤ 4294967295 → n < 2 ^ 64 → target_at (decimal n ∷ []) ≡ Ok (record { name = None; number = n; others = [] })
-target_again n le small = ap (λ (o : Option (List ℕ)). named_or_number o (decimal n) []) (no_name n small) ∙ ap numbered (one_number_again 4294967295 n [] le small)
+target_again n le small = ap (λ (o : Option (List ℕ)). named_or_number o (decimal n) []) (no_name n small)
+    ∙ ap numbered (one_number_again 4294967295 n [] le small)
 
-pub last_again : (o : Operand) (n : ℕ) → fits_operand o n ≡ true → n ≤ 4294967295 → n < 2 ^ 64 → last_at o (operand_word o n) ≡ Ok (record { name = None; number = n; others = [] })
+pub last_again : (o : Operand) (n : ℕ) → fits_operand o n ≡ true → n ≤ 4294967295 → n < 2 ^ 64
+    → last_at o (operand_word o n) ≡ Ok (record { name = None; number = n; others = [] })
 last_again operand.Unused n f le small = ap (λ (k : ℕ). Ok (record { name = None; number = k; others = [] })) (sym (eqb-true n 0 f))
 last_again operand.Target n f le small = target_again n le small
 last_again operand.Register n f le small = ap numbered (one_number_again 4294967295 n [] le small)
 last_again _ n f le small = ap numbered (one_number_again 4294967295 n [] le small)
 
-pub instruction_again : (labels : List Label) (count : ℕ) (i : Instr) → IsInstr i → count < 4096 → instruction_of labels true count i.op (operand_words i) ≡ Ok i
+pub instruction_again : (labels : List Label) (count : ℕ) (i : Instr) → IsInstr i → count < 4096
+    → instruction_of labels true count i.op (operand_words i) ≡ Ok i
 unfolding instruction_of operand_words
 instruction_again labels count i h few =
-    let p = and_parts (fits_operand (form_of i.op).a i.a && fits_operand (form_of i.op).b i.b && fits_operand (form_of i.op).c i.c) (fits_operand (form_of i.op).x i.x) h.form in
+    let p = and_parts (fits_operand (form_of i.op).a i.a && fits_operand (form_of i.op).b i.b && fits_operand (form_of i.op).c i.c)
+    (fits_operand (form_of i.op).x i.x) h.form in
     let q = and_parts (fits_operand (form_of i.op).a i.a && fits_operand (form_of i.op).b i.b) (fits_operand (form_of i.op).c i.c) p.0 in
     let r = and_parts (fits_operand (form_of i.op).a i.a) (fits_operand (form_of i.op).b i.b) q.0 in
     let last = operand_word (form_of i.op).x i.x in
     rw (
-      operand_again (form_of i.op).a 255 i.a (operand_word (form_of i.op).b i.b ++ (operand_word (form_of i.op).c i.c ++ last)) r.0 (omega (arith, h.a)) (omega (arith, h.a)),
+      operand_again (form_of i.op).a 255 i.a (operand_word (form_of i.op).b i.b ++ (operand_word (form_of i.op).c i.c ++ last)) r.0
+          (omega (arith, h.a)) (omega (arith, h.a)),
       operand_again (form_of i.op).b 255 i.b (operand_word (form_of i.op).c i.c ++ last) r.1 (omega (arith, h.b)) (omega (arith, h.b)),
       operand_again (form_of i.op).c 255 i.c last q.1 (omega (arith, h.c)) (omega (arith, h.c)),
       last_again (form_of i.op).x i.x p.1 (omega (arith, h.x)) (omega (arith, h.x)),

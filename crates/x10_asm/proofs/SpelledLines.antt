@@ -6,7 +6,7 @@ use Rattle.std.proofs.lemmas.List.Folds.{list_all-append}
 use Rattle.std.proofs.lemmas.Bool.{ltb-true, lt-ltb, ne_eqb, eq-eqb, and_parts, and_from, and_left, and_right, not_from_false, not-true, true≢false}
 use Rattle.x10_asm.specs.Lines.{grown, lines, is_word_end, words}
 use Rattle.x10_asm.specs.Listing.{spaced}
-use Rattle.x10_asm.proofs.Splitting.{word_ends, word_goes_on, line_ends, line_goes_on}
+use Rattle.x10_asm.proofs.LinesAndWords.{word_ends, word_goes_on, line_ends, line_goes_on}
 
 -- bytes that stand in words alone, at least one
 pub record IsWord (w : List ℕ) : Type 0 where
@@ -14,7 +14,10 @@ pub record IsWord (w : List ℕ) : Type 0 where
   pub printed : list_all (nat_lt 32) w ≡ true
 
 pub word_join : (v w : List ℕ) → IsWord v → list_all (nat_lt 32) w ≡ true → IsWord (v ++ w)
-word_join v w h p = record { some = omega (arith, h.some, length-append v w); printed = list_all-append (nat_lt 32) v w ∙ and_from (list_all (nat_lt 32) v) (list_all (nat_lt 32) w) h.printed p }
+word_join v w h p = record {
+  some = omega (arith, h.some, length-append v w);
+  printed = list_all-append (nat_lt 32) v w ∙ and_from (list_all (nat_lt 32) v) (list_all (nat_lt 32) w) h.printed p;
+}
 
 no_space : (c : ℕ) (cs : List ℕ) → list_all (nat_lt 32) (c ∷ cs) ≡ true → c ≢ 32
 no_space c cs h e = omega (arith, ltb-true 32 c (and_parts (nat_lt 32 c) (list_all (nat_lt 32) cs) h).0)
@@ -25,7 +28,8 @@ word_then [] rest h e = absurd (omega (arith, h.some))
 word_then (c ∷ []) rest h e = word_ends c rest (no_space c [] h.printed) e
 word_then (c ∷ d ∷ ds) rest h e =
     let more = (and_parts (nat_lt 32 c) (list_all (nat_lt 32) (d ∷ ds)) h.printed).1 in
-    word_goes_on c (d ∷ (ds ++ rest)) (no_space c (d ∷ ds) h.printed) (ne_eqb d 32 (no_space d ds more)) ∙ ap (grown c) (word_then (d ∷ ds) rest (record { some = omega arith; printed = more }) e)
+    word_goes_on c (d ∷ (ds ++ rest)) (no_space c (d ∷ ds) h.printed) (ne_eqb d 32 (no_space d ds more))
+    ∙ ap (grown c) (word_then (d ∷ ds) rest (record { some = omega arith; printed = more }) e)
 
 space_skipped : (cs : List ℕ) → words (32 ∷ cs) ≡ words cs
 unfolding words
@@ -41,11 +45,14 @@ spaced_end (w ∷ ws) = refl
 
 pub spaced_words : (ws : List (List ℕ)) → AllByRecursion IsWord ws → words (flat_map spaced ws) ≡ ws
 spaced_words [] h = words_nil
-spaced_words (w ∷ ws) h = space_skipped (w ++ flat_map spaced ws) ∙ word_then w (flat_map spaced ws) h.0 (spaced_end ws) ∙ ap (λ (t : List (List ℕ)). w ∷ t) (spaced_words ws h.1)
+spaced_words (w ∷ ws) h = space_skipped (w ++ flat_map spaced ws) ∙ word_then w (flat_map spaced ws) h.0 (spaced_end ws)
+    ∙ ap (λ (t : List (List ℕ)). w ∷ t) (spaced_words ws h.1)
 
 -- a first word and others
-pub line_words : (first : List ℕ) (others : List (List ℕ)) → IsWord first → AllByRecursion IsWord others → words (first ++ flat_map spaced others) ≡ first ∷ others
-line_words first others h hs = word_then first (flat_map spaced others) h (spaced_end others) ∙ ap (λ (t : List (List ℕ)). first ∷ t) (spaced_words others hs)
+pub line_words : (first : List ℕ) (others : List (List ℕ)) → IsWord first → AllByRecursion IsWord others
+    → words (first ++ flat_map spaced others) ≡ first ∷ others
+line_words first others h hs = word_then first (flat_map spaced others) h (spaced_end others)
+    ∙ ap (λ (t : List (List ℕ)). first ∷ t) (spaced_words others hs)
 
 -- ---- lines
 
@@ -77,7 +84,8 @@ pub plain_printed : (body : List ℕ) → list_all (nat_lt 31) body ≡ true →
 plain_printed [] h = refl
 plain_printed (c ∷ []) h =
     let gt = ltb-true 31 c (and_parts (nat_lt 31 c) true h).0 in
-    and_from (not (c == 10)) (not (c == 13)) (not_from_false (c == 10) (ne_eqb c 10 (λ e. omega (arith, gt, e)))) (not_from_false (c == 13) (ne_eqb c 13 (λ e. omega (arith, gt, e))))
+    and_from (not (c == 10)) (not (c == 13)) (not_from_false (c == 10) (ne_eqb c 10 (λ e. omega (arith, gt, e))))
+    (not_from_false (c == 13) (ne_eqb c 13 (λ e. omega (arith, gt, e))))
 plain_printed (c ∷ d ∷ ds) h =
     let p = and_parts (nat_lt 31 c) (list_all (nat_lt 31) (d ∷ ds)) h in
     let gt = ltb-true 31 c p.0 in
@@ -91,8 +99,12 @@ word_printed (c ∷ cs) h =
 
 spaced_printed : (ws : List (List ℕ)) → AllByRecursion IsWord ws → list_all (nat_lt 31) (flat_map spaced ws) ≡ true
 spaced_printed [] h = refl
-spaced_printed (w ∷ ws) h = list_all-append (nat_lt 31) w (flat_map spaced ws) ∙ and_from (list_all (nat_lt 31) w) (list_all (nat_lt 31) (flat_map spaced ws)) (word_printed w h.0.printed) (spaced_printed ws h.1)
+spaced_printed (w ∷ ws) h = list_all-append (nat_lt 31) w (flat_map spaced ws)
+    ∙ and_from (list_all (nat_lt 31) w) (list_all (nat_lt 31) (flat_map spaced ws)) (word_printed w h.0.printed) (spaced_printed ws h.1)
 
-pub plain_words : (first : List ℕ) (others : List (List ℕ)) → IsWord first → AllByRecursion IsWord others → is_plain (first ++ flat_map spaced others) ≡ true
+pub plain_words : (first : List ℕ) (others : List (List ℕ)) → IsWord first → AllByRecursion IsWord others
+    → is_plain (first ++ flat_map spaced others) ≡ true
 plain_words first others h hs =
-    plain_printed (first ++ flat_map spaced others) (list_all-append (nat_lt 31) first (flat_map spaced others) ∙ and_from (list_all (nat_lt 31) first) (list_all (nat_lt 31) (flat_map spaced others)) (word_printed first h.printed) (spaced_printed others hs))
+    plain_printed (first ++ flat_map spaced others) (list_all-append (nat_lt 31) first (flat_map spaced others)
+    ∙ and_from (list_all (nat_lt 31) first) (list_all (nat_lt 31) (flat_map spaced others)) (word_printed first h.printed)
+    (spaced_printed others hs))

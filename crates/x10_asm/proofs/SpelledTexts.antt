@@ -10,7 +10,7 @@ use Rattle.x10_asm.specs.Listing.{escape, quoted, spaced}
 use Rattle.x10_asm.specs.Literals.{unescaped, onto, onto_escape, scan, closed, unquoted, literal}
 use Rattle.x10_asm.specs.declared.fault.AsmCause.TheVariants as cause
 use Rattle.x10_asm.specs.Checks.{◌>>=◌, given}
-use Rattle.x10_asm.proofs.Scanning.{fitting_gives}
+use Rattle.x10_asm.proofs.QuotedBytes.{fitting_gives}
 use Rattle.x10_asm.proofs.Names.{words_nil}
 use Rattle.x10_asm.proofs.SpelledLines.{is_plain}
 
@@ -43,7 +43,8 @@ scan_escape c rest = elim (cases_eq c 34) [
 
 scan_again : (text : List ℕ) → scan false (flat_map escape text ++ 34 ∷ []) ≡ Some (text, [])
 scan_again [] = scan_end []
-scan_again (c ∷ cs) = ap (scan false) (append_assoc (escape c) (flat_map escape cs) (34 ∷ [])) ∙ scan_escape c (flat_map escape cs ++ 34 ∷ []) ∙ ap (onto c) (scan_again cs)
+scan_again (c ∷ cs) = ap (scan false) (append_assoc (escape c) (flat_map escape cs) (34 ∷ [])) ∙ scan_escape c (flat_map escape cs ++ 34 ∷ [])
+    ∙ ap (onto c) (scan_again cs)
 
 closed_again : (text : List ℕ) → FitsText text → closed text [] ≡ Ok text
 closed_again text f = rw words_nil (fitting_gives text (omega (arith, f.length)) f.utf8)
@@ -55,7 +56,8 @@ literal_opens cs =
     rw (ne_eqb (length {A = ℕ} (34 ∷ cs)) 0 some) refl
 
 pub literal_again : (text : List ℕ) → FitsText text → literal (quoted text) ≡ Ok text
-literal_again text f = literal_opens (flat_map escape text ++ 34 ∷ []) ∙ ap (λ (o : Option (List ℕ × List ℕ)). given o cause.Text >>= (λ p. closed p.0 p.1)) (scan_again text) ∙ closed_again text f
+literal_again text f = literal_opens (flat_map escape text ++ 34 ∷ [])
+    ∙ ap (λ (o : Option (List ℕ × List ℕ)). given o cause.Text >>= (λ p. closed p.0 p.1)) (scan_again text) ∙ closed_again text f
 
 -- ---- its line
 
@@ -83,7 +85,10 @@ plain_before_quote (c ∷ d ∷ ds) h =
 
 escapes_have_no_feed : (text : List ℕ) → list_all (λ b. not (b == 10)) (flat_map escape text) ≡ true
 escapes_have_no_feed [] = refl
-escapes_have_no_feed (c ∷ cs) = list_all-append (λ b. not (b == 10)) (escape c) (flat_map escape cs) ∙ and_from (list_all (λ b. not (b == 10)) (escape c)) (list_all (λ b. not (b == 10)) (flat_map escape cs)) (escape_has_no_feed c) (escapes_have_no_feed cs)
+escapes_have_no_feed (c ∷ cs) = list_all-append (λ b. not (b == 10)) (escape c) (flat_map escape cs)
+    ∙ and_from (list_all (λ b. not (b == 10)) (escape c)) (list_all (λ b. not (b == 10)) (flat_map escape cs)) (escape_has_no_feed c)
+    (escapes_have_no_feed cs)
 
 pub plain_text : (text : List ℕ) → is_plain (codes "text" ++ flat_map spaced (quoted text ∷ [])) ≡ true
-plain_text text = ap (λ (t : List ℕ). is_plain (116 ∷ 101 ∷ 120 ∷ 116 ∷ 32 ∷ t)) (append-nil (quoted text)) ∙ plain_before_quote (116 ∷ 101 ∷ 120 ∷ 116 ∷ 32 ∷ 34 ∷ flat_map escape text) (escapes_have_no_feed text)
+plain_text text = ap (λ (t : List ℕ). is_plain (116 ∷ 101 ∷ 120 ∷ 116 ∷ 32 ∷ t)) (append-nil (quoted text))
+    ∙ plain_before_quote (116 ∷ 101 ∷ 120 ∷ 116 ∷ 32 ∷ 34 ∷ flat_map escape text) (escapes_have_no_feed text)

@@ -26,13 +26,16 @@ pub number_again : (most n : ℕ) → n ≤ most → n < 2 ^ 64 → number_of mo
 number_again most n le small =
     let value : digits_value 10 (decimal n) ≡ n = digits_value-decimal own n small in
     let digits : all_ascii_digits (decimal n) ≡ true = digits_decimal own n small in
-    rw (and_from (nat_lt 0 (length (decimal n)) && all_ascii_digits (decimal n)) (nat_le (digits_value 10 (decimal n)) most) (and_from (nat_lt 0 (length (decimal n))) (all_ascii_digits (decimal n)) (lt-ltb 0 (length (decimal n)) (decimal_nonempty n small)) digits) (le-leb (digits_value 10 (decimal n)) most (omega (arith, value, le)))) (ap (λ (k : ℕ). Some k) value)
+    rw (and_from (nat_lt 0 (length (decimal n)) && all_ascii_digits (decimal n)) (nat_le (digits_value 10 (decimal n)) most)
+    (and_from (nat_lt 0 (length (decimal n))) (all_ascii_digits (decimal n)) (lt-ltb 0 (length (decimal n)) (decimal_nonempty n small)) digits)
+    (le-leb (digits_value 10 (decimal n)) most (omega (arith, value, le)))) (ap (λ (k : ℕ). Some k) value)
 
 digits_printed : (ds : List ℕ) → all_ascii_digits ds ≡ true → list_all (nat_lt 32) ds ≡ true
 digits_printed [] h = refl
 digits_printed (c ∷ cs) h =
     let p = and_parts (nat_le 48 c && nat_le c 57) (all_ascii_digits cs) h in
-    and_from (nat_lt 32 c) (list_all (nat_lt 32) cs) (lt-ltb 32 c (omega (arith, leb-true 48 c (and_parts (nat_le 48 c) (nat_le c 57) p.0).0))) (digits_printed cs p.1)
+    and_from (nat_lt 32 c) (list_all (nat_lt 32) cs) (lt-ltb 32 c (omega (arith, leb-true 48 c (and_parts (nat_le 48 c) (nat_le c 57) p.0).0)))
+    (digits_printed cs p.1)
 
 pub decimal_printed : (n : ℕ) → n < 2 ^ 64 → list_all (nat_lt 32) (decimal n) ≡ true
 decimal_printed n small = digits_printed (decimal n) (digits_decimal own n small)
@@ -51,7 +54,8 @@ pub decimal_begins : (c n : ℕ) → (c < 48) ⊎ (57 < c) → n < 2 ^ 64 → be
 decimal_begins c n sign small = digits_begin c (decimal n) sign (digits_decimal own n small)
 
 pub int_again : (z : ℤ) → FitsSigned w64 z → int_of (signed_decimal z) ≡ Some z
-int_again (pos n) f = rw (decimal_begins 45 n (inl (omega arith)) (omega (arith, f.sfits))) (ap plus (number_again (2 ^ 63 - 1) n (omega (arith, f.sfits)) (omega (arith, f.sfits))))
+int_again (pos n) f = rw (decimal_begins 45 n (inl (omega arith)) (omega (arith, f.sfits)))
+    (ap plus (number_again (2 ^ 63 - 1) n (omega (arith, f.sfits)) (omega (arith, f.sfits))))
 int_again (negsuc n) f = ap minus (number_again (2 ^ 63) (suc n) (omega (arith, f.sfits)) (omega (arith, f.sfits)))
 
 pub int_word : (z : ℤ) → FitsSigned w64 z → IsWord (signed_decimal z)
@@ -73,11 +77,13 @@ kind_again classes (kind.Obj c) few h = ap (slot_with kind.Obj false) (class_aga
 kind_again classes (kind.Opt c) few h = ap (slot_with kind.Opt false) (class_again classes c few h)
 kind_again classes (kind.GRef c) few h = ap (slot_with kind.GRef false) (class_again classes c few h)
 
-here_again : (classes c : ℕ) → classes < 2 ^ 16 → c < classes → slot_of classes (codes "here:" ++ decimal c) ≡ Ok (record { kind = kind.GRef c; home_here = true })
+here_again : (classes c : ℕ) → classes < 2 ^ 16 → c < classes
+    → slot_of classes (codes "here:" ++ decimal c) ≡ Ok (record { kind = kind.GRef c; home_here = true })
 unfolding slot_of
 here_again classes c few h = ap (slot_with kind.GRef true) (class_again classes c few h)
 
-flagged_again : (classes : ℕ) (k : Kind) (here : Bool) → classes < 2 ^ 16 → NamesClassBelow classes k → (IsTrue here → IsTrue (takes_flag k)) → slot_of classes (flagged_word here k) ≡ Ok (record { kind = k; home_here = here })
+flagged_again : (classes : ℕ) (k : Kind) (here : Bool) → classes < 2 ^ 16 → NamesClassBelow classes k → (IsTrue here → IsTrue (takes_flag k))
+    → slot_of classes (flagged_word here k) ≡ Ok (record { kind = k; home_here = here })
 flagged_again classes k false few h flag = kind_again classes k few h
 flagged_again classes kind.Int true few h flag = absurd (false≢true (flag refl))
 flagged_again classes kind.Place true few h flag = absurd (false≢true (flag refl))
@@ -90,7 +96,8 @@ flagged_again classes (kind.GRef c) true few h flag = here_again classes c few h
 pub slot_again : (classes : ℕ) (s : Slot) → classes < 2 ^ 16 → FitsSlot classes s → slot_of classes (slot_word s) ≡ Ok s
 slot_again classes s few f = flagged_again classes s.kind s.home_here few f.class f.flag
 
-not_none : (classes : ℕ) (k : Kind) (here : Bool) → (if bytes_eq (flagged_word here k) (codes "none") then Ok None else some_slot (slot_of classes (flagged_word here k))) ≡ some_slot (slot_of classes (flagged_word here k))
+not_none : (classes : ℕ) (k : Kind) (here : Bool) → (if bytes_eq (flagged_word here k) (codes "none") then Ok None else some_slot
+    (slot_of classes (flagged_word here k))) ≡ some_slot (slot_of classes (flagged_word here k))
 not_none classes kind.Int false = refl
 not_none classes kind.Int true = refl
 not_none classes kind.Place false = refl
@@ -126,15 +133,18 @@ field_again classes k few h = field_from classes k ∙ ap (λ (r : Result Slot A
 
 -- ---- several
 
-pub each_again : {A : Type 0} (read : List ℕ → Result A AsmCause) (word : A → List ℕ) (Fits : A → Type 0) → ((x : A) → Fits x → read (word x) ≡ Ok x) → (xs : List A) → AllByRecursion Fits xs → each read (map word xs) ≡ Ok xs
+pub each_again : {A : Type 0} (read : List ℕ → Result A AsmCause) (word : A → List ℕ) (Fits : A → Type 0) → ((x : A) → Fits x → read (word x) ≡ Ok x)
+    → (xs : List A) → AllByRecursion Fits xs → each read (map word xs) ≡ Ok xs
 each_again read word Fits again [] h = refl
 each_again read word Fits again (x ∷ xs) h = rw (again x h.0, each_again read word Fits again xs h.1) refl
 
-pub known_again : {A : Type 0} (read : List ℕ → Result A AsmCause) (word : A → List ℕ) (Fits : A → Type 0) → ((x : A) → Fits x → read (word x) ≡ Ok x) → (xs : List A) → AllByRecursion Fits xs → are_known read (map word xs) ≡ true
+pub known_again : {A : Type 0} (read : List ℕ → Result A AsmCause) (word : A → List ℕ) (Fits : A → Type 0) → ((x : A) → Fits x → read (word x) ≡ Ok x)
+    → (xs : List A) → AllByRecursion Fits xs → are_known read (map word xs) ≡ true
 known_again read word Fits again [] h = refl
 known_again read word Fits again (x ∷ xs) h = rw (again x h.0, known_again read word Fits again xs h.1) refl
 
-pub all_words : {A : Type 0} (word : A → List ℕ) (Fits : A → Type 0) → ((x : A) → Fits x → IsWord (word x)) → (xs : List A) → AllByRecursion Fits xs → AllByRecursion IsWord (map word xs)
+pub all_words : {A : Type 0} (word : A → List ℕ) (Fits : A → Type 0) → ((x : A) → Fits x → IsWord (word x)) → (xs : List A) → AllByRecursion Fits xs
+    → AllByRecursion IsWord (map word xs)
 all_words word Fits is [] h = tt
 all_words word Fits is (x ∷ xs) h = (is x h.0, all_words word Fits is xs h.1)
 

@@ -24,7 +24,7 @@ use Rattle.x10_asm.specs.Statements.{statement_in, first_word, other_words}
 use Rattle.x10_asm.specs.Reading.{is_one, is_start, takes_class, is_inside, is_finished, version_of, places_of, class_of, int_line_of, text_of, func_of, end_of, entry_of, label_at, Source, no_function, after_statement, after_line, read_from, classes_in, version_by, version_in, nothing_read, module_of}
 use Rattle.x10_asm.specs.LawsOfTexts.{VersionIsTold}
 use Rattle.x10_asm.proofs.InRanges.{bound, then_bound, checked, same_ok}
-use Rattle.x10_asm.proofs.Passing.{step, stop, version_step}
+use Rattle.x10_asm.proofs.TextLines.{step, stop, version_step}
 use Rattle.x10_asm.proofs.FittingLines.{inside_begun, begun, version_starts, class_fits}
 use Rattle.x10_asm.proofs.FittingSources.{with_ok, known_by, went_on, ended_is}
 
@@ -64,11 +64,13 @@ class_begun : (s : Stage) → takes_class s ≡ true → is_start s ≡ false
 class_begun stage.Classes e = refl
 class_begun _ e = absurd cc
 
-label_inside : (s : Stage) (labels : List Label) (line : ℕ) (word : List ℕ) (ws : List (List ℕ)) (u : Unit {0}) → label_at s labels line word ws ≡ Ok u → is_inside s ≡ true
+label_inside : (s : Stage) (labels : List Label) (line : ℕ) (word : List ℕ) (ws : List (List ℕ)) (u : Unit {0})
+    → label_at s labels line word ws ≡ Ok u → is_inside s ≡ true
 unfolding label_at
 label_inside s labels line word ws u e = (checked (is_inside s) cause.Order _ u (then_bound (no_more ws) _ u e)).0
 
-instruction_inside : (labels : List Label) (inside : Bool) (count : ℕ) (o : Op) (ws : List (List ℕ)) (i : Instr) → instruction_of labels inside count o ws ≡ Ok i → inside ≡ true
+instruction_inside : (labels : List Label) (inside : Bool) (count : ℕ) (o : Op) (ws : List (List ℕ)) (i : Instr)
+    → instruction_of labels inside count o ws ≡ Ok i → inside ≡ true
 unfolding instruction_of
 instruction_inside labels inside count o ws i e =
     let a = bound (operand_at (form_of o).a 255 ws) _ i e in
@@ -79,14 +81,16 @@ instruction_inside labels inside count o ws i e =
 
 -- ---- a line
 
-told_by : (classes : ℕ) (s : Source) (line : ℕ) (text : List ℕ) (ws others : List (List ℕ)) (st : Statement) (t : Source) (told : ImageVersion) → after_statement classes s line text ws others st ≡ Ok t → due t told ≡ due s (version_by st told)
+told_by : (classes : ℕ) (s : Source) (line : ℕ) (text : List ℕ) (ws others : List (List ℕ)) (st : Statement) (t : Source) (told : ImageVersion)
+    → after_statement classes s line text ws others st ≡ Ok t → due t told ≡ due s (version_by st told)
 told_by classes s line text ws others statement.Silent t told e = moved s t told _ e refl
 told_by classes s line text ws others statement.Version t told e =
     let r = version_of s.stage s.so_far.version (other_words ws) in
     let make : Unit {0} → Source = λ u. record s { so_far = record s.so_far { version = Two } } in
     let f = with_ok make r _ t (λ c x. rw x refl) (λ n x. rw x refl) e in
     let b = version_starts s.stage s.so_far.version (other_words ws) f.0 f.1 in
-    moved (make f.0) t told _ f.2 (chosen_two (is_start s.stage) told ∙ sym (chosen_told (is_start s.stage) s.so_far.version Two (and_from (is_start s.stage) (is_one s.so_far.version) b.0 b.1)))
+    moved (make f.0) t told _ f.2 (chosen_two (is_start s.stage) told
+    ∙ sym (chosen_told (is_start s.stage) s.so_far.version Two (and_from (is_start s.stage) (is_one s.so_far.version) b.0 b.1)))
 told_by classes s line text ws others statement.Places t told e =
     let make : ℕ → Source = λ n. record s { stage = stage.Classes; so_far = record s.so_far { least_places = n } } in
     let f = with_ok make (places_of s.stage (other_words ws)) _ t (λ c x. rw x refl) (λ n x. rw x refl) e in
@@ -110,7 +114,12 @@ told_by classes s line text ws others statement.Func t told e =
     let f = with_ok make (func_of s.stage classes (length s.so_far.functions) (other_words ws)) _ t (λ c x. rw x refl) (λ n x. rw x refl) e in
     moved (make f.0) t told _ f.2 (kept s (make f.0) told refl refl)
 told_by classes s line text ws others statement.End t told e =
-    let make : Unit {0} → Source = λ u. record s { stage = stage.Functions; so_far = record s.so_far { functions = s.so_far.functions ++ s.function ∷ [] }; function = no_function; labels = [] } in
+    let make : Unit {0} → Source = λ u. record s {
+      stage = stage.Functions;
+      so_far = record s.so_far { functions = s.so_far.functions ++ s.function ∷ [] };
+      function = no_function;
+      labels = [];
+    } in
     let f = with_ok make (end_of s.stage (length s.function.code) (other_words ws)) _ t (λ c x. rw x refl) (λ n x. rw x refl) e in
     moved (make f.0) t told _ f.2 (kept s (make f.0) told refl refl)
 told_by classes s line text ws others statement.Entry t told e =
@@ -129,19 +138,22 @@ told_by classes s line text ws others (statement.Instruction o) t told e =
     moved (make f.0) t told _ f.2 (kept s (make f.0) told (inside_begun s.stage inside) refl)
 told_by classes s line text ws others statement.Unknown t told e = absurd cc
 
-line_told : (classes : ℕ) (s : Source) (line : ℕ) (text : List ℕ) (others : List (List ℕ)) (t : Source) (told : ImageVersion) → after_line classes s line text others ≡ Ok t → due t told ≡ due s (version_by (statement_in (words text)) told)
+line_told : (classes : ℕ) (s : Source) (line : ℕ) (text : List ℕ) (others : List (List ℕ)) (t : Source) (told : ImageVersion)
+    → after_line classes s line text others ≡ Ok t → due t told ≡ due s (version_by (statement_in (words text)) told)
 unfolding after_line
 line_told classes s line text others t told e = told_by classes s line text (words text) others (statement_in (words text)) t told e
 
 -- ---- the text
 
-read_told : (classes : ℕ) (s : Source) (line : ℕ) (texts : List (List ℕ)) (m : Module) → read_from classes s line texts ≡ Ok m → m.version ≡ due s (version_in texts)
+read_told : (classes : ℕ) (s : Source) (line : ℕ) (texts : List (List ℕ)) (m : Module) → read_from classes s line texts ≡ Ok m
+    → m.version ≡ due s (version_in texts)
 read_told classes s line [] m e =
     let is = ended_is s line (is_finished s.stage) m refl (sym (stop classes s line) ∙ e) in
     ap (λ (n : Module). n.version) (sym is.1) ∙ sym (chosen_begun (is_start s.stage) s.so_far.version (version_in []) (begun s.stage is.0))
 read_told classes s line (text ∷ others) m e =
     let on = went_on (after_line classes s line text others) line _ m (sym (step classes s line text others) ∙ e) in
-    read_told classes on.0 (suc line) others m on.2 ∙ line_told classes s line text others on.0 (version_in others) on.1 ∙ ap (due s) (sym (version_step text others))
+    read_told classes on.0 (suc line) others m on.2 ∙ line_told classes s line text others on.0 (version_in others) on.1
+    ∙ ap (due s) (sym (version_step text others))
 
 pub version_is_told : VersionIsTold
 unfolding module_of

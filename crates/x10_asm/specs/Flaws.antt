@@ -22,7 +22,9 @@ MayRead version s _ = s.so_far.version ≡ version
 -- in a text of this version with so many classes, the line is refused by this cause wherever it stands
 abbrev pub IsFaultOf : ImageVersion → ℕ → List ℕ → AsmCause → Type 0
 IsFaultOf version classes text cause =
-    (s : Source) (number : ℕ) (others : List (List ℕ)) → MayRead version s (statement_in (words text)) → after_line classes s number text others ≡ Err cause
+    (s : Source) (number : ℕ) (others : List (List ℕ))
+    → MayRead version s (statement_in (words text))
+    → after_line classes s number text others ≡ Err cause
 
 -- by no cause is it refused wherever it stands
 abbrev pub HasNoFault : ImageVersion → ℕ → List ℕ → Type 0

@@ -22,7 +22,8 @@ slot_with make here (Ok class) = Ok (record { kind = make class; home_here = her
 slot_with make here (Err cause) = Err cause
 
 -- what a word with the prefix says, else what another reading gives
-abbrev pub prefixed : Option (List ℕ) → (List ℕ → Result Slot AsmCause) → Result Slot AsmCause → Result Slot AsmCause
+abbrev pub prefixed : Option (List ℕ) → (List ℕ → Result Slot AsmCause) → Result Slot AsmCause
+    → Result Slot AsmCause
 prefixed (Some class) read other = read class
 prefixed None read other = other
 
@@ -66,7 +67,8 @@ some_slot (Err cause) = Err cause
 
 -- the kind of a result
 unfoldable pub result_of : ℕ → List ℕ → Result (Option Slot) AsmCause
-result_of classes word = if bytes_eq word (codes "none") then Ok None else some_slot (slot_of classes word)
+result_of classes word = if bytes_eq word (codes "none") then Ok None else some_slot
+    (slot_of classes word)
 
 -- ---- several words
 
@@ -76,7 +78,8 @@ is_unknown (Err Word) = true
 is_unknown _ = false
 
 -- each word's kind, or the first fault
-abbrev pub each : {A : Type 0} → (List ℕ → Result A AsmCause) → List (List ℕ) → Result (List A) AsmCause
+abbrev pub each : {A : Type 0} → (List ℕ → Result A AsmCause) → List (List ℕ)
+    → Result (List A) AsmCause
 each read [] = Ok []
 each read (word ∷ others) = do
   first ← read word

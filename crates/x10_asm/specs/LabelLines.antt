@@ -25,7 +25,9 @@ ends_labels _ = false
 
 -- the label that a line defines, if its name is one
 abbrev pub defined : Statement → List ℕ → ℕ → ℕ → List Label
-defined statement.Label word line index = if is_name (label_name word) then record { name = label_name word; line = line; index = index } ∷ [] else []
+defined statement.Label word line index =
+    if is_name (label_name word) then record { name = label_name word; line = line; index = index }
+    ∷ [] else []
 defined _ word line index = []
 
 -- the labels of the lines from a line and an instruction on, up to the function's end
@@ -33,5 +35,6 @@ unfoldable pub labels_from : ℕ → ℕ → List (List ℕ) → List Label
 labels_from line index [] = []
 labels_from line index (text ∷ others) =
     if ends_labels (statement_in (words text)) then []
-    else (defined (statement_in (words text)) (first_word (words text)) line index ++ labels_from (suc line)
+    else (defined (statement_in (words text)) (first_word (words text)) line index
+    ++ labels_from (suc line)
     (index_after (statement_in (words text)) index) others)

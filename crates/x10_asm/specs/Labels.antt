@@ -11,7 +11,8 @@ is_name_byte c = is_letter c || (nat_le 48 c && nat_le c 57)
 
 -- 1 to 32 ASCII letters, digits and underscores, no digit first
 abbrev pub is_name : List ℕ → Bool
-is_name name = is_letter (slice_index name 0) && nat_le (length name) 32 && list_all is_name_byte name
+is_name name = is_letter (slice_index name 0) && nat_le
+    (length name) 32 && list_all is_name_byte name
 
 -- the last byte is a colon
 abbrev pub ends_in_colon : List ℕ → Bool

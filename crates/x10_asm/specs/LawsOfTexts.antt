@@ -12,7 +12,8 @@ ListingIsRead = (m : Module) → FitsImage m → module_of (listing m) ≡ Ok m
 
 -- so is a text that says what a listing says, with comments and blank lines between
 abbrev pub CommentedIsRead : Type 0
-CommentedIsRead = (m : Module) (text : List ℕ) → FitsImage m → said text ≡ said (listing m) → module_of text ≡ Ok m
+CommentedIsRead = (m : Module) (text : List ℕ) → FitsImage m → said text ≡ said (listing m)
+    → module_of text ≡ Ok m
 
 -- a module that a text spells has an image
 abbrev pub SpelledFits : Type 0
@@ -20,4 +21,5 @@ SpelledFits = (text : List ℕ) (m : Module) → module_of text ≡ Ok m → Fit
 
 -- the version that a text tells is that of the module that it spells
 abbrev pub VersionIsTold : Type 0
-VersionIsTold = (text : List ℕ) (m : Module) → module_of text ≡ Ok m → m.version ≡ version_in (lines text)
+VersionIsTold = (text : List ℕ) (m : Module) → module_of text ≡ Ok m
+    → m.version ≡ version_in (lines text)

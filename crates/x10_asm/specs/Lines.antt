@@ -17,7 +17,8 @@ begins c (first ∷ others) = first == c
 -- a line ends by a line feed, which the last may lack; one carriage return before it is dropped
 unfoldable pub lines : List ℕ → List (List ℕ)
 lines [] = []
-lines (c ∷ cs) = if c == 10 then [] ∷ lines cs else (if c == 13 && begins 10 cs then lines cs else grown c (lines cs))
+lines (c ∷ cs) = if c == 10 then [] ∷ lines cs else
+    (if c == 13 && begins 10 cs then lines cs else grown c (lines cs))
 
 -- no word goes on with what follows: a space, or nothing
 abbrev pub is_word_end : List ℕ → Bool
@@ -27,7 +28,8 @@ is_word_end (first ∷ others) = first == 32
 -- words are parted by spaces
 unfoldable pub words : List ℕ → List (List ℕ)
 words [] = []
-words (c ∷ cs) = if c == 32 then words cs else (if is_word_end cs then (c ∷ []) ∷ words cs else grown c (words cs))
+words (c ∷ cs) = if c == 32 then words cs else
+    (if is_word_end cs then (c ∷ []) ∷ words cs else grown c (words cs))
 
 -- what follows the spaces at the front
 abbrev pub after_spaces : List ℕ → List ℕ
@@ -56,13 +58,15 @@ after_word line = after_spaces (from_space (after_spaces line))
 
 -- the rest of a word that begins with a prefix
 abbrev pub stripped : List ℕ → List ℕ → Option (List ℕ)
-stripped prefix word = if bytes_eq (take (length prefix) word) prefix then Some (drop (length prefix) word) else None
+stripped prefix word = if bytes_eq (take (length prefix) word) prefix then Some
+    (drop (length prefix) word) else None
 
 -- ---- numbers
 
 -- a number in decimal digits that is at most so great
 abbrev pub number_of : ℕ → List ℕ → Option ℕ
-number_of most word = if nat_lt 0 (length word) && all_ascii_digits word && nat_le (digits_value 10 word) most then Some (digits_value 10 word) else None
+number_of most word = if nat_lt 0 (length word) && all_ascii_digits word && nat_le
+    (digits_value 10 word) most then Some (digits_value 10 word) else None
 
 -- minus a number
 abbrev pub negative : ℕ → ℤ
@@ -79,4 +83,5 @@ minus (Some n) = Some (negative n)
 
 -- a number of 64 bits in two's complement, with an optional minus
 abbrev pub int_of : List ℕ → Option ℤ
-int_of word = if begins 45 word then minus (number_of (2 ^ 63) (drop 1 word)) else plus (number_of (2 ^ 63 - 1) word)
+int_of word = if begins 45 word then minus (number_of (2 ^ 63) (drop 1 word)) else plus
+    (number_of (2 ^ 63 - 1) word)

@@ -49,7 +49,8 @@ result_word (Some s) = slot_word s
 
 -- a byte of a text between its quotes: quote, backslash and line feed have a backslash before them
 abbrev pub escape : ℕ → List ℕ
-escape c = if c == 34 then 92 ∷ 34 ∷ [] else (if c == 92 then 92 ∷ 92 ∷ [] else (if c == 10 then 92 ∷ 110 ∷ [] else c ∷ []))
+escape c = if c == 34 then 92 ∷ 34 ∷ [] else
+    (if c == 92 then 92 ∷ 92 ∷ [] else (if c == 10 then 92 ∷ 110 ∷ [] else c ∷ []))
 
 abbrev pub quoted : List ℕ → List ℕ
 quoted text = 34 ∷ (flat_map escape text ++ 34 ∷ [])
@@ -89,7 +90,9 @@ text_line text = line (codes "text") (quoted text ∷ [])
 
 -- what a function's line says: its registers, loop slots, result and parameters
 unfoldable pub func_line : ℕ → ℕ → Option Slot → List Slot → List ℕ
-func_line registers loops result parameters = line (codes "func") (decimal registers ∷ decimal loops ∷ result_word result ∷ map slot_word parameters)
+func_line registers loops result parameters =
+    line (codes "func") (decimal registers ∷ decimal loops ∷ result_word result
+    ∷ map slot_word parameters)
 
 unfoldable pub instruction_line : Instr → List ℕ
 instruction_line i = line (name_of i.op) (operand_words i)
@@ -98,7 +101,8 @@ unfoldable pub end_line : List ℕ
 end_line = line (codes "end") []
 
 unfoldable pub function_lines : Function → List ℕ
-function_lines f = func_line f.registers f.loops f.result f.parameters ++ (flat_map instruction_line f.code ++ end_line)
+function_lines f = func_line f.registers f.loops f.result f.parameters
+    ++ (flat_map instruction_line f.code ++ end_line)
 
 unfoldable pub entry_line : ℕ → List ℕ
 entry_line n = line (codes "entry") (decimal n ∷ [])

@@ -9,7 +9,8 @@ use Rattle.x10_asm.specs.Checks.{◌>>=◌, ◌>>◌, given, no_more}
 
 -- the byte that an escape stands for: a quote, a backslash or a line feed
 abbrev pub unescaped : ℕ → Option ℕ
-unescaped c = if c == 34 then Some 34 else (if c == 92 then Some 92 else (if c == 110 then Some 10 else None))
+unescaped c = if c == 34 then Some 34 else
+    (if c == 92 then Some 92 else (if c == 110 then Some 10 else None))
 
 -- with a byte before the text
 abbrev pub onto : ℕ → Option (List ℕ × List ℕ) → Option (List ℕ × List ℕ)
@@ -23,7 +24,8 @@ onto_escape (Some c) read = onto c read
 -- the text up to the closing quote, and what follows that; after a backslash comes an escape
 unfoldable pub scan : Bool → List ℕ → Option (List ℕ × List ℕ)
 scan after_backslash [] = None
-scan false (c ∷ cs) = if c == 34 then Some ([], cs) else (if c == 92 then scan true cs else onto c (scan false cs))
+scan false (c ∷ cs) = if c == 34 then Some ([], cs) else
+    (if c == 92 then scan true cs else onto c (scan false cs))
 scan true (c ∷ cs) = onto_escape (unescaped c) (scan false cs)
 
 -- a text of at most 65,535 bytes

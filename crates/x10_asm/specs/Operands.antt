@@ -28,7 +28,8 @@ numbered (Ok p) = Ok (record { name = None; number = p.0; others = p.1 })
 numbered (Err fault) = Err fault
 
 abbrev pub named_or_number : Option (List ℕ) → List ℕ → List (List ℕ) → Result Last AsmCause
-named_or_number (Some name) word others = Ok (record { name = Some name; number = 0; others = others })
+named_or_number (Some name) word others =
+    Ok (record { name = Some name; number = 0; others = others })
 named_or_number None word others = numbered (number_at 4294967295 (word ∷ others))
 
 -- where a jump goes to: a name after an at sign, or a number

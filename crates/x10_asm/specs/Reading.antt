@@ -128,7 +128,14 @@ text_of s before rest = do
 
 -- a function without instructions
 abbrev pub function_with : ℕ → ℕ → Option Slot → List Slot → Function
-function_with registers loops result parameters = record { parameters = parameters; registers = registers; loops = loops; result = result; code = [] }
+function_with registers loops result parameters =
+    record {
+      parameters = parameters;
+      registers = registers;
+      loops = loops;
+      result = result;
+      code = [];
+    }
 
 abbrev pub kinds_after : ℕ → ℕ → ℕ → List (List ℕ) → Result Function AsmCause
 kinds_after classes registers loops [] = Err cause.Count
@@ -145,7 +152,8 @@ signature_of classes ws = do
 
 -- the kinds stand after two numbers
 abbrev pub kinds_are_known : ℕ → List (List ℕ) → Bool
-kinds_are_known classes (registers ∷ loops ∷ result ∷ parameters) = not (is_unknown (result_of classes result)) && are_known (slot_of classes) parameters
+kinds_are_known classes (registers ∷ loops ∷ result ∷ parameters) =
+    not (is_unknown (result_of classes result)) && are_known (slot_of classes) parameters
 kinds_are_known classes _ = true
 
 unfoldable pub func_of : Stage → ℕ → ℕ → List (List ℕ) → Result Function AsmCause
@@ -175,7 +183,8 @@ abbrev pub is_defined_at : ℕ → Option Label → Bool
 is_defined_at line (Some l) = l.line == line
 is_defined_at line None = false
 
-unfoldable pub label_at : Stage → List Label → ℕ → List ℕ → List (List ℕ) → Result (Unit {0}) AsmCause
+unfoldable pub label_at : Stage → List Label → ℕ → List ℕ → List (List ℕ)
+    → Result (Unit {0}) AsmCause
 label_at s labels line word ws = do
   no_more ws
   check (is_inside s) cause.Order
@@ -198,19 +207,31 @@ with_version s (Ok u) = Ok (record s { so_far = record s.so_far { version = Two 
 with_version s (Err fault) = Err fault
 
 abbrev pub with_places : Source → Result ℕ AsmCause → Result Source AsmCause
-with_places s (Ok n) = Ok (record s { stage = stage.Classes; so_far = record s.so_far { least_places = n } })
+with_places s (Ok n) = Ok (record s {
+  stage = stage.Classes;
+  so_far = record s.so_far { least_places = n };
+})
 with_places s (Err fault) = Err fault
 
 abbrev pub with_class : Source → Result (List Kind) AsmCause → Result Source AsmCause
-with_class s (Ok fields) = Ok (record s { so_far = record s.so_far { classes = s.so_far.classes ++ fields ∷ [] } })
+with_class s (Ok fields) = Ok (record s {
+  so_far = record s.so_far
+      { classes = s.so_far.classes ++ fields ∷ [] };
+})
 with_class s (Err fault) = Err fault
 
 abbrev pub with_int : Source → Result ℤ AsmCause → Result Source AsmCause
-with_int s (Ok z) = Ok (record s { stage = stage.Ints; so_far = record s.so_far { ints = s.so_far.ints ++ z ∷ [] } })
+with_int s (Ok z) = Ok (record s {
+  stage = stage.Ints;
+  so_far = record s.so_far { ints = s.so_far.ints ++ z ∷ [] };
+})
 with_int s (Err fault) = Err fault
 
 abbrev pub with_text : Source → Result (List ℕ) AsmCause → Result Source AsmCause
-with_text s (Ok text) = Ok (record s { stage = stage.Texts; so_far = record s.so_far { texts = s.so_far.texts ++ text ∷ [] } })
+with_text s (Ok text) = Ok (record s {
+  stage = stage.Texts;
+  so_far = record s.so_far { texts = s.so_far.texts ++ text ∷ [] };
+})
 with_text s (Err fault) = Err fault
 
 abbrev pub with_func : Source → List Label → Result Function AsmCause → Result Source AsmCause
@@ -218,16 +239,26 @@ with_func s labels (Ok f) = Ok (record s { stage = stage.Inside; function = f; l
 with_func s labels (Err fault) = Err fault
 
 abbrev pub with_instruction : Source → Result Instr AsmCause → Result Source AsmCause
-with_instruction s (Ok i) = Ok (record s { function = record s.function { code = s.function.code ++ i ∷ [] } })
+with_instruction s (Ok i) = Ok (record s
+    { function = record s.function { code = s.function.code ++ i ∷ [] } })
 with_instruction s (Err fault) = Err fault
 
 abbrev pub with_end : Source → Result (Unit {0}) AsmCause → Result Source AsmCause
 with_end s (Ok u) = Ok
-    (record s { stage = stage.Functions; so_far = record s.so_far { functions = s.so_far.functions ++ s.function ∷ [] }; function = no_function; labels = [] })
+    (record s {
+      stage = stage.Functions;
+      so_far = record s.so_far
+          { functions = s.so_far.functions ++ s.function ∷ [] };
+      function = no_function;
+      labels = [];
+    })
 with_end s (Err fault) = Err fault
 
 abbrev pub with_entry : Source → Result ℕ AsmCause → Result Source AsmCause
-with_entry s (Ok n) = Ok (record s { stage = stage.Finished; so_far = record s.so_far { entry = n } })
+with_entry s (Ok n) = Ok (record s {
+  stage = stage.Finished;
+  so_far = record s.so_far { entry = n };
+})
 with_entry s (Err fault) = Err fault
 
 abbrev pub with_nothing : Source → Result (Unit {0}) AsmCause → Result Source AsmCause
@@ -237,26 +268,40 @@ with_nothing s (Err fault) = Err fault
 -- an instruction, whose operation has to be one that an image of the version may have
 abbrev pub instruction_line_of : Source → Op → List (List ℕ) → Result Source AsmCause
 instruction_line_of s op ws =
-    if is_known s.so_far.version op then with_instruction s (instruction_of s.labels (is_inside s.stage) (length s.function.code) op ws) else Err cause.Word
+    if is_known s.so_far.version op then with_instruction s
+    (instruction_of s.labels (is_inside s.stage) (length s.function.code) op ws) else Err
+    cause.Word
 
 -- what is read after a line, given the number of classes, the line's number, its bytes and words, and the lines after it
-abbrev pub after_statement : ℕ → Source → ℕ → List ℕ → List (List ℕ) → List (List ℕ) → Statement → Result Source AsmCause
+abbrev pub after_statement : ℕ → Source → ℕ → List ℕ → List (List ℕ) → List (List ℕ) → Statement
+    → Result Source AsmCause
 after_statement classes s line text ws others statement.Silent = Ok s
-after_statement classes s line text ws others statement.Version = with_version s (version_of s.stage s.so_far.version (other_words ws))
-after_statement classes s line text ws others statement.Places = with_places s (places_of s.stage (other_words ws))
-after_statement classes s line text ws others statement.Class = with_class s (class_of s.stage classes (length s.so_far.classes) (other_words ws))
-after_statement classes s line text ws others statement.Int = with_int s (int_line_of s.stage (length s.so_far.ints) (other_words ws))
-after_statement classes s line text ws others statement.Text = with_text s (text_of s.stage (length s.so_far.texts) (after_word text))
-after_statement classes s line text ws others statement.Func = with_func s (labels_from (suc line) 0 others)
+after_statement classes s line text ws others statement.Version =
+    with_version s (version_of s.stage s.so_far.version (other_words ws))
+after_statement classes s line text ws others statement.Places =
+    with_places s (places_of s.stage (other_words ws))
+after_statement classes s line text ws others statement.Class =
+    with_class s (class_of s.stage classes (length s.so_far.classes) (other_words ws))
+after_statement classes s line text ws others statement.Int =
+    with_int s (int_line_of s.stage (length s.so_far.ints) (other_words ws))
+after_statement classes s line text ws others statement.Text =
+    with_text s (text_of s.stage (length s.so_far.texts) (after_word text))
+after_statement classes s line text ws others statement.Func =
+    with_func s (labels_from (suc line) 0 others)
     (func_of s.stage classes (length s.so_far.functions) (other_words ws))
-after_statement classes s line text ws others statement.End = with_end s (end_of s.stage (length s.function.code) (other_words ws))
-after_statement classes s line text ws others statement.Entry = with_entry s (entry_of s.stage s.so_far.functions (other_words ws))
-after_statement classes s line text ws others statement.Label = with_nothing s (label_at s.stage s.labels line (first_word ws) (other_words ws))
-after_statement classes s line text ws others (statement.Instruction op) = instruction_line_of s op (other_words ws)
+after_statement classes s line text ws others statement.End =
+    with_end s (end_of s.stage (length s.function.code) (other_words ws))
+after_statement classes s line text ws others statement.Entry =
+    with_entry s (entry_of s.stage s.so_far.functions (other_words ws))
+after_statement classes s line text ws others statement.Label =
+    with_nothing s (label_at s.stage s.labels line (first_word ws) (other_words ws))
+after_statement classes s line text ws others (statement.Instruction op) =
+    instruction_line_of s op (other_words ws)
 after_statement classes s line text ws others statement.Unknown = Err cause.Word
 
 unfoldable pub after_line : ℕ → Source → ℕ → List ℕ → List (List ℕ) → Result Source AsmCause
-after_line classes s line text others = after_statement classes s line text (words text) others (statement_in (words text))
+after_line classes s line text others = after_statement classes s line text (words text) others
+    (statement_in (words text))
 
 abbrev pub fault_at : ℕ → AsmCause → AsmFault
 fault_at line fault = record { line = line; cause = fault }
@@ -265,14 +310,16 @@ fault_at line fault = record { line = line; cause = fault }
 abbrev pub ended : Source → ℕ → Result Module AsmFault
 ended s line = if is_finished s.stage then Ok s.so_far else Err (fault_at line cause.Order)
 
-abbrev pub go_on : Result Source AsmCause → ℕ → (Source → Result Module AsmFault) → Result Module AsmFault
+abbrev pub go_on : Result Source AsmCause → ℕ → (Source → Result Module AsmFault)
+    → Result Module AsmFault
 go_on (Ok s) line next = next s
 go_on (Err fault) line next = Err (fault_at line fault)
 
 -- the rest of a text from a line on
 unfoldable pub read_from : ℕ → Source → ℕ → List (List ℕ) → Result Module AsmFault
 read_from classes s line [] = ended s line
-read_from classes s line (text ∷ others) = go_on (after_line classes s line text others) line (λ t. read_from classes t (suc line) others)
+read_from classes s line (text ∷ others) =
+    go_on (after_line classes s line text others) line (λ t. read_from classes t (suc line) others)
 
 abbrev pub is_class : Statement → Bool
 is_class statement.Class = true
@@ -281,7 +328,8 @@ is_class _ = false
 -- how many of the lines are classes
 unfoldable pub classes_in : List (List ℕ) → ℕ
 classes_in [] = 0
-classes_in (text ∷ others) = if is_class (statement_in (words text)) then suc (classes_in others) else classes_in others
+classes_in (text ∷ others) = if is_class (statement_in (words text)) then suc
+    (classes_in others) else classes_in others
 
 -- the version of a text that has it after a line
 abbrev pub version_by : Statement → ImageVersion → ImageVersion
@@ -297,7 +345,15 @@ version_in (text ∷ others) = version_by (statement_in (words text)) (version_i
 abbrev pub nothing_read : Source
 nothing_read = record {
   stage = stage.Start;
-  so_far = record { version = One; least_places = 0; classes = []; ints = []; texts = []; functions = []; entry = 0 };
+  so_far = record {
+    version = One;
+    least_places = 0;
+    classes = [];
+    ints = [];
+    texts = [];
+    functions = [];
+    entry = 0;
+  };
   function = no_function;
   labels = [];
 }

@@ -17,7 +17,8 @@ pub record StandsFor (kept : Source) (s : reading.Source) : Type 0 where
   pub table_is : IsTable kept.labels s.labels
 
 -- a line was taken in as the definition says, or it is the line's fault, unless memory ran out
-abbrev pub Takes : {X : Type 0} → Source → Result X AsmCause → Result reading.Source AsmCause → Type 0
+abbrev pub Takes : {X : Type 0} → Source → Result X AsmCause → Result reading.Source AsmCause
+    → Type 0
 Takes new (Ok u) read = (s : reading.Source) × (read ≡ Ok s) × StandsFor new s
 Takes new (Err cause) read = cause ≢ Memory → read ≡ Err cause
 
@@ -31,7 +32,8 @@ GivesAll view (Ok x) read = read ≡ Ok (view x)
 GivesAll view (Err fault) read = IsFaultOrMemory fault read
 
 -- the image of the module that a text spells, or its fault, unless memory ran out
-abbrev pub GivesImage : {X : Type 0} → (X → List ℕ) → Result X AsmFault → Result Module AsmFault → Type 0
+abbrev pub GivesImage : {X : Type 0} → (X → List ℕ) → Result X AsmFault → Result Module AsmFault
+    → Type 0
 GivesImage bytes (Ok x) read = (m : Module) × (read ≡ Ok m) × (bytes x ≡ spelling m)
 GivesImage bytes (Err fault) read = IsFaultOrMemory fault read
 

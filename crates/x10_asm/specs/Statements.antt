@@ -14,7 +14,8 @@ instruction_or_unknown None = Unknown
 
 -- a label ends in a colon; else it is an instruction's name, or nothing that is known
 abbrev pub label_or_instruction : List ℕ → Statement
-label_or_instruction word = if ends_in_colon word then Label else instruction_or_unknown (op_of_name word)
+label_or_instruction word = if ends_in_colon word then Label else instruction_or_unknown
+    (op_of_name word)
 
 -- the first byte is below the small letters
 abbrev pub begins_name : List ℕ → Bool

@@ -14,7 +14,8 @@ definition_of l = record { line = l.line; index = l.index }
 
 -- four bytes as a number, the first of them the highest; a byte behind the end is 0
 abbrev pub quad : List ℕ → ℕ → ℕ
-quad bytes at = 16777216 * slice_index bytes at + 65536 * slice_index bytes (at + 1) + 256 * slice_index bytes (at + 2) + slice_index bytes (at + 3)
+quad bytes at = 16777216 * slice_index bytes at + 65536 * slice_index bytes
+    (at + 1) + 256 * slice_index bytes (at + 2) + slice_index bytes (at + 3)
 
 -- the first eight bytes of a name as a number
 unfoldable pub front : List ℕ → ℕ
@@ -29,4 +30,5 @@ Table = BTreeMap (ℕ × Bor (List ℕ)) Definition
 
 -- each name has the definition of its first label
 abbrev pub IsTable : Table → List Label → Type 0
-IsTable table labels = (name : List ℕ) → get_by (key_cmp name) table ≡ option_map definition_of (label_of labels name)
+IsTable table labels = (name : List ℕ) → get_by (key_cmp name) table
+    ≡ option_map definition_of (label_of labels name)

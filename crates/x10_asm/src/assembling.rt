@@ -127,8 +127,10 @@ fn image_in(alloc: Global, text: &str) -> Result<Vec<u8>, AsmFault>
 /// function's labels.
 pub fn assemble(alloc: Global, text: &str) -> Result<Vec<u8>, AsmFault>
     ensures found { IfOk result (λ v. IsImageOf v.items (module_of text.now)) }
-    ensures only { (m : model.Module) → module_of text.now ≡ Ok m → IsSpelledUnlessMemory (λ v. v.items) result m }
-    ensures listed { (m : model.Module) → FitsImage m → text.now ≡ listing m → IsSpelledUnlessMemory (λ v. v.items) result m }
+    ensures only { (m : model.Module) → module_of text.now ≡ Ok m
+        → IsSpelledUnlessMemory (λ v. v.items) result m }
+    ensures listed { (m : model.Module) → FitsImage m → text.now ≡ listing m
+        → IsSpelledUnlessMemory (λ v. v.items) result m }
     ensures exact { GivesImage (λ v. v.items) result (module_of text.now) }
     ensures memory { IfErr result (λ e. e.cause ≡ Memory → e.line ≡ 0) }
 {

@@ -10,7 +10,8 @@ use std::alloc::AllocError;
 
 /// What stands for a byte, if not the byte itself.
 fn escaped(byte: u8) -> Option<&'static str>
-    ensures { MatchOption result (listing.escape byte ≡ byte ∷ []) (λ s. (listing.escape byte ≡ s.now) × (byte < 128)) }
+    ensures { MatchOption result (listing.escape byte ≡ byte ∷ [])
+        (λ s. (listing.escape byte ≡ s.now) × (byte < 128)) }
 {
     match byte {
         b'"' => Some("\\\""),
@@ -22,7 +23,8 @@ fn escaped(byte: u8) -> Option<&'static str>
 
 /// Pushes a text with its escapes. Runs of bytes that stand for themselves are pushed at once.
 fn push_escaped(out: &mut String, text: &str) -> Result<(), AllocError>
-    ensures { OnOk result (string_bytes out.new ≡ string_bytes out.old ++ flat_map listing.escape text.now) }
+    ensures { OnOk result (string_bytes out.new
+        ≡ string_bytes out.old ++ flat_map listing.escape text.now) }
 {
     let bytes = text.as_bytes();
     let mut from = 0;
@@ -39,7 +41,8 @@ fn push_escaped(out: &mut String, text: &str) -> Result<(), AllocError>
 
 /// Pushes a space and a text between quotes.
 pub fn push_quoted(out: &mut String, text: &str) -> Result<(), AllocError>
-    ensures { OnOk result (string_bytes out.new ≡ string_bytes out.old ++ spaced (quoted text.now)) }
+    ensures { OnOk result (string_bytes out.new
+        ≡ string_bytes out.old ++ spaced (quoted text.now)) }
 {
     out.push_str(" \"")?;
     push_escaped(out, text)?;

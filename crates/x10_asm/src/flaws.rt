@@ -55,8 +55,10 @@ fn at_next(line: &str, cause: AsmCause) -> Flaw<'_>
 /// What follows a number.
 fn past_number(line: &str, most: u64) -> Result<&str, Flaw<'_>>
     requires { most ≤ 2 ^ 63 }
-    ensures passed { IfOk result (λ rest. (n : ℕ) × (checks.number_at most (words line.now) ≡ Ok (n, words rest.now))) }
-    ensures flawed { IfErr result (λ flaw. checks.number_at most (words line.now) ≡ Err flaw.cause) }
+    ensures passed { IfOk result (λ rest. (n : ℕ) × (checks.number_at most (words line.now)
+        ≡ Ok (n, words rest.now))) }
+    ensures flawed { IfErr result (λ flaw. checks.number_at most (words line.now)
+        ≡ Err flaw.cause) }
 {
     match number_at(line, most) {
         Ok((_, rest)) => Ok(rest),
@@ -79,7 +81,8 @@ fn past_all(line: &str) -> Result<(), Flaw<'_>>
 fn past_one_number(line: &str, most: u64) -> Result<(), Flaw<'_>>
     requires { most ≤ 2 ^ 63 }
     ensures passed { IfOk result (λ _. (n : ℕ) × (checks.one_number most (words line.now) ≡ Ok n)) }
-    ensures flawed { IfErr result (λ flaw. checks.one_number most (words line.now) ≡ Err flaw.cause) }
+    ensures flawed { IfErr result (λ flaw. checks.one_number most (words line.now)
+        ≡ Err flaw.cause) }
 {
     let rest = past_number(line, most)?;
     past_all(rest)
@@ -113,8 +116,10 @@ fn past_one_int(line: &str) -> Result<(), Flaw<'_>>
 
 /// What follows one of the operands a, b and c.
 fn past_operand(line: &str, operand: Operand) -> Result<&str, Flaw<'_>>
-    ensures passed { IfOk result (λ rest. (n : ℕ) × (operands.operand_at operand 255 (words line.now) ≡ Ok (n, words rest.now))) }
-    ensures flawed { IfErr result (λ flaw. operands.operand_at operand 255 (words line.now) ≡ Err flaw.cause) }
+    ensures passed { IfOk result (λ rest. (n : ℕ) × (operands.operand_at operand 255
+        (words line.now) ≡ Ok (n, words rest.now))) }
+    ensures flawed { IfErr result (λ flaw. operands.operand_at operand 255 (words line.now)
+        ≡ Err flaw.cause) }
 {
     match operand_at(line, operand) {
         Ok((_, rest)) => Ok(rest),
@@ -124,8 +129,10 @@ fn past_operand(line: &str, operand: Operand) -> Result<&str, Flaw<'_>>
 
 /// What follows the operand x.
 fn past_last(line: &str, operand: Operand) -> Result<&str, Flaw<'_>>
-    ensures passed { IfOk result (λ rest. (x : operands.Last) × (operands.last_at operand (words line.now) ≡ Ok x) × (x.others ≡ words rest.now)) }
-    ensures flawed { IfErr result (λ flaw. operands.last_at operand (words line.now) ≡ Err flaw.cause) }
+    ensures passed { IfOk result (λ rest. (x : operands.Last)
+        × (operands.last_at operand (words line.now) ≡ Ok x) × (x.others ≡ words rest.now)) }
+    ensures flawed { IfErr result (λ flaw. operands.last_at operand (words line.now)
+        ≡ Err flaw.cause) }
 {
     match last_at(line, operand) {
         Ok((_, _, rest)) => Ok(rest),
@@ -137,7 +144,9 @@ fn past_last(line: &str, operand: Operand) -> Result<&str, Flaw<'_>>
 #[tactic(auto, unfolding(crate::specs::Operands::instruction_of))]
 fn past_operands(line: &str, op: Op) -> Result<(), Flaw<'_>>
     ensures passed { IfOk result (λ _. HasOperands op (words line.now)) }
-    ensures flawed { IfErr result (λ flaw. (all : List labels.Label) → (inside : Bool) → (count : ℕ) → operands.instruction_of all inside count op (words line.now) ≡ Err flaw.cause) }
+    ensures flawed { IfErr result (λ flaw. (all : List labels.Label) → (inside : Bool)
+        → (count : ℕ) → operands.instruction_of all inside count op (words line.now)
+        ≡ Err flaw.cause) }
 {
     let form = form(op);
     let line = past_operand(line, form.a)?;
@@ -156,7 +165,8 @@ fn past_instruction<'a>(
 ) -> Result<(), Flaw<'a>>
     ensures known { IfOk result (λ _. is_known version op ≡ true) }
     ensures passed { IfOk result (λ _. HasOperands op (words rest.now)) }
-    ensures flawed { IfErr result (λ flaw. (s : reading.Source) → s.so_far.version ≡ version → reading.instruction_line_of s op (words rest.now) ≡ Err flaw.cause) }
+    ensures flawed { IfErr result (λ flaw. (s : reading.Source) → s.so_far.version ≡ version
+        → reading.instruction_line_of s op (words rest.now) ≡ Err flaw.cause) }
 {
     if !is_known(version, op) {
         return Err(at_next(line, AsmCause::Word));
@@ -166,7 +176,9 @@ fn past_instruction<'a>(
 
 /// The first word that is no kind of a field, its class aside.
 fn unknown_field(line: &str, classes: usize) -> Option<Flaw<'_>>
-    ensures { MatchOption result (are_known (kinds.field_of classes) (words line.now) ≡ true) (λ flaw. (are_known (kinds.field_of classes) (words line.now) ≡ false) × (flaw.cause ≡ cause.Word)) }
+    ensures { MatchOption result (are_known (kinds.field_of classes) (words line.now) ≡ true)
+        (λ flaw. (are_known (kinds.field_of classes) (words line.now) ≡ false)
+        × (flaw.cause ≡ cause.Word)) }
 {
     let mut rest = line;
     while let Some((word, after)) = next_word(rest) {
@@ -180,7 +192,9 @@ fn unknown_field(line: &str, classes: usize) -> Option<Flaw<'_>>
 
 /// The first word that is no kind of a parameter, its class aside.
 fn unknown_slot(line: &str, classes: usize) -> Option<Flaw<'_>>
-    ensures { MatchOption result (are_known (kinds.slot_of classes) (words line.now) ≡ true) (λ flaw. (are_known (kinds.slot_of classes) (words line.now) ≡ false) × (flaw.cause ≡ cause.Word)) }
+    ensures { MatchOption result (are_known (kinds.slot_of classes) (words line.now) ≡ true)
+        (λ flaw. (are_known (kinds.slot_of classes) (words line.now) ≡ false)
+        × (flaw.cause ≡ cause.Word)) }
 {
     let mut rest = line;
     while let Some((word, after)) = next_word(rest) {
@@ -194,8 +208,10 @@ fn unknown_slot(line: &str, classes: usize) -> Option<Flaw<'_>>
 
 /// Kinds of fields.
 fn past_kinds(line: &str, classes: usize) -> Result<(), Flaw<'_>>
-    ensures passed { IfOk result (λ _. (fields : List KindOf) × (each (kinds.field_of classes) (words line.now) ≡ Ok fields)) }
-    ensures flawed { IfErr result (λ flaw. each (kinds.field_of classes) (words line.now) ≡ Err flaw.cause) }
+    ensures passed { IfOk result (λ _. (fields : List KindOf)
+        × (each (kinds.field_of classes) (words line.now) ≡ Ok fields)) }
+    ensures flawed { IfErr result (λ flaw. each (kinds.field_of classes) (words line.now)
+        ≡ Err flaw.cause) }
 {
     let mut rest = line;
     while let Some((word, after)) = next_word(rest) {
@@ -209,8 +225,10 @@ fn past_kinds(line: &str, classes: usize) -> Result<(), Flaw<'_>>
 
 /// Kinds of parameters.
 fn past_slots(line: &str, classes: usize) -> Result<(), Flaw<'_>>
-    ensures passed { IfOk result (λ _. (slots : List SlotOf) × (each (kinds.slot_of classes) (words line.now) ≡ Ok slots)) }
-    ensures flawed { IfErr result (λ flaw. each (kinds.slot_of classes) (words line.now) ≡ Err flaw.cause) }
+    ensures passed { IfOk result (λ _. (slots : List SlotOf)
+        × (each (kinds.slot_of classes) (words line.now) ≡ Ok slots)) }
+    ensures flawed { IfErr result (λ flaw. each (kinds.slot_of classes) (words line.now)
+        ≡ Err flaw.cause) }
 {
     let mut rest = line;
     while let Some((word, after)) = next_word(rest) {
@@ -226,8 +244,10 @@ fn past_slots(line: &str, classes: usize) -> Result<(), Flaw<'_>>
 #[tactic(auto, unfolding(crate::specs::Reading::class_of))]
 fn past_class(line: &str, classes: usize) -> Result<(), Flaw<'_>>
     ensures known { IfOk result (λ _. are_known (kinds.field_of classes) (words line.now) ≡ true) }
-    ensures passed { IfOk result (λ _. (fields : List KindOf) × (each (kinds.field_of classes) (words line.now) ≡ Ok fields)) }
-    ensures flawed { IfErr result (λ flaw. (stage : StageOf) → (before : ℕ) → reading.class_of stage classes before (words line.now) ≡ Err flaw.cause) }
+    ensures passed { IfOk result (λ _. (fields : List KindOf)
+        × (each (kinds.field_of classes) (words line.now) ≡ Ok fields)) }
+    ensures flawed { IfErr result (λ flaw. (stage : StageOf) → (before : ℕ)
+        → reading.class_of stage classes before (words line.now) ≡ Err flaw.cause) }
 {
     if let Some(flaw) = unknown_field(line, classes) {
         return Err(flaw);
@@ -237,7 +257,9 @@ fn past_class(line: &str, classes: usize) -> Result<(), Flaw<'_>>
 
 /// The first word that is no kind of a function's result or parameters, their classes aside.
 fn unknown_kind(line: &str, classes: usize) -> Option<Flaw<'_>>
-    ensures { MatchOption result (reading.kinds_are_known classes (words line.now) ≡ true) (λ flaw. (reading.kinds_are_known classes (words line.now) ≡ false) × (flaw.cause ≡ cause.Word)) }
+    ensures { MatchOption result (reading.kinds_are_known classes (words line.now) ≡ true)
+        (λ flaw. (reading.kinds_are_known classes (words line.now) ≡ false)
+        × (flaw.cause ≡ cause.Word)) }
 {
     let (_, line) = next_word(line)?;
     let (_, line) = next_word(line)?;
@@ -250,8 +272,10 @@ fn unknown_kind(line: &str, classes: usize) -> Option<Flaw<'_>>
 
 /// The numbers, the result and the parameters of a function.
 fn past_signature(line: &str, classes: usize) -> Result<(), Flaw<'_>>
-    ensures passed { IfOk result (λ _. (f : FunctionOf) × (reading.signature_of classes (words line.now) ≡ Ok f)) }
-    ensures flawed { IfErr result (λ flaw. reading.signature_of classes (words line.now) ≡ Err flaw.cause) }
+    ensures passed { IfOk result (λ _. (f : FunctionOf)
+        × (reading.signature_of classes (words line.now) ≡ Ok f)) }
+    ensures flawed { IfErr result (λ flaw. reading.signature_of classes (words line.now)
+        ≡ Err flaw.cause) }
 {
     let line = past_number(line, 255)?;
     let line = past_number(line, 255)?;
@@ -268,8 +292,10 @@ fn past_signature(line: &str, classes: usize) -> Result<(), Flaw<'_>>
 #[tactic(auto, unfolding(crate::specs::Reading::func_of))]
 fn past_func(line: &str, classes: usize) -> Result<(), Flaw<'_>>
     ensures known { IfOk result (λ _. reading.kinds_are_known classes (words line.now) ≡ true) }
-    ensures passed { IfOk result (λ _. (f : FunctionOf) × (reading.signature_of classes (words line.now) ≡ Ok f)) }
-    ensures flawed { IfErr result (λ flaw. (stage : StageOf) → (before : ℕ) → reading.func_of stage classes before (words line.now) ≡ Err flaw.cause) }
+    ensures passed { IfOk result (λ _. (f : FunctionOf)
+        × (reading.signature_of classes (words line.now) ≡ Ok f)) }
+    ensures flawed { IfErr result (λ flaw. (stage : StageOf) → (before : ℕ)
+        → reading.func_of stage classes before (words line.now) ≡ Err flaw.cause) }
 {
     if let Some(flaw) = unknown_kind(line, classes) {
         return Err(flaw);
@@ -279,8 +305,10 @@ fn past_func(line: &str, classes: usize) -> Result<(), Flaw<'_>>
 
 /// What follows a quote: no word after the closing one, if there is one with a space behind it.
 fn past_quotes(quoted: &str) -> Result<(), Flaw<'_>>
-    ensures passed { IfOk result (λ _. reading.is_count (literals.unquoted (Some quoted.now)) ≡ false) }
-    ensures flawed { IfErr result (λ flaw. (flaw.cause ≡ cause.Count) × (literals.unquoted (Some quoted.now) ≡ Err cause.Count)) }
+    ensures passed { IfOk result (λ _. reading.is_count (literals.unquoted (Some quoted.now))
+        ≡ false) }
+    ensures flawed { IfErr result (λ flaw. (flaw.cause ≡ cause.Count)
+        × (literals.unquoted (Some quoted.now) ≡ Err cause.Count)) }
 {
     let Some(rest) = behind(quoted) else {
         return Ok(());
@@ -294,8 +322,10 @@ fn past_quotes(quoted: &str) -> Result<(), Flaw<'_>>
 /// Something, and if it is a text between quotes, nothing after it.
 #[tactic(auto, unfolding(crate::specs::Reading::text_of, crate::specs::Literals::literal))]
 fn past_text(line: &str) -> Result<(), Flaw<'_>>
-    ensures passed { IfOk result (λ _. reading.is_count (literals.literal (spec.after_spaces line.now)) ≡ false) }
-    ensures flawed { IfErr result (λ flaw. (stage : StageOf) → (before : ℕ) → reading.text_of stage before (spec.after_spaces line.now) ≡ Err flaw.cause) }
+    ensures passed { IfOk result (λ _. reading.is_count
+        (literals.literal (spec.after_spaces line.now)) ≡ false) }
+    ensures flawed { IfErr result (λ flaw. (stage : StageOf) → (before : ℕ)
+        → reading.text_of stage before (spec.after_spaces line.now) ≡ Err flaw.cause) }
 {
     let text = after_spaces(line);
     if text.is_empty() {
@@ -336,7 +366,8 @@ fn past_line(line: &str, classes: usize, version: ImageVersion) -> Result<(), Fl
 /// So it is with faults in quotes, whose line may be out of order, which counts first, and with order, labels, limits and the
 /// entry. One pass over the line, or two.
 pub fn flaw_of(line: &str, classes: usize, version: ImageVersion) -> Option<Flaw<'_>>
-    ensures { MatchOption result (HasNoFault version classes line.now) (λ flaw. IsFaultOf version classes line.now flaw.cause) }
+    ensures { MatchOption result (HasNoFault version classes line.now)
+        (λ flaw. IsFaultOf version classes line.now flaw.cause) }
 {
     past_line(line, classes, version).err()
 }

@@ -115,7 +115,8 @@ pub type Table<'a> = BTreeMap<(u64, &'a str), Definition>;
 
 /// What a name defines.
 pub fn definition_of<'a>(table: &Table<'a>, name: &'a str) -> Option<Definition>
-    ensures { (all : List labels.Label) → IsTable table.now all → result ≡ option_map tables.definition_of (labels.label_of all name.now) }
+    ensures { (all : List labels.Label) → IsTable table.now all
+        → result ≡ option_map tables.definition_of (labels.label_of all name.now) }
 {
     let key = (front(name), name);
     table.get(&key).copied()
@@ -127,7 +128,12 @@ fn define<'a>(
     name: &'a str,
     definition: Definition,
 ) -> Result<(), AllocError>
-    ensures { OnOk result ((all : List labels.Label) → IsTable table.old all → IsTable table.new (all ++ record { name = name.now; line = definition.line; index = definition.index } ∷ [])) }
+    ensures { OnOk result ((all : List labels.Label) → IsTable table.old all
+        → IsTable table.new (all ++ record {
+          name = name.now;
+          line = definition.line;
+          index = definition.index;
+        } ∷ [])) }
 {
     let front = front(name);
     if let Some(first) = table.insert((front, name), definition)? {
@@ -143,7 +149,9 @@ fn define_by<'a>(
     definition: Definition,
 ) -> Result<(), AllocError>
     requires label { line.statement ≡ Label → labels.ends_in_colon line.first.now ≡ true }
-    ensures { OnOk result ((all : List labels.Label) → IsTable table.old all → IsTable table.new (all ++ labelled.defined line.entry.statement line.entry.first.now definition.line definition.index)) }
+    ensures { OnOk result ((all : List labels.Label) → IsTable table.old all
+        → IsTable table.new (all ++ labelled.defined line.entry.statement line.entry.first.now
+        definition.line definition.index)) }
 {
     if line.statement != Statement::Label {
         return Ok(());

@@ -98,7 +98,8 @@ pub fn int_of(stage: Stage, before: usize, line: &str) -> Result<i64, AsmCause>
 /// A constant text.
 #[tactic(auto, unfolding(crate::specs::Reading::text_of))]
 pub fn text_of(alloc: Global, stage: Stage, before: usize, line: &str) -> Result<String, AsmCause>
-    ensures { Gives string_bytes result (reading.text_of stage before (spec.after_spaces line.now)) }
+    ensures { Gives string_bytes result (reading.text_of stage before
+        (spec.after_spaces line.now)) }
 {
     let text = literal(alloc, after_spaces(line));
     match text {
@@ -220,7 +221,8 @@ pub fn entry_of(stage: Stage, functions: &[Function], line: &str) -> Result<u16,
 
 /// Whether a label's name is defined by this line, and by no earlier line of the function.
 fn is_defined_at<'a>(table: &Table<'a>, name: &'a str, number: usize) -> bool
-    ensures { (all : List labels.Label) → IsTable table.now all → result ≡ reading.is_defined_at number (labels.label_of all name.now) }
+    ensures { (all : List labels.Label) → IsTable table.now all
+        → result ≡ reading.is_defined_at number (labels.label_of all name.now) }
 {
     match definition_of(table, name) {
         Some(definition) => definition.line == number,
@@ -238,7 +240,8 @@ pub fn label_at<'a>(
     line: &str,
 ) -> Result<(), AsmCause>
     requires { labels.ends_in_colon word.now ≡ true }
-    ensures { (all : List labels.Label) → IsTable table.now all → result ≡ reading.label_at stage all number word.now (words line.now) }
+    ensures { (all : List labels.Label) → IsTable table.now all
+        → result ≡ reading.label_at stage all number word.now (words line.now) }
 {
     no_more(line)?;
     if stage != Stage::Inside {

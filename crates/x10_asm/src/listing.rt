@@ -55,7 +55,8 @@ pub fn push_entry(out: &mut String, entry: u16) -> Result<(), AllocError>
 }
 
 fn push_kinds(out: &mut String, class: &ClassView<'_>) -> Result<(), AllocError>
-    ensures { OnOk result (string_bytes out.new ≡ string_bytes out.old ++ flat_map spaced (map kind_word class.now)) }
+    ensures { OnOk result (string_bytes out.new
+        ≡ string_bytes out.old ++ flat_map spaced (map kind_word class.now)) }
 {
     for i in 0..class.len() {
         push_kind(out, class.field(i))?;
@@ -97,7 +98,8 @@ pub fn push_text_line(out: &mut String, text: &str) -> Result<(), AllocError>
 }
 
 fn push_slots(out: &mut String, signature: &SigView<'_>) -> Result<(), AllocError>
-    ensures { OnOk result (string_bytes out.new ≡ string_bytes out.old ++ flat_map spaced (map slot_word signature.now.parameters)) }
+    ensures { OnOk result (string_bytes out.new
+        ≡ string_bytes out.old ++ flat_map spaced (map slot_word signature.now.parameters)) }
 {
     for i in 0..signature.parameters() {
         push_slot(out, signature.parameter(i))?;
@@ -108,7 +110,9 @@ fn push_slots(out: &mut String, signature: &SigView<'_>) -> Result<(), AllocErro
 /// Pushes the line that begins a function.
 #[tactic(auto, unfolding(crate::specs::Listing::func_line))]
 pub fn push_func(out: &mut String, signature: &SigView<'_>) -> Result<(), AllocError>
-    ensures { OnOk result (string_bytes out.new ≡ string_bytes out.old ++ func_line signature.now.registers signature.now.loops signature.now.result signature.now.parameters) }
+    ensures { OnOk result (string_bytes out.new
+        ≡ string_bytes out.old ++ func_line signature.now.registers signature.now.loops
+        signature.now.result signature.now.parameters) }
 {
     out.push_str("func")?;
     push_number(out, u64::from(signature.registers()))?;
@@ -120,7 +124,8 @@ pub fn push_func(out: &mut String, signature: &SigView<'_>) -> Result<(), AllocE
 }
 
 fn push_operand(out: &mut String, operand: Operand, value: u32) -> Result<(), AllocError>
-    ensures { OnOk result (string_bytes out.new ≡ string_bytes out.old ++ flat_map spaced (operand_word operand value)) }
+    ensures { OnOk result (string_bytes out.new
+        ≡ string_bytes out.old ++ flat_map spaced (operand_word operand value)) }
 {
     if operand == Operand::Unused {
         return Ok(());
@@ -130,7 +135,8 @@ fn push_operand(out: &mut String, operand: Operand, value: u32) -> Result<(), Al
 
 #[tactic(auto, unfolding(crate::specs::Listing::operand_words))]
 fn push_operands(out: &mut String, instr: Instr) -> Result<(), AllocError>
-    ensures { OnOk result (string_bytes out.new ≡ string_bytes out.old ++ flat_map spaced (operand_words instr)) }
+    ensures { OnOk result (string_bytes out.new
+        ≡ string_bytes out.old ++ flat_map spaced (operand_words instr)) }
 {
     let form = form(instr.op);
     push_operand(out, form.a, u32::from(instr.a))?;
@@ -153,7 +159,8 @@ pub fn push_instruction(out: &mut String, instr: Instr) -> Result<(), AllocError
 
 fn push_code(out: &mut String, image: &ImageView<'_>, f: usize) -> Result<(), AllocError>
     requires { f < length image.now.functions }
-    ensures { OnOk result (string_bytes out.new ≡ string_bytes out.old ++ flat_map instruction_line (code_at image.now f)) }
+    ensures { OnOk result (string_bytes out.new
+        ≡ string_bytes out.old ++ flat_map instruction_line (code_at image.now f)) }
 {
     for pc in 0..image.code_len(f) {
         push_instruction(out, image.instr(f, pc))?;
@@ -173,7 +180,8 @@ pub fn push_end(out: &mut String) -> Result<(), AllocError>
 #[tactic(auto, unfolding(crate::specs::Listing::function_lines))]
 fn push_function(out: &mut String, image: &ImageView<'_>, f: usize) -> Result<(), AllocError>
     requires { f < length image.now.functions }
-    ensures { OnOk result ((g : model.Function) × (function_at image.now f ≡ Some g) × (string_bytes out.new ≡ string_bytes out.old ++ function_lines g)) }
+    ensures { OnOk result ((g : model.Function) × (function_at image.now f ≡ Some g)
+        × (string_bytes out.new ≡ string_bytes out.old ++ function_lines g)) }
 {
     push_func(out, &image.signature(f))?;
     push_code(out, image, f)?;
@@ -182,7 +190,8 @@ fn push_function(out: &mut String, image: &ImageView<'_>, f: usize) -> Result<()
 }
 
 fn push_classes(out: &mut String, image: &ImageView<'_>) -> Result<(), AllocError>
-    ensures { OnOk result (string_bytes out.new ≡ string_bytes out.old ++ flat_map class_line image.now.classes) }
+    ensures { OnOk result (string_bytes out.new
+        ≡ string_bytes out.old ++ flat_map class_line image.now.classes) }
 {
     for c in 0..image.classes() {
         push_class(out, &image.class(c))?;
@@ -192,13 +201,15 @@ fn push_classes(out: &mut String, image: &ImageView<'_>) -> Result<(), AllocErro
 
 fn push_int_at(out: &mut String, image: &ImageView<'_>, i: usize) -> Result<(), AllocError>
     requires { i < length image.now.ints }
-    ensures { OnOk result ((z : ℤ) × (slice_get image.now.ints i ≡ Some z) × (string_bytes out.new ≡ string_bytes out.old ++ int_line z)) }
+    ensures { OnOk result ((z : ℤ) × (slice_get image.now.ints i ≡ Some z)
+        × (string_bytes out.new ≡ string_bytes out.old ++ int_line z)) }
 {
     push_int_line(out, image.int(i))
 }
 
 fn push_ints(out: &mut String, image: &ImageView<'_>) -> Result<(), AllocError>
-    ensures { OnOk result (string_bytes out.new ≡ string_bytes out.old ++ flat_map int_line image.now.ints) }
+    ensures { OnOk result (string_bytes out.new
+        ≡ string_bytes out.old ++ flat_map int_line image.now.ints) }
 {
     for i in 0..image.ints() {
         push_int_at(out, image, i)?;
@@ -207,7 +218,8 @@ fn push_ints(out: &mut String, image: &ImageView<'_>) -> Result<(), AllocError>
 }
 
 fn push_texts(out: &mut String, image: &ImageView<'_>) -> Result<(), AllocError>
-    ensures { OnOk result (string_bytes out.new ≡ string_bytes out.old ++ flat_map text_line image.now.texts) }
+    ensures { OnOk result (string_bytes out.new
+        ≡ string_bytes out.old ++ flat_map text_line image.now.texts) }
 {
     for i in 0..image.texts() {
         push_text_line(out, image.text(i))?;
@@ -216,7 +228,8 @@ fn push_texts(out: &mut String, image: &ImageView<'_>) -> Result<(), AllocError>
 }
 
 fn push_functions(out: &mut String, image: &ImageView<'_>) -> Result<(), AllocError>
-    ensures { OnOk result (string_bytes out.new ≡ string_bytes out.old ++ flat_map function_lines image.now.functions) }
+    ensures { OnOk result (string_bytes out.new
+        ≡ string_bytes out.old ++ flat_map function_lines image.now.functions) }
 {
     for f in 0..image.functions() {
         push_function(out, image, f)?;

@@ -26,7 +26,8 @@ fn unescaped(byte: u8) -> Option<u8>
 
 /// The bytes up to the closing quote, and what follows that.
 fn scan(alloc: Global, quoted: &str) -> Result<(Vec<u8>, &str), AsmCause>
-    ensures { Gives (λ x. (x.0.items, x.1.now)) result (given (literals.scan false quoted.now) Text) }
+    ensures { Gives (λ x. (x.0.items, x.1.now)) result
+        (given (literals.scan false quoted.now) Text) }
 {
     let bytes = quoted.as_bytes();
     let mut text = Vec::new(alloc);
@@ -52,7 +53,8 @@ fn scan(alloc: Global, quoted: &str) -> Result<(Vec<u8>, &str), AsmCause>
 
 /// What follows the closing quote; nothing where there is none. Takes no memory.
 pub fn behind(quoted: &str) -> Option<&str>
-    ensures { MatchOption result (literals.scan false quoted.now ≡ None) (λ rest. (text : List ℕ) × (literals.scan false quoted.now ≡ Some (text, rest.now))) }
+    ensures { MatchOption result (literals.scan false quoted.now ≡ None)
+        (λ rest. (text : List ℕ) × (literals.scan false quoted.now ≡ Some (text, rest.now))) }
 {
     let bytes = quoted.as_bytes();
     let mut after_backslash = false;

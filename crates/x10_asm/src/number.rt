@@ -48,7 +48,8 @@ pub fn number(word: &str, most: u64) -> Result<u64, AsmCause>
 /// The number that the first word spells, and the words after it.
 pub fn number_at(line: &str, most: u64) -> Result<(u64, &str), AsmCause>
     requires { most ≤ 2 ^ 63 }
-    ensures value { Answers (λ x. (x.0, words x.1.now)) result (checks.number_at most (words line.now)) }
+    ensures value { Answers (λ x. (x.0, words x.1.now)) result
+        (checks.number_at most (words line.now)) }
     ensures below { IfOk result (λ x. x.0 ≤ most) }
 {
     let Some((word, rest)) = next_word(line) else {

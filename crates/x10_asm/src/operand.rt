@@ -20,7 +20,8 @@ use x10_model::limits::MOST_INSTRUCTIONS;
 /// One of the operands a, b and c, and what follows its word. An operand that the form doesn't name
 /// is 0 and has no word.
 pub fn operand_at(line: &str, operand: Operand) -> Result<(u8, &str), AsmCause>
-    ensures { Answers (λ x. (x.0, words x.1.now)) result (operands.operand_at operand 255 (words line.now)) }
+    ensures { Answers (λ x. (x.0, words x.1.now)) result
+        (operands.operand_at operand 255 (words line.now)) }
 {
     if operand == Operand::Unused {
         return Ok((0, line));
@@ -31,7 +32,11 @@ pub fn operand_at(line: &str, operand: Operand) -> Result<(u8, &str), AsmCause>
 
 /// The operand x: a label's name or a number, and what follows its word.
 fn target_at(line: &str) -> Result<(Option<&str>, u32, &str), AsmCause>
-    ensures { Answers (λ x. record { name = option_copied x.0; number = x.1; others = words x.2.now }) result (operands.target_at (words line.now)) }
+    ensures { Answers (λ x. record {
+      name = option_copied x.0;
+      number = x.1;
+      others = words x.2.now;
+    }) result (operands.target_at (words line.now)) }
 {
     let Some((word, rest)) = next_word(line) else {
         return Err(AsmCause::Count);
@@ -45,7 +50,11 @@ fn target_at(line: &str) -> Result<(Option<&str>, u32, &str), AsmCause>
 
 /// The operand x: for a jump a label's name or a number, otherwise a number; and what follows its word.
 pub fn last_at(line: &str, operand: Operand) -> Result<(Option<&str>, u32, &str), AsmCause>
-    ensures { Answers (λ x. record { name = option_copied x.0; number = x.1; others = words x.2.now }) result (operands.last_at operand (words line.now)) }
+    ensures { Answers (λ x. record {
+      name = option_copied x.0;
+      number = x.1;
+      others = words x.2.now;
+    }) result (operands.last_at operand (words line.now)) }
 {
     if operand == Operand::Target {
         return target_at(line);
@@ -59,7 +68,8 @@ pub fn last_at(line: &str, operand: Operand) -> Result<(Option<&str>, u32, &str)
 
 /// The index that a label's name stands for, or the number itself.
 fn resolved<'a>(table: &Table<'a>, name: Option<&'a str>, number: u32) -> Result<u32, AsmCause>
-    ensures { (all : List labels.Label) → IsTable table.now all → result ≡ operands.resolved all (option_copied name.entry) number }
+    ensures { (all : List labels.Label) → IsTable table.now all
+        → result ≡ operands.resolved all (option_copied name.entry) number }
 {
     let Some(name) = name else {
         return Ok(number);
@@ -79,7 +89,8 @@ pub fn instruction_of<'a>(
     op: Op,
     line: &'a str,
 ) -> Result<Instr, AsmCause>
-    ensures { (all : List labels.Label) → IsTable table.now all → result ≡ operands.instruction_of all is_inside count op (words line.now) }
+    ensures { (all : List labels.Label) → IsTable table.now all
+        → result ≡ operands.instruction_of all is_inside count op (words line.now) }
 {
     let form = form(op);
     let (a, line) = operand_at(line, form.a)?;

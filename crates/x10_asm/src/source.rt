@@ -69,7 +69,9 @@ pub fn nothing_read<'a>(alloc: Global) -> Source<'a>
 
 impl<'a> Source<'a> {
     fn take_version(&mut self, line: &str) -> Result<(), AsmCause>
-        ensures { (s : reading.Source) → StandsFor self.old s → Takes self.new result (reading.with_version s (reading.version_of s.stage s.so_far.version (words line.now))) }
+        ensures { (s : reading.Source) → StandsFor self.old s
+            → Takes self.new result (reading.with_version s
+            (reading.version_of s.stage s.so_far.version (words line.now))) }
     {
         version_of(self.stage, self.so_far.version, line)?;
         self.so_far.version = ImageVersion::Two;
@@ -77,7 +79,9 @@ impl<'a> Source<'a> {
     }
 
     fn take_places(&mut self, line: &str) -> Result<(), AsmCause>
-        ensures { (s : reading.Source) → StandsFor self.old s → Takes self.new result (reading.with_places s (reading.places_of s.stage (words line.now))) }
+        ensures { (s : reading.Source) → StandsFor self.old s
+            → Takes self.new result (reading.with_places s
+            (reading.places_of s.stage (words line.now))) }
     {
         let places = places_of(self.stage, line)?;
         self.so_far.least_places = places;
@@ -86,7 +90,9 @@ impl<'a> Source<'a> {
     }
 
     fn take_class(&mut self, alloc: Global, classes: usize, line: &str) -> Result<(), AsmCause>
-        ensures { (s : reading.Source) → StandsFor self.old s → Takes self.new result (reading.with_class s (reading.class_of s.stage classes (length s.so_far.classes) (words line.now))) }
+        ensures { (s : reading.Source) → StandsFor self.old s
+            → Takes self.new result (reading.with_class s
+            (reading.class_of s.stage classes (length s.so_far.classes) (words line.now))) }
     {
         let before = self.so_far.classes.len();
         let fields = class_of(alloc, self.stage, classes, before, line)?;
@@ -95,7 +101,9 @@ impl<'a> Source<'a> {
     }
 
     fn take_int(&mut self, line: &str) -> Result<(), AsmCause>
-        ensures { (s : reading.Source) → StandsFor self.old s → Takes self.new result (reading.with_int s (reading.int_line_of s.stage (length s.so_far.ints) (words line.now))) }
+        ensures { (s : reading.Source) → StandsFor self.old s
+            → Takes self.new result (reading.with_int s
+            (reading.int_line_of s.stage (length s.so_far.ints) (words line.now))) }
     {
         let int = int_of(self.stage, self.so_far.ints.len(), line)?;
         self.so_far.ints.push(int)?;
@@ -104,7 +112,9 @@ impl<'a> Source<'a> {
     }
 
     fn take_text(&mut self, alloc: Global, line: &str) -> Result<(), AsmCause>
-        ensures { (s : reading.Source) → StandsFor self.old s → Takes self.new result (reading.with_text s (reading.text_of s.stage (length s.so_far.texts) (spec.after_spaces line.now))) }
+        ensures { (s : reading.Source) → StandsFor self.old s
+            → Takes self.new result (reading.with_text s
+            (reading.text_of s.stage (length s.so_far.texts) (spec.after_spaces line.now))) }
     {
         let before = self.so_far.texts.len();
         let text = text_of(alloc, self.stage, before, line)?;
@@ -123,7 +133,9 @@ impl<'a> Source<'a> {
         rest: &'a str,
     ) -> Result<(), AsmCause>
         requires { number + length rest.now < 2 ^ 64 }
-        ensures { (s : reading.Source) → StandsFor self.old s → Takes self.new result (reading.with_func s (labels_from number 0 (lines rest.now)) (reading.func_of s.stage classes (length s.so_far.functions) (words line.now))) }
+        ensures { (s : reading.Source) → StandsFor self.old s
+            → Takes self.new result (reading.with_func s (labels_from number 0 (lines rest.now))
+            (reading.func_of s.stage classes (length s.so_far.functions) (words line.now))) }
     {
         let before = self.so_far.functions.len();
         let function = func_of(alloc, self.stage, classes, before, line)?;
@@ -135,7 +147,8 @@ impl<'a> Source<'a> {
     }
 
     fn take_instruction(&mut self, op: Op, line: &'a str) -> Result<(), AsmCause>
-        ensures { (s : reading.Source) → StandsFor self.old s → Takes self.new result (reading.instruction_line_of s op (words line.now)) }
+        ensures { (s : reading.Source) → StandsFor self.old s
+            → Takes self.new result (reading.instruction_line_of s op (words line.now)) }
     {
         if !is_known(self.so_far.version, op) {
             return Err(AsmCause::Word);
@@ -148,7 +161,9 @@ impl<'a> Source<'a> {
     }
 
     fn take_end(&mut self, alloc: Global, line: &str) -> Result<(), AsmCause>
-        ensures { (s : reading.Source) → StandsFor self.old s → Takes self.new result (reading.with_end s (reading.end_of s.stage (length s.function.code) (words line.now))) }
+        ensures { (s : reading.Source) → StandsFor self.old s
+            → Takes self.new result (reading.with_end s
+            (reading.end_of s.stage (length s.function.code) (words line.now))) }
     {
         end_of(self.stage, self.function.code.len(), line)?;
         let function = replace(&mut self.function, no_function(alloc));
@@ -159,7 +174,9 @@ impl<'a> Source<'a> {
     }
 
     fn take_entry(&mut self, line: &str) -> Result<(), AsmCause>
-        ensures { (s : reading.Source) → StandsFor self.old s → Takes self.new result (reading.with_entry s (reading.entry_of s.stage s.so_far.functions (words line.now))) }
+        ensures { (s : reading.Source) → StandsFor self.old s
+            → Takes self.new result (reading.with_entry s
+            (reading.entry_of s.stage s.so_far.functions (words line.now))) }
     {
         let entry = entry_of(self.stage, &self.so_far.functions, line)?;
         self.so_far.entry = entry;
@@ -169,7 +186,9 @@ impl<'a> Source<'a> {
 
     fn take_label(&self, number: usize, word: &'a str, line: &str) -> Result<(), AsmCause>
         requires { labels.ends_in_colon word.now ≡ true }
-        ensures { (s : reading.Source) → StandsFor self.now s → Takes self.now result (reading.with_nothing s (reading.label_at s.stage s.labels number word.now (words line.now))) }
+        ensures { (s : reading.Source) → StandsFor self.now s
+            → Takes self.now result (reading.with_nothing s
+            (reading.label_at s.stage s.labels number word.now (words line.now))) }
     {
         label_at(self.stage, &self.labels, number, word, line)
     }
@@ -185,7 +204,9 @@ impl<'a> Source<'a> {
         rest: &'a str,
     ) -> Result<(), AsmCause>
         requires { number + 1 + length rest.now < 2 ^ 64 }
-        ensures { (s : reading.Source) → StandsFor self.old s → Takes self.new result (reading.after_line classes s number text.now (lines rest.now)) }
+        ensures { (s : reading.Source) → StandsFor self.old s
+            → Takes self.new result (reading.after_line classes s number text.now
+            (lines rest.now)) }
     {
         let line = line_of(text);
         match line.statement {

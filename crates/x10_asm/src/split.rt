@@ -63,9 +63,11 @@ pub fn stripped<'a>(word: &'a str, prefix: &str) -> Option<&'a str>
 
 /// The first word of a line, and what follows it.
 pub fn next_word(line: &str) -> Option<(&str, &str)>
-    ensures words { MatchOption result (words line.now ≡ []) (λ x. words line.now ≡ x.0.now ∷ words x.1.now) }
+    ensures words { MatchOption result (words line.now ≡ [])
+        (λ x. words line.now ≡ x.0.now ∷ words x.1.now) }
     ensures utf8 { IfSome result (λ x. IsUtf8 x.0.now × IsUtf8 x.1.now) }
-    ensures rest { MatchOption result (spec.after_spaces line.now ≡ []) (λ x. x.1.now ≡ from_space (spec.after_spaces line.now)) }
+    ensures rest { MatchOption result (spec.after_spaces line.now ≡ [])
+        (λ x. x.1.now ≡ from_space (spec.after_spaces line.now)) }
 {
     let line = after_spaces(line);
     if line.is_empty() {
@@ -89,9 +91,11 @@ fn without_return(line: &str) -> &str
 
 /// The first line of a text without its end, and the text after it.
 pub fn next_line(text: &str) -> Option<(&str, &str)>
-    ensures lines { MatchOption result (lines text.now ≡ []) (λ x. lines text.now ≡ x.0.now ∷ lines x.1.now) }
+    ensures lines { MatchOption result (lines text.now ≡ [])
+        (λ x. lines text.now ≡ x.0.now ∷ lines x.1.now) }
     ensures utf8 { IfSome result (λ x. IsUtf8 x.0.now × IsUtf8 x.1.now) }
-    ensures shorter { MatchOption result (length text.now ≡ 0) (λ x. length x.1.now < length text.now) }
+    ensures shorter { MatchOption result (length text.now ≡ 0)
+        (λ x. length x.1.now < length text.now) }
 {
     if text.is_empty() {
         return None;

@@ -61,7 +61,8 @@ pub fn push_number(out: &mut String, number: u64) -> Result<(), AllocError>
 
 /// Pushes a space and a number that may be below 0.
 pub fn push_int(out: &mut String, number: i64) -> Result<(), AllocError>
-    ensures { OnOk result (string_bytes out.new ≡ string_bytes out.old ++ spaced (signed_decimal number)) }
+    ensures { OnOk result (string_bytes out.new
+        ≡ string_bytes out.old ++ spaced (signed_decimal number)) }
 {
     out.push_str(" ")?;
     out.push_str(Buffer::new().format(number))?;
@@ -70,7 +71,8 @@ pub fn push_int(out: &mut String, number: i64) -> Result<(), AllocError>
 
 /// Pushes the word of a kind with a class, and the class.
 fn push_classed(out: &mut String, word: &str, class: u16) -> Result<(), AllocError>
-    ensures { OnOk result (string_bytes out.new ≡ string_bytes out.old ++ spaced (word.now ++ decimal class)) }
+    ensures { OnOk result (string_bytes out.new
+        ≡ string_bytes out.old ++ spaced (word.now ++ decimal class)) }
 {
     push_word(out, word)?;
     push_decimal(out, u64::from(class))?;
@@ -104,7 +106,8 @@ pub fn push_slot(out: &mut String, slot: Slot) -> Result<(), AllocError>
 
 /// Pushes a space and the word of a result, which is `none` where there is none.
 pub fn push_result(out: &mut String, given: Option<Slot>) -> Result<(), AllocError>
-    ensures { OnOk result (string_bytes out.new ≡ string_bytes out.old ++ spaced (result_word given)) }
+    ensures { OnOk result (string_bytes out.new
+        ≡ string_bytes out.old ++ spaced (result_word given)) }
 {
     match given {
         None => push_word(out, "none"),

@@ -21,7 +21,8 @@ outside_chain : (code : List Instr) (bound : ℕ) (rs : List Region) → IsChain
 outside_chain code bound [] c = tt
 outside_chain code bound (r ∷ rs) c = weaker code (opener_of r) bound rs (omega arith) c.2
 
-after_chain : (code : List Instr) (pc : ℕ) (o : Op) (i : Instr) → IsChain code pc (around code pc) → IsChain code (suc pc) (regions_after o pc i (around code pc))
+after_chain : (code : List Instr) (pc : ℕ) (o : Op) (i : Instr) → IsChain code pc (around code pc)
+    → IsChain code (suc pc) (regions_after o pc i (around code pc))
 after_chain code pc op.Loop i c = (omega arith, refl, c)
 after_chain code pc op.Finb i c = (omega arith, refl, c)
 after_chain code pc op.Atomb i c = (omega arith, refl, c)
@@ -30,7 +31,8 @@ after_chain code pc op.Fine i c = weaker code pc (suc pc) (outside (around code 
 after_chain code pc op.Atome i c = weaker code pc (suc pc) (outside (around code pc)) (omega arith) (outside_chain code pc (around code pc) c)
 after_chain code pc _ i c = weaker code pc (suc pc) (around code pc) (omega arith) c
 
-passed_chain : (code : List Instr) (pc : ℕ) (i : Option Instr) → IsChain code pc (around code pc) → IsChain code (suc pc) (passed i pc (around code pc))
+passed_chain : (code : List Instr) (pc : ℕ) (i : Option Instr) → IsChain code pc (around code pc)
+    → IsChain code (suc pc) (passed i pc (around code pc))
 passed_chain code pc None c = weaker code pc (suc pc) (around code pc) (omega arith) c
 passed_chain code pc (Some i) c = after_chain code pc i.op i c
 
@@ -65,12 +67,30 @@ outside_later pc from [] count a = record { entered = []; count = suc count; is 
 outside_later pc from (r ∷ entered) count a = record { entered = entered; count = count; is = refl; later = a.1 }
 
 after_later : (o : Op) (pc n : ℕ) (i : Instr) (from to : List Region) → pc ≤ n → IsLater pc from to → IsLater pc from (regions_after o n i to)
-after_later op.Loop pc n i from to le h = record { entered = Turning n i.x ∷ h.entered; count = h.count; is = ap (λ (rs : List Region). Turning n i.x ∷ rs) h.is; later = (le, h.later) }
-after_later op.Finb pc n i from to le h = record { entered = Waiting n ∷ h.entered; count = h.count; is = ap (λ (rs : List Region). Waiting n ∷ rs) h.is; later = (le, h.later) }
-after_later op.Atomb pc n i from to le h = record { entered = Atomic n ∷ h.entered; count = h.count; is = ap (λ (rs : List Region). Atomic n ∷ rs) h.is; later = (le, h.later) }
-after_later op.Endl pc n i from to le h = subst (λ (rs : List Region). IsLater pc from (outside rs)) (sym h.is) (outside_later pc from h.entered h.count h.later)
-after_later op.Fine pc n i from to le h = subst (λ (rs : List Region). IsLater pc from (outside rs)) (sym h.is) (outside_later pc from h.entered h.count h.later)
-after_later op.Atome pc n i from to le h = subst (λ (rs : List Region). IsLater pc from (outside rs)) (sym h.is) (outside_later pc from h.entered h.count h.later)
+after_later op.Loop pc n i from to le h = record {
+  entered = Turning n i.x ∷ h.entered;
+  count = h.count;
+  is = ap (λ (rs : List Region). Turning n i.x ∷ rs) h.is;
+  later = (le, h.later);
+}
+after_later op.Finb pc n i from to le h = record {
+  entered = Waiting n ∷ h.entered;
+  count = h.count;
+  is = ap (λ (rs : List Region). Waiting n ∷ rs) h.is;
+  later = (le, h.later);
+}
+after_later op.Atomb pc n i from to le h = record {
+  entered = Atomic n ∷ h.entered;
+  count = h.count;
+  is = ap (λ (rs : List Region). Atomic n ∷ rs) h.is;
+  later = (le, h.later);
+}
+after_later op.Endl pc n i from to le h = subst (λ (rs : List Region). IsLater pc from (outside rs)) (sym h.is)
+    (outside_later pc from h.entered h.count h.later)
+after_later op.Fine pc n i from to le h = subst (λ (rs : List Region). IsLater pc from (outside rs)) (sym h.is)
+    (outside_later pc from h.entered h.count h.later)
+after_later op.Atome pc n i from to le h = subst (λ (rs : List Region). IsLater pc from (outside rs)) (sym h.is)
+    (outside_later pc from h.entered h.count h.later)
 after_later _ pc n i from to le h = h
 
 passed_later : (o : Option Instr) (pc n : ℕ) (from to : List Region) → pc ≤ n → IsLater pc from to → IsLater pc from (passed o n to)
@@ -167,10 +187,12 @@ leaves-left (suc k) (Atomic o ∷ rs) =
     let s : same_openers (Atomic o ∷ rs) (left k rs) ≡ false = shorter (Atomic o ∷ rs) (left k rs) (omega arith) in
     let f : atomics_of (left k rs) ≤ atomics_of rs = atomics-left k rs in
     let d : (atomics_of rs + 1 == atomics_of (left k rs)) ≡ false = grind arith in
-    ap (λ b. b || false) s ∙ sym (ap (λ b. (finishes_of rs == finishes_of (left k rs)) && b) d ∙ and_false (finishes_of rs == finishes_of (left k rs)))
+    ap (λ b. b || false) s ∙ sym (ap (λ b. (finishes_of rs == finishes_of (left k rs)) && b) d
+    ∙ and_false (finishes_of rs == finishes_of (left k rs)))
 
 -- no region that begins at a jump or after it is reached
-leaves-later : (code : List Instr) (pc : ℕ) (rs : List Region) (t : Region) (ts : List Region) → IsChain code pc rs → pc ≤ opener_of t → leaves_loops rs (t ∷ ts) ≡ false
+leaves-later : (code : List Instr) (pc : ℕ) (rs : List Region) (t : Region) (ts : List Region) → IsChain code pc rs → pc ≤ opener_of t
+    → leaves_loops rs (t ∷ ts) ≡ false
 leaves-later code pc [] t ts c le = refl
 leaves-later code pc (r ∷ rs) t ts c le =
     let d : (opener_of r == opener_of t) ≡ false = not_eq (opener_of r) (opener_of t) (omega arith) in
@@ -185,8 +207,10 @@ left_before code pc zero [] c = refl
 left_before code pc zero (r ∷ rs) c = let lt : opener_of r < pc = c.0 in grind arith
 left_before code pc (suc k) rs c = left_before code pc k (outside rs) (outside_chain code pc rs c)
 
-leaves_from : (code : List Instr) (pc : ℕ) (from entered : List Region) (count : ℕ) → IsChain code pc from → AllFrom pc entered → leaves_loops from (entered ++ left count from) ≡ (begins_before (entered ++ left count from) pc && same_kept from (entered ++ left count from))
-leaves_from code pc from [] count c a = leaves-left count from ∙ ap (λ b. b && same_kept from (left count from)) (sym (left_before code pc count from c))
+leaves_from : (code : List Instr) (pc : ℕ) (from entered : List Region) (count : ℕ) → IsChain code pc from → AllFrom pc entered
+    → leaves_loops from (entered ++ left count from) ≡ (begins_before (entered ++ left count from) pc && same_kept from (entered ++ left count from))
+leaves_from code pc from [] count c a = leaves-left count from
+    ∙ ap (λ b. b && same_kept from (left count from)) (sym (left_before code pc count from c))
 leaves_from code pc from (t ∷ entered) count c a =
     let le : pc ≤ opener_of t = a.0 in
     let n : nat_lt (opener_of t) pc ≡ false = grind arith in
@@ -194,7 +218,8 @@ leaves_from code pc from (t ∷ entered) count c a =
 
 -- a forward jump leaves loops alone exactly where the target's innermost region begins before the jump, and as many
 -- finishes and atomic regions are around both
-pub leaves-around : (code : List Instr) (pc x : ℕ) → pc ≤ x → leaves_loops (around code pc) (around code x) ≡ (begins_before (around code x) pc && same_kept (around code pc) (around code x))
+pub leaves-around : (code : List Instr) (pc x : ℕ) → pc ≤ x → leaves_loops (around code pc) (around code x)
+    ≡ (begins_before (around code x) pc && same_kept (around code pc) (around code x))
 leaves-around code pc x le =
     let h : IsLater pc (around code pc) (around code x) = is_later code pc x le in
     subst (λ (rs : List Region). leaves_loops (around code pc) rs ≡ (begins_before rs pc && same_kept (around code pc) rs)) (sym h.is)
@@ -231,4 +256,5 @@ counts (Atomic o ∷ rs) = let h : depth_of rs + finishes_of rs + atomics_of rs 
 
 -- an instruction stands in at most as many regions as its number says
 pub counts-around : (code : List Instr) (pc : ℕ) → depth_of (around code pc) + finishes_of (around code pc) + atomics_of (around code pc) ≤ pc
-counts-around code pc = let e : depth_of (around code pc) + finishes_of (around code pc) + atomics_of (around code pc) ≡ length (around code pc) = counts (around code pc) in let h : length (around code pc) ≤ pc = length-around code pc in omega arith
+counts-around code pc = let e : depth_of (around code pc) + finishes_of (around code pc) + atomics_of (around code pc) ≡ length (around code pc) =
+    counts (around code pc) in let h : length (around code pc) ≤ pc = length-around code pc in omega arith

@@ -10,7 +10,7 @@ use Rattle.x10_bounds.specs.declared.spot.Spot.{Spot}
 use Rattle.x10_bounds.specs.Spots.{atomics_of, spot_of}
 use Rattle.x10_bounds.specs.Potential.{IsStructured}
 use Rattle.x10_bounds.specs.AtomicRegions.{is_inside, StructuredKeeps}
-use Rattle.x10_bounds.proofs.Failing.{none_fails}
+use Rattle.x10_bounds.proofs.FirstFailure.{none_fails}
 use Rattle.x10_bounds.proofs.Falls.{all_nest}
 use Rattle.x10_bounds.proofs.OpenFinishes.{jumps_in}
 use Rattle.x10_bounds.proofs.Spots.{around-more}
@@ -42,7 +42,8 @@ no_atomic rs e = none_there (atomics_of rs) (sym (inside_is rs) ∙ e)
 
 -- ---- one instruction further
 
-stays_in : (o : Op) (pc : ℕ) (i : Instr) (rs : List Region) → nests o rs ≡ true → o ≢ op.Atomb → o ≢ op.Atome → atomics_of (regions_after o pc i rs) ≡ atomics_of rs
+stays_in : (o : Op) (pc : ℕ) (i : Instr) (rs : List Region) → nests o rs ≡ true → o ≢ op.Atomb → o ≢ op.Atome
+    → atomics_of (regions_after o pc i rs) ≡ atomics_of rs
 stays_in op.Atomb pc i rs n a b = absurd (a refl)
 stays_in op.Atome pc i rs n a b = absurd (b refl)
 stays_in op.Loop pc i rs n a b = refl
@@ -103,7 +104,8 @@ one_after op.Fine pc i rs e le = outside_fewer 1 rs le
 one_after op.Atome pc i rs e le = outside_fewer 1 rs le
 one_after _ pc i rs e le = le
 
-one_next : (code : List Instr) (pc : ℕ) (o : Option Instr) → atomic_fault code ≡ None → slice_get code pc ≡ o → atomics_of (around code pc) ≤ 1 → atomics_of (passed o pc (around code pc)) ≤ 1
+one_next : (code : List Instr) (pc : ℕ) (o : Option Instr) → atomic_fault code ≡ None → slice_get code pc ≡ o → atomics_of (around code pc) ≤ 1
+    → atomics_of (passed o pc (around code pc)) ≤ 1
 one_next code pc None none at le = le
 one_next code pc (Some i) none at le = one_after i.op pc i (around code pc) (none_fails (λ n j. stays_out j.op (around code n)) code pc i none at) le
 
@@ -111,7 +113,8 @@ at_most_one : (code : List Instr) (pc : ℕ) → atomic_fault code ≡ None → 
 at_most_one code zero none = omega arith
 at_most_one code (suc pc) none = one_next code pc (slice_get code pc) none refl (at_most_one code pc none)
 
-leaves_in : (pc : ℕ) (i : Instr) (rs : List Region) → nests op.Atome rs ≡ true → atomics_of rs ≤ 1 → is_in_atomic (regions_after op.Atome pc i rs) ≡ false
+leaves_in : (pc : ℕ) (i : Instr) (rs : List Region) → nests op.Atome rs ≡ true → atomics_of rs ≤ 1
+    → is_in_atomic (regions_after op.Atome pc i rs) ≡ false
 leaves_in pc i [] n le = absurd cc
 leaves_in pc i (Turning o l ∷ rs) n le = absurd cc
 leaves_in pc i (Waiting o ∷ rs) n le = absurd cc
@@ -140,7 +143,8 @@ module _ (loops : ℕ) (code : List Instr) (s : IsStructured loops code) (pc : �
 
 pub structured_keeps : StructuredKeeps
 structured_keeps loops code s = record {
-  onward = λ pc i at a b. same_inside (around code (pc + 1)) (around code pc) (ap atomics_of (next loops code s pc i at) ∙ stays_in i.op pc i (around code pc) (fits loops code s pc i at) a b);
+  onward = λ pc i at a b. same_inside (around code (pc + 1)) (around code pc)
+      (ap atomics_of (next loops code s pc i at) ∙ stays_in i.op pc i (around code pc) (fits loops code s pc i at) a b);
   opens = λ pc i at is. ap is_in_atomic (after_as loops code s pc i at op.Atomb is);
   closes = λ pc i at is. closes_in (around code pc) (nests_as loops code s pc i at op.Atome is);
   leaves = λ pc i at is. leaves_as loops code s pc i at is;

@@ -8,7 +8,7 @@ use Rattle.x10_model.specs.Structure.{Region, opener_of, outside, regions_after,
 use Rattle.std.proofs.lemmas.Option.{slice_get_within}
 use Rattle.x10_model.proofs.Decided.{get_below}
 use Rattle.x10_bounds.specs.Regions.{closed_by, is_number, is_opener, leaves_open, closer_of}
-use Rattle.x10_bounds.proofs.Failing.{none_fails}
+use Rattle.x10_bounds.proofs.FirstFailure.{none_fails}
 use Rattle.x10_model.proofs.Balance.{last_or_below}
 
 -- one of the regions begins at an opener
@@ -21,7 +21,10 @@ eq_yes a b e = grind arith
 
 stays_outside : (o : ℕ) (rs : List Region) → is_number o (closed_by op.Endl rs) ≡ false → IsOpen o rs → IsOpen o (outside rs)
 stays_outside o [] other h = absurd h
-stays_outside o (r ∷ rs) other h = elim h [ inl e ↦ absurd (let yes : (opener_of r == o) ≡ true = eq_yes (opener_of r) o e in cc) | inr inner ↦ inner ]
+stays_outside o (r ∷ rs) other h = elim h [
+  | inl e ↦ absurd (let yes : (opener_of r == o) ≡ true = eq_yes (opener_of r) o e in cc)
+  | inr inner ↦ inner
+]
 
 -- it stays open past an instruction that doesn't close it
 stays : (p : Op) (o pc : ℕ) (i : Instr) (rs : List Region) → is_number o (closed_by p rs) ≡ false → IsOpen o rs → IsOpen o (regions_after p pc i rs)
@@ -44,10 +47,12 @@ is_false true e = absurd cc
 is_false false e = refl
 
 -- a region that nothing closes is open from its opener on
-stays_open : (code : List Instr) (o : ℕ) (i : Instr) → slice_get code o ≡ Some i → is_opener i.op ≡ true → closer_of code o ≡ None → (x : ℕ) → o < x → x ≤ length code → IsOpen o (around code x)
+stays_open : (code : List Instr) (o : ℕ) (i : Instr) → slice_get code o ≡ Some i → is_opener i.op ≡ true → closer_of code o ≡ None → (x : ℕ) → o < x
+    → x ≤ length code → IsOpen o (around code x)
 stays_open code o i at opener none zero lt le = absurd (omega arith)
 stays_open code o i at opener none (suc x) lt le = elim (last_or_below o x lt) [
-  | inl e ↦ subst (λ (k : ℕ). IsOpen o (around code (suc k))) e (subst (λ (j : Option Instr). IsOpen o (passed j o (around code o))) (sym at) (opens i.op o i (around code o) opener))
+  | inl e ↦ subst (λ (k : ℕ). IsOpen o (around code (suc k))) e
+      (subst (λ (j : Option Instr). IsOpen o (passed j o (around code o))) (sym at) (opens i.op o i (around code o) opener))
   | inr before ↦
       let here = get_below code x (omega arith) in
       let other = is_false (is_number o (closed_by here.0.op (around code x))) (none_fails (leaves_open code o) code x here.0 none here.1) in
@@ -76,8 +81,11 @@ some_or_none None h = absurd (h refl)
 some_or_none (Some n) h = refl
 
 -- where a function nests, each opener has a closer
-pub is_closed : (code : List Instr) → nesting_fault code ≡ None → (pc : ℕ) (i : Instr) → slice_get code pc ≡ Some i → IsTrue (is_opener i.op) → IsSome (closer_of code pc)
+pub is_closed : (code : List Instr) → nesting_fault code ≡ None → (pc : ℕ) (i : Instr) → slice_get code pc ≡ Some i → IsTrue (is_opener i.op)
+    → IsSome (closer_of code pc)
 is_closed code nested pc i at opener =
-    let ends : ends_well code ≡ true = is_true (ends_well code) _ (both_none (first_failing (λ pc i. nests i.op (around code pc)) 0 code) _ nested).1 in
+    let ends : ends_well code ≡ true = is_true (ends_well code) _
+    (both_none (first_failing (λ pc i. nests i.op (around code pc)) 0 code) _ nested).1 in
     let within = slice_get_within code pc i at in
-    some_or_none (closer_of code pc) (λ none. no_region pc (around code (length code)) (first_true (is_empty (around code (length code))) _ ends) (stays_open code pc i at opener none (length code) within (omega arith)))
+    some_or_none (closer_of code pc) (λ none. no_region pc (around code (length code)) (first_true (is_empty (around code (length code))) _ ends)
+    (stays_open code pc i at opener none (length code) within (omega arith)))

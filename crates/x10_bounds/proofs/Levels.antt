@@ -8,11 +8,12 @@ use Rattle.x10_code.specs.declared.instr.Instr.{Instr}
 use Rattle.x10_model.specs.Structure.{Region, Turning, Waiting, Atomic, regions_after, around, nests, weight, depth_of, is_call, cost, steps_from, bound_of}
 use Rattle.x10_model.proofs.Decided.{get_below}
 use Rattle.x10_bounds.specs.Potential.{inner, outer, total, levels_before, levels, levels_from}
-use Rattle.x10_bounds.proofs.Failing.{drop-at, drop-end}
+use Rattle.x10_bounds.proofs.FirstFailure.{drop-at, drop-end}
 use Rattle.x10_bounds.proofs.Spots.{around-more}
 
 -- the levels at an instruction, by those at the next
-pub levels-at : (earlier : List ℕ) (code : List Instr) (pc : ℕ) (i : Instr) → slice_get code pc ≡ Some i → levels_from earlier code pc ≡ levels_before earlier i.op i (levels_from earlier code (pc + 1))
+pub levels-at : (earlier : List ℕ) (code : List Instr) (pc : ℕ) (i : Instr) → slice_get code pc ≡ Some i
+    → levels_from earlier code pc ≡ levels_before earlier i.op i (levels_from earlier code (pc + 1))
 levels-at earlier code pc i e = ap (levels earlier) (drop-at code pc i e)
 
 pub levels-end : (earlier : List ℕ) (code : List Instr) (pc : ℕ) → length code ≤ pc → levels_from earlier code pc ≡ []
@@ -48,8 +49,10 @@ worth-nil (Atomic o ∷ rs) = worth-nil rs
 at_or_past : (code : List Instr) (pc : ℕ) → ((i : Instr) × (slice_get code pc ≡ Some i)) ⊎ (length code ≤ pc)
 at_or_past code pc = elim (cases_lt pc (length code)) [ inl lt ↦ inl (get_below code pc lt) | inr le ↦ inr le ]
 
-none_left : (earlier : List ℕ) (code : List Instr) (pc : ℕ) → length code ≤ pc → steps_from earlier code pc (drop pc code) ≡ worth (levels_from earlier code pc) (around code pc)
-none_left earlier code pc le = ap (steps_from earlier code pc) (drop-end code pc le) ∙ sym (ap (λ ls. worth ls (around code pc)) (levels-end earlier code pc le) ∙ worth-nil (around code pc))
+none_left : (earlier : List ℕ) (code : List Instr) (pc : ℕ) → length code ≤ pc
+    → steps_from earlier code pc (drop pc code) ≡ worth (levels_from earlier code pc) (around code pc)
+none_left earlier code pc le = ap (steps_from earlier code pc) (drop-end code pc le)
+    ∙ sym (ap (λ ls. worth ls (around code pc)) (levels-end earlier code pc le) ∙ worth-nil (around code pc))
 
 plain_cost : (earlier : List ℕ) (i : Instr) → is_call i.op ≡ false → 1 ≡ cost earlier i
 plain_cost earlier i e = rw e refl
@@ -57,7 +60,8 @@ plain_cost earlier i e = rw e refl
 -- ---- as many levels as there are loops around, and one more
 
 -- an operation fits the regions that it stands in
-none_past_before : (earlier : List ℕ) (o : Op) (pc : ℕ) (i : Instr) (rs : List Region) (ls : List ℕ) → nests o rs ≡ true → past (suc (depth_of (regions_after o pc i rs))) ls ≡ [] → past (suc (depth_of rs)) (levels_before earlier o i ls) ≡ []
+none_past_before : (earlier : List ℕ) (o : Op) (pc : ℕ) (i : Instr) (rs : List Region) (ls : List ℕ) → nests o rs ≡ true
+    → past (suc (depth_of (regions_after o pc i rs))) ls ≡ [] → past (suc (depth_of rs)) (levels_before earlier o i ls) ≡ []
 none_past_before earlier op.Loop pc i rs ls n e = deeper (depth_of rs) (outer (outer ls)) (suc_is (depth_of rs) ls e)
   where
     suc_is : (k : ℕ) (ls : List ℕ) → past (suc (k + 1)) ls ≡ [] → past k (outer (outer ls)) ≡ []
@@ -65,7 +69,8 @@ none_past_before earlier op.Loop pc i rs ls n e = deeper (depth_of rs) (outer (o
 
     deeper : (k : ℕ) (ls : List ℕ) → past k ls ≡ [] → past k ls ≡ []
     deeper k ls e = e
-none_past_before earlier op.Endl pc i (Turning o l ∷ rs) ls n e = let s : suc (depth_of rs + 1) ≡ suc (suc (depth_of rs)) = omega arith in ap (λ k. past k (1 ∷ ls)) s ∙ e
+none_past_before earlier op.Endl pc i (Turning o l ∷ rs) ls n e = let s : suc (depth_of rs + 1) ≡ suc (suc (depth_of rs)) = omega arith in
+    ap (λ k. past k (1 ∷ ls)) s ∙ e
 none_past_before earlier op.Endl pc i [] ls n e = absurd cc
 none_past_before earlier op.Endl pc i (Waiting o ∷ rs) ls n e = absurd cc
 none_past_before earlier op.Endl pc i (Atomic o ∷ rs) ls n e = absurd cc
@@ -85,13 +90,17 @@ none_past_before earlier _ pc i rs ls n e = e
 abbrev pub AllNest : List Instr → Type 0
 AllNest code = (pc : ℕ) (i : Instr) → slice_get code pc ≡ Some i → nests i.op (around code pc) ≡ true
 
-none_past_within : (earlier : List ℕ) (code : List Instr) (k pc : ℕ) → AllNest code → length code ≤ pc + k → past (suc (depth_of (around code pc))) (levels_from earlier code pc) ≡ []
-none_past_within earlier code zero pc fit le = ap (past (suc (depth_of (around code pc)))) (levels-end earlier code pc (omega (arith, le))) ∙ past-nil (suc (depth_of (around code pc)))
+none_past_within : (earlier : List ℕ) (code : List Instr) (k pc : ℕ) → AllNest code → length code ≤ pc + k
+    → past (suc (depth_of (around code pc))) (levels_from earlier code pc) ≡ []
+none_past_within earlier code zero pc fit le = ap (past (suc (depth_of (around code pc)))) (levels-end earlier code pc (omega (arith, le)))
+    ∙ past-nil (suc (depth_of (around code pc)))
 none_past_within earlier code (suc k) pc fit le = elim (at_or_past code pc) [
   | inl at ↦
-      let next : past (suc (depth_of (around code (pc + 1)))) (levels_from earlier code (pc + 1)) ≡ [] = none_past_within earlier code k (pc + 1) fit (omega (arith, le)) in
+      let next : past (suc (depth_of (around code (pc + 1)))) (levels_from earlier code (pc + 1)) ≡ [] =
+      none_past_within earlier code k (pc + 1) fit (omega (arith, le)) in
       ap (past (suc (depth_of (around code pc)))) (levels-at earlier code pc at.0 at.1)
-      ∙ none_past_before earlier at.0.op pc at.0 (around code pc) (levels_from earlier code (pc + 1)) (fit pc at.0 at.1) (subst (λ rs. past (suc (depth_of rs)) (levels_from earlier code (pc + 1)) ≡ []) (around-more code pc at.0 at.1) next)
+      ∙ none_past_before earlier at.0.op pc at.0 (around code pc) (levels_from earlier code (pc + 1)) (fit pc at.0 at.1)
+      (subst (λ rs. past (suc (depth_of rs)) (levels_from earlier code (pc + 1)) ≡ []) (around-more code pc at.0 at.1) next)
   | inr past_end ↦ ap (past (suc (depth_of (around code pc)))) (levels-end earlier code pc past_end) ∙ past-nil (suc (depth_of (around code pc)))
 ]
 
@@ -124,14 +133,18 @@ worth-eta [] (Atomic o ∷ rs) = worth-eta [] rs
 worth_onward : (c : ℕ) (ls : List ℕ) (rs : List Region) → worth ((c + inner ls) ∷ outer ls) rs ≡ c * weight rs + worth ls rs
 worth_onward c ls rs = worth_more c (inner ls) (outer ls) rs ∙ ap (λ n. c * weight rs + n) (worth-eta ls rs)
 
-worth_loop : (x pc : ℕ) (ls : List ℕ) (rs : List Region) → worth ((1 + x * inner ls + inner (outer ls)) ∷ outer (outer ls)) rs ≡ 1 * weight rs + worth ls (Turning pc x ∷ rs)
-worth_loop x pc ls rs = worth_more (1 + x * inner ls) (inner (outer ls)) (outer (outer ls)) rs ∙ ap (λ n. (1 + x * inner ls) * weight rs + n) (worth-eta (outer ls) rs) ∙ ring_loop x (inner ls) (weight rs) (worth (outer ls) rs)
+worth_loop : (x pc : ℕ) (ls : List ℕ) (rs : List Region) → worth ((1 + x * inner ls + inner (outer ls)) ∷ outer (outer ls)) rs
+    ≡ 1 * weight rs + worth ls (Turning pc x ∷ rs)
+worth_loop x pc ls rs = worth_more (1 + x * inner ls) (inner (outer ls)) (outer (outer ls)) rs
+    ∙ ap (λ n. (1 + x * inner ls) * weight rs + n) (worth-eta (outer ls) rs) ∙ ring_loop x (inner ls) (weight rs) (worth (outer ls) rs)
   where
     ring_loop : (x h w r : ℕ) → (1 + x * h) * w + r ≡ 1 * w + (h * (x * w) + r)
     ring_loop x h w r = grind arith
 
-worth_before : (earlier : List ℕ) (o : Op) (pc : ℕ) (i : Instr) (rs : List Region) (ls : List ℕ) → i.op ≡ o → nests o rs ≡ true → worth (levels_before earlier o i ls) rs ≡ cost earlier i * weight rs + worth ls (regions_after o pc i rs)
-worth_before earlier op.Loop pc i rs ls is n = worth_loop i.x pc ls rs ∙ ap (λ c. c * weight rs + worth ls (Turning pc i.x ∷ rs)) (plain_cost earlier i (ap is_call is))
+worth_before : (earlier : List ℕ) (o : Op) (pc : ℕ) (i : Instr) (rs : List Region) (ls : List ℕ) → i.op ≡ o → nests o rs ≡ true
+    → worth (levels_before earlier o i ls) rs ≡ cost earlier i * weight rs + worth ls (regions_after o pc i rs)
+worth_before earlier op.Loop pc i rs ls is n = worth_loop i.x pc ls rs
+    ∙ ap (λ c. c * weight rs + worth ls (Turning pc i.x ∷ rs)) (plain_cost earlier i (ap is_call is))
 worth_before earlier op.Endl pc i (Turning o l ∷ rs) ls is n = ap (λ c. c * (l * weight rs) + worth ls rs) (plain_cost earlier i (ap is_call is))
 worth_before earlier op.Endl pc i [] ls is n = absurd cc
 worth_before earlier op.Endl pc i (Waiting o ∷ rs) ls is n = absurd cc
@@ -149,13 +162,16 @@ worth_before earlier op.Finb pc i rs ls is n = worth_onward (cost earlier i) ls 
 worth_before earlier _ pc i rs ls is n = worth_onward (cost earlier i) ls rs
 
 -- the steps from an instruction on are what the levels there are worth
-steps_within : (earlier : List ℕ) (code : List Instr) (k pc : ℕ) → AllNest code → length code ≤ pc + k → steps_from earlier code pc (drop pc code) ≡ worth (levels_from earlier code pc) (around code pc)
+steps_within : (earlier : List ℕ) (code : List Instr) (k pc : ℕ) → AllNest code → length code ≤ pc + k
+    → steps_from earlier code pc (drop pc code) ≡ worth (levels_from earlier code pc) (around code pc)
 steps_within earlier code zero pc fit le = none_left earlier code pc (omega (arith, le))
 steps_within earlier code (suc k) pc fit le = elim (at_or_past code pc) [
   | inl at ↦
-      let next : steps_from earlier code (pc + 1) (drop (pc + 1) code) ≡ worth (levels_from earlier code (pc + 1)) (around code (pc + 1)) = steps_within earlier code k (pc + 1) fit (omega (arith, le)) in
+      let next : steps_from earlier code (pc + 1) (drop (pc + 1) code) ≡ worth (levels_from earlier code (pc + 1)) (around code (pc + 1)) =
+      steps_within earlier code k (pc + 1) fit (omega (arith, le)) in
       ap (steps_from earlier code pc) (drop-at code pc at.0 at.1)
-      ∙ ap (λ n. cost earlier at.0 * weight (around code pc) + n) (next ∙ ap (worth (levels_from earlier code (pc + 1))) (around-more code pc at.0 at.1))
+      ∙ ap (λ n. cost earlier at.0 * weight (around code pc) + n)
+      (next ∙ ap (worth (levels_from earlier code (pc + 1))) (around-more code pc at.0 at.1))
       ∙ sym (worth_before earlier at.0.op pc at.0 (around code pc) (levels_from earlier code (pc + 1)) refl (fit pc at.0 at.1))
       ∙ ap (λ ls. worth ls (around code pc)) (sym (levels-at earlier code pc at.0 at.1))
   | inr past_end ↦ none_left earlier code pc past_end

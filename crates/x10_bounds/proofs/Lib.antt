@@ -2,7 +2,7 @@ pub mod Around
 pub mod Capped
 pub mod Closed
 pub mod Closers
-pub mod Failing
+pub mod FirstFailure
 pub mod Falls
 pub mod InOrder
 pub mod Levels

@@ -10,7 +10,7 @@ use Rattle.x10_model.specs.Structure.{Region, Turning, Waiting, Atomic, regions_
 use Rattle.x10_bounds.specs.Spots.{begins_before, finishes_of, atomics_of}
 use Rattle.x10_bounds.specs.Potential.{IsStructured}
 use Rattle.x10_bounds.specs.OpenFinishes.{StructuredMatches}
-use Rattle.x10_bounds.proofs.Failing.{none_fails}
+use Rattle.x10_bounds.proofs.FirstFailure.{none_fails}
 use Rattle.x10_bounds.proofs.Around.{leaves-around, same_kept}
 use Rattle.x10_bounds.proofs.Falls.{all_nest, closes_loop, forward_is, jump_is}
 use Rattle.x10_bounds.proofs.Spots.{around-more}
@@ -18,7 +18,8 @@ use Rattle.x10_bounds.proofs.Turns.{AreOpened, all_opened}
 
 -- ---- one instruction further
 
-stays_in : (o : Op) (pc : ℕ) (i : Instr) (rs : List Region) → nests o rs ≡ true → o ≢ op.Finb → o ≢ op.Fine → finishes_of (regions_after o pc i rs) ≡ finishes_of rs
+stays_in : (o : Op) (pc : ℕ) (i : Instr) (rs : List Region) → nests o rs ≡ true → o ≢ op.Finb → o ≢ op.Fine
+    → finishes_of (regions_after o pc i rs) ≡ finishes_of rs
 stays_in op.Finb pc i rs n a b = absurd (a refl)
 stays_in op.Fine pc i rs n a b = absurd (b refl)
 stays_in op.Loop pc i rs n a b = refl
@@ -66,12 +67,20 @@ module _ (loops : ℕ) (code : List Instr) (s : IsStructured loops code) (pc : �
   jumps_on_in : i.op ≢ op.Endl → is_target (form_of i.op).x ≡ true → IsKept (around code pc) (around code i.x)
   jumps_on_in ne target =
       let j = forward_is code pc i.x (jump_is code pc i i.op ne target (none_fails (λ n k. jumps_well code n k k.op) code pc i s.jumps at)) in
-      let kept = and_parts (begins_before (around code i.x) pc) (same_kept (around code pc) (around code i.x)) (sym (leaves-around code pc i.x (omega (arith, j.later))) ∙ j.leaves) in
-      let same = and_parts (finishes_of (around code pc) == finishes_of (around code i.x)) (atomics_of (around code pc) == atomics_of (around code i.x)) kept.1 in
-      (sym (eqb-true (finishes_of (around code pc)) (finishes_of (around code i.x)) same.0), sym (eqb-true (atomics_of (around code pc)) (atomics_of (around code i.x)) same.1))
+      let kept = and_parts (begins_before (around code i.x) pc) (same_kept (around code pc) (around code i.x))
+      (sym (leaves-around code pc i.x (omega (arith, j.later))) ∙ j.leaves) in
+      let same = and_parts (finishes_of (around code pc) == finishes_of (around code i.x))
+      (atomics_of (around code pc) == atomics_of (around code i.x)) kept.1 in (
+        sym (eqb-true (finishes_of (around code pc)) (finishes_of (around code i.x)) same.0),
+        sym (eqb-true (atomics_of (around code pc)) (atomics_of (around code i.x)) same.1),
+      )
 
   pub jumps_in : is_target (form_of i.op).x ≡ true → IsKept (around code pc) (around code i.x)
-  jumps_in target = elim (is_end i.op) [ inl is ↦ (ap finishes_of (jumps_back_in is), ap atomics_of (jumps_back_in is)) | inr ne ↦ jumps_on_in ne target ]
+  jumps_in target = elim (is_end i.op) [
+    | inl is ↦ (ap finishes_of (jumps_back_in is), ap atomics_of (jumps_back_in is))
+    | inr ne ↦ jumps_on_in ne
+        target
+  ]
 
 pub structured_matches : StructuredMatches
 structured_matches loops code s = record {

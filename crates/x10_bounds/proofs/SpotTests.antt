@@ -29,18 +29,21 @@ nests_return op.Ret rs e = refl
 nests_return _ rs e = absurd cc
 
 -- where a function ends, all regions are loops exactly where no finish and no atomic region is around
-pub return_nests : (o : Op) (rs : List Region) (spot : Spot) → shape_of o ≡ shape.Return → spot ≡ spot_of rs → ((spot.finishes == 0) && (spot.atomics == 0)) ≡ nests o rs
+pub return_nests : (o : Op) (rs : List Region) (spot : Spot) → shape_of o ≡ shape.Return → spot ≡ spot_of rs
+    → ((spot.finishes == 0) && (spot.atomics == 0)) ≡ nests o rs
 return_nests o rs spot is e = ap (λ (s : Spot). (s.finishes == 0) && (s.atomics == 0)) e ∙ none_kept rs ∙ sym (nests_return o rs is)
 
 -- a jump to a later instruction inside the function goes well exactly where its spot and the target's say so
-pub jump_is : (code : List Instr) (pc x : ℕ) (from to : Spot) (before : Bool) → pc < x → x < length code → from ≡ spot_of (around code pc) → to ≡ spot_of (around code x) → before ≡ begins_before (around code x) pc
+pub jump_is : (code : List Instr) (pc x : ℕ) (from to : Spot) (before : Bool) → pc < x → x < length code → from ≡ spot_of (around code pc)
+    → to ≡ spot_of (around code x) → before ≡ begins_before (around code x) pc
     → (before && ((from.finishes == to.finishes) && (from.atomics == to.atomics))) ≡ jumps_forward code pc x
 jump_is code pc x from to before later within is_from is_to is_before =
     let l : nat_lt pc x ≡ true = grind arith in
     let w : nat_lt x (length code) ≡ true = grind arith in
     ap (λ (b : Bool). b && ((from.finishes == to.finishes) && (from.atomics == to.atomics))) is_before
     ∙ ap (λ (s : Spot). begins_before (around code x) pc && ((s.finishes == to.finishes) && (s.atomics == to.atomics))) is_from
-    ∙ ap (λ (s : Spot). begins_before (around code x) pc && ((finishes_of (around code pc) == s.finishes) && (atomics_of (around code pc) == s.atomics))) is_to
+    ∙ ap (λ (s : Spot). begins_before (around code x) pc && ((finishes_of (around code pc) == s.finishes) &&
+    (atomics_of (around code pc) == s.atomics))) is_to
     ∙ sym (leaves-around code pc x (omega arith))
     ∙ ap (λ (b : Bool). b && true && leaves_loops (around code pc) (around code x)) (sym l)
     ∙ ap (λ (b : Bool). nat_lt pc x && b && leaves_loops (around code pc) (around code x)) (sym w)

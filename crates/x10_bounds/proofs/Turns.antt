@@ -17,13 +17,16 @@ IsTail earlier code ls (Turning opener limit ∷ rs) = (outer ls ≡ outer (leve
 IsTail earlier code ls (Waiting opener ∷ rs) = IsTail earlier code ls rs
 IsTail earlier code ls (Atomic opener ∷ rs) = IsTail earlier code ls rs
 
-tail_same : (earlier : List ℕ) (code : List Instr) (ls ms : List ℕ) (rs : List Region) → outer ls ≡ outer ms → IsTail earlier code ls rs → IsTail earlier code ms rs
+tail_same : (earlier : List ℕ) (code : List Instr) (ls ms : List ℕ) (rs : List Region) → outer ls ≡ outer ms → IsTail earlier code ls rs
+    → IsTail earlier code ms rs
 tail_same earlier code ls ms [] e h = tt
 tail_same earlier code ls ms (Turning o l ∷ rs) e h = (sym e ∙ h.0, subst (λ t. IsTail earlier code t rs) e h.1)
 tail_same earlier code ls ms (Waiting o ∷ rs) e h = tail_same earlier code ls ms rs e h
 tail_same earlier code ls ms (Atomic o ∷ rs) e h = tail_same earlier code ls ms rs e h
 
-tail_after : (earlier : List ℕ) (code : List Instr) (o : Op) (pc : ℕ) (i : Instr) (rs : List Region) (ls : List ℕ) → nests o rs ≡ true → ls ≡ levels_from earlier code (pc + 1) → IsTail earlier code (levels_before earlier o i ls) rs → IsTail earlier code ls (regions_after o pc i rs)
+tail_after : (earlier : List ℕ) (code : List Instr) (o : Op) (pc : ℕ) (i : Instr) (rs : List Region) (ls : List ℕ) → nests o rs ≡ true
+    → ls ≡ levels_from earlier code (pc + 1) → IsTail earlier code (levels_before earlier o i ls) rs
+    → IsTail earlier code ls (regions_after o pc i rs)
 tail_after earlier code op.Loop pc i rs ls n e h = (ap outer e, tail_same earlier code (levels_before earlier op.Loop i ls) (outer ls) rs refl h)
 tail_after earlier code op.Endl pc i (Turning o l ∷ rs) ls n e h = h.1
 tail_after earlier code op.Endl pc i [] ls n e h = absurd cc
@@ -43,14 +46,16 @@ tail_after earlier code o pc i rs ls n e h = tail_same earlier code (levels_befo
 
 -- The levels past a loop are the same at its end as at its first instruction: so an ENDL goes back at the price of having
 -- one turn fewer.
-pub tails : (earlier : List ℕ) (code : List Instr) (pc : ℕ) → AllNest code → pc ≤ length code → IsTail earlier code (levels_from earlier code pc) (around code pc)
+pub tails : (earlier : List ℕ) (code : List Instr) (pc : ℕ) → AllNest code → pc ≤ length code
+    → IsTail earlier code (levels_from earlier code pc) (around code pc)
 tails earlier code zero fit le = tt
 tails earlier code (suc pc) fit le =
     let at = get_below code pc (omega (arith, le)) in
     let here : IsTail earlier code (levels_from earlier code pc) (around code pc) = tails earlier code pc fit (omega (arith, le)) in
     subst (λ n. IsTail earlier code (levels_from earlier code n) (around code n)) (add-one pc)
     (subst (λ rs. IsTail earlier code (levels_from earlier code (pc + 1)) rs) (sym (around-more code pc at.0 at.1))
-    (tail_after earlier code at.0.op pc at.0 (around code pc) (levels_from earlier code (pc + 1)) (fit pc at.0 at.1) refl (subst (λ ls. IsTail earlier code ls (around code pc)) (levels-at earlier code pc at.0 at.1) here)))
+    (tail_after earlier code at.0.op pc at.0 (around code pc) (levels_from earlier code (pc + 1)) (fit pc at.0 at.1) refl
+    (subst (λ ls. IsTail earlier code ls (around code pc)) (levels-at earlier code pc at.0 at.1) here)))
 
 -- ---- where the regions around an instruction were opened
 
@@ -62,7 +67,8 @@ outside_opened : (code : List Instr) (rs : List Region) → AreOpened code rs �
 outside_opened code [] h = tt
 outside_opened code (r ∷ rs) h = h.1
 
-opened_after : (code : List Instr) (o : Op) (pc : ℕ) (i : Instr) (rs : List Region) → around code (suc pc) ≡ regions_after o pc i rs → AreOpened code rs → AreOpened code (regions_after o pc i rs)
+opened_after : (code : List Instr) (o : Op) (pc : ℕ) (i : Instr) (rs : List Region) → around code (suc pc) ≡ regions_after o pc i rs
+    → AreOpened code rs → AreOpened code (regions_after o pc i rs)
 opened_after code op.Loop pc i rs e h = (e, h)
 opened_after code op.Finb pc i rs e h = (e, h)
 opened_after code op.Atomb pc i rs e h = (e, h)
@@ -71,7 +77,8 @@ opened_after code op.Fine pc i rs e h = outside_opened code rs h
 opened_after code op.Atome pc i rs e h = outside_opened code rs h
 opened_after code _ pc i rs e h = h
 
-opened_next : (code : List Instr) (pc : ℕ) (o : Option Instr) → slice_get code pc ≡ o → AreOpened code (around code pc) → AreOpened code (passed o pc (around code pc))
+opened_next : (code : List Instr) (pc : ℕ) (o : Option Instr) → slice_get code pc ≡ o → AreOpened code (around code pc)
+    → AreOpened code (passed o pc (around code pc))
 opened_next code pc None e h = h
 opened_next code pc (Some i) e h = opened_after code i.op pc i (around code pc) (ap (λ o. passed o pc (around code pc)) e) h
 

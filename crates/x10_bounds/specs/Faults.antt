@@ -19,21 +19,31 @@ named cause.TooLarge = Some TooLarge
 named cause.Memory = None
 
 -- the fault of a rule, or that memory ran out
-abbrev pub IsFaultOrMemory : {Y : Type 0} → Option structure.BoundCause → BoundFault → Result Y structure.BoundFault → Type 0
+abbrev pub IsFaultOrMemory : {Y : Type 0} → Option structure.BoundCause → BoundFault
+    → Result Y structure.BoundFault → Type 0
 IsFaultOrMemory None e read = (e.function ≡ 0) × (e.pc ≡ 0)
-IsFaultOrMemory (Some cause) e read = read ≡ Err (record { cause = cause; function = e.function; pc = e.pc })
+IsFaultOrMemory (Some cause) e read = read
+    ≡ Err (record { cause = cause; function = e.function; pc = e.pc })
 
 -- what was answered, seen by view, is what the rules give, unless memory ran out
-abbrev pub Gives : {X Y : Type 0} → (X → Y) → Result X BoundFault → Result Y structure.BoundFault → Type 0
+abbrev pub Gives : {X Y : Type 0} → (X → Y) → Result X BoundFault → Result Y structure.BoundFault
+    → Type 0
 Gives view (Ok x) read = read ≡ Ok (view x)
 Gives view (Err e) read = IsFaultOrMemory (named e.cause) e read
 
 -- a function of which only the loop slots and the code matter
 abbrev pub of_code : ℕ → List Instr → Function
-of_code loops code = record { parameters = []; registers = 0; loops = loops; result = None; code = code }
+of_code loops code = record {
+  parameters = [];
+  registers = 0;
+  loops = loops;
+  result = None;
+  code = code;
+}
 
 -- what is answered of a function whose rules hold, else its first fault by rules
-abbrev pub ruled : ℕ → ℕ → List Instr → Result ℕ structure.BoundFault → Result ℕ structure.BoundFault
+abbrev pub ruled : ℕ → ℕ → List Instr → Result ℕ structure.BoundFault
+    → Result ℕ structure.BoundFault
 ruled function loops code answer =
     unless (nesting_fault code) Nesting function
     (unless (jump_fault code) Jump function

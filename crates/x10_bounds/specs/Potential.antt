@@ -46,7 +46,8 @@ pending earlier code slots (Atomic opener ∷ rs) = pending earlier code slots r
 
 -- how many steps there are still, at most, at an instruction with the loops' slots as they are
 abbrev pub potential : List ℕ → List Instr → ℕ → (ℕ → ℕ) → ℕ
-potential earlier code pc slots = total (levels_from earlier code pc) + pending earlier code slots (around code pc)
+potential earlier code pc slots = total (levels_from earlier code pc) + pending earlier code slots
+    (around code pc)
 
 -- what the rules of structure say of a function's code with so many loop slots
 pub record IsStructured (loops : ℕ) (code : List Instr) : Type 0 where
@@ -59,17 +60,24 @@ pub record IsStructured (loops : ℕ) (code : List Instr) : Type 0 where
 -- loop's begin, each of its turns, its end and each jump take 1.
 pub record PotentialFalls (loops : ℕ) (earlier : List ℕ) (code : List Instr) : Type 0 where
   pub begins : (slots : ℕ → ℕ) → potential earlier code 0 slots ≡ bound_of earlier code
-  pub onward : (pc : ℕ) (i : Instr) (slots : ℕ → ℕ) → slice_get code pc ≡ Some i → i.op ≢ op.Loop → i.op ≢ op.Endl
+  pub onward : (pc : ℕ) (i : Instr) (slots : ℕ → ℕ) → slice_get code pc ≡ Some i → i.op ≢ op.Loop
+      → i.op ≢ op.Endl
       → potential earlier code (pc + 1) slots + cost earlier i ≡ potential earlier code pc slots
   pub loop : (pc : ℕ) (i : Instr) (slots : ℕ → ℕ) → slice_get code pc ≡ Some i → i.op ≡ op.Loop
-      → potential earlier code (pc + 1) (with_entry slots i.a i.x) + 1 ≤ potential earlier code pc slots
-  pub turns : (pc : ℕ) (i : Instr) (slots : ℕ → ℕ) → slice_get code pc ≡ Some i → i.op ≡ op.Endl → 0 < slots i.a - 1
-      → potential earlier code i.x (with_entry slots i.a (slots i.a - 1)) + 1 ≤ potential earlier code pc slots
+      → potential earlier code (pc + 1) (with_entry slots i.a i.x) + 1
+      ≤ potential earlier code pc slots
+  pub turns : (pc : ℕ) (i : Instr) (slots : ℕ → ℕ) → slice_get code pc ≡ Some i → i.op ≡ op.Endl
+      → 0 < slots i.a - 1
+      → potential earlier code i.x (with_entry slots i.a (slots i.a - 1)) + 1
+      ≤ potential earlier code pc slots
   pub ends : (pc : ℕ) (i : Instr) (slots : ℕ → ℕ) → slice_get code pc ≡ Some i → i.op ≡ op.Endl
-      → potential earlier code (pc + 1) (with_entry slots i.a (slots i.a - 1)) + 1 ≤ potential earlier code pc slots
-  pub jump : (pc : ℕ) (i : Instr) (slots : ℕ → ℕ) → slice_get code pc ≡ Some i → i.op ≢ op.Endl → is_target (form_of i.op).x ≡ true
+      → potential earlier code (pc + 1) (with_entry slots i.a (slots i.a - 1)) + 1
+      ≤ potential earlier code pc slots
+  pub jump : (pc : ℕ) (i : Instr) (slots : ℕ → ℕ) → slice_get code pc ≡ Some i → i.op ≢ op.Endl
+      → is_target (form_of i.op).x ≡ true
       → potential earlier code i.x slots + 1 ≤ potential earlier code pc slots
 
 -- in a function whose structure holds, the potential falls with every step
 abbrev pub StructuredFalls : Type 0
-StructuredFalls = (loops : ℕ) (earlier : List ℕ) (code : List Instr) → IsStructured loops code → PotentialFalls loops earlier code
+StructuredFalls = (loops : ℕ) (earlier : List ℕ) (code : List Instr) → IsStructured loops code
+    → PotentialFalls loops earlier code

@@ -65,4 +65,5 @@ in_list (Some r) = r ∷ []
 -- for each instruction, the first one from number n on that closes its region
 pub record AreClosersFrom (code : List Instr) (n : ℕ) (closers : List (Option ℕ)) : Type 0 where
   pub count : length closers ≡ length code
-  pub each : (opener : ℕ) → opener < length code → slice_get closers opener ≡ Some (first_failing (leaves_open code opener) n (drop n code))
+  pub each : (opener : ℕ) → opener < length code
+      → slice_get closers opener ≡ Some (first_failing (leaves_open code opener) n (drop n code))

@@ -36,7 +36,13 @@ abbrev pub capped : ℕ → ℕ
 capped n = min n (2 ^ 48 + 1)
 
 abbrev pub spot_of : List Region → Spot
-spot_of rs = record { innermost = innermost_of rs; loops = depth_of rs; finishes = finishes_of rs; atomics = atomics_of rs; weight = capped (weight rs) }
+spot_of rs = record {
+  innermost = innermost_of rs;
+  loops = depth_of rs;
+  finishes = finishes_of rs;
+  atomics = atomics_of rs;
+  weight = capped (weight rs);
+}
 
 -- the table has the spots of the first instructions up to number n
 pub record AreSpotsTo (code : List Instr) (n : ℕ) (spots : List Spot) : Type 0 where

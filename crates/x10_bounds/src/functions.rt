@@ -10,9 +10,11 @@ ghost use Rattle.x10_image.specs.Parts.{code_at};
 ghost use Rattle.x10_bounds.specs.Faults.{Gives};
 ghost use Rattle.x10_bounds.specs.Regions.{closer_of, is_opener};
 ghost use Rattle.x10_bounds.specs.Regions as regions;
+ghost use Rattle.x10_bounds.specs.Spots.{AreSpotsTo};
 
 use crate::fault::BoundFault;
 use crate::region::{Region, regions_of};
+use crate::spot::{Spot, spots_of};
 use crate::steps::checked_bound;
 use std::alloc::{AllocError, Global};
 use x10_code::Instr;
@@ -74,9 +76,21 @@ pub fn regions(alloc: Global, image: &ImageView, f: usize) -> Result<Vec<Region>
     requires function { f < length image.now.functions }
     requires nests { nesting_fault (code_at image.now f) ≡ None }
     ensures exact { IfOk result (λ found. found.items ≡ regions.regions_of (code_at image.now f)) }
-    ensures closed { (pc : ℕ) (i : Instr) → instr_at image.now f pc ≡ Some i → IsTrue (is_opener i.op)
+    ensures closed { (pc : ℕ) (i : Instr) → instr_at image.now f pc ≡ Some i
+        → IsTrue (is_opener i.op)
         → IsSome (closer_of (code_at image.now f) pc) }
 {
     let code = code_of(alloc, image, f)?;
     regions_of(alloc, &code)
+}
+
+/// What is around each instruction of a function, whatever its structure, and last what is after its end. The time is linear in
+/// the number of its instructions; the memory taken is 24 bytes for each.
+pub fn surroundings(alloc: Global, image: &ImageView, f: usize) -> Result<Vec<Spot>, AllocError>
+    requires { f < length image.now.functions }
+    ensures { IfOk result (λ found.
+        AreSpotsTo (code_at image.now f) (length (code_at image.now f)) found.items) }
+{
+    let code = code_of(alloc, image, f)?;
+    spots_of(alloc, &code)
 }

@@ -11,5 +11,7 @@ mod spot;
 mod steps;
 
 pub use fault::{BoundCause, BoundFault};
-pub use functions::{bound_at, bounds, regions};
-pub use region::Region;
+pub use functions::{bound_at, bounds, regions, surroundings};
+pub use region::{Region, opener};
+pub use shape::{Shape, classify};
+pub use spot::Spot;

@@ -38,7 +38,7 @@ fn closed_at(code: &[Instr], spots: &[Spot], pc: usize) -> Option<u16>
 }
 
 /// The opener of a spot's innermost region.
-fn opener(spot: Spot) -> Option<u16>
+pub fn opener(spot: Spot) -> Option<u16>
     ensures { (rs : List structure.Region) → spot ≡ spot_of rs → result ≡ first_opener rs }
 {
     match spot.innermost {

@@ -44,7 +44,8 @@ fn ends_well(code: &[Instr], spots: &[Spot]) -> bool
 fn first_mismatch(code: &[Instr], spots: &[Spot]) -> Option<u16>
     requires count { length code.now ≤ 4096 }
     requires spots { AreSpotsTo code.now (length code.now) spots.now }
-    ensures { result ≡ first_failing (λ pc i. structure.nests i.op (around code.now pc)) 0 code.now }
+    ensures { result ≡ first_failing (λ pc i. structure.nests i.op (around code.now pc)) 0
+        code.now }
 {
     for pc in 0..code.len() {
         if !nests(code, spots, pc) {
@@ -252,11 +253,16 @@ pub fn atomic_fault(code: &[Instr], spots: &[Spot]) -> Option<u16>
 fn holds_at(function: u16, loops: u8, code: &[Instr], spots: &[Spot], pc: usize) -> bool
     requires within { pc < length code.now }
     requires spots { AreSpotsTo code.now (length code.now) spots.now }
-    ensures nests { IsTrue result → (i : Instr) → slice_get code.now pc ≡ Some i → true ≡ structure.nests i.op (around code.now pc) }
-    ensures jumps { IsTrue result → (i : Instr) → slice_get code.now pc ≡ Some i → true ≡ structure.jumps_well code.now pc i i.op }
-    ensures slot { IsTrue result → (i : Instr) → slice_get code.now pc ≡ Some i → true ≡ structure.has_slot loops (around code.now pc) i i.op }
-    ensures calls { IsTrue result → (i : Instr) → slice_get code.now pc ≡ Some i → true ≡ structure.calls_earlier function i }
-    ensures atomics { IsTrue result → (i : Instr) → slice_get code.now pc ≡ Some i → true ≡ structure.stays_out i.op (around code.now pc) }
+    ensures nests { IsTrue result → (i : Instr) → slice_get code.now pc ≡ Some i
+        → true ≡ structure.nests i.op (around code.now pc) }
+    ensures jumps { IsTrue result → (i : Instr) → slice_get code.now pc ≡ Some i
+        → true ≡ structure.jumps_well code.now pc i i.op }
+    ensures slot { IsTrue result → (i : Instr) → slice_get code.now pc ≡ Some i
+        → true ≡ structure.has_slot loops (around code.now pc) i i.op }
+    ensures calls { IsTrue result → (i : Instr) → slice_get code.now pc ≡ Some i
+        → true ≡ structure.calls_earlier function i }
+    ensures atomics { IsTrue result → (i : Instr) → slice_get code.now pc ≡ Some i
+        → true ≡ structure.stays_out i.op (around code.now pc) }
 {
     nests(code, spots, pc)
         && jumps_well(code, spots, pc)

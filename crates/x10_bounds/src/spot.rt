@@ -62,7 +62,8 @@ fn outermost() -> Spot
 
 fn in_loop(spot: Spot, opener: u16, limit: u32) -> Spot
     requires { spot.loops < 4096 }
-    ensures { (rs : List Region) → spot ≡ spot_of rs → result ≡ spot_of (Turning opener limit ∷ rs) }
+    ensures { (rs : List Region) → spot ≡ spot_of rs
+        → result ≡ spot_of (Turning opener limit ∷ rs) }
 {
     Spot {
         innermost: Innermost::Loop(opener),

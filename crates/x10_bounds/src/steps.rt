@@ -48,9 +48,11 @@ fn rule_fault(function: u16, loops: u8, code: &[Instr], spots: &[Spot]) -> Optio
     requires some { 1 ≤ length code.now }
     requires count { length code.now ≤ 4096 }
     requires spots { AreSpotsTo code.now (length code.now) spots.now }
-    ensures none { result ≡ None → (r : Result ℕ structure.BoundFault) → ruled function loops code.now r ≡ r }
+    ensures none { result ≡ None → (r : Result ℕ structure.BoundFault)
+        → ruled function loops code.now r ≡ r }
     ensures order { result ≡ None → structure.order_fault function code.now ≡ None }
-    ensures some { IfSome result (λ fault. (r : Result ℕ structure.BoundFault) → Gives (λ b. b) (Err fault) (ruled function loops code.now r)) }
+    ensures some { IfSome result (λ fault. (r : Result ℕ structure.BoundFault)
+        → Gives (λ b. b) (Err fault) (ruled function loops code.now r)) }
 {
     if all_hold(function, loops, code, spots) {
         return None;

@@ -15,7 +15,8 @@ pub int_short : {E : Type 0} (short : E) (bytes : List ℕ) → length bytes < 8
 unfolding int number bind part
 int_short short bytes h = rw (lt-ltb _ _ h) refl
 
-pub int_is : {E : Type 0} (short : E) (bytes : List ℕ) (n : ℕ) (z : ℤ) → 8 ≤ length bytes → n ≡ from_be_bytes w64 (take 8 bytes) → cast_signed w64 n ≡ z → int short bytes ≡ Ok (z, drop 8 bytes)
+pub int_is : {E : Type 0} (short : E) (bytes : List ℕ) (n : ℕ) (z : ℤ) → 8 ≤ length bytes → n ≡ from_be_bytes w64 (take 8 bytes)
+    → cast_signed w64 n ≡ z → int short bytes ≡ Ok (z, drop 8 bytes)
 unfolding int number bind part done
 int_is short bytes n z h e s = rw (le-ltb _ _ h, ← e, s) refl
 
@@ -28,7 +29,8 @@ part_is short n bytes le = rw (le-ltb _ _ le) refl
 
 -- ---- texts
 
-pub text_is : {E : Type 0} (short no_text : E) (n : ℕ) (bytes : List ℕ) → n ≤ length bytes → IsUtf8 (take n bytes) → such_that (part n short) is_utf8 no_text bytes ≡ Ok (take n bytes, drop n bytes)
+pub text_is : {E : Type 0} (short no_text : E) (n : ℕ) (bytes : List ℕ) → n ≤ length bytes → IsUtf8 (take n bytes)
+    → such_that (part n short) is_utf8 no_text bytes ≡ Ok (take n bytes, drop n bytes)
 unfolding such_that bind part check done
 text_is short no_text n bytes le utf8 = rw (le-ltb _ _ le, is_utf8-from_IsUtf8 (take n bytes) utf8) refl
 
@@ -36,6 +38,7 @@ not_utf8 : (text : List ℕ) (b : Bool) → is_utf8 text ≡ b → ¬ (IsUtf8 te
 not_utf8 text true e never = absurd (never (IsUtf8-from_is_utf8 text e))
 not_utf8 text false e never = e
 
-pub text_bad : {E : Type 0} (short no_text : E) (n : ℕ) (bytes : List ℕ) → n ≤ length bytes → ¬ (IsUtf8 (take n bytes)) → such_that (part n short) is_utf8 no_text bytes ≡ Err no_text
+pub text_bad : {E : Type 0} (short no_text : E) (n : ℕ) (bytes : List ℕ) → n ≤ length bytes → ¬ (IsUtf8 (take n bytes))
+    → such_that (part n short) is_utf8 no_text bytes ≡ Err no_text
 unfolding such_that bind part check done
 text_bad short no_text n bytes le never = rw (le-ltb _ _ le, not_utf8 (take n bytes) (is_utf8 (take n bytes)) refl never) refl

@@ -12,7 +12,8 @@ IsFaultOrMemory None read = Unit {0}
 IsFaultOrMemory (Some f) read = read ≡ Err f
 
 -- what was answered, seen by view, is what reading gives
-abbrev pub Answers : {F E X Y : Type 0} → (F → Option E) → (X → Y) → Result X F → Result Y E → Type 0
+abbrev pub Answers : {F E X Y : Type 0} → (F → Option E) → (X → Y) → Result X F → Result Y E
+    → Type 0
 Answers named view (Ok x) read = read ≡ Ok (view x)
 Answers named view (Err e) read = IsFault (named e) read
 
@@ -22,6 +23,7 @@ Gives named view (Ok x) read = read ≡ Ok (view x)
 Gives named view (Err e) read = IsFaultOrMemory (named e) read
 
 -- what was answered is the bytes after what reading gives
-abbrev pub Passes : {F E X Y : Type 0} → (F → Option E) → (X → List ℕ) → Result X F → Result (Y × List ℕ) E → Type 0
-Passes {Y = Y} named rest (Ok x) read = (y : Y) × (read ≡ Ok (y, rest x))
-Passes named rest (Err e) read = IsFault (named e) read
+abbrev pub Parses : {F E X Y : Type 0} → (F → Option E) → (X → List ℕ) → Result X F
+    → Result (Y × List ℕ) E → Type 0
+Parses {Y = Y} named rest (Ok x) read = (y : Y) × (read ≡ Ok (y, rest x))
+Parses named rest (Err e) read = IsFault (named e) read

@@ -4,7 +4,7 @@ ghost use Rattle.std.specs.Prelude.{◌≡◌, Some};
 ghost use Rattle.std.specs.Int.{w16, w32};
 ghost use Rattle.std.specs.Str.{is_utf8};
 ghost use Rattle.x10_model.specs.Readers.{byte, number, int, need, part, such_that};
-ghost use Rattle.x10_bytes.specs.Faults.{Answers, Passes};
+ghost use Rattle.x10_bytes.specs.Faults.{Answers, Parses};
 
 use crate::fault::ReadFault;
 use byteorder::{BigEndian, ByteOrder};
@@ -73,7 +73,7 @@ pub fn has<F: ReadFault>(bytes: &[u8], count: usize) -> Result<(), F>
 #[tactic(auto, unfolding(x10_model::specs::Readers::part))]
 #[inline(always)]
 pub fn past<F: ReadFault>(bytes: &[u8], count: usize) -> Result<&[u8], F>
-    ensures exact { Passes F.named (λ x. x.now) result (part count F.short bytes.now) }
+    ensures exact { Parses F.named (λ x. x.now) result (part count F.short bytes.now) }
 {
     if bytes.len() < count {
         return Err(F::too_short());
@@ -86,7 +86,9 @@ pub fn past<F: ReadFault>(bytes: &[u8], count: usize) -> Result<&[u8], F>
 #[tactic(auto, unfolding(x10_model::specs::Readers::such_that, x10_model::specs::Readers::bind, x10_model::specs::Readers::part, x10_model::specs::Readers::check, x10_model::specs::Readers::done))]
 #[inline(always)]
 pub fn past_text<F: ReadFault>(bytes: &[u8], count: usize, no_text: F) -> Result<&[u8], F>
-    ensures exact { (fault : F.Fault) → F.named no_text ≡ Some fault → Passes F.named (λ x. x.now) result (such_that (part count F.short) is_utf8 fault bytes.now) }
+    ensures exact { (fault : F.Fault) → F.named no_text ≡ Some fault
+        → Parses F.named (λ x. x.now) result
+        (such_that (part count F.short) is_utf8 fault bytes.now) }
 {
     if bytes.len() < count {
         return Err(F::too_short());

@@ -9,14 +9,18 @@ use Rattle.std.proofs.lemmas.Option.{same_Some}
 use Rattle.x10_findings.specs.declared.findings.Finding.{Finding}
 use Rattle.x10_cli.specs.Runs.{finding_text, head_of}
 
-flat_more : (text : Finding → List ℕ) (n : ℕ) (xs : List Finding) (x : Finding) → slice_get xs n ≡ Some x → flat_map text (take (suc n) xs) ≡ flat_map text (take n xs) ++ text x
+flat_more : (text : Finding → List ℕ) (n : ℕ) (xs : List Finding) (x : Finding) → slice_get xs n ≡ Some x
+    → flat_map text (take (suc n) xs) ≡ flat_map text (take n xs) ++ text x
 flat_more text n [] x e = absurd cc
 flat_more text zero (y ∷ ys) x e = ap (λ z. text z ++ []) (same_Some y x e) ∙ append-nil (text x)
-flat_more text (suc n) (y ∷ ys) x e = ap (λ bs. text y ++ bs) (flat_more text n ys x e) ∙ sym (append_assoc (text y) (flat_map text (take n ys)) (text x))
+flat_more text (suc n) (y ∷ ys) x e = ap (λ bs. text y ++ bs) (flat_more text n ys x e)
+    ∙ sym (append_assoc (text y) (flat_map text (take n ys)) (text x))
 
 -- the line before an output more, and the output
-pub finding_more : (a b c d : Option (List ℕ)) (runs n m : ℕ) (found : List Finding) (f : Finding) → m ≡ suc n → slice_get found n ≡ Some f → Appends a b (flat_map (finding_text runs) (take n found)) → Appends b c (head_of runs f) → Appends c d f.output.items
+pub finding_more : (a b c d : Option (List ℕ)) (runs n m : ℕ) (found : List Finding) (f : Finding) → m ≡ suc n → slice_get found n ≡ Some f
+    → Appends a b (flat_map (finding_text runs) (take n found)) → Appends b c (head_of runs f) → Appends c d f.output.items
     → Appends a d (flat_map (finding_text runs) (take m found))
 finding_more a b c d runs n m found f e is before head output =
-    subst (λ k. Appends a d (flat_map (finding_text runs) (take k found))) (sym e) (subst (λ bs. Appends a d bs) (sym (flat_more (finding_text runs) n found f is))
+    subst (λ k. Appends a d (flat_map (finding_text runs) (take k found))) (sym e)
+    (subst (λ bs. Appends a d bs) (sym (flat_more (finding_text runs) n found f is))
     (Appends-trans a b d _ _ before (Appends-trans b c d _ _ head output)))

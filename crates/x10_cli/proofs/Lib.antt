@@ -1,6 +1,6 @@
 pub mod Answered
-pub mod Printing
-pub mod Leaving
+pub mod LinesPrinted
+pub mod UndoneLemmas
 pub mod Dues
-pub mod Running
+pub mod RunLemmas
 pub mod Found

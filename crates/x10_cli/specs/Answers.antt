@@ -12,8 +12,8 @@ use Rattle.x10_asm.specs.Comments.{said}
 use Rattle.x10_asm.specs.Listing.{listing}
 use Rattle.x10_asm.specs.Reading.{module_of}
 use Rattle.x10_explain.specs.Verdicts as verdict
-use Rattle.x10_explain.specs.declared.check.Refusal.{Refusal}
-use Rattle.x10_explain.specs.declared.check.Refusal.TheVariants as refusal
+use Rattle.x10_explain.specs.declared.check.CheckFault.{CheckFault}
+use Rattle.x10_explain.specs.declared.check.CheckFault.TheVariants as refusal
 use Rattle.x10_image.specs.Faults as images
 use Rattle.x10_image.specs.Faults.{IsFault}
 use Rattle.x10_model.specs.ReadingImages.{module_at}
@@ -27,12 +27,12 @@ use Rattle.x10_workers.specs.declared.halt.WorkFault.{WorkFault}
 use Rattle.x10_workers.specs.declared.halt.WorkFault.TheVariants as work
 use Rattle.x10_world.specs.Endings.{IsImageOf, AreLinesOf, lines_in}
 use Rattle.x10_world.specs.Opening.{IsForbidden, IsOpenedWorld}
-use Rattle.x10_world.specs.Rounds.{HasEnded, RunsTo}
+use Rattle.x10_world.specs.Rounds.{NoneIsLeft, RunsTo}
 use Rattle.x10_world.specs.StandsForWorld.{WorldState}
 use Rattle.x10_trace.specs.Trace.{Traced}
 use Rattle.x10_draw.specs.Pages.{IsPage}
-use Rattle.x10_world.specs.declared.rounds.Halt.{Halt}
-use Rattle.x10_world.specs.declared.rounds.Halt.TheVariants as halt
+use Rattle.x10_world.specs.declared.rounds.Unfinished.{Unfinished}
+use Rattle.x10_world.specs.declared.rounds.Unfinished.TheVariants as halt
 use Rattle.x10_findings.specs.Findings.{FindingsState}
 use Rattle.x10_cli.specs.Lines.{bound_lines, all_lines}
 use Rattle.x10_cli.specs.Runs.{FoundIn, findings_text}
@@ -75,7 +75,7 @@ abbrev pub begins_as_image : List ℕ → Bool
 begins_as_image bytes = starts_with (λ x y. x == y) bytes (codes "X10P")
 
 -- why a file isn't one of a verified module
-abbrev pub RefusesFile : Bool → List ℕ → Refusal → Type 0
+abbrev pub RefusesFile : Bool → List ℕ → CheckFault → Type 0
 RefusesFile true bytes r = verdict.RefusesImage bytes r
 RefusesFile false bytes r = verdict.RefusesText bytes r
 
@@ -95,15 +95,20 @@ CanBeDone verb.ListVerbose places bytes = (m : Module) × IsImage bytes m
 CanBeDone verb.Check places bytes = IsChecked bytes
 CanBeDone verb.Verify places bytes = IsVerifiedImage bytes
 CanBeDone verb.Bounds places bytes = (m : Module) × IsImage bytes m × HasBounds m
-CanBeDone verb.Run places bytes = (c : Certified) × IsImageOf bytes c × (IsForbidden c (places_for places c) → ⊥)
-CanBeDone verb.Runs places bytes = (c : Certified) × IsImageOf bytes c × (IsForbidden c (places_for places c) → ⊥)
-CanBeDone verb.Trace places bytes = (c : Certified) × IsImageOf bytes c × (IsForbidden c (places_for places c) → ⊥)
-CanBeDone verb.Draw places bytes = (c : Certified) × IsImageOf bytes c × (IsForbidden c (places_for places c) → ⊥)
+CanBeDone verb.Run places bytes = (c : Certified) × IsImageOf bytes c
+    × (IsForbidden c (places_for places c) → ⊥)
+CanBeDone verb.Runs places bytes = (c : Certified) × IsImageOf bytes c
+    × (IsForbidden c (places_for places c) → ⊥)
+CanBeDone verb.Trace places bytes = (c : Certified) × IsImageOf bytes c
+    × (IsForbidden c (places_for places c) → ⊥)
+CanBeDone verb.Draw places bytes = (c : Certified) × IsImageOf bytes c
+    × (IsForbidden c (places_for places c) → ⊥)
 CanBeDone verb.Explain places bytes = Unit {0}
 
 -- how many functions a verified module has, and the bound of its entry function
 abbrev pub verdict_line : ℕ → ℕ → List ℕ
-verdict_line functions bound = codes "verified " ++ (decimal functions ++ (codes " functions, entry bound " ++ (decimal bound ++ 10 ∷ [])))
+verdict_line functions bound = codes "verified "
+    ++ (decimal functions ++ (codes " functions, entry bound " ++ (decimal bound ++ 10 ∷ [])))
 
 -- the lines of a run of the module that has ended: from the machine's opening at so many places, with no event that goes
 -- wrong and no activity that takes more steps than its bound, to a world in which no activity lives
@@ -128,7 +133,7 @@ pub record HasTraced (c : Certified) (places : ℕ) (old new : Option (List ℕ)
   pub opened : IsOpenedWorld c places first
   pub traces : Traces first last old new
   pub runs : RunsTo first last
-  pub ended : HasEnded last
+  pub ended : NoneIsLeft last
 
 -- the picture of a run of the module, from its beginning to a world in which no activity lives
 pub record HasDrawn (c : Certified) (places : ℕ) (picture : List ℕ) : Type 0 where
@@ -136,12 +141,14 @@ pub record HasDrawn (c : Certified) (places : ℕ) (picture : List ℕ) : Type 0
   pub last : WorldState
   pub opened : IsOpenedWorld c places first
   pub runs : RunsTo first last
-  pub ended : HasEnded last
+  pub ended : NoneIsLeft last
   pub page : IsPage picture
 
 -- what so many runs of the module printed was appended
-abbrev pub PrintsRuns : Option ℕ → ℕ → List ℕ → Option (List ℕ) → Option (List ℕ) → Type 0
-PrintsRuns asked runs bytes old new = (c : Certified) × (s : FindingsState) × IsImageOf bytes c × FoundIn c (places_for asked c) runs s × Appends old new (findings_text runs s)
+abbrev pub PrintsRuns : Option ℕ → ℕ → ℕ → List ℕ → Option (List ℕ) → Option (List ℕ) → Type 0
+PrintsRuns asked limit runs bytes old new =
+    (c : Certified) × (s : FindingsState) × IsImageOf bytes c
+    × FoundIn c (places_for asked c) limit runs s × Appends old new (findings_text runs s)
 
 -- the canonical listing of a module; of what JSON has of it nothing is said
 abbrev pub IsListing : Bool → Module → List ℕ → Type 0
@@ -152,19 +159,29 @@ IsListing true m text = Unit {0}
 -- with comments between, which is read as the module again, the verdict, the bounds of its functions, the lines of a run that has ended, or those of its events, or its picture, at as many
 -- places as were asked for; or what is known of a cause
 abbrev pub Prints : Verb → Bool → Option ℕ → List ℕ → Option (List ℕ) → Option (List ℕ) → Type 0
-Prints verb.Asm json asked bytes old new = (m : Module) × (module_of bytes ≡ Ok m) × Appends old new (spelling m)
-Prints verb.List json asked bytes old new = (m : Module) × (text : List ℕ) × IsImage bytes m × IsListing json m text × Appends old new text
-Prints verb.ListVerbose json asked bytes old new = (m : Module) × (text : List ℕ) × IsImage bytes m × (said text ≡ said (listing m)) × (module_of text ≡ Ok m) × Appends old new text
-Prints verb.Check json asked bytes old new = (text : List ℕ) × IsChecked bytes × Appends old new text
-Prints verb.Verify json asked bytes old new = (c : Certified) × (bound : ℕ) × IsImageOf bytes c × (slice_get c.bounds c.program.entry ≡ Some bound)
+Prints verb.Asm json asked bytes old new = (m : Module) × (module_of bytes ≡ Ok m)
+    × Appends old new (spelling m)
+Prints verb.List json asked bytes old new = (m : Module) × (text : List ℕ) × IsImage bytes m
+    × IsListing json m text × Appends old new text
+Prints verb.ListVerbose json asked bytes old new = (m : Module) × (text : List ℕ) × IsImage bytes m
+    × (said text ≡ said (listing m)) × (module_of text ≡ Ok m) × Appends old new text
+Prints verb.Check json asked bytes old new = (text : List ℕ) × IsChecked bytes
+    × Appends old new text
+Prints verb.Verify json asked bytes old new = (c : Certified) × (bound : ℕ) × IsImageOf bytes c
+    × (slice_get c.bounds c.program.entry ≡ Some bound)
     × Appends old new (verdict_line (length c.program.functions) bound)
-Prints verb.Bounds json asked bytes old new = (m : Module) × (bounds : List ℕ) × IsImage bytes m × (bounds_of m ≡ Ok bounds) × Appends old new (bound_lines 0 bounds)
-Prints verb.Runs json asked bytes old new = (runs : ℕ) × PrintsRuns asked runs bytes old new
-Prints verb.Trace json asked bytes old new = (c : Certified) × IsImageOf bytes c × HasTraced c (places_for asked c) old new
-Prints verb.Draw json asked bytes old new = (c : Certified) × (picture : List ℕ) × IsImageOf bytes c × HasDrawn c (places_for asked c) picture
+Prints verb.Bounds json asked bytes old new = (m : Module) × (bounds : List ℕ) × IsImage bytes m
+    × (bounds_of m ≡ Ok bounds) × Appends old new (bound_lines 0 bounds)
+Prints verb.Runs json asked bytes old new = (limit runs : ℕ)
+    × PrintsRuns asked limit runs bytes old new
+Prints verb.Trace json asked bytes old new = (c : Certified) × IsImageOf bytes c
+    × HasTraced c (places_for asked c) old new
+Prints verb.Draw json asked bytes old new = (c : Certified) × (picture : List ℕ) × IsImageOf bytes c
+    × HasDrawn c (places_for asked c) picture
     × Appends old new picture
 Prints verb.Explain json asked bytes old new = (text : List ℕ) × Appends old new text
-Prints verb.Run json asked bytes old new = (c : Certified) × (outputs : List (List machine.Line)) × IsImageOf bytes c × HasRun c (places_for asked c) outputs
+Prints verb.Run json asked bytes old new = (c : Certified) × (outputs : List (List machine.Line))
+    × IsImageOf bytes c × HasRun c (places_for asked c) outputs
     × Appends old new (all_lines json 0 outputs)
 
 -- ---- where a command isn't done
@@ -207,16 +224,22 @@ LeavesRefused _ old new = Keeps old new
 
 -- what a run leaves that stopped, if it began: the lines of its places; with threads those of a log
 abbrev pub LeavesRun : Bool → Bool → Option ℕ → List ℕ → Option (List ℕ) → Option (List ℕ) → Type 0
-LeavesRun json false asked bytes old new = (c : Certified) × (outputs : List (List machine.Line)) × IsImageOf bytes c × HasBegun c (places_for asked c) outputs
+LeavesRun json false asked bytes old new = (c : Certified) × (outputs : List (List machine.Line))
+    × IsImageOf bytes c × HasBegun c (places_for asked c) outputs
     × Appends old new (all_lines json 0 outputs)
-LeavesRun json true asked bytes old new = (c : Certified) × (log : List Turn) × (outputs : List (List machine.Line)) × IsImageOf bytes c
+LeavesRun json true asked bytes old new = (c : Certified) × (log : List Turn)
+    × (outputs : List (List machine.Line)) × IsImageOf bytes c
     × AreLinesBy (places_for asked c) log outputs × Appends old new (all_lines json 0 outputs)
 
 -- what a command that stopped appends: nothing, or what a run left until then; a check a report, which may be empty
-abbrev pub LeavesStopped : Verb → Bool → Bool → Option ℕ → List ℕ → Option (List ℕ) → Option (List ℕ) → Type 0
-LeavesStopped verb.Run json threads asked bytes old new = Keeps old new ⊎ LeavesRun json threads asked bytes old new
-LeavesStopped verb.Trace json threads asked bytes old new = Keeps old new ⊎ ((c : Certified) × IsImageOf bytes c × HasTracedSome c (places_for asked c) old new)
-LeavesStopped verb.Draw json threads asked bytes old new = Keeps old new ⊎ ((c : Certified) × (picture : List ℕ) × IsImageOf bytes c
+abbrev pub LeavesStopped : Verb → Bool → Bool → Option ℕ → List ℕ → Option (List ℕ)
+    → Option (List ℕ) → Type 0
+LeavesStopped verb.Run json threads asked bytes old new = Keeps old new
+    ⊎ LeavesRun json threads asked bytes old new
+LeavesStopped verb.Trace json threads asked bytes old new = Keeps old new
+    ⊎ ((c : Certified) × IsImageOf bytes c × HasTracedSome c (places_for asked c) old new)
+LeavesStopped verb.Draw json threads asked bytes old new = Keeps old new
+    ⊎ ((c : Certified) × (picture : List ℕ) × IsImageOf bytes c
     × HasDrawnSome c (places_for asked c) picture × Appends old new picture)
 LeavesStopped verb.Check json threads asked bytes old new = (text : List ℕ) × Appends old new text
 LeavesStopped _ json threads asked bytes old new = Keeps old new
@@ -231,8 +254,10 @@ abbrev pub IsDue : Option ℕ → List ℕ → Fault → Type 0
 IsDue asked bytes (fault.Asm f) = module_of bytes ≡ Err f
 IsDue asked bytes (fault.Image f) = IsFault (images.named f) (module_at bytes)
 IsDue asked bytes (fault.Verify f) = (m : Module) × IsModuleOf bytes m × Refutes m f
-IsDue asked bytes (fault.Bounds f) = (m : Module) × IsImage bytes m × IsFaultOrMemory (bounds.named f.cause) f (bounds_of m)
-IsDue asked bytes fault.Places = (c : Certified) × IsImageOf bytes c × IsForbidden c (places_for asked c)
+IsDue asked bytes (fault.Bounds f) = (m : Module) × IsImage bytes m
+    × IsFaultOrMemory (bounds.named f.cause) f (bounds_of m)
+IsDue asked bytes fault.Places = (c : Certified) × IsImageOf bytes c
+    × IsForbidden c (places_for asked c)
 IsDue asked bytes _ = Unit {0}
 
 -- the commands that ask the verifier
@@ -253,7 +278,7 @@ status_of (fault.Bounds f) = 1
 status_of fault.Places = 1
 status_of fault.Memory = 2
 status_of fault.StopMemory = 2
-status_of (fault.StopLimit n) = 2
+status_of (fault.StopLimit limit) = 2
 status_of fault.Limit = 2
 status_of fault.Turns = 2
 status_of (fault.Refused place) = 2
@@ -283,7 +308,7 @@ abbrev pub of_bounds : BoundCause → BoundFault → Fault
 of_bounds bound.Memory f = fault.Memory
 of_bounds _ f = fault.Bounds f
 
-abbrev pub of_refusal : Refusal → Fault
+abbrev pub of_refusal : CheckFault → Fault
 of_refusal (refusal.Asm f) = of_asm f.cause f
 of_refusal (refusal.Image f) = of_image f
 of_refusal (refusal.Verify f) = of_verify f.cause f
@@ -293,10 +318,10 @@ of_open opened.Places = fault.Places
 of_open opened.Memory = fault.Memory
 
 abbrev pub of_stop : Stop → Fault
-of_stop (stop.Limit which) = fault.StopLimit which
+of_stop (stop.Limit limit) = fault.StopLimit limit
 of_stop _ = fault.StopMemory
 
-abbrev pub of_halt : Halt → Fault
+abbrev pub of_halt : Unfinished → Fault
 of_halt (halt.Stop why) = of_stop why
 of_halt halt.Limit = fault.Limit
 of_halt halt.Memory = fault.Memory

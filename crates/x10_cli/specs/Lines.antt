@@ -17,8 +17,10 @@ numbered place line = decimal place ++ (codes ": " ++ (shown line ++ 10 ∷ []))
 
 -- the same as a JSON object in a line, with the number or the text as a member
 abbrev pub object_line : ℕ → machine.Line → List ℕ
-object_line place (Number z) = codes "{\"place\":" ++ (decimal place ++ (codes ",\"number\":" ++ (signed_decimal z ++ codes "}\n")))
-object_line place (Words text) = codes "{\"place\":" ++ (decimal place ++ (codes ",\"text\":" ++ (quoted text ++ codes "}\n")))
+object_line place (Number z) = codes "{\"place\":"
+    ++ (decimal place ++ (codes ",\"number\":" ++ (signed_decimal z ++ codes "}\n")))
+object_line place (Words text) = codes "{\"place\":"
+    ++ (decimal place ++ (codes ",\"text\":" ++ (quoted text ++ codes "}\n")))
 
 -- a line of a place: as JSON, or for people
 abbrev pub line_in : Bool → ℕ → machine.Line → List ℕ
@@ -31,7 +33,8 @@ place_lines json place lines = flat_map (line_in json place) lines
 -- the lines of each place, from a number on
 abbrev pub all_lines : Bool → ℕ → List (List machine.Line) → List ℕ
 all_lines json place [] = []
-all_lines json place (lines ∷ rest) = place_lines json place lines ++ all_lines json (place + 1) rest
+all_lines json place (lines ∷ rest) = place_lines json place lines
+    ++ all_lines json (place + 1) rest
 
 -- a function's number and its bound
 abbrev pub bound_line : ℕ → ℕ → List ℕ

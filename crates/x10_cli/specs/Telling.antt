@@ -1,6 +1,7 @@
 -- The line that a fault is told by.
 use Rattle.std.specs.Prelude.{◌≡◌, Bool, false, ℕ, List, [], ◌∷◌, ◌++◌, Option, codes, decimal}
 use Rattle.std.specs.Io.KnownBytes.{Appends}
+use Rattle.x10_kinds.specs.Limits.{number_of}
 use Rattle.x10_explain.specs.Heads.{asm_word, image_word, word_of}
 use Rattle.x10_image.specs.declared.fault.ImageFault.{ImageFault}
 use Rattle.x10_image.specs.declared.fault.ImageFault.TheVariants as image
@@ -28,11 +29,12 @@ abbrev pub fault_text : Fault → List ℕ
 fault_text (fault.Asm f) = codes "asm: line " ++ (decimal f.line ++ (codes " " ++ asm_word f.cause))
 fault_text (fault.Image f) = codes "image: " ++ image_text f
 fault_text (fault.Verify f) = codes "verify: " ++ (rule_text f.cause ++ at f.function f.pc)
-fault_text (fault.Bounds f) = codes "verify: Structure " ++ (word_of (verify.Structure f.cause) ++ at f.function f.pc)
+fault_text (fault.Bounds f) = codes "verify: Structure "
+    ++ (word_of (verify.Structure f.cause) ++ at f.function f.pc)
 fault_text fault.Places = codes "places"
 fault_text fault.Memory = codes "memory"
 fault_text fault.StopMemory = codes "stop: Memory"
-fault_text (fault.StopLimit n) = codes "stop: Limit " ++ decimal n
+fault_text (fault.StopLimit limit) = codes "stop: Limit " ++ decimal (number_of limit)
 fault_text fault.Limit = codes "limit"
 fault_text fault.Turns = codes "turns"
 fault_text (fault.Refused place) = codes "refused: place " ++ decimal place
@@ -46,8 +48,10 @@ fault_line f = codes "x10p: " ++ (fault_text f ++ 10 ∷ [])
 
 -- the fault's line was appended, and what explains it only where that is asked for
 abbrev pub SaysFault : Bool → Fault → Option (List ℕ) → Option (List ℕ) → Type 0
-SaysFault explain f old new = (rest : List ℕ) × (explain ≡ false → rest ≡ []) × Appends old new (fault_line f ++ rest)
+SaysFault explain f old new = (rest : List ℕ) × (explain ≡ false → rest ≡ [])
+    × Appends old new (fault_line f ++ rest)
 
 -- the line of a fault with this status that is due, and perhaps what explains it
 abbrev pub Tells : Bool → Option ℕ → List ℕ → ℕ → Option (List ℕ) → Option (List ℕ) → Type 0
-Tells explain asked bytes status old new = (f : Fault) × (status ≡ status_of f) × IsDue asked bytes f × SaysFault explain f old new
+Tells explain asked bytes status old new = (f : Fault) × (status ≡ status_of f)
+    × IsDue asked bytes f × SaysFault explain f old new

@@ -9,7 +9,7 @@ ghost use Rattle.x10_cli.specs.Answers.{CanBeDone, Prints, IsChecked, IsDue, Ref
 use crate::fault::Fault;
 use std::alloc::Global;
 use std::io::Write;
-use x10_explain::{Form, Refusal, Report, check_image, check_text};
+use x10_explain::{CheckFault, Checked, Form, check_image, check_text};
 use x10_task::Task;
 
 /// Prints the bounds of the module that a file is, or what is wrong with it.
@@ -20,10 +20,13 @@ pub(crate) fn print_check<O: Write>(
     out: &mut O,
 ) -> Result<(), Fault>
     ensures done { IfOk result (λ _. CanBeDone verb.Check None bytes.now) }
-    ensures printed { OnOk result (Prints verb.Check false None bytes.now (O.contents out.old) (O.contents out.new)) }
-    ensures refused { IfErr result (λ e. status_of e ≡ 1 → CanBeDone verb.Check None bytes.now → ⊥) }
+    ensures printed { OnOk result (Prints verb.Check false None bytes.now (O.contents out.old)
+        (O.contents out.new)) }
+    ensures refused { IfErr result (λ e. status_of e ≡ 1 → CanBeDone verb.Check None bytes.now
+        → ⊥) }
     ensures due { (asked : Option ℕ) → IfErr result (IsDue asked bytes.now) }
-    ensures reported { IfErr result (λ e. (e ≡ fault.File) ⊎ ((text : List ℕ) × Appends (O.contents out.old) (O.contents out.new) text)) }
+    ensures reported { IfErr result (λ e. (e ≡ fault.File)
+        ⊎ ((text : List ℕ) × Appends (O.contents out.old) (O.contents out.new) text)) }
 {
     let report = report_of(alloc, bytes, form_of(task))?;
     out.write_all(report.text.as_bytes())?;
@@ -49,9 +52,10 @@ fn form_of<'a>(task: &Task<'a>) -> Form<'a> {
     }
 }
 
-fn report_of(alloc: Global, bytes: &[u8], form: Form) -> Result<Report, Fault>
+fn report_of(alloc: Global, bytes: &[u8], form: Form) -> Result<Checked, Fault>
     ensures verdict { IfOk result (λ report. IsTrue report.verified ↔ IsChecked bytes.now) }
-    ensures why { IfOk result (λ report. Reports report.verified report.refusal (RefusesFile (begins_as_image bytes.now) bytes.now)) }
+    ensures why { IfOk result (λ report. Reports report.verified report.refusal
+        (RefusesFile (begins_as_image bytes.now) bytes.now)) }
     ensures status { IfErr result (λ e. status_of e ≢ 1) }
     ensures due { (asked : Option ℕ) → IfErr result (IsDue asked bytes.now) }
 {
@@ -65,12 +69,12 @@ fn report_of(alloc: Global, bytes: &[u8], form: Form) -> Result<Report, Fault>
 }
 
 /// The fault of a file that isn't a verified module, as the other commands report it.
-fn fault_of(refusal: Refusal) -> Fault
+fn fault_of(refusal: CheckFault) -> Fault
     ensures { result ≡ of_refusal refusal }
 {
     match refusal {
-        Refusal::Asm(fault) => Fault::from(fault),
-        Refusal::Image(fault) => Fault::from(fault),
-        Refusal::Verify(fault) => Fault::from(fault),
+        CheckFault::Asm(fault) => Fault::from(fault),
+        CheckFault::Image(fault) => Fault::from(fault),
+        CheckFault::Verify(fault) => Fault::from(fault),
     }
 }

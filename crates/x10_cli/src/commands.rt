@@ -7,9 +7,9 @@ ghost use Rattle.x10_world.specs.Endings.{IsImageOf, lines_at};
 ghost use Rattle.x10_world.specs.Opening.{IsForbidden, IsOpenedWorld};
 ghost use Rattle.x10_model.specs.Worlds as machine;
 ghost use Rattle.x10_world.specs.declared.done.Done.{Done};
-ghost use Rattle.x10_world.specs.Happenings.{IsDone};
-ghost use Rattle.x10_world.specs.Rounds.{HasEnded, RunsTo};
-ghost use Rattle.x10_world.specs.StandsForWorld.{StandsForWorld, KeepsSetting, Makes};
+ghost use Rattle.x10_world.specs.Happenings.{HasDone};
+ghost use Rattle.x10_world.specs.Rounds.{NoneIsLeft, RunsTo};
+ghost use Rattle.x10_world.specs.StandsForWorld.{StandsForWorld, KeepsSetting, MakesEvent};
 ghost use Rattle.x10_trace.specs.Trace.{trace_lines};
 ghost use Rattle.x10_cli.specs.Lines.{all_lines};
 ghost use Rattle.x10_task.specs.declared.task.Verb.TheVariants as verb;
@@ -48,7 +48,8 @@ use x10_world::World;
 /// it had printed until then, or nothing, and the other commands nothing; for a run with threads these are the lines of the
 /// turns in its log, where the fault is `Turns` or a stop, and none where it is another. With threads it may wait: nothing is
 /// promised about when, or whether, it returns then. `source` is the text from which the bytes of an image were assembled, if
-/// they were: then explanations name its lines. For `explain` the bytes are the name of a cause.
+/// they were: then explanations name its lines, and a listing for people its labels. For `explain` the bytes are the name of a
+/// cause.
 pub fn execute<R: Threads + Wait + Sync, O: Write, E: Write>(
     rt: &R,
     alloc: Global,
@@ -60,15 +61,21 @@ pub fn execute<R: Threads + Wait + Sync, O: Write, E: Write>(
 ) -> u8
     ensures status { IsStatus result }
     ensures done { result ≡ 0 → CanBeDone task.now.verb task.now.places bytes.now }
-    ensures printed { result ≡ 0 → Prints task.now.verb task.now.json task.now.places bytes.now (O.contents out.old) (O.contents out.new) }
-    ensures counted { result ≡ 0 → task.now.verb ≡ verb.Runs → PrintsRuns task.now.places task.now.seeds bytes.now (O.contents out.old) (O.contents out.new) }
+    ensures printed { result ≡ 0 → Prints task.now.verb task.now.json task.now.places bytes.now
+        (O.contents out.old) (O.contents out.new) }
+    ensures counted { result ≡ 0 → task.now.verb ≡ verb.Runs
+        → PrintsRuns task.now.places task.now.limit task.now.seeds bytes.now (O.contents out.old)
+        (O.contents out.new) }
     ensures verified { result ≡ 0 → IsVerifying task.now.verb → IsVerifiedImage bytes.now }
     ensures refused { result ≡ 1 → CanBeDone task.now.verb task.now.places bytes.now → ⊥ }
-    ensures left_refused { result ≡ 1 → LeavesRefused task.now.verb (O.contents out.old) (O.contents out.new) }
-    ensures left_stopped { result ≡ 2 → LeavesStopped task.now.verb task.now.json task.now.threads task.now.places bytes.now (O.contents out.old) (O.contents out.new) }
-    ensures told { (result ≡ 1) ⊎ (result ≡ 2) → Tells task.now.explain task.now.places bytes.now result (E.contents err.old) (E.contents err.new) }
+    ensures left_refused { result ≡ 1 → LeavesRefused task.now.verb (O.contents out.old)
+        (O.contents out.new) }
+    ensures left_stopped { result ≡ 2 → LeavesStopped task.now.verb task.now.json task.now.threads
+        task.now.places bytes.now (O.contents out.old) (O.contents out.new) }
+    ensures told { (result ≡ 1) ⊎ (result ≡ 2) → Tells task.now.explain task.now.places bytes.now
+        result (E.contents err.old) (E.contents err.new) }
 {
-    let done = perform(rt, alloc, task, bytes, out);
+    let done = perform(rt, alloc, task, bytes, source, out);
     if out.flush().is_err() {
         return tell(Fault::File, err);
     }
@@ -88,7 +95,8 @@ fn refuse<E: Write>(
     err: &mut E,
 ) -> u8
     ensures status { (result ≡ status_of fault) ⊎ (result ≡ 4) }
-    ensures told { result ≢ 4 → SaysFault task.now.explain fault (E.contents err.old) (E.contents err.new) }
+    ensures told { result ≢ 4 → SaysFault task.now.explain fault (E.contents err.old)
+        (E.contents err.new) }
 {
     let status = tell(fault, err);
     if !task.explain {
@@ -106,7 +114,8 @@ fn refuse<E: Write>(
 /// Reports a fault on a line, and answers the status that goes with it.
 pub fn tell<E: Write>(fault: Fault, err: &mut E) -> u8
     ensures status { (result ≡ status_of fault) ⊎ (result ≡ 4) }
-    ensures told { result ≢ 4 → Appends (E.contents err.old) (E.contents err.new) (fault_line fault) }
+    ensures told { result ≢ 4 → Appends (E.contents err.old) (E.contents err.new)
+        (fault_line fault) }
 {
     match writeln!(err, "x10p: {fault}") {
         Ok(()) => fault.status(),
@@ -120,20 +129,28 @@ fn perform<R: Threads + Wait + Sync, O: Write>(
     alloc: Global,
     task: &Task,
     bytes: &[u8],
+    source: Option<&str>,
     out: &mut O,
 ) -> Result<(), Fault>
     ensures done { IfOk result (λ _. CanBeDone task.now.verb task.now.places bytes.now) }
-    ensures printed { OnOk result (Prints task.now.verb task.now.json task.now.places bytes.now (O.contents out.old) (O.contents out.new)) }
-    ensures counted { OnOk result (task.now.verb ≡ verb.Runs → PrintsRuns task.now.places task.now.seeds bytes.now (O.contents out.old) (O.contents out.new)) }
-    ensures refused { IfErr result (λ e. status_of e ≡ 1 → CanBeDone task.now.verb task.now.places bytes.now → ⊥) }
+    ensures printed { OnOk result (Prints task.now.verb task.now.json task.now.places bytes.now
+        (O.contents out.old) (O.contents out.new)) }
+    ensures counted { OnOk result (task.now.verb ≡ verb.Runs
+        → PrintsRuns task.now.places task.now.limit task.now.seeds bytes.now (O.contents out.old)
+        (O.contents out.new)) }
+    ensures refused { IfErr result (λ e. status_of e ≡ 1
+        → CanBeDone task.now.verb task.now.places bytes.now → ⊥) }
     ensures due { IfErr result (IsDue task.now.places bytes.now) }
-    ensures left_refused { IfErr result (λ e. status_of e ≡ 1 → LeavesRefused task.now.verb (O.contents out.old) (O.contents out.new)) }
-    ensures left_stopped { IfErr result (λ e. status_of e ≡ 2 → LeavesStopped task.now.verb task.now.json task.now.threads task.now.places bytes.now (O.contents out.old) (O.contents out.new)) }
+    ensures left_refused { IfErr result (λ e. status_of e ≡ 1
+        → LeavesRefused task.now.verb (O.contents out.old) (O.contents out.new)) }
+    ensures left_stopped { IfErr result (λ e. status_of e ≡ 2
+        → LeavesStopped task.now.verb task.now.json task.now.threads task.now.places bytes.now
+        (O.contents out.old) (O.contents out.new)) }
 {
     match task.verb {
         Verb::Asm => print_image(alloc, bytes, out),
         Verb::List => print_listing(alloc, task, bytes, out),
-        Verb::ListVerbose => print_verbose(alloc, bytes, out),
+        Verb::ListVerbose => print_verbose(alloc, bytes, source, out),
         Verb::Check => print_check(alloc, task, bytes, out),
         Verb::Verify => print_verdict(alloc, bytes, out),
         Verb::Bounds => print_bounds(alloc, bytes, out),
@@ -168,10 +185,12 @@ pub(crate) fn verified_in<'a>(alloc: Global, bytes: &'a [u8]) -> Result<Verified
 /// The image that a text spells.
 fn print_image<O: Write>(alloc: Global, bytes: &[u8], out: &mut O) -> Result<(), Fault>
     ensures done { IfOk result (λ _. CanBeDone verb.Asm None bytes.now) }
-    ensures printed { OnOk result (Prints verb.Asm false None bytes.now (O.contents out.old) (O.contents out.new)) }
+    ensures printed { OnOk result (Prints verb.Asm false None bytes.now (O.contents out.old)
+        (O.contents out.new)) }
     ensures refused { IfErr result (λ e. status_of e ≡ 1 → CanBeDone verb.Asm None bytes.now → ⊥) }
     ensures due { (asked : Option ℕ) → IfErr result (IsDue asked bytes.now) }
-    ensures kept { IfErr result (λ e. (e ≡ fault.File) ⊎ Keeps (O.contents out.old) (O.contents out.new)) }
+    ensures kept { IfErr result (λ e. (e ≡ fault.File)
+        ⊎ Keeps (O.contents out.old) (O.contents out.new)) }
 {
     let Ok(text) = str::from_utf8(bytes) else {
         return Err(Fault::File);
@@ -188,10 +207,12 @@ fn print_listing<O: Write>(
     out: &mut O,
 ) -> Result<(), Fault>
     ensures done { IfOk result (λ _. CanBeDone verb.List None bytes.now) }
-    ensures printed { OnOk result (Prints verb.List task.now.json None bytes.now (O.contents out.old) (O.contents out.new)) }
+    ensures printed { OnOk result (Prints verb.List task.now.json None bytes.now
+        (O.contents out.old) (O.contents out.new)) }
     ensures refused { IfErr result (λ e. status_of e ≡ 1 → CanBeDone verb.List None bytes.now → ⊥) }
     ensures due { (asked : Option ℕ) → IfErr result (IsDue asked bytes.now) }
-    ensures kept { IfErr result (λ e. (e ≡ fault.File) ⊎ Keeps (O.contents out.old) (O.contents out.new)) }
+    ensures kept { IfErr result (λ e. (e ≡ fault.File)
+        ⊎ Keeps (O.contents out.old) (O.contents out.new)) }
 {
     let image = image_of(alloc, bytes)?;
     let listing = listing_of(alloc, task, &image)?;
@@ -208,26 +229,36 @@ fn listing_of(alloc: Global, task: &Task, image: &ImageView) -> Result<String, A
     list(alloc, image)
 }
 
-/// The listing with what the verifier knows.
-fn print_verbose<O: Write>(alloc: Global, bytes: &[u8], out: &mut O) -> Result<(), Fault>
+/// The listing with what the verifier knows, and the labels of the text that the image was assembled from.
+fn print_verbose<O: Write>(
+    alloc: Global,
+    bytes: &[u8],
+    source: Option<&str>,
+    out: &mut O,
+) -> Result<(), Fault>
     ensures done { IfOk result (λ _. CanBeDone verb.ListVerbose None bytes.now) }
-    ensures printed { OnOk result (Prints verb.ListVerbose false None bytes.now (O.contents out.old) (O.contents out.new)) }
-    ensures refused { IfErr result (λ e. status_of e ≡ 1 → CanBeDone verb.ListVerbose None bytes.now → ⊥) }
+    ensures printed { OnOk result (Prints verb.ListVerbose false None bytes.now
+        (O.contents out.old) (O.contents out.new)) }
+    ensures refused { IfErr result (λ e. status_of e ≡ 1
+        → CanBeDone verb.ListVerbose None bytes.now → ⊥) }
     ensures due { (asked : Option ℕ) → IfErr result (IsDue asked bytes.now) }
-    ensures kept { IfErr result (λ e. (e ≡ fault.File) ⊎ Keeps (O.contents out.old) (O.contents out.new)) }
+    ensures kept { IfErr result (λ e. (e ≡ fault.File)
+        ⊎ Keeps (O.contents out.old) (O.contents out.new)) }
 {
     let image = image_of(alloc, bytes)?;
-    let listing = list_verbose(alloc, &image)?;
+    let listing = list_verbose(alloc, &image, source)?;
     out.write_all(listing.as_bytes())?;
     Ok(())
 }
 
 fn print_verdict<O: Write>(alloc: Global, bytes: &[u8], out: &mut O) -> Result<(), Fault>
     ensures done { IfOk result (λ _. IsVerifiedImage bytes.now) }
-    ensures printed { OnOk result (Prints verb.Verify false None bytes.now (O.contents out.old) (O.contents out.new)) }
+    ensures printed { OnOk result (Prints verb.Verify false None bytes.now (O.contents out.old)
+        (O.contents out.new)) }
     ensures refused { IfErr result (λ e. status_of e ≡ 1 → IsVerifiedImage bytes.now → ⊥) }
     ensures due { (asked : Option ℕ) → IfErr result (IsDue asked bytes.now) }
-    ensures kept { IfErr result (λ e. (e ≡ fault.File) ⊎ Keeps (O.contents out.old) (O.contents out.new)) }
+    ensures kept { IfErr result (λ e. (e ≡ fault.File)
+        ⊎ Keeps (O.contents out.old) (O.contents out.new)) }
 {
     let verified = verified_in(alloc, bytes)?;
     let image = verified.image();
@@ -239,10 +270,13 @@ fn print_verdict<O: Write>(alloc: Global, bytes: &[u8], out: &mut O) -> Result<(
 
 fn print_bounds<O: Write>(alloc: Global, bytes: &[u8], out: &mut O) -> Result<(), Fault>
     ensures done { IfOk result (λ _. CanBeDone verb.Bounds None bytes.now) }
-    ensures printed { OnOk result (Prints verb.Bounds false None bytes.now (O.contents out.old) (O.contents out.new)) }
-    ensures refused { IfErr result (λ e. status_of e ≡ 1 → CanBeDone verb.Bounds None bytes.now → ⊥) }
+    ensures printed { OnOk result (Prints verb.Bounds false None bytes.now (O.contents out.old)
+        (O.contents out.new)) }
+    ensures refused { IfErr result (λ e. status_of e ≡ 1 → CanBeDone verb.Bounds None bytes.now
+        → ⊥) }
     ensures due { (asked : Option ℕ) → IfErr result (IsDue asked bytes.now) }
-    ensures kept { IfErr result (λ e. (e ≡ fault.File) ⊎ Keeps (O.contents out.old) (O.contents out.new)) }
+    ensures kept { IfErr result (λ e. (e ≡ fault.File)
+        ⊎ Keeps (O.contents out.old) (O.contents out.new)) }
 {
     let image = image_of(alloc, bytes)?;
     let bounds = bounds(alloc, &image)?;
@@ -256,11 +290,16 @@ fn print_bounds<O: Write>(alloc: Global, bytes: &[u8], out: &mut O) -> Result<()
 /// Runs a module, and prints what its places printed, even where the run stops before its end.
 fn print_run<O: Write>(alloc: Global, task: &Task, bytes: &[u8], out: &mut O) -> Result<(), Fault>
     ensures done { IfOk result (λ _. CanBeDone verb.Run task.now.places bytes.now) }
-    ensures printed { OnOk result (Prints verb.Run task.now.json task.now.places bytes.now (O.contents out.old) (O.contents out.new)) }
-    ensures refused { IfErr result (λ e. status_of e ≡ 1 → CanBeDone verb.Run task.now.places bytes.now → ⊥) }
+    ensures printed { OnOk result (Prints verb.Run task.now.json task.now.places bytes.now
+        (O.contents out.old) (O.contents out.new)) }
+    ensures refused { IfErr result (λ e. status_of e ≡ 1
+        → CanBeDone verb.Run task.now.places bytes.now → ⊥) }
     ensures due { IfErr result (IsDue task.now.places bytes.now) }
-    ensures refused_early { IfErr result (λ e. status_of e ≡ 1 → Keeps (O.contents out.old) (O.contents out.new)) }
-    ensures stopped { IfErr result (λ e. status_of e ≡ 2 → LeavesStopped verb.Run task.now.json false task.now.places bytes.now (O.contents out.old) (O.contents out.new)) }
+    ensures refused_early { IfErr result (λ e. status_of e ≡ 1
+        → Keeps (O.contents out.old) (O.contents out.new)) }
+    ensures stopped { IfErr result (λ e. status_of e ≡ 2
+        → LeavesStopped verb.Run task.now.json false task.now.places bytes.now
+        (O.contents out.old) (O.contents out.new)) }
 {
     let verified = verified_in(alloc, bytes)?;
     let mut world = opened(alloc, task.places, &verified)?;
@@ -275,9 +314,12 @@ pub(crate) fn opened<'a>(
     verified: &'a Verified<'a>,
 ) -> Result<World<'a>, Fault>
     ensures opened { IfOk result (IsOpenedWorld verified.now (places_for asked verified.now)) }
-    ensures permitted { IfOk result (λ _. IsForbidden verified.now (places_for asked verified.now) → ⊥) }
-    ensures due { (bytes : List ℕ) → IsImageOf bytes verified.now → IfErr result (IsDue asked bytes) }
-    ensures refused { (bytes : List ℕ) → IsImageOf bytes verified.now → IfErr result (λ e. status_of e ≡ 1 → CanBeDone verb.Run asked bytes → ⊥) }
+    ensures permitted { IfOk result (λ _. IsForbidden verified.now (places_for asked verified.now)
+        → ⊥) }
+    ensures due { (bytes : List ℕ) → IsImageOf bytes verified.now
+        → IfErr result (IsDue asked bytes) }
+    ensures refused { (bytes : List ℕ) → IsImageOf bytes verified.now
+        → IfErr result (λ e. status_of e ≡ 1 → CanBeDone verb.Run asked bytes → ⊥) }
 {
     let places = places_of(asked, verified);
     let world = World::open(alloc, verified, places)?;
@@ -294,9 +336,13 @@ fn print_scheduled<O: Write>(
     out: &mut O,
 ) -> Result<(), Fault>
     ensures runs { RunsTo world.old world.new }
-    ensures ended { OnOk result (HasEnded world.new) }
-    ensures printed { OnOk result (Appends (O.contents out.old) (O.contents out.new) (all_lines json 0 (lines_at world.new.places))) }
-    ensures stopped { IfErr result (λ e. (e ≡ fault.File) ⊎ Keeps (O.contents out.old) (O.contents out.new) ⊎ Appends (O.contents out.old) (O.contents out.new) (all_lines json 0 (lines_at world.new.places))) }
+    ensures ended { OnOk result (NoneIsLeft world.new) }
+    ensures printed { OnOk result (Appends (O.contents out.old) (O.contents out.new)
+        (all_lines json 0 (lines_at world.new.places))) }
+    ensures stopped { IfErr result (λ e. (e ≡ fault.File)
+        ⊎ Keeps (O.contents out.old) (O.contents out.new)
+        ⊎ Appends (O.contents out.old) (O.contents out.new)
+        (all_lines json 0 (lines_at world.new.places))) }
     ensures status { IfErr result (λ e. status_of e ≢ 1) }
 {
     let ended = run_by(alloc, world, schedule, limit);
@@ -307,11 +353,16 @@ fn print_scheduled<O: Write>(
 /// Runs a module, and prints the lines of each event when it has happened.
 fn print_trace<O: Write>(alloc: Global, task: &Task, bytes: &[u8], out: &mut O) -> Result<(), Fault>
     ensures done { IfOk result (λ _. CanBeDone verb.Trace task.now.places bytes.now) }
-    ensures printed { OnOk result (Prints verb.Trace false task.now.places bytes.now (O.contents out.old) (O.contents out.new)) }
-    ensures refused { IfErr result (λ e. status_of e ≡ 1 → CanBeDone verb.Trace task.now.places bytes.now → ⊥) }
+    ensures printed { OnOk result (Prints verb.Trace false task.now.places bytes.now
+        (O.contents out.old) (O.contents out.new)) }
+    ensures refused { IfErr result (λ e. status_of e ≡ 1
+        → CanBeDone verb.Trace task.now.places bytes.now → ⊥) }
     ensures due { IfErr result (IsDue task.now.places bytes.now) }
-    ensures refused_early { IfErr result (λ e. status_of e ≡ 1 → Keeps (O.contents out.old) (O.contents out.new)) }
-    ensures stopped { IfErr result (λ e. status_of e ≡ 2 → LeavesStopped verb.Trace false false task.now.places bytes.now (O.contents out.old) (O.contents out.new)) }
+    ensures refused_early { IfErr result (λ e. status_of e ≡ 1
+        → Keeps (O.contents out.old) (O.contents out.new)) }
+    ensures stopped { IfErr result (λ e. status_of e ≡ 2
+        → LeavesStopped verb.Trace false false task.now.places bytes.now (O.contents out.old)
+        (O.contents out.new)) }
 {
     let verified = verified_in(alloc, bytes)?;
     let mut world = opened(alloc, task.places, &verified)?;
@@ -326,10 +377,12 @@ fn trace<O: Write>(
     limit: u64,
     out: &mut O,
 ) -> Result<(), Fault>
-    ensures traced { OnOk result (Traces world.old world.new (O.contents out.old) (O.contents out.new)) }
-    ensures some { IfErr result (λ e. (e ≡ fault.File) ⊎ TracesSome world.old (O.contents out.old) (O.contents out.new)) }
+    ensures traced { OnOk result (Traces world.old world.new (O.contents out.old)
+        (O.contents out.new)) }
+    ensures some { IfErr result (λ e. (e ≡ fault.File)
+        ⊎ TracesSome world.old (O.contents out.old) (O.contents out.new)) }
     ensures runs { RunsTo world.old world.new }
-    ensures ended { OnOk result (HasEnded world.new) }
+    ensures ended { OnOk result (NoneIsLeft world.new) }
     ensures status { IfErr result (λ e. status_of e ≢ 1) }
 {
     let mut scheduler = Scheduler::new(alloc, world, schedule)?;
@@ -352,9 +405,12 @@ fn print_event<O: Write>(
     event: Event,
     out: &mut O,
 ) -> Result<(), Fault>
-    ensures traced { OnOk result ((did : Done) × IsDone world.old event did world.new × Appends (O.contents out.old) (O.contents out.new) (trace_lines world.new event did)) }
-    ensures still { IfErr result (λ e. (e ≡ fault.File) ⊎ Keeps (O.contents out.old) (O.contents out.new)) }
-    ensures made { OnOk result ((w : machine.World) → StandsForWorld world.old w → Makes world.old w event world.new) }
+    ensures traced { OnOk result ((did : Done) × HasDone world.old event did world.new
+        × Appends (O.contents out.old) (O.contents out.new) (trace_lines world.new event did)) }
+    ensures still { IfErr result (λ e. (e ≡ fault.File)
+        ⊎ Keeps (O.contents out.old) (O.contents out.new)) }
+    ensures made { OnOk result ((w : machine.World) → StandsForWorld world.old w
+        → MakesEvent world.old w event world.new) }
     ensures kept { KeepsSetting world.old world.new }
     ensures runs { RunsTo world.old world.new }
     ensures status { IfErr result (λ e. status_of e ≢ 1) }

@@ -6,6 +6,7 @@ use x10_asm::AsmFault;
 use x10_bounds::{BoundFault, bounds};
 use x10_explain::{explain_asm_in, explain_image, explain_verify, explain_verify_in};
 use x10_image::ImageView;
+use x10_kinds::Limit;
 use x10_model::limits::MOST_WIDE;
 use x10_task::{Task, Verb};
 use x10_verify::{VerifyCause, VerifyFault};
@@ -29,7 +30,7 @@ pub(crate) fn explanation(
         Fault::Places => of_places(alloc, task, bytes),
         Fault::Memory => line(alloc, "The system gives no more memory to the program."),
         Fault::StopMemory => of_memory(alloc, task, bytes),
-        Fault::StopLimit(which) => of_count(alloc, which),
+        Fault::StopLimit(limit) => of_count(alloc, limit),
         Fault::Limit => of_events(alloc, task, bytes),
         Fault::Turns => of_turns(alloc, task),
         Fault::Refused(place) => of_refusal(alloc, place),
@@ -109,30 +110,30 @@ fn of_memory(alloc: Global, task: &Task, bytes: &[u8]) -> Result<String, AllocEr
     )
 }
 
-fn of_count(alloc: Global, which: u8) -> Result<String, AllocError> {
-    let (what, most) = counted(which);
+fn of_count(alloc: Global, limit: Limit) -> Result<String, AllocError> {
+    let (what, most) = counted(limit);
     format!(in alloc;
         "There may be {most} {what} at most, and the next event would make one more.\n"
     )
 }
 
 /// What a limit of the machine counts, and how many there may be.
-fn counted(which: u8) -> (&'static str, u64) {
-    match which {
-        1 => ("objects at one place", u64::from(u32::MAX)),
-        2 => ("texts at one place", u64::from(u32::MAX)),
-        3 => ("rails at one place", u64::from(u32::MAX)),
-        4 => ("global references at one place", u64::from(u32::MAX)),
-        5 => ("finishes at one place", u64::from(u32::MAX)),
-        6 => (
+fn counted(limit: Limit) -> (&'static str, u64) {
+    match limit {
+        Limit::Objects => ("objects at one place", u64::from(u32::MAX)),
+        Limit::Texts => ("texts at one place", u64::from(u32::MAX)),
+        Limit::Rails => ("rails at one place", u64::from(u32::MAX)),
+        Limit::References => ("global references at one place", u64::from(u32::MAX)),
+        Limit::Finishes => ("finishes at one place", u64::from(u32::MAX)),
+        Limit::Activities => (
             "activities under one finish, at one place or from one place to another,",
             u64::from(u32::MAX),
         ),
-        7 => ("objects in one frame", u64::from(MOST_WIDE)),
-        8 => ("texts in one frame", u64::from(MOST_WIDE)),
-        9 => ("rails in one frame", u64::from(MOST_WIDE)),
-        10 => ("keys of activities at one place", u64::from(u32::MAX)),
-        _ => ("frames in one run", u64::MAX),
+        Limit::FrameObjects => ("objects in one frame", u64::from(MOST_WIDE)),
+        Limit::FrameTexts => ("texts in one frame", u64::from(MOST_WIDE)),
+        Limit::FrameRails => ("rails in one frame", u64::from(MOST_WIDE)),
+        Limit::Keys => ("keys of activities at one place", u64::from(u32::MAX)),
+        Limit::Frames => ("frames in one run", u64::MAX),
     }
 }
 

@@ -10,10 +10,10 @@ use x10_asm::{AsmCause, AsmFault};
 use x10_bounds::{BoundCause, BoundFault};
 use x10_explain::{asm_name, image_name, verify_name};
 use x10_image::ImageFault;
-use x10_kinds::Stop;
+use x10_kinds::{Limit, Stop};
 use x10_verify::{VerifyCause, VerifyFault};
 use x10_workers::WorkFault;
-use x10_world::{Halt, OpenFault};
+use x10_world::{OpenFault, Unfinished};
 
 /// Why a command was not done. Its text is what the program prints for it, behind `x10p: `.
 #[derive(Clone, Copy, Debug, PartialEq, Eq)]
@@ -33,7 +33,7 @@ pub enum Fault {
     /// Memory was refused to a place that ran.
     StopMemory,
     /// A count of a place that ran would have passed its greatest value.
-    StopLimit(u8),
+    StopLimit(Limit),
     /// As many events were made as were allowed, and the run had not ended.
     Limit,
     /// With threads, as many turns of workers were posted as were allowed, and a worker had one more.
@@ -76,7 +76,7 @@ impl fmt::Display for Fault {
             Fault::Places => f.write_str("places"),
             Fault::Memory => f.write_str("memory"),
             Fault::StopMemory => f.write_str("stop: Memory"),
-            Fault::StopLimit(which) => write!(f, "stop: Limit {which}"),
+            Fault::StopLimit(limit) => write!(f, "stop: Limit {limit}"),
             Fault::Limit => f.write_str("limit"),
             Fault::Turns => f.write_str("turns"),
             Fault::Refused(place) => write!(f, "refused: place {place}"),
@@ -90,7 +90,8 @@ impl fmt::Display for Fault {
 impl std::error::Error for Fault {}
 
 fn write_asm<W: fmt::Write>(told: AsmFault, f: &mut fmt::Formatter<W>) -> fmt::Result
-    ensures { DisplaysOnOk W.write_str_gives f.old result (Some (fault_text (fault.Asm told))) f.new }
+    ensures { DisplaysOnOk W.write_str_gives f.old result
+        (Some (fault_text (fault.Asm told))) f.new }
 {
     let cause = asm_name(told.cause);
     let line = told.line;
@@ -98,7 +99,8 @@ fn write_asm<W: fmt::Write>(told: AsmFault, f: &mut fmt::Formatter<W>) -> fmt::R
 }
 
 fn write_image<W: fmt::Write>(told: ImageFault, f: &mut fmt::Formatter<W>) -> fmt::Result
-    ensures { DisplaysOnOk W.write_str_gives f.old result (Some (fault_text (fault.Image told))) f.new }
+    ensures { DisplaysOnOk W.write_str_gives f.old result
+        (Some (fault_text (fault.Image told))) f.new }
 {
     if let ImageFault::Code(function, pc) = told {
         return write!(f, "image: Code {function} {pc}");
@@ -108,7 +110,8 @@ fn write_image<W: fmt::Write>(told: ImageFault, f: &mut fmt::Formatter<W>) -> fm
 }
 
 fn write_verify<W: fmt::Write>(told: VerifyFault, f: &mut fmt::Formatter<W>) -> fmt::Result
-    ensures { DisplaysOnOk W.write_str_gives f.old result (Some (fault_text (fault.Verify told))) f.new }
+    ensures { DisplaysOnOk W.write_str_gives f.old result
+        (Some (fault_text (fault.Verify told))) f.new }
 {
     let (function, pc) = (told.function, told.pc);
     let rule = verify_name(told.cause);
@@ -119,7 +122,8 @@ fn write_verify<W: fmt::Write>(told: VerifyFault, f: &mut fmt::Formatter<W>) -> 
 }
 
 fn write_bounds<W: fmt::Write>(told: BoundFault, f: &mut fmt::Formatter<W>) -> fmt::Result
-    ensures { DisplaysOnOk W.write_str_gives f.old result (Some (fault_text (fault.Bounds told))) f.new }
+    ensures { DisplaysOnOk W.write_str_gives f.old result
+        (Some (fault_text (fault.Bounds told))) f.new }
 {
     let (function, pc) = (told.function, told.pc);
     let rule = verify_name(VerifyCause::Structure(told.cause));
@@ -186,20 +190,20 @@ impl From<Stop> for Fault {
 
     fn from(stop: Stop) -> Fault {
         match stop {
-            Stop::Limit(which) => Fault::StopLimit(which),
+            Stop::Limit(limit) => Fault::StopLimit(limit),
             Stop::Memory | Stop::Stopped => Fault::StopMemory,
         }
     }
 }
 
-impl From<Halt> for Fault {
+impl From<Unfinished> for Fault {
     ghost from_gives = { λ halt told. told ≡ of_halt halt };
 
-    fn from(halt: Halt) -> Fault {
+    fn from(halt: Unfinished) -> Fault {
         match halt {
-            Halt::Stop(stop) => Fault::from(stop),
-            Halt::Limit => Fault::Limit,
-            Halt::Memory => Fault::Memory,
+            Unfinished::Stop(stop) => Fault::from(stop),
+            Unfinished::Limit => Fault::Limit,
+            Unfinished::Memory => Fault::Memory,
         }
     }
 }

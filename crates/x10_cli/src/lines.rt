@@ -22,8 +22,10 @@ pub(crate) fn print_outputs<O: Write>(
     json: bool,
     out: &mut O,
 ) -> Result<(), Fault>
-    ensures ok { OnOk result (Appends (O.contents out.old) (O.contents out.new) (all_lines json 0 (lines_at world.now.places))) }
-    ensures err { IfErr result (λ e. (e ≡ fault.File) ⊎ Keeps (O.contents out.old) (O.contents out.new)) }
+    ensures ok { OnOk result (Appends (O.contents out.old) (O.contents out.new)
+        (all_lines json 0 (lines_at world.now.places))) }
+    ensures err { IfErr result (λ e. (e ≡ fault.File)
+        ⊎ Keeps (O.contents out.old) (O.contents out.new)) }
     ensures status { IfErr result (λ e. status_of e ≢ 1) }
 {
     if !json {
@@ -44,8 +46,10 @@ pub(crate) fn print_report<O: Write>(
     json: bool,
     out: &mut O,
 ) -> Result<(), Fault>
-    ensures ok { OnOk result (Appends (O.contents out.old) (O.contents out.new) (all_lines json 0 (lines_in outputs.now))) }
-    ensures err { IfErr result (λ e. (e ≡ fault.File) ⊎ Keeps (O.contents out.old) (O.contents out.new)) }
+    ensures ok { OnOk result (Appends (O.contents out.old) (O.contents out.new)
+        (all_lines json 0 (lines_in outputs.now))) }
+    ensures err { IfErr result (λ e. (e ≡ fault.File)
+        ⊎ Keeps (O.contents out.old) (O.contents out.new)) }
     ensures status { IfErr result (λ e. status_of e ≢ 1) }
 {
     if !json {
@@ -66,7 +70,8 @@ fn write_outputs<O: Write>(
     json: bool,
     out: &mut O,
 ) -> Result<(), Fault>
-    ensures ok { OnOk result (Appends (O.contents out.old) (O.contents out.new) (all_lines json 0 (lines_at world.now.places))) }
+    ensures ok { OnOk result (Appends (O.contents out.old) (O.contents out.new)
+        (all_lines json 0 (lines_at world.now.places))) }
     ensures err { json ≡ false → IfErr result (λ e. e ≡ fault.File) }
 {
     for place in 0..world.count() {
@@ -85,7 +90,8 @@ fn write_report<O: Write>(
     json: bool,
     out: &mut O,
 ) -> Result<(), Fault>
-    ensures ok { OnOk result (Appends (O.contents out.old) (O.contents out.new) (all_lines json 0 (lines_in outputs.now))) }
+    ensures ok { OnOk result (Appends (O.contents out.old) (O.contents out.new)
+        (all_lines json 0 (lines_in outputs.now))) }
     ensures err { json ≡ false → IfErr result (λ e. e ≡ fault.File) }
 {
     for place in 0..outputs.len() {
@@ -102,7 +108,8 @@ fn write_lines<O: Write>(
     json: bool,
     out: &mut O,
 ) -> Result<(), Fault>
-    ensures ok { OnOk result (Appends (O.contents out.old) (O.contents out.new) (place_lines json place (map line_as lines.now))) }
+    ensures ok { OnOk result (Appends (O.contents out.old) (O.contents out.new)
+        (place_lines json place (map line_as lines.now))) }
     ensures err { json ≡ false → IfErr result (λ e. e ≡ fault.File) }
 {
     for line in lines {
@@ -119,7 +126,8 @@ fn write_line<O: Write>(
     json: bool,
     out: &mut O,
 ) -> Result<(), Fault>
-    ensures ok { OnOk result (Appends (O.contents out.old) (O.contents out.new) (line_in json place (line_as line.now))) }
+    ensures ok { OnOk result (Appends (O.contents out.old) (O.contents out.new)
+        (line_in json place (line_as line.now))) }
     ensures err { json ≡ false → IfErr result (λ e. e ≡ fault.File) }
 {
     if json {
@@ -131,7 +139,8 @@ fn write_line<O: Write>(
 
 /// Writes a line of a place for people.
 fn write_numbered<O: Write>(place: usize, line: &Line, out: &mut O) -> Result<(), Fault>
-    ensures ok { OnOk result (Appends (O.contents out.old) (O.contents out.new) (numbered place (line_as line.now))) }
+    ensures ok { OnOk result (Appends (O.contents out.old) (O.contents out.new)
+        (numbered place (line_as line.now))) }
     ensures err { IfErr result (λ e. e ≡ fault.File) }
 {
     match line {
@@ -148,7 +157,8 @@ fn write_object<O: Write>(
     line: &Line,
     out: &mut O,
 ) -> Result<(), Fault>
-    ensures ok { OnOk result (Appends (O.contents out.old) (O.contents out.new) (object_line place (line_as line.now))) }
+    ensures ok { OnOk result (Appends (O.contents out.old) (O.contents out.new)
+        (object_line place (line_as line.now))) }
 {
     match line {
         Line::Int(number) => writeln!(out, "{{\"place\":{place},\"number\":{number}}}")?,

@@ -2,7 +2,7 @@
 ghost use Rattle.std.specs.Prelude.{false, ◌≡◌, ◌≢◌, ◌⊎◌, ℕ, List, IfOk, IfErr, OnOk};
 ghost use Rattle.std.specs.Io.KnownBytes.{Appends, Keeps};
 ghost use Rattle.x10_draw.specs.Pages.{IsPage};
-ghost use Rattle.x10_world.specs.Rounds.{HasEnded, RunsTo};
+ghost use Rattle.x10_world.specs.Rounds.{NoneIsLeft, RunsTo};
 ghost use Rattle.x10_world.specs.StandsForWorld.{KeepsSetting};
 ghost use Rattle.x10_task.specs.declared.task.Verb.TheVariants as verb;
 ghost use Rattle.x10_cli.specs.declared.fault.Fault.TheVariants as fault;
@@ -27,11 +27,16 @@ pub(crate) fn print_picture<O: Write>(
     out: &mut O,
 ) -> Result<(), Fault>
     ensures done { IfOk result (λ _. CanBeDone verb.Draw task.now.places bytes.now) }
-    ensures printed { OnOk result (Prints verb.Draw false task.now.places bytes.now (O.contents out.old) (O.contents out.new)) }
-    ensures refused { IfErr result (λ e. status_of e ≡ 1 → CanBeDone verb.Draw task.now.places bytes.now → ⊥) }
+    ensures printed { OnOk result (Prints verb.Draw false task.now.places bytes.now
+        (O.contents out.old) (O.contents out.new)) }
+    ensures refused { IfErr result (λ e. status_of e ≡ 1
+        → CanBeDone verb.Draw task.now.places bytes.now → ⊥) }
     ensures due { IfErr result (IsDue task.now.places bytes.now) }
-    ensures refused_early { IfErr result (λ e. status_of e ≡ 1 → Keeps (O.contents out.old) (O.contents out.new)) }
-    ensures stopped { IfErr result (λ e. status_of e ≡ 2 → LeavesStopped verb.Draw false false task.now.places bytes.now (O.contents out.old) (O.contents out.new)) }
+    ensures refused_early { IfErr result (λ e. status_of e ≡ 1
+        → Keeps (O.contents out.old) (O.contents out.new)) }
+    ensures stopped { IfErr result (λ e. status_of e ≡ 2
+        → LeavesStopped verb.Draw false false task.now.places bytes.now (O.contents out.old)
+        (O.contents out.new)) }
 {
     let verified = verified_in(alloc, bytes)?;
     let mut world = opened(alloc, task.places, &verified)?;
@@ -47,9 +52,13 @@ fn print_drawn<O: Write>(
     out: &mut O,
 ) -> Result<(), Fault>
     ensures runs { RunsTo world.old world.new }
-    ensures ended { OnOk result (HasEnded world.new) }
-    ensures printed { OnOk result ((picture : List ℕ) × IsPage picture × Appends (O.contents out.old) (O.contents out.new) picture) }
-    ensures stopped { IfErr result (λ e. (e ≡ fault.File) ⊎ Keeps (O.contents out.old) (O.contents out.new) ⊎ ((picture : List ℕ) × IsPage picture × Appends (O.contents out.old) (O.contents out.new) picture)) }
+    ensures ended { OnOk result (NoneIsLeft world.new) }
+    ensures printed { OnOk result ((picture : List ℕ) × IsPage picture
+        × Appends (O.contents out.old) (O.contents out.new) picture) }
+    ensures stopped { IfErr result (λ e. (e ≡ fault.File)
+        ⊎ Keeps (O.contents out.old) (O.contents out.new)
+        ⊎ ((picture : List ℕ) × IsPage picture
+        × Appends (O.contents out.old) (O.contents out.new) picture)) }
     ensures status { IfErr result (λ e. status_of e ≢ 1) }
 {
     let mut drawing = Drawing::new(alloc, world.count())?;
@@ -68,7 +77,7 @@ fn draw(
     drawing: &mut Drawing,
 ) -> Result<(), Fault>
     ensures runs { RunsTo world.old world.new }
-    ensures ended { OnOk result (HasEnded world.new) }
+    ensures ended { OnOk result (NoneIsLeft world.new) }
     ensures status { IfErr result (λ e. status_of e ≢ 1) }
 {
     let mut scheduler = Scheduler::new(alloc, world, schedule)?;

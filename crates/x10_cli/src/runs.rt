@@ -1,5 +1,5 @@
 //! The command `runs`: what a module prints in many random orders, each different output once.
-ghost use Rattle.std.specs.Prelude.{◌≡◌, ◌≢◌, ◌⊎◌, ℕ, List, IfOk, IfErr, OnOk};
+ghost use Rattle.std.specs.Prelude.{true, ◌≡◌, ◌≢◌, ◌⊎◌, ℕ, List, IfOk, IfErr, OnOk};
 ghost use Rattle.std.specs.Io.KnownBytes.{Appends, Keeps};
 ghost use Rattle.x10_world.specs.Endings.{IsImageOf};
 ghost use Rattle.x10_world.specs.Opening.{IsForbidden};
@@ -17,7 +17,7 @@ use x10_findings::{Finding, Findings};
 use x10_schedule::{Schedule, run_by};
 use x10_task::Task;
 use x10_verify::Verified;
-use x10_world::{Halt, World};
+use x10_world::{Unfinished, World};
 
 /// Runs a module by the random schedules of the seeds 1, 2 and so on, and prints each different output once, with how often it
 /// came.
@@ -28,10 +28,13 @@ pub(crate) fn print_runs<O: Write>(
     out: &mut O,
 ) -> Result<(), Fault>
     ensures done { IfOk result (λ _. CanBeDone verb.Runs task.now.places bytes.now) }
-    ensures printed { OnOk result (PrintsRuns task.now.places task.now.seeds bytes.now (O.contents out.old) (O.contents out.new)) }
-    ensures refused { IfErr result (λ e. status_of e ≡ 1 → CanBeDone verb.Runs task.now.places bytes.now → ⊥) }
+    ensures printed { OnOk result (PrintsRuns task.now.places task.now.limit task.now.seeds
+        bytes.now (O.contents out.old) (O.contents out.new)) }
+    ensures refused { IfErr result (λ e. status_of e ≡ 1
+        → CanBeDone verb.Runs task.now.places bytes.now → ⊥) }
     ensures due { IfErr result (IsDue task.now.places bytes.now) }
-    ensures kept { IfErr result (λ e. (e ≡ fault.File) ⊎ Keeps (O.contents out.old) (O.contents out.new)) }
+    ensures kept { IfErr result (λ e. (e ≡ fault.File)
+        ⊎ Keeps (O.contents out.old) (O.contents out.new)) }
 {
     let verified = verified_in(alloc, bytes)?;
     let findings = findings_of(alloc, task, &verified)?;
@@ -44,10 +47,14 @@ fn findings_of<'a>(
     task: &Task,
     verified: &'a Verified<'a>,
 ) -> Result<Findings, Fault>
-    ensures found { IfOk result (FoundIn verified.now (places_for task.now.places verified.now) task.now.seeds) }
-    ensures permitted { IfOk result (λ _. IsForbidden verified.now (places_for task.now.places verified.now) → ⊥) }
-    ensures due { (bytes : List ℕ) → IsImageOf bytes verified.now → IfErr result (IsDue task.now.places bytes) }
-    ensures refused { (bytes : List ℕ) → IsImageOf bytes verified.now → IfErr result (λ e. status_of e ≡ 1 → CanBeDone verb.Run task.now.places bytes → ⊥) }
+    ensures found { IfOk result (FoundIn verified.now
+        (places_for task.now.places verified.now) task.now.limit task.now.seeds) }
+    ensures permitted { IfOk result (λ _. IsForbidden verified.now
+        (places_for task.now.places verified.now) → ⊥) }
+    ensures due { (bytes : List ℕ) → IsImageOf bytes verified.now
+        → IfErr result (IsDue task.now.places bytes) }
+    ensures refused { (bytes : List ℕ) → IsImageOf bytes verified.now
+        → IfErr result (λ e. status_of e ≡ 1 → CanBeDone verb.Run task.now.places bytes → ⊥) }
 {
     opened(alloc, task.places, verified)?;
     let mut findings = Findings::new(alloc);
@@ -67,12 +74,13 @@ fn output_by(
     seed: u64,
     limit: u64,
 ) -> Result<(Vec<u8>, bool), Fault>
-    ensures run { IfOk result (λ r. IsOutput world.old r.1 r.0.items) }
+    requires { world.old.stopped ≢ true }
+    ensures run { IfOk result (λ r. IsOutput world.old limit r.1 r.0.items) }
     ensures status { IfErr result (λ e. status_of e ≢ 1) }
 {
     let ended = match run_by(alloc, world, Schedule::Random(seed), limit) {
         Ok(()) => true,
-        Err(Halt::Limit) => false,
+        Err(Unfinished::Limit) => false,
         Err(why) => return Err(why.into()),
     };
     let mut output = Vec::new(alloc);
@@ -84,7 +92,8 @@ fn output_by(
 
 /// The outputs of some runs, each behind a line that says how often it came.
 fn print_findings<O: Write>(findings: &Findings, runs: u64, out: &mut O) -> Result<(), Fault>
-    ensures ok { OnOk result (Appends (O.contents out.old) (O.contents out.new) (findings_text runs findings.now)) }
+    ensures ok { OnOk result (Appends (O.contents out.old) (O.contents out.new)
+        (findings_text runs findings.now)) }
     ensures err { IfErr result (λ e. e ≡ fault.File) }
 {
     for finding in findings.list() {
@@ -100,7 +109,8 @@ fn print_findings<O: Write>(findings: &Findings, runs: u64, out: &mut O) -> Resu
 
 /// The line that says how often an output came.
 fn print_head<O: Write>(finding: &Finding, runs: u64, out: &mut O) -> Result<(), Fault>
-    ensures ok { OnOk result (Appends (O.contents out.old) (O.contents out.new) (head_of runs finding.now)) }
+    ensures ok { OnOk result (Appends (O.contents out.old) (O.contents out.new)
+        (head_of runs finding.now)) }
     ensures err { IfErr result (λ e. e ≡ fault.File) }
 {
     print_often(finding, runs, out)?;
@@ -111,7 +121,8 @@ fn print_head<O: Write>(finding: &Finding, runs: u64, out: &mut O) -> Result<(),
 
 /// How often an output came.
 fn print_often<O: Write>(finding: &Finding, runs: u64, out: &mut O) -> Result<(), Fault>
-    ensures ok { OnOk result (Appends (O.contents out.old) (O.contents out.new) (often runs finding.now)) }
+    ensures ok { OnOk result (Appends (O.contents out.old) (O.contents out.new)
+        (often runs finding.now)) }
     ensures err { IfErr result (λ e. e ≡ fault.File) }
 {
     let (count, seed) = (finding.count, finding.seed);

@@ -26,11 +26,16 @@ pub(crate) fn print_threaded<R: Threads + Wait + Sync, O: Write>(
     out: &mut O,
 ) -> Result<(), Fault>
     ensures done { IfOk result (λ _. CanBeDone verb.Run task.now.places bytes.now) }
-    ensures printed { OnOk result (Prints verb.Run task.now.json task.now.places bytes.now (O.contents out.old) (O.contents out.new)) }
-    ensures refused { IfErr result (λ e. status_of e ≡ 1 → CanBeDone verb.Run task.now.places bytes.now → ⊥) }
+    ensures printed { OnOk result (Prints verb.Run task.now.json task.now.places bytes.now
+        (O.contents out.old) (O.contents out.new)) }
+    ensures refused { IfErr result (λ e. status_of e ≡ 1
+        → CanBeDone verb.Run task.now.places bytes.now → ⊥) }
     ensures due { IfErr result (IsDue task.now.places bytes.now) }
-    ensures refused_early { IfErr result (λ e. status_of e ≡ 1 → Keeps (O.contents out.old) (O.contents out.new)) }
-    ensures stopped { IfErr result (λ e. status_of e ≡ 2 → LeavesStopped verb.Run task.now.json true task.now.places bytes.now (O.contents out.old) (O.contents out.new)) }
+    ensures refused_early { IfErr result (λ e. status_of e ≡ 1
+        → Keeps (O.contents out.old) (O.contents out.new)) }
+    ensures stopped { IfErr result (λ e. status_of e ≡ 2
+        → LeavesStopped verb.Run task.now.json true task.now.places bytes.now (O.contents out.old)
+        (O.contents out.new)) }
 {
     let verified = verified_in(alloc, bytes)?;
     let places = places_of(task.places, &verified);
@@ -50,8 +55,10 @@ fn print_told<O: Write>(
     json: bool,
     out: &mut O,
 ) -> Result<(), Fault>
-    ensures ok { OnOk result (Appends (O.contents out.old) (O.contents out.new) (all_lines json 0 (lines_told why.now))) }
-    ensures err { IfErr result (λ e. (e ≡ fault.File) ⊎ Keeps (O.contents out.old) (O.contents out.new)) }
+    ensures ok { OnOk result (Appends (O.contents out.old) (O.contents out.new)
+        (all_lines json 0 (lines_told why.now))) }
+    ensures err { IfErr result (λ e. (e ≡ fault.File)
+        ⊎ Keeps (O.contents out.old) (O.contents out.new)) }
     ensures status { IfErr result (λ e. status_of e ≢ 1) }
 {
     match why {

@@ -35,10 +35,12 @@ instr o a b c x = record { op = o; a = a; b = b; c = c; x = x }
 pub decoded_again : (i : Instr) → IsInstr i → decoded (spelling i) ≡ Ok i
 unfolding spelling decoded
 decoded_again i is =
-    ap (λ (o : Option Op). decoded_as o (spelling i)) (op_of-code_of i.op) ∙ ap (λ (x : ℕ). fitted (instr i.op i.a i.b i.c x)) (from_be_bytes-to_be_bytes_4 i.x is.x) ∙ fitted_fits i is.form
+    ap (λ (o : Option Op). decoded_as o (spelling i)) (op_of-code_of i.op)
+    ∙ ap (λ (x : ℕ). fitted (instr i.op i.a i.b i.c x)) (from_be_bytes-to_be_bytes_4 i.x is.x) ∙ fitted_fits i is.form
 
 -- the operation was found, and the four bytes of x are all that is left
-takes : (found : Option Op) (n a b c : ℕ) (rest : List ℕ) (i : Instr) → op_of n ≡ found → a < 256 → b < 256 → c < 256 → length rest ≡ 4 → ((k : ℕ) → slice_index rest k < 256) → decoded_as found (n ∷ a ∷ b ∷ c ∷ rest) ≡ Ok i → IsInstr i × (n ∷ a ∷ b ∷ c ∷ rest ≡ spelling i)
+takes : (found : Option Op) (n a b c : ℕ) (rest : List ℕ) (i : Instr) → op_of n ≡ found → a < 256 → b < 256 → c < 256 → length rest ≡ 4
+    → ((k : ℕ) → slice_index rest k < 256) → decoded_as found (n ∷ a ∷ b ∷ c ∷ rest) ≡ Ok i → IsInstr i × (n ∷ a ∷ b ∷ c ∷ rest ≡ spelling i)
 unfolding spelling
 takes None n a b c rest i found a_fits b_fits c_fits len rest_fits e = absurd cc
 takes (Some o) n a b c rest i found a_fits b_fits c_fits len rest_fits e =
@@ -49,14 +51,18 @@ takes (Some o) n a b c rest i found a_fits b_fits c_fits len rest_fits e =
     let code : code_of o ≡ n = code_of-op_of n o found in
     let x_bytes : to_be_bytes w32 x ≡ rest = be_bytes_4 rest x len rest_fits (ap (from_be_bytes w32) whole) in
     let x_fits : x < 2 ^ 32 = rw whole (omega (arith, rest_fits 0, rest_fits 1, rest_fits 2, rest_fits 3)) in
-    let spelled : n ∷ a ∷ b ∷ c ∷ rest ≡ spelling made = sym (ap (λ (k : ℕ). k ∷ a ∷ b ∷ c ∷ to_be_bytes w32 x) code ∙ ap (λ (l : List ℕ). n ∷ a ∷ b ∷ c ∷ l) x_bytes) in
-    let fact : IsInstr made × (n ∷ a ∷ b ∷ c ∷ rest ≡ spelling made) = (record { a = a_fits; b = b_fits; c = c_fits; x = x_fits; form = ok.0 }, spelled) in
+    let spelled : n ∷ a ∷ b ∷ c ∷ rest ≡ spelling made = sym (ap (λ (k : ℕ). k ∷ a ∷ b ∷ c ∷ to_be_bytes w32 x) code
+    ∙ ap (λ (l : List ℕ). n ∷ a ∷ b ∷ c ∷ l) x_bytes) in
+    let fact : IsInstr made × (n ∷ a ∷ b ∷ c ∷ rest ≡ spelling made) =
+    (record { a = a_fits; b = b_fits; c = c_fits; x = x_fits; form = ok.0 }, spelled) in
     subst (λ (j : Instr). IsInstr j × (n ∷ a ∷ b ∷ c ∷ rest ≡ spelling j)) ok.1 fact
 
-pub decoded_takes : (bytes : List ℕ) (i : Instr) → length bytes ≡ 8 → ((k : ℕ) → slice_index bytes k < 256) → decoded bytes ≡ Ok i → IsInstr i × (bytes ≡ spelling i)
+pub decoded_takes : (bytes : List ℕ) (i : Instr) → length bytes ≡ 8 → ((k : ℕ) → slice_index bytes k < 256) → decoded bytes ≡ Ok i
+    → IsInstr i × (bytes ≡ spelling i)
 unfolding decoded
 decoded_takes [] i len fits e = absurd (omega arith)
 decoded_takes (n ∷ []) i len fits e = absurd (omega arith)
 decoded_takes (n ∷ a ∷ []) i len fits e = absurd (omega arith)
 decoded_takes (n ∷ a ∷ b ∷ []) i len fits e = absurd (omega arith)
-decoded_takes (n ∷ a ∷ b ∷ c ∷ rest) i len fits e = takes (op_of n) n a b c rest i refl (fits 1) (fits 2) (fits 3) (omega arith) (λ k. fits (suc (suc (suc (suc k))))) e
+decoded_takes (n ∷ a ∷ b ∷ c ∷ rest) i len fits e = takes (op_of n) n a b c rest i refl (fits 1) (fits 2) (fits 3) (omega arith)
+    (λ k. fits (suc (suc (suc (suc k))))) e

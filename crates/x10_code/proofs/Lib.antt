@@ -1,4 +1,4 @@
 pub mod Operations
 pub mod Instructions
-pub mod Decoding
+pub mod CodecLemmas
 pub mod Unused

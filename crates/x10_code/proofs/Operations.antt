@@ -24,7 +24,8 @@ some_of x = Some x
 some_is : {X : Type 0} (x y : X) → some_of x ≡ some_of y → x ≡ y
 some_is x y e = cc
 
-first_passes : {X : Type 0} (p : X → Bool) (b : Bool) (y x : X) (other : Option X) → p y ≡ b → cond b (Some y) other ≡ Some x → (other ≡ Some x → p x ≡ true) → p x ≡ true
+first_passes : {X : Type 0} (p : X → Bool) (b : Bool) (y x : X) (other : Option X) → p y ≡ b → cond b (Some y) other ≡ Some x
+    → (other ≡ Some x → p x ≡ true) → p x ≡ true
 first_passes p true y x other passes e h = ap p (some_is x y (sym e)) ∙ passes
 first_passes p false y x other passes e h = h e
 
@@ -36,7 +37,8 @@ find_passes p (y ∷ ys) x e = first_passes p (p y) y x (find p ys) refl e (find
 contains_later : {X : Type 0} (y x : X) (ys : List X) → Contains ys x → Contains (y ∷ ys) x
 contains_later y x ys (k, below, there) = (suc k, omega arith, there)
 
-first_contains : {X : Type 0} (b : Bool) (y x : X) (ys : List X) (other : Option X) → cond b (Some y) other ≡ Some x → (other ≡ Some x → Contains ys x) → Contains (y ∷ ys) x
+first_contains : {X : Type 0} (b : Bool) (y x : X) (ys : List X) (other : Option X) → cond b (Some y) other ≡ Some x
+    → (other ≡ Some x → Contains ys x) → Contains (y ∷ ys) x
 first_contains true y x ys other e h = (0, omega arith, some_is y x e)
 first_contains false y x ys other e h = contains_later y x ys (h e)
 

@@ -51,8 +51,10 @@ apart n a b c x k l m y a_below b_below c_below x_below k_below l_below m_below 
     let none : bit_and n 0 ≡ 0 = and_zero n in
     let same : k ≡ 0 * 256 + k = omega arith in
     let one : bit_and (n * 256 + a) k ≡ bit_and a k = ap (bit_and (n * 256 + a)) same ∙ high ∙ omega (arith, none) in
-    let two : bit_and ((n * 256 + a) * 256 + b) (k * 256 + l) ≡ bit_and (n * 256 + a) k * 256 + bit_and b l = and_block 8 (n * 256 + a) k b l b_below l_below in
-    let three : bit_and (((n * 256 + a) * 256 + b) * 256 + c) ((k * 256 + l) * 256 + m) ≡ bit_and ((n * 256 + a) * 256 + b) (k * 256 + l) * 256 + bit_and c m
+    let two : bit_and ((n * 256 + a) * 256 + b) (k * 256 + l) ≡ bit_and (n * 256 + a) k * 256 + bit_and b l =
+    and_block 8 (n * 256 + a) k b l b_below l_below in
+    let three : bit_and (((n * 256 + a) * 256 + b) * 256 + c) ((k * 256 + l) * 256 + m)
+    ≡ bit_and ((n * 256 + a) * 256 + b) (k * 256 + l) * 256 + bit_and c m
     = and_block 8 ((n * 256 + a) * 256 + b) (k * 256 + l) c m c_below m_below in
     let four : bit_and ((((n * 256 + a) * 256 + b) * 256 + c) * 4294967296 + x) (((k * 256 + l) * 256 + m) * 4294967296 + y)
     ≡ bit_and (((n * 256 + a) * 256 + b) * 256 + c) ((k * 256 + l) * 256 + m) * 4294967296 + bit_and x y
@@ -74,7 +76,8 @@ none_in word n a b c x mask k l m y a_below b_below c_below x_below k_below l_be
 
 -- the bits of an instruction's operands that its operation doesn't use
 pub unused_fits : (o : Op) (word n a b c x : ℕ) → a < 256 → b < 256 → c < 256 → x < 4294967296
-    → word ≡ (((n * 256 + a) * 256 + b) * 256 + c) * 4294967296 + x → (bit_and word (unused_of (form_of o)) ≡ 0) ↔ IsTrue (fits_form (instr o a b c x))
+    → word ≡ (((n * 256 + a) * 256 + b) * 256 + c) * 4294967296 + x
+    → (bit_and word (unused_of (form_of o)) ≡ 0) ↔ IsTrue (fits_form (instr o a b c x))
 unused_fits o word n a b c x a_below b_below c_below x_below word_is =
     let a_fits = byte_fits (form_of o).a a a_below in
     let b_fits = byte_fits (form_of o).b b b_below in
@@ -83,11 +86,14 @@ unused_fits o word n a b c x a_below b_below c_below x_below word_is =
     let a_moves = moves (form_of o).a in
     let b_moves = moves (form_of o).b in
     let c_moves = moves (form_of o).c in
-    let each = none_in word n a b c x (unused_of (form_of o)) (bits_if (form_of o).a 255) (bits_if (form_of o).b 255) (bits_if (form_of o).c 255) (bits_if (form_of o).x 4294967295)
-    a_below b_below c_below x_below a_moves.3 b_moves.3 c_moves.3 (moves (form_of o).x).4 word_is (omega (arith, a_moves.0, b_moves.1, c_moves.2)) in (
+    let each = none_in word n a b c x (unused_of (form_of o)) (bits_if (form_of o).a 255) (bits_if (form_of o).b 255) (bits_if (form_of o).c 255)
+    (bits_if (form_of o).x 4294967295)
+    a_below b_below c_below x_below a_moves.3 b_moves.3 c_moves.3 (moves (form_of o).x).4 word_is
+    (omega (arith, a_moves.0, b_moves.1, c_moves.2)) in (
       λ none. let e = each.0 none in and_from _ _ (and_from _ _ (and_from _ _ (a_fits.0 e.0) (b_fits.0 e.1)) (c_fits.0 e.2)) (x_fits.0 e.3),
       λ fits.
-          let one = and_parts (fits_operand (form_of o).a a && fits_operand (form_of o).b b && fits_operand (form_of o).c c) (fits_operand (form_of o).x x) fits in
+          let one = and_parts (fits_operand (form_of o).a a && fits_operand (form_of o).b b && fits_operand (form_of o).c c)
+          (fits_operand (form_of o).x x) fits in
           let two = and_parts (fits_operand (form_of o).a a && fits_operand (form_of o).b b) (fits_operand (form_of o).c c) one.0 in
           let three = and_parts (fits_operand (form_of o).a a) (fits_operand (form_of o).b b) two.0 in
           each.1 (a_fits.1 three.0, b_fits.1 three.1, c_fits.1 two.1, x_fits.1 one.1),
@@ -99,17 +105,38 @@ last_four bytes i below = get_or-take 4 (drop 4 bytes) i 0 below ∙ get_or-drop
 
 pub last_below : (bytes : List ℕ) → ((k : ℕ) → slice_index bytes k < 256) → big_number 4 (take 4 (drop 4 bytes)) < 4294967296
 last_below bytes fits =
-    omega (arith, last_four bytes 0 (omega arith), last_four bytes 1 (omega arith), last_four bytes 2 (omega arith), last_four bytes 3 (omega arith), fits 4, fits 5, fits 6, fits 7)
+    omega (
+      arith,
+      last_four bytes 0 (omega arith),
+      last_four bytes 1 (omega arith),
+      last_four bytes 2 (omega arith),
+      last_four bytes 3 (omega arith),
+      fits 4,
+      fits 5,
+      fits 6,
+      fits 7,
+    )
 
 -- a first byte, three more and four of x, as one number
 as_one : (bytes : List ℕ) (word x : ℕ) → word ≡ big_number 8 bytes → x ≡ big_number 4 (take 4 (drop 4 bytes))
     → word ≡ (((slice_index bytes 0 * 256 + slice_index bytes 1) * 256 + slice_index bytes 2) * 256 + slice_index bytes 3) * 4294967296 + x
 as_one bytes word x word_is x_is =
-    omega (arith, word_is, x_is, last_four bytes 0 (omega arith), last_four bytes 1 (omega arith), last_four bytes 2 (omega arith), last_four bytes 3 (omega arith))
+    omega (
+      arith,
+      word_is,
+      x_is,
+      last_four bytes 0 (omega arith),
+      last_four bytes 1 (omega arith),
+      last_four bytes 2 (omega arith),
+      last_four bytes 3 (omega arith),
+    )
 
 -- whether eight bytes fit their operation's form is one look at them as one number
-pub read_fits : (bytes : List ℕ) (o : Op) (word mask x : ℕ) → ((k : ℕ) → slice_index bytes k < 256) → word ≡ big_number 8 bytes → x ≡ big_number 4 (take 4 (drop 4 bytes))
-    → mask ≡ unused_of (form_of o) → (bit_and word mask ≡ 0) ↔ IsTrue (fits_form (instr o (slice_index bytes 1) (slice_index bytes 2) (slice_index bytes 3) x))
+pub read_fits : (bytes : List ℕ) (o : Op) (word mask x : ℕ) → ((k : ℕ) → slice_index bytes k < 256) → word ≡ big_number 8 bytes
+    → x ≡ big_number 4 (take 4 (drop 4 bytes))
+    → mask ≡ unused_of (form_of o) → (bit_and word mask ≡ 0) ↔ IsTrue
+    (fits_form (instr o (slice_index bytes 1) (slice_index bytes 2) (slice_index bytes 3) x))
 read_fits bytes o word mask x fits word_is x_is mask_is =
     subst (λ m. (bit_and word m ≡ 0) ↔ IsTrue (fits_form (instr o (slice_index bytes 1) (slice_index bytes 2) (slice_index bytes 3) x))) (sym mask_is)
-    (unused_fits o word (slice_index bytes 0) (slice_index bytes 1) (slice_index bytes 2) (slice_index bytes 3) x (fits 1) (fits 2) (fits 3) (subst (λ n. n < 4294967296) (sym x_is) (last_below bytes fits)) (as_one bytes word x word_is x_is))
+    (unused_fits o word (slice_index bytes 0) (slice_index bytes 1) (slice_index bytes 2) (slice_index bytes 3) x (fits 1) (fits 2) (fits 3)
+    (subst (λ n. n < 4294967296) (sym x_is) (last_below bytes fits)) (as_one bytes word x word_is x_is))

@@ -11,7 +11,8 @@ SpelledIsDecoded = (i : Instr) → IsInstr i → decoded (spelling i) ≡ Ok i
 
 -- what is decoded was spelled so
 abbrev pub DecodedWasSpelled : Type 0
-DecodedWasSpelled = (bytes : List ℕ) (i : Instr) → length bytes ≡ 8 → ((k : ℕ) → slice_index bytes k < 256) → decoded bytes ≡ Ok i
+DecodedWasSpelled = (bytes : List ℕ) (i : Instr) → length bytes ≡ 8
+    → ((k : ℕ) → slice_index bytes k < 256) → decoded bytes ≡ Ok i
     → IsInstr i × (bytes ≡ spelling i)
 
 -- no two operations share a code

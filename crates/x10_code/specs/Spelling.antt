@@ -18,7 +18,8 @@ fits_operand _ n = true
 
 -- no operand says what its operation doesn't ask
 abbrev pub fits_form : Instr → Bool
-fits_form i = fits_operand (form_of i.op).a i.a && fits_operand (form_of i.op).b i.b && fits_operand (form_of i.op).c i.c && fits_operand (form_of i.op).x i.x
+fits_form i = fits_operand (form_of i.op).a i.a && fits_operand (form_of i.op).b i.b && fits_operand
+    (form_of i.op).c i.c && fits_operand (form_of i.op).x i.x
 
 -- the bits of an operand, where the form doesn't use it
 abbrev pub bits_if : Operand → ℕ → ℕ
@@ -27,7 +28,8 @@ bits_if _ bits = 0
 
 -- the bits that have to be 0 in the eight bytes as one number, the first highest
 abbrev pub unused_of : Form → ℕ
-unused_of f = bits_if f.a 0x00ff000000000000 + bits_if f.b 0x0000ff0000000000 + bits_if f.c 0x000000ff00000000 + bits_if f.x 0x00000000ffffffff
+unused_of f = bits_if f.a 0x00ff000000000000 + bits_if f.b 0x0000ff0000000000 + bits_if f.c
+    0x000000ff00000000 + bits_if f.x 0x00000000ffffffff
 
 -- the instructions that have a spelling
 pub record IsInstr (i : Instr) : Type 0 where
@@ -51,7 +53,13 @@ fitted i = if fits_form i then Ok i else Err UnusedNotZero
 abbrev pub decoded_as : Option Op → List ℕ → Result Instr CodeFault
 decoded_as None bytes = Err UnknownOp
 decoded_as (Some o) bytes = fitted
-    (record { op = o; a = slice_index bytes 1; b = slice_index bytes 2; c = slice_index bytes 3; x = from_be_bytes w32 (take 4 (drop 4 bytes)) })
+    (record {
+      op = o;
+      a = slice_index bytes 1;
+      b = slice_index bytes 2;
+      c = slice_index bytes 3;
+      x = from_be_bytes w32 (take 4 (drop 4 bytes));
+    })
 
 -- the instruction that eight bytes spell, or their first fault
 unfoldable pub decoded : List ℕ → Result Instr CodeFault

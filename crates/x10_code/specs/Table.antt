@@ -21,7 +21,12 @@ abbrev pub form : (a b c x : Operand) → Form
 form a b c x = record { a = a; b = b; c = c; x = x }
 
 abbrev pub row : ℕ → List ℕ → Group → (a b c x : Operand) → Row
-row code name group a b c x = record { code = code; name = name; group = group; form = form a b c x }
+row code name group a b c x = record {
+  code = code;
+  name = name;
+  group = group;
+  form = form a b c x;
+}
 
 abbrev pub row_of : Op → Row
 row_of op.Intk = row 0x01 (codes "INTK") Numbers Register Unused Unused Int
@@ -85,9 +90,12 @@ form_of o = (row_of o).form
 
 -- every operation, by rising code
 abbrev pub operations : List Op
-operations = op.Intk ∷ op.Textk ∷ op.Move ∷ op.Add ∷ op.Sub ∷ op.Mul ∷ op.Div ∷ op.Rem ∷ op.Lt ∷ op.Eq ∷ op.Jmp ∷ op.Jz ∷ op.Loop ∷
-    op.Endl ∷ op.Print ∷ op.Here ∷ op.Placek ∷ op.Placen ∷ op.Placei ∷ op.Nextp ∷ op.Count ∷ op.Home ∷ op.Gnew ∷ op.Gopen ∷ op.Ifhere ∷
-    op.Ifsame ∷ op.New ∷ op.Get ∷ op.Put ∷ op.Null ∷ op.Ifobj ∷ op.Rail ∷ op.Rget ∷ op.Rset ∷ op.Rlen ∷ op.Tlen ∷ op.Tcat ∷ op.Call ∷
+operations = op.Intk ∷ op.Textk ∷ op.Move ∷ op.Add ∷ op.Sub ∷ op.Mul ∷ op.Div ∷ op.Rem ∷ op.Lt
+    ∷ op.Eq ∷ op.Jmp ∷ op.Jz ∷ op.Loop ∷
+    op.Endl ∷ op.Print ∷ op.Here ∷ op.Placek ∷ op.Placen ∷ op.Placei ∷ op.Nextp ∷ op.Count ∷ op.Home
+    ∷ op.Gnew ∷ op.Gopen ∷ op.Ifhere ∷
+    op.Ifsame ∷ op.New ∷ op.Get ∷ op.Put ∷ op.Null ∷ op.Ifobj ∷ op.Rail ∷ op.Rget ∷ op.Rset
+    ∷ op.Rlen ∷ op.Tlen ∷ op.Tcat ∷ op.Call ∷
     op.Ret ∷ op.Async ∷ op.At ∷ op.Ata ∷ op.Finb ∷ op.Fine ∷ op.Atomb ∷ op.Atome ∷ []
 
 -- the operation with a name

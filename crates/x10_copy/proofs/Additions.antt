@@ -1,6 +1,7 @@
 -- Parts added to a heap one after another.
 use Rattle.std.proofs.Common.{◌≡◌, ℕ, zero, suc, ◌+◌, ◌<◌, ◌≤◌, List, [], ◌∷◌, ◌++◌, length, set, take, drop, map, Some, slice_get, refl, sym, ap, subst, ◌∙◌, inl, inr, arith, append_assoc, append-nil, add-one, length-append}
 use Rattle.std.proofs.lemmas.List.{drop_all, map_push, take_more_set}
+use Rattle.x10_kinds.specs.declared.limit.Limit.{Limit}
 use Rattle.x10_kinds.specs.declared.stop.Stop.{Stop}
 use Rattle.x10_heap.specs.Heaps.{HeapState, ObjectState, with_text, with_rail, Refuses}
 use Rattle.x10_copy.specs.Arrived.{with_texts, with_rails, with_objects, IsLonger, Stops}
@@ -111,7 +112,8 @@ rails_start h rails = record { left = refl; longer = longer_same h; count = omeg
 pub objects_start : (h : HeapState) (objects : List ObjectState) → ObjectsLeft h h objects 0
 objects_start h objects = record { left = refl; longer = longer_same h; count = omega arith }
 
-pub texts_next : (h k new : HeapState) (texts : List (List ℕ)) (i : ℕ) (t : List ℕ) → TextsLeft h k texts i → slice_get texts i ≡ Some t → new ≡ with_text k t
+pub texts_next : (h k new : HeapState) (texts : List (List ℕ)) (i : ℕ) (t : List ℕ) → TextsLeft h k texts i → slice_get texts i ≡ Some t
+    → new ≡ with_text k t
     → TextsLeft h new texts (i + 1)
 texts_next h k new texts i t l e is = rw is (record {
   left = l.left ∙ ap (λ (ts : List (List ℕ)). record k { texts = ts }) (one_more k.texts texts i t e);
@@ -119,7 +121,8 @@ texts_next h k new texts i t l e is = rw is (record {
   count = omega (arith, length-append k.texts (t ∷ []), l.count);
 })
 
-pub rails_next : (h k new : HeapState) (rails : List (List ℕ)) (i : ℕ) (r : List ℕ) → RailsLeft h k rails i → slice_get rails i ≡ Some r → new ≡ with_rail k r
+pub rails_next : (h k new : HeapState) (rails : List (List ℕ)) (i : ℕ) (r : List ℕ) → RailsLeft h k rails i → slice_get rails i ≡ Some r
+    → new ≡ with_rail k r
     → RailsLeft h new rails (i + 1)
 rails_next h k new rails i r l e is = rw is (record {
   left = l.left ∙ ap (λ (rs : List (List ℕ)). record k { rails = rs }) (one_more k.rails rails i r e);
@@ -127,7 +130,8 @@ rails_next h k new rails i r l e is = rw is (record {
   count = omega (arith, length-append k.rails (r ∷ []), l.count);
 })
 
-pub objects_next : (h k new : HeapState) (objects : List ObjectState) (i : ℕ) (o : ObjectState) → ObjectsLeft h k objects i → slice_get objects i ≡ Some o
+pub objects_next : (h k new : HeapState) (objects : List ObjectState) (i : ℕ) (o : ObjectState) → ObjectsLeft h k objects i
+    → slice_get objects i ≡ Some o
     → new ≡ with_objects k (o ∷ []) → ObjectsLeft h new objects (i + 1)
 objects_next h k new objects i o l e is = rw is (record {
   left = l.left ∙ ap (λ (os : List ObjectState). record k { objects = os }) (one_more k.objects objects i o e);
@@ -145,11 +149,12 @@ pub objects_end : (h k : HeapState) (objects : List ObjectState) (i : ℕ) → O
 objects_end h k objects i l le = sym (l.left ∙ ap (λ (os : List ObjectState). record k { objects = os }) (none_more k.objects objects i le))
 
 -- there was no room for one, and so none for all
-pub stops : (limit start count all i : ℕ) (why : Stop) → count ≡ start + i → i < all → Refuses count limit why → Stops limit start all why
+pub stops : (limit : Limit) (start count all i : ℕ) (why : Stop) → count ≡ start + i → i < all → Refuses count limit why → Stops limit start all why
 stops limit start count all i why e lt (inl h) = inl h
 stops limit start count all i why e lt (inr h) = inr (h.0, omega (arith, h.1, e, lt))
 
-pub stops_at : (limit start count all i : ℕ) (why : Stop) → count ≡ start + i → i < all → Stops limit count 1 why → Stops limit start all why
+pub stops_at : (limit : Limit) (start count all i : ℕ) (why : Stop) → count ≡ start + i → i < all → Stops limit count 1 why
+    → Stops limit start all why
 stops_at limit start count all i why e lt (inl h) = inl h
 stops_at limit start count all i why e lt (inr h) = inr (h.0, omega (arith, h.1, e, lt))
 
@@ -165,13 +170,16 @@ taken (a ∷ xs) (suc i) x e = ap (λ (l : List _). a ∷ l) (taken xs i x e)
 take_step : {X : Type 0} (xs : List X) (i : ℕ) (x : X) → slice_get xs i ≡ Some x → take (i + 1) xs ≡ take i xs ++ x ∷ []
 take_step xs i x e = subst (λ (m : ℕ). take m xs ≡ take i xs ++ x ∷ []) (sym (add-one i)) (taken xs i x e)
 
-pub mapped_next : {X Y : Type 0} (f : X → Y) (xs : List X) (i : ℕ) (x : X) (y : Y) (now new : List Y) → now ≡ map f (take i xs) → slice_get xs i ≡ Some x
+pub mapped_next : {X Y : Type 0} (f : X → Y) (xs : List X) (i : ℕ) (x : X) (y : Y) (now new : List Y) → now ≡ map f (take i xs)
+    → slice_get xs i ≡ Some x
     → y ≡ f x → new ≡ now ++ y ∷ [] → new ≡ map f (take (i + 1) xs)
 mapped_next f xs i x y now new h e is ne =
-    ne ∙ ap (λ (l : List _). l ++ y ∷ []) h ∙ ap (λ (z : _). map f (take i xs) ++ z ∷ []) is ∙ sym (map_push f (take i xs) x) ∙ ap (λ (l : List _). map f l)
+    ne ∙ ap (λ (l : List _). l ++ y ∷ []) h ∙ ap (λ (z : _). map f (take i xs) ++ z ∷ []) is ∙ sym (map_push f (take i xs) x)
+    ∙ ap (λ (l : List _). map f l)
     (sym (take_step xs i x e))
 
 -- the same in a list that is written
-pub written_next : {X Y : Type 0} (f : X → Y) (xs : List X) (i : ℕ) (x : X) (y : Y) (ys : List Y) → take i ys ≡ map f (take i xs) → slice_get xs i ≡ Some x
+pub written_next : {X Y : Type 0} (f : X → Y) (xs : List X) (i : ℕ) (x : X) (y : Y) (ys : List Y) → take i ys ≡ map f (take i xs)
+    → slice_get xs i ≡ Some x
     → y ≡ f x → i < length ys → take (i + 1) (set ys i y) ≡ map f (take (i + 1) xs)
 written_next f xs i x y ys h e is lt = mapped_next f xs i x y (take i ys) (take (i + 1) (set ys i y)) h e is (take_more_set ys i y lt)

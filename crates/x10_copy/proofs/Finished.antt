@@ -16,10 +16,11 @@ use Rattle.x10_frame.specs.Writing.{head_bytes, sizes_bytes, draft}
 use Rattle.x10_copy.specs.Names.{Names, tables_in, items_of, AreWords, AreSound}
 use Rattle.x10_copy.specs.Graphs.{text_at, rail_at, nodes_of, graph_of, IsSoundAt}
 use Rattle.x10_copy.specs.Walks.{start_of, Walked}
-use Rattle.x10_copy.proofs.Putting.{items_count}
+use Rattle.x10_copy.proofs.WrittenLemmas.{items_count}
 use Rattle.x10_copy.proofs.OfKinds.{fit_their_kinds}
 
-pub drafted : (h : Head) (classes : List (List Kind)) (heap : HeapState) (n : Names) (kinds : List Kind) (words : List ℕ) (roots texts rails nodes : ℕ) (w1 w2 w3 w4 w5 : List ℕ) → AreWords kinds words
+pub drafted : (h : Head) (classes : List (List Kind)) (heap : HeapState) (n : Names) (kinds : List Kind) (words : List ℕ)
+    (roots texts rails nodes : ℕ) (w1 w2 w3 w4 w5 : List ℕ) → AreWords kinds words
     → roots ≡ length words → texts ≡ length n.texts → rails ≡ length n.rails → nodes ≡ length n.objects
     → w1 ≡ head_bytes Wide h ++ sizes_bytes Wide roots texts rails nodes → w2 ≡ w1 ++ flat_map (item_bytes Wide) (items_of n kinds words)
     → w3 ≡ w2 ++ flat_map blob_bytes (map (text_at heap) n.texts)
@@ -37,7 +38,8 @@ pub tables_are : (classes : List (List Kind)) (heap : HeapState) (n : Names) (ki
     → tables_of (graph_of classes heap n kinds words) ≡ tables_in n
 tables_are classes heap n kinds words = rw (length-map n.texts (text_at heap), length-map n.rails (rail_at heap), length-map n.objects _) refl
 
-graph_fits : (classes : List (List Kind)) (places : ℕ) (heap : HeapState) (kinds : List Kind) (words : List ℕ) (most : ℕ) (n : Names) → AreWords kinds words
+graph_fits : (classes : List (List Kind)) (places : ℕ) (heap : HeapState) (kinds : List Kind) (words : List ℕ) (most : ℕ) (n : Names)
+    → AreWords kinds words
     → length words ≤ most
     → length n.texts ≤ MOST_WIDE → length n.rails ≤ MOST_WIDE → length n.objects ≤ MOST_WIDE → AllByRecursion FitsText (map (text_at heap) n.texts)
     → AllByRecursion FitsRail (map (rail_at heap) n.rails)
@@ -46,7 +48,8 @@ graph_fits classes places heap kinds words most n ok few ft fl fo texts rails h 
     let e = tables_are classes heap n kinds words in
     let all : take (length n.objects) n.objects ≡ n.objects = take_all (length n.objects) n.objects (omega arith) in
     let nodes : FitsEach (FitsNode places (tables_in n)) next_turn (start_of n kinds words) (nodes_of classes heap n n.objects) = rw all at h.nodes in
-    let last : after_all next_turn (start_of n kinds words) (nodes_of classes heap n n.objects) ≡ turn (length n.objects) (tables_in n) = rw all at h.turn_is
+    let last : after_all next_turn (start_of n kinds words) (nodes_of classes heap n n.objects) ≡ turn (length n.objects) (tables_in n) =
+    rw all at h.turn_is
     in
     record {
       count = omega (arith, items_count n kinds words ok, few);
@@ -61,9 +64,11 @@ graph_fits classes places heap kinds words most n ok few ft fl fo texts rails h 
       used = ap (λ (t : Turn). t.used) last ∙ sym e;
     }
 
-pub captured_is : (classes : List (List Kind)) (places : ℕ) (heap : HeapState) (kinds : List Kind) (words : List ℕ) (head : Head) (bytes : List ℕ) (n : Names)
+pub captured_is : (classes : List (List Kind)) (places : ℕ) (heap : HeapState) (kinds : List Kind) (words : List ℕ) (head : Head) (bytes : List ℕ)
+    (n : Names)
     → AreWords kinds words → length words ≤ most_roots head
-    → (length n.texts ≤ MOST_WIDE) × (length n.rails ≤ MOST_WIDE) × (length n.objects ≤ MOST_WIDE) → AllByRecursion FitsText (map (text_at heap) n.texts)
+    → (length n.texts ≤ MOST_WIDE) × (length n.rails ≤ MOST_WIDE) × (length n.objects ≤ MOST_WIDE)
+    → AllByRecursion FitsText (map (text_at heap) n.texts)
     → AllByRecursion FitsRail (map (rail_at heap) n.rails)
     → Walked classes places heap kinds words (length n.objects) n → bytes ≡ spelling Wide (with_graph head (graph_of classes heap n kinds words))
     → AreSound places heap kinds words → ((p : ℕ) → p < length heap.objects → IsSoundAt classes places heap p)

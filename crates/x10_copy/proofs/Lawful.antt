@@ -23,8 +23,8 @@ use Rattle.x10_copy.specs.References.{OfReference}
 use Rattle.x10_copy.specs.Arrived.{HaveHomes, FitKinds}
 use Rattle.x10_copy.specs.Laws.{StandingIsSound, KnowsExports, CapturesFit, FittingIsTaken, ArrivalsFit, FaultsAreMisfits, FittingStays}
 use Rattle.x10_copy.specs.Fitting.{all_fit}
-use Rattle.x10_copy.proofs.Telling.{named_tells, roots_tell}
-use Rattle.x10_copy.proofs.Standing.{words_sound, heap_sound}
+use Rattle.x10_copy.proofs.TestLemmas.{named_tells, roots_tell}
+use Rattle.x10_copy.proofs.SoundHeaps.{words_sound, heap_sound}
 
 -- ---- what stands is sound
 
@@ -110,7 +110,8 @@ arrivals_fit setting place here home heap slots s e =
     )
 
 -- which of the two it is can be told
-kinds_misfit : (setting : Setting) (place : places.Place) (here home : ℕ) (slots : List Slot) (g : Graph) (b : Bool) → all_fit g (kinds_of slots) g.roots ≡ b
+kinds_misfit : (setting : Setting) (place : places.Place) (here home : ℕ) (slots : List Slot) (g : Graph) (b : Bool)
+    → all_fit g (kinds_of slots) g.roots ≡ b
     → (FitKinds setting.program slots (snapshot_of g) → ⊥)
     → (FitsPlace setting here place (snapshot_of g) → ⊥) ⊎ (FitSlots (IsOfKindIn (snapshot_of g)) home (snapshot_of g).roots slots → ⊥)
 kinds_misfit setting place here home slots g true e h =
@@ -138,7 +139,8 @@ export_stays old new id r None e keeps h =
     let f : slice_get (map export_as old) id ≡ None = slice_get-map export_as old id ∙ ap (λ (o : Option Export). option_map export_as o) e in
     absurd cc
 export_stays old new id r (Some x) e keeps h =
-    let f : slice_get (map export_as old) id ≡ Some (export_as x) = slice_get-map export_as old id ∙ ap (λ (o : Option Export). option_map export_as o) e in
+    let f : slice_get (map export_as old) id ≡ Some (export_as x) =
+    slice_get-map export_as old id ∙ ap (λ (o : Option Export). option_map export_as o) e in
     slice_get-map export_as new id ∙ ap (λ (o : Option Export). option_map export_as o) (keeps id x e) ∙ sym f ∙ h
 
 still_exported : (here : ℕ) (old new : List Export) (v : Value)

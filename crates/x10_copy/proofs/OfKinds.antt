@@ -17,7 +17,7 @@ use Rattle.x10_copy.specs.Graphs.{kinds_at, object_at, node_of, rail_at, graph_o
 use Rattle.x10_copy.specs.Captured.{FitTheirKinds}
 use Rattle.x10_copy.specs.Walks.{Walked}
 use Rattle.x10_copy.proofs.Position.{number_there}
-use Rattle.x10_copy.proofs.Putting.{object_found}
+use Rattle.x10_copy.proofs.WrittenLemmas.{object_found}
 
 module _ (classes : List (List Kind)) (places : ℕ) (heap : HeapState) (n : Names) (kinds : List Kind) (words : List ℕ) where
   abbrev graph : Graph
@@ -33,7 +33,8 @@ module _ (classes : List (List Kind)) (places : ℕ) (heap : HeapState) (n : Nam
       ∙ ap (λ (o : Option Node). option_map (marshalling.node_of graph.texts) o)
       (slice_get-map f n.objects k ∙ ap (λ (o : Option ℕ). option_map f o) (slice_get-get_or n.objects k 0 lt))
 
-  object_kind : (c w p : ℕ) → IsObject heap c w → w ≡ p + 1 → number n.objects p < length n.objects → IsNodeOf (snapshot_of graph) (number n.objects p) c
+  object_kind : (c w p : ℕ) → IsObject heap c w → w ≡ p + 1 → number n.objects p < length n.objects
+      → IsNodeOf (snapshot_of graph) (number n.objects p) c
   object_kind c w p o e lt =
       let same : o.number ≡ p = omega (arith, o.word_is, e) in
       let there : get_or n.objects (number n.objects p) 0 ≡ o.number = number_there n.objects p lt ∙ sym same in
@@ -77,5 +78,9 @@ module _ (classes : List (List Kind)) (places : ℕ) (heap : HeapState) (n : Nam
         let is : node_at k ≡ node = (let g : slice_get (snapshot_of graph).nodes k ≡ Some (node_at k) = node_is k lt in cc) in
         let every : take (length n.objects) n.objects ≡ n.objects = take_all (length n.objects) n.objects (omega arith) in
         let found = object_found classes heap n n.objects k (rw every at h.done) lt in
-        rw (← is) (kinds_at classes o.class, slice_get-get_or classes o.class [] s.class, all_kinds (kinds_at classes o.class) o.fields s.words found);
+        rw (← is) (
+          kinds_at classes o.class,
+          slice_get-get_or classes o.class [] s.class,
+          all_kinds (kinds_at classes o.class) o.fields s.words found,
+        );
   }

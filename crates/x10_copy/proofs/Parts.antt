@@ -27,7 +27,11 @@ two_places xs x i j d new li lj e = elim (cases_lt i (length xs)) [
   | inl a ↦ elim (cases_lt j (length xs)) [
     | inl b ↦ d i j (get_or xs i 0) (slice_get-get_or xs i 0 a)
         (slice_get-get_or xs j 0 b ∙ ap Some (sym (get_or_append_left xs (x ∷ []) 0 j b) ∙ sym e ∙ get_or_append_left xs (x ∷ []) 0 i a))
-    | inr b ↦ absurd (omega (arith, number_at xs i x a (sym (get_or_append_left xs (x ∷ []) 0 i a) ∙ e ∙ get_or_push xs x 0 j (omega (arith, lj, b))), new))
+    | inr b ↦ absurd (omega (
+      arith,
+      number_at xs i x a (sym (get_or_append_left xs (x ∷ []) 0 i a) ∙ e ∙ get_or_push xs x 0 j (omega (arith, lj, b))),
+      new,
+    ))
   ]
   | inr a ↦ elim (cases_lt j (length xs)) [
     | inl b ↦ absurd (omega (

@@ -75,18 +75,21 @@ added xs x = elim (cases_lt (number xs x) (length xs)) [
 
 -- ---- parts with numbers
 
-pub numbered_at : (places parts : List ℕ) (k part : ℕ) → AreNumbered places parts → k < length parts → get_or parts k 0 ≡ part → get_or places part 0 ≡ k
+pub numbered_at : (places parts : List ℕ) (k part : ℕ) → AreNumbered places parts → k < length parts → get_or parts k 0 ≡ part
+    → get_or places part 0 ≡ k
 numbered_at places parts k part h lt e = ap (λ (p : ℕ). get_or places p 0) (sym e) ∙ h.back k lt
 
 -- a number is the one under which the part stands
-pub number_is : (places parts : List ℕ) (part : ℕ) → AreNumbered places parts → number parts part < length parts → get_or places part 0 ≡ number parts part
+pub number_is : (places parts : List ℕ) (part : ℕ) → AreNumbered places parts → number parts part < length parts
+    → get_or places part 0 ≡ number parts part
 number_is places parts part h lt = numbered_at places parts (number parts part) part h lt (number_there parts part lt)
 
 pub place_there : (places parts : List ℕ) (part : ℕ) → AreNumbered places parts → number parts part < length parts → part < length places
 place_there places parts part h lt = subst (λ (p : ℕ). p < length places) (number_there parts part lt) (h.there (number parts part) lt)
 
 -- the test's three outcomes
-pub past_places : (places parts : List ℕ) (part : ℕ) → AreNumbered places parts → length places ≤ part → false ≡ ltb (number parts part) (length parts)
+pub past_places : (places parts : List ℕ) (part : ℕ) → AreNumbered places parts → length places ≤ part
+    → false ≡ ltb (number parts part) (length parts)
 past_places places parts part h le = elim (cases_lt (number parts part) (length parts)) [
   | inl lt ↦ absurd (omega (arith, place_there places parts part h lt))
   | inr ge ↦ sym (le-ltb (number parts part) (length parts) ge)

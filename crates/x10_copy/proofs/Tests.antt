@@ -31,7 +31,8 @@ pairs_next f all xs ys i x y h e g t =
 
 pub pairs_fail : {X Y : Type 0} (f : X → Y → Bool) (all : Bool) (xs : List X) (ys : List Y) (i : ℕ) (x : X) (y : Y)
     → all ≡ pairs_pass f (drop i xs) (drop i ys) → slice_get xs i ≡ Some x → slice_get ys i ≡ Some y → f x y ≡ false → false ≡ all
-pairs_fail f all xs ys i x y h e g t = sym (h ∙ pairs_step f xs ys i x y e g ∙ ap (λ (b : Bool). b && pairs_pass f (drop (suc i) xs) (drop (suc i) ys)) t)
+pairs_fail f all xs ys i x y h e g t = sym (h ∙ pairs_step f xs ys i x y e g
+    ∙ ap (λ (b : Bool). b && pairs_pass f (drop (suc i) xs) (drop (suc i) ys)) t)
 
 pub pairs_end : {X Y : Type 0} (f : X → Y → Bool) (all : Bool) (xs : List X) (ys : List Y) (i : ℕ) → all ≡ pairs_pass f (drop i xs) (drop i ys)
     → length xs ≤ i → length ys ≤ i → true ≡ all

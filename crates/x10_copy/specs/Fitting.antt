@@ -47,7 +47,8 @@ class_fits g (Some kinds) items = all_fit g kinds items
 
 -- each node has the fields of its class
 abbrev pub nodes_fit : List (List Kind) → Graph → List Node → Bool
-nodes_fit classes g nodes = each_passes (λ n. class_fits g (slice_get classes n.class) n.fields) nodes
+nodes_fit classes g nodes = each_passes (λ n. class_fits g (slice_get classes n.class) n.fields)
+    nodes
 
 -- the value is a global reference with this home
 abbrev pub has_home : ℕ → Item → Bool
@@ -63,7 +64,8 @@ have_homes at slots items = pairs_pass (home_fits at) slots items
 
 -- a global reference with its home here names an export of its class
 abbrev pub is_exported : ℕ → List Export → Item → Bool
-is_exported here exports (RefItem home id class) = if home == here then has_class (slice_get exports id) class else true
+is_exported here exports (RefItem home id class) =
+    if home == here then has_class (slice_get exports id) class else true
 is_exported here exports _ = true
 
 abbrev pub are_exported : ℕ → List Export → List Item → Bool

@@ -23,7 +23,8 @@ rail_at heap p = slice_index_or heap.rails p []
 
 -- the names once the words of an object with this number were met
 abbrev pub noted_object : List (List Kind) → HeapState → Names → ℕ → Names
-noted_object classes heap n p = noted_all n (kinds_at classes (object_at heap p).class) (object_at heap p).fields
+noted_object classes heap n p = noted_all n (kinds_at classes (object_at heap p).class)
+    (object_at heap p).fields
 
 -- the words of the object with this number are those of its class
 pub record IsWordy (classes : List (List Kind)) (heap : HeapState) (p : ℕ) : Type 0 where
@@ -33,12 +34,16 @@ pub record IsWordy (classes : List (List Kind)) (heap : HeapState) (p : ℕ) : T
 
 -- the words of each object that has a name are those of its class, which has at most 16 fields
 abbrev pub AreWordy : List (List Kind) → HeapState → Names → Type 0
-AreWordy classes heap n = (k : ℕ) → k < length n.objects → IsWordy classes heap (slice_index n.objects k) ×
+AreWordy classes heap n = (k : ℕ) → k < length n.objects
+    → IsWordy classes heap (slice_index n.objects k) ×
     (length (kinds_at classes (object_at heap (slice_index n.objects k)).class) ≤ 16)
 
 -- an object as a node, with what its words are by the kinds of its class
 abbrev pub node_of : List (List Kind) → Names → ObjectState → Node
-node_of classes n o = record { class = o.class; fields = items_of n (kinds_at classes o.class) o.fields }
+node_of classes n o = record {
+  class = o.class;
+  fields = items_of n (kinds_at classes o.class) o.fields;
+}
 
 -- the nodes of the objects with these numbers
 abbrev pub nodes_of : List (List Kind) → HeapState → Names → List ℕ → List Node
@@ -60,14 +65,17 @@ pub record AreOnce (n : Names) : Type 0 where
   pub objects : AreDistinct n.objects
 
 -- the object with this number has sound words for the kinds of its class, at most 16
-pub record IsSoundAt (classes : List (List Kind)) (places : ℕ) (heap : HeapState) (p : ℕ) : Type 0 where
+pub record IsSoundAt (classes : List (List Kind)) (places : ℕ) (heap : HeapState)
+    (p : ℕ) : Type 0 where
   pub class : (object_at heap p).class < length classes
   pub small : (object_at heap p).class < 2 ^ 16
   pub count : length (kinds_at classes (object_at heap p).class) ≤ 16
-  pub words : AreSound places heap (kinds_at classes (object_at heap p).class) (object_at heap p).fields
+  pub words : AreSound places heap (kinds_at classes (object_at heap p).class)
+      (object_at heap p).fields
 
 abbrev pub IsSoundHeap : List (List Kind) → ℕ → HeapState → Type 0
-IsSoundHeap classes places heap = (p : ℕ) → p < length heap.objects → IsSoundAt classes places heap p
+IsSoundHeap classes places heap = (p : ℕ) → p < length heap.objects
+    → IsSoundAt classes places heap p
 
 -- what holds of each text, of each rail and of each object that has a name
 pub record EachPart (T R O : ℕ → Type 0) (n : Names) : Type 0 where
@@ -77,4 +85,5 @@ pub record EachPart (T R O : ℕ → Type 0) (n : Names) : Type 0 where
 
 -- each part that has a name is there
 abbrev pub AreThere : HeapState → Names → Type 0
-AreThere heap n = EachPart (IsPart (length heap.texts)) (IsPart (length heap.rails)) (IsPart (length heap.objects)) n
+AreThere heap n = EachPart (IsPart (length heap.texts)) (IsPart (length heap.rails))
+    (IsPart (length heap.objects)) n

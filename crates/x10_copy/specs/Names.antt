@@ -5,6 +5,7 @@ use Rattle.std.specs.Int.{w64, cast_signed}
 use Rattle.x10_kinds.specs.declared.kind.Kind.{Kind}
 use Rattle.x10_kinds.specs.declared.kind.Kind.TheVariants as kind
 use Rattle.x10_heap.specs.Heaps.{HeapState, ObjectState}
+use Rattle.x10_heap.specs.References.{home_of, id_of}
 use Rattle.x10_model.specs.Frames.{Item, IntItem, PlaceItem, TextItem, RailItem, ObjectItem, NullItem, RefItem, Tables, tables}
 
 -- the numbers in the heap: that of the frame's text 0, of its text 1, and so on
@@ -39,7 +40,7 @@ item_of n kind.Rail w = RailItem (number n.rails w)
 item_of n (kind.Obj c) w = ObjectItem (number n.objects (w - 1))
 item_of n (kind.Opt c) zero = NullItem
 item_of n (kind.Opt c) (suc w) = ObjectItem (number n.objects w)
-item_of n (kind.GRef c) w = RefItem (w % 65536) (w / 65536) c
+item_of n (kind.GRef c) w = RefItem (home_of w) (id_of w) c
 
 abbrev pub items_of : Names → List Kind → List ℕ → List Item
 items_of n (k ∷ ks) (w ∷ ws) = item_of n k w ∷ items_of n ks ws
@@ -78,7 +79,7 @@ IsWord kind.Text w = w < 2 ^ 32
 IsWord kind.Rail w = w < 2 ^ 32
 IsWord (kind.Obj c) w = (1 ≤ w) × (w ≤ 2 ^ 32)
 IsWord (kind.Opt c) w = w ≤ 2 ^ 32
-IsWord (kind.GRef c) w = w / 65536 < 2 ^ 32
+IsWord (kind.GRef c) w = id_of w < 2 ^ 32
 
 -- one word for each kind, and each is so
 abbrev pub AreWords : List Kind → List ℕ → Type 0
@@ -113,7 +114,7 @@ IsSound places heap kind.Text w = IsPart (length heap.texts) w
 IsSound places heap kind.Rail w = IsPart (length heap.rails) w
 IsSound places heap (kind.Obj c) w = IsObject heap c w
 IsSound places heap (kind.Opt c) w = (w ≡ 0) ⊎ IsObject heap c w
-IsSound places heap (kind.GRef c) w = (w % 65536 < places) × (w / 65536 < 2 ^ 32) × (c < 2 ^ 16)
+IsSound places heap (kind.GRef c) w = (home_of w < places) × (id_of w < 2 ^ 32) × (c < 2 ^ 16)
 
 -- one word for each kind, and each is sound
 abbrev pub AreSound : ℕ → HeapState → List Kind → List ℕ → Type 0

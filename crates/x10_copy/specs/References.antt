@@ -13,7 +13,8 @@ OfReference P _ = Unit {0}
 -- and so of each value of a snapshot
 pub record OfReferences (P : ℕ → ℕ → ℕ → Type 0) (s : Snapshot) : Type 0 where
   pub roots : (v : Value) → IsIn v s.roots → OfReference P v
-  pub fields : (k : ℕ) (node : Node) (v : Value) → slice_get s.nodes k ≡ Some node → IsIn v node.fields → OfReference P v
+  pub fields : (k : ℕ) (node : Node) (v : Value) → slice_get s.nodes k ≡ Some node
+      → IsIn v node.fields → OfReference P v
 
 -- each global reference names an object of its class
 abbrev pub AreNamed : Context → Snapshot → Type 0
@@ -21,4 +22,5 @@ AreNamed x s = OfReferences (λ home id class. IsTrue (is_named x home id class)
 
 -- each one whose home is elsewhere does
 abbrev pub AreNamedElsewhere : Context → Snapshot → Type 0
-AreNamedElsewhere x s = OfReferences (λ home id class. (home ≡ x.here → ⊥) → IsTrue (x.far home id class)) s
+AreNamedElsewhere x s = OfReferences (λ home id class. (home ≡ x.here → ⊥)
+    → IsTrue (x.far home id class)) s

@@ -20,18 +20,22 @@ with_heap x heap = record x { heap = heap }
 
 -- The machine's heap takes the snapshot in: the new heap stands for its cells, the roots for the values that arrive,
 -- and each word for what it stood for before.
-pub record TakesIn (x : Context) (old : Cells) (s : Snapshot) (kinds : List Kind) (roots : List ℕ) (new : HeapState) : Type 0 where
+pub record TakesIn (x : Context) (old : Cells) (s : Snapshot) (kinds : List Kind) (roots : List ℕ)
+    (new : HeapState) : Type 0 where
   pub values : List Value
   pub cells : Cells
   pub arrives : Arrives old s values cells
   pub holds : HoldsHeap (with_heap x new) cells
   pub words : AreWordsOf (with_heap x new) kinds roots values
-  pub kept : (kind : Kind) (word : ℕ) (v : Value) → IsWordOf x kind word v → IsWordOf (with_heap x new) kind word v
+  pub kept : (kind : Kind) (word : ℕ) (v : Value) → IsWordOf x kind word v
+      → IsWordOf (with_heap x new) kind word v
 
 -- Whatever the heap stood for, and whatever is known of references to other places, as long as those of the frame are
 -- among them.
-abbrev pub IsTakenIn : Module → (here : ℕ) → HeapState → List Slot → Frame → (roots : List ℕ) → HeapState → Type 0
+abbrev pub IsTakenIn : Module → (here : ℕ) → HeapState → List Slot → Frame → (roots : List ℕ)
+    → HeapState → Type 0
 IsTakenIn m here heap slots f roots new =
-    (x : Context) (cells : Cells) → x.classes ≡ m.classes → x.here ≡ here → x.heap ≡ heap → x.places ≤ 2 ^ 16 → FitsFrame Wide x.places f
+    (x : Context) (cells : Cells) → x.classes ≡ m.classes → x.here ≡ here → x.heap ≡ heap
+    → x.places ≤ 2 ^ 16 → FitsFrame Wide x.places f
     → AreNamedElsewhere x (snapshot_of (graph_of f)) → HoldsHeap x cells
     → TakesIn x cells (snapshot_of (graph_of f)) (kinds_of slots) roots new

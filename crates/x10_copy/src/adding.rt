@@ -1,6 +1,7 @@
 //! Putting the parts of a frame into a heap.
 
 ghost use Rattle.std.specs.Prelude.{◌≡◌, ◌≤◌, [], ◌∷◌, IfOk, IfErr, length, map};
+ghost use Rattle.x10_kinds.specs.declared.limit.Limit.TheVariants as limits;
 ghost use Rattle.x10_frame.specs.Heads.{graph_of};
 ghost use Rattle.x10_frame.specs.Items.{item_of};
 ghost use Rattle.x10_copy.specs.Arrived.{word_at, object_from, with_texts, with_rails, with_objects, IsLonger, Stops};
@@ -8,7 +9,7 @@ ghost use Rattle.x10_copy.specs.Arrived.{word_at, object_from, with_texts, with_
 use smallvec::SmallVec;
 use std::alloc::{AllocError, Global};
 use x10_frame::{FrameView, Item, NodeView, Nodes, NodesByVersion};
-use x10_heap::Heap;
+use x10_heap::{Heap, reference};
 use x10_kinds::Stop;
 
 /// The values that were passed, as words.
@@ -26,7 +27,8 @@ impl Bases {
     /// The word of a value of the frame.
     #[inline(always)]
     fn word(&self, item: &Item) -> u64
-        ensures { result ≡ word_at self.now.texts self.now.rails self.now.objects (item_of item.now) }
+        ensures { result ≡ word_at self.now.texts self.now.rails self.now.objects
+            (item_of item.now) }
     {
         match *item {
             Item::Int(number) => number.cast_unsigned(),
@@ -35,7 +37,7 @@ impl Bases {
             Item::Rail(i) => u64::from(self.rails) + u64::from(i),
             Item::Object(k) => u64::from(self.objects) + u64::from(k) + 1,
             Item::Null => 0,
-            Item::Ref { home, id, .. } => u64::from(home) + 65_536 * u64::from(id),
+            Item::Ref { home, id, .. } => reference(home, id),
         }
     }
 }
@@ -43,7 +45,8 @@ impl Bases {
 /// The texts of the frame, each copied once.
 pub fn add_texts(heap: &mut Heap, view: &FrameView) -> Result<(), Stop>
     ensures ok { IfOk result (λ _. heap.new ≡ with_texts heap.old (graph_of view.now).texts) }
-    ensures err { IfErr result (λ why. IsLonger heap.old heap.new × Stops 2 (length heap.old.texts) (length (graph_of view.now).texts) why) }
+    ensures err { IfErr result (λ why. IsLonger heap.old heap.new
+        × Stops limits.Texts (length heap.old.texts) (length (graph_of view.now).texts) why) }
 {
     for i in 0..view.texts() {
         heap.new_text(view.text(i))?;
@@ -54,7 +57,8 @@ pub fn add_texts(heap: &mut Heap, view: &FrameView) -> Result<(), Stop>
 /// The rails of the frame, each copied once.
 pub fn add_rails(heap: &mut Heap, view: &FrameView) -> Result<(), Stop>
     ensures ok { IfOk result (λ _. heap.new ≡ with_rails heap.old (graph_of view.now).rails) }
-    ensures err { IfErr result (λ why. IsLonger heap.old heap.new × Stops 3 (length heap.old.rails) (length (graph_of view.now).rails) why) }
+    ensures err { IfErr result (λ why. IsLonger heap.old heap.new
+        × Stops limits.Rails (length heap.old.rails) (length (graph_of view.now).rails) why) }
 {
     for i in 0..view.rails() {
         heap.copy_rail(view.rail(i))?;
@@ -66,7 +70,8 @@ pub fn add_rails(heap: &mut Heap, view: &FrameView) -> Result<(), Stop>
 #[inline(always)]
 fn put_words(words: &mut [u64], node: &NodeView, bases: &Bases)
     requires { length words.old ≡ length node.now.fields }
-    ensures { words.new ≡ map (word_at bases.now.texts bases.now.rails bases.now.objects) node.now.fields }
+    ensures { words.new ≡ map (word_at bases.now.texts bases.now.rails bases.now.objects)
+        node.now.fields }
 {
     let mut values = node.values();
     for j in 0..node.fields() {
@@ -78,8 +83,10 @@ fn put_words(words: &mut [u64], node: &NodeView, bases: &Bases)
 #[inline(always)]
 fn add_object(heap: &mut Heap, node: &NodeView, bases: &Bases) -> Result<u32, Stop>
     requires { length node.now.fields ≤ 16 }
-    ensures ok { IfOk result (λ _. heap.new ≡ with_objects heap.old (object_from bases.now.texts bases.now.rails bases.now.objects node.now ∷ [])) }
-    ensures err { IfErr result (λ why. (heap.new ≡ heap.old) × Stops 1 (length heap.old.objects) 1 why) }
+    ensures ok { IfOk result (λ _. heap.new ≡ with_objects heap.old
+        (object_from bases.now.texts bases.now.rails bases.now.objects node.now ∷ [])) }
+    ensures err { IfErr result (λ why. (heap.new ≡ heap.old)
+        × Stops limits.Objects (length heap.old.objects) 1 why) }
 {
     let mut words = [0u64; 16];
     let fields = &mut words[..node.fields()];
@@ -90,8 +97,10 @@ fn add_object(heap: &mut Heap, node: &NodeView, bases: &Bases) -> Result<u32, St
 /// The objects of a frame.
 #[inline(always)]
 fn add_each(heap: &mut Heap, nodes: &Nodes, bases: &Bases) -> Result<(), Stop>
-    ensures ok { IfOk result (λ _. heap.new ≡ with_objects heap.old (map (object_from bases.now.texts bases.now.rails bases.now.objects) nodes.now)) }
-    ensures err { IfErr result (λ why. IsLonger heap.old heap.new × Stops 1 (length heap.old.objects) (length nodes.now) why) }
+    ensures ok { IfOk result (λ _. heap.new ≡ with_objects heap.old
+        (map (object_from bases.now.texts bases.now.rails bases.now.objects) nodes.now)) }
+    ensures err { IfErr result (λ why. IsLonger heap.old heap.new
+        × Stops limits.Objects (length heap.old.objects) (length nodes.now) why) }
 {
     for k in 0..nodes.len() {
         add_object(heap, &nodes.node(k), bases)?;
@@ -101,8 +110,11 @@ fn add_each(heap: &mut Heap, nodes: &Nodes, bases: &Bases) -> Result<(), Stop>
 
 /// The objects of the frame. The loop over them is made once for each version.
 pub fn add_objects(heap: &mut Heap, view: &FrameView, bases: &Bases) -> Result<(), Stop>
-    ensures ok { IfOk result (λ _. heap.new ≡ with_objects heap.old (map (object_from bases.now.texts bases.now.rails bases.now.objects) (graph_of view.now).nodes)) }
-    ensures err { IfErr result (λ why. IsLonger heap.old heap.new × Stops 1 (length heap.old.objects) (length (graph_of view.now).nodes) why) }
+    ensures ok { IfOk result (λ _. heap.new ≡ with_objects heap.old
+        (map (object_from bases.now.texts bases.now.rails bases.now.objects)
+        (graph_of view.now).nodes)) }
+    ensures err { IfErr result (λ why. IsLonger heap.old heap.new
+        × Stops limits.Objects (length heap.old.objects) (length (graph_of view.now).nodes) why) }
 {
     match view.nodes_by_version() {
         NodesByVersion::Narrow(nodes) => add_each(heap, &nodes, bases),
@@ -112,7 +124,8 @@ pub fn add_objects(heap: &mut Heap, view: &FrameView, bases: &Bases) -> Result<(
 
 /// The words of the values that were passed.
 pub fn root_words(alloc: Global, view: &FrameView, bases: &Bases) -> Result<Roots, AllocError>
-    ensures { IfOk result (λ words. words.items ≡ map (word_at bases.now.texts bases.now.rails bases.now.objects) (graph_of view.now).roots) }
+    ensures { IfOk result (λ words. words.items ≡ map
+        (word_at bases.now.texts bases.now.rails bases.now.objects) (graph_of view.now).roots) }
 {
     let mut words = SmallVec::new(alloc);
     for i in 0..view.roots() {

@@ -5,7 +5,7 @@ ghost use Rattle.x10_frame.specs.Heads.{graph_of};
 ghost use Rattle.x10_model.specs.Marshalling.{snapshot_of};
 ghost use Rattle.x10_model.specs.Modules.{Module};
 ghost use Rattle.x10_model.specs.declared.slot.Slot.{Slot};
-ghost use Rattle.x10_copy.specs.Arrived.{arrived, FitsArrival, IsRefusal, IsMisfit, IsFound, IsBrought, IsArrived, IsForRoom, IsLonger, StopsAll, same_stop};
+ghost use Rattle.x10_copy.specs.Arrived.{arrived, FitsArrival, IsRefusal, IsFirstFault, IsFound, IsBrought, IsArrived, IsForRoom, IsLonger, StopsAll, same_stop};
 ghost use Rattle.x10_copy.specs.Taken.{IsTakenIn};
 
 use crate::adding::{Bases, Roots, add_objects, add_rails, add_texts, root_words};
@@ -53,8 +53,10 @@ pub fn check(
     home: u16,
     slots: &[Slot],
 ) -> Result<(), Refusal>
-    ensures ok { IfOk result (λ _. FitsArrival image.now here home heap.now slots.now (snapshot_of (graph_of view.now))) }
-    ensures err { IfErr result (λ why. IsMisfit image.now here home heap.now slots.now (graph_of view.now) why) }
+    ensures ok { IfOk result (λ _. FitsArrival image.now here home heap.now slots.now
+        (snapshot_of (graph_of view.now))) }
+    ensures err { IfErr result (λ why. IsFirstFault image.now here home heap.now slots.now
+        (graph_of view.now) why) }
 {
     let Some(exported) = values_found(view, heap, image, here, slots) else {
         return Err(Refusal::Kind);
@@ -73,7 +75,8 @@ fn add_all(heap: &mut Heap, view: &FrameView, bases: &Bases) -> Result<(), Stop>
     requires rails { bases.now.rails ≡ length heap.old.rails }
     requires objects { bases.now.objects ≡ length heap.old.objects }
     ensures ok { IfOk result (λ _. heap.new ≡ arrived heap.old (graph_of view.now)) }
-    ensures err { IfErr result (λ why. IsLonger heap.old heap.new × StopsAll heap.old (graph_of view.now) why) }
+    ensures err { IfErr result (λ why. IsLonger heap.old heap.new
+        × StopsAll heap.old (graph_of view.now) why) }
 {
     add_texts(heap, view)?;
     add_rails(heap, view)?;
@@ -95,12 +98,16 @@ pub fn refusal_of(why: Stop) -> Refusal
 /// becomes the text whose number is the heap's next one plus i, and likewise for rails and objects. Each text and rail is
 /// copied once, from the frame. A report brings nothing. It asks nothing of the values: see `check`.
 ///
-/// Refused, with the heap as before: `Limit` 1, 2 or 3 where the heap would have too many objects, texts or rails, or
-/// `Memory`. Linear in the frame.
+/// Refused, with the heap as before: `Limit` where the heap would have too many objects, texts or rails, or `Memory`.
+/// Linear in the frame.
 pub fn bring(alloc: Global, view: &FrameView, heap: &mut Heap) -> Result<Roots, Refusal>
-    ensures ok { IfOk result (λ roots. IsBrought heap.old (graph_of view.now) roots.items heap.new) }
-    ensures taken { IfOk result (λ roots. (m : Module) (here home : ℕ) (slots : List Slot) → FitsArrival m here home heap.old slots (snapshot_of (graph_of view.now)) → IsTakenIn m here heap.old slots view.now roots.items heap.new) }
-    ensures err { IfErr result (λ why. (heap.new ≡ heap.old) × IsForRoom heap.old (graph_of view.now) why) }
+    ensures ok { IfOk result (λ roots. IsBrought heap.old
+        (graph_of view.now) roots.items heap.new) }
+    ensures taken { IfOk result (λ roots. (m : Module) (here home : ℕ) (slots : List Slot)
+        → FitsArrival m here home heap.old slots (snapshot_of (graph_of view.now))
+        → IsTakenIn m here heap.old slots view.now roots.items heap.new) }
+    ensures err { IfErr result (λ why. (heap.new ≡ heap.old)
+        × IsForRoom heap.old (graph_of view.now) why) }
 {
     let (objects, rails, texts) = (heap.objects(), heap.rails(), heap.texts());
     let bases = Bases {
@@ -134,9 +141,12 @@ pub fn arrive(
     home: u16,
     slots: &[Slot],
 ) -> Result<Roots, Refusal>
-    ensures ok { IfOk result (λ roots. IsArrived image.now here home heap.old slots.now (graph_of view.now) roots.items heap.new) }
-    ensures taken { IfOk result (λ roots. IsTakenIn image.now here heap.old slots.now view.now roots.items heap.new) }
-    ensures err { IfErr result (λ why. (heap.new ≡ heap.old) × IsRefusal image.now here home heap.old slots.now (graph_of view.now) why) }
+    ensures ok { IfOk result (λ roots. IsArrived image.now here home heap.old slots.now
+        (graph_of view.now) roots.items heap.new) }
+    ensures taken { IfOk result (λ roots. IsTakenIn image.now here heap.old slots.now view.now
+        roots.items heap.new) }
+    ensures err { IfErr result (λ why. (heap.new ≡ heap.old)
+        × IsRefusal image.now here home heap.old slots.now (graph_of view.now) why) }
 {
     check(view, heap, image, here, home, slots)?;
     bring(alloc, view, heap)

@@ -77,10 +77,15 @@ fn written(
     requires there { AreThere heap.now marks.now }
     requires objects { AreWordy image.now.classes heap.now marks.now }
     requires done { AllFound image.now.classes heap.now marks.now marks.now.objects }
-    ensures value { IfOk result (λ bytes. bytes.items ≡ spelling Wide (with_graph head.now (graph_of image.now.classes heap.now marks.now (kinds_of slots.now) words.now))) }
-    ensures few { (length marks.now.texts ≤ MOST_WIDE) × (length marks.now.rails ≤ MOST_WIDE) × (length marks.now.objects ≤ MOST_WIDE) }
-    ensures texts { IfOk result (λ _. AllByRecursion FitsText (map (text_at heap.now) marks.now.texts)) }
-    ensures rails { IfOk result (λ _. AllByRecursion FitsRail (map (rail_at heap.now) marks.now.rails)) }
+    ensures value { IfOk result (λ bytes. bytes.items
+        ≡ spelling Wide (with_graph head.now
+        (graph_of image.now.classes heap.now marks.now (kinds_of slots.now) words.now))) }
+    ensures few { (length marks.now.texts ≤ MOST_WIDE) × (length marks.now.rails ≤ MOST_WIDE)
+        × (length marks.now.objects ≤ MOST_WIDE) }
+    ensures texts { IfOk result (λ _. AllByRecursion FitsText
+        (map (text_at heap.now) marks.now.texts)) }
+    ensures rails { IfOk result (λ _. AllByRecursion FitsRail
+        (map (rail_at heap.now) marks.now.rails)) }
 {
     let sizes = Sizes {
         roots: words.len() as u16,
@@ -98,7 +103,7 @@ fn written(
 
 /// The frame with a head that takes the words along, and all that they lead to: each object, each rail and each text of the
 /// heap once, numbered by first use. What a global reference names is not taken along. `slots` says which kinds the words have.
-/// Refused with Limit 7, 8 or 9 where there are more than 1,048,576 objects, texts or rails. Linear in what is taken along,
+/// Refused with `Limit` where there are more than 1,048,576 objects, texts or rails. Linear in what is taken along,
 /// without recursion; `marks` grows to the number of parts that the heap has, and keeps that memory.
 pub fn capture(
     alloc: Global,
@@ -114,9 +119,12 @@ pub fn capture(
     requires few { length words.now ≤ most_roots head.now }
     requires words { AreSound places heap.now (kinds_of slots.now) words.now }
     requires heap { IsSoundHeap image.now.classes places heap.now }
-    ensures ok { IfOk result (λ bytes. IsCaptured image.now.classes places heap.now (kinds_of slots.now) words.now head.now bytes.items) }
-    ensures copy { IfOk result (λ bytes. IsCopied image.now.classes places heap.now (kinds_of slots.now) words.now head.now bytes.items) }
-    ensures err { IfErr result (λ why. Refuses image.now.classes heap.now (kinds_of slots.now) words.now why) }
+    ensures ok { IfOk result (λ bytes. IsCaptured image.now.classes places heap.now
+        (kinds_of slots.now) words.now head.now bytes.items) }
+    ensures copy { IfOk result (λ bytes. IsCopied image.now.classes places heap.now
+        (kinds_of slots.now) words.now head.now bytes.items) }
+    ensures err { IfErr result (λ why. Refuses image.now.classes heap.now
+        (kinds_of slots.now) words.now why) }
 {
     mark(marks, heap, image, places, slots, words)?;
     match written(alloc, marks, heap, image, head, slots, words) {

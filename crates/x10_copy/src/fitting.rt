@@ -43,7 +43,8 @@ fn item_fits(view: &FrameView, kind: Kind, item: &Item) -> bool
 
 /// Whether the values that are passed are of the kinds of the slots, one for each.
 pub fn roots_fit(view: &FrameView, slots: &[Slot]) -> bool
-    ensures { result ≡ spec.all_fit (graph_of view.now) (kinds_of slots.now) (graph_of view.now).roots }
+    ensures { result ≡ spec.all_fit (graph_of view.now) (kinds_of slots.now)
+        (graph_of view.now).roots }
 {
     if view.roots() != slots.len() {
         return false;
@@ -129,7 +130,8 @@ fn fields_found(
     class: &ClassView,
     node: &NodeView,
 ) -> Option<bool>
-    ensures { result ≡ spec.found (spec.all_fit (graph_of view.now) class.now node.now.fields) (spec.are_exported here heap.now.exports node.now.fields) }
+    ensures { result ≡ spec.found (spec.all_fit (graph_of view.now) class.now node.now.fields)
+        (spec.are_exported here heap.now.exports node.now.fields) }
 {
     if node.fields() != class.len() {
         return None;
@@ -155,7 +157,9 @@ fn node_found(
     here: u16,
     node: &NodeView,
 ) -> Option<bool>
-    ensures { result ≡ spec.found (spec.class_fits (graph_of view.now) (slice_get image.now.classes node.now.class) node.now.fields) (spec.are_exported here heap.now.exports node.now.fields) }
+    ensures { result ≡ spec.found (spec.class_fits (graph_of view.now)
+        (slice_get image.now.classes node.now.class) node.now.fields)
+        (spec.are_exported here heap.now.exports node.now.fields) }
 {
     let class = usize::from(node.class());
     if class >= image.classes() {
@@ -173,7 +177,8 @@ fn each_found(
     here: u16,
     nodes: &Nodes,
 ) -> Option<bool>
-    ensures { result ≡ spec.found (spec.nodes_fit image.now.classes (graph_of view.now) nodes.now) (spec.nodes_exported here heap.now.exports nodes.now) }
+    ensures { result ≡ spec.found (spec.nodes_fit image.now.classes (graph_of view.now) nodes.now)
+        (spec.nodes_exported here heap.now.exports nodes.now) }
 {
     let mut exported = true;
     for k in 0..nodes.len() {
@@ -187,7 +192,9 @@ fn each_found(
 
 /// The same of the frame's objects. The loop over them is made once for each version.
 pub fn nodes_found(view: &FrameView, heap: &Heap, image: &ImageView, here: u16) -> Option<bool>
-    ensures { result ≡ spec.found (spec.nodes_fit image.now.classes (graph_of view.now) (graph_of view.now).nodes) (spec.nodes_exported here heap.now.exports (graph_of view.now).nodes) }
+    ensures { result ≡ spec.found (spec.nodes_fit image.now.classes (graph_of view.now)
+        (graph_of view.now).nodes) (spec.nodes_exported here heap.now.exports
+        (graph_of view.now).nodes) }
 {
     match view.nodes_by_version() {
         NodesByVersion::Narrow(nodes) => each_found(view, heap, image, here, &nodes),

@@ -24,7 +24,8 @@ pub const TOGETHER: usize = 16;
 /// How many bytes these objects take, without what follows the tags of their fields.
 #[inline(always)]
 pub fn size_of(marks: &Marks, heap: &Heap, from: usize, to: usize) -> usize
-    requires there { (k : ℕ) → k < length marks.now.objects → slice_index marks.now.objects k < length heap.now.objects }
+    requires there { (k : ℕ) → k < length marks.now.objects
+        → slice_index marks.now.objects k < length heap.now.objects }
     requires within { to ≤ length marks.now.objects }
 {
     let mut bytes: usize = 0;
@@ -39,7 +40,8 @@ pub fn size_of(marks: &Marks, heap: &Heap, from: usize, to: usize) -> usize
 /// Answers how many have been looked at by now.
 #[inline(always)]
 fn look_ahead(marks: &mut Marks, heap: &Heap, turn: usize, seen: usize) -> usize
-    requires there { (k : ℕ) → k < length marks.old.objects → slice_index marks.old.objects k < length heap.now.objects }
+    requires there { (k : ℕ) → k < length marks.old.objects
+        → slice_index marks.old.objects k < length heap.now.objects }
     requires turn { turn < length marks.old.objects }
     ensures { marks.new ≡ marks.old }
 {
@@ -64,8 +66,10 @@ pub fn mark(
 ) -> Result<(), Stop>
     requires words { AreSound places heap.now (kinds_of slots.now) words.now }
     requires heap { IsSoundHeap image.now.classes places heap.now }
-    ensures ok { IfOk result (λ _. Walked image.now.classes places heap.now (kinds_of slots.now) words.now (length marks.new.objects) marks.new) }
-    ensures err { IfErr result (λ why. Refuses image.now.classes heap.now (kinds_of slots.now) words.now why) }
+    ensures ok { IfOk result (λ _. Walked image.now.classes places heap.now
+        (kinds_of slots.now) words.now (length marks.new.objects) marks.new) }
+    ensures err { IfErr result (λ why. Refuses image.now.classes heap.now
+        (kinds_of slots.now) words.now why) }
 {
     marks.clear();
     note_roots(marks, slots, words)?;

@@ -9,13 +9,8 @@ use crate::numbers::Numbers;
 use std::alloc::Global;
 use std::marker::Model;
 use x10_frame::Item;
-use x10_kinds::{Kind, Stop};
-
-const NODES: u8 = 7;
-
-const TEXTS: u8 = 8;
-
-const RAILS: u8 = 9;
+use x10_heap::{home_in, id_in};
+use x10_kinds::{Kind, Limit, Stop};
 
 /// Which texts, rails and objects of a heap the message that is written last takes along. A place has one of these for all its
 /// messages. Clauses see the numbers in the heap, each list in the order of the numbers in the message.
@@ -138,14 +133,14 @@ impl Marks {
         self.size = self.size.wrapping_add(untagged_size(kind, word));
         match kind {
             Kind::Int | Kind::Place | Kind::GRef(_) => Ok(()),
-            Kind::Text => self.texts.note(word as u32, TEXTS),
-            Kind::Rail => self.rails.note(word as u32, RAILS),
-            Kind::Obj(_) => self.objects.note((word - 1) as u32, NODES),
+            Kind::Text => self.texts.note(word as u32, Limit::FrameTexts),
+            Kind::Rail => self.rails.note(word as u32, Limit::FrameRails),
+            Kind::Obj(_) => self.objects.note((word - 1) as u32, Limit::FrameObjects),
             Kind::Opt(_) => {
                 if word == 0 {
                     return Ok(());
                 }
-                self.objects.note((word - 1) as u32, NODES)
+                self.objects.note((word - 1) as u32, Limit::FrameObjects)
             }
         }
     }
@@ -170,8 +165,8 @@ impl Marks {
                 Item::Object(self.objects.number((word - 1) as u32))
             }
             Kind::GRef(class) => Item::Ref {
-                home: (word % 65_536) as u16,
-                id: (word / 65_536) as u32,
+                home: home_in(word),
+                id: id_in(word),
                 class,
             },
         }

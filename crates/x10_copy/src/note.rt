@@ -15,7 +15,8 @@ use x10_model::Slot;
 pub fn note_roots(marks: &mut Marks, slots: &[Slot], words: &[u64]) -> Result<(), Stop>
     requires { AreWords (kinds_of slots.now) words.now }
     ensures ok { IfOk result (λ _. marks.new ≡ noted_all marks.old (kinds_of slots.now) words.now) }
-    ensures err { IfErr result (λ why. IsOver (noted_all marks.old (kinds_of slots.now) words.now) why) }
+    ensures err { IfErr result (λ why. IsOver (noted_all marks.old (kinds_of slots.now) words.now)
+        why) }
     ensures small { (j : ℕ) → slice_index words.now j < 2 ^ 64 }
 {
     for i in 0..words.len() {
@@ -47,8 +48,10 @@ pub fn note_object(
     object: u32,
 ) -> Result<(), Stop>
     requires { IsWordy image.now.classes heap.now object }
-    ensures ok { IfOk result (λ _. marks.new ≡ noted_object image.now.classes heap.now marks.old object) }
-    ensures err { IfErr result (λ why. IsOver (noted_object image.now.classes heap.now marks.old object) why) }
+    ensures ok { IfOk result (λ _. marks.new ≡ noted_object image.now.classes heap.now marks.old
+        object) }
+    ensures err { IfErr result (λ why. IsOver (noted_object image.now.classes heap.now marks.old
+        object) why) }
     ensures small { (j : ℕ) → slice_index (object_at heap.now object).fields j < 2 ^ 64 }
 {
     let class = image.class(usize::from(heap.class(object)));

@@ -6,7 +6,7 @@ ghost use Rattle.x10_copy.specs.Numbered.{AreNumbered};
 
 use std::alloc::Global;
 use std::marker::Model;
-use x10_kinds::Stop;
+use x10_kinds::{Limit, Stop};
 use x10_model::limits::MOST_WIDE;
 
 /// Some parts of a heap, each with a number of its own, from 0. Clauses see the list of the parts.
@@ -52,7 +52,8 @@ fn make_place(places: &mut Vec<u32>, part: u32) -> Result<(), Stop>
     ensures ok { IfOk result (λ _. part < length places.new.items) }
     ensures err { IfErr result (λ why. why ≡ stop.Memory) }
     ensures longer { length places.old.items ≤ length places.new.items }
-    ensures kept { (k : ℕ) → k < length places.old.items → slice_index places.new.items k ≡ slice_index places.old.items k }
+    ensures kept { (k : ℕ) → k < length places.old.items
+        → slice_index places.new.items k ≡ slice_index places.old.items k }
 {
     if (part as usize) < places.len() {
         return Ok(());
@@ -110,9 +111,10 @@ impl Numbers {
 
     /// Gives a part the next number, where it has none. Refused where 1,048,576 have one already, and for lack of memory.
     #[inline(always)]
-    pub fn note(&mut self, part: u32, limit: u8) -> Result<(), Stop>
+    pub fn note(&mut self, part: u32, limit: Limit) -> Result<(), Stop>
         ensures ok { IfOk result (λ _. self.new ≡ with_new self.old part) }
-        ensures err { IfErr result (λ why. (why ≡ stop.Memory) ⊎ ((why ≡ stop.Limit limit) × (MOST_WIDE < length (with_new self.old part)))) }
+        ensures err { IfErr result (λ why. (why ≡ stop.Memory)
+            ⊎ ((why ≡ stop.Limit limit) × (MOST_WIDE < length (with_new self.old part)))) }
     {
         if is_numbered(&self.places, &self.parts, part) {
             return Ok(());

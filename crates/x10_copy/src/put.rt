@@ -27,7 +27,8 @@ pub fn put_roots(
 ) -> Result<FrameWriter, AllocError>
     requires words { AreWords (kinds_of slots.now) words.now }
     requires found { AreFound marks.now (kinds_of slots.now) words.now }
-    ensures { IfOk result (λ w. w ≡ writer ++ flat_map (item_bytes Wide) (items_of marks.now (kinds_of slots.now) words.now)) }
+    ensures { IfOk result (λ w. w ≡ writer ++ flat_map (item_bytes Wide)
+        (items_of marks.now (kinds_of slots.now) words.now)) }
 {
     let mut writer = writer;
     for i in 0..words.len() {
@@ -39,8 +40,10 @@ pub fn put_roots(
 /// The texts, each copied once.
 pub fn put_texts(writer: FrameWriter, marks: &Marks, heap: &Heap) -> Result<FrameWriter, AllocError>
     requires there { AreThere heap.now marks.now }
-    ensures value { IfOk result (λ w. w ≡ writer ++ flat_map blob_bytes (map (text_at heap.now) marks.now.texts)) }
-    ensures fits { IfOk result (λ _. AllByRecursion FitsText (map (text_at heap.now) marks.now.texts)) }
+    ensures value { IfOk result (λ w. w ≡ writer ++ flat_map blob_bytes
+        (map (text_at heap.now) marks.now.texts)) }
+    ensures fits { IfOk result (λ _. AllByRecursion FitsText
+        (map (text_at heap.now) marks.now.texts)) }
 {
     let mut writer = writer;
     for i in 0..marks.texts() {
@@ -52,8 +55,10 @@ pub fn put_texts(writer: FrameWriter, marks: &Marks, heap: &Heap) -> Result<Fram
 /// The rails, each copied once.
 pub fn put_rails(writer: FrameWriter, marks: &Marks, heap: &Heap) -> Result<FrameWriter, AllocError>
     requires there { AreThere heap.now marks.now }
-    ensures value { IfOk result (λ w. w ≡ writer ++ flat_map blob_bytes (map (rail_at heap.now) marks.now.rails)) }
-    ensures fits { IfOk result (λ _. AllByRecursion FitsRail (map (rail_at heap.now) marks.now.rails)) }
+    ensures value { IfOk result (λ w. w ≡ writer ++ flat_map blob_bytes
+        (map (rail_at heap.now) marks.now.rails)) }
+    ensures fits { IfOk result (λ _. AllByRecursion FitsRail
+        (map (rail_at heap.now) marks.now.rails)) }
 {
     let mut writer = writer;
     for i in 0..marks.rails() {
@@ -72,7 +77,8 @@ fn put_fields(
 ) -> Result<FrameWriter, AllocError>
     requires words { AreWords class.now words.now }
     requires found { AreFound marks.now class.now words.now }
-    ensures { IfOk result (λ w. w ≡ writer ++ flat_map (item_bytes Wide) (items_of marks.now class.now words.now)) }
+    ensures { IfOk result (λ w. w ≡ writer ++ flat_map (item_bytes Wide)
+        (items_of marks.now class.now words.now)) }
 {
     let mut writer = writer;
     for j in 0..words.len() {
@@ -92,8 +98,10 @@ fn put_object(
 ) -> Result<FrameWriter, AllocError>
     requires words { IsWordy image.now.classes heap.now object }
     requires few { length (kinds_at image.now.classes (object_at heap.now object).class) ≤ 16 }
-    requires found { AreFound marks.now (kinds_at image.now.classes (object_at heap.now object).class) (object_at heap.now object).fields }
-    ensures { IfOk result (λ w. w ≡ writer ++ node_bytes Wide (node_of image.now.classes marks.now (object_at heap.now object))) }
+    requires found { AreFound marks.now (kinds_at image.now.classes
+        (object_at heap.now object).class) (object_at heap.now object).fields }
+    ensures { IfOk result (λ w. w ≡ writer ++ node_bytes Wide
+        (node_of image.now.classes marks.now (object_at heap.now object))) }
 {
     let number = heap.class(object);
     let class = image.class(usize::from(number));
@@ -111,7 +119,8 @@ fn look_ahead(
     heap: &Heap,
     turn: usize,
 ) -> Result<FrameWriter, AllocError>
-    requires there { (k : ℕ) → k < length marks.now.objects → slice_index marks.now.objects k < length heap.now.objects }
+    requires there { (k : ℕ) → k < length marks.now.objects
+        → slice_index marks.now.objects k < length heap.now.objects }
     requires turn { turn < length marks.now.objects }
     ensures { IfOk result (λ w. w ≡ writer) }
 {
@@ -131,7 +140,8 @@ pub fn put_objects(
 ) -> Result<FrameWriter, AllocError>
     requires words { AreWordy image.now.classes heap.now marks.now }
     requires found { AllFound image.now.classes heap.now marks.now marks.now.objects }
-    ensures { IfOk result (λ w. w ≡ writer ++ flat_map (node_bytes Wide) (nodes_of image.now.classes heap.now marks.now marks.now.objects)) }
+    ensures { IfOk result (λ w. w ≡ writer ++ flat_map (node_bytes Wide)
+        (nodes_of image.now.classes heap.now marks.now marks.now.objects)) }
 {
     let mut writer = writer;
     for k in 0..marks.objects() {

@@ -4,6 +4,7 @@ ghost use Rattle.x10_copy.specs.declared.refusal.Refusal.TheVariants.{Memory};
 use std::alloc::{AllocError, AllocFailed};
 use thiserror::Error;
 use x10_frame::FrameFault;
+use x10_kinds::Limit;
 
 /// Why a place doesn't take a message in.
 #[derive(Clone, Copy, Debug, PartialEq, Eq, Error)]
@@ -35,9 +36,9 @@ pub enum Refusal {
     /// A growth was refused for lack of memory.
     #[error("Memory")]
     Memory,
-    /// A count would have passed its greatest value; which one, from 1 to 11.
+    /// A count would have passed its greatest value.
     #[error("Limit {0}")]
-    Limit(u8),
+    Limit(Limit),
     /// The place had stopped before.
     #[error("Stopped")]
     Stopped,

@@ -6,7 +6,7 @@ ghost use Rattle.x10_copy.specs.Graphs.{object_at, IsSoundHeap};
 ghost use Rattle.x10_copy.specs.Captured.{kinds_of};
 ghost use Rattle.x10_copy.specs.Soundness as spec;
 
-use x10_heap::Heap;
+use x10_heap::{Heap, has_id, home_in};
 use x10_image::{ClassView, ImageView};
 use x10_kinds::Kind;
 use x10_model::Slot;
@@ -40,12 +40,7 @@ fn word_sound(heap: &Heap, places: u16, kind: Kind, word: u64) -> bool
             }
             object_word(heap, class, word)
         }
-        Kind::GRef(_) => {
-            if word % 65_536 >= u64::from(places) {
-                return false;
-            }
-            word / 65_536 < 1 << 32
-        }
+        Kind::GRef(_) => home_in(word) < places && has_id(word),
     }
 }
 
@@ -79,7 +74,8 @@ fn fields_sound(heap: &Heap, places: u16, class: &ClassView, words: &[u64]) -> b
 
 fn object_sound(heap: &Heap, image: &ImageView, places: u16, object: u32) -> bool
     requires { object < length heap.now.objects }
-    ensures { result ≡ spec.object_sound image.now.classes places heap.now (object_at heap.now object) }
+    ensures { result ≡ spec.object_sound image.now.classes places heap.now
+        (object_at heap.now object) }
 {
     let class = usize::from(heap.class(object));
     if class >= image.classes() {

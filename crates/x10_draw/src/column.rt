@@ -28,7 +28,7 @@ pub(crate) struct Span {
 
 /// A stay that lives.
 #[derive(Drop)]
-struct Stay {
+struct OpenStay {
     state: State,
     since: u64,
     last: u64,
@@ -56,7 +56,7 @@ pub(crate) struct Column {
     /// How many steps in a row that put nothing out have rows of their own.
     shown: u64,
     quiet: u64,
-    stays: Vec<Option<Stay>>,
+    stays: Vec<Option<OpenStay>>,
     given_up: Vec<usize>,
     finishes: u64,
     widest: usize,
@@ -162,7 +162,7 @@ impl Column {
             self.stays.push(None)?;
         }
         if let Some(lane) = self.stays.get_mut(key) {
-            *lane = Some(Stay {
+            *lane = Some(OpenStay {
                 state: State::Working,
                 since: row,
                 last: row,

@@ -42,7 +42,8 @@ fn push_char(out: &mut String, c: char) -> Result<(), AllocError>
 /// which no reference may name either, as U+FFFD, the replacement character. Linear in the text.
 #[tactic(auto, using(crate::proofs::Contents::all_chars))]
 pub fn push_escaped(out: &mut String, text: &str) -> Result<(), AllocError>
-    ensures value { OnOk result (string_bytes out.new ≡ string_bytes out.old ++ flat_map spec.escape (chars text.now)) }
+    ensures value { OnOk result (string_bytes out.new
+        ≡ string_bytes out.old ++ flat_map spec.escape (chars text.now)) }
     ensures content { IsTrue (spec.are_content (flat_map spec.escape (chars text.now))) }
 {
     for c in text.chars() {

@@ -1,6 +1,6 @@
 //! Where things are on the page, in pixels.
 use crate::column::Column;
-use crate::parts::Spot;
+use crate::parts::Point;
 use std::alloc::{AllocError, Global};
 
 /// The height of a row.
@@ -96,10 +96,10 @@ impl Grid {
     }
 
     /// Where an end of an arrow is.
-    pub(crate) fn spot(&self, spot: Spot) -> u64 {
-        match spot.lane {
-            Some(lane) => self.lane(spot.place, lane),
-            None => self.band(spot.place).lifeline,
+    pub(crate) fn point(&self, point: Point) -> u64 {
+        match point.lane {
+            Some(lane) => self.lane(point.place, lane),
+            None => self.band(point.place).lifeline,
         }
     }
 }

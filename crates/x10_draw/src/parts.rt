@@ -3,7 +3,7 @@ use crate::frame_kind::FrameKind;
 
 /// An end of an arrow: a lane of a place, or its lifeline, and the row.
 #[derive(Clone, Copy, Debug, PartialEq, Eq)]
-pub(crate) struct Spot {
+pub(crate) struct Point {
     pub(crate) place: u16,
     pub(crate) lane: Option<usize>,
     pub(crate) row: u64,
@@ -16,9 +16,9 @@ pub(crate) struct Arrow {
     pub(crate) kind: FrameKind,
     pub(crate) function: Option<u16>,
     pub(crate) waiting: Option<usize>,
-    pub(crate) from: Spot,
+    pub(crate) from: Point,
     pub(crate) to: u16,
-    pub(crate) head: Option<Spot>,
+    pub(crate) head: Option<Point>,
 }
 
 /// A finish of a stay, from FINB to FINE.

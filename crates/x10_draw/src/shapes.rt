@@ -4,7 +4,7 @@ use crate::escape::push_escaped;
 use crate::frame_kind::FrameKind;
 use crate::geometry::{Grid, letters_wide, row_y};
 use crate::label::{Label, Tone};
-use crate::parts::{Arrow, Bracket, End, Fork, Spot};
+use crate::parts::{Arrow, Bracket, End, Fork, Point};
 use std::alloc::AllocError;
 use std::fmt::Write;
 
@@ -131,14 +131,14 @@ fn short_of(x: u64, from: u64) -> u64 {
 
 /// The arrow of a frame; to the end of the lifeline where it is still in flight.
 pub(crate) fn push_arrow(out: &mut String, grid: &Grid, arrow: Arrow) -> Result<(), AllocError> {
-    let flying = Spot {
+    let flying = Point {
         place: arrow.to,
         lane: None,
         row: grid.bottom,
     };
     let head = arrow.head.unwrap_or(flying);
-    let (x, y) = (grid.spot(arrow.from), row_y(arrow.from.row));
-    let (end, below) = (short_of(grid.spot(head), x), row_y(head.row));
+    let (x, y) = (grid.point(arrow.from), row_y(arrow.from.row));
+    let (end, below) = (short_of(grid.point(head), x), row_y(head.row));
     let style = arrow_style(arrow.kind);
     let (name, number) = (arrow.kind.name(), arrow.number);
     let (from, to) = (arrow.from.place, arrow.to);

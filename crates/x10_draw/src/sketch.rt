@@ -4,7 +4,7 @@ use crate::label::{Label, Tone};
 use crate::parts::{Arrow, Bracket, End, Fork};
 use crate::telling::{Move, main_label, quiet_label, step_label, text_of};
 use std::alloc::{AllocError, Global};
-use x10_code::Op;
+use x10_code::{Group, Op, group};
 use x10_model::Event;
 use x10_world::{Done, World};
 
@@ -279,8 +279,5 @@ fn state_after(step: Move, column: &Column) -> State {
 
 /// Whether an operation is seen only by its own stay, where it puts nothing out and ends no stay.
 fn is_quiet(op: Op) -> bool {
-    !matches!(
-        op,
-        Op::Async | Op::At | Op::Ata | Op::Finb | Op::Fine | Op::Atomb | Op::Atome | Op::Print
-    )
+    op != Op::Print && group(op) != Group::Activities
 }

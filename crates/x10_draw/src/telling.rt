@@ -1,6 +1,6 @@
 //! The texts of labels.
 use crate::label::{Label, Tone, push_cut};
-use crate::parts::{Arrow, Spot};
+use crate::parts::{Arrow, Point};
 use std::alloc::{AllocError, Global};
 use std::fmt::Write;
 use x10_code::{Op, name};
@@ -58,12 +58,12 @@ pub(crate) fn print(
 
 /// Main is at place 0.
 pub(crate) fn main_label(text: String) -> Label {
-    let spot = Spot {
+    let point = Point {
         place: 0,
         lane: Some(0),
         row: 0,
     };
-    delivery_label(spot, text)
+    delivery_label(point, text)
 }
 
 /// The label of a step that others may see, with all of its line of output, where that is cut.
@@ -94,11 +94,11 @@ pub(crate) fn quiet_label(step: Move, row: u64, tone: Tone, text: String) -> Lab
     }
 }
 
-pub(crate) fn delivery_label(spot: Spot, text: String) -> Label {
+pub(crate) fn delivery_label(point: Point, text: String) -> Label {
     Label {
-        place: spot.place,
-        lane: spot.lane,
-        row: spot.row,
+        place: point.place,
+        lane: point.lane,
+        row: point.row,
         tone: Tone::Notable,
         text,
         full: None,

@@ -22,8 +22,8 @@ use Rattle.x10_image.specs.Faults as images
 use Rattle.x10_image.specs.Faults.{IsFault, IsFaultOrMemory}
 use Rattle.x10_image.specs.declared.fault.ImageFault.{ImageFault as Fault}
 use Rattle.x10_image.specs.declared.fault.ImageFault.TheVariants as fault
-use Rattle.x10_explain.specs.declared.check.Refusal.{Refusal}
-use Rattle.x10_explain.specs.declared.check.Refusal.TheVariants as refusal
+use Rattle.x10_explain.specs.declared.check.CheckFault.{CheckFault}
+use Rattle.x10_explain.specs.declared.check.CheckFault.TheVariants as refusal
 use Rattle.x10_explain.specs.Verdicts.{IsGood, IsVerifiedImage, IsVerifiedText, Reports, RefusesImage, RefusesText}
 
 abbrev answer : Module → Result Module ImageFault
@@ -55,21 +55,27 @@ not_by m bounds cause.Result f pc r other v = without m bounds f r.2 v
 not_by m bounds cause.Memory f pc r other v = other refl
 
 -- what the verifier refutes isn't the image of a verified module
-pub not_verified : (bytes : List ℕ) (m : Module) (f : VerifyFault) → FitsImage m → bytes ≡ spelling m → Refutes m f → (f.cause ≡ cause.Memory → ⊥) → IsVerifiedImage bytes → ⊥
+pub not_verified : (bytes : List ℕ) (m : Module) (f : VerifyFault) → FitsImage m → bytes ≡ spelling m → Refutes m f → (f.cause ≡ cause.Memory → ⊥)
+    → IsVerifiedImage bytes → ⊥
 not_verified bytes m f fits spelled r other (n, is, good) =
     let same = same_module n m bytes good.fits is fits spelled in
     not_by m good.bounds f.cause f.function f.pc r other (subst (λ k. IsVerified k good.bounds) same good.verified)
 
 -- what it accepts is
 pub is_verified : (bytes : List ℕ) (m : Module) (c : Certified) → bytes ≡ spelling m → c.program ≡ m → IsCertified c → IsVerifiedImage bytes
-is_verified bytes m c spelled same is = (c.program, spelled ∙ ap spelling (sym same), record { bounds = c.bounds; fits = is.fits; verified = is.verified })
+is_verified bytes m c spelled same is = (
+  c.program,
+  spelled ∙ ap spelling (sym same),
+  record { bounds = c.bounds; fits = is.fits; verified = is.verified },
+)
 
 -- ---- of a text
 
 abbrev read_as : Module → Result Module AsmFault
 read_as m = Ok m
 
-pub text_verdict : (text items slice : List ℕ) (b : Bool) → slice ≡ items → IsImageOf items (module_of text) → (b ≡ true ↔ IsVerifiedImage slice) → (b ≡ true ↔ IsVerifiedText text)
+pub text_verdict : (text items slice : List ℕ) (b : Bool) → slice ≡ items → IsImageOf items (module_of text) → (b ≡ true ↔ IsVerifiedImage slice)
+    → (b ≡ true ↔ IsVerifiedText text)
 text_verdict text items slice b same (m, fits, read, spelled) h = (
   λ is. (let v = h.0 is in (m, read, subst IsGood (same_module v.0 m items v.2.fits (sym same ∙ v.1) fits spelled) v.2)),
   λ v. (
@@ -81,7 +87,8 @@ text_verdict text items slice b same (m, fits, read, spelled) h = (
 -- ---- why not
 
 -- every fault but one is that of reading
-pub of_reading : (f : Fault) (read : Result Module ImageFault) → (f ≡ fault.Memory → ⊥) → IsFaultOrMemory (images.named f) read → IsFault (images.named f) read
+pub of_reading : (f : Fault) (read : Result Module ImageFault) → (f ≡ fault.Memory → ⊥) → IsFaultOrMemory (images.named f) read
+    → IsFault (images.named f) read
 of_reading fault.Memory read other h = other refl
 of_reading fault.Short read other h = h
 of_reading _ read other h = h
@@ -91,10 +98,12 @@ no_fault None read m e h = h
 no_fault (Some f) read m e h = absurd (let c = sym h ∙ e in cc)
 
 -- what refuses the image of a text's module refuses the text
-pub text_why : (text items slice : List ℕ) (b : Bool) (r : Option Refusal) → slice ≡ items → IsImageOf items (module_of text) → Reports b r (RefusesImage slice) → Reports b r (RefusesText text)
+pub text_why : (text items slice : List ℕ) (b : Bool) (r : Option CheckFault) → slice ≡ items → IsImageOf items (module_of text)
+    → Reports b r (RefusesImage slice) → Reports b r (RefusesText text)
 text_why text items slice b None same is h = h
 text_why text items slice b (Some (refusal.Asm f)) same is h = absurd h.1
-text_why text items slice b (Some (refusal.Image f)) same (m, fits, read, spelled) h = absurd (no_fault (images.named f) (module_at slice) m (ap module_at (same ∙ spelled) ∙ module_again m fits) h.1)
+text_why text items slice b (Some (refusal.Image f)) same (m, fits, read, spelled) h =
+    absurd (no_fault (images.named f) (module_at slice) m (ap module_at (same ∙ spelled) ∙ module_again m fits) h.1)
 text_why text items slice b (Some (refusal.Verify f)) same (m, fits, read, spelled) h =
     let one : m ≡ h.1.0 = same_module m h.1.0 items fits spelled h.1.1 (sym same ∙ h.1.2) in
     (h.0, (h.1.0, read ∙ ap (λ (n : Module). read_as n) one, h.1.1, h.1.3))

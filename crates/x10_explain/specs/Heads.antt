@@ -38,7 +38,8 @@ line_if (Some i) = instruction_line i
 
 -- where a fault is
 abbrev pub position_of : VerifyFault → List ℕ
-position_of fault = word_of fault.cause ++ (codes ", function " ++ (decimal fault.function ++ (codes ", instruction " ++ (decimal fault.pc ++ codes ": "))))
+position_of fault = word_of fault.cause ++ (codes ", function "
+    ++ (decimal fault.function ++ (codes ", instruction " ++ (decimal fault.pc ++ codes ": "))))
 
 abbrev pub head_line : Module → VerifyFault → List ℕ
 head_line m fault = position_of fault ++ line_if (instr_at m fault.function fault.pc)
@@ -62,11 +63,14 @@ asm_head fault = asm_word fault.cause ++ (codes ", line " ++ (decimal fault.line
 
 -- where a fault is in a text, in the form that editors jump to
 abbrev pub placed : List ℕ → ℕ → ℕ → List ℕ
-placed name line column = name ++ (codes ":" ++ (decimal line ++ (codes ":" ++ (decimal column ++ codes ": "))))
+placed name line column = name ++ (codes ":"
+    ++ (decimal line ++ (codes ":" ++ (decimal column ++ codes ": "))))
 
 -- the same, and the cause
 abbrev pub placed_asm_head : List ℕ → ℕ → AsmFault → List ℕ
-placed_asm_head name column fault = name ++ (codes ":" ++ (decimal fault.line ++ (codes ":" ++ (decimal column ++ (codes ": " ++ (asm_word fault.cause ++ codes ": "))))))
+placed_asm_head name column fault = name
+    ++ (codes ":" ++ (decimal fault.line ++ (codes ":"
+    ++ (decimal column ++ (codes ": " ++ (asm_word fault.cause ++ codes ": "))))))
 
 -- ---- of an image
 

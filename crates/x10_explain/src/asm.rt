@@ -36,7 +36,8 @@ pub fn explain_asm_in(
     text: &str,
     fault: AsmFault,
 ) -> Result<String, AllocError>
-    ensures { IfOk result (λ s. (column : ℕ) × (rest : List ℕ) × (string_bytes s ≡ placed_asm_head name.now column fault ++ rest)) }
+    ensures { IfOk result (λ s. (column : ℕ) × (rest : List ℕ)
+        × (string_bytes s ≡ placed_asm_head name.now column fault ++ rest)) }
 {
     let mut out = String::new(alloc);
     push_placed_head(&mut out, name, column_of(text, fault), fault)?;
@@ -52,7 +53,8 @@ fn push_placed_head(
     column: usize,
     fault: AsmFault,
 ) -> Result<(), AllocError>
-    ensures { OnOk result (string_bytes out.new ≡ string_bytes out.old ++ placed_asm_head name.now column fault) }
+    ensures { OnOk result (string_bytes out.new
+        ≡ string_bytes out.old ++ placed_asm_head name.now column fault) }
 {
     let (word, number) = (asm_name(fault.cause), fault.line);
     write!(out, "{name}:{number}:{column}: {word}: ")

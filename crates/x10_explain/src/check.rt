@@ -18,7 +18,7 @@ use x10_verify::{Verified, VerifyCause, VerifyFault, verify};
 
 /// Why a check refuses a module: the fault that is reported by the first call that refuses it.
 #[derive(Clone, Copy, Debug, PartialEq, Eq)]
-pub enum Refusal {
+pub enum CheckFault {
     Asm(AsmFault),
     Image(ImageFault),
     Verify(VerifyFault),
@@ -35,11 +35,11 @@ pub enum Form<'a> {
 
 /// What is found of a module.
 #[derive(Debug, Drop)]
-pub struct Report {
+pub struct Checked {
     /// Whether it is verified.
     pub verified: bool,
     /// Why it isn't.
-    pub refusal: Option<Refusal>,
+    pub refusal: Option<CheckFault>,
     /// Its bounds, a line for each function; or its faults, each explained, in at most 60 lines. As JSON both are in one line.
     pub text: String,
 }
@@ -50,18 +50,20 @@ const MOST_FAULTS: usize = 6;
 /// Whether an image is verified, which is `verify`'s answer; and the bound of each function, or the first fault of each
 /// function that has one. Where it isn't verified this costs `verify` of all functions at most twice, and the explanations of
 /// at most 6 functions.
-pub fn check_image(alloc: Global, bytes: &[u8], form: Form) -> Result<Report, AllocError>
+pub fn check_image(alloc: Global, bytes: &[u8], form: Form) -> Result<Checked, AllocError>
     ensures verdict { IfOk result (λ report. IsTrue report.verified ↔ IsVerifiedImage bytes.now) }
-    ensures why { IfOk result (λ report. Reports report.verified report.refusal (RefusesImage bytes.now)) }
+    ensures why { IfOk result (λ report. Reports report.verified report.refusal
+        (RefusesImage bytes.now)) }
 {
     check_bytes(alloc, bytes, None, form)
 }
 
 /// The same of the module that a text spells, each fault with its line of the text; or why it spells none: its first faulty
 /// line, and at most 6 more that are faulty wherever they stand.
-pub fn check_text(alloc: Global, text: &str, form: Form) -> Result<Report, AllocError>
+pub fn check_text(alloc: Global, text: &str, form: Form) -> Result<Checked, AllocError>
     ensures verdict { IfOk result (λ report. IsTrue report.verified ↔ IsVerifiedText text.now) }
-    ensures why { IfOk result (λ report. Reports report.verified report.refusal (RefusesText text.now)) }
+    ensures why { IfOk result (λ report. Reports report.verified report.refusal
+        (RefusesText text.now)) }
 {
     match assemble(alloc, text) {
         Ok(bytes) => {
@@ -73,9 +75,9 @@ pub fn check_text(alloc: Global, text: &str, form: Form) -> Result<Report, Alloc
                 return Err(AllocError);
             }
             let text = faults_of_text(alloc, text, fault, form)?;
-            Ok(Report {
+            Ok(Checked {
                 verified: false,
-                refusal: Some(Refusal::Asm(fault)),
+                refusal: Some(CheckFault::Asm(fault)),
                 text,
             })
         }
@@ -140,18 +142,19 @@ fn check_bytes(
     bytes: &[u8],
     source: Option<&str>,
     form: Form,
-) -> Result<Report, AllocError>
+) -> Result<Checked, AllocError>
     ensures verdict { IfOk result (λ report. IsTrue report.verified ↔ IsVerifiedImage bytes.now) }
-    ensures why { IfOk result (λ report. Reports report.verified report.refusal (RefusesImage bytes.now)) }
+    ensures why { IfOk result (λ report. Reports report.verified report.refusal
+        (RefusesImage bytes.now)) }
 {
     let image = match ImageView::read(alloc, bytes) {
         Ok(image) => image,
         Err(ImageFault::Memory) => return Err(AllocError),
         Err(fault) => {
             let text = fault_of_image(alloc, bytes, fault, form)?;
-            return Ok(Report {
+            return Ok(Checked {
                 verified: false,
-                refusal: Some(Refusal::Image(fault)),
+                refusal: Some(CheckFault::Image(fault)),
                 text,
             });
         }
@@ -159,7 +162,7 @@ fn check_bytes(
     match verify(alloc, image) {
         Ok(verified) => {
             let text = bounds_of(alloc, &verified, form)?;
-            Ok(Report {
+            Ok(Checked {
                 verified: true,
                 refusal: None,
                 text,
@@ -170,9 +173,9 @@ fn check_bytes(
                 return Err(AllocError);
             }
             let text = faults_of(alloc, bytes, source, form)?;
-            Ok(Report {
+            Ok(Checked {
                 verified: false,
-                refusal: Some(Refusal::Verify(fault)),
+                refusal: Some(CheckFault::Verify(fault)),
                 text,
             })
         }

@@ -49,7 +49,8 @@ pub(crate) fn push_place(
     line: usize,
     column: usize,
 ) -> Result<(), AllocError>
-    ensures { OnOk result (string_bytes out.new ≡ string_bytes out.old ++ placed name.now line column) }
+    ensures { OnOk result (string_bytes out.new
+        ≡ string_bytes out.old ++ placed name.now line column) }
 {
     write!(out, "{name}:{line}:{column}: ")
 }

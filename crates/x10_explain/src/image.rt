@@ -15,7 +15,8 @@ use x10_image::{Field, ImageFault, Misfit, misfit_in};
 /// begins there and its bytes; what the fault says; what the header counts, where it is there; and whether the bytes are a text
 /// that has to be assembled. One pass over the bytes.
 pub fn explain_image(alloc: Global, bytes: &[u8], fault: ImageFault) -> Result<String, AllocError>
-    ensures { IfOk result (λ s. (rest : List ℕ) × (string_bytes s ≡ image_head fault (length bytes.now) ++ rest)) }
+    ensures { IfOk result (λ s. (rest : List ℕ)
+        × (string_bytes s ≡ image_head fault (length bytes.now) ++ rest)) }
 {
     let mut out = String::new(alloc);
     push_head(&mut out, fault, bytes.len())?;

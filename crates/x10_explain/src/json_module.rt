@@ -205,7 +205,7 @@ fn instructions_of(
 ) -> Result<Vec<InstructionJson>, AllocError>
     requires { f < length image.now.functions }
 {
-    let notes = notes_of(alloc, image, f, bounds)?;
+    let notes = notes_of(alloc, image, None, f, bounds)?;
     let registers = image.signature(f).registers();
     let mut all = Vec::new(alloc);
     for pc in 0..image.code_len(f) {

@@ -123,8 +123,8 @@ fn scope_of(text: &str, number: usize) -> Scope {
     }
 }
 
-// The name of the label that a line defines, if it defines one.
-fn label_in(line: &str) -> Option<&str> {
+/// The name of the label that a line defines, if it defines one.
+pub(crate) fn label_in(line: &str) -> Option<&str> {
     let said = line_of(line);
     if said.statement == Statement::Label {
         said.first.strip_suffix(':')

@@ -67,7 +67,7 @@ impl Lack {
 /// Where a rule is looked at: an instruction of a function, and what is known before it; and the text that the module was read
 /// from, where there is one.
 #[derive(Clone, Copy)]
-pub(crate) struct Spot<'a> {
+pub(crate) struct Inquiry<'a> {
     pub(crate) image: &'a ImageView<'a>,
     pub(crate) source: Option<&'a Source<'a>>,
     pub(crate) flow: &'a Flow,
@@ -79,103 +79,113 @@ pub(crate) struct Spot<'a> {
 
 /// The first thing that the rule of an instruction asks for and doesn't find, by the order of the verifier: the kinds of
 /// a, b and c, then what its outcome asks. Where there is nothing of it, control leaves the function.
-pub(crate) fn first_lack(spot: &Spot) -> Lack {
-    let Some(rule) = outcome_and_row(spot.instr) else {
+pub(crate) fn first_lack(inquiry: &Inquiry) -> Lack {
+    let Some(rule) = outcome_and_row(inquiry.instr) else {
         return Lack::LeadsOut;
     };
     let row = [
-        (spot.instr.a, rule.a),
-        (spot.instr.b, rule.b),
-        (spot.instr.c, rule.c),
+        (inquiry.instr.a, rule.a),
+        (inquiry.instr.b, rule.b),
+        (inquiry.instr.c, rule.c),
     ];
     for (register, want) in row {
         if let Some(want) = want {
-            if let Some(lack) = asked(spot, register, Want::Fitting(want), Role::Operand) {
+            if let Some(lack) = asked(inquiry, register, Want::Fitting(want), Role::Operand) {
                 return lack;
             }
         }
     }
-    lack_of(spot, rule.outcome).unwrap_or(Lack::LeadsOut)
+    lack_of(inquiry, rule.outcome).unwrap_or(Lack::LeadsOut)
 }
 
 // What is missing of a register.
-fn asked(spot: &Spot, register: u8, want: Want, role: Role) -> Option<Lack> {
-    match spot.flow.kind(spot.pc, register) {
+fn asked(inquiry: &Inquiry, register: u8, want: Want, role: Role) -> Option<Lack> {
+    match inquiry.flow.kind(inquiry.pc, register) {
         Some(have) if is_met(want, have) => None,
         _ => Some(Lack::Register(register, want, role)),
     }
 }
 
 // What is missing of what an outcome asks.
-fn lack_of(spot: &Spot, outcome: Outcome) -> Option<Lack> {
-    let instr = spot.instr;
+fn lack_of(inquiry: &Inquiry, outcome: Outcome) -> Option<Lack> {
+    let instr = inquiry.instr;
     match outcome {
         Outcome::Fixed(_) => None,
-        Outcome::Copies => asked(spot, instr.b, Want::Anything, Role::Operand),
-        Outcome::Calls(at) => called(spot, at),
-        Outcome::Returns => returned(spot),
-        Outcome::Makes => made(spot),
-        Outcome::Gets => got(spot, instr.b),
-        Outcome::Puts => put(spot),
-        Outcome::Unwraps => asked(spot, instr.b, Want::AnObjectOrNull, Role::Operand),
-        Outcome::Locates => asked(spot, instr.b, Want::AReference, Role::Operand),
-        Outcome::Exports => asked(spot, instr.b, Want::AnObject, Role::Operand),
-        Outcome::Opens => opened(spot),
-        Outcome::FindsHere => asked(spot, instr.a, Want::APlaceOrReference, Role::Operand),
-        Outcome::FindsSame => found_same(spot),
-        Outcome::Starts(at) => started(spot, at),
-        Outcome::Prints => asked(spot, instr.a, Want::AnIntOrText, Role::Operand),
+        Outcome::Copies => asked(inquiry, instr.b, Want::Anything, Role::Operand),
+        Outcome::Calls(at) => called(inquiry, at),
+        Outcome::Returns => returned(inquiry),
+        Outcome::Makes => made(inquiry),
+        Outcome::Gets => got(inquiry, instr.b),
+        Outcome::Puts => put(inquiry),
+        Outcome::Unwraps => asked(inquiry, instr.b, Want::AnObjectOrNull, Role::Operand),
+        Outcome::Locates => asked(inquiry, instr.b, Want::AReference, Role::Operand),
+        Outcome::Exports => asked(inquiry, instr.b, Want::AnObject, Role::Operand),
+        Outcome::Opens => opened(inquiry),
+        Outcome::FindsHere => asked(inquiry, instr.a, Want::APlaceOrReference, Role::Operand),
+        Outcome::FindsSame => found_same(inquiry),
+        Outcome::Starts(at) => started(inquiry, at),
+        Outcome::Prints => asked(inquiry, instr.a, Want::AnIntOrText, Role::Operand),
     }
 }
 
 // Both registers hold places or references.
-fn found_same(spot: &Spot) -> Option<Lack> {
-    let first = asked(spot, spot.instr.a, Want::APlaceOrReference, Role::Operand);
+fn found_same(inquiry: &Inquiry) -> Option<Lack> {
+    let first = asked(
+        inquiry,
+        inquiry.instr.a,
+        Want::APlaceOrReference,
+        Role::Operand,
+    );
     if first.is_some() {
         return first;
     }
-    asked(spot, spot.instr.b, Want::APlaceOrReference, Role::Operand)
+    asked(
+        inquiry,
+        inquiry.instr.b,
+        Want::APlaceOrReference,
+        Role::Operand,
+    )
 }
 
 // A reference whose home is here.
-fn opened(spot: &Spot) -> Option<Lack> {
-    let register = spot.instr.b;
-    let kind = asked(spot, register, Want::AReference, Role::Operand);
+fn opened(inquiry: &Inquiry) -> Option<Lack> {
+    let register = inquiry.instr.b;
+    let kind = asked(inquiry, register, Want::AReference, Role::Operand);
     if kind.is_some() {
         return kind;
     }
-    at_home(spot, register, Term::Here, Role::Operand)
+    at_home(inquiry, register, Term::Here, Role::Operand)
 }
 
 // The home of a reference is the place of a term.
-fn at_home(spot: &Spot, register: u8, at: Term, role: Role) -> Option<Lack> {
-    if are_same(spot.flow, spot.pc, Term::Reg(register), at) {
+fn at_home(inquiry: &Inquiry, register: u8, at: Term, role: Role) -> Option<Lack> {
+    if are_same(inquiry.flow, inquiry.pc, Term::Reg(register), at) {
         return None;
     }
     Some(Lack::Home(register, at, role))
 }
 
 // A register fits a slot, whose home, where it asks for one, is the place of a term.
-fn fits_as(spot: &Spot, slot: Slot, register: u8, at: Term, role: Role) -> Option<Lack> {
-    let kind = asked(spot, register, Want::Fitting(slot.kind), role);
+fn fits_as(inquiry: &Inquiry, slot: Slot, register: u8, at: Term, role: Role) -> Option<Lack> {
+    let kind = asked(inquiry, register, Want::Fitting(slot.kind), role);
     if kind.is_some() || !slot.home_here {
         return kind;
     }
-    at_home(spot, register, at, role)
+    at_home(inquiry, register, at, role)
 }
 
 // The place where a call goes, and its arguments.
-fn called_with(spot: &Spot, at: Term, signature: &SigView) -> Option<Lack> {
+fn called_with(inquiry: &Inquiry, at: Term, signature: &SigView) -> Option<Lack> {
     if let Term::Reg(register) = at {
-        let place = asked(spot, register, Want::Fitting(Kind::Place), Role::Operand);
+        let place = asked(inquiry, register, Want::Fitting(Kind::Place), Role::Operand);
         if place.is_some() {
             return place;
         }
     }
     for n in 0..signature.parameters() {
-        let register = argument(spot.instr.b, n);
+        let register = argument(inquiry.instr.b, n);
         let lack = fits_as(
-            spot,
+            inquiry,
             signature.parameter(n),
             register,
             at,
@@ -208,22 +218,22 @@ pub(crate) fn callee<'a>(image: &ImageView<'a>, instr: Instr) -> Option<SigView<
 }
 
 // CALL and AT.
-fn called(spot: &Spot, at: Term) -> Option<Lack> {
-    let signature = callee(spot.image, spot.instr)?;
-    let lack = called_with(spot, at, &signature);
+fn called(inquiry: &Inquiry, at: Term) -> Option<Lack> {
+    let signature = callee(inquiry.image, inquiry.instr)?;
+    let lack = called_with(inquiry, at, &signature);
     if lack.is_some() {
         return lack;
     }
-    if signature.result().is_none() && spot.instr.a != 0 {
+    if signature.result().is_none() && inquiry.instr.a != 0 {
         return Some(Lack::NoResult);
     }
     None
 }
 
 // ASYNC and ATA.
-fn started(spot: &Spot, at: Term) -> Option<Lack> {
-    let signature = callee(spot.image, spot.instr)?;
-    let lack = called_with(spot, at, &signature);
+fn started(inquiry: &Inquiry, at: Term) -> Option<Lack> {
+    let signature = callee(inquiry.image, inquiry.instr)?;
+    let lack = called_with(inquiry, at, &signature);
     if lack.is_some() {
         return lack;
     }
@@ -234,15 +244,15 @@ fn started(spot: &Spot, at: Term) -> Option<Lack> {
 }
 
 // RET.
-fn returned(spot: &Spot) -> Option<Lack> {
-    match spot.result {
+fn returned(inquiry: &Inquiry) -> Option<Lack> {
+    match inquiry.result {
         None => {
-            if spot.instr.a != 0 {
+            if inquiry.instr.a != 0 {
                 return Some(Lack::NoResult);
             }
             None
         }
-        Some(slot) => fits_as(spot, slot, spot.instr.a, Term::Here, Role::Result),
+        Some(slot) => fits_as(inquiry, slot, inquiry.instr.a, Term::Here, Role::Result),
     }
 }
 
@@ -256,12 +266,12 @@ pub(crate) fn fields_of<'a>(image: &ImageView<'a>, class: usize) -> Option<Class
 }
 
 // NEW.
-fn made(spot: &Spot) -> Option<Lack> {
-    let fields = fields_of(spot.image, spot.instr.x as usize)?;
+fn made(inquiry: &Inquiry) -> Option<Lack> {
+    let fields = fields_of(inquiry.image, inquiry.instr.x as usize)?;
     for n in 0..fields.len() {
-        let register = argument(spot.instr.b, n);
+        let register = argument(inquiry.instr.b, n);
         let want = Want::Fitting(fields.field(n));
-        let lack = asked(spot, register, want, Role::Field(n));
+        let lack = asked(inquiry, register, want, Role::Field(n));
         if lack.is_some() {
             return lack;
         }
@@ -270,26 +280,26 @@ fn made(spot: &Spot) -> Option<Lack> {
 }
 
 // The kind of field c of the object in a register, or what is missing.
-fn field(spot: &Spot, register: u8) -> Result<Kind, Lack> {
-    let Some(Kind::Obj(class)) = spot.flow.kind(spot.pc, register) else {
+fn field(inquiry: &Inquiry, register: u8) -> Result<Kind, Lack> {
+    let Some(Kind::Obj(class)) = inquiry.flow.kind(inquiry.pc, register) else {
         return Err(Lack::Register(register, Want::AnObject, Role::Operand));
     };
-    let at = usize::from(spot.instr.c);
-    match fields_of(spot.image, usize::from(class)) {
+    let at = usize::from(inquiry.instr.c);
+    match fields_of(inquiry.image, usize::from(class)) {
         Some(fields) if at < fields.len() => Ok(fields.field(at)),
         _ => Err(Lack::NoField(register, class)),
     }
 }
 
 // GET.
-fn got(spot: &Spot, register: u8) -> Option<Lack> {
-    field(spot, register).err()
+fn got(inquiry: &Inquiry, register: u8) -> Option<Lack> {
+    field(inquiry, register).err()
 }
 
 // PUT.
-fn put(spot: &Spot) -> Option<Lack> {
-    match field(spot, spot.instr.a) {
+fn put(inquiry: &Inquiry) -> Option<Lack> {
+    match field(inquiry, inquiry.instr.a) {
         Err(lack) => Some(lack),
-        Ok(kind) => asked(spot, spot.instr.b, Want::Fitting(kind), Role::Operand),
+        Ok(kind) => asked(inquiry, inquiry.instr.b, Want::Fitting(kind), Role::Operand),
     }
 }

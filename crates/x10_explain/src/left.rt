@@ -1,7 +1,8 @@
 //! How many steps a function has left at most.
 
 use std::alloc::{AllocError, Global};
-use x10_code::{Instr, Op};
+use x10_bounds::{Shape, classify};
+use x10_code::Instr;
 use x10_image::ImageView;
 
 /// For each instruction of a function, given the bounds of those before it, how many steps it takes at most from there to its
@@ -27,8 +28,8 @@ pub(crate) fn steps_left(
 
 // What an instruction costs: a step, and those of the function that it calls.
 fn cost(bounds: &[u64], instr: Instr) -> u64 {
-    match instr.op {
-        Op::Call | Op::At => number_at(bounds, instr.x as usize).saturating_add(1),
+    match classify(instr.op) {
+        Shape::Call => number_at(bounds, instr.x as usize).saturating_add(1),
         _ => 1,
     }
 }
@@ -59,9 +60,9 @@ fn fill_backward(
         let instr = image.instr(f, pc);
         let after = number_at(left, pc + 1);
         let mut total = after.saturating_add(cost(bounds, instr));
-        match instr.op {
-            Op::Endl => ends.push(after)?,
-            Op::Loop => {
+        match classify(instr.op) {
+            Shape::EndOfLoop => ends.push(after)?,
+            Shape::Loop => {
                 let end: u64 = ends.pop().unwrap_or(0);
                 let turn = after.saturating_sub(end);
                 let more = u64::from(instr.x).saturating_sub(1);
@@ -89,15 +90,15 @@ fn add_turns(
     for pc in 0..image.code_len(f) {
         let here = number_at(left, pc);
         put_at(left, pc, here.saturating_add(turns));
-        match image.instr(f, pc).op {
-            Op::Loop => {
+        match classify(image.instr(f, pc).op) {
+            Shape::Loop => {
                 let more = here
                     .saturating_sub(number_at(left, pc + 1))
                     .saturating_sub(1);
                 turns = turns.saturating_add(more);
                 open.push(more)?;
             }
-            Op::Endl => turns = turns.saturating_sub(open.pop().unwrap_or(0)),
+            Shape::EndOfLoop => turns = turns.saturating_sub(open.pop().unwrap_or(0)),
             _ => {}
         }
     }

@@ -1,7 +1,7 @@
 //! Where what is known of a register comes from.
 
 use crate::head::instr_in;
-use crate::lack::{Lack, Spot};
+use crate::lack::{Inquiry, Lack};
 use crate::phrase::{are_same, push_instruction_at, push_known, push_term};
 use crate::rule::written;
 use crate::ways::{Arrived, Way, arrivals, before, jumps_to, same_after, way_into};
@@ -41,7 +41,7 @@ const MOST_WAYS: usize = 3;
 pub(crate) fn push_origin(
     alloc: Global,
     out: &mut String,
-    spot: &Spot,
+    inquiry: &Inquiry,
     lack: Lack,
 ) -> Result<bool, AllocError> {
     let Some(register) = lack.register() else {
@@ -51,29 +51,29 @@ pub(crate) fn push_origin(
         Lack::Home(_, at, _) => Some(at),
         _ => None,
     };
-    let is_unset = spot.flow.kind(spot.pc, register).is_none();
+    let is_unset = inquiry.flow.kind(inquiry.pc, register).is_none();
     let question = Question {
         register,
         at,
         is_unset,
     };
-    let arrivals = arrivals(alloc, spot.image, spot.flow, spot.f)?;
-    let origin = origin_of(spot, &arrivals, question);
-    push_answer_of(out, spot, question, origin)?;
+    let arrivals = arrivals(alloc, inquiry.image, inquiry.flow, inquiry.f)?;
+    let origin = origin_of(inquiry, &arrivals, question);
+    push_answer_of(out, inquiry, question, origin)?;
     Ok(matches!(origin, Origin::Meets(_)))
 }
 
 fn push_answer_of(
     out: &mut String,
-    spot: &Spot,
+    inquiry: &Inquiry,
     question: Question,
     origin: Origin,
 ) -> Result<(), AllocError> {
     match origin {
-        Origin::Entry => push_entry(out, spot, question),
+        Origin::Entry => push_entry(out, inquiry, question),
         Origin::Written(pc, register) => {
             write!(out, "r{register} was written last in ")?;
-            push_instruction(out, spot, pc)
+            push_instruction(out, inquiry, pc)
         }
         Origin::Skipped(pc) => {
             let register = question.register;
@@ -81,30 +81,30 @@ fn push_answer_of(
                 out,
                 "r{register} is written only on going on, and not on the way to a label, by "
             )?;
-            push_instruction(out, spot, pc)
+            push_instruction(out, inquiry, pc)
         }
-        Origin::Meets(pc) => push_ways(out, spot, pc, question),
+        Origin::Meets(pc) => push_ways(out, inquiry, pc, question),
     }
 }
 
 // An instruction of the function, at the end of a line.
-fn push_instruction(out: &mut String, spot: &Spot, pc: usize) -> Result<(), AllocError> {
-    push_instruction_at(out, spot.image, spot.source, spot.f, pc)
+fn push_instruction(out: &mut String, inquiry: &Inquiry, pc: usize) -> Result<(), AllocError> {
+    push_instruction_at(out, inquiry.image, inquiry.source, inquiry.f, pc)
 }
 
 // Back along the only way that leads to an instruction.
-fn origin_of(spot: &Spot, arrivals: &[Arrived], question: Question) -> Origin {
-    let mut at = spot.pc;
+fn origin_of(inquiry: &Inquiry, arrivals: &[Arrived], question: Question) -> Origin {
+    let mut at = inquiry.pc;
     for _ in 0..arrivals.len() {
-        match way_into(spot.image, spot.flow, spot.f, arrivals, at) {
+        match way_into(inquiry.image, inquiry.flow, inquiry.f, arrivals, at) {
             Way::Entry => return Origin::Entry,
             Way::Several => return Origin::Meets(at),
-            Way::Jump(from) if question.is_unset && settles(spot, from, question).is_some() => {
+            Way::Jump(from) if question.is_unset && settles(inquiry, from, question).is_some() => {
                 return Origin::Skipped(from);
             }
             Way::Jump(from) => at = from,
             Way::Next(from) => {
-                if let Some(register) = settles(spot, from, question) {
+                if let Some(register) = settles(inquiry, from, question) {
                     return Origin::Written(from, register);
                 }
                 at = from;
@@ -115,8 +115,8 @@ fn origin_of(spot: &Spot, arrivals: &[Arrived], question: Question) -> Origin {
 }
 
 // The register of a question that an instruction writes, if it writes one.
-fn settles(spot: &Spot, pc: usize, question: Question) -> Option<u8> {
-    let register = written(spot.image, instr_in(spot.image, spot.f, pc)?)?;
+fn settles(inquiry: &Inquiry, pc: usize, question: Question) -> Option<u8> {
+    let register = written(inquiry.image, instr_in(inquiry.image, inquiry.f, pc)?)?;
     if register == question.register || question.at == Some(Term::Reg(register)) {
         Some(register)
     } else {
@@ -125,11 +125,11 @@ fn settles(spot: &Spot, pc: usize, question: Question) -> Option<u8> {
 }
 
 // A register that nothing has written since the function began.
-fn push_entry(out: &mut String, spot: &Spot, question: Question) -> Result<(), AllocError> {
-    if spot.f >= spot.image.functions() {
+fn push_entry(out: &mut String, inquiry: &Inquiry, question: Question) -> Result<(), AllocError> {
+    if inquiry.f >= inquiry.image.functions() {
         return Ok(());
     }
-    let signature = spot.image.signature(spot.f);
+    let signature = inquiry.image.signature(inquiry.f);
     let register = question.register;
     let n = usize::from(register);
     let count = signature.parameters();
@@ -164,30 +164,30 @@ fn push_parameters(out: &mut String, count: usize) -> Result<(), AllocError> {
 // What is known on the ways that meet at an instruction.
 fn push_ways(
     out: &mut String,
-    spot: &Spot,
+    inquiry: &Inquiry,
     pc: usize,
     question: Question,
 ) -> Result<(), AllocError> {
     write!(out, "Ways meet in ")?;
-    push_instruction(out, spot, pc)?;
+    push_instruction(out, inquiry, pc)?;
     let mut told: usize = 0;
-    if let Some(instr) = before(spot.image, spot.flow, spot.f, pc) {
-        push_way_on(out, spot, pc, instr, question)?;
+    if let Some(instr) = before(inquiry.image, inquiry.flow, inquiry.f, pc) {
+        push_way_on(out, inquiry, pc, instr, question)?;
         told = 1;
     }
-    if spot.f >= spot.image.functions() {
+    if inquiry.f >= inquiry.image.functions() {
         return Ok(());
     }
-    for from in 0..spot.image.code_len(spot.f) {
-        if !spot.flow.is_reached(from) || !jumps_to(spot.image.instr(spot.f, from), pc) {
+    for from in 0..inquiry.image.code_len(inquiry.f) {
+        if !inquiry.flow.is_reached(from) || !jumps_to(inquiry.image.instr(inquiry.f, from), pc) {
             continue;
         }
         if told >= MOST_WAYS {
             return out.push_str("  and more ways\n");
         }
-        push_answer(out, spot, from, question, false)?;
+        push_answer(out, inquiry, from, question, false)?;
         out.push_str(" on the way from ")?;
-        push_instruction(out, spot, from)?;
+        push_instruction(out, inquiry, from)?;
         told = told.saturating_add(1);
     }
     Ok(())
@@ -196,30 +196,30 @@ fn push_ways(
 // What is known on going on from the instruction before.
 fn push_way_on(
     out: &mut String,
-    spot: &Spot,
+    inquiry: &Inquiry,
     pc: usize,
     instr: Instr,
     question: Question,
 ) -> Result<(), AllocError> {
     let from = pc.saturating_sub(1);
-    match settles(spot, from, question) {
+    match settles(inquiry, from, question) {
         Some(register) => write!(out, "  r{register} is written in ")?,
         None => {
             let learnt = match question.at {
                 None => false,
-                Some(at) => same_after(spot.flow, from, instr, Term::Reg(question.register), at),
+                Some(at) => same_after(inquiry.flow, from, instr, Term::Reg(question.register), at),
             };
-            push_answer(out, spot, from, question, learnt)?;
+            push_answer(out, inquiry, from, question, learnt)?;
             out.push_str(" on the way from ")?;
         }
     }
-    push_instruction(out, spot, from)
+    push_instruction(out, inquiry, from)
 }
 
 // What is known before an instruction, or learnt by it.
 fn push_answer(
     out: &mut String,
-    spot: &Spot,
+    inquiry: &Inquiry,
     pc: usize,
     question: Question,
     learnt: bool,
@@ -227,9 +227,9 @@ fn push_answer(
     let register = question.register;
     let Some(at) = question.at else {
         out.push_str("  ")?;
-        return push_known(out, register, spot.flow.kind(pc, register));
+        return push_known(out, register, inquiry.flow.kind(pc, register));
     };
-    let known = learnt || are_same(spot.flow, pc, Term::Reg(register), at);
+    let known = learnt || are_same(inquiry.flow, pc, Term::Reg(register), at);
     let is = if known {
         "is known to be"
     } else {

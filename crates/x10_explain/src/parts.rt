@@ -1,7 +1,7 @@
 //! What is said of a fault, part by part.
 
 use crate::head::instr_in;
-use crate::lack::Spot;
+use crate::lack::Inquiry;
 use crate::origin::push_origin;
 use crate::repair::push_repair;
 use crate::source::Source;
@@ -41,7 +41,7 @@ pub(crate) fn parts_of(
     if f >= image.functions() {
         return Ok(parts);
     }
-    let spot = Spot {
+    let inquiry = Inquiry {
         image,
         source,
         flow,
@@ -50,14 +50,14 @@ pub(crate) fn parts_of(
         pc,
         instr,
     };
-    let Some(lack) = lack_of_fault(&spot, fault) else {
+    let Some(lack) = lack_of_fault(&inquiry, fault) else {
         return Ok(parts);
     };
-    push_asked(&mut parts.asked, &spot, lack)?;
+    push_asked(&mut parts.asked, &inquiry, lack)?;
     if is_known_of(lack) {
-        push_found(&mut parts.known, &spot, lack)?;
+        push_found(&mut parts.known, &inquiry, lack)?;
     }
-    let meets = push_origin(alloc, &mut parts.origin, &spot, lack)?;
-    push_repair(&mut parts.repair, &spot, lack, meets)?;
+    let meets = push_origin(alloc, &mut parts.origin, &inquiry, lack)?;
+    push_repair(&mut parts.repair, &inquiry, lack, meets)?;
     Ok(parts)
 }

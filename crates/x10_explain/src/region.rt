@@ -1,5 +1,6 @@
 //! The regions of a function, as people call them.
 
+use x10_bounds::{Shape, classify};
 use x10_code::Op;
 
 /// What is between an opener and its closer.
@@ -13,20 +14,20 @@ pub(crate) enum Region {
 impl Region {
     /// The region that an operation opens.
     pub(crate) fn opened_by(op: Op) -> Option<Region> {
-        match op {
-            Op::Loop => Some(Region::Loop),
-            Op::Finb => Some(Region::Finish),
-            Op::Atomb => Some(Region::Atomic),
+        match classify(op) {
+            Shape::Loop => Some(Region::Loop),
+            Shape::Finish => Some(Region::Finish),
+            Shape::Atomic => Some(Region::Atomic),
             _ => None,
         }
     }
 
     /// The region that an operation closes.
     pub(crate) fn closed_by(op: Op) -> Option<Region> {
-        match op {
-            Op::Endl => Some(Region::Loop),
-            Op::Fine => Some(Region::Finish),
-            Op::Atome => Some(Region::Atomic),
+        match classify(op) {
+            Shape::EndOfLoop => Some(Region::Loop),
+            Shape::EndOfFinish => Some(Region::Finish),
+            Shape::EndOfAtomic => Some(Region::Atomic),
             _ => None,
         }
     }

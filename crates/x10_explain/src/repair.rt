@@ -1,6 +1,6 @@
 //! How what the verifier misses is put right.
 
-use crate::lack::{Lack, Spot};
+use crate::lack::{Inquiry, Lack};
 use crate::want::{takes_int, takes_object};
 use std::alloc::AllocError;
 use std::fmt::Write;
@@ -10,12 +10,12 @@ use x10_verify::Want;
 /// A line on how to put right what is missing, where there is a usual way. Where ways meet, what is known comes from them.
 pub(crate) fn push_repair(
     out: &mut String,
-    spot: &Spot,
+    inquiry: &Inquiry,
     lack: Lack,
     meets: bool,
 ) -> Result<(), AllocError> {
     match lack {
-        Lack::Register(register, want, _) => match spot.flow.kind(spot.pc, register) {
+        Lack::Register(register, want, _) => match inquiry.flow.kind(inquiry.pc, register) {
             None => push_set(out, register, meets),
             Some(have) => push_converted(out, register, want, have),
         },

@@ -5,6 +5,7 @@ use crate::phrase::push_instruction_at;
 use crate::region::Region;
 use crate::source::Source;
 use std::alloc::{AllocError, Global};
+use x10_bounds::{opener, surroundings};
 use x10_code::{Instr, Op};
 use x10_image::ImageView;
 
@@ -54,19 +55,22 @@ impl Site<'_> {
     }
 }
 
-/// The openers of the regions that are open before an instruction, the innermost last. Linear in its number.
+/// The openers of the regions that are open before an instruction, the innermost last. Linear in the function's instructions.
 pub(crate) fn open_at(alloc: Global, site: &Site, pc: usize) -> Result<Vec<usize>, AllocError> {
     let mut open = Vec::new(alloc);
-    for at in 0..pc {
-        let Some(instr) = site.instr(at) else {
-            return Ok(open);
-        };
-        if Region::opened_by(instr.op).is_some() {
-            open.push(at)?;
-        } else if Region::closed_by(instr.op).is_some() {
-            open.pop();
-        }
+    if site.f >= site.image.functions() {
+        return Ok(open);
     }
+    let spots = surroundings(alloc, site.image, site.f)?;
+    let mut at = pc;
+    for _ in 0..pc {
+        let Some(outer) = spots.get(at).and_then(|spot| opener(*spot)) else {
+            break;
+        };
+        at = usize::from(outer);
+        open.push(at)?;
+    }
+    open.reverse();
     Ok(open)
 }
 

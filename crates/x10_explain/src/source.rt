@@ -36,12 +36,17 @@ impl<'a> Source<'a> {
         Ok(Source { text, funcs })
     }
 
+    /// The text from the first line of function `f` on.
+    pub(crate) fn from_function(&self, f: usize) -> Option<&'a str> {
+        self.text.get(self.funcs.get(f)?.bytes..)
+    }
+
     /// The line of an instruction, and its number. Linear in the lines of the instruction's function.
     pub(crate) fn line_of(&self, f: usize, pc: usize) -> Option<(usize, &'a str)>
         ensures { IfSome result (λ x. IsUtf8 x.1.now) }
     {
         let func = *self.funcs.get(f)?;
-        let text = self.text.get(func.bytes..)?;
+        let text = self.from_function(f)?;
         let mut left = pc;
         for (index, line) in text.lines().enumerate() {
             if !matches!(line_of(line).statement, Statement::Instruction(_)) {

@@ -11,11 +11,12 @@ ghost use Rattle.x10_asm.specs.Reading.{module_of};
 
 use crate::commented::push_commented;
 use crate::faults::{Finding, find};
+use crate::function_labels::FunctionLabels;
 use crate::head::{head, instr_in};
-use crate::inside::insides;
 use crate::known::push_state;
 use crate::lack::{callee, fields_of};
 use crate::left::steps_left;
+use crate::source::Source;
 use crate::verify::explained;
 use std::alloc::{AllocError, Global};
 use std::fmt::Write;
@@ -23,6 +24,7 @@ use x10_asm::{
     push_class, push_end, push_entry, push_func, push_instruction, push_int, push_int_line,
     push_kind, push_places, push_quoted, push_result, push_slot, push_text_line, push_version,
 };
+use x10_bounds::{Spot, surroundings};
 use x10_code::{Instr, Operand, form};
 use x10_image::{ClassView, ImageView, SigView};
 use x10_verify::VerifyCause;
@@ -30,15 +32,16 @@ use x10_verify::VerifyCause;
 /// How many bytes a comment shows of a text at most.
 const SHOWN: usize = 64;
 
-/// What is said of the instructions of a function whose structure is right: how many steps are left at most before each, and
-/// whether it is inside an atomic region.
+/// What is said of the instructions of a function: how many steps are left at most before each, and whether it is inside an
+/// atomic region, where the function's structure is right; and the labels.
 #[derive(Drop)]
-pub(crate) struct Notes {
+pub(crate) struct Notes<'a> {
     left: Vec<u64>,
-    inside: Vec<bool>,
+    spots: Vec<Spot>,
+    labels: FunctionLabels<'a>,
 }
 
-impl Notes {
+impl Notes<'_> {
     /// How many steps are left at most before an instruction.
     pub(crate) fn left_at(&self, pc: usize) -> Option<u64> {
         self.left.get(pc).copied()
@@ -46,27 +49,37 @@ impl Notes {
 
     /// Whether an instruction is inside an atomic region.
     pub(crate) fn is_inside(&self, pc: usize) -> bool {
-        self.inside.get(pc) == Some(&true)
+        self.spots.get(pc).is_some_and(|spot| spot.atomics > 0)
     }
 }
 
 /// The listing of an image for people: the canonical listing, with comments in lines of their own. They number classes,
 /// constants and functions, and say before each instruction its number, what the verifier knows there and how many steps are
 /// left at most, and what the instruction names. A function that is refused has its first fault explained before the faulty
-/// instruction, and no states after it. Without the comments it is the listing, so it assembles to the same image. Linear in
-/// the image, each function's flow aside; the memory is that of the text and of one function's states.
-pub fn list_verbose(alloc: Global, image: &ImageView) -> Result<String, AllocError>
+/// instruction, and no states after it. Where the image was assembled from a text, `text`, its labels are named too, at the
+/// instructions that they stand before and where another one names such an instruction. Without the comments it is the listing,
+/// so it assembles to the same image. Linear in the image and the text, each function's flow aside; the memory is that of the
+/// listing and of one function's states.
+pub fn list_verbose(
+    alloc: Global,
+    image: &ImageView,
+    text: Option<&str>,
+) -> Result<String, AllocError>
     ensures says { IfOk result (λ s. said (string_bytes s) ≡ said (listing image.now)) }
     ensures again { IfOk result (λ s. module_of (string_bytes s) ≡ Ok image.now) }
 {
     image.fits();
-    let text = whole(alloc, image)?;
-    Ok(text)
+    let source = match text {
+        Some(text) => Some(Source::read(alloc, text)?),
+        None => None,
+    };
+    let listing = whole(alloc, image, source.as_ref())?;
+    Ok(listing)
 }
 
 /// The lines of the listing, with the comments between them.
 #[tactic(auto, unfolding(x10_asm::specs::Listing::listing))]
-fn whole(alloc: Global, image: &ImageView) -> Result<String, AllocError>
+fn whole(alloc: Global, image: &ImageView, source: Option<&Source>) -> Result<String, AllocError>
     ensures { IfOk result (λ s. Tells [] (string_bytes s) (listing image.now)) }
 {
     let mut out = String::new(alloc);
@@ -75,7 +88,7 @@ fn whole(alloc: Global, image: &ImageView) -> Result<String, AllocError>
     push_classes(alloc, &mut out, image)?;
     push_ints(alloc, &mut out, image)?;
     push_texts(alloc, &mut out, image)?;
-    push_functions(alloc, &mut out, image)?;
+    push_functions(alloc, &mut out, image, source)?;
     push_numbered(
         alloc,
         &mut out,
@@ -100,7 +113,8 @@ fn push_numbered(
 }
 
 fn push_classes(alloc: Global, out: &mut String, image: &ImageView) -> Result<(), AllocError>
-    ensures { OnOk result (Tells (string_bytes out.old) (string_bytes out.new) (flat_map class_line image.now.classes)) }
+    ensures { OnOk result (Tells (string_bytes out.old) (string_bytes out.new)
+        (flat_map class_line image.now.classes)) }
 {
     for c in 0..image.classes() {
         push_numbered(alloc, out, "class", c)?;
@@ -110,7 +124,8 @@ fn push_classes(alloc: Global, out: &mut String, image: &ImageView) -> Result<()
 }
 
 fn push_ints(alloc: Global, out: &mut String, image: &ImageView) -> Result<(), AllocError>
-    ensures { OnOk result (Tells (string_bytes out.old) (string_bytes out.new) (flat_map int_line image.now.ints)) }
+    ensures { OnOk result (Tells (string_bytes out.old) (string_bytes out.new)
+        (flat_map int_line image.now.ints)) }
 {
     for i in 0..image.ints() {
         push_numbered(alloc, out, "int", i)?;
@@ -121,13 +136,15 @@ fn push_ints(alloc: Global, out: &mut String, image: &ImageView) -> Result<(), A
 
 fn push_int_at(out: &mut String, image: &ImageView, i: usize) -> Result<(), AllocError>
     requires { i < length image.now.ints }
-    ensures { OnOk result ((z : ℤ) × (slice_get image.now.ints i ≡ Some z) × (string_bytes out.new ≡ string_bytes out.old ++ int_line z)) }
+    ensures { OnOk result ((z : ℤ) × (slice_get image.now.ints i ≡ Some z)
+        × (string_bytes out.new ≡ string_bytes out.old ++ int_line z)) }
 {
     push_int_line(out, image.int(i))
 }
 
 fn push_texts(alloc: Global, out: &mut String, image: &ImageView) -> Result<(), AllocError>
-    ensures { OnOk result (Tells (string_bytes out.old) (string_bytes out.new) (flat_map text_line image.now.texts)) }
+    ensures { OnOk result (Tells (string_bytes out.old) (string_bytes out.new)
+        (flat_map text_line image.now.texts)) }
 {
     for t in 0..image.texts() {
         push_numbered(alloc, out, "text", t)?;
@@ -136,13 +153,20 @@ fn push_texts(alloc: Global, out: &mut String, image: &ImageView) -> Result<(), 
     Ok(())
 }
 
-fn push_functions(alloc: Global, out: &mut String, image: &ImageView) -> Result<(), AllocError>
-    ensures { OnOk result (Tells (string_bytes out.old) (string_bytes out.new) (flat_map function_lines image.now.functions)) }
+fn push_functions(
+    alloc: Global,
+    out: &mut String,
+    image: &ImageView,
+    source: Option<&Source>,
+) -> Result<(), AllocError>
+    ensures { OnOk result (Tells (string_bytes out.old) (string_bytes out.new)
+        (flat_map function_lines image.now.functions)) }
 {
     let mut bounds = Vec::new(alloc);
     for f in 0..image.functions() {
         let finding = find(alloc, image, f, &bounds)?;
-        push_function(alloc, out, image, f, &bounds, &finding)?;
+        let notes = notes_of(alloc, image, source, f, &bounds)?;
+        push_function(alloc, out, image, f, &notes, &finding)?;
         bounds.push(finding.bound)?;
     }
     Ok(())
@@ -154,15 +178,16 @@ fn push_function(
     out: &mut String,
     image: &ImageView,
     f: usize,
-    bounds: &[u64],
+    notes: &Notes,
     finding: &Finding,
 ) -> Result<(), AllocError>
     requires { f < length image.now.functions }
-    ensures { OnOk result ((g : Function) × (function_at image.now f ≡ Some g) × Tells (string_bytes out.old) (string_bytes out.new) (function_lines g)) }
+    ensures { OnOk result ((g : Function) × (function_at image.now f ≡ Some g)
+        × Tells (string_bytes out.old) (string_bytes out.new) (function_lines g)) }
 {
     push_heading(alloc, out, f, finding.bound)?;
     push_func(out, &image.signature(f))?;
-    push_code(alloc, out, image, f, bounds, finding)?;
+    push_code(alloc, out, image, f, notes, finding)?;
     push_end(out)?;
     Ok(())
 }
@@ -184,30 +209,34 @@ fn push_code(
     out: &mut String,
     image: &ImageView,
     f: usize,
-    bounds: &[u64],
+    notes: &Notes,
     finding: &Finding,
 ) -> Result<(), AllocError>
     requires { f < length image.now.functions }
-    ensures { OnOk result (Tells (string_bytes out.old) (string_bytes out.new) (flat_map instruction_line (code_at image.now f))) }
+    ensures { OnOk result (Tells (string_bytes out.old) (string_bytes out.new)
+        (flat_map instruction_line (code_at image.now f))) }
 {
-    let notes = notes_of(alloc, image, f, bounds)?;
     for pc in 0..image.code_len(f) {
-        push_notes(alloc, out, image, f, pc, &notes, finding)?;
+        push_notes(alloc, out, image, f, pc, notes, finding)?;
         push_instruction(out, image.instr(f, pc))?;
     }
     Ok(())
 }
 
 /// What is said of the instructions of a function, given the bounds of those before it.
-pub(crate) fn notes_of(
+pub(crate) fn notes_of<'a>(
     alloc: Global,
     image: &ImageView,
+    source: Option<&Source<'a>>,
     f: usize,
     bounds: &[u64],
-) -> Result<Notes, AllocError> {
+) -> Result<Notes<'a>, AllocError>
+    requires { f < length image.now.functions }
+{
     Ok(Notes {
         left: steps_left(alloc, image, f, bounds)?,
-        inside: insides(alloc, image, f)?,
+        spots: surroundings(alloc, image, f)?,
+        labels: FunctionLabels::read(alloc, source, f)?,
     })
 }
 
@@ -251,7 +280,9 @@ fn note(
     requires { f < length image.now.functions }
 {
     let flow = &finding.flow;
-    let mut note = format!(in alloc; "{pc}:")?;
+    let mut note = format!(in alloc; "{pc}")?;
+    notes.labels.push_before(&mut note, pc)?;
+    note.push_str(":")?;
     if !is_past(finding, pc) {
         if flow.is_reached(pc) {
             push_state(&mut note, image, flow, pc, image.signature(f).registers())?;
@@ -263,7 +294,7 @@ fn note(
         }
     }
     if let Some(instr) = instr_in(image, f, pc) {
-        push_named(&mut note, image, instr)?;
+        push_named(&mut note, image, notes, instr)?;
     }
     Ok(note)
 }
@@ -319,8 +350,23 @@ fn push_beginning(out: &mut String, text: &str) -> Result<(), AllocError> {
     Ok(())
 }
 
-// What x names: a constant, a class or a function.
-fn push_named(out: &mut String, image: &ImageView, instr: Instr) -> Result<(), AllocError> {
+// What a function takes and gives.
+fn push_takes(out: &mut String, signature: &SigView) -> Result<(), AllocError> {
+    if signature.parameters() == 0 {
+        out.push_str(" nothing")?;
+    }
+    push_slots(out, signature)?;
+    out.push_str(" and gives")?;
+    push_result(out, signature.result())
+}
+
+// What x names: a constant, a class, a function, or an instruction that has a label.
+fn push_named(
+    out: &mut String,
+    image: &ImageView,
+    notes: &Notes,
+    instr: Instr,
+) -> Result<(), AllocError> {
     let x = instr.x as usize;
     match form(instr.op).x {
         Operand::Int if x < image.ints() => {
@@ -342,14 +388,10 @@ fn push_named(out: &mut String, image: &ImageView, instr: Instr) -> Result<(), A
             None => Ok(()),
             Some(signature) => {
                 write!(out, "; function {x} takes")?;
-                if signature.parameters() == 0 {
-                    out.push_str(" nothing")?;
-                }
-                push_slots(out, &signature)?;
-                out.push_str(" and gives")?;
-                push_result(out, signature.result())
+                push_takes(out, &signature)
             }
         },
+        Operand::Target => notes.labels.push_target(out, x),
         _ => Ok(()),
     }
 }

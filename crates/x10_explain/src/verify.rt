@@ -6,7 +6,7 @@ ghost use Rattle.x10_explain.specs.Heads.{head_line, placed};
 use crate::caret::first_column;
 use crate::head::{head, instr_in, push_place};
 use crate::index::push_index;
-use crate::lack::{Lack, Role, Spot, callee, fields_of, first_lack};
+use crate::lack::{Inquiry, Lack, Role, callee, fields_of, first_lack};
 use crate::origin::push_origin;
 use crate::phrase::{push_known, push_term};
 use crate::regions::push_structure;
@@ -29,7 +29,8 @@ pub fn explain_verify(
     image: &ImageView,
     fault: VerifyFault,
 ) -> Result<String, AllocError>
-    ensures { IfOk result (λ s. (rest : List ℕ) × (string_bytes s ≡ head_line image.now fault ++ rest)) }
+    ensures { IfOk result (λ s. (rest : List ℕ)
+        × (string_bytes s ≡ head_line image.now fault ++ rest)) }
 {
     let mut out = head(alloc, image, fault)?;
     let rest = reasons(alloc, image, None, fault)?;
@@ -46,7 +47,8 @@ pub fn explain_verify_in(
     text: &str,
     fault: VerifyFault,
 ) -> Result<String, AllocError>
-    ensures { IfOk result (λ s. (line : ℕ) × (column : ℕ) × (rest : List ℕ) × (string_bytes s ≡ placed name.now line column ++ (head_line image.now fault ++ rest))) }
+    ensures { IfOk result (λ s. (line : ℕ) × (column : ℕ) × (rest : List ℕ)
+        × (string_bytes s ≡ placed name.now line column ++ (head_line image.now fault ++ rest))) }
 {
     let source = Source::read(alloc, text)?;
     let (line, column) = place_in(&source, fault);
@@ -151,7 +153,7 @@ pub(crate) fn push_flow_fault(
         return Ok(());
     }
     let result = image.signature(f).result();
-    let spot = Spot {
+    let inquiry = Inquiry {
         image,
         source,
         flow,
@@ -160,22 +162,22 @@ pub(crate) fn push_flow_fault(
         pc,
         instr,
     };
-    let Some(lack) = lack_of_fault(&spot, fault) else {
+    let Some(lack) = lack_of_fault(&inquiry, fault) else {
         return out.push_str("What is known there meets the rule: the fault isn't this module's.\n");
     };
-    push_lack(out, &spot, lack)?;
-    let meets = push_origin(alloc, out, &spot, lack)?;
-    push_repair(out, &spot, lack, meets)
+    push_lack(out, &inquiry, lack)?;
+    let meets = push_origin(alloc, out, &inquiry, lack)?;
+    push_repair(out, &inquiry, lack, meets)
 }
 
 /// What is missing where a fault of the flow is; nothing where the fault isn't this module's.
-pub(crate) fn lack_of_fault(spot: &Spot, fault: VerifyFault) -> Option<Lack> {
-    let lack = first_lack(spot);
+pub(crate) fn lack_of_fault(inquiry: &Inquiry, fault: VerifyFault) -> Option<Lack> {
+    let lack = first_lack(inquiry);
     let have = match lack.register() {
         None => None,
-        Some(register) => spot.flow.kind(spot.pc, register),
+        Some(register) => inquiry.flow.kind(inquiry.pc, register),
     };
-    if spot.flow.is_reached(spot.pc) && lack.cause(have) == fault.cause {
+    if inquiry.flow.is_reached(inquiry.pc) && lack.cause(have) == fault.cause {
         Some(lack)
     } else {
         None
@@ -183,11 +185,11 @@ pub(crate) fn lack_of_fault(spot: &Spot, fault: VerifyFault) -> Option<Lack> {
 }
 
 // What is asked, and what is known of it.
-fn push_lack(out: &mut String, spot: &Spot, lack: Lack) -> Result<(), AllocError> {
-    push_asked(out, spot, lack)?;
+fn push_lack(out: &mut String, inquiry: &Inquiry, lack: Lack) -> Result<(), AllocError> {
+    push_asked(out, inquiry, lack)?;
     if is_known_of(lack) {
         out.push_str("; ")?;
-        push_found(out, spot, lack)?;
+        push_found(out, inquiry, lack)?;
     }
     out.push_str(".\n")
 }
@@ -198,14 +200,18 @@ pub(crate) fn is_known_of(lack: Lack) -> bool {
 }
 
 // What is asked.
-pub(crate) fn push_asked(out: &mut String, spot: &Spot, lack: Lack) -> Result<(), AllocError> {
-    let name = name(spot.instr.op);
-    let (c, x) = (spot.instr.c, spot.instr.x);
+pub(crate) fn push_asked(
+    out: &mut String,
+    inquiry: &Inquiry,
+    lack: Lack,
+) -> Result<(), AllocError> {
+    let name = name(inquiry.instr.op);
+    let (c, x) = (inquiry.instr.c, inquiry.instr.x);
     match lack {
         Lack::Register(register, want, role) => {
             write!(out, "{name} asks that r{register} is")?;
             push_want(out, want)?;
-            push_role(out, spot, role)
+            push_role(out, inquiry, role)
         }
         Lack::NoField(register, _) => {
             write!(
@@ -216,7 +222,7 @@ pub(crate) fn push_asked(out: &mut String, spot: &Spot, lack: Lack) -> Result<()
         Lack::Home(register, at, role) => {
             write!(out, "{name} asks that the home of r{register} is ")?;
             push_term(out, at)?;
-            push_role(out, spot, role)
+            push_role(out, inquiry, role)
         }
         Lack::NoResult => write!(out, "{name} has no result here, so its first number is 0"),
         Lack::Dropped => write!(
@@ -228,13 +234,17 @@ pub(crate) fn push_asked(out: &mut String, spot: &Spot, lack: Lack) -> Result<()
 }
 
 // What is known of what is asked.
-pub(crate) fn push_found(out: &mut String, spot: &Spot, lack: Lack) -> Result<(), AllocError> {
+pub(crate) fn push_found(
+    out: &mut String,
+    inquiry: &Inquiry,
+    lack: Lack,
+) -> Result<(), AllocError> {
     match lack {
         Lack::Register(register, ..) => {
-            push_known(out, register, spot.flow.kind(spot.pc, register))
+            push_known(out, register, inquiry.flow.kind(inquiry.pc, register))
         }
         Lack::NoField(_, class) => {
-            let count = match fields_of(spot.image, usize::from(class)) {
+            let count = match fields_of(inquiry.image, usize::from(class)) {
                 None => 0,
                 Some(fields) => fields.len(),
             };
@@ -242,7 +252,7 @@ pub(crate) fn push_found(out: &mut String, spot: &Spot, lack: Lack) -> Result<()
         }
         Lack::Home(..) => out.push_str("it isn't known to be"),
         Lack::NoResult => {
-            let a = spot.instr.a;
+            let a = inquiry.instr.a;
             write!(out, "it is {a}")
         }
         Lack::Dropped | Lack::LeadsOut => Ok(()),
@@ -250,14 +260,14 @@ pub(crate) fn push_found(out: &mut String, spot: &Spot, lack: Lack) -> Result<()
 }
 
 // What a register is for.
-fn push_role(out: &mut String, spot: &Spot, role: Role) -> Result<(), AllocError> {
-    let x = spot.instr.x;
+fn push_role(out: &mut String, inquiry: &Inquiry, role: Role) -> Result<(), AllocError> {
+    let x = inquiry.instr.x;
     match role {
         Role::Operand => Ok(()),
         Role::Field(n) => write!(out, ", for field {n} of class {x}"),
         Role::Argument(n) => {
             write!(out, ", for parameter {n} of function {x}")?;
-            match callee(spot.image, spot.instr) {
+            match callee(inquiry.image, inquiry.instr) {
                 Some(signature) if n < signature.parameters() => {
                     out.push_str(", which is")?;
                     push_slot(out, signature.parameter(n))
@@ -265,7 +275,7 @@ fn push_role(out: &mut String, spot: &Spot, role: Role) -> Result<(), AllocError
                 _ => Ok(()),
             }
         }
-        Role::Result => match spot.result {
+        Role::Result => match inquiry.result {
             None => Ok(()),
             Some(slot) => {
                 out.push_str(", for the function's result, which is")?;

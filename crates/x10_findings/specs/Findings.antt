@@ -15,7 +15,8 @@ IsThis f output ended = (f.output.items ≡ output) × (f.ended ≡ ended)
 
 -- no run before had this output
 abbrev pub IsNew : List Finding → List ℕ → Bool → Type 0
-IsNew found output ended = (at : ℕ) (f : Finding) → slice_get found at ≡ Some f → IsThis f output ended → ⊥
+IsNew found output ended = (at : ℕ) (f : Finding) → slice_get found at ≡ Some f
+    → IsThis f output ended → ⊥
 
 -- one more, up to the greatest number of 64 bits
 abbrev pub one_more : ℕ → ℕ
@@ -23,9 +24,20 @@ one_more n = min (n + 1) 18446744073709551615
 
 -- The output of a run with a seed was counted: with the one that is there, as a new one, or, where as many are kept as can be,
 -- among the others.
-pub data IsAdded (old : FindingsState) (output : Vec ℕ Global) (ended : Bool) (seed : ℕ) (new : FindingsState) : Type 0 where
+pub data IsAdded (old : FindingsState) (output : Vec ℕ Global) (ended : Bool) (seed : ℕ)
+    (new : FindingsState) : Type 0 where
   again : (at : ℕ) (f : Finding) → slice_get old.found at ≡ Some f → IsThis f output.items ended
-      → new ≡ record { found = slice_set old.found at (record f { count = one_more f.count }); others = old.others } → IsAdded old output ended seed new
+      → new ≡ record {
+        found = slice_set old.found at (record f { count = one_more f.count });
+        others = old.others;
+      } → IsAdded old output ended seed new
   first : IsNew old.found output.items ended → length old.found < 100
-      → new ≡ record { found = old.found ++ (record { output = output; ended = ended; count = 1; seed = seed }) ∷ []; others = old.others } → IsAdded old output ended seed new
-  other : IsNew old.found output.items ended → 100 ≤ length old.found → new ≡ record { found = old.found; others = one_more old.others } → IsAdded old output ended seed new
+      → new ≡ record {
+        found = old.found ++ (record
+            { output = output; ended = ended; count = 1; seed = seed }) ∷ [];
+        others = old.others;
+      }
+      → IsAdded old output ended seed new
+  other : IsNew old.found output.items ended → 100 ≤ length old.found
+      → new ≡ record { found = old.found; others = one_more old.others }
+      → IsAdded old output ended seed new

@@ -97,7 +97,9 @@ impl Findings {
 
     /// Where an output is in the list.
     fn position(&self, output: &[u8], ended: bool) -> Option<usize>
-        ensures { MatchOption result (IsNew self.now.found output.now ended) (λ at. (f : Finding) × (slice_get self.now.found at ≡ Some f) × IsThis f output.now ended) }
+        ensures { MatchOption result (IsNew self.now.found output.now ended)
+            (λ at. (f : Finding) × (slice_get self.now.found at ≡ Some f)
+            × IsThis f output.now ended) }
     {
         for at in 0..self.list.len() {
             if self.list[at].is_this(output, ended) {

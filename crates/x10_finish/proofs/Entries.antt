@@ -17,7 +17,8 @@ at_entry P f k j v here there = elim (cases_eq j k) [
 ]
 
 -- the same for pairs
-pub at_pair : {V : Type 0} (P : V → Type 0) (f : ℕ → ℕ → V) (i j a b : ℕ) (v : V) → (a ≡ i → b ≡ j → P v) → (((a ≡ i) × (b ≡ j) → ⊥) → P (f a b)) → P (with_pair f i j v a b)
+pub at_pair : {V : Type 0} (P : V → Type 0) (f : ℕ → ℕ → V) (i j a b : ℕ) (v : V) → (a ≡ i → b ≡ j → P v) → (((a ≡ i) × (b ≡ j) → ⊥) → P (f a b))
+    → P (with_pair f i j v a b)
 at_pair P f i j a b v here there = elim (cases_eq a i) [
   | inl ea ↦ elim (cases_eq b j) [
     | inl eb ↦ (let p = eq-eqb a i ea in let q = eq-eqb b j eb in rw (p, q) (here ea eb))

@@ -53,7 +53,8 @@ without_size k (x ∷ xs) m = elim (cases_eq x k) [
 pub many_same : (P Q : ℕ → Type 0) (n : ℕ) → HowMany P n → ((k : ℕ) → P k → Q k) → ((k : ℕ) → Q k → P k) → HowMany Q n
 many_same P Q n h on back = record { keys = h.keys; size = h.size; once = h.once; all = λ k q. h.all k (back k q); only = λ k m. on k (h.only k m) }
 
-pub many_more : (P Q : ℕ → Type 0) (n k : ℕ) → HowMany P n → (P k → ⊥) → Q k → ((j : ℕ) → (j ≡ k → ⊥) → P j → Q j) → ((j : ℕ) → (j ≡ k → ⊥) → Q j → P j) → HowMany Q (n + 1)
+pub many_more : (P Q : ℕ → Type 0) (n k : ℕ) → HowMany P n → (P k → ⊥) → Q k → ((j : ℕ) → (j ≡ k → ⊥) → P j → Q j)
+    → ((j : ℕ) → (j ≡ k → ⊥) → Q j → P j) → HowMany Q (n + 1)
 many_more P Q n k h new now on back = record {
   keys = k ∷ h.keys;
   size = ap (λ x. x + 1) h.size;
@@ -62,7 +63,8 @@ many_more P Q n k h new now on back = record {
   only = λ j m. elim m [ inl e ↦ subst Q e now | inr rest ↦ on j (λ e. new (h.only k (subst (λ x. Among x h.keys) e rest))) (h.only j rest) ];
 }
 
-pub many_less : (P Q : ℕ → Type 0) (n k : ℕ) → HowMany P n → P k → (Q k → ⊥) → ((j : ℕ) → (j ≡ k → ⊥) → P j → Q j) → ((j : ℕ) → (j ≡ k → ⊥) → Q j → P j) → HowMany Q (n - 1)
+pub many_less : (P Q : ℕ → Type 0) (n k : ℕ) → HowMany P n → P k → (Q k → ⊥) → ((j : ℕ) → (j ≡ k → ⊥) → P j → Q j)
+    → ((j : ℕ) → (j ≡ k → ⊥) → Q j → P j) → HowMany Q (n - 1)
 many_less P Q n k h was gone on back = record {
   keys = without k h.keys;
   size = (let less = without_size k h.keys (h.all k was) in let size = h.size in omega (arith, less, size));

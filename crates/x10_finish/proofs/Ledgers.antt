@@ -1,8 +1,9 @@
 -- Ledgers: what a change of one count does to the totals of all finishes.
 use Rattle.std.proofs.Common.{◌≡◌, ℕ, ◌==◌, ◌&&◌, Bool, true, false, cond, if◌then◌else◌, List, Option, Some, None, is_some, Result, Ok, Err, OnOk, OnErr, IfErr, inl, inr, refl, sym, ◌∙◌, ap, subst, arith}
 use Rattle.std.proofs.lemmas.Bool.{eqb-true}
+use Rattle.x10_kinds.specs.declared.limit.Limit.TheVariants as limits
 use Rattle.x10_kinds.specs.declared.stop.Stop.{Stop}
-use Rattle.x10_kinds.specs.declared.stop.Stop.TheVariants.{Memory, Limit}
+use Rattle.x10_kinds.specs.declared.stop.Stop.TheVariants as stop
 use Rattle.x10_model.specs.Places as machine
 use Rattle.x10_model.specs.Worlds.{same_finish}
 use Rattle.x10_model.specs.Totals.{Totals, nothing, if_same}
@@ -39,7 +40,8 @@ same_is f g e =
 abbrev pub Writes : List (Finish × Count) → Finish → Count → List (Finish × Count) → Type 0
 Writes old k w new = (q : Finish) → count_of new q ≡ cond (finish_eq k q) (Some w) (count_of old q)
 
-picked : (b : Bool) (w : Count) (o : Option Count) (t : Totals) → (b ≡ true → counted w ≡ t) → counted_or_nothing (cond b (Some w) o) ≡ (if b then t else counted_or_nothing o)
+picked : (b : Bool) (w : Count) (o : Option Count) (t : Totals) → (b ≡ true → counted w ≡ t)
+    → counted_or_nothing (cond b (Some w) o) ≡ (if b then t else counted_or_nothing o)
 picked true w o t h = h refl
 picked false w o t h = refl
 
@@ -47,22 +49,28 @@ met_then : (b : Bool) (w : Count) (o : Option Count) → is_some (cond b (Some w
 met_then true w o = refl
 met_then false w o = refl
 
-pub Counts-by : (old new : Ledger) (k : Finish) (w : Count) (change : Totals → Totals) → new.place ≡ old.place → new.places ≡ old.places → Writes old.counts k w new.counts
+pub Counts-by : (old new : Ledger) (k : Finish) (w : Count) (change : Totals → Totals) → new.place ≡ old.place → new.places ≡ old.places
+    → Writes old.counts k w new.counts
     → counted w ≡ change (totals_of old (named k)) → Counts old (named k) change new
 Counts-by old new k w change e p h t = record {
   place = e;
   places = p;
-  totals = λ g. ap counted_or_nothing (h (key_of g)) ∙ subst (λ b. counted_or_nothing (cond b (Some w) (count_of old.counts (key_of g))) ≡ if_same g (named k) (change (totals_of old g)) (totals_of old g)) (sym (at_is_same k g))
-      (picked (same_finish g (named k)) w (count_of old.counts (key_of g)) (change (totals_of old g)) (λ s. t ∙ ap (λ f. change (totals_of old f)) (sym (same_is g (named k) s))));
-  met = λ g. ap is_some (h (key_of g)) ∙ subst (λ b. is_some (cond b (Some w) (count_of old.counts (key_of g))) ≡ (if same_finish g (named k) then true else is_met old g)) (sym (at_is_same k g))
+  totals = λ g. ap counted_or_nothing (h (key_of g)) ∙ subst (λ b. counted_or_nothing (cond b (Some w) (count_of old.counts (key_of g)))
+      ≡ if_same g (named k) (change (totals_of old g)) (totals_of old g)) (sym (at_is_same k g))
+      (picked (same_finish g (named k)) w (count_of old.counts (key_of g)) (change (totals_of old g))
+      (λ s. t ∙ ap (λ f. change (totals_of old f)) (sym (same_is g (named k) s))));
+  met = λ g. ap is_some (h (key_of g)) ∙ subst (λ b. is_some (cond b (Some w) (count_of old.counts (key_of g)))
+      ≡ (if same_finish g (named k) then true else is_met old g)) (sym (at_is_same k g))
       (met_then (same_finish g (named k)) w (count_of old.counts (key_of g)));
 }
 
-whole_then : (places : ℕ) (b : Bool) (w c : Count) (o : Option Count) → IsWhole places w → (o ≡ Some c → IsWhole places c) → cond b (Some w) o ≡ Some c → IsWhole places c
+whole_then : (places : ℕ) (b : Bool) (w c : Count) (o : Option Count) → IsWhole places w → (o ≡ Some c → IsWhole places c)
+    → cond b (Some w) o ≡ Some c → IsWhole places c
 whole_then places true w c o h g e = let same : w ≡ c = cc in subst (IsWhole places) same h
 whole_then places false w c o h g e = g e
 
-pub AreWhole-by : (places : ℕ) (old new : List (Finish × Count)) (k : Finish) (w : Count) → Writes old k w new → IsWhole places w → AreWhole places old → AreWhole places new
+pub AreWhole-by : (places : ℕ) (old new : List (Finish × Count)) (k : Finish) (w : Count) → Writes old k w new → IsWhole places w
+    → AreWhole places old → AreWhole places new
 AreWhole-by places old new k w h g all f c e = whole_then places (finish_eq k f) w c (count_of old f) g (all f c) (sym (h f) ∙ e)
 
 -- one count goes
@@ -77,12 +85,15 @@ unmet : (b : Bool) (o : Option Count) → is_some (cond b None o) ≡ (if b then
 unmet true o = refl
 unmet false o = refl
 
-pub Forgets-by : (old new : Ledger) (k : Finish) → new.place ≡ old.place → new.places ≡ old.places → Removes old.counts k new.counts → Forgets old (named k) new
+pub Forgets-by : (old new : Ledger) (k : Finish) → new.place ≡ old.place → new.places ≡ old.places → Removes old.counts k new.counts
+    → Forgets old (named k) new
 Forgets-by old new k e p h = record {
   place = e;
   places = p;
-  totals = λ g. ap counted_or_nothing (h (key_of g)) ∙ gone (finish_eq k (key_of g)) (count_of old.counts (key_of g)) ∙ ap (λ b. if b then nothing else totals_of old g) (at_is_same k g);
-  met = λ g. ap is_some (h (key_of g)) ∙ unmet (finish_eq k (key_of g)) (count_of old.counts (key_of g)) ∙ ap (λ b. if b then false else is_met old g) (at_is_same k g);
+  totals = λ g. ap counted_or_nothing (h (key_of g)) ∙ gone (finish_eq k (key_of g)) (count_of old.counts (key_of g))
+      ∙ ap (λ b. if b then nothing else totals_of old g) (at_is_same k g);
+  met = λ g. ap is_some (h (key_of g)) ∙ unmet (finish_eq k (key_of g)) (count_of old.counts (key_of g))
+      ∙ ap (λ b. if b then false else is_met old g) (at_is_same k g);
 }
 
 whole_left : (places : ℕ) (b : Bool) (c : Count) (o : Option Count) → (o ≡ Some c → IsWhole places c) → cond b None o ≡ Some c → IsWhole places c
@@ -106,12 +117,13 @@ pub if_err : {T E : Type 0} {A B : E → Type 0} (r : Result T E) → IfErr r A 
 if_err (Ok x) a f = tt
 if_err (Err e) a f = f e a
 
-pub if_both : {T E : Type 0} {A : E → Type 0} {B : Type 0} {C : E → Type 0} (r : Result T E) → IfErr r A → OnErr r B → ((e : E) → A e → B → C e) → IfErr r C
+pub if_both : {T E : Type 0} {A : E → Type 0} {B : Type 0} {C : E → Type 0} (r : Result T E) → IfErr r A → OnErr r B → ((e : E) → A e → B → C e)
+    → IfErr r C
 if_both (Ok x) a b f = tt
 if_both (Err e) a b f = f e a b
 
-pub Refuses-full : (met : Bool) (full : Type 0) (why : Stop) → why ≡ Limit 6 → full → Refuses met full why
+pub Refuses-full : (met : Bool) (full : Type 0) (why : Stop) → why ≡ stop.Limit limits.Activities → full → Refuses met full why
 Refuses-full met full why e h = subst (Refuses met full) (sym e) (h, refl)
 
-pub Refuses-memory : (met : Bool) (full : Type 0) (why : Stop) → why ≡ Memory → met ≡ false → Refuses met full why
+pub Refuses-memory : (met : Bool) (full : Type 0) (why : Stop) → why ≡ stop.Memory → met ≡ false → Refuses met full why
 Refuses-memory met full why e h = subst (Refuses met full) (sym e) h

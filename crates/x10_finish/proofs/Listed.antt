@@ -4,10 +4,11 @@ use Rattle.x10_model.specs.Places.{Finish, Stay}
 use Rattle.x10_finish.specs.Nesting.{stays_in, Stays, stays_of}
 use Rattle.x10_finish.specs.Chains.{Name, IsAmong, IsChain}
 use Rattle.x10_finish.specs.Closing.{chains_of, unders_of, QuietEventIsIdeal, StaysAreListed, OverIsQuiet}
-use Rattle.x10_finish.proofs.Closing.{sound_happens, happens_ideal, lives_by}
+use Rattle.x10_finish.proofs.QuietClosings.{sound_happens, happens_ideal, lives_by}
 
 -- a stay in a chain is there
-chain_there : (stays : Stays) (under : Finish) (xs : List Name) (p k : ℕ) → IsChain stays under xs → IsAmong (p, k) xs → (s : Stay) × (stays p k ≡ Some s)
+chain_there : (stays : Stays) (under : Finish) (xs : List Name) (p k : ℕ) → IsChain stays under xs → IsAmong (p, k) xs
+    → (s : Stay) × (stays p k ≡ Some s)
 chain_there stays under [] p k c m = absurd m
 chain_there stays under (x ∷ rest) p k c (inl is) = (c.0, subst (λ (y : Name). stays y.0 y.1 ≡ Some c.0) is c.1)
 chain_there stays under (x ∷ rest) p k c (inr m) = chain_there stays under rest p k c.4 m

@@ -43,7 +43,8 @@ is_place n a b la lb = and_from (nat_lt a n) (nat_lt b n) (lt-ltb a n la) (lt-lt
 pub pair_at-is : (n : ℕ) (pairs : List Pair) (a b : ℕ) → a < n → b < n → pair_at n pairs a b ≡ slice_index_or pairs (a * n + b) no_pair
 pair_at-is n pairs a b la lb = if_true (nat_lt a n && nat_lt b n) (slice_index_or pairs (a * n + b) no_pair) no_pair (is_place n a b la lb)
 
-pub written_here : (n : ℕ) (pairs : List Pair) (i j : ℕ) (w : Pair) → i < n → j < n → length pairs ≡ n * n → pair_at n (slice_set pairs (i * n + j) w) i j ≡ w
+pub written_here : (n : ℕ) (pairs : List Pair) (i j : ℕ) (w : Pair) → i < n → j < n → length pairs ≡ n * n
+    → pair_at n (slice_set pairs (i * n + j) w) i j ≡ w
 written_here n pairs i j w li lj e =
     let below = place_below n i j li lj in
     let inside : i * n + j < length pairs = subst (λ m. i * n + j < m) (sym e) below in
@@ -52,14 +53,16 @@ written_here n pairs i j w li lj e =
 pub written_elsewhere : (n : ℕ) (pairs : List Pair) (i j : ℕ) (w : Pair) → i < n → j < n → (a b : ℕ) → ((a ≡ i) × (b ≡ j) → ⊥)
     → pair_at n (slice_set pairs (i * n + j) w) a b ≡ pair_at n pairs a b
 written_elsewhere n pairs i j w li lj a b apart =
-    under_if (nat_lt a n && nat_lt b n) (slice_index_or (slice_set pairs (i * n + j) w) (a * n + b) no_pair) (slice_index_or pairs (a * n + b) no_pair) no_pair
+    under_if (nat_lt a n && nat_lt b n) (slice_index_or (slice_set pairs (i * n + j) w) (a * n + b) no_pair)
+    (slice_index_or pairs (a * n + b) no_pair) no_pair
     (λ t. let lb : b < n = ltb-true b n (and_parts (nat_lt a n) (nat_lt b n) t).1 in
     get_or-set_other pairs (i * n + j) (a * n + b) w no_pair (λ s. apart (one_place n a b i j lb lj s)))
 
 pub unequal_written : (home n : ℕ) (pairs : List Pair) (i j : ℕ) (w : Pair) → i < n → j < n → length pairs ≡ n * n
     → unequal_in home n (slice_set pairs (i * n + j) w) + difference home i j (pair_at n pairs i j) ≡ unequal_in home n pairs + difference home i j w
 unequal_written home n pairs i j w li lj e =
-    square_changed (λ a b. difference home a b (pair_at n pairs a b)) (λ a b. difference home a b (pair_at n (slice_set pairs (i * n + j) w) a b)) n i j li lj
+    square_changed (λ a b. difference home a b (pair_at n pairs a b))
+    (λ a b. difference home a b (pair_at n (slice_set pairs (i * n + j) w) a b)) n i j li lj
     (λ a b apart. ap (difference home a b) (written_elsewhere n pairs i j w li lj a b apart))
     ∙ ap (λ v. unequal_in home n pairs + difference home i j v) (written_here n pairs i j w li lj e)
 
@@ -94,12 +97,15 @@ pub raised_written : (n : ℕ) (pairs : List Pair) (i j : ℕ) (by w : Pair) →
 raised_written n pairs i j by w li lj e is a b = elim (both_or_not a b i j) [
   | inl s ↦ subst (λ (x : ℕ). pair_at n (slice_set pairs (i * n + j) w) x b ≡ raised_at i j by (pair_at n pairs) x b) (sym s.0)
       (subst (λ (y : ℕ). pair_at n (slice_set pairs (i * n + j) w) i y ≡ raised_at i j by (pair_at n pairs) i y) (sym s.1)
-      (written_here n pairs i j w li lj e ∙ is ∙ sym (if_true (i == i && j == j) _ (pair_at n pairs i j) (and_from (i == i) (j == j) (eq-eqb i i refl) (eq-eqb j j refl)))))
+      (written_here n pairs i j w li lj e ∙ is ∙ sym (if_true (i == i && j == j) _ (pair_at n pairs i j)
+      (and_from (i == i) (j == j) (eq-eqb i i refl) (eq-eqb j j refl)))))
   | inr apart ↦ written_elsewhere n pairs i j w li lj a b apart
-      ∙ sym (if_not (a == i && b == j) _ (pair_at n pairs a b) (λ t. apart (let both = and_parts (a == i) (b == j) t in (eqb-true a i both.0, eqb-true b j both.1))))
+      ∙ sym (if_not (a == i && b == j) _ (pair_at n pairs a b) (λ t.
+      apart (let both = and_parts (a == i) (b == j) t in (eqb-true a i both.0, eqb-true b j both.1))))
 ]
 
-pub read_at : (n : ℕ) (pairs : List Pair) (i j : ℕ) (x : Pair) → i < n → j < n → length pairs ≡ n * n → x ≡ get_or pairs (i * n + j) x → x ≡ pair_at n pairs i j
+pub read_at : (n : ℕ) (pairs : List Pair) (i j : ℕ) (x : Pair) → i < n → j < n → length pairs ≡ n * n → x ≡ get_or pairs (i * n + j) x
+    → x ≡ pair_at n pairs i j
 read_at n pairs i j x li lj e h =
     let below = place_below n i j li lj in
     h ∙ get_or_default pairs (i * n + j) x no_pair (subst (λ m. i * n + j < m) (sym e) below) ∙ sym (pair_at-is n pairs i j li lj)

@@ -26,7 +26,8 @@ sum_changed f g (suc n) i lt h = elim (last_or_below i n lt) [
 pub square_changed : (f g : ℕ → ℕ → ℕ) (n i j : ℕ) → i < n → j < n → ((a b : ℕ) → ((a ≡ i) × (b ≡ j) → ⊥) → g a b ≡ f a b)
     → sum_square g n + f i j ≡ sum_square f n + g i j
 square_changed f g n i j li lj h =
-    let rows = sum_changed (λ a. sum_below (f a) n) (λ a. sum_below (g a) n) n i li (λ a ne. sum_same (f a) (g a) n (λ b lt. h a b (λ both. ne both.0))) in
+    let rows = sum_changed (λ a. sum_below (f a) n) (λ a. sum_below (g a) n) n i li
+    (λ a ne. sum_same (f a) (g a) n (λ b lt. h a b (λ both. ne both.0))) in
     let row = sum_changed (f i) (g i) n j lj (λ b ne. h i b (λ both. ne both.1)) in
     omega arith
 

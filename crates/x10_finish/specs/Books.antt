@@ -20,7 +20,10 @@ finish_of b = record { home = b.home; number = b.number }
 
 -- what it keeps of each place: what that place sent to each, and received from each
 abbrev pub kept_of : Kept → Cut
-kept_of b p = record { sent = λ q. (pair_at b.places b.pairs p q).sent; received = λ q. (pair_at b.places b.pairs q p).received }
+kept_of b p = record {
+  sent = λ q. (pair_at b.places b.pairs p q).sent;
+  received = λ q. (pair_at b.places b.pairs q p).received;
+}
 
 -- one pair for each two places, and how many differ is counted
 pub record AreKept (home places unequal : ℕ) (pairs : List Pair) : Type 0 where
@@ -42,7 +45,8 @@ pub record MergesCounts (old : Kept) (from : ℕ) (sent received : List ℕ) (ne
   pub home : new.home ≡ old.home
   pub number : new.number ≡ old.number
   pub places : new.places ≡ old.places
-  pub kept : kept_of new ≡ merged (kept_of old) (record { place = from; number = old.number; sent = sent; received = received })
+  pub kept : kept_of new ≡ merged (kept_of old)
+      (record { place = from; number = old.number; sent = sent; received = received })
 
 -- the larger of each number is kept of the place that reports, and all else stays
 pub record Merges (old : Kept) (r : Report) (new : Kept) : Type 0 where

@@ -7,7 +7,11 @@ use Rattle.x10_finish.specs.declared.count.Change.TheVariants.{Begins, Sends, Re
 
 -- the totals that a count holds
 abbrev pub counted : Count → Totals
-counted c = record { live = c.live; sent = slice_index c.sent.items; received = slice_index c.received.items }
+counted c = record {
+  live = c.live;
+  sent = slice_index c.sent.items;
+  received = slice_index c.received.items;
+}
 
 -- one number for each place
 pub record IsWhole (places : ℕ) (c : Count) : Type 0 where

@@ -43,16 +43,21 @@ after home s (PutsOut from to) = record s {
   totals = with_entry s.totals from (sends_to (s.totals from) to);
   flying = with_pair s.flying from to (s.flying from to + 1);
 }
-after home s (Begins place) = record s { totals = with_entry s.totals place (begins_one (s.totals place)) }
+after home s (Begins place) = record s {
+  totals = with_entry s.totals place
+      (begins_one (s.totals place));
+}
 after home s (Ends place number) = record s {
   totals = with_entry s.totals place (ends_one (s.totals place));
-  told = if is_last home place (s.totals place) then with_entry s.told number (Some (told_of place (s.totals place))) else s.told;
+  told = if is_last home place (s.totals place) then with_entry s.told number
+      (Some (told_of place (s.totals place))) else s.told;
 }
 after home s (Arrives from to) = record s {
   totals = with_entry s.totals to (receives_from (s.totals to) from);
   flying = with_pair s.flying from to (s.flying from to - 1);
 }
-after home s (TakesIn number) = record s { told = with_entry s.told number None; kept = taken s.kept (s.told number) }
+after home s (TakesIn number) = record s
+    { told = with_entry s.told number None; kept = taken s.kept (s.told number) }
 
 -- at a place something under the finish can act: an activity that lives there, or at the home the owner
 abbrev pub IsAtWork : ℕ → Counting → ℕ → Type 0
@@ -86,12 +91,14 @@ IsDone places home s = IsDoneAt places home (s.totals home) s.kept
 
 -- where the home lets the finish end, nothing under it lives or is in flight
 abbrev pub DoneIsAtRest : Type 0
-DoneIsAtRest = (places home : ℕ) (events : List Event) → home < places → AreAble places home start events → IsDone places home (after_all home start events)
+DoneIsAtRest = (places home : ℕ) (events : List Event) → home < places
+    → AreAble places home start events → IsDone places home (after_all home start events)
     → IsAtRest places (after_all home start events)
 
 -- and where nothing lives or is in flight, no report either, the home lets it end
 abbrev pub AtRestIsDone : Type 0
-AtRestIsDone = (places home : ℕ) (events : List Event) → home < places → AreAble places home start events → IsAtRest places (after_all home start events)
+AtRestIsDone = (places home : ℕ) (events : List Event) → home < places
+    → AreAble places home start events → IsAtRest places (after_all home start events)
     → ((n : ℕ) → (after_all home start events).told n ≡ None)
     → IsDone places home (after_all home start events)
 
@@ -99,7 +106,8 @@ AtRestIsDone = (places home : ℕ) (events : List Event) → home < places → A
 
 -- what a place told earlier: a report of it in flight, what is kept of it, or nothing yet
 pub data IsEarlierOf (told : ℕ → Option Told) (kept : Cut) (place : ℕ) : Entry → Type 0 where
-  in_flight : (number : ℕ) (t : Told) → told number ≡ Some t → t.place ≡ place → IsEarlierOf told kept place t.entry
+  in_flight : (number : ℕ) (t : Told) → told number ≡ Some t → t.place ≡ place
+      → IsEarlierOf told kept place t.entry
   is_kept : IsEarlierOf told kept place (kept place)
   is_nothing : IsEarlierOf told kept place zeros
 
@@ -109,7 +117,8 @@ pub record IsBelow (e f : Entry) : Type 0 where
   pub received : (q : ℕ) → e.received q ≤ f.received q
 
 -- a cut has for each place something that it told earlier, or none for its totals now; for the home always now
-pub record IsCutOf (home : ℕ) (told : ℕ → Option Told) (kept : Cut) (cut : ℕ → Option Entry) : Type 0 where
+pub record IsCutOf (home : ℕ) (told : ℕ → Option Told) (kept : Cut)
+    (cut : ℕ → Option Entry) : Type 0 where
   pub now : cut home ≡ None
   pub earlier : (p : ℕ) (e : Entry) → cut p ≡ Some e → IsEarlierOf told kept p e
 
@@ -141,14 +150,20 @@ pub record Lacks (places : ℕ) (totals : ℕ → Totals) (cut : ℕ → Option 
 
 -- the place's last word has come or is on its way
 abbrev pub IsToldNow : Counting → ℕ → Type 0
-IsToldNow s p = (s.kept p ≡ entry_of (s.totals p)) ⊎ ((number : ℕ) × (t : Told) × (s.told number ≡ Some t) × (t.place ≡ p) × (t.entry ≡ entry_of (s.totals p)))
+IsToldNow s p = (s.kept p ≡ entry_of (s.totals p))
+    ⊎ ((number : ℕ) × (t : Told) × (s.told number ≡ Some t) × (t.place ≡ p)
+    × (t.entry ≡ entry_of (s.totals p)))
 
 -- what holds of each world: what was sent was received or is in flight; what was told earlier is no larger than now, and
 -- of one place in one line; a cut either shows all that happened or lacks an arrival; and a place at which nothing is at
 -- work has told its last word
 pub record IsCounted (places home : ℕ) (s : Counting) : Type 0 where
-  pub conserved : (p q : ℕ) → p < places → q < places → (s.totals p).sent q ≡ (s.totals q).received p + s.flying p q
-  pub earlier : (p : ℕ) (e : Entry) → IsEarlierOf s.told s.kept p e → IsBelow e (entry_of (s.totals p))
-  pub in_line : (p : ℕ) (e f : Entry) → IsEarlierOf s.told s.kept p e → IsEarlierOf s.told s.kept p f → IsBelow e f ⊎ IsBelow f e
-  pub cuts : (cut : ℕ → Option Entry) → IsCutOf home s.told s.kept cut → AreStill s.totals cut ⊎ Lacks places s.totals cut
+  pub conserved : (p q : ℕ) → p < places → q < places
+      → (s.totals p).sent q ≡ (s.totals q).received p + s.flying p q
+  pub earlier : (p : ℕ) (e : Entry) → IsEarlierOf s.told s.kept p e
+      → IsBelow e (entry_of (s.totals p))
+  pub in_line : (p : ℕ) (e f : Entry) → IsEarlierOf s.told s.kept p e
+      → IsEarlierOf s.told s.kept p f → IsBelow e f ⊎ IsBelow f e
+  pub cuts : (cut : ℕ → Option Entry) → IsCutOf home s.told s.kept cut
+      → AreStill s.totals cut ⊎ Lacks places s.totals cut
   pub last : (p : ℕ) → IsAtWork home s p ⊎ IsToldNow s p

@@ -1,8 +1,9 @@
 -- What callers see of a tally: the totals of each finish.
 use Rattle.std.specs.Prelude.{◌≡◌, ◌==◌, ◌&&◌, ℕ, Bool, true, false, List, Option, Some, None, if◌then◌else◌, length, is_some}
 use Rattle.std.specs.Map.{lookup}
+use Rattle.x10_kinds.specs.declared.limit.Limit.TheVariants as limits
 use Rattle.x10_kinds.specs.declared.stop.Stop.{Stop}
-use Rattle.x10_kinds.specs.declared.stop.Stop.TheVariants.{Memory, Limit, Stopped}
+use Rattle.x10_kinds.specs.declared.stop.Stop.TheVariants as stop
 use Rattle.x10_model.specs.Places as machine
 use Rattle.x10_model.specs.Worlds.{same_finish}
 use Rattle.x10_model.specs.Totals as totals
@@ -50,10 +51,12 @@ abbrev pub AreWhole : ℕ → List (Finish × Count) → Type 0
 AreWhole places counts = (f : Finish) (c : Count) → count_of counts f ≡ Some c → IsWhole places c
 
 -- the totals of one finish change, and it is met now; all else stays
-pub record Counts (old : Ledger) (f : machine.Finish) (change : Totals → Totals) (new : Ledger) : Type 0 where
+pub record Counts (old : Ledger) (f : machine.Finish) (change : Totals → Totals)
+    (new : Ledger) : Type 0 where
   pub place : new.place ≡ old.place
   pub places : new.places ≡ old.places
-  pub totals : (g : machine.Finish) → totals_of new g ≡ if_same g f (change (totals_of old g)) (totals_of old g)
+  pub totals : (g : machine.Finish) → totals_of new g
+      ≡ if_same g f (change (totals_of old g)) (totals_of old g)
   pub met : (g : machine.Finish) → is_met new g ≡ (if same_finish g f then true else is_met old g)
 
 -- what was counted of one finish is gone, and it isn't met any more; all else stays
@@ -66,13 +69,18 @@ pub record Forgets (old : Ledger) (f : machine.Finish) (new : Ledger) : Type 0 w
 -- why something is not counted: a growth was refused, which only a finish that was not met asks for, or a count that
 -- would have grown has its largest value
 abbrev pub Refuses : Bool → Type 0 → Stop → Type 0
-Refuses met full Memory = met ≡ false
-Refuses met full (Limit n) = full × (n ≡ 6)
-Refuses met full Stopped = ⊥
+Refuses met full stop.Memory = met ≡ false
+Refuses met full (stop.Limit limit) = full × (limit ≡ limits.Activities)
+Refuses met full stop.Stopped = ⊥
 
 -- a report as the machine has it
 abbrev pub report_of : Report → totals.Report
-report_of r = record { place = r.place; number = r.number; sent = r.sent.items; received = r.received.items }
+report_of r = record {
+  place = r.place;
+  number = r.number;
+  sent = r.sent.items;
+  received = r.received.items;
+}
 
 -- a report is due where the last activity of a finish ends away from its home
 abbrev pub gives_report : Ledger → machine.Finish → Bool
@@ -80,7 +88,12 @@ gives_report l f = is_last f.home l.place (totals_of l f)
 
 -- the place's totals of the finish, one number for each place
 pub record AreDue (l : Ledger) (f : machine.Finish) (sent received : List ℕ) : Type 0 where
-  pub entry : reported (record { place = l.place; number = f.number; sent = sent; received = received }) ≡ entry_of (totals_of l f)
+  pub entry : reported (record {
+    place = l.place;
+    number = f.number;
+    sent = sent;
+    received = received;
+  }) ≡ entry_of (totals_of l f)
   pub sent_is : length sent ≡ l.places
   pub received_is : length received ≡ l.places
 

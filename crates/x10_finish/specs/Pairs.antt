@@ -16,30 +16,37 @@ no_pair = record { sent = 0; received = 0 }
 
 -- the pair of two places, row by row of the sender; nothing where there is no such place
 abbrev pub pair_at : ℕ → List Pair → ℕ → ℕ → Pair
-pair_at places pairs from to = if nat_lt from places && nat_lt to places then slice_index_or pairs (from * places + to) no_pair else no_pair
+pair_at places pairs from to = if nat_lt from places && nat_lt to places then slice_index_or pairs
+    (from * places + to) no_pair else no_pair
 
 -- 1 where the numbers of a pair differ, 0 where they agree or one of the places is the home
 abbrev pub difference : ℕ → ℕ → ℕ → Pair → ℕ
-difference home from to pair = if from == home then 0 else (if to == home then 0 else (if pair.sent == pair.received then 0 else 1))
+difference home from to pair = if from == home then 0 else
+    (if to == home then 0 else (if pair.sent == pair.received then 0 else 1))
 
 -- how many pairs differ
 abbrev pub unequal_in : ℕ → ℕ → List Pair → ℕ
-unequal_in home places pairs = sum_square (λ from to. difference home from to (pair_at places pairs from to)) places
+unequal_in home places pairs = sum_square
+    (λ from to. difference home from to (pair_at places pairs from to)) places
 
 -- one pair has the larger of each number
 abbrev pub raised_at : ℕ → ℕ → Pair → (ℕ → ℕ → Pair) → ℕ → ℕ → Pair
-raised_at from to by old a b = if a == from && b == to then record { sent = max (old a b).sent by.sent; received = max (old a b).received by.received }
+raised_at from to by old a b = if a == from && b == to then
+    record { sent = max (old a b).sent by.sent; received = max (old a b).received by.received }
     else old a b
 
 -- of the first q places, the numbers that a place sent to and received from them are taken in
 abbrev pub merged_to : ℕ → List ℕ → List ℕ → ℕ → (ℕ → ℕ → Pair) → ℕ → ℕ → Pair
 merged_to from sent received q old a b = record {
-  sent = if a == from && nat_lt b q then max (old a b).sent (slice_index sent b) else (old a b).sent;
-  received = if b == from && nat_lt a q then max (old a b).received (slice_index received a) else (old a b).received;
+  sent = if a == from && nat_lt b q then max (old a b).sent (slice_index sent b) else
+      (old a b).sent;
+  received = if b == from && nat_lt a q then max (old a b).received (slice_index received a) else
+      (old a b).received;
 }
 
 -- the home and a place tell the same of what they sent each other: by the numbers that the home sent and received, and
 -- by the pairs
 abbrev pub agreed : ℕ → (ℕ → ℕ → Pair) → List ℕ → List ℕ → ℕ → Bool
-agreed home pairs sent received q = if q == home then slice_index sent home == slice_index received home else
+agreed home pairs sent received q = if q == home then slice_index sent home == slice_index received
+    home else
     (slice_index sent q == (pairs home q).received && (pairs q home).sent == slice_index received q)

@@ -48,7 +48,8 @@ IsBetween f p q (Shift from to waiting under function graph) = (from ≡ p) × (
 IsBetween f p q (Back from to waiting graph) = ⊥
 
 abbrev pub FliesBetween : (ℕ → Post) → Finish → ℕ → ℕ → ℕ → Type 0
-FliesBetween posts f p q m = (message : Message) × (posts m ≡ Flying message) × IsBetween f p q message
+FliesBetween posts f p q m = (message : Message) × (posts m ≡ Flying message)
+    × IsBetween f p q message
 
 -- live and flying are what is there
 pub record Tells (stays : Stays) (posts : ℕ → Post) (f : Finish) (s : Counting) : Type 0 where
@@ -58,32 +59,42 @@ pub record Tells (stays : Stays) (posts : ℕ → Post) (f : Finish) (s : Counti
 -- stays are at places, and what flies under a finish goes from place to place
 pub record IsInRange (places : ℕ) (stays : Stays) (posts : ℕ → Post) : Type 0 where
   pub stays_at : (p k : ℕ) (s : Stay) → stays p k ≡ Some s → p < places
-  pub posts_at : (m p q : ℕ) (message : Message) (f : Finish) → posts m ≡ Flying message → IsBetween f p q message → (p < places) × (q < places)
+  pub posts_at : (m p q : ℕ) (message : Message) (f : Finish) → posts m ≡ Flying message
+      → IsBetween f p q message → (p < places) × (q < places)
 
 -- where the counts that tell of a net let the home end its finish, it is quiet
 abbrev pub DoneIsQuiet : Type 0
-DoneIsQuiet = (places : ℕ) (net : Net) (f : Finish) (s : Counting) → f.home < places → IsInRange places (stays_of net) net.posts
-    → Tells (stays_of net) net.posts f s → IsCounted places f.home s → IsDone places f.home s → IsQuiet net f
+DoneIsQuiet = (places : ℕ) (net : Net) (f : Finish) (s : Counting) → f.home < places
+    → IsInRange places (stays_of net) net.posts
+    → Tells (stays_of net) net.posts f s → IsCounted places f.home s → IsDone places f.home s
+    → IsQuiet net f
 
 -- and where it is quiet and no report flies, they let it
 abbrev pub QuietIsDone : Type 0
-QuietIsDone = (places : ℕ) (net : Net) (f : Finish) (s : Counting) → f.home < places → Tells (stays_of net) net.posts f s → IsCounted places f.home s
+QuietIsDone = (places : ℕ) (net : Net) (f : Finish) (s : Counting) → f.home < places
+    → Tells (stays_of net) net.posts f s → IsCounted places f.home s
     → IsQuiet net f → ((n : ℕ) → s.told n ≡ None) → IsDone places f.home s
 
 -- ---- what the machine's events are for one finish
 
 -- of a move at a place; a report that it sends has a number
 abbrev pub counted_as : Finish → ℕ → ℕ → Effect → List detection.Event
-counted_as f here report (Begins key function under) = if same_finish f under then detection.Begins here ∷ [] else []
-counted_as f here report (Spawns message function under) = if same_finish f under then detection.PutsOut here (receiver message) ∷ [] else []
-counted_as f here report (Shifts message under) = if same_finish f under then detection.PutsOut here (receiver message) ∷ [] else []
-counted_as f here report (Ends under back) = if same_finish f under then detection.Ends here report ∷ [] else []
+counted_as f here report (Begins key function under) =
+    if same_finish f under then detection.Begins here ∷ [] else []
+counted_as f here report (Spawns message function under) =
+    if same_finish f under then detection.PutsOut here (receiver message) ∷ [] else []
+counted_as f here report (Shifts message under) =
+    if same_finish f under then detection.PutsOut here (receiver message) ∷ [] else []
+counted_as f here report (Ends under back) =
+    if same_finish f under then detection.Ends here report ∷ [] else []
 counted_as f here report _ = []
 
 -- of a message that is taken in
 abbrev pub counted_in : Finish → Message → List detection.Event
-counted_in f (Spawn from to under function graph) = if same_finish f under then detection.Arrives from to ∷ [] else []
-counted_in f (Shift from to waiting under function graph) = if same_finish f under then detection.Arrives from to ∷ [] else []
+counted_in f (Spawn from to under function graph) =
+    if same_finish f under then detection.Arrives from to ∷ [] else []
+counted_in f (Shift from to waiting under function graph) =
+    if same_finish f under then detection.Arrives from to ∷ [] else []
 counted_in f (Back from to waiting graph) = []
 
 -- what an effect sends goes to a place
@@ -92,7 +103,8 @@ GoesTo places None = Unit {0}
 GoesTo places (Some message) = receiver message < places
 
 -- the events can happen, the counts afterwards tell of the net afterwards, and the totals change as a place's do
-pub record FollowsOn (places : ℕ) (f : Finish) (s : Counting) (events : List detection.Event) (here : ℕ) (happening : Happening)
+pub record FollowsOn (places : ℕ) (f : Finish) (s : Counting) (events : List detection.Event)
+    (here : ℕ) (happening : Happening)
     (afterwards : Net) : Type 0 where
   pub able : AreAble places f.home s events
   pub tells : Tells (stays_of afterwards) afterwards.posts f (after_all f.home s events)
@@ -101,25 +113,38 @@ pub record FollowsOn (places : ℕ) (f : Finish) (s : Counting) (events : List d
 
 -- a move of the machine is such events for each finish
 abbrev pub MovesAreCounted : Type 0
-MovesAreCounted = (setting : Setting) (places : ℕ) (net : Net) (f : Finish) (s : Counting) (here key number report : ℕ) (old new : machine.Place)
+MovesAreCounted = (setting : Setting) (places : ℕ) (net : Net) (f : Finish) (s : Counting)
+    (here key number report : ℕ) (old new : machine.Place)
     (effect : Effect) → Tells (stays_of net) net.posts f s → net.places here ≡ Some old
-    → Moves setting here old key new effect → net.posts number ≡ Unused → here < places → GoesTo places (sent effect) → s.told report ≡ None
-    → FollowsOn places f s (counted_as f here report effect) here (Did effect) (net_after net here new effect number)
+    → Moves setting here old key new effect → net.posts number ≡ Unused → here < places
+    → GoesTo places (sent effect) → s.told report ≡ None
+    → FollowsOn places f s (counted_as f here report effect) here (Did effect)
+    (net_after net here new effect number)
 
 -- and so is a delivery
 abbrev pub DeliveriesAreCounted : Type 0
-DeliveriesAreCounted = (setting : Setting) (places : ℕ) (net : Net) (f : Finish) (s : Counting) (here key number : ℕ) (old new : machine.Place)
-    (message : Message) → Tells (stays_of net) net.posts f s → IsInRange places (stays_of net) net.posts → net.places here ≡ Some old
-    → net.posts number ≡ Flying message → Receives setting here old message key new → FollowsOn places f s (counted_in f message) here (Took message)
-    (record { places = with_entry net.places here (Some new); posts = with_entry net.posts number Taken; enclosing = net.enclosing })
+DeliveriesAreCounted = (setting : Setting) (places : ℕ) (net : Net) (f : Finish) (s : Counting)
+    (here key number : ℕ) (old new : machine.Place)
+    (message : Message) → Tells (stays_of net) net.posts f s
+    → IsInRange places (stays_of net) net.posts → net.places here ≡ Some old
+    → net.posts number ≡ Flying message → Receives setting here old message key new
+    → FollowsOn places f s (counted_in f message) here (Took message)
+    (record {
+      places = with_entry net.places here (Some new);
+      posts = with_entry net.posts number Taken;
+      enclosing = net.enclosing;
+    })
 
 -- at the opening main's stay lives under the root at place 0
 abbrev pub counting_at_opening : Finish → Counting
-counting_at_opening f = if same_finish f root then after f.home start (detection.Begins 0) else start
+counting_at_opening f = if same_finish f root then after f.home start
+    (detection.Begins 0) else start
 
 abbrev pub OpeningIsCounted : Type 0
-OpeningIsCounted = (setting : Setting) (key : ℕ) (f : Finish) → 0 < setting.places → Tells (stays_of (opening setting key).net)
-    (opening setting key).net.posts f (counting_at_opening f) × IsCounted setting.places f.home (counting_at_opening f)
+OpeningIsCounted = (setting : Setting) (key : ℕ) (f : Finish) → 0 < setting.places
+    → Tells (stays_of (opening setting key).net)
+    (opening setting key).net.posts f (counting_at_opening f)
+    × IsCounted setting.places f.home (counting_at_opening f)
     × ((p : ℕ) → (counting_at_opening f).totals p ≡ first_totals p f)
 
 -- ---- all is in range in every world
@@ -129,10 +154,15 @@ OpeningIsInRange = (setting : Setting) (key : ℕ) → 0 < setting.places
     → IsInRange setting.places (stays_of (opening setting key).net) (opening setting key).net.posts
 
 abbrev pub MovesStayInRange : Type 0
-MovesStayInRange = (setting : Setting) (places : ℕ) (net : Net) (here key number : ℕ) (old new : machine.Place) (effect : Effect)
-    → IsInRange places (stays_of net) net.posts → Moves setting here old key new effect → here < places → GoesTo places (sent effect)
-    → IsInRange places (stays_of (net_after net here new effect number)) (net_after net here new effect number).posts
+MovesStayInRange = (setting : Setting) (places : ℕ) (net : Net) (here key number : ℕ)
+    (old new : machine.Place) (effect : Effect)
+    → IsInRange places (stays_of net) net.posts → Moves setting here old key new effect
+    → here < places → GoesTo places (sent effect)
+    → IsInRange places (stays_of (net_after net here new effect number))
+    (net_after net here new effect number).posts
 
 abbrev pub DeliveriesStayInRange : Type 0
-DeliveriesStayInRange = (places : ℕ) (net : Net) (here number : ℕ) (new : machine.Place) → IsInRange places (stays_of net) net.posts → here < places
-    → IsInRange places (λ p. stays_in (with_entry net.places here (Some new) p)) (with_entry net.posts number Taken)
+DeliveriesStayInRange = (places : ℕ) (net : Net) (here number : ℕ) (new : machine.Place)
+    → IsInRange places (stays_of net) net.posts → here < places
+    → IsInRange places (λ p. stays_in (with_entry net.places here (Some new) p))
+    (with_entry net.posts number Taken)

@@ -25,7 +25,12 @@ pub record WorldCounts : Type 0 where
 
 -- the counts of one finish, with so many messages in flight from each place to each
 abbrev pub counting_of : WorldCounts → Finish → (ℕ → ℕ → ℕ) → Counting
-counting_of c f flying = record { totals = λ p. c.totals p f; flying = flying; told = c.told f; kept = c.kept f }
+counting_of c f flying = record {
+  totals = λ p. c.totals p f;
+  flying = flying;
+  told = c.told f;
+  kept = c.kept f;
+}
 
 -- the counts of a finish tell of the net, and are such as events under the finish lead to
 pub record IsFollowed (places : ℕ) (net : Net) (c : WorldCounts) (f : Finish) : Type 0 where
@@ -57,7 +62,8 @@ pub record AreFirst (c : WorldCounts) : Type 0 where
   pub told : (f : Finish) (number : ℕ) → c.told f number ≡ None
 
 abbrev pub OpeningIsWatched : Type 0
-OpeningIsWatched = (setting : Setting) (key : ℕ) (c : WorldCounts) → 0 < setting.places → AreFirst c → IsWatched setting.places (opening setting key) c
+OpeningIsWatched = (setting : Setting) (key : ℕ) (c : WorldCounts) → 0 < setting.places → AreFirst c
+    → IsWatched setting.places (opening setting key) c
 
 -- ---- a move
 
@@ -67,20 +73,24 @@ closes here (Closes number) f = same_finish f (record { home = here; number = nu
 closes here _ f = false
 
 -- what a move at a place changes of the counts of a finish; a report that it sends has a number
-pub record IsMoved (here : ℕ) (effect : Effect) (report : ℕ) (old new : WorldCounts) (f : Finish) : Type 0 where
+pub record IsMoved (here : ℕ) (effect : Effect) (report : ℕ) (old new : WorldCounts)
+    (f : Finish) : Type 0 where
   pub here_is : new.totals here f ≡ totals_after f (old.totals here f) (Did effect)
   pub others : (p : ℕ) → (p ≡ here → ⊥) → new.totals p f ≡ old.totals p f
   pub kept : new.kept f ≡ old.kept f
   pub told : new.told f
-      ≡ (if is_reported here f (old.totals here f) (Did effect) then with_entry (old.told f) report (Some (told_of here (old.totals here f))) else old.told f)
+      ≡ (if is_reported here f (old.totals here f) (Did effect) then with_entry (old.told f) report
+      (Some (told_of here (old.totals here f))) else old.told f)
 
 -- of each finish that it doesn't close
 abbrev pub CountsMove : ℕ → Effect → ℕ → WorldCounts → WorldCounts → Type 0
-CountsMove here effect report old new = (f : Finish) → closes here effect f ≡ false → IsMoved here effect report old new f
+CountsMove here effect report old new = (f : Finish) → closes here effect f ≡ false
+    → IsMoved here effect report old new f
 
 -- a finish closes only where its home may let it end
 abbrev pub ClosesDone : ℕ → ℕ → WorldCounts → Effect → Type 0
-ClosesDone places here c (Closes number) = let f : Finish = record { home = here; number = number } in IsDoneAt places here (c.totals here f) (c.kept f)
+ClosesDone places here c (Closes number) = let f : Finish =
+    record { home = here; number = number } in IsDoneAt places here (c.totals here f) (c.kept f)
 ClosesDone places here c _ = Unit {0}
 
 abbrev pub world_after : World → ℕ → ℕ → machine.Place → Effect → ℕ → World
@@ -91,16 +101,21 @@ world_after w here key new effect number = record {
 
 -- such a move is a step by the ideal rule
 abbrev pub MovesAreWatched : Type 0
-MovesAreWatched = (setting : Setting) (w : World) (c d : WorldCounts) (here key number report : ℕ) (old new : machine.Place) (effect : Effect)
-    → IsWatched setting.places w c → w.net.places here ≡ Some old → Moves setting here old key new effect
-    → w.net.posts number ≡ Unused → here < setting.places → GoesTo setting.places (sent effect) → ((f : Finish) → c.told f report ≡ None)
+MovesAreWatched = (setting : Setting) (w : World) (c d : WorldCounts) (here key number report : ℕ)
+    (old new : machine.Place) (effect : Effect)
+    → IsWatched setting.places w c → w.net.places here ≡ Some old
+    → Moves setting here old key new effect
+    → w.net.posts number ≡ Unused → here < setting.places → GoesTo setting.places (sent effect)
+    → ((f : Finish) → c.told f report ≡ None)
     → CountsMove here effect report c d → ClosesDone setting.places here c effect
-    → Steps Ideal setting w here key (world_after w here key new effect number) × IsWatched setting.places (world_after w here key new effect number) d
+    → Steps Ideal setting w here key (world_after w here key new effect number)
+    × IsWatched setting.places (world_after w here key new effect number) d
 
 -- ---- a delivery
 
 -- what a message that a place takes in changes of the counts of a finish
-pub record IsDelivered (here : ℕ) (message : Message) (old new : WorldCounts) (f : Finish) : Type 0 where
+pub record IsDelivered (here : ℕ) (message : Message) (old new : WorldCounts)
+    (f : Finish) : Type 0 where
   pub here_is : new.totals here f ≡ totals_after f (old.totals here f) (Took message)
   pub others : (p : ℕ) → (p ≡ here → ⊥) → new.totals p f ≡ old.totals p f
   pub kept : new.kept f ≡ old.kept f
@@ -110,8 +125,10 @@ abbrev pub CountsDelivery : ℕ → Message → WorldCounts → WorldCounts → 
 CountsDelivery here message old new = (f : Finish) → IsDelivered here message old new f
 
 abbrev pub DeliveriesAreWatched : Type 0
-DeliveriesAreWatched = (setting : Setting) (w v : World) (c d : WorldCounts) (number : ℕ) (delivery : Delivers setting w number v)
-    → IsWatched setting.places w c → delivery.here < setting.places → CountsDelivery delivery.here delivery.message c d
+DeliveriesAreWatched = (setting : Setting) (w v : World) (c d : WorldCounts) (number : ℕ)
+    (delivery : Delivers setting w number v)
+    → IsWatched setting.places w c → delivery.here < setting.places
+    → CountsDelivery delivery.here delivery.message c d
     → IsWatched setting.places v d
 
 -- ---- a report
@@ -134,14 +151,16 @@ pub record CountsReport (net : Net) (f : Finish) (number : ℕ) (old new : World
   pub others : (g : Finish) → same_finish g f ≡ false → IsSame old new g
 
 abbrev pub ReportsAreWatched : Type 0
-ReportsAreWatched = (places : ℕ) (w : World) (c d : WorldCounts) (f : Finish) (number : ℕ) (t : Told) → IsWatched places w c → c.told f number ≡ Some t
+ReportsAreWatched = (places : ℕ) (w : World) (c d : WorldCounts) (f : Finish) (number : ℕ)
+    (t : Told) → IsWatched places w c → c.told f number ≡ Some t
     → CountsReport w.net f number c d → IsWatched places w d
 
 -- ---- what the counts say of such a world
 
 -- where the home of the root may let it end, no activity lives
 abbrev pub DoneIsOver : Type 0
-DoneIsOver = (places : ℕ) (w : World) (c : WorldCounts) → IsWatched places w c → 0 < places → IsDoneAt places 0 (c.totals 0 root) (c.kept root) → IsOver w
+DoneIsOver = (places : ℕ) (w : World) (c : WorldCounts) → IsWatched places w c → 0 < places
+    → IsDoneAt places 0 (c.totals 0 root) (c.kept root) → IsOver w
 
 -- no message flies
 abbrev pub NothingFlies : Net → Type 0
@@ -149,19 +168,22 @@ NothingFlies net = (number : ℕ) (message : Message) → net.posts number ≡ F
 
 -- and where no activity lives, and no message and no report of the root flies, the home may let the root end
 abbrev pub OverIsDone : Type 0
-OverIsDone = (places : ℕ) (w : World) (c : WorldCounts) → IsWatched places w c → IsOver w → NothingFlies w.net → ((number : ℕ) → c.told root number ≡ None)
+OverIsDone = (places : ℕ) (w : World) (c : WorldCounts) → IsWatched places w c → IsOver w
+    → NothingFlies w.net → ((number : ℕ) → c.told root number ≡ None)
     → 0 < places → IsDoneAt places 0 (c.totals 0 root) (c.kept root)
 
 -- where the owner works at the end of its finish, all that the finish governs has ended, and no message and no report of it
 -- flies, its home may let it end
 abbrev pub EndedIsDone : Type 0
-EndedIsDone = (places : ℕ) (w : World) (c : WorldCounts) (f : Finish) → IsWatched places w c → IsAtItsEnd w f → f.home < places → NothingFlies w.net
+EndedIsDone = (places : ℕ) (w : World) (c : WorldCounts) (f : Finish) → IsWatched places w c
+    → IsAtItsEnd w f → f.home < places → NothingFlies w.net
     → ((number : ℕ) → c.told f number ≡ None) → HasEnded w f
     → IsDoneAt places f.home (c.totals f.home f) (c.kept f)
 
 -- what a stay inherited is the root or open, and counts as live at its place
 abbrev pub StaysAreCounted : Type 0
-StaysAreCounted = (places : ℕ) (w : World) (c : WorldCounts) (here key : ℕ) (stay : Stay) → IsWatched places w c → stays_of w.net here key ≡ Some stay
+StaysAreCounted = (places : ℕ) (w : World) (c : WorldCounts) (here key : ℕ) (stay : Stay)
+    → IsWatched places w c → stays_of w.net here key ≡ Some stay
     → IsHeld (stays_of w.net) stay.inherited × (0 < (c.totals here stay.inherited).live)
 
 -- ---- one place by itself

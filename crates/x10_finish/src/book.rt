@@ -106,7 +106,9 @@ impl Book {
     /// and by what was reported of the other places. Apart from finding the totals, it takes constant time where the answer is
     /// no and neither the totals nor the book has changed since it was last no; otherwise it is linear in the number of places.
     pub fn balanced(&self, tally: &Tally) -> bool
-        ensures { IsTrue result ↔ IsBalanced self.now.places (seen_from self.now.home (entry_of (totals_of tally.now (finish_of self.now))) (kept_of self.now)) }
+        ensures { IsTrue result ↔ IsBalanced self.now.places
+            (seen_from self.now.home (entry_of (totals_of tally.now (finish_of self.now)))
+            (kept_of self.now)) }
     {
         if self.unequal != 0 {
             return false;
@@ -129,7 +131,8 @@ impl Book {
     /// Whether the finish may end: none of its activities lives at its home, and the book is balanced. Takes the time of
     /// `balanced`.
     pub fn done(&self, tally: &Tally) -> bool
-        ensures { IsTrue result ↔ IsDoneAt self.now.places self.now.home (totals_of tally.now (finish_of self.now)) (kept_of self.now) }
+        ensures { IsTrue result ↔ IsDoneAt self.now.places self.now.home
+            (totals_of tally.now (finish_of self.now)) (kept_of self.now) }
     {
         tally.live(self.finish) == 0 && self.balanced(tally)
     }

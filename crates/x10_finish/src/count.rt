@@ -1,15 +1,13 @@
 //! What one place counts of one finish.
 
 ghost use Rattle.std.specs.Prelude.{◌≡◌, ◌+◌, ◌-◌, ◌<◌, ◌^◌, ℕ, IfOk, IfErr, OnOk, length, replicate, Err};
+ghost use Rattle.x10_kinds.specs.declared.limit.Limit.TheVariants as limits;
 ghost use Rattle.x10_kinds.specs.declared.stop.Stop.TheVariants as stop;
 ghost use Rattle.x10_model.specs.Totals.{nothing, ends_one};
 ghost use Rattle.x10_finish.specs.Counts.{Fits, IsFull, changed, counted, IsWhole};
 
 use std::alloc::{AllocError, Global};
-use x10_kinds::Stop;
-
-/// The limit that a count meets: 2^32 - 1 of one pair of places, or of what lives at one place.
-const LIMIT: u8 = 6;
+use x10_kinds::{Limit, Stop};
 
 /// The activities under a finish that live at the place, and how many were sent to and received from each place.
 #[derive(Debug, Drop)]
@@ -47,12 +45,13 @@ pub fn no_count(alloc: Global, places: u16) -> Result<Count, AllocError>
 
 fn raised(count: u32) -> Result<u32, Stop>
     ensures ok { IfOk result (λ n. n ≡ count + 1) }
-    ensures full { count + 1 ≡ 2 ^ 32 → result ≡ Err (stop.Limit 6) }
-    ensures err { IfErr result (λ why. (why ≡ stop.Limit 6) × (count + 1 ≡ 2 ^ 32)) }
+    ensures full { count + 1 ≡ 2 ^ 32 → result ≡ Err (stop.Limit limits.Activities) }
+    ensures err { IfErr result (λ why. (why ≡ stop.Limit limits.Activities)
+        × (count + 1 ≡ 2 ^ 32)) }
 {
     match count.checked_add(1) {
         Some(more) => Ok(more),
-        None => Err(Stop::Limit(LIMIT)),
+        None => Err(Stop::Limit(Limit::Activities)),
     }
 }
 
@@ -62,8 +61,9 @@ pub fn apply(count: &mut Count, change: Change) -> Result<(), Stop>
     requires received { length count.old.received.items ≡ length count.old.sent.items }
     ensures ok { OnOk result (counted count.new ≡ changed change (counted count.old)) }
     ensures whole { IsWhole (length count.old.sent.items) count.new }
-    ensures full { IsFull change (counted count.old) → result ≡ Err (stop.Limit 6) }
-    ensures err { IfErr result (λ why. (why ≡ stop.Limit 6) × IsFull change (counted count.old) × (count.new ≡ count.old)) }
+    ensures full { IsFull change (counted count.old) → result ≡ Err (stop.Limit limits.Activities) }
+    ensures err { IfErr result (λ why. (why ≡ stop.Limit limits.Activities)
+        × IsFull change (counted count.old) × (count.new ≡ count.old)) }
 {
     match change {
         Change::Begins => count.live = raised(count.live)?,

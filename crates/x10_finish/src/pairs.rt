@@ -39,7 +39,8 @@ pub fn raise(
     requires unequal { unequal ≡ unequal_in home places pairs.old.items }
     ensures whole { length pairs.new.items ≡ places * places }
     ensures unequal { result ≡ unequal_in home places pairs.new.items }
-    ensures pairs { (a b : ℕ) → pair_at places pairs.new.items a b ≡ raised_at from to by (pair_at places pairs.old.items) a b }
+    ensures pairs { (a b : ℕ) → pair_at places pairs.new.items a b
+        ≡ raised_at from to by (pair_at places pairs.old.items) a b }
 {
     let i = from * places + to;
     let old = pairs[i];
@@ -71,7 +72,9 @@ pub fn merge(
     requires unequal { unequal ≡ unequal_in home (length sent.now) pairs.old.items }
     ensures whole { length pairs.new.items ≡ length sent.now * length sent.now }
     ensures unequal { result ≡ unequal_in home (length sent.now) pairs.new.items }
-    ensures pairs { (a b : ℕ) → pair_at (length sent.now) pairs.new.items a b ≡ merged_to place sent.now received.now (length sent.now) (pair_at (length sent.now) pairs.old.items) a b }
+    ensures pairs { (a b : ℕ) → pair_at (length sent.now) pairs.new.items a b
+        ≡ merged_to place sent.now received.now (length sent.now)
+        (pair_at (length sent.now) pairs.old.items) a b }
 {
     let places = sent.len();
     for q in 0..places {
@@ -127,8 +130,10 @@ pub fn first_apart(
 ) -> Option<u16>
     requires home { home < places }
     requires whole { length pairs.now ≡ places * places }
-    ensures none { IfNone result ((q : ℕ) → q < places → agreed home (pair_at places pairs.now) sent.now received.now q ≡ true) }
-    ensures some { IfSome result (λ q. (q < places) × (agreed home (pair_at places pairs.now) sent.now received.now q ≡ false)) }
+    ensures none { IfNone result ((q : ℕ) → q < places
+        → agreed home (pair_at places pairs.now) sent.now received.now q ≡ true) }
+    ensures some { IfSome result (λ q. (q < places)
+        × (agreed home (pair_at places pairs.now) sent.now received.now q ≡ false)) }
 {
     for q in 0..places {
         if !agrees(

@@ -1,5 +1,6 @@
 ghost use Rattle.std.specs.Prelude.{◌≡◌, ◌+◌, ◌^◌, ◌<◌, ◌⊎◌, ℕ, true, false, IfErr, IfOk, IfNone, IfSome, OnOk, OnErr, Err, None, Some, if◌then◌else◌, length, slice_index};
 ghost use Rattle.std.specs.HashMap.{Updates};
+ghost use Rattle.x10_kinds.specs.declared.limit.Limit.TheVariants as limits;
 ghost use Rattle.x10_kinds.specs.declared.stop.Stop.TheVariants as stop;
 ghost use Rattle.x10_model.specs.Places as machine;
 ghost use Rattle.x10_model.specs.Totals.{nothing, begins_one, ends_one, sends_to, receives_from};
@@ -41,7 +42,8 @@ impl Model for Tally {
 fn put(counts: &mut HashMap<Finish, Count>, finish: Finish, count: Count) -> Result<(), Stop>
     ensures ok { OnOk result (Updates finish_eq counts.old counts.new finish (Some count)) }
     ensures absent { OnErr result (count_of counts.old.entries finish ≡ None) }
-    ensures err { IfErr result (λ why. (why ≡ stop.Memory) × (counts.new.entries ≡ counts.old.entries)) }
+    ensures err { IfErr result (λ why. (why ≡ stop.Memory)
+        × (counts.new.entries ≡ counts.old.entries)) }
 {
     match counts.insert(finish, count) {
         Ok(_) => Ok(()),
@@ -82,8 +84,11 @@ impl Tally {
     fn count(&mut self, finish: Finish, change: Change) -> Result<(), Stop>
         requires { Fits change self.old.places }
         ensures ok { OnOk result (Counts self.old (named finish) (changed change) self.new) }
-        ensures full { IsFull change (totals_of self.old (named finish)) → result ≡ Err (stop.Limit 6) }
-        ensures err { IfErr result (λ why. (self.new ≡ self.old) × Refuses (is_met self.old (named finish)) (IsFull change (totals_of self.old (named finish))) why) }
+        ensures full { IsFull change (totals_of self.old (named finish))
+            → result ≡ Err (stop.Limit limits.Activities) }
+        ensures err { IfErr result (λ why. (self.new ≡ self.old)
+            × Refuses (is_met self.old (named finish))
+            (IsFull change (totals_of self.old (named finish))) why) }
     {
         if let Some(count) = self.counts.get_mut(&finish) {
             return apply(count, change);
@@ -98,7 +103,8 @@ impl Tally {
     /// Makes room to count a finish: afterwards counting it is refused only by a limit. Nothing is counted.
     pub fn meet(&mut self, finish: Finish) -> Result<(), Stop>
         ensures ok { OnOk result (Counts self.old (named finish) (λ t. t) self.new) }
-        ensures err { IfErr result (λ why. (self.new ≡ self.old) × (why ≡ stop.Memory) × (is_met self.old (named finish) ≡ false)) }
+        ensures err { IfErr result (λ why. (self.new ≡ self.old) × (why ≡ stop.Memory)
+            × (is_met self.old (named finish) ≡ false)) }
     {
         if self.counts.contains_key(&finish) {
             return Ok(());
@@ -113,8 +119,11 @@ impl Tally {
     pub fn spawned(&mut self, finish: Finish, to: u16) -> Result<(), Stop>
         requires { to < self.old.places }
         ensures ok { OnOk result (Counts self.old (named finish) (λ t. sends_to t to) self.new) }
-        ensures full { IsLargest ((totals_of self.old (named finish)).sent to) → result ≡ Err (stop.Limit 6) }
-        ensures err { IfErr result (λ why. (self.new ≡ self.old) × Refuses (is_met self.old (named finish)) (IsLargest ((totals_of self.old (named finish)).sent to)) why) }
+        ensures full { IsLargest ((totals_of self.old (named finish)).sent to)
+            → result ≡ Err (stop.Limit limits.Activities) }
+        ensures err { IfErr result (λ why. (self.new ≡ self.old)
+            × Refuses (is_met self.old (named finish))
+            (IsLargest ((totals_of self.old (named finish)).sent to)) why) }
     {
         self.count(finish, Change::Sends(to))
     }
@@ -122,9 +131,13 @@ impl Tally {
     /// An activity that a place put out under a finish, or that shifted from there, arrives and begins.
     pub fn came(&mut self, finish: Finish, from: u16) -> Result<(), Stop>
         requires { from < self.old.places }
-        ensures ok { OnOk result (Counts self.old (named finish) (λ t. receives_from t from) self.new) }
-        ensures full { IsFull (change.Receives from) (totals_of self.old (named finish)) → result ≡ Err (stop.Limit 6) }
-        ensures err { IfErr result (λ why. (self.new ≡ self.old) × Refuses (is_met self.old (named finish)) (IsFull (change.Receives from) (totals_of self.old (named finish))) why) }
+        ensures ok { OnOk result (Counts self.old (named finish)
+            (λ t. receives_from t from) self.new) }
+        ensures full { IsFull (change.Receives from) (totals_of self.old (named finish))
+            → result ≡ Err (stop.Limit limits.Activities) }
+        ensures err { IfErr result (λ why. (self.new ≡ self.old)
+            × Refuses (is_met self.old (named finish))
+            (IsFull (change.Receives from) (totals_of self.old (named finish))) why) }
     {
         self.count(finish, Change::Receives(from))
     }
@@ -132,8 +145,11 @@ impl Tally {
     /// An activity begins here under a finish, put out by this place.
     pub fn began(&mut self, finish: Finish) -> Result<(), Stop>
         ensures ok { OnOk result (Counts self.old (named finish) begins_one self.new) }
-        ensures full { IsLargest (totals_of self.old (named finish)).live → result ≡ Err (stop.Limit 6) }
-        ensures err { IfErr result (λ why. (self.new ≡ self.old) × Refuses (is_met self.old (named finish)) (IsLargest (totals_of self.old (named finish)).live) why) }
+        ensures full { IsLargest (totals_of self.old (named finish)).live
+            → result ≡ Err (stop.Limit limits.Activities) }
+        ensures err { IfErr result (λ why. (self.new ≡ self.old)
+            × Refuses (is_met self.old (named finish))
+            (IsLargest (totals_of self.old (named finish)).live) why) }
     {
         self.count(finish, Change::Begins)
     }
@@ -143,7 +159,8 @@ impl Tally {
     pub fn due(&self, finish: Finish) -> Option<(&[u32], &[u32])>
         requires { 0 < (totals_of self.now (named finish)).live }
         ensures none { IfNone result (gives_report self.now (named finish) ≡ false) }
-        ensures some { IfSome result (λ x. (gives_report self.now (named finish) ≡ true) × AreDue self.now (named finish) x.0.now x.1.now) }
+        ensures some { IfSome result (λ x. (gives_report self.now (named finish) ≡ true)
+            × AreDue self.now (named finish) x.0.now x.1.now) }
     {
         let count = &self.counts[&finish];
         if finish.home == self.place || count.live != 1 {
@@ -157,7 +174,8 @@ impl Tally {
     pub fn leaving(&self, finish: Finish) -> Result<Option<Report>, Stop>
         requires { 0 < (totals_of self.now (named finish)).live }
         ensures ok { IfOk result (IsAnswer self.now (named finish)) }
-        ensures err { IfErr result (λ why. (why ≡ stop.Memory) × (gives_report self.now (named finish) ≡ true)) }
+        ensures err { IfErr result (λ why. (why ≡ stop.Memory)
+            × (gives_report self.now (named finish) ≡ true)) }
     {
         let Some((sent, received)) = self.due(finish) else {
             return Ok(None);
@@ -192,7 +210,8 @@ impl Tally {
         requires { 0 < (totals_of self.old (named finish)).live }
         ensures counted { OnOk result (Counts self.old (named finish) ends_one self.new) }
         ensures report { IfOk result (IsAnswer self.old (named finish)) }
-        ensures err { IfErr result (λ why. (self.new ≡ self.old) × (why ≡ stop.Memory) × (gives_report self.old (named finish) ≡ true)) }
+        ensures err { IfErr result (λ why. (self.new ≡ self.old) × (why ≡ stop.Memory)
+            × (gives_report self.old (named finish) ≡ true)) }
     {
         let report = self.leaving(finish)?;
         self.left(finish);
@@ -218,8 +237,10 @@ impl Tally {
 
     /// How many were sent to each place, or no numbers where the finish was not met yet.
     pub fn sent(&self, finish: Finish) -> &[u32]
-        ensures numbers { (p : ℕ) → slice_index result.now p ≡ (totals_of self.now (named finish)).sent p }
-        ensures length { length result.now ≡ (if is_met self.now (named finish) then self.now.places else 0) }
+        ensures numbers { (p : ℕ) → slice_index result.now p
+            ≡ (totals_of self.now (named finish)).sent p }
+        ensures length { length result.now ≡ (if is_met self.now
+            (named finish) then self.now.places else 0) }
     {
         match self.counts.get(&finish) {
             Some(count) => &count.sent,
@@ -229,8 +250,10 @@ impl Tally {
 
     /// How many came from each place, or no numbers where the finish was not met yet.
     pub fn received(&self, finish: Finish) -> &[u32]
-        ensures numbers { (p : ℕ) → slice_index result.now p ≡ (totals_of self.now (named finish)).received p }
-        ensures length { length result.now ≡ (if is_met self.now (named finish) then self.now.places else 0) }
+        ensures numbers { (p : ℕ) → slice_index result.now p
+            ≡ (totals_of self.now (named finish)).received p }
+        ensures length { length result.now ≡ (if is_met self.now
+            (named finish) then self.now.places else 0) }
     {
         match self.counts.get(&finish) {
             Some(count) => &count.received,

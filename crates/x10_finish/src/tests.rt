@@ -1,7 +1,7 @@
 //! At the greatest counts, which no run of a test reaches: so it is of a private function.
 use crate::count::{Change, Count, apply};
 use std::test::*;
-use x10_kinds::Stop;
+use x10_kinds::{Limit, Stop};
 
 #[test]
 fn counts_meet_their_limit(rt: HostRuntime) -> Result<(), Fail> {
@@ -30,7 +30,7 @@ fn counts_meet_their_limit(rt: HostRuntime) -> Result<(), Fail> {
             if after.is_some() {
                 None
             } else {
-                Some(Stop::Limit(6))
+                Some(Stop::Limit(Limit::Activities))
             }
         );
         let (live, sent, received) = after.unwrap_or(before);

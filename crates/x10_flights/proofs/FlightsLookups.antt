@@ -24,7 +24,8 @@ among_none low (f ∷ fs) top m r h =
 pub among_without : (n : ℕ) (fs : List Flight) → flight_among (without n fs) n ≡ None
 among_without n [] = refl
 among_without n (f ∷ fs) = elim (cases_Bool (f.number == n)) [
-  | inl t ↦ ap (λ (gs : List Flight). flight_among gs n) (cond-false (not (f.number == n)) (f ∷ without n fs) (without n fs) (not_from_true _ t)) ∙ among_without n fs
+  | inl t ↦ ap (λ (gs : List Flight). flight_among gs n) (cond-false (not (f.number == n)) (f ∷ without n fs) (without n fs) (not_from_true _ t))
+      ∙ among_without n fs
   | inr u ↦ ap (λ (gs : List Flight). flight_among gs n) (cond-true (not (f.number == n)) (f ∷ without n fs) (without n fs) (not_from_false _ u))
       ∙ cond-false (f.number == n) (Some f) _ u ∙ among_without n fs
 ]
@@ -33,7 +34,8 @@ among_without n (f ∷ fs) = elim (cases_Bool (f.number == n)) [
 pub among_others : (n : ℕ) (fs : List Flight) (m : ℕ) → (m ≡ n → ⊥) → flight_among (without n fs) m ≡ flight_among fs m
 among_others n [] m h = refl
 among_others n (f ∷ fs) m h = elim (cases_Bool (f.number == n)) [
-  | inl t ↦ ap (λ (gs : List Flight). flight_among gs m) (cond-false (not (f.number == n)) (f ∷ without n fs) (without n fs) (not_from_true _ t)) ∙ among_others n fs m h
+  | inl t ↦ ap (λ (gs : List Flight). flight_among gs m) (cond-false (not (f.number == n)) (f ∷ without n fs) (without n fs) (not_from_true _ t))
+      ∙ among_others n fs m h
       ∙ sym (cond-false (f.number == m) (Some f) _ (ne_eqb f.number m (λ e. h (sym e ∙ eqb-true f.number n t))))
   | inr u ↦ ap (λ (gs : List Flight). flight_among gs m) (cond-true (not (f.number == n)) (f ∷ without n fs) (without n fs) (not_from_false _ u))
       ∙ ap (λ (o : Option Flight). cond (f.number == m) (Some f) o) (among_others n fs m h)
@@ -45,14 +47,16 @@ flies_without n fs p m t = elim (cases_eq m n) [
   | inr h ↦ ap (goes_to p) (sym (among_others n fs m h)) ∙ t
 ]
 
-pub flies_pushed : (low : ℕ) (fs : List Flight) (x : Flight) (p m : ℕ) → RisingBy (λ f. f.number) low fs x.number → flies_to (fs ++ x ∷ []) p m ≡ true →
+pub flies_pushed : (low : ℕ) (fs : List Flight) (x : Flight) (p m : ℕ) → RisingBy (λ f. f.number) low fs x.number → flies_to (fs ++ x ∷ []) p m ≡ true
+    →
     (flies_to fs p m ≡ true) ⊎ ((m ≡ x.number) × (p ≡ x.to))
 flies_pushed low fs x p m r t = elim (cases_eq x.number m) [
   | inl e ↦ inr (sym e, sym (eqb-true x.to p (sym (ap (goes_to p) (ap (flight_among (fs ++ x ∷ [])) (sym e) ∙ among_new low fs x r)) ∙ t)))
   | inr h ↦ inl (ap (goes_to p) (sym (among_push fs x m h)) ∙ t)
 ]
 
-pub flies_more : (low : ℕ) (fs : List Flight) (x : Flight) (p m : ℕ) → RisingBy (λ f. f.number) low fs x.number → flies_to fs p m ≡ true → flies_to (fs ++ x ∷ []) p m ≡ true
+pub flies_more : (low : ℕ) (fs : List Flight) (x : Flight) (p m : ℕ) → RisingBy (λ f. f.number) low fs x.number → flies_to fs p m ≡ true
+    → flies_to (fs ++ x ∷ []) p m ≡ true
 flies_more low fs x p m r t = elim (cases_eq x.number m) [
   | inl e ↦ absurd (both_ways (flies_to fs p m) (ap (goes_to p) (among_none low fs x.number m r (omega arith))) t)
   | inr h ↦ ap (goes_to p) (among_push fs x m h) ∙ t

@@ -33,7 +33,8 @@ any_first [] = refl
 any_first (x ∷ xs) = refl
 
 -- what passes a test is left behind numbers that don't
-pub Has-passed : (test : ℕ → Bool) (xs : List ℕ) (k n : ℕ) → test n ≡ true → Has xs n → ((j : ℕ) → j < k → test (get_or xs j 0) ≡ false) → Has (drop k xs) n
+pub Has-passed : (test : ℕ → Bool) (xs : List ℕ) (k n : ℕ) → test n ≡ true → Has xs n → ((j : ℕ) → j < k → test (get_or xs j 0) ≡ false)
+    → Has (drop k xs) n
 Has-passed test xs zero n t h b = h
 Has-passed test [] (suc k) n t h b = h
 Has-passed test (x ∷ xs) (suc k) n t (inl e) b = absurd (both_ways (test n) (ap test (sym e) ∙ b zero (omega arith)) t)
@@ -64,7 +65,8 @@ module _ (test : ℕ → Bool) where
   }
 
   -- the first that passes is the least, where all that pass are there
-  pub next : (low : ℕ) (ys : List ℕ) (top : ℕ) → RisingBy (λ m. m) low ys top → ((m : ℕ) → low ≤ m → test m ≡ true → Has ys m) → IsNext test low (find test ys)
+  pub next : (low : ℕ) (ys : List ℕ) (top : ℕ) → RisingBy (λ m. m) low ys top → ((m : ℕ) → low ≤ m → test m ≡ true → Has ys m)
+      → IsNext test low (find test ys)
   next low [] top r all = λ m l. false_from_ne_true (test m) (λ t. all m l t)
   next low (y ∷ ys) top r all = elim (cases_Bool (test y)) [
     | inl t ↦ subst (IsNext test low) (sym (cond-true (test y) (Some y) (find test ys) t)) (record {

@@ -9,7 +9,7 @@ use Rattle.std.proofs.lemmas.List.Elements.{All-head, All-tail}
 use Rattle.std.proofs.lemmas.List.{set-get_or}
 use Rattle.x10_flights.specs.declared.table.Slot.{Slot}
 use Rattle.x10_flights.specs.Flights.{Flight, flight_among, without, RisingBy, held}
-use Rattle.x10_flights.proofs.FlightsRising.{rising_from, rising_low}
+use Rattle.x10_flights.proofs.RisingKeys.{rising_from, rising_low}
 
 abbrev pub flights_in : List Slot → List Flight
 flights_in = filter_map (λ s. held s.number s.to s.bytes)
@@ -43,19 +43,24 @@ module _ (number to : ℕ) where
 -- no slot has the number
 pub absent : (ss : List Slot) (n : ℕ) → All (λ s. s.number ≡ n → ⊥) ss → flight_among (flights_in ss) n ≡ None
 absent [] n h = refl
-absent (s ∷ ss) n h = skip s.number s.to s.bytes (flights_in ss) n (All-head (λ (t : Slot). t.number ≡ n → ⊥) s ss h) ∙ absent ss n (All-tail (λ (t : Slot). t.number ≡ n → ⊥) s ss h)
+absent (s ∷ ss) n h = skip s.number s.to s.bytes (flights_in ss) n (All-head (λ (t : Slot). t.number ≡ n → ⊥) s ss h)
+    ∙ absent ss n (All-tail (λ (t : Slot). t.number ≡ n → ⊥) s ss h)
 
 -- the slots after one have other numbers
 others : (s : Slot) (ss : List Slot) (top n : ℕ) → RisingBy (λ t. t.number) (s.number + 1) ss top → s.number ≡ n → All (λ t. t.number ≡ n → ⊥) ss
 others s ss top n r e k d h f = omega (arith, rising_from (λ (t : Slot). t.number) (s.number + 1) ss top r k d h)
 
 -- the slot with the number tells
-pub found : (low : ℕ) (ss : List Slot) (top i : ℕ) (d : Slot) (n : ℕ) → RisingBy (λ t. t.number) low ss top → i < length ss → (get_or ss i d).number ≡ n →
+pub found : (low : ℕ) (ss : List Slot) (top i : ℕ) (d : Slot) (n : ℕ) → RisingBy (λ t. t.number) low ss top → i < length ss
+    → (get_or ss i d).number ≡ n →
     flight_among (flights_in ss) n ≡ held (get_or ss i d).number (get_or ss i d).to (get_or ss i d).bytes
 found low [] top i d n r h e = absurd (omega arith)
 found low (s ∷ ss) top zero d n r h e = hit s.number s.to s.bytes (flights_in ss) n e (absent ss n (others s ss top n r.2 e))
 found low (s ∷ ss) top (suc i) d n r h e =
-    skip s.number s.to s.bytes (flights_in ss) n (λ f. omega (arith, rising_from (λ (t : Slot). t.number) (s.number + 1) ss top r.2 i d (omega arith)))
+    skip s.number s.to s.bytes (flights_in ss) n (λ f. omega (
+      arith,
+      rising_from (λ (t : Slot). t.number) (s.number + 1) ss top r.2 i d (omega arith),
+    ))
     ∙ found (s.number + 1) ss top i d n r.2 (omega arith) e
 
 without_absent : (ss : List Slot) (n : ℕ) → All (λ s. s.number ≡ n → ⊥) ss → without n (flights_in ss) ≡ flights_in ss
@@ -68,14 +73,16 @@ emptied : (s : Slot) (fs : List Flight) → s.bytes ≡ None → cons_option (he
 emptied s fs e = ap (λ (b : Option (Vec ℕ Global)). cons_option (held s.number s.to b) fs) e
 
 -- a slot whose bytes are taken
-pub taken : (low : ℕ) (ss : List Slot) (top i : ℕ) (d y : Slot) (n : ℕ) → RisingBy (λ t. t.number) low ss top → i < length ss → (get_or ss i d).number ≡ n → y.bytes ≡ None →
+pub taken : (low : ℕ) (ss : List Slot) (top i : ℕ) (d y : Slot) (n : ℕ) → RisingBy (λ t. t.number) low ss top → i < length ss
+    → (get_or ss i d).number ≡ n → y.bytes ≡ None →
     flights_in (set ss i y) ≡ without n (flights_in ss)
 taken low [] top i d y n r h e b = absurd (omega arith)
 taken low (s ∷ ss) top zero d y n r h e b =
     emptied y (flights_in ss) b ∙ sym (leaves s.number s.to s.bytes (flights_in ss) n e ∙ without_absent ss n (others s ss top n r.2 e))
 taken low (s ∷ ss) top (suc i) d y n r h e b =
     ap (cons_option (held s.number s.to s.bytes)) (taken (s.number + 1) ss top i d y n r.2 (omega arith) e b)
-    ∙ sym (keeps s.number s.to s.bytes (flights_in ss) n (λ f. omega (arith, rising_from (λ (t : Slot). t.number) (s.number + 1) ss top r.2 i d (omega arith))))
+    ∙ sym (keeps s.number s.to s.bytes (flights_in ss) n (λ f.
+    omega (arith, rising_from (λ (t : Slot). t.number) (s.number + 1) ss top r.2 i d (omega arith))))
 
 is_none : (o : Option (Vec ℕ Global)) → is_some o ≡ false → o ≡ None
 is_none None e = refl
@@ -96,18 +103,22 @@ flights_rise low [] top r = tt
 flights_rise low (s ∷ ss) top r = rises s.number s.to s.bytes (flights_in ss) low top r.0 r.1 (flights_rise (s.number + 1) ss top r.2)
 
 -- a number that the slot where it would be does not have, no slot has
-pub not_there : (ss : List Slot) (n at : ℕ) → IsNonDecreasingBy (λ s. s.number) ss → ((k : ℕ) (d : Slot) → k < at → ltb (get_or ss k d).number n ≡ true) →
-    ((k : ℕ) (d : Slot) → at ≤ k → k < length ss → ltb (get_or ss k d).number n ≡ false) → ((d : Slot) → at < length ss → (get_or ss at d).number ≡ n → ⊥) → All (λ s. s.number ≡ n → ⊥) ss
+pub not_there : (ss : List Slot) (n at : ℕ) → IsNonDecreasingBy (λ s. s.number) ss
+    → ((k : ℕ) (d : Slot) → k < at → ltb (get_or ss k d).number n ≡ true) →
+    ((k : ℕ) (d : Slot) → at ≤ k → k < length ss → ltb (get_or ss k d).number n ≡ false)
+    → ((d : Slot) → at < length ss → (get_or ss at d).number ≡ n → ⊥) → All (λ s. s.number ≡ n → ⊥) ss
 not_there ss n at sorted before after here k d h e = elim (cases_lt k at) [
   | inl l ↦ omega (arith, ltb-true _ _ (before k d l))
   | inr g ↦ here d (omega arith) (omega (arith, ltb-false _ _ (after at d (omega arith) (omega arith)), sorted at k d g h))
 ]
 
 -- what is found where a number stands
-pub told : (ss : List Slot) (top i : ℕ) (d : Slot) (n : ℕ) → RisingBy (λ t. t.number) 0 ss top → i < length ss → (get_or ss i d).number ≡ n → d ≡ get_or ss i d →
+pub told : (ss : List Slot) (top i : ℕ) (d : Slot) (n : ℕ) → RisingBy (λ t. t.number) 0 ss top → i < length ss → (get_or ss i d).number ≡ n
+    → d ≡ get_or ss i d →
     flight_among (flights_in ss) n ≡ held n d.to d.bytes
 told ss top i d n r h e w =
-    found 0 ss top i d n r h e ∙ ap (λ (s : Slot). held s.number s.to s.bytes) (sym w) ∙ ap (λ (m : ℕ). held m d.to d.bytes) (ap (λ (s : Slot). s.number) w ∙ e)
+    found 0 ss top i d n r h e ∙ ap (λ (s : Slot). held s.number s.to s.bytes) (sym w)
+    ∙ ap (λ (m : ℕ). held m d.to d.bytes) (ap (λ (s : Slot). s.number) w ∙ e)
 
 -- a slot that was empty stays as it was
 pub untaken : (ss : List Slot) (i : ℕ) (d : Slot) (bytes : Option (Vec ℕ Global)) → d ≡ get_or ss i d → bytes ≡ None → d.bytes ≡ None →

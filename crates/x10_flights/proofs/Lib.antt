@@ -1,7 +1,7 @@
-pub mod FlightsRising
+pub mod RisingKeys
 mod FlightsSlots
 mod FlightsQueues
 pub mod FlightsLookups
 mod FlightsFirsts
-mod FlightsFiling
+mod FiledFrames
 mod Places

@@ -56,7 +56,12 @@ posted_to s to bytes = record {
 
 -- one frame fewer
 abbrev pub taken_from : FlightsState → ℕ → FlightsState
-taken_from s number = record { places = s.places; posted = s.posted; room = s.room; flying = without number s.flying }
+taken_from s number = record {
+  places = s.places;
+  posted = s.posted;
+  room = s.room;
+  flying = without number s.flying;
+}
 
 -- room for two frames more
 abbrev pub with_room : FlightsState → FlightsState
@@ -129,7 +134,8 @@ lack first second p = (if first == p then 1 else 0) + (if second == p then 1 els
 -- each frame in flight is in the queue of its place, each queue begins with one, and the places awaited are those whose
 -- queues aren't empty; and there is room for as many more as is said: the queues of the
 -- places that were not posted to since room was made have room for two
-pub record AreFiled (queues : List Queued) (table : Tabled) (room first second awaited : ℕ) : Type 0 where
+pub record AreFiled (queues : List Queued) (table : Tabled)
+    (room first second awaited : ℕ) : Type 0 where
   pub numbered : RisingBy (λ f. f.number) 0 table.flying table.posted
   pub there : All (λ f. f.to < length queues) table.flying
   pub few : table.posted + room < 2 ^ 64

@@ -1,6 +1,7 @@
 //! The frames in flight of a run, by number and by receiver.
 
 ghost use Rattle.std.specs.Prelude.{◌≡◌, ◌↔◌, ℕ, true, ◌+◌, ◌<◌, ◌≤◌, ◌^◌, ◌⊎◌, [], IfOk, IfErr, IfSome, IfNone, MatchOption, Some, None, Err};
+ghost use Rattle.x10_kinds.specs.declared.limit.Limit.TheVariants as limits;
 ghost use Rattle.x10_kinds.specs.declared.stop.Stop.TheVariants as stop;
 ghost use Rattle.x10_flights.specs.PlaceSets.{has_place};
 ghost use Rattle.x10_flights.specs.Flights.{flight_of, flies_to, posted_to, taken_from, with_room, IsNext, AreInOrder};
@@ -10,13 +11,10 @@ use crate::queue::{Queue, open_queues, widen};
 use crate::table::Table;
 use std::alloc::{AllocError, Global};
 use std::marker::Model;
-use x10_kinds::Stop;
+use x10_kinds::{Limit, Stop};
 
 /// No place: there are at most 64, and they count from 0.
 const NONE: u16 = 65_535;
-
-/// Which limit it is: that of the frames.
-const FRAMES: u8 = 11;
 
 /// The frames in flight of a run, by number and by receiver. Frames are numbered from 0 in the order in which they are
 /// posted. Memory is taken for the most frames that were in flight at once, not for all that ever were: slots of frames that
@@ -49,7 +47,12 @@ impl Flights {
     /// Nothing was posted, and nothing is in flight. Takes memory for four numbers for each place.
     pub fn new(alloc: Global, places: u16) -> Result<Flights, AllocError>
         requires { places ≤ 64 }
-        ensures { IfOk result (λ flights. flights ≡ record { places = places; posted = 0; room = 0; flying = [] }) }
+        ensures { IfOk result (λ flights. flights ≡ record {
+          places = places;
+          posted = 0;
+          room = 0;
+          flying = [];
+        }) }
     {
         let queues = open_queues(alloc, places)?;
         Ok(Flights {
@@ -75,14 +78,15 @@ impl Flights {
     #[inline(always)]
     pub fn make_room(&mut self) -> Result<(), Stop>
         ensures ok { IfOk result (λ _. self.new ≡ with_room self.old) }
-        ensures err { IfErr result (λ why. (self.new ≡ self.old) × ((why ≡ stop.Memory) ⊎ (why ≡ stop.Limit 11))) }
-        ensures limit { (result ≡ Err (stop.Limit 11)) ↔ (2 ^ 64 ≤ self.old.posted + 2) }
+        ensures err { IfErr result (λ why. (self.new ≡ self.old)
+            × ((why ≡ stop.Memory) ⊎ (why ≡ stop.Limit limits.Frames))) }
+        ensures limit { (result ≡ Err (stop.Limit limits.Frames)) ↔ (2 ^ 64 ≤ self.old.posted + 2) }
     {
         if self.room == 2 {
             return Ok(());
         }
         if self.table.posted() > u64::MAX - 2 {
-            return Err(Stop::Limit(FRAMES));
+            return Err(Stop::Limit(Limit::Frames));
         }
         self.table.make_room()?;
         widen(&mut self.queues, self.first)?;
@@ -112,7 +116,9 @@ impl Flights {
 
     /// Where the frame with a number goes, and its bytes. Logarithmic in the number of frames in flight.
     pub fn get(&self, number: u64) -> Option<(u16, &[u8])>
-        ensures { MatchOption result (flight_of self.now number ≡ None) (λ x. flight_of self.now number ≡ Some (record { number = number; to = x.0; bytes = x.1.now })) }
+        ensures { MatchOption result (flight_of self.now number ≡ None)
+            (λ x. flight_of self.now number ≡ Some
+            (record { number = number; to = x.0; bytes = x.1.now })) }
     {
         self.table.get(number)
     }
@@ -120,7 +126,9 @@ impl Flights {
     /// Takes the frame with a number out of flight. Logarithmic in the number of frames in flight, amortized; takes no memory.
     pub fn take(&mut self, number: u64) -> Option<(u16, Vec<u8>)>
         ensures none { IfNone result ((flight_of self.old number ≡ None) × (self.new ≡ self.old)) }
-        ensures some { IfSome result (λ x. (flight_of self.old number ≡ Some (record { number = number; to = x.0; bytes = x.1.items })) × (self.new ≡ taken_from self.old number)) }
+        ensures some { IfSome result (λ x. (flight_of self.old number ≡ Some
+            (record { number = number; to = x.0; bytes = x.1.items }))
+            × (self.new ≡ taken_from self.old number)) }
     {
         let Some((to, bytes)) = self.table.take(number) else {
             return None;
@@ -137,7 +145,8 @@ impl Flights {
     /// The places with frames in flight to them. Constant time.
     #[inline(always)]
     pub fn awaited(&self) -> PlaceSet
-        ensures { (p : ℕ) → (has_place result p ≡ true) ↔ ((n : ℕ) × (flies_to self.now.flying p n ≡ true)) }
+        ensures { (p : ℕ) → (has_place result p ≡ true)
+            ↔ ((n : ℕ) × (flies_to self.now.flying p n ≡ true)) }
     {
         self.awaited
     }

@@ -26,8 +26,10 @@ fn first_flying(numbers: &[u64], table: &Table, place: u16) -> Option<u64>
 fn passed(numbers: &[u64], table: &Table, place: u16, gone: u64) -> usize
     requires { flies_to table.now.flying place gone ≡ false }
     ensures within { result ≤ length numbers.now }
-    ensures before { (k : ℕ) → k < result → flies_to table.now.flying place (slice_index numbers.now k) ≡ false }
-    ensures found { result < length numbers.now → flies_to table.now.flying place (slice_index numbers.now result) ≡ true }
+    ensures before { (k : ℕ) → k < result → flies_to table.now.flying place
+        (slice_index numbers.now k) ≡ false }
+    ensures found { result < length numbers.now → flies_to table.now.flying place
+        (slice_index numbers.now result) ≡ true }
 {
     for (at, number) in numbers.iter().enumerate() {
         if *number != gone && table.flies_to(place, *number) {
@@ -115,7 +117,8 @@ impl Queue {
     /// The least of the numbers, from `from` on, whose frame is in flight to the place.
     pub(crate) fn next(&self, table: &Table, place: u16, from: u64) -> Option<u64>
         requires rising { RisingBy (λ n. n) 0 self.now.numbers table.now.posted }
-        requires filed { (n : ℕ) → flies_to table.now.flying place n ≡ true → Has self.now.numbers n }
+        requires filed { (n : ℕ) → flies_to table.now.flying place n ≡ true
+            → Has self.now.numbers n }
         ensures { IsNext (flies_to table.now.flying place) from result }
     {
         let numbers = &self.numbers[self.head..];
@@ -126,8 +129,10 @@ impl Queue {
     /// Passes the numbers at the front whose frames aren't in flight to the place. The frame `gone` isn't.
     fn pass(&mut self, table: &Table, place: u16, gone: u64)
         requires { flies_to table.now.flying place gone ≡ false }
-        ensures kept { (n : ℕ) → flies_to table.now.flying place n ≡ true → Has self.old.numbers n → Has self.new.numbers n }
-        ensures rising { (top : ℕ) → RisingBy (λ n. n) 0 self.old.numbers top → RisingBy (λ n. n) 0 self.new.numbers top }
+        ensures kept { (n : ℕ) → flies_to table.now.flying place n ≡ true → Has self.old.numbers n
+            → Has self.new.numbers n }
+        ensures rising { (top : ℕ) → RisingBy (λ n. n) 0 self.old.numbers top
+            → RisingBy (λ n. n) 0 self.new.numbers top }
         ensures first { FirstFlies table.now.flying place self.new.numbers }
         ensures spare { self.new.spare ≡ self.old.spare }
     {
@@ -136,7 +141,8 @@ impl Queue {
 
     /// Drops what was passed, and where frames were taken from between others, the numbers of those too.
     fn cut(&mut self, table: &Table, place: u16)
-        ensures numbers { (self.new.numbers ≡ self.old.numbers) ⊎ (self.new.numbers ≡ filter (flies_to table.now.flying place) self.old.numbers) }
+        ensures numbers { (self.new.numbers ≡ self.old.numbers)
+            ⊎ (self.new.numbers ≡ filter (flies_to table.now.flying place) self.old.numbers) }
         ensures spare { self.old.spare ≤ self.new.spare }
     {
         let scattered = self.taken > self.head;
@@ -152,8 +158,10 @@ impl Queue {
     /// that were taken, once they are more than half of all, or all.
     pub(crate) fn sweep(&mut self, table: &Table, place: u16, gone: u64)
         requires { flies_to table.now.flying place gone ≡ false }
-        ensures kept { (n : ℕ) → flies_to table.now.flying place n ≡ true → Has self.old.numbers n → Has self.new.numbers n }
-        ensures rising { (top : ℕ) → RisingBy (λ n. n) 0 self.old.numbers top → RisingBy (λ n. n) 0 self.new.numbers top }
+        ensures kept { (n : ℕ) → flies_to table.now.flying place n ≡ true → Has self.old.numbers n
+            → Has self.new.numbers n }
+        ensures rising { (top : ℕ) → RisingBy (λ n. n) 0 self.old.numbers top
+            → RisingBy (λ n. n) 0 self.new.numbers top }
         ensures first { FirstFlies table.now.flying place self.new.numbers }
         ensures spare { self.old.spare ≤ self.new.spare }
     {
@@ -171,7 +179,8 @@ pub(crate) fn widen(queues: &mut Vec<Queue>, place: u16) -> Result<(), Stop>
     ensures count { length queues.new.items ≡ length queues.old.items }
     ensures numbers { (p : ℕ) → numbers_at queues.new.items p ≡ numbers_at queues.old.items p }
     ensures spare { (p : ℕ) → spare_at queues.old.items p ≤ spare_at queues.new.items p }
-    ensures ok { OnOk result (place < length queues.old.items → 2 ≤ spare_at queues.new.items place) }
+    ensures ok { OnOk result (place < length queues.old.items
+        → 2 ≤ spare_at queues.new.items place) }
     ensures err { IfErr result (λ why. why ≡ stop.Memory) }
 {
     if usize::from(place) >= queues.len() {
@@ -184,7 +193,8 @@ pub(crate) fn widen(queues: &mut Vec<Queue>, place: u16) -> Result<(), Stop>
 /// A queue for each place.
 pub(crate) fn open_queues(alloc: Global, places: u16) -> Result<Vec<Queue>, AllocError>
     ensures count { IfOk result (λ queues. length queues.items ≡ places) }
-    ensures empty { IfOk result (λ queues. All (λ q. (q.numbers ≡ []) × (2 ≤ q.spare)) queues.items) }
+    ensures empty { IfOk result (λ queues. All (λ q. (q.numbers ≡ []) × (2 ≤ q.spare))
+        queues.items) }
 {
     let mut queues = Vec::with_capacity(alloc, usize::from(places))?;
     for _ in 0..places {

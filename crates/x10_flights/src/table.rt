@@ -24,7 +24,8 @@ struct Slot {
 /// between them was given back. Constant time.
 #[inline(always)]
 fn find_near(slots: &[Slot], number: u64) -> Option<usize>
-    ensures { IfSome result (λ at. (at < length slots.now) × HoldsAt (λ s. s.number ≡ number) slots.now at) }
+    ensures { IfSome result (λ at. (at < length slots.now)
+        × HoldsAt (λ s. s.number ≡ number) slots.now at) }
 {
     let at = number.checked_sub(slots.first()?.number)? as usize;
     if at < slots.len() && slots[at].number == number {
@@ -36,7 +37,8 @@ fn find_near(slots: &[Slot], number: u64) -> Option<usize>
 /// The position of the frame with a number.
 fn find(slots: &[Slot], number: u64) -> Option<usize>
     requires { IsNonDecreasingBy (λ s. s.number) slots.now }
-    ensures some { IfSome result (λ at. (at < length slots.now) × HoldsAt (λ s. s.number ≡ number) slots.now at) }
+    ensures some { IfSome result (λ at. (at < length slots.now)
+        × HoldsAt (λ s. s.number ≡ number) slots.now at) }
     ensures none { IfNone result (All (λ s. s.number ≢ number) slots.now) }
 {
     if let Some(at) = find_near(slots, number) {
@@ -110,7 +112,8 @@ impl Table {
         requires few { self.old.posted + 1 < 2 ^ 64 }
         ensures posted { self.new.posted ≡ self.old.posted + 1 }
         ensures spare { self.old.spare ≤ self.new.spare + 1 }
-        ensures flying { self.new.flying ≡ self.old.flying ++ (record { number = self.old.posted; to = to; bytes = bytes.items }) ∷ [] }
+        ensures flying { self.new.flying ≡ self.old.flying
+            ++ (record { number = self.old.posted; to = to; bytes = bytes.items }) ∷ [] }
     {
         let slot = Slot {
             number: self.posted,
@@ -123,7 +126,9 @@ impl Table {
 
     /// The place that the frame with a number goes to, and its bytes.
     pub(crate) fn get(&self, number: u64) -> Option<(u16, &[u8])>
-        ensures { MatchOption result (flight_among self.now.flying number ≡ None) (λ x. flight_among self.now.flying number ≡ Some (record { number = number; to = x.0; bytes = x.1.now })) }
+        ensures { MatchOption result (flight_among self.now.flying number ≡ None)
+            (λ x. flight_among self.now.flying number
+            ≡ Some (record { number = number; to = x.0; bytes = x.1.now })) }
     {
         let Some(at) = find(&self.slots, number) else {
             return None;
@@ -149,8 +154,11 @@ impl Table {
     pub(crate) fn take(&mut self, number: u64) -> Option<(u16, Vec<u8>)>
         ensures posted { self.new.posted ≡ self.old.posted }
         ensures spare { self.new.spare ≡ self.old.spare }
-        ensures none { IfNone result ((flight_among self.old.flying number ≡ None) × (self.new.flying ≡ self.old.flying)) }
-        ensures some { IfSome result (λ x. (flight_among self.old.flying number ≡ Some (record { number = number; to = x.0; bytes = x.1.items })) × (self.new.flying ≡ without number self.old.flying)) }
+        ensures none { IfNone result ((flight_among self.old.flying number ≡ None)
+            × (self.new.flying ≡ self.old.flying)) }
+        ensures some { IfSome result (λ x. (flight_among self.old.flying number
+            ≡ Some (record { number = number; to = x.0; bytes = x.1.items }))
+            × (self.new.flying ≡ without number self.old.flying)) }
     {
         let Some(at) = find(&self.slots, number) else {
             return None;

@@ -15,39 +15,49 @@ use Rattle.x10_frame.proofs.Readers.{split, alike, done_next, made_twice, Drops,
 abbrev spawned : ℕ → ℕ → Launch → Frame
 spawned from to l = Spawn from to l.home l.number l.function l.graph
 
-spawn_is : (v : FrameVersion) (places from to : ℕ) (bytes : List ℕ) → body_at v places 1 from to bytes ≡ bind (spawn_at places from to) (after_head v places) bytes
+spawn_is : (v : FrameVersion) (places from to : ℕ) (bytes : List ℕ)
+    → body_at v places 1 from to bytes ≡ bind (spawn_at places from to) (after_head v places) bytes
 unfolding body_at launch_at spawn_at
 spawn_is v places from to bytes =
     alike _ _ (λ l. done (spawned from to l)) _ (after_head v places) (λ home.
     alike _ _ (λ l. done (spawned from to l)) _ (after_head v places) (λ number.
     alike _ _ (λ l. done (spawned from to l)) _ (after_head v places) (λ function rest.
-    made_twice (graph_at v places 16) (launch home number function) (spawned from to) (head.Spawn from to home number function) (after_head v places) rest refl))) bytes
+    made_twice (graph_at v places 16) (launch home number function) (spawned from to) (head.Spawn from to home number function)
+    (after_head v places) rest refl))) bytes
 
 abbrev shifted : ℕ → ℕ → ℕ → Launch → Frame
 shifted from to waiting l = Shift from to waiting l.home l.number l.function l.graph
 
-shift_is : (v : FrameVersion) (places from to : ℕ) (bytes : List ℕ) → body_at v places 2 from to bytes ≡ bind (shift_at places from to) (after_head v places) bytes
+shift_is : (v : FrameVersion) (places from to : ℕ) (bytes : List ℕ)
+    → body_at v places 2 from to bytes ≡ bind (shift_at places from to) (after_head v places) bytes
 unfolding body_at launch_at shift_at
 shift_is v places from to bytes =
     split _ _ _ (after_head v places) (λ waiting.
     alike _ _ (λ l. done (shifted from to waiting l)) _ (after_head v places) (λ home.
     alike _ _ (λ l. done (shifted from to waiting l)) _ (after_head v places) (λ number.
     alike _ _ (λ l. done (shifted from to waiting l)) _ (after_head v places) (λ function rest.
-    made_twice (graph_at v places 16) (launch home number function) (shifted from to waiting) (head.Shift from to waiting home number function) (after_head v places) rest refl)))) bytes
+    made_twice (graph_at v places 16) (launch home number function) (shifted from to waiting) (head.Shift from to waiting home number function)
+    (after_head v places) rest refl)))) bytes
 
-back_is : (v : FrameVersion) (places from to : ℕ) (bytes : List ℕ) → body_at v places 3 from to bytes ≡ bind (back_at from to) (after_head v places) bytes
+back_is : (v : FrameVersion) (places from to : ℕ) (bytes : List ℕ)
+    → body_at v places 3 from to bytes ≡ bind (back_at from to) (after_head v places) bytes
 unfolding body_at back_at
-back_is v places from to bytes = split _ _ _ (after_head v places) (λ waiting rest. done_next (head.Back from to waiting) (after_head v places) rest) bytes
+back_is v places from to bytes = split _ _ _ (after_head v places)
+    (λ waiting rest. done_next (head.Back from to waiting) (after_head v places) rest) bytes
 
-report_is : (v : FrameVersion) (places from to : ℕ) (bytes : List ℕ) → body_at v places 4 from to bytes ≡ bind (report_at places from to) (after_head v places) bytes
+report_is : (v : FrameVersion) (places from to : ℕ) (bytes : List ℕ)
+    → body_at v places 4 from to bytes ≡ bind (report_at places from to) (after_head v places) bytes
 unfolding body_at report_at counts_at
-report_is v places from to bytes = split _ _ _ (after_head v places) (λ finish. split _ _ _ (after_head v places) (λ u rest. done_next (head.Report from to finish) (after_head v places) rest)) bytes
+report_is v places from to bytes = split _ _ _ (after_head v places)
+    (λ finish. split _ _ _ (after_head v places) (λ u rest. done_next (head.Report from to finish) (after_head v places) rest)) bytes
 
-none_is : (v : FrameVersion) (places type from to : ℕ) (bytes : List ℕ) → given {A = Frame} None FrameType bytes ≡ bind (given {A = Head} None FrameType) (after_head v places) bytes
+none_is : (v : FrameVersion) (places type from to : ℕ) (bytes : List ℕ)
+    → given {A = Frame} None FrameType bytes ≡ bind (given {A = Head} None FrameType) (after_head v places) bytes
 unfolding bind given
 none_is v places type from to bytes = refl
 
-body_is : (v : FrameVersion) (places type from to : ℕ) (bytes : List ℕ) → body_at v places type from to bytes ≡ bind (numbers_at places type from to) (after_head v places) bytes
+body_is : (v : FrameVersion) (places type from to : ℕ) (bytes : List ℕ)
+    → body_at v places type from to bytes ≡ bind (numbers_at places type from to) (after_head v places) bytes
 unfolding body_at numbers_at
 body_is v places zero from to bytes = none_is v places 0 from to bytes
 body_is v places (suc zero) from to bytes = spawn_is v places from to bytes
@@ -84,9 +94,11 @@ drops_numbers places few zero from to = drops_none
 drops_numbers places few (suc zero) from to =
     drops_bind _ _ (drops_place places few) (λ home. drops_bind _ _ drops32 (λ finish. drops_bind _ _ drops16 (λ function. drops_done _)))
 drops_numbers places few (suc (suc zero)) from to =
-    drops_bind _ _ drops32 (λ waiting. drops_bind _ _ (drops_place places few) (λ home. drops_bind _ _ drops32 (λ finish. drops_bind _ _ drops16 (λ function. drops_done _))))
+    drops_bind _ _ drops32 (λ waiting. drops_bind _ _ (drops_place places few)
+    (λ home. drops_bind _ _ drops32 (λ finish. drops_bind _ _ drops16 (λ function. drops_done _))))
 drops_numbers places few (suc (suc (suc zero))) from to = drops_bind _ _ drops32 (λ waiting. drops_done _)
-drops_numbers places few (suc (suc (suc (suc zero)))) from to = drops_bind _ _ drops32 (λ finish. drops_bind _ _ (drops_expect _ places Place drops16) (λ u. drops_done _))
+drops_numbers places few (suc (suc (suc (suc zero)))) from to =
+    drops_bind _ _ drops32 (λ finish. drops_bind _ _ (drops_expect _ places Place drops16) (λ u. drops_done _))
 drops_numbers places few (suc (suc (suc (suc (suc type))))) from to = drops_none
 
 pub head_drops : (places : ℕ) → places < 2 ^ 16 → Drops (head_at places)

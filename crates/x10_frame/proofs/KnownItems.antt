@@ -34,21 +34,26 @@ first_of w next bytes h =
     ]
 
 -- a test that was passed changes nothing
-chosen : {A : Type 0} (b : Bool) (fault : FrameFault) (n : ℕ) (rest : List ℕ) (next : ℕ → Reader FrameFault A) → IsOk (bind (bind (check b fault) (λ _. done n)) next rest) → bind (bind (check b fault) (λ _. done n)) next rest ≡ next n rest
+chosen : {A : Type 0} (b : Bool) (fault : FrameFault) (n : ℕ) (rest : List ℕ) (next : ℕ → Reader FrameFault A)
+    → IsOk (bind (bind (check b fault) (λ _. done n)) next rest) → bind (bind (check b fault) (λ _. done n)) next rest ≡ next n rest
 unfolding bind check done
 chosen true fault n rest next h = refl
 chosen false fault n rest next h = absurd cc
 
-tested_of : {A : Type 0} (o : Result (ℕ × List ℕ) FrameFault) (r : Reader FrameFault ℕ) (test : ℕ → Bool) (fault : FrameFault) (next : ℕ → Reader FrameFault A) (bytes : List ℕ) → r bytes ≡ o → IsOk (bind (such_that r test fault) next bytes) → bind (such_that r test fault) next bytes ≡ bind r next bytes
+tested_of : {A : Type 0} (o : Result (ℕ × List ℕ) FrameFault) (r : Reader FrameFault ℕ) (test : ℕ → Bool) (fault : FrameFault)
+    (next : ℕ → Reader FrameFault A) (bytes : List ℕ) → r bytes ≡ o → IsOk (bind (such_that r test fault) next bytes)
+    → bind (such_that r test fault) next bytes ≡ bind r next bytes
 unfolding such_that bind
 tested_of (Ok x) r test fault next bytes e h = rw e (chosen (test x.0) fault x.0 x.1 next (rw e at h))
 tested_of (Err f) r test fault next bytes e h = rw e refl
 
-tested : {A : Type 0} (r : Reader FrameFault ℕ) (test : ℕ → Bool) (fault : FrameFault) (next : ℕ → Reader FrameFault A) (bytes : List ℕ) → IsOk (bind (such_that r test fault) next bytes) → bind (such_that r test fault) next bytes ≡ bind r next bytes
+tested : {A : Type 0} (r : Reader FrameFault ℕ) (test : ℕ → Bool) (fault : FrameFault) (next : ℕ → Reader FrameFault A) (bytes : List ℕ)
+    → IsOk (bind (such_that r test fault) next bytes) → bind (such_that r test fault) next bytes ≡ bind r next bytes
 tested r test fault next bytes h = tested_of (r bytes) r test fault next bytes refl h
 
 -- a number that passed a test
-one_number : (w : Width) (f : ℕ → Item) (test : ℕ → Bool) (fault : FrameFault) (rest : List ℕ) → IsOk (bind (such_that (number w Short) test fault) (λ n. done (f n)) rest)
+one_number : (w : Width) (f : ℕ → Item) (test : ℕ → Bool) (fault : FrameFault) (rest : List ℕ)
+    → IsOk (bind (such_that (number w Short) test fault) (λ n. done (f n)) rest)
     → IsKnown (byte_len w) rest (f (from_be_bytes w (take (byte_len w) rest))) (bind (such_that (number w Short) test fault) (λ n. done (f n)) rest)
 unfolding done
 one_number w f test fault rest h =
@@ -57,7 +62,8 @@ one_number w f test fault rest h =
     record { room = one.room; reads = t ∙ one.is }
 
 three_numbers : (v : FrameVersion) (places : ℕ) (rest : List ℕ) → IsOk (untagged_at v places (full v) (full v) 7 rest)
-    → IsKnown 8 rest (RefItem (from_be_bytes w16 (take 2 rest)) (from_be_bytes w32 (take 4 (drop 2 rest))) (from_be_bytes w16 (take 2 (drop 6 rest)))) (untagged_at v places (full v) (full v) 7 rest)
+    → IsKnown 8 rest (RefItem (from_be_bytes w16 (take 2 rest)) (from_be_bytes w32 (take 4 (drop 2 rest))) (from_be_bytes w16 (take 2 (drop 6 rest))))
+    (untagged_at v places (full v) (full v) 7 rest)
 unfolding untagged_at place_at done
 three_numbers v places rest h =
     let class_next : (home id : ℕ) → ℕ → Reader FrameFault Item = λ home id class. done (RefItem home id class) in
@@ -72,7 +78,10 @@ three_numbers v places rest h =
     let three = first_of w16 (class_next home id) (drop 4 after) (rw (t, one.is, two.is) at h) in
     let e : drop 4 (drop 2 rest) ≡ drop 6 rest = drop-drop 4 2 rest in
     let f : drop 2 (drop 6 rest) ≡ drop 8 rest = drop-drop 2 6 rest in
-    record { room = omega (arith, one.room, two.room, three.room, length-drop 2 rest, length-drop 4 after); reads = t ∙ one.is ∙ two.is ∙ three.is ∙ rw (e, f) refl }
+    record {
+      room = omega (arith, one.room, two.room, three.room, length-drop 2 rest, length-drop 4 after);
+      reads = t ∙ one.is ∙ two.is ∙ three.is ∙ rw (e, f) refl;
+    }
 
 -- ---- by the tag
 
@@ -90,7 +99,11 @@ int_again v places (b ∷ rest) h e =
     let g : IsOk (item_at v places (full v) (full v) (1 ∷ rest)) = rw b1 at h in
     rw b1 (elim (cases_lt (length rest) 8) [
       | inl lt ↦ absurd (no_err (item_at v places (full v) (full v) (1 ∷ rest)) Short (rw (int_short Short rest lt) refl) g)
-      | inr le ↦ record { room = le; reads = rw (int_is Short rest (from_be_bytes w64 (take 8 rest)) (cast_signed w64 (from_be_bytes w64 (take 8 rest))) le refl refl) refl }
+      | inr le ↦ record {
+        room = le;
+        reads = rw (int_is Short rest (from_be_bytes w64 (take 8 rest))
+            (cast_signed w64 (from_be_bytes w64 (take 8 rest))) le refl refl) refl;
+      }
     ])
 
 pub place_again : (v : FrameVersion) (places : ℕ) (bytes : List ℕ) → IsOk (item_at v places (full v) (full v) bytes) → slice_index bytes 0 ≡ 2
@@ -103,7 +116,8 @@ place_again v places (b ∷ rest) h e =
     rw b2 (one_number w16 PlaceItem (λ p. nat_lt p places) Place rest g)
 
 pub text_again : (v : FrameVersion) (places : ℕ) (bytes : List ℕ) → IsOk (item_at v places (full v) (full v) bytes) → slice_index bytes 0 ≡ 3
-    → IsKnown (byte_len (width_of v)) (drop 1 bytes) (TextItem (from_be_bytes (width_of v) (take (byte_len (width_of v)) (drop 1 bytes)))) (item_at v places (full v) (full v) bytes)
+    → IsKnown (byte_len (width_of v)) (drop 1 bytes) (TextItem (from_be_bytes (width_of v) (take (byte_len (width_of v)) (drop 1 bytes))))
+    (item_at v places (full v) (full v) bytes)
 unfolding item_at untagged_at index_at such_that bind check done byte
 text_again v places [] h e = absurd cc
 text_again v places (b ∷ rest) h e =
@@ -112,7 +126,8 @@ text_again v places (b ∷ rest) h e =
     rw b3 (one_number (width_of v) TextItem (λ i. nat_le i (most_of v) && nat_lt i (most_of v)) Order rest g)
 
 pub rail_again : (v : FrameVersion) (places : ℕ) (bytes : List ℕ) → IsOk (item_at v places (full v) (full v) bytes) → slice_index bytes 0 ≡ 4
-    → IsKnown (byte_len (width_of v)) (drop 1 bytes) (RailItem (from_be_bytes (width_of v) (take (byte_len (width_of v)) (drop 1 bytes)))) (item_at v places (full v) (full v) bytes)
+    → IsKnown (byte_len (width_of v)) (drop 1 bytes) (RailItem (from_be_bytes (width_of v) (take (byte_len (width_of v)) (drop 1 bytes))))
+    (item_at v places (full v) (full v) bytes)
 unfolding item_at untagged_at index_at such_that bind check done byte
 rail_again v places [] h e = absurd cc
 rail_again v places (b ∷ rest) h e =
@@ -121,7 +136,8 @@ rail_again v places (b ∷ rest) h e =
     rw b4 (one_number (width_of v) RailItem (λ i. nat_le i (most_of v) && nat_lt i (most_of v)) Order rest g)
 
 pub object_again : (v : FrameVersion) (places : ℕ) (bytes : List ℕ) → IsOk (item_at v places (full v) (full v) bytes) → slice_index bytes 0 ≡ 5
-    → IsKnown (byte_len (width_of v)) (drop 1 bytes) (ObjectItem (from_be_bytes (width_of v) (take (byte_len (width_of v)) (drop 1 bytes)))) (item_at v places (full v) (full v) bytes)
+    → IsKnown (byte_len (width_of v)) (drop 1 bytes) (ObjectItem (from_be_bytes (width_of v) (take (byte_len (width_of v)) (drop 1 bytes))))
+    (item_at v places (full v) (full v) bytes)
 unfolding item_at untagged_at index_at such_that bind check done byte
 object_again v places [] h e = absurd cc
 object_again v places (b ∷ rest) h e =
@@ -138,7 +154,8 @@ null_again v places (b ∷ rest) h e =
     rw b6 refl
 
 -- the tag that is left
-last_tag : (v : FrameVersion) (places tag : ℕ) (rest : List ℕ) → IsOk (item_at v places (full v) (full v) (tag ∷ rest)) → (tag ≡ 1 → ⊥) → (tag ≡ 2 → ⊥) → (tag ≡ 3 → ⊥) → (tag ≡ 4 → ⊥) → (tag ≡ 5 → ⊥) → (tag ≡ 6 → ⊥) → tag ≡ 7
+last_tag : (v : FrameVersion) (places tag : ℕ) (rest : List ℕ) → IsOk (item_at v places (full v) (full v) (tag ∷ rest)) → (tag ≡ 1 → ⊥)
+    → (tag ≡ 2 → ⊥) → (tag ≡ 3 → ⊥) → (tag ≡ 4 → ⊥) → (tag ≡ 5 → ⊥) → (tag ≡ 6 → ⊥) → tag ≡ 7
 unfolding item_at untagged_at such_that bind check done byte given
 last_tag v places zero rest h n1 n2 n3 n4 n5 n6 = absurd cc
 last_tag v places (suc zero) rest h n1 n2 n3 n4 n5 n6 = absurd (n1 refl)
@@ -149,11 +166,17 @@ last_tag v places (suc (suc (suc (suc (suc zero))))) rest h n1 n2 n3 n4 n5 n6 = 
 last_tag v places (suc (suc (suc (suc (suc (suc zero)))))) rest h n1 n2 n3 n4 n5 n6 = absurd (n6 refl)
 last_tag v places (suc (suc (suc (suc (suc (suc (suc zero))))))) rest h n1 n2 n3 n4 n5 n6 = refl
 last_tag v places (suc (suc (suc (suc (suc (suc (suc (suc tag)))))))) rest h n1 n2 n3 n4 n5 n6 =
-    absurd (no_err (item_at v places (full v) (full v) ((suc (suc (suc (suc (suc (suc (suc (suc tag)))))))) ∷ rest)) Tag (rw (le-leb 1 (suc (suc (suc (suc (suc (suc (suc (suc tag)))))))) (omega arith), lt-leb (suc (suc (suc (suc (suc (suc (suc (suc tag)))))))) 7 (omega arith)) refl) h)
+    absurd (no_err (item_at v places (full v) (full v) ((suc (suc (suc (suc (suc (suc (suc (suc tag)))))))) ∷ rest)) Tag
+    (rw (
+      le-leb 1 (suc (suc (suc (suc (suc (suc (suc (suc tag)))))))) (omega arith),
+      lt-leb (suc (suc (suc (suc (suc (suc (suc (suc tag)))))))) 7 (omega arith),
+    ) refl) h)
 
 pub ref_again : (v : FrameVersion) (places : ℕ) (bytes : List ℕ) → IsOk (item_at v places (full v) (full v) bytes)
-    → (slice_index bytes 0 ≡ 1 → ⊥) → (slice_index bytes 0 ≡ 2 → ⊥) → (slice_index bytes 0 ≡ 3 → ⊥) → (slice_index bytes 0 ≡ 4 → ⊥) → (slice_index bytes 0 ≡ 5 → ⊥) → (slice_index bytes 0 ≡ 6 → ⊥)
-    → IsKnown 8 (drop 1 bytes) (RefItem (from_be_bytes w16 (take 2 (drop 1 bytes))) (from_be_bytes w32 (take 4 (drop 2 (drop 1 bytes)))) (from_be_bytes w16 (take 2 (drop 6 (drop 1 bytes))))) (item_at v places (full v) (full v) bytes)
+    → (slice_index bytes 0 ≡ 1 → ⊥) → (slice_index bytes 0 ≡ 2 → ⊥) → (slice_index bytes 0 ≡ 3 → ⊥) → (slice_index bytes 0 ≡ 4 → ⊥)
+    → (slice_index bytes 0 ≡ 5 → ⊥) → (slice_index bytes 0 ≡ 6 → ⊥)
+    → IsKnown 8 (drop 1 bytes) (RefItem (from_be_bytes w16 (take 2 (drop 1 bytes))) (from_be_bytes w32 (take 4 (drop 2 (drop 1 bytes))))
+    (from_be_bytes w16 (take 2 (drop 6 (drop 1 bytes))))) (item_at v places (full v) (full v) bytes)
 unfolding item_at such_that bind check done byte
 ref_again v places [] h n1 n2 n3 n4 n5 n6 = absurd cc
 ref_again v places (b ∷ rest) h n1 n2 n3 n4 n5 n6 =

@@ -8,6 +8,6 @@ pub mod ReadAgain
 pub mod KnownItems
 pub mod Shows
 pub mod NodeLists
-pub mod Spelling
+pub mod SpelledParts
 pub mod Drafts
 pub mod Spelled

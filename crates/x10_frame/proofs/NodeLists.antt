@@ -34,9 +34,11 @@ nodes_at v places bytes [] all t (n ∷ ns) small few fit stand = absurd stand
 nodes_at v places bytes (at ∷ table) all t [] small few fit stand = absurd stand
 
 -- those of the frame that a view shows
-pub nodes_in : (v : FrameVersion) (bytes : List ℕ) (places : ℕ) (head : Head) (start count : ℕ) (texts rails table : List ℕ) (f : Frame) → IsView v bytes places head start count texts rails table → frame_in places bytes ≡ f
+pub nodes_in : (v : FrameVersion) (bytes : List ℕ) (places : ℕ) (head : Head) (start count : ℕ) (texts rails table : List ℕ) (f : Frame)
+    → IsView v bytes places head start count texts rails table → frame_in places bytes ≡ f
     → AreNodes v places bytes table (graph_of f).nodes
 nodes_in v bytes places head start count texts rails table f shown e =
     let s = shows v bytes places head start count texts rails table f shown e in
     let fit = graph_fits v places f s.fits in
-    nodes_at v places bytes table (tables_of (graph_of f)) (turn 0 (used_after none (graph_of f).roots)) (graph_of f).nodes s.few (few_of v places (graph_of f) fit) fit.nodes.1 s.has.graph_at.nodes_at
+    nodes_at v places bytes table (tables_of (graph_of f)) (turn 0 (used_after none (graph_of f).roots)) (graph_of f).nodes s.few
+    (few_of v places (graph_of f) fit) fit.nodes.1 s.has.graph_at.nodes_at

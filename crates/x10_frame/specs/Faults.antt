@@ -20,13 +20,16 @@ named fault.Trailing = Some Trailing
 named fault.Memory = None
 
 -- what was answered, seen by view, is what reading gives
-abbrev pub Answers : {X Y : Type 0} → (X → Y) → Result X FrameFault → Result Y reading.FrameFault → Type 0
+abbrev pub Answers : {X Y : Type 0} → (X → Y) → Result X FrameFault → Result Y reading.FrameFault
+    → Type 0
 Answers view result read = faults.Answers named view result read
 
 -- the same, unless memory ran out
-abbrev pub Gives : {X Y : Type 0} → (X → Y) → Result X FrameFault → Result Y reading.FrameFault → Type 0
+abbrev pub Gives : {X Y : Type 0} → (X → Y) → Result X FrameFault → Result Y reading.FrameFault
+    → Type 0
 Gives view result read = faults.Gives named view result read
 
 -- what was answered is the bytes after what reading gives
-abbrev pub Passes : {X Y : Type 0} → (X → List ℕ) → Result X FrameFault → Result (Y × List ℕ) reading.FrameFault → Type 0
-Passes rest result read = faults.Passes named rest result read
+abbrev pub ParsesFrame : {X Y : Type 0} → (X → List ℕ) → Result X FrameFault
+    → Result (Y × List ℕ) reading.FrameFault → Type 0
+ParsesFrame rest result read = faults.Parses named rest result read

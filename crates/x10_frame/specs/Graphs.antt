@@ -21,5 +21,6 @@ graph_from v places count all = do
   roots ← many (item_at v places all) uses count none
   texts ← times all.texts text_at
   rails ← times all.rails rail_at
-  nodes ← such_that (many (node_at v places all) next_turn all.nodes (turn 0 (used_after none roots))) (λ nodes. same_tables (used_in_all roots nodes) all) Order
+  nodes ← such_that (many (node_at v places all) next_turn all.nodes
+      (turn 0 (used_after none roots))) (λ nodes. same_tables (used_in_all roots nodes) all) Order
   done (record { roots = roots; texts = texts; rails = rails; nodes = nodes })

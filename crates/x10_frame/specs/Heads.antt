@@ -12,7 +12,8 @@ use Rattle.x10_frame.specs.declared.head.Head.TheVariants as head
 -- what stands before the graph of a frame, or before its counts
 abbrev pub head_of : Frame → Head
 head_of (frames.Spawn from to home number function graph) = head.Spawn from to home number function
-head_of (frames.Shift from to waiting home number function graph) = head.Shift from to waiting home number function
+head_of (frames.Shift from to waiting home number function graph) =
+    head.Shift from to waiting home number function
 head_of (frames.Back from to waiting graph) = head.Back from to waiting
 head_of (frames.Report from to number sent received) = head.Report from to number
 
@@ -82,8 +83,10 @@ head_at places = do
 
 -- what follows them
 abbrev pub with_graph : Head → Graph → Frame
-with_graph (head.Spawn from to home number function) graph = frames.Spawn from to home number function graph
-with_graph (head.Shift from to waiting home number function) graph = frames.Shift from to waiting home number function graph
+with_graph (head.Spawn from to home number function) graph =
+    frames.Spawn from to home number function graph
+with_graph (head.Shift from to waiting home number function) graph =
+    frames.Shift from to waiting home number function graph
 with_graph (head.Back from to waiting) graph = frames.Back from to waiting graph
 with_graph (head.Report from to number) graph = frames.Report from to number [] []
 

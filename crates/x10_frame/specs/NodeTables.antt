@@ -13,17 +13,21 @@ pub record IsNodeTable (used last : Tables) (spell : Node → List ℕ) (frame t
   pub known : IsTable spell frame table rest read
   pub state : last ≡ (after_all next_turn (turn 0 used) known.items).used
 
-abbrev pub GivesNodes : {X : Type 0} → Tables → (Node → List ℕ) → List ℕ → (X → List ℕ) → (X → Tables) → (X → List ℕ) → Result X FrameFault
+abbrev pub GivesNodes : {X : Type 0} → Tables → (Node → List ℕ) → List ℕ → (X → List ℕ)
+    → (X → Tables) → (X → List ℕ) → Result X FrameFault
     → Result (List Node × List ℕ) reading.FrameFault → Type 0
-GivesNodes used spell frame table last rest (Ok x) read = IsNodeTable used (last x) spell frame (table x) (rest x) read
+GivesNodes used spell frame table last rest (Ok x) read =
+    IsNodeTable used (last x) spell frame (table x) (rest x) read
 GivesNodes used spell frame table last rest (Err e) read = IsFaultOrMemory (named e) read
 
 -- a node, what was used after it, and the bytes after it
-pub record IsNode (used last : Tables) (rest : List ℕ) (read : Result (Node × List ℕ) reading.FrameFault) : Type 0 where
+pub record IsNode (used last : Tables) (rest : List ℕ)
+    (read : Result (Node × List ℕ) reading.FrameFault) : Type 0 where
   pub node : Node
   pub reads : read ≡ Ok (node, rest)
   pub state : last ≡ used_after used node.fields
 
-abbrev pub PassesNode : {X : Type 0} → Tables → (X → Tables) → (X → List ℕ) → Result X FrameFault → Result (Node × List ℕ) reading.FrameFault → Type 0
+abbrev pub PassesNode : {X : Type 0} → Tables → (X → Tables) → (X → List ℕ) → Result X FrameFault
+    → Result (Node × List ℕ) reading.FrameFault → Type 0
 PassesNode used last rest (Ok x) read = IsNode used (last x) (rest x) read
 PassesNode used last rest (Err e) read = IsFault (named e) read

@@ -16,7 +16,8 @@ unfoldable pub frame_in : ℕ → List ℕ → Frame
 frame_in places bytes = read_or_empty (frame_at places bytes)
 
 -- the bytes are a frame, and the tables say where its parts begin
-pub record IsView (v : FrameVersion) (bytes : List ℕ) (places : ℕ) (head : Head) (start count : ℕ) (texts rails nodes : List ℕ) : Type 0 where
+pub record IsView (v : FrameVersion) (bytes : List ℕ) (places : ℕ) (head : Head) (start count : ℕ)
+    (texts rails nodes : List ℕ) : Type 0 where
   pub few : places < 2 ^ 16
   pub fits : FitsFrame v places (frame_in places bytes)
   pub spelled : bytes ≡ spelling v (frame_in places bytes)

@@ -14,16 +14,23 @@ use Rattle.x10_frame.specs.Items.{item_of}
 -- the head of a frame with a graph
 abbrev pub head_bytes : FrameVersion → Head → List ℕ
 head_bytes v (head.Spawn from to home number function) = (byte_of v ∷ 1 ∷ [])
-    ++ (to_be_bytes w16 from ++ (to_be_bytes w16 to ++ (to_be_bytes w16 home ++ (to_be_bytes w32 number ++ to_be_bytes w16 function))))
+    ++ (to_be_bytes w16 from ++ (to_be_bytes w16 to
+    ++ (to_be_bytes w16 home ++ (to_be_bytes w32 number ++ to_be_bytes w16 function))))
 head_bytes v (head.Shift from to waiting home number function) = (byte_of v ∷ 2 ∷ []) ++
     (to_be_bytes w16 from ++ (to_be_bytes w16 to ++
-    (to_be_bytes w32 waiting ++ (to_be_bytes w16 home ++ (to_be_bytes w32 number ++ to_be_bytes w16 function)))))
-head_bytes v (head.Back from to waiting) = (byte_of v ∷ 3 ∷ []) ++ (to_be_bytes w16 from ++ (to_be_bytes w16 to ++ to_be_bytes w32 waiting))
-head_bytes v (head.Report from to number) = (byte_of v ∷ 4 ∷ []) ++ (to_be_bytes w16 from ++ (to_be_bytes w16 to ++ to_be_bytes w32 number))
+    (to_be_bytes w32 waiting ++ (to_be_bytes w16 home
+    ++ (to_be_bytes w32 number ++ to_be_bytes w16 function)))))
+head_bytes v (head.Back from to waiting) =
+    (byte_of v ∷ 3 ∷ []) ++ (to_be_bytes w16 from
+    ++ (to_be_bytes w16 to ++ to_be_bytes w32 waiting))
+head_bytes v (head.Report from to number) =
+    (byte_of v ∷ 4 ∷ []) ++ (to_be_bytes w16 from ++ (to_be_bytes w16 to ++ to_be_bytes w32 number))
 
 -- how much of everything the graph has
 abbrev pub sizes_bytes : FrameVersion → (roots texts rails nodes : ℕ) → List ℕ
-sizes_bytes v roots texts rails nodes = to_be_bytes w16 roots ++ (to_be_bytes (width_of v) texts ++ (to_be_bytes (width_of v) rails ++ to_be_bytes (width_of v) nodes))
+sizes_bytes v roots texts rails nodes = to_be_bytes w16 roots
+    ++ (to_be_bytes (width_of v) texts ++ (to_be_bytes (width_of v) rails
+    ++ to_be_bytes (width_of v) nodes))
 
 -- the values as they are written, one after another
 abbrev pub values_bytes : List Item → List ℕ
@@ -36,7 +43,8 @@ node_of class fields = record { class = class; fields = map item_of fields }
 -- the head, the sizes, the roots, the texts, the rails and the nodes, appended one after another
 abbrev pub draft : FrameVersion → Head → Graph → List ℕ
 draft v h g =
-    ((((head_bytes v h ++ sizes_bytes v (length g.roots) (length g.texts) (length g.rails) (length g.nodes))
+    ((((head_bytes v h ++ sizes_bytes v (length g.roots) (length g.texts) (length g.rails)
+    (length g.nodes))
     ++ flat_map (item_bytes v) g.roots)
     ++ flat_map blob_bytes g.texts)
     ++ flat_map blob_bytes g.rails)

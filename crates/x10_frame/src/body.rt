@@ -34,7 +34,9 @@ fn read_counts<'a>(
     places: u16,
 ) -> Result<(Body, &'a [u8]), FrameFault>
     requires { EndsWith frame.now bytes.now }
-    ensures exact { (v : FrameVersion) (from : ℕ) (to : ℕ) (finish : ℕ) → GivesBody v frame.now (variant.Report from to finish) (λ x. x.0) (λ x. x.1.now) result (counts_at places from to finish bytes.now) }
+    ensures exact { (v : FrameVersion) (from : ℕ) (to : ℕ) (finish : ℕ)
+        → GivesBody v frame.now (variant.Report from to finish) (λ x. x.0) (λ x. x.1.now) result
+        (counts_at places from to finish bytes.now) }
 {
     let start = frame.len() - bytes.len();
     let rest = past_counts(bytes, places)?;
@@ -60,7 +62,8 @@ pub fn read_body<'a>(
     head: &Head,
 ) -> Result<(Body, &'a [u8]), FrameFault>
     requires { EndsWith frame.now bytes.now }
-    ensures exact { GivesBody version frame.now head.now (λ x. x.0) (λ x. x.1.now) result (after_head version places head.now bytes.now) }
+    ensures exact { GivesBody version frame.now head.now (λ x. x.0) (λ x. x.1.now) result
+        (after_head version places head.now bytes.now) }
 {
     match *head {
         Head::Spawn { .. } => read_graph(alloc, frame, bytes, version, places, MOST_ROOTS),

@@ -40,7 +40,8 @@ pub fn place_at(bytes: &[u8], places: u16) -> Result<(u16, &[u8]), FrameFault>
 /// A number as wide as the version says, and the bytes after it.
 #[inline(always)]
 pub fn number_at(bytes: &[u8], version: FrameVersion) -> Result<(u32, &[u8]), FrameFault>
-    ensures exact { Answers (λ x. (x.0, x.1.now)) result (number (width_of version) Short bytes.now) }
+    ensures exact { Answers (λ x. (x.0, x.1.now)) result
+        (number (width_of version) Short bytes.now) }
 {
     match version {
         FrameVersion::Narrow => {

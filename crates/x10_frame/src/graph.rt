@@ -31,7 +31,8 @@ struct Counts {
 #[tactic(auto, unfolding(x10_model::specs::Readers::such_that, x10_model::specs::Readers::bind, x10_model::specs::Readers::check, x10_model::specs::Readers::done))]
 #[inline(always)]
 fn root_count_at(bytes: &[u8], most: u16) -> Result<(u16, &[u8]), FrameFault>
-    ensures exact { Answers (λ x. (x.0, x.1.now)) result (such_that (number w16 Short) (λ n. nat_le n most) Order bytes.now) }
+    ensures exact { Answers (λ x. (x.0, x.1.now)) result
+        (such_that (number w16 Short) (λ n. nat_le n most) Order bytes.now) }
 {
     let (count, bytes) = u16_at::<FrameFault>(bytes)?;
     if count > most {
@@ -65,8 +66,10 @@ fn count_at(bytes: &[u8], version: FrameVersion) -> Result<(u32, &[u8]), FrameFa
 #[tactic(auto, unfolding(crate::specs::Graphs::counts_at, x10_model::specs::Readers::bind, x10_model::specs::Readers::done))]
 #[inline(always)]
 fn counts_at(bytes: &[u8], version: FrameVersion, most: u16) -> Result<(Counts, &[u8]), FrameFault>
-    ensures exact { Answers (λ x. ((x.0.roots, tables_in x.0.all), x.1.now)) result (counts_at version most bytes.now) }
-    ensures few { IfOk result (λ x. (x.0.all.texts ≤ most_of version) × (x.0.all.rails ≤ most_of version) × (x.0.all.nodes ≤ most_of version)) }
+    ensures exact { Answers (λ x. ((x.0.roots, tables_in x.0.all), x.1.now)) result
+        (counts_at version most bytes.now) }
+    ensures few { IfOk result (λ x. (x.0.all.texts ≤ most_of version)
+        × (x.0.all.rails ≤ most_of version) × (x.0.all.nodes ≤ most_of version)) }
 {
     let (roots, bytes) = root_count_at(bytes, most)?;
     let (texts, bytes) = count_at(bytes, version)?;
@@ -94,7 +97,8 @@ fn parts_of<'a>(
     requires texts { all.now.texts ≤ most_of version }
     requires rails { all.now.rails ≤ most_of version }
     requires nodes { all.now.nodes ≤ most_of version }
-    ensures exact { GivesGraph version frame.now (λ x. x.0) (λ x. x.1.now) result (graph_from version places roots (tables_in all.now) bytes.now) }
+    ensures exact { GivesGraph version frame.now (λ x. x.0) (λ x. x.1.now) result
+        (graph_from version places roots (tables_in all.now) bytes.now) }
 {
     let start = frame.len() - bytes.len();
     let (used, rest) = past_items(bytes, roots, version, places, all, &Used::none())?;
@@ -126,7 +130,8 @@ pub fn read_graph<'a>(
     most: u16,
 ) -> Result<(Body, &'a [u8]), FrameFault>
     requires { EndsWith frame.now bytes.now }
-    ensures exact { GivesGraph version frame.now (λ x. x.0) (λ x. x.1.now) result (graph_at version places most bytes.now) }
+    ensures exact { GivesGraph version frame.now (λ x. x.0) (λ x. x.1.now) result
+        (graph_at version places most bytes.now) }
 {
     let (counts, rest) = counts_at(bytes, version, most)?;
     let Counts { roots, all } = counts;

@@ -64,7 +64,8 @@ pub fn version_at(bytes: &[u8]) -> Result<(FrameVersion, &[u8]), FrameFault>
 #[tactic(auto, unfolding(x10_model::specs::Readers::such_that, x10_model::specs::Readers::bind, x10_model::specs::Readers::check, x10_model::specs::Readers::done))]
 #[inline(always)]
 fn type_at(bytes: &[u8]) -> Result<(u8, &[u8]), FrameFault>
-    ensures exact { Answers (λ x. (x.0, x.1.now)) result (such_that (byte Short) (λ n. nat_le 1 n && nat_le n 4) FrameType bytes.now) }
+    ensures exact { Answers (λ x. (x.0, x.1.now)) result
+        (such_that (byte Short) (λ n. nat_le 1 n && nat_le n 4) FrameType bytes.now) }
 {
     let (kind, bytes) = byte_at::<FrameFault>(bytes)?;
     if !(1..=4).contains(&kind) {
@@ -77,7 +78,8 @@ fn type_at(bytes: &[u8]) -> Result<(u8, &[u8]), FrameFault>
 #[tactic(auto, unfolding(x10_model::specs::Readers::expect, x10_model::specs::Readers::bind, x10_model::specs::Readers::check))]
 #[inline(always)]
 fn after_places(bytes: &[u8], places: u16) -> Result<&[u8], FrameFault>
-    ensures exact { Answers (λ x. (tt, x.now)) result (expect (number w16 Short) places Place bytes.now) }
+    ensures exact { Answers (λ x. (tt, x.now)) result
+        (expect (number w16 Short) places Place bytes.now) }
 {
     let (number, bytes) = u16_at::<FrameFault>(bytes)?;
     if number != places {
@@ -152,7 +154,8 @@ fn numbers_at(
     from: u16,
     to: u16,
 ) -> Result<(Head, &[u8]), FrameFault>
-    ensures exact { Answers (λ x. (x.0, x.1.now)) result (numbers_at places kind from to bytes.now) }
+    ensures exact { Answers (λ x. (x.0, x.1.now)) result
+        (numbers_at places kind from to bytes.now) }
 {
     match kind {
         1 => spawn_at(bytes, places, from, to),

@@ -31,7 +31,8 @@ pub enum Item {
 #[tactic(auto, unfolding(x10_model::specs::Readers::such_that, x10_model::specs::Readers::bind, x10_model::specs::Readers::check, x10_model::specs::Readers::done))]
 #[inline(always)]
 fn tag_at(bytes: &[u8]) -> Result<(u8, &[u8]), FrameFault>
-    ensures exact { Answers (λ x. (x.0, x.1.now)) result (such_that (byte Short) (λ n. nat_le 1 n && nat_le n 7) Tag bytes.now) }
+    ensures exact { Answers (λ x. (x.0, x.1.now)) result
+        (such_that (byte Short) (λ n. nat_le 1 n && nat_le n 7) Tag bytes.now) }
 {
     let (tag, bytes) = byte_at::<FrameFault>(bytes)?;
     if !(1..=7).contains(&tag) {
@@ -43,7 +44,8 @@ fn tag_at(bytes: &[u8]) -> Result<(u8, &[u8]), FrameFault>
 #[tactic(auto, unfolding(x10_model::specs::ReadingFrames::untagged_at, x10_model::specs::Readers::bind, x10_model::specs::Readers::done))]
 #[inline(always)]
 fn ref_at(bytes: &[u8], places: u16) -> Result<(Item, &[u8]), FrameFault>
-    ensures exact { (v : FrameVersion) (all : Tables) (used : Tables) → Answers (λ x. (item_of x.0, x.1.now)) result (untagged_at v places all used 7 bytes.now) }
+    ensures exact { (v : FrameVersion) (all : Tables) (used : Tables)
+        → Answers (λ x. (item_of x.0, x.1.now)) result (untagged_at v places all used 7 bytes.now) }
     ensures next { IfOk result (λ x. HasNext x.0) }
 {
     let (home, bytes) = place_at(bytes, places)?;
@@ -62,7 +64,8 @@ fn untagged_at<'a>(
     all: &Used,
     used: &Used,
 ) -> Result<(Item, &'a [u8]), FrameFault>
-    ensures exact { Answers (λ x. (item_of x.0, x.1.now)) result (untagged_at version places (tables_in all.now) (tables_in used.now) tag bytes.now) }
+    ensures exact { Answers (λ x. (item_of x.0, x.1.now)) result
+        (untagged_at version places (tables_in all.now) (tables_in used.now) tag bytes.now) }
     ensures next { IfOk result (λ x. HasNext x.0) }
 {
     match tag {
@@ -102,7 +105,8 @@ pub fn item_at<'a>(
     all: &Used,
     used: &Used,
 ) -> Result<(Item, &'a [u8]), FrameFault>
-    ensures exact { Answers (λ x. (item_of x.0, x.1.now)) result (item_at version places (tables_in all.now) (tables_in used.now) bytes.now) }
+    ensures exact { Answers (λ x. (item_of x.0, x.1.now)) result
+        (item_at version places (tables_in all.now) (tables_in used.now) bytes.now) }
     ensures next { IfOk result (λ x. HasNext x.0) }
 {
     let (tag, bytes) = tag_at(bytes)?;

@@ -34,7 +34,8 @@ fn first_u16(bytes: &[u8]) -> (u16, &[u8])
 #[inline(always)]
 fn first_number(bytes: &[u8], version: FrameVersion) -> (u32, &[u8])
     requires { byte_len (width_of version) ≤ length bytes.now }
-    ensures number { result.0 ≡ from_be_bytes (width_of version) (take (byte_len (width_of version)) bytes.now) }
+    ensures number { result.0 ≡ from_be_bytes (width_of version)
+        (take (byte_len (width_of version)) bytes.now) }
     ensures after { result.1.now ≡ drop (byte_len (width_of version)) bytes.now }
 {
     match version {
@@ -50,7 +51,8 @@ fn first_number(bytes: &[u8], version: FrameVersion) -> (u32, &[u8])
 #[inline(always)]
 fn first_int(bytes: &[u8]) -> (Item, &[u8])
     requires { 8 ≤ length bytes.now }
-    ensures item { item_of result.0 ≡ IntItem (cast_signed w64 (from_be_bytes w64 (take 8 bytes.now))) }
+    ensures item { item_of result.0 ≡ IntItem (cast_signed w64
+        (from_be_bytes w64 (take 8 bytes.now))) }
     ensures after { result.1.now ≡ drop 8 bytes.now }
 {
     let (front, rest) = bytes.split_at(8);
@@ -62,7 +64,9 @@ fn first_int(bytes: &[u8]) -> (Item, &[u8])
 #[inline(always)]
 fn first_ref(bytes: &[u8]) -> (Item, &[u8])
     requires { 8 ≤ length bytes.now }
-    ensures item { item_of result.0 ≡ RefItem (from_be_bytes w16 (take 2 bytes.now)) (from_be_bytes w32 (take 4 (drop 2 bytes.now))) (from_be_bytes w16 (take 2 (drop 6 bytes.now))) }
+    ensures item { item_of result.0 ≡ RefItem (from_be_bytes w16 (take 2 bytes.now))
+        (from_be_bytes w32 (take 4 (drop 2 bytes.now)))
+        (from_be_bytes w16 (take 2 (drop 6 bytes.now))) }
     ensures after { result.1.now ≡ drop 8 bytes.now }
 {
     let item = Item::Ref {
@@ -76,8 +80,11 @@ fn first_ref(bytes: &[u8]) -> (Item, &[u8])
 /// A value, and the bytes after it.
 #[inline(always)]
 pub fn known_item(bytes: &[u8], version: FrameVersion) -> (Item, &[u8])
-    requires { (places : ℕ) × IsOk (item_at version places (full version) (full version) bytes.now) }
-    ensures { (places : ℕ) → IsOk (item_at version places (full version) (full version) bytes.now) → item_at version places (full version) (full version) bytes.now ≡ Ok (item_of result.0, result.1.now) }
+    requires { (places : ℕ) × IsOk (item_at version places (full version)
+        (full version) bytes.now) }
+    ensures { (places : ℕ) → IsOk (item_at version places (full version) (full version) bytes.now)
+        → item_at version places (full version) (full version) bytes.now
+        ≡ Ok (item_of result.0, result.1.now) }
 {
     let (tag, rest) = first_byte(bytes);
     match tag {

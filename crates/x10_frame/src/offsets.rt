@@ -13,7 +13,8 @@ use x10_model::FrameVersion;
 #[inline(always)]
 pub fn count_in(bytes: &[u8], start: usize, i: usize) -> u32
     requires { start + 4 * i + 4 ≤ length bytes.now }
-    ensures { result ≡ from_be_bytes w32 (slice_range bytes.now (start + 4 * i) (start + 4 * i + 4)) }
+    ensures { result ≡ from_be_bytes w32 (slice_range bytes.now (start + 4 * i)
+        (start + 4 * i + 4)) }
 {
     u32_in(bytes, start + 4 * i)
 }
@@ -22,8 +23,10 @@ pub fn count_in(bytes: &[u8], start: usize, i: usize) -> u32
 #[inline(always)]
 pub fn blob_in(bytes: &[u8], at: usize) -> &[u8]
     requires length { at + 4 ≤ length bytes.now }
-    requires room { at + 4 + from_be_bytes w32 (slice_range bytes.now at (at + 4)) ≤ length bytes.now }
-    ensures { result.now ≡ slice_range bytes.now (at + 4) (at + 4 + from_be_bytes w32 (slice_range bytes.now at (at + 4))) }
+    requires room { at + 4 + from_be_bytes w32 (slice_range bytes.now at (at + 4))
+        ≤ length bytes.now }
+    ensures { result.now ≡ slice_range bytes.now (at + 4)
+        (at + 4 + from_be_bytes w32 (slice_range bytes.now at (at + 4))) }
 {
     let count = u32_in(bytes, at) as usize;
     &bytes[at + 4..at + 4 + count]
@@ -33,7 +36,8 @@ pub fn blob_in(bytes: &[u8], at: usize) -> &[u8]
 #[inline(always)]
 pub fn node_in(bytes: &[u8], at: usize, version: FrameVersion, places: u16) -> NodeView<'_>
     requires room { at + 3 ≤ length bytes.now }
-    requires there { HasItems version places (slice_index bytes.now (at + 2)) (drop (at + 3) bytes.now) }
+    requires there { HasItems version places (slice_index bytes.now (at + 2))
+        (drop (at + 3) bytes.now) }
     ensures { result ≡ record {
       class = from_be_bytes w16 (slice_range bytes.now at (at + 2));
       fields = items_in version places (slice_index bytes.now (at + 2)) (drop (at + 3) bytes.now);

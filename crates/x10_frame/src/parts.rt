@@ -6,7 +6,7 @@ ghost use Rattle.x10_model.specs.Frames.{uses, turn};
 ghost use Rattle.x10_model.specs.Readers.{byte, such_that, many, times};
 ghost use Rattle.x10_model.specs.Readers as readers;
 ghost use Rattle.x10_model.specs.ReadingFrames.{Short, Order, item_at, node_at, text_at, rail_at};
-ghost use Rattle.x10_frame.specs.Faults.{named, Answers, Passes};
+ghost use Rattle.x10_frame.specs.Faults.{named, Answers, ParsesFrame};
 ghost use Rattle.x10_frame.specs.Items.{tables_in};
 ghost use Rattle.x10_frame.specs.NodeTables.{PassesNode};
 ghost use Rattle.x10_bytes.specs.Tables.{Walks};
@@ -29,7 +29,9 @@ pub fn past_items<'a>(
     all: &Used,
     used: &Used,
 ) -> Result<(Used, &'a [u8]), FrameFault>
-    ensures exact { Walks named uses (tables_in used.now) (λ x. tables_in x.0) (λ x. x.1.now) result (many (item_at version places (tables_in all.now)) uses count (tables_in used.now) bytes.now) }
+    ensures exact { Walks named uses (tables_in used.now) (λ x. tables_in x.0)
+        (λ x. x.1.now) result (many (item_at version places (tables_in all.now)) uses count
+        (tables_in used.now) bytes.now) }
 {
     let mut met = *used;
     let mut rest = bytes;
@@ -44,7 +46,8 @@ pub fn past_items<'a>(
 #[tactic(auto, unfolding(x10_model::specs::Readers::such_that, x10_model::specs::Readers::bind, x10_model::specs::Readers::check, x10_model::specs::Readers::done))]
 #[inline(always)]
 fn field_count_at(bytes: &[u8]) -> Result<(u8, &[u8]), FrameFault>
-    ensures exact { Answers (λ x. (x.0, x.1.now)) result (such_that (byte Short) (λ n. nat_le n 16) Order bytes.now) }
+    ensures exact { Answers (λ x. (x.0, x.1.now)) result
+        (such_that (byte Short) (λ n. nat_le n 16) Order bytes.now) }
 {
     let (count, bytes) = byte_at::<FrameFault>(bytes)?;
     if count > MOST_FIELDS {
@@ -64,7 +67,8 @@ pub fn past_node<'a>(
     all: &Used,
     used: &Used,
 ) -> Result<(Used, &'a [u8]), FrameFault>
-    ensures exact { PassesNode (tables_in used.now) (λ x. tables_in x.0) (λ x. x.1.now) result (node_at version places (tables_in all.now) (turn number (tables_in used.now)) bytes.now) }
+    ensures exact { PassesNode (tables_in used.now) (λ x. tables_in x.0) (λ x. x.1.now) result
+        (node_at version places (tables_in all.now) (turn number (tables_in used.now)) bytes.now) }
 {
     let (_, bytes) = u16_at::<FrameFault>(bytes)?;
     if number >= used.nodes {
@@ -77,7 +81,7 @@ pub fn past_node<'a>(
 /// The bytes after a text.
 #[tactic(auto, unfolding(x10_model::specs::ReadingFrames::text_at, x10_model::specs::Readers::bind))]
 pub fn past_text(bytes: &[u8]) -> Result<&[u8], FrameFault>
-    ensures exact { Passes (λ x. x.now) result (text_at bytes.now) }
+    ensures exact { ParsesFrame (λ x. x.now) result (text_at bytes.now) }
 {
     let (length, bytes) = length_at(bytes)?;
     x10_bytes::past_text(bytes, length as usize, FrameFault::Text)
@@ -86,7 +90,7 @@ pub fn past_text(bytes: &[u8]) -> Result<&[u8], FrameFault>
 /// The bytes after a rail.
 #[tactic(auto, unfolding(x10_model::specs::ReadingFrames::rail_at, x10_model::specs::Readers::bind))]
 pub fn past_rail(bytes: &[u8]) -> Result<&[u8], FrameFault>
-    ensures exact { Passes (λ x. x.now) result (rail_at bytes.now) }
+    ensures exact { ParsesFrame (λ x. x.now) result (rail_at bytes.now) }
 {
     let (length, bytes) = length_at(bytes)?;
     past(bytes, length as usize)
@@ -94,7 +98,8 @@ pub fn past_rail(bytes: &[u8]) -> Result<&[u8], FrameFault>
 
 /// The bytes after `count` counts of a report.
 pub fn past_counts(bytes: &[u8], count: u16) -> Result<&[u8], FrameFault>
-    ensures exact { Passes (λ x. x.now) result (times count (readers.number w32 Short) bytes.now) }
+    ensures exact { ParsesFrame (λ x. x.now) result
+        (times count (readers.number w32 Short) bytes.now) }
 {
     past(bytes, 4 * usize::from(count))
 }

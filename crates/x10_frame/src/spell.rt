@@ -43,7 +43,8 @@ fn put_int(out: &mut Vec<u8>, number: i64) -> Result<(), AllocError>
 
 #[inline(always)]
 fn put_ref(out: &mut Vec<u8>, home: u16, id: u32, class: u16) -> Result<(), AllocError>
-    ensures { OnOk result (out.new.items ≡ out.old.items ++ 7 ∷ (to_be_bytes w16 home ++ (to_be_bytes w32 id ++ to_be_bytes w16 class))) }
+    ensures { OnOk result (out.new.items ≡ out.old.items ++ 7
+        ∷ (to_be_bytes w16 home ++ (to_be_bytes w32 id ++ to_be_bytes w16 class))) }
 {
     let (h, i, c) = (home.to_be_bytes(), id.to_be_bytes(), class.to_be_bytes());
     out.extend_from_slice(&[7, h[0], h[1], i[0], i[1], i[2], i[3], c[0], c[1]])
@@ -89,7 +90,8 @@ pub fn put_blob(out: &mut Vec<u8>, bytes: &[u8]) -> Result<(), AllocError>
 /// A node's class, and how many fields it has.
 #[inline(always)]
 pub fn put_begin(out: &mut Vec<u8>, class: u16, fields: u8) -> Result<(), AllocError>
-    ensures { OnOk result (out.new.items ≡ out.old.items ++ (to_be_bytes w16 class ++ fields ∷ [])) }
+    ensures { OnOk result (out.new.items ≡ out.old.items
+        ++ (to_be_bytes w16 class ++ fields ∷ [])) }
 {
     let c = class.to_be_bytes();
     out.extend_from_slice(&[c[0], c[1], fields])
@@ -99,7 +101,8 @@ pub fn put_begin(out: &mut Vec<u8>, class: u16, fields: u8) -> Result<(), AllocE
 #[tactic(auto, unfolding(x10_model::specs::Frames::node_bytes))]
 pub fn put_node(out: &mut Vec<u8>, class: u16, fields: &[Item]) -> Result<(), AllocError>
     requires { length fields.now ≤ 16 }
-    ensures { OnOk result (out.new.items ≡ out.old.items ++ node_bytes Wide (node_of class fields.now)) }
+    ensures { OnOk result (out.new.items ≡ out.old.items
+        ++ node_bytes Wide (node_of class fields.now)) }
 {
     put_begin(out, class, fields.len() as u8)?;
     put_items(out, fields)
@@ -124,7 +127,8 @@ fn put_spawn(
     number: u32,
     function: u16,
 ) -> Result<(), AllocError>
-    ensures { OnOk result (out.new.items ≡ out.old.items ++ head_bytes Wide (head.Spawn from to home number function)) }
+    ensures { OnOk result (out.new.items ≡ out.old.items
+        ++ head_bytes Wide (head.Spawn from to home number function)) }
 {
     let (f, t, h) = (from.to_be_bytes(), to.to_be_bytes(), home.to_be_bytes());
     let (n, u) = (number.to_be_bytes(), function.to_be_bytes());
@@ -143,7 +147,8 @@ fn put_shift(
     number: u32,
     function: u16,
 ) -> Result<(), AllocError>
-    ensures { OnOk result (out.new.items ≡ out.old.items ++ head_bytes Wide (head.Shift from to waiting home number function)) }
+    ensures { OnOk result (out.new.items ≡ out.old.items
+        ++ head_bytes Wide (head.Shift from to waiting home number function)) }
 {
     let (f, t, w) = (from.to_be_bytes(), to.to_be_bytes(), waiting.to_be_bytes());
     let (h, n, u) = (
@@ -160,7 +165,9 @@ fn put_shift(
 /// The head of a frame of two places and a number: type 3 or 4.
 #[inline(always)]
 fn put_short(out: &mut Vec<u8>, kind: u8, from: u16, to: u16, number: u32) -> Result<(), AllocError>
-    ensures { OnOk result (out.new.items ≡ out.old.items ++ ((2 ∷ kind ∷ []) ++ (to_be_bytes w16 from ++ (to_be_bytes w16 to ++ to_be_bytes w32 number)))) }
+    ensures { OnOk result (out.new.items ≡ out.old.items
+        ++ ((2 ∷ kind ∷ []) ++ (to_be_bytes w16 from
+        ++ (to_be_bytes w16 to ++ to_be_bytes w32 number)))) }
 {
     let (f, t, n) = (from.to_be_bytes(), to.to_be_bytes(), number.to_be_bytes());
     out.extend_from_slice(&[2, kind, f[0], f[1], t[0], t[1], n[0], n[1], n[2], n[3]])

@@ -25,7 +25,8 @@ pub fn text_table<'a>(
     count: u32,
 ) -> Result<(Vec<usize>, &'a [u8]), FrameFault>
     requires { EndsWith frame.now bytes.now }
-    ensures exact { GivesTable named blob_bytes frame.now (λ x. x.0.items) (λ x. x.1.now) result (times count text_at bytes.now) }
+    ensures exact { GivesTable named blob_bytes frame.now (λ x. x.0.items) (λ x. x.1.now) result
+        (times count text_at bytes.now) }
 {
     let mut table = Vec::new(alloc);
     let mut rest = bytes;
@@ -45,7 +46,8 @@ pub fn rail_table<'a>(
     count: u32,
 ) -> Result<(Vec<usize>, &'a [u8]), FrameFault>
     requires { EndsWith frame.now bytes.now }
-    ensures exact { GivesTable named blob_bytes frame.now (λ x. x.0.items) (λ x. x.1.now) result (times count rail_at bytes.now) }
+    ensures exact { GivesTable named blob_bytes frame.now (λ x. x.0.items) (λ x. x.1.now) result
+        (times count rail_at bytes.now) }
 {
     let mut table = Vec::new(alloc);
     let mut rest = bytes;
@@ -73,7 +75,10 @@ pub fn node_table<'a>(
     requires texts { all.now.texts ≤ most_of version }
     requires rails { all.now.rails ≤ most_of version }
     requires nodes { all.now.nodes ≤ most_of version }
-    ensures exact { GivesNodes (tables_in used.now) (node_bytes version) frame.now (λ x. x.0.items) (λ x. tables_in x.1) (λ x. x.2.now) result (many (reading.node_at version places (tables_in all.now)) next_turn count (turn 0 (tables_in used.now)) bytes.now) }
+    ensures exact { GivesNodes (tables_in used.now) (node_bytes version) frame.now
+        (λ x. x.0.items) (λ x. tables_in x.1) (λ x. x.2.now) result
+        (many (reading.node_at version places (tables_in all.now)) next_turn count
+        (turn 0 (tables_in used.now)) bytes.now) }
 {
     let mut table = Vec::new(alloc);
     let mut met = *used;

@@ -106,7 +106,8 @@ impl<'a> FrameView<'a> {
     pub fn sent(&self, place: usize) -> u32
         requires { place < length (sent_of self.now) }
         ensures value { slice_get (sent_of self.now) place ≡ Some result }
-        ensures part { (v : FrameVersion) → IsPart (spelling v self.now) (place_of_sent v self.now place) (to_be_bytes w32 result) }
+        ensures part { (v : FrameVersion) → IsPart (spelling v self.now)
+            (place_of_sent v self.now place) (to_be_bytes w32 result) }
     {
         count_in(self.bytes, self.body.start, place)
     }
@@ -116,7 +117,8 @@ impl<'a> FrameView<'a> {
     pub fn received(&self, place: usize) -> u32
         requires { place < length (received_of self.now) }
         ensures value { slice_get (received_of self.now) place ≡ Some result }
-        ensures part { (v : FrameVersion) → IsPart (spelling v self.now) (place_of_received v self.now place) (to_be_bytes w32 result) }
+        ensures part { (v : FrameVersion) → IsPart (spelling v self.now)
+            (place_of_received v self.now place) (to_be_bytes w32 result) }
     {
         count_in(
             self.bytes,
@@ -164,7 +166,8 @@ impl<'a> FrameView<'a> {
     pub fn root(&self, i: usize) -> Item
         requires { i < length (graph_of self.now).roots }
         ensures value { slice_get (graph_of self.now).roots i ≡ Some (item_of result) }
-        ensures part { (v : FrameVersion) → IsPart (spelling v self.now) (place_of_root v self.now i) (item_bytes v (item_of result)) }
+        ensures part { (v : FrameVersion) → IsPart (spelling v self.now)
+            (place_of_root v self.now i) (item_bytes v (item_of result)) }
     {
         nth_item(
             bytes_from(self.bytes, self.body.start),
@@ -180,7 +183,8 @@ impl<'a> FrameView<'a> {
         requires { i < length (graph_of self.now).texts }
         ensures value { slice_get (graph_of self.now).texts i ≡ Some result.now }
         ensures fits { FitsText result.now }
-        ensures part { (v : FrameVersion) → IsPart (spelling v self.now) (place_of_text v self.now i) result.now }
+        ensures part { (v : FrameVersion) → IsPart (spelling v self.now)
+            (place_of_text v self.now i) result.now }
     {
         let bytes = self.bytes;
         let text = blob_in(bytes, self.body.texts[i]);
@@ -192,7 +196,8 @@ impl<'a> FrameView<'a> {
         requires { i < length (graph_of self.now).rails }
         ensures value { slice_get (graph_of self.now).rails i ≡ Some result.now }
         ensures fits { FitsRail result.now }
-        ensures part { (v : FrameVersion) → IsPart (spelling v self.now) (place_of_rail v self.now i) result.now }
+        ensures part { (v : FrameVersion) → IsPart (spelling v self.now)
+            (place_of_rail v self.now i) result.now }
     {
         let bytes = self.bytes;
         blob_in(bytes, self.body.rails[i])
@@ -204,7 +209,8 @@ impl<'a> FrameView<'a> {
         requires { i < length (graph_of self.now).nodes }
         ensures value { slice_get (graph_of self.now).nodes i ≡ Some result }
         ensures few { length result.fields ≤ 16 }
-        ensures part { (v : FrameVersion) → IsPart (spelling v self.now) (place_of_node v self.now i) (node_bytes v result) }
+        ensures part { (v : FrameVersion) → IsPart (spelling v self.now)
+            (place_of_node v self.now i) (node_bytes v result) }
     {
         let bytes = self.bytes;
         node_in(bytes, self.body.nodes[i], self.version, self.places)

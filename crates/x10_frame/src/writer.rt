@@ -44,7 +44,8 @@ impl Model for FrameWriter {
 
 #[inline(always)]
 fn put_sizes(out: &mut Vec<u8>, sizes: &Sizes) -> Result<(), AllocError>
-    ensures { OnOk result (out.new.items ≡ out.old.items ++ sizes_bytes Wide sizes.now.roots sizes.now.texts sizes.now.rails sizes.now.nodes) }
+    ensures { OnOk result (out.new.items ≡ out.old.items
+        ++ sizes_bytes Wide sizes.now.roots sizes.now.texts sizes.now.rails sizes.now.nodes) }
 {
     let (r, t) = (sizes.roots.to_be_bytes(), sizes.texts.to_be_bytes());
     let (l, n) = (sizes.rails.to_be_bytes(), sizes.nodes.to_be_bytes());
@@ -57,7 +58,8 @@ impl FrameWriter {
     /// A frame with this head, which is not a report's, and with these sizes.
     pub fn new(alloc: Global, head: &Head, sizes: &Sizes) -> Result<FrameWriter, AllocError>
         requires graph { IsGraphHead head.now }
-        ensures value { IfOk result (λ w. w ≡ head_bytes Wide head.now ++ sizes_bytes Wide sizes.now.roots sizes.now.texts sizes.now.rails sizes.now.nodes) }
+        ensures value { IfOk result (λ w. w ≡ head_bytes Wide head.now
+            ++ sizes_bytes Wide sizes.now.roots sizes.now.texts sizes.now.rails sizes.now.nodes) }
     {
         let mut bytes = Vec::new(alloc);
         put_head(&mut bytes, head)?;
@@ -74,7 +76,8 @@ impl FrameWriter {
         room: usize,
     ) -> Result<FrameWriter, AllocError>
         requires graph { IsGraphHead head.now }
-        ensures value { IfOk result (λ w. w ≡ head_bytes Wide head.now ++ sizes_bytes Wide sizes.now.roots sizes.now.texts sizes.now.rails sizes.now.nodes) }
+        ensures value { IfOk result (λ w. w ≡ head_bytes Wide head.now
+            ++ sizes_bytes Wide sizes.now.roots sizes.now.texts sizes.now.rails sizes.now.nodes) }
     {
         let mut bytes = Vec::with_capacity(alloc, room)?;
         put_head(&mut bytes, head)?;
@@ -154,7 +157,8 @@ impl FrameWriter {
     /// The bytes. Where all of a graph was written they spell its frame.
     pub fn finish(self) -> Vec<u8>
         ensures value { result.items ≡ self }
-        ensures spelled { (h : head) (g : Graph) → IsGraphHead h → self ≡ draft Wide h g → result.items ≡ spelling Wide (with_graph h g) }
+        ensures spelled { (h : head) (g : Graph) → IsGraphHead h → self ≡ draft Wide h g
+            → result.items ≡ spelling Wide (with_graph h g) }
     {
         self.bytes
     }
@@ -171,7 +175,8 @@ pub fn write_counts(
     received: &[u32],
 ) -> Result<Vec<u8>, AllocError>
     requires { length sent.now < 2 ^ 16 }
-    ensures value { IfOk result (λ bytes. bytes.items ≡ spelling Wide (frames.Report from to number sent.now received.now)) }
+    ensures value { IfOk result (λ bytes. bytes.items
+        ≡ spelling Wide (frames.Report from to number sent.now received.now)) }
 {
     let mut bytes = Vec::with_capacity(alloc, 16 + 8 * sent.len())?;
     put_head(&mut bytes, &Head::Report { from, to, number })?;
@@ -185,7 +190,9 @@ pub fn write_counts(
 /// The frame that takes a report to the home of its finish.
 pub fn write_report(alloc: Global, to: u16, report: &Report) -> Result<Vec<u8>, AllocError>
     requires { length report.now.sent.items < 2 ^ 16 }
-    ensures value { IfOk result (λ bytes. bytes.items ≡ spelling Wide (frames.Report report.now.place to report.now.number report.now.sent.items report.now.received.items)) }
+    ensures value { IfOk result (λ bytes. bytes.items
+        ≡ spelling Wide (frames.Report report.now.place to report.now.number report.now.sent.items
+        report.now.received.items)) }
 {
     write_counts(
         alloc,

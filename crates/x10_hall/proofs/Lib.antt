@@ -1,5 +1,5 @@
 pub mod Alike
-pub mod Numbering
-pub mod Posting
-pub mod Rounds
-pub mod Standing
+pub mod FrameNumbers
+pub mod PostedTurns
+pub mod KeyRounds
+pub mod RowLogs

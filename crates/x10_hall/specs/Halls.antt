@@ -9,7 +9,7 @@ use Rattle.x10_hall.specs.declared.state.HallState.{HallState}
 use Rattle.x10_hall.specs.declared.state.HallState.TheVariants.{Open, Finished, Stopped}
 
 -- a frame that was put out: the place that it goes to, and its bytes
-pub record Frame : Type 0 where
+pub record PostedFrame : Type 0 where
   pub to : ℕ
   pub bytes : List ℕ
 
@@ -27,7 +27,7 @@ pub record HallValue : Type 0 where
   pub state : HallState
 
 -- what a turn put out, as a frame
-abbrev pub frame_of : Posted → Frame
+abbrev pub frame_of : Posted → PostedFrame
 frame_of f = record { to = f.to; bytes = (arc_value f.bytes).items }
 
 -- what a place was given, as a frame of its row
@@ -35,7 +35,7 @@ abbrev pub told : Taken → Numbered
 told f = record { number = f.number; bytes = (arc_value f.bytes).items }
 
 -- all frames of some turns, in the order in which they were posted
-abbrev pub frames_of : List Turn → List Frame
+abbrev pub frames_of : List Turn → List PostedFrame
 frames_of log = flat_map (λ t. map frame_of t.frames.items) log
 
 -- how many frames some turns have
@@ -43,11 +43,12 @@ abbrev pub posted_in : List Turn → ℕ
 posted_in log = length (frames_of log)
 
 -- the frame under its number, if it goes to the place
-abbrev pub if_to : ℕ → ℕ → Frame → List Numbered
-if_to place number f = if f.to == place then (record { number = number; bytes = f.bytes }) ∷ [] else []
+abbrev pub if_to : ℕ → ℕ → PostedFrame → List Numbered
+if_to place number f = if f.to == place then (record { number = number; bytes = f.bytes })
+    ∷ [] else []
 
 -- those of some frames that go to a place, each under its number, which counts up from a given one
-abbrev pub row_from : ℕ → ℕ → List Frame → List Numbered
+abbrev pub row_from : ℕ → ℕ → List PostedFrame → List Numbered
 row_from place number [] = []
 row_from place number (f ∷ fs) = if_to place number f ++ row_from place (number + 1) fs
 
@@ -70,7 +71,12 @@ empty_hall places = record { places = places; log = []; cursors = replicate plac
 
 -- the turn stands at the end of the log
 abbrev pub with_turn : HallValue → Turn → HallValue
-with_turn h turn = record { places = h.places; log = h.log ++ turn ∷ []; cursors = h.cursors; state = h.state }
+with_turn h turn = record {
+  places = h.places;
+  log = h.log ++ turn ∷ [];
+  cursors = h.cursors;
+  state = h.state;
+}
 
 -- the place has taken one frame more
 abbrev pub moved_on : HallValue → ℕ → HallValue

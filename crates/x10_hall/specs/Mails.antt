@@ -1,6 +1,7 @@
 -- A hall that takes a given number of turns at most, and what a worker asks of it.
 use Rattle.std.specs.Prelude.{◌≡◌, ℕ, ◌+◌, ◌^◌, Bool, true, false, Option, Some, None, is_some, nat_le, length, if◌then◌else◌}
-use Rattle.x10_kinds.specs.declared.stop.Stop.TheVariants.{Limit}
+use Rattle.x10_kinds.specs.declared.limit.Limit.TheVariants as limits
+use Rattle.x10_kinds.specs.declared.stop.Stop.TheVariants as stop
 use Rattle.x10_hall.specs.declared.port.End.{End}
 use Rattle.x10_hall.specs.declared.port.PostFault.{PostFault}
 use Rattle.x10_hall.specs.declared.port.PostFault.TheVariants as fault
@@ -30,8 +31,10 @@ is_finished Stopped = false
 -- are that many turns, or frames would be numbered too high
 abbrev pub refusal : ℕ → HallValue → Turn → Option PostFault
 refusal most h turn =
-    if is_stopped h.state then Some fault.Stopped else (if nat_le most (length h.log) then Some fault.Turns else
-    (if nat_le (2 ^ 64) (posted_in h.log + length turn.frames.items) then Some (fault.Stop (Limit 11)) else None))
+    if is_stopped h.state then Some fault.Stopped else
+    (if nat_le most (length h.log) then Some fault.Turns else
+    (if nat_le (2 ^ 64) (posted_in h.log + length turn.frames.items) then Some
+    (fault.Stop (stop.Limit limits.Frames)) else None))
 
 -- the state of a run once it is ended in a way
 abbrev pub ended : End → HallState → HallState
@@ -40,12 +43,15 @@ ended end.Stopped state = Stopped
 
 -- what a worker of a place is told when it asks for a frame, and the hall then
 abbrev pub Takes : HallValue → ℕ → Take → HallValue → Type 0
-Takes h place (take.Frame f) after = (is_stopped h.state ≡ false) × (next_frame h place ≡ Some (told f)) × (after ≡ moved_on h place)
-Takes h place take.Nothing after = (is_stopped h.state ≡ false) × (next_frame h place ≡ None) × (after ≡ h)
+Takes h place (take.Frame f) after = (is_stopped h.state ≡ false)
+    × (next_frame h place ≡ Some (told f)) × (after ≡ moved_on h place)
+Takes h place take.Nothing after = (is_stopped h.state ≡ false) × (next_frame h place ≡ None)
+    × (after ≡ h)
 Takes h place take.Stopped after = (is_stopped h.state ≡ true) × (after ≡ h)
 
 -- why a worker of a place needn't wait, if there is a reason
 abbrev pub signal_of : HallValue → ℕ → Option Signal
 signal_of h place =
     if is_stopped h.state then Some signal.Stopped else
-    (if is_some (next_frame h place) then Some signal.Frame else (if is_finished h.state then Some signal.Finished else None))
+    (if is_some (next_frame h place) then Some signal.Frame else
+    (if is_finished h.state then Some signal.Finished else None))

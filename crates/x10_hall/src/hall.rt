@@ -1,6 +1,7 @@
 //! The hall: the log of all turns, and a row of frames for each place.
 
 ghost use Rattle.std.specs.Prelude.{◌≡◌, ◌↔◌, ◌+◌, ◌≤◌, ◌^◌, ◌⊎◌, IfOk, IfErr, MatchOption, Some, None, Err, is_some, length};
+ghost use Rattle.x10_kinds.specs.declared.limit.Limit.TheVariants as limits;
 ghost use Rattle.x10_kinds.specs.declared.stop.Stop.TheVariants as stop;
 ghost use Rattle.x10_hall.specs.declared.state.HallState.TheVariants as is;
 ghost use Rattle.x10_hall.specs.Halls.{told, posted_in, next_frame, empty_hall, with_turn, moved_on, with_state, finished};
@@ -10,7 +11,7 @@ use crate::state::HallState;
 use crate::turn::{Taken, Turn};
 use std::alloc::{AllocError, Global};
 use std::marker::Model;
-use x10_kinds::Stop;
+use x10_kinds::{Limit, Stop};
 
 /// Which limit it is: that of the frames.
 const FRAMES: u8 = 11;
@@ -81,12 +82,14 @@ impl Hall {
     /// the log alone. Constant time for each frame, amortized. Everything that takes memory is done before anything changes.
     pub fn post(&mut self, turn: Turn) -> Result<(), Stop>
         ensures ok { IfOk result (λ _. self.new ≡ with_turn self.old turn) }
-        ensures err { IfErr result (λ why. (self.new ≡ self.old) × ((why ≡ stop.Memory) ⊎ (why ≡ stop.Limit 11))) }
-        ensures limit { (result ≡ Err (stop.Limit 11)) ↔ (2 ^ 64 ≤ posted_in self.old.log + length turn.frames.items) }
+        ensures err { IfErr result (λ why. (self.new ≡ self.old)
+            × ((why ≡ stop.Memory) ⊎ (why ≡ stop.Limit limits.Frames))) }
+        ensures limit { (result ≡ Err (stop.Limit limits.Frames))
+            ↔ (2 ^ 64 ≤ posted_in self.old.log + length turn.frames.items) }
     {
         let count = turn.frames.len() as u64;
         if count > u64::MAX - self.posted {
-            return Err(Stop::Limit(FRAMES));
+            return Err(Stop::Limit(Limit::Frames));
         }
         let copies = share(*self.log.allocator(), &turn.frames)?;
         if self.log.try_reserve(1).is_err() {
@@ -103,7 +106,9 @@ impl Hall {
 
     /// The next frame of a place's row, if the place hasn't taken all of them. Constant time; takes no memory.
     pub fn take(&mut self, place: u16) -> Option<Taken>
-        ensures { MatchOption result ((next_frame self.old place ≡ None) × (self.new ≡ self.old)) (λ frame. (next_frame self.old place ≡ Some (told frame)) × (self.new ≡ moved_on self.old place)) }
+        ensures { MatchOption result ((next_frame self.old place ≡ None) × (self.new ≡ self.old))
+            (λ frame. (next_frame self.old place ≡ Some (told frame))
+            × (self.new ≡ moved_on self.old place)) }
     {
         if usize::from(place) >= self.rows.len() {
             return None;

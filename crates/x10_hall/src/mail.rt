@@ -37,8 +37,12 @@ impl Limited {
     /// Appends a turn, even where the run has ended. Where it is refused, nothing changes.
     fn post(&mut self, turn: Turn) -> Result<(), PostFault>
         ensures most { self.new.most ≡ self.old.most }
-        ensures ok { IfOk result (λ _. (refusal self.old.most self.old.hall turn ≡ None) × (self.new.hall ≡ with_turn self.old.hall turn)) }
-        ensures err { IfErr result (λ why. (self.new.hall ≡ self.old.hall) × ((refusal self.old.most self.old.hall turn ≡ Some why) ⊎ ((refusal self.old.most self.old.hall turn ≡ None) × (why ≡ fault.Stop stop.Memory)))) }
+        ensures ok { IfOk result (λ _. (refusal self.old.most self.old.hall turn ≡ None)
+            × (self.new.hall ≡ with_turn self.old.hall turn)) }
+        ensures err { IfErr result (λ why. (self.new.hall ≡ self.old.hall)
+            × ((refusal self.old.most self.old.hall turn ≡ Some why)
+            ⊎ ((refusal self.old.most self.old.hall turn ≡ None)
+            × (why ≡ fault.Stop stop.Memory)))) }
     {
         if self.hall.state() == HallState::Stopped {
             return Err(PostFault::Stopped);

@@ -43,7 +43,7 @@ pub enum PostFault {
     /// As many turns as were asked for have been posted.
     #[error("Turns")]
     Turns,
-    /// Memory was refused, or the log would have more than 2^64 - 1 frames (Limit 11).
+    /// Memory was refused, or the log would have more than 2^64 - 1 frames.
     #[error("Stop")]
     Stop(Stop),
 }

@@ -2,7 +2,7 @@
 
 ghost use Rattle.std.specs.Prelude.{◌≡◌, ◌↔◌, ℕ, ◌+◌, ◌-◌, ◌<◌, ◌≤◌, ◌^◌, ◌++◌, ◌∷◌, [], IfOk, IfErr, IfSome, IfNone, OnOk, IsTrue, IsSome, MatchOption, All, List, length, map};
 ghost use Rattle.x10_kinds.specs.declared.stop.Stop.TheVariants as stop;
-ghost use Rattle.x10_hall.specs.Halls.{Frame, frame_of, told, if_to, row_from};
+ghost use Rattle.x10_hall.specs.Halls.{PostedFrame, frame_of, told, if_to, row_from};
 ghost use Rattle.x10_hall.specs.Rows.{empty_row, row_at};
 
 use crate::turn::{Posted, Taken};
@@ -84,7 +84,8 @@ impl Row {
     pub(crate) fn take(&mut self) -> Option<Taken>
         requires { 0 < length self.old.left → self.old.taken + 1 < 2 ^ 64 }
         ensures none { IfNone result ((self.old.left ≡ []) × (self.new ≡ self.old)) }
-        ensures some { IfSome result (λ frame. (self.old.left ≡ told frame ∷ self.new.left) × (self.new.taken ≡ self.old.taken + 1)) }
+        ensures some { IfSome result (λ frame. (self.old.left ≡ told frame ∷ self.new.left)
+            × (self.new.taken ≡ self.old.taken + 1)) }
     {
         let Some(frame) = self.left.pop_front() else {
             return None;
@@ -140,7 +141,9 @@ fn widen(rows: &mut Vec<Row>, place: u16) -> Result<(), Stop>
     ensures count { length rows.new.items ≡ length rows.old.items }
     ensures left { (p : ℕ) → (row_at rows.new.items p).left ≡ (row_at rows.old.items p).left }
     ensures taken { (p : ℕ) → (row_at rows.new.items p).taken ≡ (row_at rows.old.items p).taken }
-    ensures ok { OnOk result ((p number : ℕ) (bytes : List ℕ) → p < length rows.old.items → (row_at rows.old.items p).room + length (if_to p number (record { to = place; bytes = bytes })) ≤ (row_at rows.new.items p).room) }
+    ensures ok { OnOk result ((p number : ℕ) (bytes : List ℕ) → p < length rows.old.items
+        → (row_at rows.old.items p).room + length
+        (if_to p number (record { to = place; bytes = bytes })) ≤ (row_at rows.new.items p).room) }
     ensures err { IfErr result (λ why. why ≡ stop.Memory) }
 {
     if usize::from(place) >= rows.len() {
@@ -155,7 +158,8 @@ fn widen_all(rows: &mut Vec<Row>, frames: &[Posted]) -> Result<(), Stop>
     ensures count { length rows.new.items ≡ length rows.old.items }
     ensures left { (p : ℕ) → (row_at rows.new.items p).left ≡ (row_at rows.old.items p).left }
     ensures taken { (p : ℕ) → (row_at rows.new.items p).taken ≡ (row_at rows.old.items p).taken }
-    ensures ok { OnOk result ((p number : ℕ) → p < length rows.old.items → length (row_from p number (map frame_of frames.now)) ≤ (row_at rows.new.items p).room) }
+    ensures ok { OnOk result ((p number : ℕ) → p < length rows.old.items
+        → length (row_from p number (map frame_of frames.now)) ≤ (row_at rows.new.items p).room) }
     ensures err { IfErr result (λ why. why ≡ stop.Memory) }
 {
     for frame in frames {
@@ -192,7 +196,8 @@ pub(crate) fn make_room(rows: &mut Vec<Row>, frames: &[Posted]) -> Result<(), St
     ensures count { length rows.new.items ≡ length rows.old.items }
     ensures left { (p : ℕ) → (row_at rows.new.items p).left ≡ (row_at rows.old.items p).left }
     ensures taken { (p : ℕ) → (row_at rows.new.items p).taken ≡ (row_at rows.old.items p).taken }
-    ensures ok { OnOk result ((p number : ℕ) → p < length rows.old.items → length (row_from p number (map frame_of frames.now)) ≤ (row_at rows.new.items p).room) }
+    ensures ok { OnOk result ((p number : ℕ) → p < length rows.old.items
+        → length (row_from p number (map frame_of frames.now)) ≤ (row_at rows.new.items p).room) }
     ensures err { IfErr result (λ why. why ≡ stop.Memory) }
 {
     match widen_all(rows, frames) {
@@ -208,9 +213,13 @@ pub(crate) fn make_room(rows: &mut Vec<Row>, frames: &[Posted]) -> Result<(), St
 fn deliver_one(rows: &mut Vec<Row>, number: u64, frame: Posted)
     requires { frame.to < length rows.old.items → 0 < (row_at rows.old.items frame.to).room }
     ensures count { length rows.new.items ≡ length rows.old.items }
-    ensures left { (p : ℕ) → p < length rows.old.items → (row_at rows.new.items p).left ≡ (row_at rows.old.items p).left ++ if_to p number (frame_of frame) }
+    ensures left { (p : ℕ) → p < length rows.old.items
+        → (row_at rows.new.items p).left ≡ (row_at rows.old.items p).left
+        ++ if_to p number (frame_of frame) }
     ensures taken { (p : ℕ) → (row_at rows.new.items p).taken ≡ (row_at rows.old.items p).taken }
-    ensures room { (p : ℕ) → p < length rows.old.items → (row_at rows.old.items p).room ≡ (row_at rows.new.items p).room + length (if_to p number (frame_of frame)) }
+    ensures room { (p : ℕ) → p < length rows.old.items
+        → (row_at rows.old.items p).room ≡ (row_at rows.new.items p).room + length
+        (if_to p number (frame_of frame)) }
 {
     let Posted { to, bytes } = frame;
     if usize::from(to) < rows.len() {
@@ -221,10 +230,13 @@ fn deliver_one(rows: &mut Vec<Row>, number: u64, frame: Posted)
 
 /// Puts frames into the rows of their places, under numbers that count up from the first one.
 pub(crate) fn deliver(rows: &mut Vec<Row>, first: u64, frames: Vec<Posted>)
-    requires room { (p : ℕ) → p < length rows.old.items → length (row_from p first (map frame_of frames.items)) ≤ (row_at rows.old.items p).room }
+    requires room { (p : ℕ) → p < length rows.old.items
+        → length (row_from p first (map frame_of frames.items)) ≤ (row_at rows.old.items p).room }
     requires few { first + length frames.items < 2 ^ 64 }
     ensures count { length rows.new.items ≡ length rows.old.items }
-    ensures left { (p : ℕ) → p < length rows.old.items → (row_at rows.new.items p).left ≡ (row_at rows.old.items p).left ++ row_from p first (map frame_of frames.items) }
+    ensures left { (p : ℕ) → p < length rows.old.items
+        → (row_at rows.new.items p).left ≡ (row_at rows.old.items p).left
+        ++ row_from p first (map frame_of frames.items) }
     ensures taken { (p : ℕ) → (row_at rows.new.items p).taken ≡ (row_at rows.old.items p).taken }
 {
     let mut number = first;

@@ -1,4 +1,4 @@
 pub mod Fields
-pub mod Growing
+pub mod GrownHeaps
 pub mod Laid
 pub mod Texts

@@ -5,7 +5,9 @@ use Rattle.x10_heap.specs.Heaps.{ObjectState}
 -- objects of these classes, from the one whose fields start at the first of the words; each one's fields end at its place in
 -- `ends`, and places are counted so that the first word's is `start`
 abbrev pub objects_from : (start : ℕ) → (classes ends words : List ℕ) → List ObjectState
-objects_from start (class ∷ classes) (to ∷ ends) words = record { class = class; fields = take (to - start) words } ∷ objects_from to classes ends (drop (to - start) words)
+objects_from start (class ∷ classes) (to ∷ ends) words =
+    record { class = class; fields = take (to - start) words }
+    ∷ objects_from to classes ends (drop (to - start) words)
 objects_from start _ _ words = []
 
 -- an end for each class, none before the one before it, and the last where the words end

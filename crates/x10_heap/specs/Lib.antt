@@ -1,3 +1,4 @@
 pub mod Heaps
 pub mod Laid
+pub mod References
 pub mod Words

@@ -1,6 +1,6 @@
 -- What the words of a place stand for, and when cells stand for its heap. Object n of a heap is the reference 2n, rail
 -- n is 2n + 1.
-use Rattle.std.specs.Prelude.{◌≡◌, ℕ, ◌+◌, ◌*◌, ◌/◌, ◌%◌, ◌^◌, ◌<◌, ◌≤◌, ◌==◌, ◌⊎◌, Bool, false, IsTrue, List, [], ◌∷◌, length, Option, Some, None}
+use Rattle.std.specs.Prelude.{◌≡◌, ℕ, ◌+◌, ◌*◌, ◌^◌, ◌<◌, ◌≤◌, ◌==◌, ◌⊎◌, Bool, false, IsTrue, List, [], ◌∷◌, length, Option, Some, None}
 use Rattle.std.specs.Prelude.{slice_get, if◌then◌else◌}
 use Rattle.std.specs.Int.{w64, cast_signed}
 use Rattle.x10_kinds.specs.declared.kind.Kind.{Kind}
@@ -9,6 +9,7 @@ use Rattle.x10_model.specs.Values.{Value, Int, Place, Text, Rail, Object, Null, 
 use Rattle.x10_model.specs.Places as places
 use Rattle.x10_heap.specs.declared.export.Export.{Export}
 use Rattle.x10_heap.specs.Heaps.{HeapState, ObjectState}
+use Rattle.x10_heap.specs.References.{home_of, id_of}
 
 -- what the meaning of a word rests on: the kinds of each class's fields, the place and how many there are, its heap, and
 -- which home, number and class name an object at another place
@@ -29,7 +30,8 @@ has_class (Some export) class = export.class == class
 
 -- a global reference names an object of the class
 abbrev pub is_named : Context → (home id class : ℕ) → Bool
-is_named x home id class = if home == x.here then has_class (slice_get x.heap.exports id) class else x.far home id class
+is_named x home id class = if home == x.here then has_class
+    (slice_get x.heap.exports id) class else x.far home id class
 
 -- the word is one more than the number of an object of the class
 pub record IsObjectWord (heap : HeapState) (class word : ℕ) (v : Value) : Type 0 where
@@ -41,16 +43,18 @@ pub record IsObjectWord (heap : HeapState) (class word : ℕ) (v : Value) : Type
   pub value_is : v ≡ Object (2 * number)
 
 -- A word of a kind stands for a value: a number in two's complement, a place's number, the number of a text or a rail, one
--- more than that of an object, 0 for null, or a global reference as its home and 65,536 times its number there.
+-- more than that of an object, 0 for null, or a global reference as its home and its id there.
 abbrev pub IsWordOf : Context → Kind → ℕ → Value → Type 0
 IsWordOf x kind.Int w v = v ≡ Int (cast_signed w64 w)
 IsWordOf x kind.Place w v = (w < x.places) × (v ≡ Place w)
-IsWordOf x kind.Text w v = (text : List ℕ) × (slice_get x.heap.texts w ≡ Some text) × (v ≡ Text text)
-IsWordOf x kind.Rail w v = (bytes : List ℕ) × (slice_get x.heap.rails w ≡ Some bytes) × (v ≡ Rail (2 * w + 1))
+IsWordOf x kind.Text w v = (text : List ℕ) × (slice_get x.heap.texts w ≡ Some text)
+    × (v ≡ Text text)
+IsWordOf x kind.Rail w v = (bytes : List ℕ) × (slice_get x.heap.rails w ≡ Some bytes)
+    × (v ≡ Rail (2 * w + 1))
 IsWordOf x (kind.Obj c) w v = IsObjectWord x.heap c w v
 IsWordOf x (kind.Opt c) w v = ((w ≡ 0) × (v ≡ Null)) ⊎ IsObjectWord x.heap c w v
-IsWordOf x (kind.GRef c) w v = (w % 65536 < x.places) × (w / 65536 < 2 ^ 32) × IsTrue (is_named x (w % 65536) (w / 65536) c)
-    × (v ≡ Ref (w % 65536) (w / 65536) c)
+IsWordOf x (kind.GRef c) w v = (home_of w < x.places) × (id_of w < 2 ^ 32)
+    × IsTrue (is_named x (home_of w) (id_of w) c) × (v ≡ Ref (home_of w) (id_of w) c)
 
 -- one word and one value for each kind, and each word stands for its value
 abbrev pub AreWordsOf : Context → List Kind → List ℕ → List Value → Type 0

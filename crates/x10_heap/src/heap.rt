@@ -1,6 +1,8 @@
 //! The heap of a place.
 ghost use Rattle.std.specs.Prelude.{◌≡◌, ◌<◌, ◌≤◌, ◌+◌, ◌^◌, ◌++◌, List, ℕ, IfOk, IfErr, IsOk, Ok, Err, Some, None, length, replicate, slice_get, nat_lt};
+ghost use Rattle.x10_kinds.specs.declared.limit.Limit.TheVariants as limits;
 ghost use Rattle.x10_kinds.specs.declared.stop.Stop.TheVariants as stop;
+ghost use Rattle.x10_model.specs.declared.limits.TheConstants.{MOST_BYTES};
 ghost use Rattle.x10_model.specs.Modules.{FitsText};
 ghost use Rattle.x10_model.specs.Frames.{FitsRail};
 ghost use Rattle.x10_model.specs.Readers.{IsBytes};
@@ -12,15 +14,8 @@ use crate::rail::Rail;
 use crate::text::Text;
 use std::alloc::{AllocError, Global};
 use std::marker::Model;
-use x10_kinds::Stop;
-
-const OBJECTS: u8 = 1;
-
-const TEXTS: u8 = 2;
-
-const RAILS: u8 = 3;
-
-const EXPORTS: u8 = 4;
+use x10_kinds::{Limit, Stop};
+use x10_model::limits::MOST_BYTES;
 
 /// What the activities of a place share: objects, rails and texts, each by its number, and the objects that global references
 /// name, by their ids. Each counts from 0, in the order in which things were made; `truncate` alone removes any. There are at
@@ -46,7 +41,7 @@ impl Model for Heap {
 }
 
 /// The number of what is made next, where there are `count` already; refused where there may be no more.
-fn next_number(count: usize, limit: u8) -> Result<u32, Stop>
+fn next_number(count: usize, limit: Limit) -> Result<u32, Stop>
     ensures ok { IfOk result (λ number. number ≡ count) }
     ensures full { IsFull count → result ≡ Err (stop.Limit limit) }
     ensures err { IfErr result (λ why. (why ≡ stop.Limit limit) × IsFull count) }
@@ -137,13 +132,15 @@ impl Heap {
         self.texts.reserve(texts)
     }
 
-    /// A new object of a class, with these words in its fields. Limit 1 where there may be no more objects.
+    /// A new object of a class, with these words in its fields. Refused where there may be no more objects.
     pub fn new_object(&mut self, class: u16, fields: &[u64]) -> Result<u32, Stop>
-        ensures ok { IfOk result (λ number. (number ≡ length self.old.objects) × (self.new ≡ with_object self.old class fields.now)) }
-        ensures full { IsFull (length self.old.objects) → result ≡ Err (stop.Limit 1) }
-        ensures err { IfErr result (λ why. (self.new ≡ self.old) × Refuses (length self.old.objects) 1 why) }
+        ensures ok { IfOk result (λ number. (number ≡ length self.old.objects)
+            × (self.new ≡ with_object self.old class fields.now)) }
+        ensures full { IsFull (length self.old.objects) → result ≡ Err (stop.Limit limits.Objects) }
+        ensures err { IfErr result (λ why. (self.new ≡ self.old)
+            × Refuses (length self.old.objects) limits.Objects why) }
     {
-        let number = next_number(self.objects.len(), OBJECTS)?;
+        let number = next_number(self.objects.len(), Limit::Objects)?;
         let Ok(()) = self.objects.push(class, fields) else {
             return Err(Stop::Memory);
         };
@@ -153,7 +150,8 @@ impl Heap {
     /// The class of an object.
     pub fn class(&self, object: u32) -> u16
         requires { object < length self.now.objects }
-        ensures { (o : ObjectState) → slice_get self.now.objects object ≡ Some o → result ≡ o.class }
+        ensures { (o : ObjectState) → slice_get self.now.objects object ≡ Some o
+            → result ≡ o.class }
     {
         self.objects.class(object as usize)
     }
@@ -161,7 +159,8 @@ impl Heap {
     /// The words in an object's fields.
     pub fn fields(&self, object: u32) -> &[u64]
         requires { object < length self.now.objects }
-        ensures { (o : ObjectState) → slice_get self.now.objects object ≡ Some o → result.now ≡ o.fields }
+        ensures { (o : ObjectState) → slice_get self.now.objects object ≡ Some o
+            → result.now ≡ o.fields }
     {
         self.objects.fields(object as usize)
     }
@@ -169,7 +168,8 @@ impl Heap {
     /// The word in a field of an object. Fields count from 0.
     pub fn get(&self, object: u32, field: u8) -> u64
         requires { HasField self.now object field }
-        ensures { (o : ObjectState) → slice_get self.now.objects object ≡ Some o → slice_get o.fields field ≡ Some result }
+        ensures { (o : ObjectState) → slice_get self.now.objects object ≡ Some o
+            → slice_get o.fields field ≡ Some result }
     {
         self.objects.get(object as usize, usize::from(field))
     }
@@ -177,18 +177,21 @@ impl Heap {
     /// Writes a word to a field of an object.
     pub fn put(&mut self, object: u32, field: u8, word: u64)
         requires { HasField self.old object field }
-        ensures { (o : ObjectState) → slice_get self.old.objects object ≡ Some o → self.new ≡ with_field self.old object o field word }
+        ensures { (o : ObjectState) → slice_get self.old.objects object ≡ Some o
+            → self.new ≡ with_field self.old object o field word }
     {
         self.objects.put(object as usize, usize::from(field), word);
     }
 
-    /// A new rail of `bytes` zero bytes. Limit 3 where there may be no more rails.
+    /// A new rail of `bytes` zero bytes. Refused where there may be no more rails.
     pub fn new_rail(&mut self, bytes: u16) -> Result<u32, Stop>
-        ensures ok { IfOk result (λ number. (number ≡ length self.old.rails) × (self.new ≡ with_rail self.old (replicate bytes 0))) }
-        ensures full { IsFull (length self.old.rails) → result ≡ Err (stop.Limit 3) }
-        ensures err { IfErr result (λ why. (self.new ≡ self.old) × Refuses (length self.old.rails) 3 why) }
+        ensures ok { IfOk result (λ number. (number ≡ length self.old.rails)
+            × (self.new ≡ with_rail self.old (replicate bytes 0))) }
+        ensures full { IsFull (length self.old.rails) → result ≡ Err (stop.Limit limits.Rails) }
+        ensures err { IfErr result (λ why. (self.new ≡ self.old)
+            × Refuses (length self.old.rails) limits.Rails why) }
     {
-        let number = next_number(self.rails.len(), RAILS)?;
+        let number = next_number(self.rails.len(), Limit::Rails)?;
         let Ok(bytes) = Vec::from_elem(self.alloc, 0, usize::from(bytes)) else {
             return Err(Stop::Memory);
         };
@@ -198,14 +201,16 @@ impl Heap {
         Ok(number)
     }
 
-    /// A new rail with bytes of its own that are the same, at most 65,535. Limit 3 where there may be no more rails.
+    /// A new rail with bytes of its own that are the same, at most 65,535. Refused where there may be no more rails.
     pub fn copy_rail(&mut self, bytes: &[u8]) -> Result<u32, Stop>
         requires { length bytes.now < 2 ^ 16 }
-        ensures ok { IfOk result (λ number. (number ≡ length self.old.rails) × (self.new ≡ with_rail self.old bytes.now)) }
-        ensures full { IsFull (length self.old.rails) → result ≡ Err (stop.Limit 3) }
-        ensures err { IfErr result (λ why. (self.new ≡ self.old) × Refuses (length self.old.rails) 3 why) }
+        ensures ok { IfOk result (λ number. (number ≡ length self.old.rails)
+            × (self.new ≡ with_rail self.old bytes.now)) }
+        ensures full { IsFull (length self.old.rails) → result ≡ Err (stop.Limit limits.Rails) }
+        ensures err { IfErr result (λ why. (self.new ≡ self.old)
+            × Refuses (length self.old.rails) limits.Rails why) }
     {
-        let number = next_number(self.rails.len(), RAILS)?;
+        let number = next_number(self.rails.len(), Limit::Rails)?;
         let Ok(bytes) = Vec::from_slice(self.alloc, bytes) else {
             return Err(Stop::Memory);
         };
@@ -229,7 +234,8 @@ impl Heap {
     /// The byte of a rail at an index, where there is one. Indices count from 0.
     pub fn rail_get(&self, rail: u32, index: usize) -> Option<u8>
         requires { rail < length self.now.rails }
-        ensures { (bytes : List ℕ) → slice_get self.now.rails rail ≡ Some bytes → result ≡ slice_get bytes index }
+        ensures { (bytes : List ℕ) → slice_get self.now.rails rail ≡ Some bytes
+            → result ≡ slice_get bytes index }
     {
         self.rail(rail).get(index).copied()
     }
@@ -237,7 +243,9 @@ impl Heap {
     /// Writes a byte of a rail at an index. False where there is none; then nothing has changed.
     pub fn rail_set(&mut self, rail: u32, index: usize, byte: u8) -> bool
         requires { rail < length self.old.rails }
-        ensures { (bytes : List ℕ) → slice_get self.old.rails rail ≡ Some bytes → (result ≡ nat_lt index (length bytes)) × (self.new ≡ with_byte self.old rail bytes index byte) }
+        ensures { (bytes : List ℕ) → slice_get self.old.rails rail ≡ Some bytes
+            → (result ≡ nat_lt index (length bytes))
+            × (self.new ≡ with_byte self.old rail bytes index byte) }
     {
         let bytes = &mut self.rails[rail as usize].bytes;
         if index < bytes.len() {
@@ -247,14 +255,16 @@ impl Heap {
         false
     }
 
-    /// A new text with the bytes of another, at most 65,535. Limit 2 where there may be no more texts.
+    /// A new text with the bytes of another, at most 65,535. Refused where there may be no more texts.
     pub fn new_text(&mut self, text: &str) -> Result<u32, Stop>
         requires { length text.now < 2 ^ 16 }
-        ensures ok { IfOk result (λ number. (number ≡ length self.old.texts) × (self.new ≡ with_text self.old text.now)) }
-        ensures full { IsFull (length self.old.texts) → result ≡ Err (stop.Limit 2) }
-        ensures err { IfErr result (λ why. (self.new ≡ self.old) × Refuses (length self.old.texts) 2 why) }
+        ensures ok { IfOk result (λ number. (number ≡ length self.old.texts)
+            × (self.new ≡ with_text self.old text.now)) }
+        ensures full { IsFull (length self.old.texts) → result ≡ Err (stop.Limit limits.Texts) }
+        ensures err { IfErr result (λ why. (self.new ≡ self.old)
+            × Refuses (length self.old.texts) limits.Texts why) }
     {
-        let number = next_number(self.texts.len(), TEXTS)?;
+        let number = next_number(self.texts.len(), Limit::Texts)?;
         let Ok(text) = Text::new(self.alloc, text) else {
             return Err(Stop::Memory);
         };
@@ -274,20 +284,26 @@ impl Heap {
     }
 
     /// A new text of two joined, the first before the second; none where it would be longer than 65,535 bytes, and then
-    /// nothing has changed. Limit 2 where there may be no more texts. Takes the time to copy both.
+    /// nothing has changed. Refused where there may be no more texts. Takes the time to copy both.
     pub fn join(&mut self, first: u32, second: u32) -> Result<Option<u32>, Stop>
         requires first { first < length self.old.texts }
         requires second { second < length self.old.texts }
-        ensures ok { IfOk result (λ made. (t u : List ℕ) → slice_get self.old.texts first ≡ Some t → slice_get self.old.texts second ≡ Some u → IsJoined self.old t u made self.new) }
-        ensures long { (t u : List ℕ) → slice_get self.old.texts first ≡ Some t → slice_get self.old.texts second ≡ Some u → 65535 < length t + length u → result ≡ Ok None }
-        ensures full { (t u : List ℕ) → slice_get self.old.texts first ≡ Some t → slice_get self.old.texts second ≡ Some u → length t + length u ≤ 65535 → IsFull (length self.old.texts) → result ≡ Err (stop.Limit 2) }
-        ensures err { IfErr result (λ why. (self.new ≡ self.old) × Refuses (length self.old.texts) 2 why) }
+        ensures ok { IfOk result (λ made. (t u : List ℕ) → slice_get self.old.texts first ≡ Some t
+            → slice_get self.old.texts second ≡ Some u → IsJoined self.old t u made self.new) }
+        ensures long { (t u : List ℕ) → slice_get self.old.texts first ≡ Some t
+            → slice_get self.old.texts second ≡ Some u → MOST_BYTES < length t + length u
+            → result ≡ Ok None }
+        ensures full { (t u : List ℕ) → slice_get self.old.texts first ≡ Some t
+            → slice_get self.old.texts second ≡ Some u → length t + length u ≤ MOST_BYTES
+            → IsFull (length self.old.texts) → result ≡ Err (stop.Limit limits.Texts) }
+        ensures err { IfErr result (λ why. (self.new ≡ self.old)
+            × Refuses (length self.old.texts) limits.Texts why) }
     {
         let (first, second) = (self.text(first), self.text(second));
-        if first.len() + second.len() > 65_535 {
+        if first.len() + second.len() > usize::from(MOST_BYTES) {
             return Ok(None);
         }
-        let number = next_number(self.texts.len(), TEXTS)?;
+        let number = next_number(self.texts.len(), Limit::Texts)?;
         let Ok(text) = Text::joined(self.alloc, first, second) else {
             return Err(Stop::Memory);
         };
@@ -297,15 +313,19 @@ impl Heap {
         Ok(Some(number))
     }
 
-    /// A new global reference to an object, whose id is the next, even where there is one to it already. Limit 4 where there
+    /// A new global reference to an object, whose id is the next, even where there is one to it already. Refused where there
     /// may be no more.
     pub fn export(&mut self, object: u32) -> Result<u32, Stop>
         requires { object < length self.old.objects }
-        ensures ok { IfOk result (λ id. (id ≡ length self.old.exports) × ((o : ObjectState) → slice_get self.old.objects object ≡ Some o → self.new ≡ with_export self.old o.class object)) }
-        ensures full { IsFull (length self.old.exports) → result ≡ Err (stop.Limit 4) }
-        ensures err { IfErr result (λ why. (self.new ≡ self.old) × Refuses (length self.old.exports) 4 why) }
+        ensures ok { IfOk result (λ id. (id ≡ length self.old.exports)
+            × ((o : ObjectState) → slice_get self.old.objects object ≡ Some o
+            → self.new ≡ with_export self.old o.class object)) }
+        ensures full { IsFull (length self.old.exports)
+            → result ≡ Err (stop.Limit limits.References) }
+        ensures err { IfErr result (λ why. (self.new ≡ self.old)
+            × Refuses (length self.old.exports) limits.References why) }
     {
-        let id = next_number(self.exports.len(), EXPORTS)?;
+        let id = next_number(self.exports.len(), Limit::References)?;
         let class = self.class(object);
         let Ok(()) = self.exports.push(Export { class, object }) else {
             return Err(Stop::Memory);

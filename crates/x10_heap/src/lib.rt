@@ -5,10 +5,12 @@ mod export;
 mod heap;
 mod objects;
 mod rail;
+mod references;
 mod text;
 
 pub use export::Export;
 pub use heap::Heap;
 pub use objects::Objects;
 pub use rail::Rail;
+pub use references::{has_id, home_in, id_in, reference};
 pub use text::Text;

@@ -61,9 +61,11 @@ fn append(
     fields: &[u64],
 ) -> Result<(), AllocError>
     ensures classes { OnOk result (classes.new.items ≡ classes.old.items ++ class ∷ []) }
-    ensures ends { OnOk result (ends.new.items ≡ ends.old.items ++ (length words.old.items + length fields.now) ∷ []) }
+    ensures ends { OnOk result (ends.new.items ≡ ends.old.items
+        ++ (length words.old.items + length fields.now) ∷ []) }
     ensures words { OnOk result (words.new.items ≡ words.old.items ++ fields.now) }
-    ensures err { OnErr result ((classes.new.items ≡ classes.old.items) × (ends.new.items ≡ ends.old.items) × (words.new.items ≡ words.old.items)) }
+    ensures err { OnErr result ((classes.new.items ≡ classes.old.items)
+        × (ends.new.items ≡ ends.old.items) × (words.new.items ≡ words.old.items)) }
 {
     classes.reserve(1)?;
     ends.reserve(1)?;
@@ -105,7 +107,8 @@ impl Objects {
     /// The next object.
     #[inline(always)]
     pub(crate) fn push(&mut self, class: u16, fields: &[u64]) -> Result<(), AllocError>
-        ensures ok { OnOk result (self.new ≡ self.old ++ record { class = class; fields = fields.now } ∷ []) }
+        ensures ok { OnOk result (self.new ≡ self.old
+            ++ record { class = class; fields = fields.now } ∷ []) }
         ensures err { OnErr result (self.new ≡ self.old) }
     {
         append(
@@ -138,8 +141,10 @@ impl Objects {
     /// The word in a field.
     #[inline(always)]
     pub(crate) fn get(&self, object: usize, field: usize) -> u64
-        requires { (o : ObjectState) × (slice_get self.now object ≡ Some o) × (field < length o.fields) }
-        ensures { (o : ObjectState) → slice_get self.now object ≡ Some o → slice_get o.fields field ≡ Some result }
+        requires { (o : ObjectState) × (slice_get self.now object ≡ Some o)
+            × (field < length o.fields) }
+        ensures { (o : ObjectState) → slice_get self.now object ≡ Some o
+            → slice_get o.fields field ≡ Some result }
     {
         self.words[start_in(&self.ends, object) + field]
     }
@@ -147,8 +152,11 @@ impl Objects {
     /// Writes a word to a field.
     #[inline(always)]
     pub(crate) fn put(&mut self, object: usize, field: usize, word: u64)
-        requires { (o : ObjectState) × (slice_get self.old object ≡ Some o) × (field < length o.fields) }
-        ensures { (o : ObjectState) → slice_get self.old object ≡ Some o → self.new ≡ slice_set self.old object (record o { fields = slice_set o.fields field word }) }
+        requires { (o : ObjectState) × (slice_get self.old object ≡ Some o)
+            × (field < length o.fields) }
+        ensures { (o : ObjectState) → slice_get self.old object ≡ Some o
+            → self.new ≡ slice_set self.old object
+            (record o { fields = slice_set o.fields field word }) }
     {
         let start = start_in(&self.ends, object);
         self.words[start + field] = word;

@@ -31,8 +31,18 @@ pub record Shows (bytes : List ℕ) (header : KeptHeader) (ints : ℕ) (classes 
   pub texts_at : AreAt text_bytes bytes texts m.texts
   pub functions_at : AreAt function_bytes bytes functions m.functions
 
-pub shows : (bytes : List ℕ) (header : KeptHeader) (ints : ℕ) (classes texts functions : List ℕ) (m : Module) → IsView bytes header ints classes texts functions → module_in bytes ≡ m → Shows bytes header ints classes texts functions m
-shows bytes header ints classes texts functions m v e = subst (Shows bytes header ints classes texts functions) e (record { fits = v.fits; spelled = v.spelled; header_is = v.header_is; ints_at = v.ints_at; classes_at = v.classes_at; texts_at = v.texts_at; functions_at = v.functions_at })
+pub shows : (bytes : List ℕ) (header : KeptHeader) (ints : ℕ) (classes texts functions : List ℕ) (m : Module)
+    → IsView bytes header ints classes texts functions → module_in bytes ≡ m → Shows bytes header ints classes texts functions m
+shows bytes header ints classes texts functions m v e = subst (Shows bytes header ints classes texts functions) e
+    (record {
+      fits = v.fits;
+      spelled = v.spelled;
+      header_is = v.header_is;
+      ints_at = v.ints_at;
+      classes_at = v.classes_at;
+      texts_at = v.texts_at;
+      functions_at = v.functions_at;
+    })
 
 -- ---- numbers
 
@@ -41,7 +51,8 @@ pub record IsIntAt (bytes : List ℕ) (at : ℕ) (z : ℤ) : Type 0 where
   pub value : cast_signed w64 (from_be_bytes w64 (slice_range bytes at (at + 8))) ≡ z
   pub fits : FitsSigned w64 z
 
-pub int_at : (bytes : List ℕ) (start at i : ℕ) (zs : List ℤ) → StandsAt bytes start (flat_map int_bytes zs) → AllByRecursion (FitsSigned w64) zs → i < length zs → at ≡ start + 8 * i → (z : ℤ) × (slice_get zs i ≡ Some z) × IsIntAt bytes at z
+pub int_at : (bytes : List ℕ) (start at i : ℕ) (zs : List ℤ) → StandsAt bytes start (flat_map int_bytes zs) → AllByRecursion (FitsSigned w64) zs
+    → i < length zs → at ≡ start + 8 * i → (z : ℤ) × (slice_get zs i ≡ Some z) × IsIntAt bytes at z
 int_at bytes start at i zs s fits lt e =
     let found = item_at int_bytes 8 (λ z. refl) bytes start zs i at e s lt in
     let z = found.0 in
@@ -51,7 +62,9 @@ int_at bytes start at i zs s fits lt e =
       found.1,
       record {
         room = place_small bytes at (int_bytes z) (omega arith) found.2;
-        value = ap (λ (t : List ℕ). cast_signed w64 (from_be_bytes w64 t)) range ∙ ap (cast_signed w64) (from_be_bytes-to_be_bytes_8 (cast_unsigned w64 z) (Fits-lt-pow {w = w64} (Fits-of_z {w = w64} {z = z} fit))) ∙ to_z-of_z w64 z fit;
+        value = ap (λ (t : List ℕ). cast_signed w64 (from_be_bytes w64 t)) range
+            ∙ ap (cast_signed w64) (from_be_bytes-to_be_bytes_8 (cast_unsigned w64 z) (Fits-lt-pow {w = w64} (Fits-of_z {w = w64} {z = z} fit)))
+            ∙ to_z-of_z w64 z fit;
         fits = fit;
       },
     )
@@ -83,7 +96,8 @@ pub record IsClassAt (bytes : List ℕ) (at : ℕ) (fields : List Kind) : Type 0
   pub room : at + 1 + 3 * slice_index bytes at ≤ length bytes
   pub value : kinds_in (slice_range bytes (at + 1) (at + 1 + 3 * slice_index bytes at)) ≡ fields
 
-pub class_at : (classes : ℕ) (bytes : List ℕ) (at : ℕ) (fields : List Kind) → classes < 2 ^ 16 → FitsClass classes fields → StandsAt bytes at (class_bytes fields) → IsClassAt bytes at fields
+pub class_at : (classes : ℕ) (bytes : List ℕ) (at : ℕ) (fields : List Kind) → classes < 2 ^ 16 → FitsClass classes fields
+    → StandsAt bytes at (class_bytes fields) → IsClassAt bytes at fields
 unfolding class_bytes
 class_at classes bytes at fields few fits s =
     let count : slice_index bytes at ≡ length fields = first_is bytes at (length fields) (flat_map kind_bytes fields) s in
@@ -92,5 +106,6 @@ class_at classes bytes at fields few fits s =
     let small = place_small bytes at (length fields ∷ flat_map kind_bytes fields) (omega arith) s in
     record {
       room = omega (arith, small, long, count);
-      value = ap kinds_in (range_is bytes (at + 1) (at + 1 + 3 * slice_index bytes at) (flat_map kind_bytes fields) (omega (arith, long, count)) back) ∙ kinds_again classes fields few fits.kinds;
+      value = ap kinds_in (range_is bytes (at + 1) (at + 1 + 3 * slice_index bytes at) (flat_map kind_bytes fields) (omega (arith, long, count)) back)
+          ∙ kinds_again classes fields few fits.kinds;
     }

@@ -19,7 +19,8 @@ slot_of_four tag high low flag = record { kind = kind_of_three tag high low; hom
 abbrev pub slot_with : Kind → Bool → Slot
 slot_with k here = record { kind = k; home_here = here }
 
-pub kinds_get : (bytes : List ℕ) (i p q r : ℕ) → p ≡ 3 * i → q ≡ 3 * i + 1 → r ≡ 3 * i + 2 → i < length (kinds_in bytes) → slice_get (kinds_in bytes) i ≡ Some (kind_of_three (get_or bytes p 0) (get_or bytes q 0) (get_or bytes r 0))
+pub kinds_get : (bytes : List ℕ) (i p q r : ℕ) → p ≡ 3 * i → q ≡ 3 * i + 1 → r ≡ 3 * i + 2 → i < length (kinds_in bytes)
+    → slice_get (kinds_in bytes) i ≡ Some (kind_of_three (get_or bytes p 0) (get_or bytes q 0) (get_or bytes r 0))
 unfolding kinds_in
 kinds_get (tag ∷ high ∷ low ∷ rest) zero p q r ep eq er lt =
     let hp : p ≡ 0 = omega arith in
@@ -32,10 +33,12 @@ kinds_get (tag ∷ high ∷ low ∷ rest) (suc i) p q r ep eq er lt =
     let hr : r ≡ 3 + (3 * i + 2) = omega arith in
     let front = tag ∷ high ∷ low ∷ [] in
     kinds_get rest i (3 * i) (3 * i + 1) (3 * i + 2) refl refl refl (omega (arith, lt))
-    ∙ rw (hp, hq, hr, get_or-append-add front rest (3 * i) 0, get_or-append-add front rest (3 * i + 1) 0, get_or-append-add front rest (3 * i + 2) 0) refl
+    ∙ rw (hp, hq, hr, get_or-append-add front rest (3 * i) 0, get_or-append-add front rest (3 * i + 1) 0, get_or-append-add front rest (3 * i + 2) 0)
+    refl
 kinds_get _ i p q r ep eq er lt = absurd (omega (arith, lt))
 
-pub slots_get : (bytes : List ℕ) (i p q r s : ℕ) → p ≡ 4 * i → q ≡ 4 * i + 1 → r ≡ 4 * i + 2 → s ≡ 4 * i + 3 → i < length (slots_in bytes) → slice_get (slots_in bytes) i ≡ Some (slot_of_four (get_or bytes p 0) (get_or bytes q 0) (get_or bytes r 0) (get_or bytes s 0))
+pub slots_get : (bytes : List ℕ) (i p q r s : ℕ) → p ≡ 4 * i → q ≡ 4 * i + 1 → r ≡ 4 * i + 2 → s ≡ 4 * i + 3 → i < length (slots_in bytes)
+    → slice_get (slots_in bytes) i ≡ Some (slot_of_four (get_or bytes p 0) (get_or bytes q 0) (get_or bytes r 0) (get_or bytes s 0))
 unfolding slots_in
 slots_get (tag ∷ high ∷ low ∷ flag ∷ rest) zero p q r s ep eq er es lt =
     let hp : p ≡ 0 = omega arith in
@@ -50,7 +53,16 @@ slots_get (tag ∷ high ∷ low ∷ flag ∷ rest) (suc i) p q r s ep eq er es l
     let hs : s ≡ 4 + (4 * i + 3) = omega arith in
     let front = tag ∷ high ∷ low ∷ flag ∷ [] in
     slots_get rest i (4 * i) (4 * i + 1) (4 * i + 2) (4 * i + 3) refl refl refl refl (omega (arith, lt))
-    ∙ rw (hp, hq, hr, hs, get_or-append-add front rest (4 * i) 0, get_or-append-add front rest (4 * i + 1) 0, get_or-append-add front rest (4 * i + 2) 0, get_or-append-add front rest (4 * i + 3) 0) refl
+    ∙ rw (
+      hp,
+      hq,
+      hr,
+      hs,
+      get_or-append-add front rest (4 * i) 0,
+      get_or-append-add front rest (4 * i + 1) 0,
+      get_or-append-add front rest (4 * i + 2) 0,
+      get_or-append-add front rest (4 * i + 3) 0,
+    ) refl
 slots_get _ i p q r s ep eq er es lt = absurd (omega (arith, lt))
 
 -- ---- all of them again
@@ -73,27 +85,33 @@ class_small classes (kind.Obj c) few h = omega (arith, h)
 class_small classes (kind.Opt c) few h = omega (arith, h)
 class_small classes (kind.GRef c) few h = omega (arith, h)
 
-three_again : (classes : ℕ) (k : Kind) → classes < 2 ^ 16 → NamesClassBelow classes k → kind_with (tag_of k) (from_be_bytes w16 (to_be_bytes w16 (class_of k))) ≡ k
-three_again classes k few h = ap (λ (c : ℕ). kind_with (tag_of k) c) (from_be_bytes-to_be_bytes_2 (class_of k) (class_small classes k few h)) ∙ kind_again k
+three_again : (classes : ℕ) (k : Kind) → classes < 2 ^ 16 → NamesClassBelow classes k
+    → kind_with (tag_of k) (from_be_bytes w16 (to_be_bytes w16 (class_of k))) ≡ k
+three_again classes k few h = ap (λ (c : ℕ). kind_with (tag_of k) c) (from_be_bytes-to_be_bytes_2 (class_of k) (class_small classes k few h))
+    ∙ kind_again k
 
 flag_again : (b : Bool) → eqb (flag_byte b) 1 ≡ b
 flag_again false = refl
 flag_again true = refl
 
-pub slot_again : (classes : ℕ) (s : Slot) → classes < 2 ^ 16 → FitsSlot classes s → slot_with (kind_with (tag_of s.kind) (from_be_bytes w16 (to_be_bytes w16 (class_of s.kind)))) (eqb (flag_byte s.home_here) 1) ≡ s
+pub slot_again : (classes : ℕ) (s : Slot) → classes < 2 ^ 16 → FitsSlot classes s
+    → slot_with (kind_with (tag_of s.kind) (from_be_bytes w16 (to_be_bytes w16 (class_of s.kind)))) (eqb (flag_byte s.home_here) 1) ≡ s
 slot_again classes s few h = rw (three_again classes s.kind few h.class, flag_again s.home_here) refl
 
-pub kinds_again : (classes : ℕ) (ks : List Kind) → classes < 2 ^ 16 → AllByRecursion (NamesClassBelow classes) ks → kinds_in (flat_map kind_bytes ks) ≡ ks
+pub kinds_again : (classes : ℕ) (ks : List Kind) → classes < 2 ^ 16 → AllByRecursion (NamesClassBelow classes) ks
+    → kinds_in (flat_map kind_bytes ks) ≡ ks
 unfolding kinds_in kind_bytes
 kinds_again classes [] few h = refl
 kinds_again classes (k ∷ ks) few h =
-    ap (λ (x : Kind). x ∷ kinds_in (flat_map kind_bytes ks)) (three_again classes k few h.0) ∙ ap (λ (xs : List Kind). k ∷ xs) (kinds_again classes ks few h.1)
+    ap (λ (x : Kind). x ∷ kinds_in (flat_map kind_bytes ks)) (three_again classes k few h.0)
+    ∙ ap (λ (xs : List Kind). k ∷ xs) (kinds_again classes ks few h.1)
 
 pub slots_again : (classes : ℕ) (ss : List Slot) → classes < 2 ^ 16 → AllByRecursion (FitsSlot classes) ss → slots_in (flat_map slot_bytes ss) ≡ ss
 unfolding slots_in slot_bytes kind_bytes
 slots_again classes [] few h = refl
 slots_again classes (s ∷ ss) few h =
-    ap (λ (x : Slot). x ∷ slots_in (flat_map slot_bytes ss)) (slot_again classes s few h.0) ∙ ap (λ (xs : List Slot). s ∷ xs) (slots_again classes ss few h.1)
+    ap (λ (x : Slot). x ∷ slots_in (flat_map slot_bytes ss)) (slot_again classes s few h.0)
+    ∙ ap (λ (xs : List Slot). s ∷ xs) (slots_again classes ss few h.1)
 
 -- ---- how many there are
 

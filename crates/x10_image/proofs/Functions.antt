@@ -29,7 +29,8 @@ function_parts bytes at f s =
     let from_slots = later bytes at 4 (at + 4) (n ∷ f.registers ∷ f.loops ∷ 0 ∷ []) _ refl refl s in
     let slots_long : 4 * n ≡ length (flat_map slot_bytes f.parameters) = sym (length-items slot_bytes 4 length-slot_bytes f.parameters) in
     let from_result = later bytes (at + 4) (4 * n) (at + 4 + 4 * n) (flat_map slot_bytes f.parameters) _ slots_long refl from_slots in
-    let from_count = later bytes (at + 4 + 4 * n) 4 (at + 8 + 4 * n) (result_bytes f.result) _ (sym (length-result_bytes f.result)) (omega arith) from_result in
+    let from_count = later bytes (at + 4 + 4 * n) 4 (at + 8 + 4 * n) (result_bytes f.result) _ (sym (length-result_bytes f.result))
+    (omega arith) from_result in
     let from_zero = later bytes (at + 8 + 4 * n) 2 (at + 10 + 4 * n) (to_be_bytes w16 (length f.code)) _ refl (omega arith) from_count in
     let from_code = later bytes (at + 10 + 4 * n) 2 (at + 12 + 4 * n) (to_be_bytes w16 0) _ refl (omega arith) from_zero in
     record {
@@ -56,16 +57,20 @@ unfolding result_bytes slot_bytes kind_bytes
 result_tag None = refl
 result_tag (Some s) = tag_is (s.kind)
 
-pub entry_is : (bytes : List ℕ) (at : ℕ) (f : Function) → StandsAt bytes at (function_bytes f) → (eqb (get_or bytes at 0) 0 ≡ true) → eqb (get_or bytes (at + 4) 0) 0 ≡ is_entry (Some f)
+pub entry_is : (bytes : List ℕ) (at : ℕ) (f : Function) → StandsAt bytes at (function_bytes f) → (eqb (get_or bytes at 0) 0 ≡ true)
+    → eqb (get_or bytes (at + 4) 0) 0 ≡ is_entry (Some f)
 entry_is bytes at f s zero_first =
     let p = function_parts bytes at f s in
     let first : get_or bytes at 0 ≡ length f.parameters = first_is bytes at (length f.parameters) _ p.head in
     let none : length f.parameters ≡ 0 = omega (arith, first, eqb-true (get_or bytes at 0) 0 zero_first) in
     let e : at + 4 ≡ (at + 4 + 4 * length f.parameters) + 0 = omega arith in
-    let byte : get_or bytes (at + 4) 0 ≡ get_or (result_bytes f.result) 0 0 = ap (λ (k : ℕ). get_or bytes k 0) e ∙ byte_is bytes (at + 4 + 4 * length f.parameters) 0 (result_bytes f.result) (omega (arith, length-result_bytes f.result)) p.result in
+    let byte : get_or bytes (at + 4) 0 ≡ get_or (result_bytes f.result) 0 0 =
+    ap (λ (k : ℕ). get_or bytes k 0) e ∙ byte_is bytes (at + 4 + 4 * length f.parameters) 0 (result_bytes f.result)
+    (omega (arith, length-result_bytes f.result)) p.result in
     ap (λ (k : ℕ). eqb k 0) byte ∙ result_tag f.result ∙ rw (eq-eqb (length f.parameters) 0 none) refl
 
-pub entry_not : (bytes : List ℕ) (at : ℕ) (f : Function) → StandsAt bytes at (function_bytes f) → (eqb (get_or bytes at 0) 0 ≡ false) → eqb (get_or bytes at 0) 0 ≡ is_entry (Some f)
+pub entry_not : (bytes : List ℕ) (at : ℕ) (f : Function) → StandsAt bytes at (function_bytes f) → (eqb (get_or bytes at 0) 0 ≡ false)
+    → eqb (get_or bytes at 0) 0 ≡ is_entry (Some f)
 entry_not bytes at f s not_zero =
     let p = function_parts bytes at f s in
     let first : get_or bytes at 0 ≡ length f.parameters = first_is bytes at (length f.parameters) _ p.head in
@@ -78,12 +83,25 @@ length-function_bytes f =
     let zero = to_be_bytes w16 0 ++ flat_map instruction f.code in
     let count = to_be_bytes w16 (length f.code) ++ zero in
     let result = result_bytes f.result ++ count in
-    omega (arith, length-append (flat_map slot_bytes f.parameters) result, length-append (result_bytes f.result) count, length-items slot_bytes 4 length-slot_bytes f.parameters, length-result_bytes f.result, length-items instruction 8 length-spelling f.code)
+    omega (
+      arith,
+      length-append (flat_map slot_bytes f.parameters) result,
+      length-append (result_bytes f.result) count,
+      length-items slot_bytes 4 length-slot_bytes f.parameters,
+      length-result_bytes f.result,
+      length-items instruction 8 length-spelling f.code,
+    )
 
-pub function_small : (bytes : List ℕ) (at : ℕ) (f : Function) → StandsAt bytes at (function_bytes f) → at + 12 + 4 * length f.parameters + 8 * length f.code ≤ length bytes
-function_small bytes at f s = omega (arith, length-function_bytes f, place_small bytes at (function_bytes f) (omega (arith, length-function_bytes f)) s)
+pub function_small : (bytes : List ℕ) (at : ℕ) (f : Function) → StandsAt bytes at (function_bytes f)
+    → at + 12 + 4 * length f.parameters + 8 * length f.code ≤ length bytes
+function_small bytes at f s = omega (
+  arith,
+  length-function_bytes f,
+  place_small bytes at (function_bytes f) (omega (arith, length-function_bytes f)) s,
+)
 
-pub function_in : (bytes table : List ℕ) (all : List Function) (i j : ℕ) → AreAt function_bytes bytes table all → i < length table → i ≡ j → (f : Function) × (slice_get all j ≡ Some f) × StandsAt bytes (get_or table i 0) (function_bytes f)
+pub function_in : (bytes table : List ℕ) (all : List Function) (i j : ℕ) → AreAt function_bytes bytes table all → i < length table → i ≡ j
+    → (f : Function) × (slice_get all j ≡ Some f) × StandsAt bytes (get_or table i 0) (function_bytes f)
 function_in bytes table all i j places lt e =
     let found = item_of _ table all i places (omega (arith, same_length _ table all places)) in
     (found.0, ap (slice_get all) (sym e) ∙ found.1, found.2)

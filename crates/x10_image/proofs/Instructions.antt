@@ -7,7 +7,7 @@ use Rattle.x10_code.specs.declared.instr.Instr.{Instr}
 use Rattle.x10_code.specs.declared.instr.CodeFault.{CodeFault}
 use Rattle.x10_code.specs.Spelling.{fits_form, op_of, decoded}
 use Rattle.x10_code.proofs.Instructions.{instr, if_fits}
-use Rattle.x10_code.proofs.Decoding.{read_unknown, read_known}
+use Rattle.x10_code.proofs.CodecLemmas.{read_unknown, read_known}
 
 abbrev found : Op → Option Op
 found o = Some o
@@ -26,7 +26,8 @@ fitted_answer : (made i : Instr) (b : Bool) → fits_form made ≡ b → if_fits
 fitted_answer made i true fits e = e
 fitted_answer made i false fits e = absurd cc
 
-pub instr_is : (bytes : List ℕ) (i : Instr) (o : Op) (x : ℕ) → op_of (slice_index bytes 0) ≡ Some o → x ≡ big_number 4 (take 4 (drop 4 bytes)) → decoded bytes ≡ Ok i → decoded bytes ≡ Ok (instr o (slice_index bytes 1) (slice_index bytes 2) (slice_index bytes 3) x)
+pub instr_is : (bytes : List ℕ) (i : Instr) (o : Op) (x : ℕ) → op_of (slice_index bytes 0) ≡ Some o → x ≡ big_number 4 (take 4 (drop 4 bytes))
+    → decoded bytes ≡ Ok i → decoded bytes ≡ Ok (instr o (slice_index bytes 1) (slice_index bytes 2) (slice_index bytes 3) x)
 instr_is bytes i o x some x_is d =
     let made : Instr = instr o (slice_index bytes 1) (slice_index bytes 2) (slice_index bytes 3) x in
     d ∙ sym (fitted_answer made i (fits_form made) refl (sym (read_known bytes o x some x_is) ∙ d))

@@ -6,4 +6,4 @@ pub mod Instructions
 pub mod Accessors
 pub mod FunctionAccess
 pub mod WrittenLaws
-pub mod Misfitting
+pub mod FirstMisfit

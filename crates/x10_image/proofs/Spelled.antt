@@ -33,9 +33,12 @@ tables m =
     let ints = flat_map int_bytes m.ints in
     let classes = flat_map class_bytes m.classes in
     let header = header_bytes (header_of m) in
-    let all : StandsAt (spelling m) 0 (header ++ (classes ++ (ints ++ (texts ++ functions)))) = record { rest = []; is = sym (append-nil (spelling m)) } in
-    let from_classes = later (spelling m) 0 (length header) (classes_from m) header (classes ++ (ints ++ (texts ++ functions))) refl (omega arith) all in
-    let from_ints = later (spelling m) (classes_from m) (length classes) (ints_from m) classes (ints ++ (texts ++ functions)) refl refl from_classes in
+    let all : StandsAt (spelling m) 0 (header ++ (classes ++ (ints ++ (texts ++ functions)))) =
+    record { rest = []; is = sym (append-nil (spelling m)) } in
+    let from_classes = later (spelling m) 0 (length header) (classes_from m) header (classes ++ (ints ++ (texts ++ functions))) refl
+    (omega arith) all in
+    let from_ints = later (spelling m) (classes_from m) (length classes) (ints_from m) classes
+    (ints ++ (texts ++ functions)) refl refl from_classes in
     let from_texts = later (spelling m) (ints_from m) (length ints) (texts_from m) ints (texts ++ functions) refl refl from_ints in
     record {
       classes = narrow (spelling m) (classes_from m) classes (ints ++ (texts ++ functions)) from_classes;
@@ -59,7 +62,8 @@ header : (m : Module) → HasHeader m
 unfolding spelling header_bytes
 header m =
     let s = spelling m in
-    let tables = flat_map class_bytes m.classes ++ (flat_map int_bytes m.ints ++ (flat_map text_bytes m.texts ++ flat_map function_bytes m.functions)) in
+    let tables = flat_map class_bytes m.classes ++ (flat_map int_bytes m.ints
+    ++ (flat_map text_bytes m.texts ++ flat_map function_bytes m.functions)) in
     let from_entry = to_be_bytes w16 m.entry ++ to_be_bytes w16 0 in
     let from_functions = to_be_bytes w16 (length m.functions) ++ from_entry in
     let from_texts = to_be_bytes w16 (length m.texts) ++ from_functions in
@@ -86,8 +90,10 @@ header m =
     }
 
 -- a number of the header
-number_part : (m : Module) (at n result : ℕ) → StandsAt (spelling m) at (to_be_bytes w16 n) → result ≡ n → IsPart (spelling m) at (to_be_bytes w16 result)
-number_part m at n result s e = subst (λ k. IsPart (spelling m) at (to_be_bytes w16 k)) (sym e) (part_at (spelling m) at (to_be_bytes w16 n) (omega arith) s)
+number_part : (m : Module) (at n result : ℕ) → StandsAt (spelling m) at (to_be_bytes w16 n) → result ≡ n
+    → IsPart (spelling m) at (to_be_bytes w16 result)
+number_part m at n result s e = subst (λ k. IsPart (spelling m) at (to_be_bytes w16 k)) (sym e)
+    (part_at (spelling m) at (to_be_bytes w16 n) (omega arith) s)
 
 pub version_part : (m : Module) (v : ImageVersion) → v ≡ m.version → IsPart (spelling m) 4 (to_be_bytes w16 (number_of v))
 version_part m v e = number_part m 4 (number_of m.version) (number_of v) (header m).version (ap number_of e)
@@ -112,56 +118,71 @@ entry_part m n e = number_part m 16 m.entry n (header m).entry e
 
 -- ---- what the accessors hand out
 
-pub class_part : (m : Module) (c : ℕ) (fields : List Kind) → slice_get m.classes c ≡ Some fields → IsPart (spelling m) (place_of_class m c) (class_bytes fields)
+pub class_part : (m : Module) (c : ℕ) (fields : List Kind) → slice_get m.classes c ≡ Some fields
+    → IsPart (spelling m) (place_of_class m c) (class_bytes fields)
 unfolding class_bytes
-class_part m c fields e = part_at (spelling m) (place_of_class m c) (class_bytes fields) (omega arith) (item_here class_bytes (spelling m) (classes_from m) m.classes c fields (tables m).classes e)
+class_part m c fields e = part_at (spelling m) (place_of_class m c) (class_bytes fields) (omega arith)
+    (item_here class_bytes (spelling m) (classes_from m) m.classes c fields (tables m).classes e)
 
 pub int_part : (m : Module) (i : ℕ) (z : ℤ) → slice_get m.ints i ≡ Some z → IsPart (spelling m) (place_of_int m i) (int_bytes z)
 int_part m i z e =
-    let at : ints_from m + length (flat_map int_bytes (take i m.ints)) ≡ place_of_int m i = ap (λ n. ints_from m + n) (before_it int_bytes 8 (λ x. refl) m.ints i z e) in
-    part_at (spelling m) (place_of_int m i) (int_bytes z) (omega arith) (subst (λ (n : ℕ). StandsAt (spelling m) n (int_bytes z)) at (item_here int_bytes (spelling m) (ints_from m) m.ints i z (tables m).ints e))
+    let at : ints_from m + length (flat_map int_bytes (take i m.ints)) ≡ place_of_int m i =
+    ap (λ n. ints_from m + n) (before_it int_bytes 8 (λ x. refl) m.ints i z e) in
+    part_at (spelling m) (place_of_int m i) (int_bytes z) (omega arith)
+    (subst (λ (n : ℕ). StandsAt (spelling m) n (int_bytes z)) at (item_here int_bytes (spelling m) (ints_from m) m.ints i z (tables m).ints e))
 
 pub text_part : (m : Module) (i : ℕ) (text : List ℕ) → slice_get m.texts i ≡ Some text → IsPart (spelling m) (place_of_text m i) text
 unfolding text_bytes
-text_part m i text e = part_behind (spelling m) _ 2 (to_be_bytes w16 (length text)) text refl (omega arith) (item_here text_bytes (spelling m) (texts_from m) m.texts i text (tables m).texts e)
+text_part m i text e = part_behind (spelling m) _ 2 (to_be_bytes w16 (length text)) text refl (omega arith)
+    (item_here text_bytes (spelling m) (texts_from m) m.texts i text (tables m).texts e)
 
 function_here : (m : Module) (f : ℕ) (g : Function) → function_at m f ≡ Some g → StandsAt (spelling m) (place_of_signature m f) (function_bytes g)
 function_here m f g e = item_here function_bytes (spelling m) (functions_from m) m.functions f g (tables m).functions e
 
 -- a function begins with its signature
-signature_first : (g : Function) → function_bytes g ≡ signature_bytes (signature_of g) ++ (to_be_bytes w16 (length g.code) ++ (to_be_bytes w16 0 ++ flat_map instruction g.code))
+signature_first : (g : Function) → function_bytes g ≡ signature_bytes (signature_of g)
+    ++ (to_be_bytes w16 (length g.code) ++ (to_be_bytes w16 0 ++ flat_map instruction g.code))
 unfolding function_bytes signature_bytes
 signature_first g =
     let head = length g.parameters ∷ g.registers ∷ g.loops ∷ 0 ∷ [] in
     let code = to_be_bytes w16 (length g.code) ++ (to_be_bytes w16 0 ++ flat_map instruction g.code) in
     ap (λ t. head ++ t) (sym (append_assoc (flat_map slot_bytes g.parameters) (result_bytes g.result) code))
 
-pub signature_part : (m : Module) (f : ℕ) (g : Function) (s : Signature) → function_at m f ≡ Some g → s ≡ signature_of g → IsPart (spelling m) (place_of_signature m f) (signature_bytes s)
+pub signature_part : (m : Module) (f : ℕ) (g : Function) (s : Signature) → function_at m f ≡ Some g → s ≡ signature_of g
+    → IsPart (spelling m) (place_of_signature m f) (signature_bytes s)
 unfolding signature_bytes
 signature_part m f g s e is =
     let here = subst (λ t. StandsAt (spelling m) (place_of_signature m f) t) (signature_first g) (function_here m f g e) in
     let first = narrow (spelling m) (place_of_signature m f) (signature_bytes (signature_of g)) _ here in
     rw is (part_at (spelling m) (place_of_signature m f) (signature_bytes (signature_of g)) (omega arith) first)
 
-instr_here : (m : Module) (f pc : ℕ) (g : Function) (i : Instr) → function_at m f ≡ Some g → slice_get g.code pc ≡ Some i → StandsAt (spelling m) (place_of_instr m f pc) (instruction i)
+instr_here : (m : Module) (f pc : ℕ) (g : Function) (i : Instr) → function_at m f ≡ Some g → slice_get g.code pc ≡ Some i
+    → StandsAt (spelling m) (place_of_instr m f pc) (instruction i)
 instr_here m f pc g i e got =
-    let at : place_of_signature m f + 12 + 4 * length g.parameters + length (flat_map instruction (take pc g.code)) ≡ place_of_instr m f pc = rw (e, before_it instruction 8 length-spelling g.code pc i got) refl in
-    subst (λ (n : ℕ). StandsAt (spelling m) n (instruction i)) at (item_here instruction (spelling m) (place_of_signature m f + 12 + 4 * length g.parameters) g.code pc i (function_parts (spelling m) (place_of_signature m f) g (function_here m f g e)).code got)
+    let at : place_of_signature m f + 12 + 4 * length g.parameters + length (flat_map instruction (take pc g.code)) ≡ place_of_instr m f pc =
+    rw (e, before_it instruction 8 length-spelling g.code pc i got) refl in
+    subst (λ (n : ℕ). StandsAt (spelling m) n (instruction i)) at
+    (item_here instruction (spelling m) (place_of_signature m f + 12 + 4 * length g.parameters) g.code pc i
+    (function_parts (spelling m) (place_of_signature m f) g (function_here m f g e)).code got)
 
-instr_found : (m : Module) (f pc : ℕ) (i : Instr) (o : Option Function) → function_at m f ≡ o → instr_in o pc ≡ Some i → StandsAt (spelling m) (place_of_instr m f pc) (instruction i)
+instr_found : (m : Module) (f pc : ℕ) (i : Instr) (o : Option Function) → function_at m f ≡ o → instr_in o pc ≡ Some i
+    → StandsAt (spelling m) (place_of_instr m f pc) (instruction i)
 instr_found m f pc i None e got = absurd cc
 instr_found m f pc i (Some g) e got = instr_here m f pc g i e got
 
 pub instr_part : (m : Module) (f pc : ℕ) (i : Instr) → instr_at m f pc ≡ Some i → IsPart (spelling m) (place_of_instr m f pc) (instruction i)
-instr_part m f pc i got = part_at (spelling m) (place_of_instr m f pc) (instruction i) (omega (arith, length-spelling i)) (instr_found m f pc i (function_at m f) refl got)
+instr_part m f pc i got = part_at (spelling m) (place_of_instr m f pc) (instruction i) (omega (arith, length-spelling i))
+    (instr_found m f pc i (function_at m f) refl got)
 
-pub code_part : (m : Module) (f : ℕ) (g : Function) → function_at m f ≡ Some g → 1 ≤ length g.code → IsPart (spelling m) (place_of_code m f) (flat_map instruction (code_at m f))
+pub code_part : (m : Module) (f : ℕ) (g : Function) → function_at m f ≡ Some g → 1 ≤ length g.code
+    → IsPart (spelling m) (place_of_code m f) (flat_map instruction (code_at m f))
 code_part m f g e some =
     let long : length (flat_map instruction g.code) ≡ 8 * length g.code = length-items instruction 8 length-spelling g.code in
     let here = (function_parts (spelling m) (place_of_signature m f) g (function_here m f g e)).code in
     rw e (part_at (spelling m) (place_of_signature m f + 12 + 4 * length g.parameters) (flat_map instruction g.code) (omega (arith, long, some)) here)
 
-count_found : (m : Module) (f n : ℕ) (o : Option Function) → function_at m f ≡ o → f < length m.functions → n ≡ length (code_in o) → IsPart (spelling m) (place_of_count m f) (to_be_bytes w16 n)
+count_found : (m : Module) (f n : ℕ) (o : Option Function) → function_at m f ≡ o → f < length m.functions → n ≡ length (code_in o)
+    → IsPart (spelling m) (place_of_count m f) (to_be_bytes w16 n)
 count_found m f n None e lt is = absurd (missing m.functions f lt e)
   where
     missing : (xs : List Function) (i : ℕ) → i < length xs → slice_get xs i ≡ None → ⊥
@@ -171,7 +192,9 @@ count_found m f n None e lt is = absurd (missing m.functions f lt e)
 count_found m f n (Some g) e lt is =
     let here = (function_parts (spelling m) (place_of_signature m f) g (function_here m f g e)).count in
     let at : place_of_signature m f + 8 + 4 * length g.parameters ≡ place_of_count m f = rw e refl in
-    rw is (part_at (spelling m) (place_of_count m f) (to_be_bytes w16 (length g.code)) (omega arith) (subst (λ (k : ℕ). StandsAt (spelling m) k (to_be_bytes w16 (length g.code))) at here))
+    rw is (part_at (spelling m) (place_of_count m f) (to_be_bytes w16 (length g.code)) (omega arith)
+    (subst (λ (k : ℕ). StandsAt (spelling m) k (to_be_bytes w16 (length g.code))) at here))
 
-pub count_part : (m : Module) (f n : ℕ) → f < length m.functions → n ≡ length (code_at m f) → IsPart (spelling m) (place_of_count m f) (to_be_bytes w16 n)
+pub count_part : (m : Module) (f n : ℕ) → f < length m.functions → n ≡ length (code_at m f)
+    → IsPart (spelling m) (place_of_count m f) (to_be_bytes w16 n)
 count_part m f n lt is = count_found m f n (function_at m f) refl lt is

@@ -21,10 +21,19 @@ use Rattle.x10_bytes.proofs.Loops.{lenient, early}
 -- ---- the reader, step by step
 
 abbrev pub module_of : Header → List (List Kind) → List ℤ → List (List ℕ) → List Function → Module
-module_of h classes ints texts functions = record { version = h.version; least_places = h.least_places; classes = classes; ints = ints; texts = texts; functions = functions; entry = h.entry }
+module_of h classes ints texts functions = record {
+  version = h.version;
+  least_places = h.least_places;
+  classes = classes;
+  ints = ints;
+  texts = texts;
+  functions = functions;
+  entry = h.entry;
+}
 
 abbrev pub from_texts : Header → List (List Kind) → List ℤ → List (List ℕ) → Reader ImageFault Module
-from_texts h classes ints texts = bind (numbered h.functions (function_at h.version h.classes)) (λ functions. done (module_of h classes ints texts functions))
+from_texts h classes ints texts = bind (numbered h.functions (function_at h.version h.classes))
+    (λ functions. done (module_of h classes ints texts functions))
 
 abbrev pub from_ints : Header → List (List Kind) → List ℤ → Reader ImageFault Module
 from_ints h classes ints = bind (times h.texts text_at) (from_texts h classes ints)
@@ -59,7 +68,8 @@ AreFunctions bytes h table from rest = IsTable function_bytes bytes table rest (
 pub header_ends : (bytes : List ℕ) (h : Header) (rest : List ℕ) → IsBytes bytes → IsHeader bytes h rest → EndsWith bytes rest
 header_ends bytes h rest b e = record { before = header_bytes h; is = (header_reads.takes bytes h rest b e).0.parts }
 
-pub ints_take : (h : Header) (from : List ℕ) (ints : List ℤ) (rest : List ℕ) → IsBytes from → times h.ints (int Short) from ≡ Ok (ints, rest) → (from ≡ flat_map int_bytes ints ++ rest) × (length ints ≡ h.ints)
+pub ints_take : (h : Header) (from : List ℕ) (ints : List ℤ) (rest : List ℕ) → IsBytes from → times h.ints (int Short) from ≡ Ok (ints, rest)
+    → (from ≡ flat_map int_bytes ints ++ rest) × (length ints ≡ h.ints)
 ints_take h from ints rest b e = let t = (each_reads (λ s _. s) (λ (_ : ℕ). int_reads Short) h.ints 0).takes from ints rest b e in (t.0.parts, t.1.0)
 
 pub ints_end : (bytes : List ℕ) (h : Header) (from rest : List ℕ) → IsBytes bytes → EndsWith bytes from → AreInts h from rest → EndsWith bytes rest
@@ -78,34 +88,50 @@ fault_of_parts bytes (Some f) h = parts_fault bytes f h
 pub at_header : (bytes : List ℕ) (h : Header) (rest : List ℕ) → IsHeader bytes h rest → parts_at bytes ≡ from_header h rest
 at_header bytes h rest e = parts_is bytes ∙ bind_is header_at from_header bytes h rest e
 
-pub at_classes : (bytes : List ℕ) (h : Header) (table from rest : List ℕ) → (t : AreClasses bytes h table from rest) → from_header h from ≡ from_classes h t.items rest
+pub at_classes : (bytes : List ℕ) (h : Header) (table from rest : List ℕ) → (t : AreClasses bytes h table from rest)
+    → from_header h from ≡ from_classes h t.items rest
 at_classes bytes h table from rest t = bind_is (times h.classes (class_at h.classes)) (from_classes h) from t.items rest t.reads
 
-pub at_ints : (h : Header) (classes : List (List Kind)) (from rest : List ℕ) → (i : AreInts h from rest) → from_classes h classes from ≡ from_ints h classes i.0 rest
+pub at_ints : (h : Header) (classes : List (List Kind)) (from rest : List ℕ) → (i : AreInts h from rest)
+    → from_classes h classes from ≡ from_ints h classes i.0 rest
 at_ints h classes from rest i = bind_is (times h.ints (int Short)) (from_ints h classes) from i.0 rest i.1
 
-pub at_texts : (bytes : List ℕ) (h : Header) (classes : List (List Kind)) (ints : List ℤ) (table from rest : List ℕ) → (t : AreTexts bytes h table from rest) → from_ints h classes ints from ≡ from_texts h classes ints t.items rest
+pub at_texts : (bytes : List ℕ) (h : Header) (classes : List (List Kind)) (ints : List ℤ) (table from rest : List ℕ)
+    → (t : AreTexts bytes h table from rest) → from_ints h classes ints from ≡ from_texts h classes ints t.items rest
 at_texts bytes h classes ints table from rest t = bind_is (times h.texts text_at) (from_texts h classes ints) from t.items rest t.reads
 
-pub at_functions : (bytes : List ℕ) (h : Header) (classes : List (List Kind)) (ints : List ℤ) (texts : List (List ℕ)) (table from rest : List ℕ) → (t : AreFunctions bytes h table from rest) → from_texts h classes ints texts from ≡ Ok (module_of h classes ints texts t.items, rest)
+pub at_functions : (bytes : List ℕ) (h : Header) (classes : List (List Kind)) (ints : List ℤ) (texts : List (List ℕ)) (table from rest : List ℕ)
+    → (t : AreFunctions bytes h table from rest) → from_texts h classes ints texts from ≡ Ok (module_of h classes ints texts t.items, rest)
 unfolding done
-at_functions bytes h classes ints texts table from rest t = bind_is (numbered h.functions (function_at h.version h.classes)) (λ functions. done (module_of h classes ints texts functions)) from t.items rest t.reads
+at_functions bytes h classes ints texts table from rest t = bind_is (numbered h.functions (function_at h.version h.classes))
+    (λ functions. done (module_of h classes ints texts functions)) from t.items rest t.reads
 
 pub header_fault : (bytes : List ℕ) (f : Option ImageFault) → IsFault f (header_at bytes) → IsFaultOrMemory f (module_at bytes)
 header_fault bytes f e = fault_of_parts bytes f (rw parts_is (early header_at from_header bytes f (lenient f (header_at bytes) e)))
 
-pub classes_fault : (bytes : List ℕ) (h : Header) (r1 : List ℕ) (f : Option ImageFault) → IsHeader bytes h r1 → IsFaultOrMemory f (times h.classes (class_at h.classes) r1) → IsFaultOrMemory f (module_at bytes)
-classes_fault bytes h r1 f head e = fault_of_parts bytes f (rw (at_header bytes h r1 head) (early (times h.classes (class_at h.classes)) (from_classes h) r1 f e))
+pub classes_fault : (bytes : List ℕ) (h : Header) (r1 : List ℕ) (f : Option ImageFault) → IsHeader bytes h r1
+    → IsFaultOrMemory f (times h.classes (class_at h.classes) r1) → IsFaultOrMemory f (module_at bytes)
+classes_fault bytes h r1 f head e = fault_of_parts bytes f (rw (at_header bytes h r1 head)
+    (early (times h.classes (class_at h.classes)) (from_classes h) r1 f e))
 
-pub ints_fault : (bytes : List ℕ) (h : Header) (r1 ct r2 : List ℕ) (f : Option ImageFault) → IsHeader bytes h r1 → AreClasses bytes h ct r1 r2 → IsFault f (times h.ints (int Short) r2) → IsFaultOrMemory f (module_at bytes)
-ints_fault bytes h r1 ct r2 f head cs e = fault_of_parts bytes f (rw (at_header bytes h r1 head ∙ at_classes bytes h ct r1 r2 cs) (early (times h.ints (int Short)) (from_ints h cs.items) r2 f (lenient f (times h.ints (int Short) r2) e)))
+pub ints_fault : (bytes : List ℕ) (h : Header) (r1 ct r2 : List ℕ) (f : Option ImageFault) → IsHeader bytes h r1 → AreClasses bytes h ct r1 r2
+    → IsFault f (times h.ints (int Short) r2) → IsFaultOrMemory f (module_at bytes)
+ints_fault bytes h r1 ct r2 f head cs e = fault_of_parts bytes f
+    (rw (at_header bytes h r1 head ∙ at_classes bytes h ct r1 r2 cs)
+    (early (times h.ints (int Short)) (from_ints h cs.items) r2 f (lenient f (times h.ints (int Short) r2) e)))
 
-pub texts_fault : (bytes : List ℕ) (h : Header) (r1 ct r2 r3 : List ℕ) (f : Option ImageFault) → IsHeader bytes h r1 → AreClasses bytes h ct r1 r2 → AreInts h r2 r3 → IsFaultOrMemory f (times h.texts text_at r3) → IsFaultOrMemory f (module_at bytes)
-texts_fault bytes h r1 ct r2 r3 f head cs is e = fault_of_parts bytes f (rw (at_header bytes h r1 head ∙ at_classes bytes h ct r1 r2 cs ∙ at_ints h cs.items r2 r3 is) (early (times h.texts text_at) (from_texts h cs.items is.0) r3 f e))
+pub texts_fault : (bytes : List ℕ) (h : Header) (r1 ct r2 r3 : List ℕ) (f : Option ImageFault) → IsHeader bytes h r1 → AreClasses bytes h ct r1 r2
+    → AreInts h r2 r3 → IsFaultOrMemory f (times h.texts text_at r3) → IsFaultOrMemory f (module_at bytes)
+texts_fault bytes h r1 ct r2 r3 f head cs is e = fault_of_parts bytes f
+    (rw (at_header bytes h r1 head ∙ at_classes bytes h ct r1 r2 cs ∙ at_ints h cs.items r2 r3 is)
+    (early (times h.texts text_at) (from_texts h cs.items is.0) r3 f e))
 
-pub functions_fault : (bytes : List ℕ) (h : Header) (r1 ct r2 r3 tt r4 : List ℕ) (f : Option ImageFault) → IsHeader bytes h r1 → AreClasses bytes h ct r1 r2 → AreInts h r2 r3 → AreTexts bytes h tt r3 r4 → IsFaultOrMemory f (numbered h.functions (function_at h.version h.classes) r4) → IsFaultOrMemory f (module_at bytes)
+pub functions_fault : (bytes : List ℕ) (h : Header) (r1 ct r2 r3 tt r4 : List ℕ) (f : Option ImageFault) → IsHeader bytes h r1
+    → AreClasses bytes h ct r1 r2 → AreInts h r2 r3 → AreTexts bytes h tt r3 r4
+    → IsFaultOrMemory f (numbered h.functions (function_at h.version h.classes) r4) → IsFaultOrMemory f (module_at bytes)
 functions_fault bytes h r1 ct r2 r3 ts_table r4 f head cs is ts e =
-    fault_of_parts bytes f (rw (at_header bytes h r1 head ∙ at_classes bytes h ct r1 r2 cs ∙ at_ints h cs.items r2 r3 is ∙ at_texts bytes h cs.items is.0 ts_table r3 r4 ts)
+    fault_of_parts bytes f (rw (at_header bytes h r1 head ∙ at_classes bytes h ct r1 r2 cs ∙ at_ints h cs.items r2 r3 is
+    ∙ at_texts bytes h cs.items is.0 ts_table r3 r4 ts)
     (early (numbered h.functions (function_at h.version h.classes)) (λ functions. done (module_of h cs.items is.0 ts.items functions)) r4 f e))
 
 -- ---- all of the steps
@@ -121,7 +147,8 @@ pub record Steps (bytes : List ℕ) (h : KeptHeader) (r1 ct r2 r3 tt r4 ft r5 : 
 abbrev pub made : (bytes : List ℕ) (h : KeptHeader) (r1 ct r2 r3 tt r4 ft r5 : List ℕ) → Steps bytes h r1 ct r2 r3 tt r4 ft r5 → Module
 made bytes h r1 ct r2 r3 tt r4 ft r5 s = module_of (seen h) s.classes.items s.ints.0 s.texts.items s.functions.items
 
-parts_are : (bytes : List ℕ) (h : KeptHeader) (r1 ct r2 r3 tt r4 ft r5 : List ℕ) → (s : Steps bytes h r1 ct r2 r3 tt r4 ft r5) → parts_at bytes ≡ Ok (made bytes h r1 ct r2 r3 tt r4 ft r5 s, r5)
+parts_are : (bytes : List ℕ) (h : KeptHeader) (r1 ct r2 r3 tt r4 ft r5 : List ℕ) → (s : Steps bytes h r1 ct r2 r3 tt r4 ft r5)
+    → parts_at bytes ≡ Ok (made bytes h r1 ct r2 r3 tt r4 ft r5 s, r5)
 parts_are bytes h r1 ct r2 r3 ts_table r4 ft r5 s =
     at_header bytes (seen h) r1 s.header
     ∙ at_classes bytes (seen h) ct r1 r2 s.classes
@@ -137,18 +164,22 @@ none_left : (m : Module) (rest : List ℕ) → length rest ≡ 0 → entered (en
 none_left m [] h = refl
 none_left m (b ∷ rest) h = absurd (omega arith)
 
-pub trailing : (bytes : List ℕ) (h : KeptHeader) (r1 ct r2 r3 tt r4 ft r5 : List ℕ) → (s : Steps bytes h r1 ct r2 r3 tt r4 ft r5) → length r5 ≢ 0 → module_at bytes ≡ Err Trailing
+pub trailing : (bytes : List ℕ) (h : KeptHeader) (r1 ct r2 r3 tt r4 ft r5 : List ℕ) → (s : Steps bytes h r1 ct r2 r3 tt r4 ft r5) → length r5 ≢ 0
+    → module_at bytes ≡ Err Trailing
 unfolding module_at all_of
 trailing bytes h r1 ct r2 r3 ts_table r4 ft r5 s more = rw (parts_are bytes h r1 ct r2 r3 ts_table r4 ft r5 s) (more_left _ r5 more)
 
-entered_by : (bytes : List ℕ) (h : KeptHeader) (r1 ct r2 r3 tt r4 ft r5 : List ℕ) → (s : Steps bytes h r1 ct r2 r3 tt r4 ft r5) → length r5 ≡ 0 → module_at bytes ≡ entered (Ok (made bytes h r1 ct r2 r3 tt r4 ft r5 s))
+entered_by : (bytes : List ℕ) (h : KeptHeader) (r1 ct r2 r3 tt r4 ft r5 : List ℕ) → (s : Steps bytes h r1 ct r2 r3 tt r4 ft r5) → length r5 ≡ 0
+    → module_at bytes ≡ entered (Ok (made bytes h r1 ct r2 r3 tt r4 ft r5 s))
 unfolding module_at all_of
 entered_by bytes h r1 ct r2 r3 ts_table r4 ft r5 s end = rw (parts_are bytes h r1 ct r2 r3 ts_table r4 ft r5 s) (none_left _ r5 end)
 
-pub no_entry : (bytes : List ℕ) (h : KeptHeader) (r1 ct r2 r3 tt r4 ft r5 : List ℕ) → (s : Steps bytes h r1 ct r2 r3 tt r4 ft r5) → length r5 ≡ 0 → is_entry (slice_get s.functions.items h.entry) ≡ false → module_at bytes ≡ Err Entry
+pub no_entry : (bytes : List ℕ) (h : KeptHeader) (r1 ct r2 r3 tt r4 ft r5 : List ℕ) → (s : Steps bytes h r1 ct r2 r3 tt r4 ft r5) → length r5 ≡ 0
+    → is_entry (slice_get s.functions.items h.entry) ≡ false → module_at bytes ≡ Err Entry
 no_entry bytes h r1 ct r2 r3 ts_table r4 ft r5 s end e = entered_by bytes h r1 ct r2 r3 ts_table r4 ft r5 s end ∙ rw e refl
 
-pub read_is : (bytes : List ℕ) (h : KeptHeader) (r1 ct r2 r3 tt r4 ft r5 : List ℕ) → (s : Steps bytes h r1 ct r2 r3 tt r4 ft r5) → length r5 ≡ 0 → is_entry (slice_get s.functions.items h.entry) ≡ true → module_at bytes ≡ Ok (made bytes h r1 ct r2 r3 tt r4 ft r5 s)
+pub read_is : (bytes : List ℕ) (h : KeptHeader) (r1 ct r2 r3 tt r4 ft r5 : List ℕ) → (s : Steps bytes h r1 ct r2 r3 tt r4 ft r5) → length r5 ≡ 0
+    → is_entry (slice_get s.functions.items h.entry) ≡ true → module_at bytes ≡ Ok (made bytes h r1 ct r2 r3 tt r4 ft r5 s)
 read_is bytes h r1 ct r2 r3 ts_table r4 ft r5 s end e = entered_by bytes h r1 ct r2 r3 ts_table r4 ft r5 s end ∙ rw e refl
 
 -- ---- the view
@@ -160,10 +191,12 @@ pub module_in_is : (bytes : List ℕ) (m : Module) → module_at bytes ≡ Ok m 
 unfolding module_in
 module_in_is bytes m e = rw e refl
 
-lengths : (h : Header) (classes : List (List Kind)) (ints : List ℤ) (texts : List (List ℕ)) (functions : List Function) → length classes ≡ h.classes → length ints ≡ h.ints → length texts ≡ h.texts → length functions ≡ h.functions → header_of (module_of h classes ints texts functions) ≡ h
+lengths : (h : Header) (classes : List (List Kind)) (ints : List ℤ) (texts : List (List ℕ)) (functions : List Function) → length classes ≡ h.classes
+    → length ints ≡ h.ints → length texts ≡ h.texts → length functions ≡ h.functions → header_of (module_of h classes ints texts functions) ≡ h
 lengths h classes ints texts functions c i t f = rw (c, i, t, f) refl
 
-many_length : {S A : Type 0} (item : S → Reader ImageFault A) (after : S → A → S) (n : ℕ) (s : S) (bytes : List ℕ) (xs : List A) (rest : List ℕ) → many item after n s bytes ≡ Ok (xs, rest) → length xs ≡ n
+many_length : {S A : Type 0} (item : S → Reader ImageFault A) (after : S → A → S) (n : ℕ) (s : S) (bytes : List ℕ) (xs : List A) (rest : List ℕ)
+    → many item after n s bytes ≡ Ok (xs, rest) → length xs ≡ n
 unfolding many done
 many_length item after zero s bytes xs rest e = ap length (sym (same {E = ImageFault} [] xs bytes rest e).0)
 many_length item after (suc n) s bytes xs rest e =
@@ -172,13 +205,15 @@ many_length item after (suc n) s bytes xs rest e =
     let is = same {E = ImageFault} (one.value ∷ two.value) xs two.middle rest two.second in
     ap length (sym is.0) ∙ ap suc (many_length item after n (after s one.value) one.middle two.value two.middle two.first)
 
-header_is : (bytes : List ℕ) (h : KeptHeader) (r1 ct r2 r3 tt r4 ft r5 : List ℕ) → (s : Steps bytes h r1 ct r2 r3 tt r4 ft r5) → header_of (made bytes h r1 ct r2 r3 tt r4 ft r5 s) ≡ seen h
+header_is : (bytes : List ℕ) (h : KeptHeader) (r1 ct r2 r3 tt r4 ft r5 : List ℕ) → (s : Steps bytes h r1 ct r2 r3 tt r4 ft r5)
+    → header_of (made bytes h r1 ct r2 r3 tt r4 ft r5 s) ≡ seen h
 header_is bytes h r1 ct r2 r3 ts_table r4 ft r5 s =
     lengths (seen h) s.classes.items s.ints.0 s.texts.items s.functions.items
     (many_length _ _ h.classes 0 r1 s.classes.items r2 s.classes.reads) (many_length _ _ h.ints 0 r2 s.ints.0 r3 s.ints.1)
     (many_length _ _ h.texts 0 r3 s.texts.items r4 s.texts.reads) (many_length _ _ h.functions 0 r4 s.functions.items r5 s.functions.reads)
 
-pub is_view : (bytes : List ℕ) (h : KeptHeader) (r1 ct r2 r3 tt r4 ft r5 : List ℕ) → (s : Steps bytes h r1 ct r2 r3 tt r4 ft r5) → module_at bytes ≡ Ok (made bytes h r1 ct r2 r3 tt r4 ft r5 s) → IsView bytes h (length bytes - length r2) ct tt ft
+pub is_view : (bytes : List ℕ) (h : KeptHeader) (r1 ct r2 r3 tt r4 ft r5 : List ℕ) → (s : Steps bytes h r1 ct r2 r3 tt r4 ft r5)
+    → module_at bytes ≡ Ok (made bytes h r1 ct r2 r3 tt r4 ft r5 s) → IsView bytes h (length bytes - length r2) ct tt ft
 is_view bytes h r1 ct r2 r3 ts_table r4 ft r5 s e =
     let m : Module = made bytes h r1 ct r2 r3 ts_table r4 ft r5 s in
     let is : module_in bytes ≡ m = module_in_is bytes m e in
@@ -188,7 +223,8 @@ is_view bytes h r1 ct r2 r3 ts_table r4 ft r5 s e =
       fits = subst FitsImage (sym is) law.0;
       spelled = law.1 ∙ ap spelling (sym is);
       header_is = ap header_of is ∙ header_is bytes h r1 ct r2 r3 ts_table r4 ft r5 s;
-      ints_at = subst (λ (n : Module). StandsAt bytes (length bytes - length r2) (flat_map int_bytes n.ints)) (sym is) (place_is bytes r2 (flat_map int_bytes s.ints.0) r3 s.classes.ends (ints_take (seen h) r2 s.ints.0 r3 b2 s.ints.1).0);
+      ints_at = subst (λ (n : Module). StandsAt bytes (length bytes - length r2) (flat_map int_bytes n.ints)) (sym is)
+          (place_is bytes r2 (flat_map int_bytes s.ints.0) r3 s.classes.ends (ints_take (seen h) r2 s.ints.0 r3 b2 s.ints.1).0);
       classes_at = subst (λ (n : Module). AreAt class_bytes bytes ct n.classes) (sym is) s.classes.places;
       texts_at = subst (λ (n : Module). AreAt text_bytes bytes ts_table n.texts) (sym is) s.texts.places;
       functions_at = subst (λ (n : Module). AreAt function_bytes bytes ft n.functions) (sym is) s.functions.places;
@@ -199,9 +235,11 @@ is_in bytes m e = e ∙ ap (λ (n : Module). read_module n) (sym (module_in_is b
 
 -- ---- the clauses of reading
 
-pub found : (bytes : List ℕ) (r : Result Module RustFault) → IsBytes bytes → Gives (λ v. v) r (module_at bytes) → IfOk r (λ m. FitsImage m × (bytes ≡ spelling m))
+pub found : (bytes : List ℕ) (r : Result Module RustFault) → IsBytes bytes → Gives (λ v. v) r (module_at bytes)
+    → IfOk r (λ m. FitsImage m × (bytes ≡ spelling m))
 found bytes (Ok m) b e = module_takes bytes m b e
 found bytes (Err f) b e = tt
 
-pub only : (bytes : List ℕ) (r : Result Module RustFault) (m : Module) → Gives (λ v. v) r (module_at bytes) → FitsImage m → bytes ≡ spelling m → Gives (λ v. v) r (read_module m)
+pub only : (bytes : List ℕ) (r : Result Module RustFault) (m : Module) → Gives (λ v. v) r (module_at bytes) → FitsImage m → bytes ≡ spelling m
+    → Gives (λ v. v) r (read_module m)
 only bytes r m e fits is = subst (λ (o : Result Module ImageFault). Gives (λ v. v) r o) (ap module_at is ∙ module_again m fits) e

@@ -19,11 +19,17 @@ pub record Signature : Type 0 where
   pub result : Option Slot
 
 abbrev pub signature_of : Function → Signature
-signature_of f = record { parameters = f.parameters; registers = f.registers; loops = f.loops; result = f.result }
+signature_of f = record {
+  parameters = f.parameters;
+  registers = f.registers;
+  loops = f.loops;
+  result = f.result;
+}
 
 -- the bytes that a function begins with: how many parameters, registers and loop slots, a zero, the parameters, the result
 unfoldable pub signature_bytes : Signature → List ℕ
-signature_bytes s = (length s.parameters ∷ s.registers ∷ s.loops ∷ 0 ∷ []) ++ (flat_map slot_bytes s.parameters ++ result_bytes s.result)
+signature_bytes s = (length s.parameters ∷ s.registers ∷ s.loops ∷ 0 ∷ [])
+    ++ (flat_map slot_bytes s.parameters ++ result_bytes s.result)
 
 -- what holds of each function's signature, in a module with so many classes
 pub record FitsSignature (classes : ℕ) (s : Signature) : Type 0 where
@@ -103,17 +109,21 @@ kind_with (suc (suc (suc (suc (suc (suc (suc tag))))))) class = kind.GRef class
 
 -- the kinds that their bytes spell
 unfoldable pub kinds_in : List ℕ → List Kind
-kinds_in (tag ∷ high ∷ low ∷ rest) = kind_with tag (from_be_bytes w16 (high ∷ low ∷ [])) ∷ kinds_in rest
+kinds_in (tag ∷ high ∷ low ∷ rest) = kind_with tag (from_be_bytes w16 (high ∷ low ∷ []))
+    ∷ kinds_in rest
 kinds_in _ = []
 
 -- the slots that their bytes spell
 unfoldable pub slots_in : List ℕ → List Slot
-slots_in (tag ∷ high ∷ low ∷ flag ∷ rest) = record { kind = kind_with tag (from_be_bytes w16 (high ∷ low ∷ [])); home_here = flag == 1 } ∷ slots_in rest
+slots_in (tag ∷ high ∷ low ∷ flag ∷ rest) =
+    record { kind = kind_with tag (from_be_bytes w16 (high ∷ low ∷ [])); home_here = flag == 1 }
+    ∷ slots_in rest
 slots_in _ = []
 
 -- the slot that the four bytes from a place on spell
 abbrev pub slot_at : List ℕ → ℕ → Slot
 slot_at bytes at = record {
-  kind = kind_with (slice_index bytes at) (from_be_bytes w16 (slice_index bytes (at + 1) ∷ slice_index bytes (at + 2) ∷ []));
+  kind = kind_with (slice_index bytes at)
+      (from_be_bytes w16 (slice_index bytes (at + 1) ∷ slice_index bytes (at + 2) ∷ []));
   home_here = slice_index bytes (at + 3) == 1;
 }

@@ -11,14 +11,23 @@ use Rattle.x10_image.specs.Headers.{seen}
 
 abbrev pub read_or_empty : Result Module ImageFault → Module
 read_or_empty (Ok m) = m
-read_or_empty (Err fault) = record { version = One; least_places = 0; classes = []; ints = []; texts = []; functions = []; entry = 0 }
+read_or_empty (Err fault) = record {
+  version = One;
+  least_places = 0;
+  classes = [];
+  ints = [];
+  texts = [];
+  functions = [];
+  entry = 0;
+}
 
 -- the module that the bytes decode to
 unfoldable pub module_in : List ℕ → Module
 module_in bytes = read_or_empty (module_at bytes)
 
 -- the bytes are a module's image, and the tables say where its parts begin
-pub record IsView (bytes : List ℕ) (header : Header) (ints : ℕ) (classes texts functions : List ℕ) : Type 0 where
+pub record IsView (bytes : List ℕ) (header : Header) (ints : ℕ)
+    (classes texts functions : List ℕ) : Type 0 where
   pub fits : FitsImage (module_in bytes)
   pub spelled : bytes ≡ spelling (module_in bytes)
   pub header_is : header_of (module_in bytes) ≡ seen header

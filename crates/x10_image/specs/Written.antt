@@ -4,7 +4,7 @@ use Rattle.std.specs.List.{list_all}
 use Rattle.std.specs.String.{string_bytes}
 use Rattle.std.specs.Str.{is_utf8}
 use Rattle.x10_model.specs.declared.limits.TheConstants.{MOST_FIELDS, MOST_FUNCTIONS, MOST_INSTRUCTIONS, MOST_LOOPS, MOST_PARAMETERS, MOST_PLACES}
-use Rattle.x10_model.specs.declared.limits.TheConstants.{MOST_REGISTERS}
+use Rattle.x10_model.specs.declared.limits.TheConstants.{MOST_BYTES, MOST_ENTRIES, MOST_REGISTERS}
 use Rattle.x10_kinds.specs.declared.kind.Kind.{Kind}
 use Rattle.x10_kinds.specs.declared.kind.Kind.TheVariants as kind
 use Rattle.x10_code.specs.declared.instr.Instr.{Instr}
@@ -21,7 +21,13 @@ use Rattle.x10_image.specs.declared.module.Module.{Module}
 use Rattle.x10_image.specs.declared.module.Function.{Function}
 
 abbrev pub function_shown : Function → model.Function
-function_shown f = record { parameters = f.parameters.items; registers = f.registers; loops = f.loops; result = f.result; code = f.code.items }
+function_shown f = record {
+  parameters = f.parameters.items;
+  registers = f.registers;
+  loops = f.loops;
+  result = f.result;
+  code = f.code.items;
+}
 
 -- the module that is to be written
 abbrev pub shown : Module → model.Module
@@ -52,13 +58,14 @@ result_fits classes (Some s) = slot_fits classes s
 
 -- eight bytes spell the instruction
 abbrev pub is_spelled : Instr → Bool
-is_spelled i = nat_lt i.a 256 && nat_lt i.b 256 && nat_lt i.c 256 && nat_lt i.x (2 ^ 32) && fits_form i
+is_spelled i = nat_lt i.a 256 && nat_lt i.b 256 && nat_lt i.c 256 && nat_lt i.x
+    (2 ^ 32) && fits_form i
 
 abbrev pub instr_fits : ImageVersion → Instr → Bool
 instr_fits version i = is_spelled i && is_known version i.op
 
 abbrev pub text_fits : List ℕ → Bool
-text_fits text = nat_lt (length text) (2 ^ 16) && is_utf8 text
+text_fits text = nat_le (length text) MOST_BYTES && is_utf8 text
 
 -- how many registers, loop slots and parameters a function has is in range
 abbrev pub signature_fits : model.Function → Bool
@@ -75,9 +82,9 @@ counts_of_function f = signature_fits f && is_within 1 MOST_INSTRUCTIONS (length
 abbrev pub tables_fit : Module → Bool
 tables_fit m =
     is_within 1 MOST_PLACES m.least_places
-    && nat_lt (length m.classes.items) (2 ^ 16)
-    && nat_lt (length m.ints.items) (2 ^ 16)
-    && nat_lt (length m.texts.items) (2 ^ 16)
+    && nat_le (length m.classes.items) MOST_ENTRIES
+    && nat_le (length m.ints.items) MOST_ENTRIES
+    && nat_le (length m.texts.items) MOST_ENTRIES
     && is_within 1 MOST_FUNCTIONS (length m.functions.items)
 
 -- those of the classes, texts and functions are
@@ -88,13 +95,15 @@ items_fit m =
     && list_all (λ f. counts_of_function (function_shown f)) m.functions.items
 
 abbrev pub kinds_of_function : ℕ → model.Function → Bool
-kinds_of_function classes f = list_all (slot_fits classes) f.parameters && result_fits classes f.result
+kinds_of_function classes f = list_all (slot_fits classes) f.parameters && result_fits classes
+    f.result
 
 -- every kind names a class that is there, and only a global reference is said to have its home here
 abbrev pub kinds_fit : Module → Bool
 kinds_fit m =
     list_all (λ c. list_all (names_below (length m.classes.items)) c.items) m.classes.items
-    && list_all (λ f. kinds_of_function (length m.classes.items) (function_shown f)) m.functions.items
+    && list_all (λ f. kinds_of_function (length m.classes.items) (function_shown f))
+    m.functions.items
 
 -- every instruction is one that an image of the module's version may have
 abbrev pub code_fits : Module → Bool
@@ -107,7 +116,8 @@ entry_fits m = is_entry (slice_get (map function_shown m.functions.items) m.entr
 abbrev pub Hinders : ImageFault → Module → Type 0
 Hinders fault.Count m = (tables_fit m && items_fit m) ≡ false
 Hinders fault.Kind m = kinds_fit m ≡ false
-Hinders (fault.Code function pc) m = (i : Instr) × (instr_at (shown m) function pc ≡ Some i) × (instr_fits m.version i ≡ false)
+Hinders (fault.Code function pc) m = (i : Instr) × (instr_at (shown m) function pc ≡ Some i)
+    × (instr_fits m.version i ≡ false)
 Hinders fault.Entry m = entry_fits m ≡ false
 Hinders fault.Memory m = ⊥
 Hinders fault.Short m = ⊥
@@ -118,7 +128,7 @@ Hinders fault.Trailing m = ⊥
 Hinders fault.Reserved m = ⊥
 
 -- nothing hinders an image
-pub record Passes (m : Module) : Type 0 where
+pub record NothingHinders (m : Module) : Type 0 where
   pub tables : tables_fit m ≡ true
   pub items : items_fit m ≡ true
   pub kinds : kinds_fit m ≡ true

@@ -41,7 +41,8 @@ pub fn known_kind(tag: u8, class: u16) -> Kind
 /// The kind that the three bytes from `at` on spell.
 pub fn kind_in(bytes: &[u8], at: usize) -> Kind
     requires { at + 2 < length bytes.now }
-    ensures { result ≡ kind_with (slice_index bytes.now at) (from_be_bytes w16 (slice_index bytes.now (at + 1) ∷ slice_index bytes.now (at + 2) ∷ [])) }
+    ensures { result ≡ kind_with (slice_index bytes.now at)
+        (from_be_bytes w16 (slice_index bytes.now (at + 1) ∷ slice_index bytes.now (at + 2) ∷ [])) }
 {
     known_kind(
         bytes[at],

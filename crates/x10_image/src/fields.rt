@@ -2,6 +2,7 @@
 
 ghost use Rattle.std.specs.Int.{w16};
 ghost use Rattle.std.specs.Prelude.{nat_le, ◌&&◌};
+ghost use Rattle.x10_model.specs.declared.limits.TheConstants.{MOST_REGISTERS};
 ghost use Rattle.x10_model.specs.Readers.{byte, number, such_that, expect};
 ghost use Rattle.x10_model.specs.ReadingImages.{Short, Count, Reserved, is_within};
 ghost use Rattle.x10_model.specs.ReadingImages as reading;
@@ -26,7 +27,8 @@ impl ReadFault for ImageFault {
 /// One byte, at most `most`, and the bytes after it.
 #[tactic(auto, unfolding(x10_model::specs::Readers::such_that, x10_model::specs::Readers::bind, x10_model::specs::Readers::check, x10_model::specs::Readers::done))]
 pub fn byte_at_most(bytes: &[u8], most: u8) -> Result<(u8, &[u8]), ImageFault>
-    ensures exact { Answers (λ x. (x.0, x.1.now)) result (such_that (byte Short) (is_within 0 most) Count bytes.now) }
+    ensures exact { Answers (λ x. (x.0, x.1.now)) result
+        (such_that (byte Short) (is_within 0 most) Count bytes.now) }
 {
     let (number, bytes) = byte_at::<ImageFault>(bytes)?;
     if number > most {
@@ -38,7 +40,9 @@ pub fn byte_at_most(bytes: &[u8], most: u8) -> Result<(u8, &[u8]), ImageFault>
 /// A function's number of registers, at least that of its parameters, and the bytes after it.
 #[tactic(auto, unfolding(x10_model::specs::Readers::such_that, x10_model::specs::Readers::bind, x10_model::specs::Readers::check, x10_model::specs::Readers::done))]
 pub fn registers_at(bytes: &[u8], parameters: u8) -> Result<(u8, &[u8]), ImageFault>
-    ensures exact { Answers (λ x. (x.0, x.1.now)) result (such_that (byte Short) (λ n. is_within 1 64 n && nat_le parameters n) Count bytes.now) }
+    ensures exact { Answers (λ x. (x.0, x.1.now)) result
+        (such_that (byte Short)
+        (λ n. is_within 1 MOST_REGISTERS n && nat_le parameters n) Count bytes.now) }
 {
     let (registers, bytes) = byte_at::<ImageFault>(bytes)?;
     if !(1..=MOST_REGISTERS).contains(&registers) || registers < parameters {
@@ -50,7 +54,8 @@ pub fn registers_at(bytes: &[u8], parameters: u8) -> Result<(u8, &[u8]), ImageFa
 /// A number of two bytes from `least` to `most`, and the bytes after it.
 #[tactic(auto, unfolding(x10_model::specs::Readers::such_that, x10_model::specs::Readers::bind, x10_model::specs::Readers::check, x10_model::specs::Readers::done))]
 pub fn u16_within(bytes: &[u8], least: u16, most: u16) -> Result<(u16, &[u8]), ImageFault>
-    ensures exact { Answers (λ x. (x.0, x.1.now)) result (such_that (number w16 Short) (is_within least most) Count bytes.now) }
+    ensures exact { Answers (λ x. (x.0, x.1.now)) result
+        (such_that (number w16 Short) (is_within least most) Count bytes.now) }
 {
     let (number, bytes) = u16_at::<ImageFault>(bytes)?;
     if number < least || number > most {
@@ -74,7 +79,8 @@ pub fn after_zero_byte(bytes: &[u8]) -> Result<&[u8], ImageFault>
 /// The bytes after a reserved number of two bytes, which is 0.
 #[tactic(auto, unfolding(x10_model::specs::Readers::expect, x10_model::specs::Readers::bind, x10_model::specs::Readers::check))]
 pub fn after_zero_u16(bytes: &[u8]) -> Result<&[u8], ImageFault>
-    ensures exact { Answers (λ x. (tt, x.now)) result (expect (number w16 Short) 0 Reserved bytes.now) }
+    ensures exact { Answers (λ x. (tt, x.now)) result
+        (expect (number w16 Short) 0 Reserved bytes.now) }
 {
     let (reserved, bytes) = u16_at::<ImageFault>(bytes)?;
     if reserved != 0 {

@@ -7,7 +7,7 @@ ghost use Rattle.x10_code.specs.declared.instr.Instr.{Instr};
 ghost use Rattle.std.specs.String.{string_bytes};
 ghost use Rattle.x10_model.specs.ReadingImages.{is_within, is_entry};
 ghost use Rattle.x10_image.specs.Written as written;
-ghost use Rattle.x10_image.specs.Written.{function_shown, Passes, Hinders};
+ghost use Rattle.x10_image.specs.Written.{function_shown, NothingHinders, Hinders};
 
 use crate::fault::ImageFault;
 use crate::known::is_known;
@@ -15,8 +15,8 @@ use crate::module::{Function, Module};
 use x10_code::{Instr, has_spelling};
 use x10_kinds::Kind;
 use x10_model::limits::{
-    MOST_FIELDS, MOST_FUNCTIONS, MOST_INSTRUCTIONS, MOST_LOOPS, MOST_PARAMETERS, MOST_PLACES,
-    MOST_REGISTERS,
+    MOST_BYTES, MOST_ENTRIES, MOST_FIELDS, MOST_FUNCTIONS, MOST_INSTRUCTIONS, MOST_LOOPS,
+    MOST_PARAMETERS, MOST_PLACES, MOST_REGISTERS,
 };
 use x10_model::{ImageVersion, Slot};
 
@@ -69,7 +69,8 @@ fn classes_fit(count: usize, classes: &[Vec<Kind>]) -> bool
 }
 
 fn signatures_fit(classes: usize, functions: &[Function]) -> bool
-    ensures { result ≡ list_all (λ f. written.kinds_of_function classes (function_shown f)) functions.now }
+    ensures { result ≡ list_all (λ f. written.kinds_of_function classes (function_shown f))
+        functions.now }
 {
     functions
         .iter()
@@ -87,7 +88,7 @@ fn kinds_fit(source: &Module) -> bool
 fn text_fits(text: &str) -> bool
     ensures { result ≡ written.text_fits text.now }
 {
-    text.len() < 65_536
+    text.len() <= usize::from(MOST_BYTES)
 }
 
 /// Whether a function has as many registers, loop slots and parameters as a function may have.
@@ -134,9 +135,9 @@ fn tables_fit(source: &Module) -> bool
     ensures { result ≡ written.tables_fit source.now }
 {
     (1..=MOST_PLACES).contains(&source.least_places)
-        && source.classes.len() < 65_536
-        && source.ints.len() < 65_536
-        && source.texts.len() < 65_536
+        && source.classes.len() <= usize::from(MOST_ENTRIES)
+        && source.ints.len() <= usize::from(MOST_ENTRIES)
+        && source.texts.len() <= usize::from(MOST_ENTRIES)
         && (1..=usize::from(MOST_FUNCTIONS)).contains(&source.functions.len())
 }
 
@@ -169,7 +170,8 @@ fn entry_fits(functions: &[Function], entry: u16) -> bool
 /// The first instruction that an image of the version can't have.
 fn bad_instr(version: ImageVersion, code: &[Instr]) -> Option<usize>
     ensures { MatchOption result (list_all (written.instr_fits version) code.now ≡ true)
-        (λ pc. (pc < length code.now) × (i : Instr) × (slice_get code.now pc ≡ Some i) × (written.instr_fits version i ≡ false)) }
+        (λ pc. (pc < length code.now) × (i : Instr) × (slice_get code.now pc ≡ Some i)
+        × (written.instr_fits version i ≡ false)) }
 {
     for (pc, instr) in code.iter().enumerate() {
         if !instr_fits(version, *instr) {
@@ -181,8 +183,11 @@ fn bad_instr(version: ImageVersion, code: &[Instr]) -> Option<usize>
 
 /// The first function with such an instruction, and the instruction's number there.
 fn bad_function(version: ImageVersion, functions: &[Function]) -> Option<(usize, usize)>
-    ensures { MatchOption result (list_all (λ f. list_all (written.instr_fits version) f.code.items) functions.now ≡ true)
-        (λ at. (at.0 < length functions.now) × (f : Function) × (slice_get functions.now at.0 ≡ Some f) × (at.1 < length f.code.items) × (i : Instr) × (slice_get f.code.items at.1 ≡ Some i) × (written.instr_fits version i ≡ false)) }
+    ensures { MatchOption result (list_all (λ f.
+        list_all (written.instr_fits version) f.code.items) functions.now ≡ true)
+        (λ at. (at.0 < length functions.now) × (f : Function)
+        × (slice_get functions.now at.0 ≡ Some f) × (at.1 < length f.code.items) × (i : Instr)
+        × (slice_get f.code.items at.1 ≡ Some i) × (written.instr_fits version i ≡ false)) }
 {
     for (number, function) in functions.iter().enumerate() {
         if let Some(pc) = bad_instr(version, &function.code) {
@@ -194,7 +199,7 @@ fn bad_function(version: ImageVersion, functions: &[Function]) -> Option<(usize,
 
 /// Whether a module has an image, or the first of Count, Kind, Code and Entry that prevents it.
 pub fn check(source: &Module) -> Result<(), ImageFault>
-    ensures passes { OnOk result (Passes source.now) }
+    ensures passes { OnOk result (NothingHinders source.now) }
     ensures fault { IfErr result (λ e. Hinders e source.now) }
 {
     if !tables_fit(source) || !items_fit(source) {

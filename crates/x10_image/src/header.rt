@@ -6,10 +6,11 @@ ghost use Rattle.x10_model.specs.Images.{magic};
 ghost use Rattle.x10_model.specs.Images as images;
 ghost use Rattle.x10_model.specs.Readers.{number, expect};
 ghost use Rattle.x10_model.specs.ReadingImages.{Short, Magic, version_at, header_at};
-ghost use Rattle.x10_image.specs.Faults.{Answers};
+ghost use Rattle.x10_image.specs.Faults.{Answers, AnswersBy};
 ghost use Rattle.x10_image.specs.Headers.{seen};
 
 use crate::fault::ImageFault;
+use crate::field::{Field, Meaning, read};
 use crate::fields::{after_zero_u16, u16_within};
 use x10_bytes::{has, u16_at, u32_at};
 use x10_model::ImageVersion;
@@ -31,7 +32,8 @@ pub struct Header {
 
 #[tactic(auto, unfolding(x10_model::specs::Readers::expect, x10_model::specs::Readers::bind, x10_model::specs::Readers::check))]
 fn after_magic(bytes: &[u8]) -> Result<&[u8], ImageFault>
-    ensures exact { Answers (λ x. (tt, x.now)) result (expect (number w32 Short) magic Magic bytes.now) }
+    ensures exact { Answers (λ x. (tt, x.now)) result
+        (expect (number w32 Short) magic Magic bytes.now) }
 {
     let (found, bytes) = u32_at::<ImageFault>(bytes)?;
     if found != MAGIC {
@@ -65,19 +67,21 @@ pub fn version_at(bytes: &[u8]) -> Result<(ImageVersion, &[u8]), ImageFault>
 
 /// The header, and the bytes after it.
 #[tactic(auto, unfolding(x10_model::specs::ReadingImages::header_at, x10_model::specs::Readers::bind, x10_model::specs::Readers::done))]
-pub fn read_header(bytes: &[u8]) -> Result<(Header, &[u8]), ImageFault>
-    ensures exact { Answers (λ x. (seen x.0, x.1.now)) result (header_at bytes.now) }
+pub fn read_header(bytes: &[u8]) -> Result<(Header, &[u8]), Field<'_>>
+    ensures exact { AnswersBy (λ f. f.fault) (λ x. (seen x.0, x.1.now)) result
+        (header_at bytes.now) }
 {
-    has::<ImageFault>(bytes, 20)?;
-    let bytes = after_magic(bytes)?;
-    let (version, bytes) = version_at(bytes)?;
-    let (least_places, bytes) = u16_within(bytes, 1, MOST_PLACES)?;
-    let (classes, bytes) = u16_at::<ImageFault>(bytes)?;
-    let (ints, bytes) = u16_at::<ImageFault>(bytes)?;
-    let (texts, bytes) = u16_at::<ImageFault>(bytes)?;
-    let (functions, bytes) = u16_within(bytes, 1, MOST_FUNCTIONS)?;
-    let (entry, bytes) = u16_at::<ImageFault>(bytes)?;
-    let bytes = after_zero_u16(bytes)?;
+    read!(Meaning::Header, 20, bytes, has(bytes, 20));
+    let bytes = read!(Meaning::Magic, 4, bytes, after_magic(bytes));
+    let (version, bytes) = read!(Meaning::Version, 2, bytes, version_at(bytes));
+    let (least_places, bytes) = read!(Meaning::Places, 2, bytes, u16_within(bytes, 1, MOST_PLACES));
+    let (classes, bytes) = read!(Meaning::Header, 2, bytes, u16_at(bytes));
+    let (ints, bytes) = read!(Meaning::Header, 2, bytes, u16_at(bytes));
+    let (texts, bytes) = read!(Meaning::Header, 2, bytes, u16_at(bytes));
+    let most = MOST_FUNCTIONS;
+    let (functions, bytes) = read!(Meaning::Functions, 2, bytes, u16_within(bytes, 1, most));
+    let (entry, bytes) = read!(Meaning::Header, 2, bytes, u16_at(bytes));
+    let bytes = read!(Meaning::Zero, 2, bytes, after_zero_u16(bytes));
     let header = Header {
         version,
         least_places,

@@ -10,7 +10,7 @@ ghost use Rattle.x10_image.specs.Faults.{named, IsFault};
 ghost use Rattle.x10_image.specs.Misfits.{IsRefused, IsRefusedIn, HasWholeParts};
 
 use crate::fault::ImageFault;
-use crate::field::{Field, class_field, function_field, header_field, int_field, text_field};
+use crate::field::Field;
 use crate::header::read_header;
 use crate::parts::{past_class, past_function, past_ints, past_text};
 use x10_model::ImageVersion;
@@ -38,26 +38,30 @@ pub struct Misfit<'a> {
     pub fault: ImageFault,
     /// The bytes from the part on.
     pub from: &'a [u8],
-    /// The field of the part that is wrong; nothing where none was found.
+    /// The field of the part that is wrong; nothing for what comes after the last function.
     pub field: Option<Field<'a>>,
 }
 
 /// The bytes after the classes.
 fn past_classes(bytes: &[u8], count: u16) -> Result<&[u8], Misfit<'_>>
-    ensures part { IfErr result (λ m. (version : ImageVersion) → IsRefused version count m.item m.from.now m.fault) }
-    ensures passed { IfOk result (λ rest. (items : List (List Kind)) × (times count (class_at count) bytes.now ≡ Ok (items, rest.now))) }
-    ensures fault { IfErr result (λ m. IsFault (named m.fault) (times count (class_at count) bytes.now)) }
+    ensures part { IfErr result (λ m. (version : ImageVersion)
+        → IsRefused version count m.item m.from.now m.fault) }
+    ensures passed { IfOk result (λ rest. (items : List (List Kind))
+        × (times count (class_at count) bytes.now ≡ Ok (items, rest.now))) }
+    ensures fault { IfErr result (λ m. IsFault (named m.fault)
+        (times count (class_at count) bytes.now)) }
+    ensures field { IfErr result (λ m. IfSome m.field (λ f. f.fault ≡ m.fault)) }
 {
     let mut rest = bytes;
     for class in 0..count {
         match past_class(rest, count) {
             Ok(after) => rest = after,
-            Err(fault) => {
+            Err(field) => {
                 return Err(Misfit {
                     item: Item::Class(class),
-                    fault,
+                    fault: field.fault,
                     from: rest,
-                    field: class_field(rest, count),
+                    field: Some(field),
                 });
             }
         }
@@ -67,37 +71,44 @@ fn past_classes(bytes: &[u8], count: u16) -> Result<&[u8], Misfit<'_>>
 
 /// The bytes after the constant numbers.
 fn past_numbers(bytes: &[u8], count: u16) -> Result<&[u8], Misfit<'_>>
-    ensures part { IfErr result (λ m. (version : ImageVersion) (classes : ℕ) → IsRefused version classes m.item m.from.now m.fault) }
-    ensures passed { IfOk result (λ rest. (items : List ℤ) × (times count (int Short) bytes.now ≡ Ok (items, rest.now))) }
-    ensures fault { IfErr result (λ m. IsFault (named m.fault) (times count (int Short) bytes.now)) }
+    ensures part { IfErr result (λ m. (version : ImageVersion) (classes : ℕ)
+        → IsRefused version classes m.item m.from.now m.fault) }
+    ensures passed { IfOk result (λ rest. (items : List ℤ)
+        × (times count (int Short) bytes.now ≡ Ok (items, rest.now))) }
+    ensures fault { IfErr result (λ m. IsFault (named m.fault)
+        (times count (int Short) bytes.now)) }
+    ensures field { IfErr result (λ m. IfSome m.field (λ f. f.fault ≡ m.fault)) }
 {
     match past_ints(bytes, count) {
         Ok(rest) => Ok(rest),
-        Err(fault) => Err(Misfit {
+        Err(field) => Err(Misfit {
             item: Item::Ints(count),
-            fault,
+            fault: field.fault,
             from: bytes,
-            field: Some(int_field(bytes)),
+            field: Some(field),
         }),
     }
 }
 
 /// The bytes after the texts.
 fn past_texts(bytes: &[u8], count: u16) -> Result<&[u8], Misfit<'_>>
-    ensures part { IfErr result (λ m. (version : ImageVersion) (classes : ℕ) → IsRefused version classes m.item m.from.now m.fault) }
-    ensures passed { IfOk result (λ rest. (items : List (List ℕ)) × (times count text_at bytes.now ≡ Ok (items, rest.now))) }
+    ensures part { IfErr result (λ m. (version : ImageVersion) (classes : ℕ)
+        → IsRefused version classes m.item m.from.now m.fault) }
+    ensures passed { IfOk result (λ rest. (items : List (List ℕ))
+        × (times count text_at bytes.now ≡ Ok (items, rest.now))) }
     ensures fault { IfErr result (λ m. IsFault (named m.fault) (times count text_at bytes.now)) }
+    ensures field { IfErr result (λ m. IfSome m.field (λ f. f.fault ≡ m.fault)) }
 {
     let mut rest = bytes;
     for text in 0..count {
         match past_text(rest) {
             Ok(after) => rest = after,
-            Err(fault) => {
+            Err(field) => {
                 return Err(Misfit {
                     item: Item::Text(text),
-                    fault,
+                    fault: field.fault,
                     from: rest,
-                    field: text_field(rest),
+                    field: Some(field),
                 });
             }
         }
@@ -113,19 +124,22 @@ fn past_functions(
     count: u16,
 ) -> Result<&[u8], Misfit<'_>>
     ensures part { IfErr result (λ m. IsRefused version classes m.item m.from.now m.fault) }
-    ensures passed { IfOk result (λ rest. (items : List model.Function) × (numbered count (function_at version classes) bytes.now ≡ Ok (items, rest.now))) }
-    ensures fault { IfErr result (λ m. IsFault (named m.fault) (numbered count (function_at version classes) bytes.now)) }
+    ensures passed { IfOk result (λ rest. (items : List model.Function)
+        × (numbered count (function_at version classes) bytes.now ≡ Ok (items, rest.now))) }
+    ensures fault { IfErr result (λ m. IsFault (named m.fault)
+        (numbered count (function_at version classes) bytes.now)) }
+    ensures field { IfErr result (λ m. IfSome m.field (λ f. f.fault ≡ m.fault)) }
 {
     let mut rest = bytes;
     for function in 0..count {
         match past_function(rest, version, classes, function) {
             Ok(after) => rest = after,
-            Err(fault) => {
+            Err(field) => {
                 return Err(Misfit {
                     item: Item::Function(function),
-                    fault,
+                    fault: field.fault,
                     from: rest,
-                    field: function_field(rest, version, classes, function),
+                    field: Some(field),
                 });
             }
         }
@@ -138,15 +152,16 @@ fn past_all(bytes: &[u8]) -> Result<(), Misfit<'_>>
     ensures part { IfErr result (λ m. IsRefusedIn bytes.now m.item m.from.now m.fault) }
     ensures whole { IfOk result (λ _. HasWholeParts bytes.now) }
     ensures fault { IfErr result (λ m. IsFault (named m.fault) (module_at bytes.now)) }
+    ensures field { IfErr result (λ m. IfSome m.field (λ f. f.fault ≡ m.fault)) }
 {
     let (header, rest) = match read_header(bytes) {
         Ok(read) => read,
-        Err(fault) => {
+        Err(field) => {
             return Err(Misfit {
                 item: Item::Header,
-                fault,
+                fault: field.fault,
                 from: bytes,
-                field: header_field(bytes),
+                field: Some(field),
             });
         }
     };
@@ -170,7 +185,9 @@ fn past_all(bytes: &[u8]) -> Result<(), Misfit<'_>>
 /// in order, even where the entry is wrong. One pass over the bytes; takes no memory.
 pub fn misfit_in(bytes: &[u8]) -> Option<Misfit<'_>>
     ensures part { IfSome result (λ m. IsRefusedIn bytes.now m.item m.from.now m.fault) }
-    ensures fault { MatchOption result (HasWholeParts bytes.now) (λ m. IsFault (named m.fault) (module_at bytes.now)) }
+    ensures fault { MatchOption result (HasWholeParts bytes.now)
+        (λ m. IsFault (named m.fault) (module_at bytes.now)) }
+    ensures field { IfSome result (λ m. IfSome m.field (λ f. f.fault ≡ m.fault)) }
 {
     past_all(bytes).err()
 }

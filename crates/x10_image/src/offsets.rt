@@ -17,9 +17,12 @@ use x10_model::Slot;
 /// The text at a position: its length in two bytes, and its bytes.
 pub fn text_in(bytes: &[u8], at: usize) -> &str
     requires length { at + 2 ≤ length bytes.now }
-    requires room { at + 2 + from_be_bytes w16 (slice_range bytes.now at (at + 2)) ≤ length bytes.now }
-    requires utf8 { IsUtf8 (slice_range bytes.now (at + 2) (at + 2 + from_be_bytes w16 (slice_range bytes.now at (at + 2)))) }
-    ensures { result.now ≡ slice_range bytes.now (at + 2) (at + 2 + from_be_bytes w16 (slice_range bytes.now at (at + 2))) }
+    requires room { at + 2 + from_be_bytes w16 (slice_range bytes.now at (at + 2))
+        ≤ length bytes.now }
+    requires utf8 { IsUtf8 (slice_range bytes.now (at + 2)
+        (at + 2 + from_be_bytes w16 (slice_range bytes.now at (at + 2)))) }
+    ensures { result.now ≡ slice_range bytes.now (at + 2)
+        (at + 2 + from_be_bytes w16 (slice_range bytes.now at (at + 2))) }
 {
     let count = usize::from(u16_in(bytes, at));
     let text = &bytes[at + 2..at + 2 + count];
@@ -29,7 +32,8 @@ pub fn text_in(bytes: &[u8], at: usize) -> &str
 /// The class at a position: its number of fields in a byte, and their kinds.
 pub fn class_in(bytes: &[u8], at: usize) -> ClassView<'_>
     requires { at + 1 + 3 * slice_index bytes.now at ≤ length bytes.now }
-    ensures { result ≡ kinds_in (slice_range bytes.now (at + 1) (at + 1 + 3 * slice_index bytes.now at)) }
+    ensures { result ≡ kinds_in (slice_range bytes.now (at + 1)
+        (at + 1 + 3 * slice_index bytes.now at)) }
 {
     let count = usize::from(bytes[at]);
     ClassView {
@@ -39,7 +43,8 @@ pub fn class_in(bytes: &[u8], at: usize) -> ClassView<'_>
 
 fn result_in(bytes: &[u8], at: usize) -> Option<Slot>
     requires { at + 4 ≤ length bytes.now }
-    ensures { result ≡ (if slice_index bytes.now at == 0 then None else Some (slot_at bytes.now at)) }
+    ensures { result ≡ (if slice_index bytes.now at == 0 then None else Some
+        (slot_at bytes.now at)) }
 {
     if bytes[at] == 0 {
         return None;
@@ -51,10 +56,12 @@ fn result_in(bytes: &[u8], at: usize) -> Option<Slot>
 pub fn signature_in(bytes: &[u8], at: usize) -> SigView<'_>
     requires { at + 8 + 4 * slice_index bytes.now at ≤ length bytes.now }
     ensures { result ≡ record {
-      parameters = slots_in (slice_range bytes.now (at + 4) (at + 4 + 4 * slice_index bytes.now at));
+      parameters = slots_in (slice_range bytes.now (at + 4)
+          (at + 4 + 4 * slice_index bytes.now at));
       registers = slice_index bytes.now (at + 1);
       loops = slice_index bytes.now (at + 2);
-      result = if slice_index bytes.now (at + 4 + 4 * slice_index bytes.now at) == 0 then None else Some (slot_at bytes.now (at + 4 + 4 * slice_index bytes.now at));
+      result = if slice_index bytes.now (at + 4 + 4 * slice_index bytes.now at) == 0 then None
+          else Some (slot_at bytes.now (at + 4 + 4 * slice_index bytes.now at));
     } }
 {
     let end = at + 4 + 4 * usize::from(bytes[at]);
@@ -77,7 +84,8 @@ pub fn code_place(bytes: &[u8], at: usize) -> usize
 /// How many instructions the function at a position has.
 pub fn code_len_in(bytes: &[u8], at: usize) -> usize
     requires { at + 12 + 4 * slice_index bytes.now at ≤ length bytes.now }
-    ensures { result ≡ from_be_bytes w16 (slice_range bytes.now (at + 8 + 4 * slice_index bytes.now at) (at + 8 + 4 * slice_index bytes.now at + 2)) }
+    ensures { result ≡ from_be_bytes w16 (slice_range bytes.now
+        (at + 8 + 4 * slice_index bytes.now at) (at + 8 + 4 * slice_index bytes.now at + 2)) }
 {
     usize::from(u16_in(bytes, at + 8 + 4 * usize::from(bytes[at])))
 }

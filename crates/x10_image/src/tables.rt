@@ -20,7 +20,8 @@ pub fn class_table<'a>(
     count: u16,
 ) -> Result<(Vec<usize>, &'a [u8]), ImageFault>
     requires { EndsWith image.now bytes.now }
-    ensures exact { GivesTable named class_bytes image.now (λ x. x.0.items) (λ x. x.1.now) result (times count (class_at count) bytes.now) }
+    ensures exact { GivesTable named class_bytes image.now (λ x. x.0.items) (λ x. x.1.now) result
+        (times count (class_at count) bytes.now) }
 {
     let mut table = Vec::new(alloc);
     let mut rest = bytes;
@@ -40,7 +41,8 @@ pub fn text_table<'a>(
     count: u16,
 ) -> Result<(Vec<usize>, &'a [u8]), ImageFault>
     requires { EndsWith image.now bytes.now }
-    ensures exact { GivesTable named text_bytes image.now (λ x. x.0.items) (λ x. x.1.now) result (times count text_at bytes.now) }
+    ensures exact { GivesTable named text_bytes image.now (λ x. x.0.items) (λ x. x.1.now) result
+        (times count text_at bytes.now) }
 {
     let mut table = Vec::new(alloc);
     let mut rest = bytes;
@@ -63,7 +65,8 @@ pub fn function_table<'a>(
     count: u16,
 ) -> Result<(Vec<usize>, &'a [u8]), ImageFault>
     requires { EndsWith image.now bytes.now }
-    ensures exact { GivesTable named function_bytes image.now (λ x. x.0.items) (λ x. x.1.now) result (numbered count (function_at version classes) bytes.now) }
+    ensures exact { GivesTable named function_bytes image.now (λ x. x.0.items)
+        (λ x. x.1.now) result (numbered count (function_at version classes) bytes.now) }
 {
     let mut table = Vec::new(alloc);
     let mut rest = bytes;

@@ -52,7 +52,8 @@ impl<'a> Model for ImageView<'a> {
 /// bytes.
 fn has_entry(bytes: &[u8], functions: &[usize], entry: u16) -> bool
     requires { (all : List Function) × AreAt function_bytes bytes.now functions.now all }
-    ensures { (all : List Function) → AreAt function_bytes bytes.now functions.now all → result ≡ is_entry (slice_get all entry) }
+    ensures { (all : List Function) → AreAt function_bytes bytes.now functions.now all
+        → result ≡ is_entry (slice_get all entry) }
 {
     let entry = usize::from(entry);
     if functions.len() <= entry {
@@ -99,7 +100,8 @@ impl<'a> ImageView<'a> {
     /// the memory taken is 8 bytes for each class, text and function that is there.
     pub fn read(alloc: Global, bytes: &'a [u8]) -> Result<ImageView<'a>, ImageFault>
         ensures found { IfOk result (λ m. FitsImage m × (bytes.now ≡ spelling m)) }
-        ensures only { (m : Module) → FitsImage m → bytes.now ≡ spelling m → Gives (λ v. v) result (Ok m) }
+        ensures only { (m : Module) → FitsImage m → bytes.now ≡ spelling m
+            → Gives (λ v. v) result (Ok m) }
         ensures exact { Gives (λ v. v) result (module_at bytes.now) }
     {
         whole(alloc, bytes)
@@ -211,9 +213,11 @@ impl<'a> ImageView<'a> {
     #[inline(always)]
     pub fn signature(&self, f: usize) -> SigView<'a>
         requires { f < length self.now.functions }
-        ensures value { (g : Function) × (function_at self.now f ≡ Some g) × (result ≡ signature_of g) }
+        ensures value { (g : Function) × (function_at self.now f ≡ Some g)
+            × (result ≡ signature_of g) }
         ensures fits { FitsSignature (length self.now.classes) result }
-        ensures part { IsPart (spelling self.now) (place_of_signature self.now f) (signature_bytes result) }
+        ensures part { IsPart (spelling self.now) (place_of_signature self.now f)
+            (signature_bytes result) }
     {
         let bytes = self.bytes;
         signature_in(bytes, self.functions[f])
@@ -224,7 +228,8 @@ impl<'a> ImageView<'a> {
         requires { f < length self.now.functions }
         ensures value { result ≡ length (code_at self.now f) }
         ensures range { (1 ≤ result) × (result ≤ 4096) }
-        ensures part { IsPart (spelling self.now) (place_of_count self.now f) (to_be_bytes w16 result) }
+        ensures part { IsPart (spelling self.now) (place_of_count self.now f)
+            (to_be_bytes w16 result) }
     {
         code_len_in(self.bytes, self.functions[f])
     }
@@ -250,7 +255,8 @@ impl<'a> ImageView<'a> {
         ensures value { instr_at self.now f pc ≡ Some result }
         ensures fits { IsInstr result }
         ensures known { IsTrue (is_known self.now.version result.op) }
-        ensures part { IsPart (spelling self.now) (place_of_instr self.now f pc) (instruction result) }
+        ensures part { IsPart (spelling self.now) (place_of_instr self.now f pc)
+            (instruction result) }
     {
         let start = code_place(self.bytes, self.functions[f]);
         instr_in(self.bytes, start + 8 * pc)

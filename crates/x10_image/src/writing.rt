@@ -13,7 +13,7 @@ ghost use Rattle.x10_model.specs.Modules.{FitsImage};
 ghost use Rattle.x10_image.specs.declared.fault.ImageFault.TheVariants.{Memory};
 ghost use Rattle.x10_image.specs.Headers.{seen};
 ghost use Rattle.x10_image.specs.Written as written;
-ghost use Rattle.x10_image.specs.Written.{shown, function_shown, Passes, Hinders};
+ghost use Rattle.x10_image.specs.Written.{shown, function_shown, NothingHinders, Hinders};
 
 use crate::fault::ImageFault;
 use crate::fitting::check;
@@ -145,7 +145,8 @@ fn push_ints(out: &mut Vec<u8>, ints: &[i64]) -> Result<(), AllocError>
 fn push_function(out: &mut Vec<u8>, function: &Function) -> Result<(), AllocError>
     requires counts { written.counts_of_function (function_shown function.now) ≡ true }
     requires code { list_all fits_form function.now.code.items ≡ true }
-    ensures { OnOk result (out.new.items ≡ out.old.items ++ function_bytes (function_shown function.now)) }
+    ensures { OnOk result (out.new.items ≡ out.old.items
+        ++ function_bytes (function_shown function.now)) }
 {
     out.extend_from_slice(&[
         function.parameters.len() as u8,
@@ -162,7 +163,8 @@ fn push_function(out: &mut Vec<u8>, function: &Function) -> Result<(), AllocErro
 }
 
 fn push_numbers(out: &mut Vec<u8>, numbers: &[u16]) -> Result<(), AllocError>
-    ensures { OnOk result (out.new.items ≡ out.old.items ++ flat_map (to_be_bytes w16) numbers.now) }
+    ensures { OnOk result (out.new.items ≡ out.old.items
+        ++ flat_map (to_be_bytes w16) numbers.now) }
 {
     for number in numbers {
         out.extend_from_slice(&number.to_be_bytes())?;
@@ -202,7 +204,8 @@ fn push_header(out: &mut Vec<u8>, header: Header) -> Result<(), AllocError>
 
 fn push_classes(out: &mut Vec<u8>, classes: &[Vec<Kind>]) -> Result<(), AllocError>
     requires { list_all (λ c. nat_le (length c.items) 16) classes.now ≡ true }
-    ensures { OnOk result (out.new.items ≡ out.old.items ++ flat_map (λ c. class_bytes c.items) classes.now) }
+    ensures { OnOk result (out.new.items ≡ out.old.items
+        ++ flat_map (λ c. class_bytes c.items) classes.now) }
 {
     for fields in classes {
         push_class(out, fields)?;
@@ -212,7 +215,8 @@ fn push_classes(out: &mut Vec<u8>, classes: &[Vec<Kind>]) -> Result<(), AllocErr
 
 fn push_texts(out: &mut Vec<u8>, texts: &[String]) -> Result<(), AllocError>
     requires { list_all (λ t. written.text_fits (string_bytes t)) texts.now ≡ true }
-    ensures { OnOk result (out.new.items ≡ out.old.items ++ flat_map (λ t. text_bytes (string_bytes t)) texts.now) }
+    ensures { OnOk result (out.new.items ≡ out.old.items
+        ++ flat_map (λ t. text_bytes (string_bytes t)) texts.now) }
 {
     for text in texts {
         push_text(out, text.as_str())?;
@@ -221,9 +225,11 @@ fn push_texts(out: &mut Vec<u8>, texts: &[String]) -> Result<(), AllocError>
 }
 
 fn push_functions(out: &mut Vec<u8>, functions: &[Function]) -> Result<(), AllocError>
-    requires counts { list_all (λ f. written.counts_of_function (function_shown f)) functions.now ≡ true }
+    requires counts { list_all (λ f. written.counts_of_function (function_shown f)) functions.now
+        ≡ true }
     requires code { list_all (λ f. list_all fits_form f.code.items) functions.now ≡ true }
-    ensures { OnOk result (out.new.items ≡ out.old.items ++ flat_map (λ f. function_bytes (function_shown f)) functions.now) }
+    ensures { OnOk result (out.new.items ≡ out.old.items
+        ++ flat_map (λ f. function_bytes (function_shown f)) functions.now) }
 {
     for function in functions {
         push_function(out, function)?;
@@ -255,7 +261,7 @@ fn header(source: &Module) -> Header
 }
 
 fn spelled(alloc: Global, source: &Module) -> Result<Vec<u8>, AllocError>
-    requires { Passes source.now }
+    requires { NothingHinders source.now }
     ensures value { IfOk result (λ v. v.items ≡ spelling (shown source.now)) }
     ensures fits { OnOk result (AllByRecursion (FitsSigned w64) source.now.ints.items) }
 {
@@ -271,7 +277,8 @@ fn spelled(alloc: Global, source: &Module) -> Result<Vec<u8>, AllocError>
 /// The image of a module: its one spelling. A fault is one that prevents an image; where several do, the first of Count, Kind,
 /// Code, Entry. Two passes over the module; takes the memory of the image.
 pub fn write(alloc: Global, source: &Module) -> Result<Vec<u8>, ImageFault>
-    ensures spelled { IfOk result (λ v. FitsImage (shown source.now) × (v.items ≡ spelling (shown source.now))) }
+    ensures spelled { IfOk result (λ v. FitsImage (shown source.now)
+        × (v.items ≡ spelling (shown source.now))) }
     ensures only { FitsImage (shown source.now) → IsOkUnless result Memory }
     ensures fault { IfErr result (λ e. Hinders e source.now ⊎ (e ≡ Memory)) }
 {

@@ -71,12 +71,14 @@ label-le : (more less : List ℕ) (i : ℕ) → IsCanonical more → IsCanonical
 label-le more less i one two lt all =
     let low : slice_index less i ≤ i = two.low i lt in
     let own : slice_index less (slice_index less i) ≡ slice_index less i = two.own i lt in
-    let same : slice_index more i ≡ slice_index more (slice_index less i) = eqb-true _ _ (all i (slice_index less i) lt (omega arith) (eq-eqb _ _ (sym own))) in
+    let same : slice_index more i ≡ slice_index more (slice_index less i) =
+    eqb-true _ _ (all i (slice_index less i) lt (omega arith) (eq-eqb _ _ (sym own))) in
     let first : slice_index more (slice_index less i) ≤ slice_index less i = one.low (slice_index less i) (omega arith) in
     omega arith
 
 -- labels that agree say the same
-same_labels : (more less : List ℕ) → ((i : ℕ) → i < 129 → slice_index more i ≡ slice_index less i) → (i k : ℕ) → i < 129 → k < 129 → alike more i k ≡ true → alike less i k ≡ true
+same_labels : (more less : List ℕ) → ((i : ℕ) → i < 129 → slice_index more i ≡ slice_index less i) → (i k : ℕ) → i < 129 → k < 129
+    → alike more i k ≡ true → alike less i k ≡ true
 same_labels more less same i k il kl e =
     let a : slice_index more i ≡ slice_index less i = same i il in
     let b : slice_index more k ≡ slice_index less k = same k kl in
@@ -84,13 +86,17 @@ same_labels more less same i k il kl e =
     eq-eqb _ _ cc
 
 -- what knows less, and not the same, has a lower rank
-pub rank-falls : (more less : Homes) → Includes (equations more) (equations less) → (Includes (equations less) (equations more) → ⊥) → rank less < rank more
+pub rank-falls : (more less : Homes) → Includes (equations more) (equations less) → (Includes (equations less) (equations more) → ⊥)
+    → rank less < rank more
 unfolding rank equations
 rank-falls more less all not = elim (agree_or_differ 129 (slice_index more.labels) (slice_index less.labels)) [
-  | inl same ↦ absurd (not (λ v w v_term w_term e. same_labels more.labels less.labels same (index_of v) (index_of w) (index_of-below v v_term) (index_of-below w w_term) e))
+  | inl same ↦ absurd (not (λ v w v_term w_term e. same_labels more.labels less.labels same (index_of v) (index_of w) (index_of-below v v_term)
+      (index_of-below w w_term) e))
   | inr at ↦ (
-      let lower : (i : ℕ) → i < 129 → slice_index more.labels i ≤ slice_index less.labels i = λ i lt. label-le more.labels less.labels i more.canonical less.canonical lt (known_of_numbers more.labels less.labels all) in
-      let bounded : (i : ℕ) → i < 129 → slice_index less.labels i < 129 = λ i lt. (let low : slice_index less.labels i ≤ i = less.canonical.low i lt in omega arith) in
+      let lower : (i : ℕ) → i < 129 → slice_index more.labels i ≤ slice_index less.labels i =
+      λ i lt. label-le more.labels less.labels i more.canonical less.canonical lt (known_of_numbers more.labels less.labels all) in
+      let bounded : (i : ℕ) → i < 129 → slice_index less.labels i < 129 =
+      λ i lt. (let low : slice_index less.labels i ≤ i = less.canonical.low i lt in omega arith) in
       sum_below-lt 129 (λ i. 129 - slice_index less.labels i) (λ i. 129 - slice_index more.labels i) at.0
       (λ i lt. (let l : slice_index more.labels i ≤ slice_index less.labels i = lower i lt in omega arith))
       at.1
@@ -101,7 +107,8 @@ rank-falls more less all not = elim (agree_or_differ 129 (slice_index more.label
 ]
 
 -- what two know in common is of lower rank than the first, where the second lacks some of it
-pub met-falls : (one two both : Homes) → SameEquations (equations both) (met (equations one) (equations two)) → (Includes (equations two) (equations one) → ⊥) → rank both < rank one
+pub met-falls : (one two both : Homes) → SameEquations (equations both) (met (equations one) (equations two))
+    → (Includes (equations two) (equations one) → ⊥) → rank both < rank one
 met-falls one two both same lacks =
     let parts = met_below (equations one) (equations two) in
     rank-falls one both

@@ -74,7 +74,8 @@ pub first_alike-lacks : (a b : List ℕ) (at first : ℕ) → IsCanonical a → 
     → ((i k : ℕ) → i < 129 → k < 129 → alike a i k ≡ true → alike b i k ≡ true) → ⊥
 first_alike-lacks a b at first one within is other all =
     let lower : slice_index a at < 129 = omega (arith, one.low at within) in
-    let same : slice_index b at ≡ slice_index b (slice_index a at) = eqb-true _ _ (all at (slice_index a at) within lower (eq-eqb _ _ (sym (one.own at within)))) in
+    let same : slice_index b at ≡ slice_index b (slice_index a at) =
+    eqb-true _ _ (all at (slice_index a at) within lower (eq-eqb _ _ (sym (one.own at within)))) in
     other (first_alike-unique a b at at first (slice_index a at) is (first_alike-left a b at one within (sym same)) refl refl)
 
 -- ---- a row that is met with another
@@ -95,7 +96,8 @@ pub met_to-same : (a b labels : List ℕ) (n m : ℕ) → IsCanonical a → IsCa
 met_to-same a b labels n m one two more within met same = record {
   done = λ i below. elim (cases_lt i n) [
     | inl before ↦ met.done i before
-    | inr after ↦ subst (λ x. IsFirstAlike a b i x) (sym (met.rest i (omega arith))) (first_alike-equal a b i one two (omega arith) (same i (omega arith) below))
+    | inr after ↦ subst (λ x. IsFirstAlike a b i x) (sym (met.rest i (omega arith)))
+        (first_alike-equal a b i one two (omega arith) (same i (omega arith) below))
   ];
   rest = λ i above. met.rest i (omega arith);
 }
@@ -122,7 +124,8 @@ met_to-canonical a b labels met = record {
   low = λ i within. (met.done i within).low;
   own = λ i within.
       let is : IsFirstAlike a b i (slice_index labels i) = met.done i within in
-      let first : IsFirstAlike a b (slice_index labels i) (slice_index labels (slice_index labels i)) = met.done (slice_index labels i) (omega (arith, is.low)) in
+      let first : IsFirstAlike a b (slice_index labels i) (slice_index labels (slice_index labels i)) =
+      met.done (slice_index labels i) (omega (arith, is.low)) in
       first_alike-unique a b (slice_index labels i) i _ _ first is is.left is.right;
 }
 
@@ -166,7 +169,8 @@ eight_from-same a b at a_fits b_fits same i above below =
     let lists : eight_of a at ≡ eight_of b at =
     sym (le_bytes_8 (eight_of a at) _ refl (eight_of-fits a at a_fits) refl)
     ∙ le_bytes_8 (eight_of b at) _ refl (eight_of-fits b at b_fits) same in
-    let first : slice_index a (at + 0) ≡ slice_index b (at + 0) = subst (λ k. slice_index a k ≡ slice_index b k) (omega arith) (ap (λ l. slice_index l 0) lists) in
+    let first : slice_index a (at + 0) ≡ slice_index b (at + 0) =
+    subst (λ k. slice_index a k ≡ slice_index b k) (omega arith) (ap (λ l. slice_index l 0) lists) in
     let at_k : (k : ℕ) → k < 8 → slice_index a (at + k) ≡ slice_index b (at + k) = below_eight (λ k. slice_index a (at + k) ≡ slice_index b (at + k))
     first (ap (λ l. slice_index l 1) lists) (ap (λ l. slice_index l 2) lists) (ap (λ l. slice_index l 3) lists)
     (ap (λ l. slice_index l 4) lists) (ap (λ l. slice_index l 5) lists) (ap (λ l. slice_index l 6) lists) (ap (λ l. slice_index l 7) lists) in

@@ -111,7 +111,8 @@ pub rejoined : (row : List ℕ) (mid : Equations) (reg : ℕ) (t : Term) → reg
     → SameEquations mid (written (λ v w. alike row (index_of v) (index_of w)) reg None)
     → SameEquations (joined mid (Reg reg) t) (written (λ v w. alike row (index_of v) (index_of w)) reg (Some t))
 rejoined row mid reg t register t_term other same v w v_term w_term =
-    let parts : (v w : Term) → IsTerm v → IsTerm w → mid v w ≡ parted_row row (reg + 65) (index_of v) (index_of w) = parted-written row mid reg register same in
+    let parts : (v w : Term) → IsTerm v → IsTerm w → mid v w ≡ parted_row row (reg + 65) (index_of v) (index_of w) =
+    parted-written row mid reg register same in
     let number : index_of t ≢ reg + 65 = λ e. other (index_of-injective t (Reg reg) t_term register e) in
     rw (
       index_of-read_as reg t v register v_term,

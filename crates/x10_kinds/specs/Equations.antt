@@ -49,7 +49,8 @@ read_as reg t v = if same_term v (Reg reg) then t else v
 -- the register stands for the place of a term from now on, or for one that nothing is known of
 abbrev pub written : Equations → ℕ → Option Term → Equations
 written r reg (Some t) v w = r (read_as reg t v) (read_as reg t w)
-written r reg None v w = same_term v w || (not (same_term v (Reg reg)) && not (same_term w (Reg reg)) && r v w)
+written r reg None v w = same_term v w ||
+    (not (same_term v (Reg reg)) && not (same_term w (Reg reg)) && r v w)
 
 -- the equations that hold in both
 abbrev pub met : Equations → Equations → Equations
@@ -59,7 +60,8 @@ met r s v w = r v w && s v w
 pub record IsEquivalence (r : Equations) : Type 0 where
   pub reflexive : (v : Term) → IsTerm v → IsTrue (r v v)
   pub symmetric : (v w : Term) → IsTerm v → IsTerm w → IsTrue (r v w) → IsTrue (r w v)
-  pub transitive : (u v w : Term) → IsTerm u → IsTerm v → IsTerm w → IsTrue (r u v) → IsTrue (r v w) → IsTrue (r u w)
+  pub transitive : (u v w : Term) → IsTerm u → IsTerm v → IsTerm w → IsTrue (r u v) → IsTrue (r v w)
+      → IsTrue (r u w)
 
 -- what a value of the program says: two terms are equal where their labels are
 unfoldable pub equations : Homes → Equations

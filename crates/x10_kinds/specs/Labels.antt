@@ -17,12 +17,14 @@ Says labels r = (i k : ℕ) → i < 129 → k < 129 → alike labels i k ≡ r i
 
 -- the row has each equation of the other
 abbrev pub ContainsRow : List ℕ → List ℕ → Type 0
-ContainsRow labels less = (i k : ℕ) → i < 129 → k < 129 → IsTrue (alike less i k) → IsTrue (alike labels i k)
+ContainsRow labels less = (i k : ℕ) → i < 129 → k < 129 → IsTrue (alike less i k)
+    → IsTrue (alike labels i k)
 
 -- two terms are equal once the classes of two others are one
 abbrev pub joined_row : List ℕ → ℕ → ℕ → ℕ → ℕ → Bool
 joined_row labels at other i k =
-    alike labels i k || (alike labels i at && alike labels other k) || (alike labels i other && alike labels at k)
+    alike labels i k || (alike labels i at && alike labels other k) ||
+    (alike labels i other && alike labels at k)
 
 -- two terms are equal once another has left its class
 abbrev pub parted_row : List ℕ → ℕ → ℕ → ℕ → Bool
@@ -31,7 +33,8 @@ parted_row labels at i k = (i == k) || (not (i == at) && not (k == at) && alike 
 -- a label is replaced by another wherever it stands
 abbrev pub Relabels : List ℕ → List ℕ → ℕ → ℕ → Type 0
 Relabels old new from to =
-    (i : ℕ) → i < 129 → slice_index new i ≡ (if slice_index old i == from then to else slice_index old i)
+    (i : ℕ) → i < 129 → slice_index new i ≡ (if slice_index old i == from then to else slice_index
+    old i)
 
 -- the first number above that of a term at which the term's number is the label
 pub record IsNextOf (labels : List ℕ) (at next : ℕ) : Type 0 where
@@ -49,7 +52,8 @@ pub record IsFirstAlike (a b : List ℕ) (at first : ℕ) : Type 0 where
   pub low : first ≤ at
   pub left : slice_index a first ≡ slice_index a at
   pub right : slice_index b first ≡ slice_index b at
-  pub least : (i : ℕ) → i < first → slice_index a i ≡ slice_index a at → slice_index b i ≢ slice_index b at
+  pub least : (i : ℕ) → i < first → slice_index a i ≡ slice_index a at
+      → slice_index b i ≢ slice_index b at
 
 -- two rows have the same labels from one term up to another
 abbrev pub AreSameIn : List ℕ → List ℕ → ℕ → ℕ → Type 0
@@ -57,8 +61,11 @@ AreSameIn a b from to = (i : ℕ) → from ≤ i → i < to → slice_index a i 
 
 -- eight labels as one number, the first lowest
 unfoldable pub eight_from : List ℕ → ℕ → ℕ
-eight_from labels at = from_le_bytes w64 (slice_index labels at ∷ slice_index labels (at + 1) ∷ slice_index labels (at + 2) ∷ slice_index labels (at + 3)
-    ∷ slice_index labels (at + 4) ∷ slice_index labels (at + 5) ∷ slice_index labels (at + 6) ∷ slice_index labels (at + 7) ∷ [])
+eight_from labels at = from_le_bytes w64
+    (slice_index labels at ∷ slice_index labels (at + 1) ∷ slice_index labels (at + 2)
+    ∷ slice_index labels (at + 3)
+    ∷ slice_index labels (at + 4) ∷ slice_index labels (at + 5) ∷ slice_index labels (at + 6)
+    ∷ slice_index labels (at + 7) ∷ [])
 
 -- the first n terms have their first terms in both rows as labels, the others what they have in the one
 pub record IsMetTo (a b : List ℕ) (n : ℕ) (labels : List ℕ) : Type 0 where

@@ -44,15 +44,18 @@ JoinKeeps = (r : Equations) (t u : Term) → Includes (joined r t u) r
 
 -- a join makes the two terms equal
 abbrev pub JoinEquates : Type 0
-JoinEquates = (r : Equations) (t u : Term) → IsTerm t → IsTerm u → IsEquivalence r → IsTrue (joined r t u t u)
+JoinEquates = (r : Equations) (t u : Term) → IsTerm t → IsTerm u → IsEquivalence r
+    → IsTrue (joined r t u t u)
 
 -- the join of an equivalence is an equivalence
 abbrev pub JoinIsAnEquivalence : Type 0
-JoinIsAnEquivalence = (r : Equations) (t u : Term) → IsTerm t → IsTerm u → IsEquivalence r → IsEquivalence (joined r t u)
+JoinIsAnEquivalence = (r : Equations) (t u : Term) → IsTerm t → IsTerm u → IsEquivalence r
+    → IsEquivalence (joined r t u)
 
 -- and it is within every equivalence that keeps what was known and makes the two terms equal
 abbrev pub JoinIsLeast : Type 0
-JoinIsLeast = (r s : Equations) (t u : Term) → IsTerm t → IsTerm u → IsEquivalence s → Includes s r → IsTrue (s t u) → Includes s (joined r t u)
+JoinIsLeast = (r s : Equations) (t u : Term) → IsTerm t → IsTerm u → IsEquivalence s → Includes s r
+    → IsTrue (s t u) → Includes s (joined r t u)
 
 -- what two equivalences have in common is an equivalence
 abbrev pub MetIsAnEquivalence : Type 0
@@ -68,20 +71,25 @@ MetIsGreatest = (r s q : Equations) → Includes r q → Includes s q → Includ
 
 -- a write of a place that a term stands for leaves an equivalence
 abbrev pub WriteOfATermIsAnEquivalence : Type 0
-WriteOfATermIsAnEquivalence = (r : Equations) (reg : ℕ) (t : Term) → IsTerm t → IsEquivalence r → IsEquivalence (written r reg (Some t))
+WriteOfATermIsAnEquivalence = (r : Equations) (reg : ℕ) (t : Term) → IsTerm t → IsEquivalence r
+    → IsEquivalence (written r reg (Some t))
 
 -- and so does one of a place that nothing is known of
 abbrev pub WriteOfAnyPlaceIsAnEquivalence : Type 0
-WriteOfAnyPlaceIsAnEquivalence = (r : Equations) (reg : ℕ) → IsEquivalence r → IsEquivalence (written r reg None)
+WriteOfAnyPlaceIsAnEquivalence = (r : Equations) (reg : ℕ) → IsEquivalence r
+    → IsEquivalence (written r reg None)
 
 -- a join of what knows more knows more
 abbrev pub JoinIsMonotone : Type 0
-JoinIsMonotone = (r s : Equations) (t u : Term) → IsTerm t → IsTerm u → Includes r s → Includes (joined r t u) (joined s t u)
+JoinIsMonotone = (r s : Equations) (t u : Term) → IsTerm t → IsTerm u → Includes r s
+    → Includes (joined r t u) (joined s t u)
 
 -- so does a write of a place that a term stands for
 abbrev pub WriteOfATermIsMonotone : Type 0
-WriteOfATermIsMonotone = (r s : Equations) (reg : ℕ) (t : Term) → IsTerm t → Includes r s → Includes (written r reg (Some t)) (written s reg (Some t))
+WriteOfATermIsMonotone = (r s : Equations) (reg : ℕ) (t : Term) → IsTerm t → Includes r s
+    → Includes (written r reg (Some t)) (written s reg (Some t))
 
 -- and one of a place that nothing is known of
 abbrev pub WriteOfAnyPlaceIsMonotone : Type 0
-WriteOfAnyPlaceIsMonotone = (r s : Equations) (reg : ℕ) → Includes r s → Includes (written r reg None) (written s reg None)
+WriteOfAnyPlaceIsMonotone = (r s : Equations) (reg : ℕ) → Includes r s
+    → Includes (written r reg None) (written s reg None)

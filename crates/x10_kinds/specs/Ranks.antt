@@ -10,3 +10,7 @@ sum_below (suc n) f = f n + sum_below n f
 -- the sum over all terms of how far the label is below the greatest that there may be
 unfoldable pub rank : Homes → ℕ
 rank h = sum_below 129 (λ i. 129 - slice_index h.labels i)
+
+-- how many ranks there are: from 0 to 129 times 129
+abbrev pub ranks : ℕ
+ranks = 16642

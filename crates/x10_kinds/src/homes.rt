@@ -91,7 +91,8 @@ impl Homes {
     /// What is known on both of two ways to the same point: the equations that hold in both.
     #[tactic(auto, unfolding(crate::specs::Equations::equations))]
     pub fn meet(&self, other: &Homes) -> Homes
-        ensures { SameEquations (equations result) (met (equations self.now) (equations other.now)) }
+        ensures { SameEquations (equations result)
+            (met (equations self.now) (equations other.now)) }
     {
         let mut both = *self;
         both.weaken(other);
@@ -108,7 +109,8 @@ impl Homes {
     /// Gives up the equations that do not hold in `other` too, and answers whether there were any. Each time there were, the
     /// rank falls, so a row gives up equations 16,641 times at most.
     pub fn weaken(&mut self, other: &Homes) -> bool
-        ensures met { SameEquations (equations self.new) (met (equations self.old) (equations other.now)) }
+        ensures met { SameEquations (equations self.new)
+            (met (equations self.old) (equations other.now)) }
         ensures kept { result ≡ false → self.new ≡ self.old }
         ensures fewer { result ≡ true → rank self.new < rank self.old }
     {
@@ -120,7 +122,8 @@ impl Homes {
     fn follow(&mut self, reg: u8, term: Term)
         requires register { reg < 64 }
         requires term { IsTerm term }
-        ensures { SameEquations (equations self.new) (written (equations self.old) reg (Some term)) }
+        ensures { SameEquations (equations self.new)
+            (written (equations self.old) reg (Some term)) }
     {
         let register = Term::Reg(reg);
         if term == register {

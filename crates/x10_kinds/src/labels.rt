@@ -78,7 +78,8 @@ pub fn weaken(labels: &mut Labels, other: &Labels) -> bool
 
 // The first part in which two rows differ, if they do.
 fn first_other(labels: &Labels, other: &Labels) -> Option<usize>
-    ensures { MatchOption result (AreSameIn labels.now other.now 1 129) (λ part. (part < 8) × AreSameIn labels.now other.now 1 (16 * part + 1)) }
+    ensures { MatchOption result (AreSameIn labels.now other.now 1 129)
+        (λ part. (part < 8) × AreSameIn labels.now other.now 1 (16 * part + 1)) }
 {
     for part in 0..PARTS {
         if !is_same_part(labels, other, part) {

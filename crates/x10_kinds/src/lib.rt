@@ -5,8 +5,10 @@ mod homes;
 mod kind;
 mod labels;
 pub mod laws;
+mod limit;
 mod stop;
 
 pub use homes::{Homes, Term};
 pub use kind::{Kind, fits, meet};
+pub use limit::Limit;
 pub use stop::Stop;

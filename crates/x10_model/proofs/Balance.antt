@@ -19,6 +19,9 @@ all_pass test (suc n) h = and_from (all_below test n) (test n) (all_pass test n 
 
 pub balance_is_tested : (places : ℕ) (cut : Cut) → IsTrue (is_balanced places cut) ↔ IsBalanced places cut
 balance_is_tested places cut = (
-  (λ t p q lp lq. eqb-true ((cut p).sent q) ((cut q).received p) (passes (λ q. (cut p).sent q == (cut q).received p) places q (passes (λ p. all_below (λ q. (cut p).sent q == (cut q).received p) places) places p t lp) lq)),
-  (λ h. all_pass (λ p. all_below (λ q. (cut p).sent q == (cut q).received p) places) places (λ p lp. all_pass (λ q. (cut p).sent q == (cut q).received p) places (λ q lq. eq-eqb ((cut p).sent q) ((cut q).received p) (h p q lp lq)))),
+  (λ t p q lp lq. eqb-true ((cut p).sent q) ((cut q).received p)
+      (passes (λ q. (cut p).sent q == (cut q).received p) places q
+      (passes (λ p. all_below (λ q. (cut p).sent q == (cut q).received p) places) places p t lp) lq)),
+  (λ h. all_pass (λ p. all_below (λ q. (cut p).sent q == (cut q).received p) places) places
+      (λ p lp. all_pass (λ q. (cut p).sent q == (cut q).received p) places (λ q lq. eq-eqb ((cut p).sent q) ((cut q).received p) (h p q lp lq)))),
 )

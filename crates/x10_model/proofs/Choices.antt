@@ -110,7 +110,11 @@ some_below P (suc n) each = elim (each n (omega arith)) [
   | inl here ↦ inl (n, omega arith, here)
   | inr never ↦ elim (some_below P n (λ k lt. each k (omega arith))) [
     | inl h ↦ inl (h.0, (let lt = h.1 in omega arith), h.2)
-    | inr none ↦ inr (λ h. elim (cases_lt h.0 n) [ inl less ↦ none (h.0, less, h.2) | inr le ↦ never (let e : h.0 ≡ n = (let lt = h.1 in omega arith) in subst P e h.2) ])
+    | inr none ↦ inr (λ h. elim (cases_lt h.0 n) [
+      | inl less ↦ none (h.0, less, h.2)
+      | inr le ↦ never
+          (let e : h.0 ≡ n = (let lt = h.1 in omega arith) in subst P e h.2)
+    ])
   ]
 ]
 

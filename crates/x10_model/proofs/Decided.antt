@@ -39,7 +39,8 @@ rail_cell None = inr (λ h. none_some None (Bytes h.0) refl h.1)
 rail_cell (Some (Bytes bytes)) = inl (bytes, refl)
 rail_cell (Some (Fields class fields)) = inr (λ h. absurd (let e = same_Some (Fields class fields) (Bytes h.0) h.1 in cc))
 
-object_cell : (o : Option Cell) → ((class : ℕ) × (fields : List Value) × (o ≡ Some (Fields class fields))) ⊎ ((class : ℕ) × (fields : List Value) × (o ≡ Some (Fields class fields)) → ⊥)
+object_cell : (o : Option Cell) → ((class : ℕ) × (fields : List Value) × (o ≡ Some (Fields class fields)))
+    ⊎ ((class : ℕ) × (fields : List Value) × (o ≡ Some (Fields class fields)) → ⊥)
 object_cell None = inr (λ h. none_some None (Fields h.0 h.1) refl h.2)
 object_cell (Some (Bytes bytes)) = inr (λ h. absurd (let e = same_Some (Bytes bytes) (Fields h.0 h.1) h.2 in cc))
 object_cell (Some (Fields class fields)) = inl (class, fields, refl)
@@ -47,7 +48,8 @@ object_cell (Some (Fields class fields)) = inl (class, fields, refl)
 class_is : (d c : ℕ) (xs ys : List Value) → Fields d xs ≡ Fields c ys → d ≡ c
 class_is d c xs ys e = cc
 
-class_cell : (o : Option Cell) (c : ℕ) → ((fields : List Value) × (o ≡ Some (Fields c fields))) ⊎ ((fields : List Value) × (o ≡ Some (Fields c fields)) → ⊥)
+class_cell : (o : Option Cell) (c : ℕ) → ((fields : List Value) × (o ≡ Some (Fields c fields)))
+    ⊎ ((fields : List Value) × (o ≡ Some (Fields c fields)) → ⊥)
 class_cell None c = inr (λ h. none_some None (Fields c h.0) refl h.1)
 class_cell (Some (Bytes bytes)) c = inr (λ h. absurd (let e = same_Some (Bytes bytes) (Fields c h.0) h.1 in cc))
 class_cell (Some (Fields d fields)) c = elim (cases_eq d c) [
@@ -79,7 +81,8 @@ meets_or_not cells APlaceOrReference (Place p) = inl tt
 meets_or_not cells APlaceOrReference (Ref home id class) = inl tt
 meets_or_not cells _ _ = inr (λ h. h)
 
-held_or_not : (s : Situation) (r : ℕ) (want : Want) (o : Option Value) → s.stay.top.registers r ≡ o → Met s r want ⊎ ((v : Value) → Holds s r v → Meets s.place.cells want v → ⊥)
+held_or_not : (s : Situation) (r : ℕ) (want : Want) (o : Option Value) → s.stay.top.registers r ≡ o
+    → Met s r want ⊎ ((v : Value) → Holds s r v → Meets s.place.cells want v → ⊥)
 held_or_not s r want None e = inr (λ v h m. none_some (s.stay.top.registers r) v e h)
 held_or_not s r want (Some v) e = elim (meets_or_not s.place.cells want v) [
   | inl m ↦ inl (v, e, m)
@@ -110,7 +113,8 @@ pub flag_or_not : (at : ℕ) (v : Value) (flag : Bool) → (IsTrue flag → HasH
 flag_or_not at v false = inl (λ t. absurd cc)
 flag_or_not at v true = elim (home_or_not at v) [ inl h ↦ inl (λ t. h) | inr n ↦ inr (λ f. n (f refl)) ]
 
-pub fits_or_not : (cells : Cells) (at : ℕ) (v : Value) (slot : Slot) → FitsSlotAt (IsOfKind cells) at v slot ⊎ (FitsSlotAt (IsOfKind cells) at v slot → ⊥)
+pub fits_or_not : (cells : Cells) (at : ℕ) (v : Value) (slot : Slot)
+    → FitsSlotAt (IsOfKind cells) at v slot ⊎ (FitsSlotAt (IsOfKind cells) at v slot → ⊥)
 fits_or_not cells at v slot = elim (both_or_not (of_kind_or_not cells v slot.kind) (flag_or_not at v slot.home_here)) [
   | inl p ↦ inl (record { kind = p.0; home = p.1 })
   | inr n ↦ inr (λ f. n (f.kind, f.home))
@@ -123,24 +127,29 @@ Held s R r ys = (vs : List Value) × HoldsFrom s r vs × Pairwise R vs ys
 abbrev pub HeldOrNot : {Y : Type 0} → Situation → (Value → Y → Type 0) → ℕ → List Y → Type 0
 HeldOrNot s R r ys = Held s R r ys ⊎ ((vs : List Value) → HoldsFrom s r vs → Pairwise R vs ys → ⊥)
 
-no_value : {Y : Type 0} (s : Situation) (R : Value → Y → Type 0) (r : ℕ) (y : Y) (ys : List Y) → s.stay.top.registers r ≡ None → (vs : List Value) → HoldsFrom s r vs → Pairwise R vs (y ∷ ys) → ⊥
+no_value : {Y : Type 0} (s : Situation) (R : Value → Y → Type 0) (r : ℕ) (y : Y) (ys : List Y) → s.stay.top.registers r ≡ None → (vs : List Value)
+    → HoldsFrom s r vs → Pairwise R vs (y ∷ ys) → ⊥
 no_value s R r y ys e [] h p = p
 no_value s R r y ys e (v ∷ vs) h p = none_some (s.stay.top.registers r) v e h.0
 
-misfit : {Y : Type 0} (s : Situation) (R : Value → Y → Type 0) (r : ℕ) (y : Y) (ys : List Y) (v : Value) → s.stay.top.registers r ≡ Some v → (R v y → ⊥) → (vs : List Value) → HoldsFrom s r vs → Pairwise R vs (y ∷ ys) → ⊥
+misfit : {Y : Type 0} (s : Situation) (R : Value → Y → Type 0) (r : ℕ) (y : Y) (ys : List Y) (v : Value) → s.stay.top.registers r ≡ Some v
+    → (R v y → ⊥) → (vs : List Value) → HoldsFrom s r vs → Pairwise R vs (y ∷ ys) → ⊥
 misfit s R r y ys v e n [] h p = p
 misfit s R r y ys v e n (w ∷ vs) h p = n (subst (λ u. R u y) (same_some (s.stay.top.registers r) w v h.0 e) p.0)
 
-later_misfit : {Y : Type 0} (s : Situation) (R : Value → Y → Type 0) (r : ℕ) (y : Y) (ys : List Y) → ((vs : List Value) → HoldsFrom s (r + 1) vs → Pairwise R vs ys → ⊥) → (vs : List Value) → HoldsFrom s r vs → Pairwise R vs (y ∷ ys) → ⊥
+later_misfit : {Y : Type 0} (s : Situation) (R : Value → Y → Type 0) (r : ℕ) (y : Y) (ys : List Y)
+    → ((vs : List Value) → HoldsFrom s (r + 1) vs → Pairwise R vs ys → ⊥) → (vs : List Value) → HoldsFrom s r vs → Pairwise R vs (y ∷ ys) → ⊥
 later_misfit s R r y ys n [] h p = p
 later_misfit s R r y ys n (w ∷ vs) h p = n vs h.1 p.1
 
-first_held : {Y : Type 0} (s : Situation) (R : Value → Y → Type 0) (each : (v : Value) (y : Y) → R v y ⊎ (R v y → ⊥)) (r : ℕ) (y : Y) (ys : List Y) (o : Option Value) → s.stay.top.registers r ≡ o → HeldOrNot s R (r + 1) ys → HeldOrNot s R r (y ∷ ys)
+first_held : {Y : Type 0} (s : Situation) (R : Value → Y → Type 0) (each : (v : Value) (y : Y) → R v y ⊎ (R v y → ⊥)) (r : ℕ) (y : Y) (ys : List Y)
+    (o : Option Value) → s.stay.top.registers r ≡ o → HeldOrNot s R (r + 1) ys → HeldOrNot s R r (y ∷ ys)
 first_held s R each r y ys None e rest = inr (no_value s R r y ys e)
 first_held s R each r y ys (Some v) e (inr n) = inr (later_misfit s R r y ys n)
 first_held s R each r y ys (Some v) e (inl h) = elim (each v y) [ inl f ↦ inl (v ∷ h.0, (e, h.1), (f, h.2)) | inr n ↦ inr (misfit s R r y ys v e n) ]
 
-pub arguments_or_not : {Y : Type 0} (s : Situation) (R : Value → Y → Type 0) (each : (v : Value) (y : Y) → R v y ⊎ (R v y → ⊥)) (r : ℕ) (ys : List Y) → HeldOrNot s R r ys
+pub arguments_or_not : {Y : Type 0} (s : Situation) (R : Value → Y → Type 0) (each : (v : Value) (y : Y) → R v y ⊎ (R v y → ⊥)) (r : ℕ) (ys : List Y)
+    → HeldOrNot s R r ys
 arguments_or_not s R each r [] = inl ([], tt, tt)
 arguments_or_not s R each r (y ∷ ys) = first_held s R each r y ys (s.stay.top.registers r) refl (arguments_or_not s R each (r + 1) ys)
 
@@ -159,13 +168,17 @@ no_result : (s : Situation) (slot : Slot) → s.stay.top.registers s.instr.a ≡
 no_result s slot e None g = g
 no_result s slot e (Some v) g = none_some (s.stay.top.registers s.instr.a) v e g.0
 
-bad_result : (s : Situation) (slot : Slot) (v : Value) → s.stay.top.registers s.instr.a ≡ Some v → (FitsSlotAt (IsOfKind s.place.cells) s.here v slot → ⊥) → (w : Option Value) → GivesBack s (Some slot) w → ⊥
+bad_result : (s : Situation) (slot : Slot) (v : Value) → s.stay.top.registers s.instr.a ≡ Some v
+    → (FitsSlotAt (IsOfKind s.place.cells) s.here v slot → ⊥) → (w : Option Value) → GivesBack s (Some slot) w → ⊥
 bad_result s slot v e n None g = g
-bad_result s slot v e n (Some w) g = n (subst (λ u. FitsSlotAt (IsOfKind s.place.cells) s.here u slot) (same_some (s.stay.top.registers s.instr.a) w v g.0 e) g.1)
+bad_result s slot v e n (Some w) g = n (subst (λ u. FitsSlotAt (IsOfKind s.place.cells) s.here u slot)
+    (same_some (s.stay.top.registers s.instr.a) w v g.0 e) g.1)
 
-result_held : (s : Situation) (slot : Slot) (o : Option Value) → s.stay.top.registers s.instr.a ≡ o → ((v : Option Value) × GivesBack s (Some slot) v) ⊎ ((v : Option Value) → GivesBack s (Some slot) v → ⊥)
+result_held : (s : Situation) (slot : Slot) (o : Option Value) → s.stay.top.registers s.instr.a ≡ o
+    → ((v : Option Value) × GivesBack s (Some slot) v) ⊎ ((v : Option Value) → GivesBack s (Some slot) v → ⊥)
 result_held s slot None e = inr (no_result s slot e)
-result_held s slot (Some v) e = elim (fits_or_not s.place.cells s.here v slot) [ inl f ↦ inl (Some v, (e, f)) | inr n ↦ inr (bad_result s slot v e n) ]
+result_held s slot (Some v) e = elim (fits_or_not s.place.cells s.here v slot)
+    [ inl f ↦ inl (Some v, (e, f)) | inr n ↦ inr (bad_result s slot v e n) ]
 
 pub gives_or_not : (s : Situation) (slot : Option Slot) → ((v : Option Value) × GivesBack s slot v) ⊎ ((v : Option Value) → GivesBack s slot v → ⊥)
 gives_or_not s None = inl (None, tt)

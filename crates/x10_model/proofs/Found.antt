@@ -63,10 +63,16 @@ printed cells Null l e = absurd cc
 -- ---- arguments and results
 
 abbrev pub Passed : Situation → ℕ → Type 0
-Passed s at = (vs : List Value) × HoldsFrom s s.instr.b vs × FitSlots (IsOfKind s.place.cells) at vs (parameters_of (function_at s.setting.program s.instr.x))
+Passed s at = (vs : List Value) × HoldsFrom s s.instr.b vs × FitSlots (IsOfKind s.place.cells) at vs
+    (parameters_of (function_at s.setting.program s.instr.x))
 
 pub passed_at : (s : Situation) (at : ℕ) (callee : Function) (vs : List Value) → Passes s at callee vs → Passed s at
-passed_at s at callee vs p = (vs, p.held, subst (λ (f : Option Function). FitSlots (IsOfKind s.place.cells) at vs (parameters_of f)) (sym p.callee_is) p.fit)
+passed_at s at callee vs p = (
+  vs,
+  p.held,
+  subst (λ (f : Option Function). FitSlots (IsOfKind s.place.cells) at vs (parameters_of f))
+      (sym p.callee_is) p.fit,
+)
 
 pub place_is : (p q : ℕ) → Place p ≡ Place q → p ≡ q
 place_is p q e = cc
@@ -92,5 +98,7 @@ pub fields_is : (c d : ℕ) (xs ys : List Value) → Fields c xs ≡ Fields d ys
 fields_is c d xs ys e = (cc, cc)
 
 -- two readings of one object agree
-pub same_object : (cells : Cells) (r t c d : ℕ) (xs ys : List Value) → r ≡ t → cells r ≡ Some (Fields c xs) → cells t ≡ Some (Fields d ys) → (c ≡ d) × (xs ≡ ys)
-same_object cells r t c d xs ys h e f = fields_is c d xs ys (same_some (cells t) (Fields c xs) (Fields d ys) (subst (λ k. cells k ≡ Some (Fields c xs)) h e) f)
+pub same_object : (cells : Cells) (r t c d : ℕ) (xs ys : List Value) → r ≡ t → cells r ≡ Some (Fields c xs) → cells t ≡ Some (Fields d ys)
+    → (c ≡ d) × (xs ≡ ys)
+same_object cells r t c d xs ys h e f = fields_is c d xs ys (same_some (cells t) (Fields c xs) (Fields d ys)
+    (subst (λ k. cells k ≡ Some (Fields c xs)) h e) f)

@@ -41,17 +41,26 @@ from_registers f = (f.registers ∷ []) ++ from_loops f
 fn : List Slot → ℕ → ℕ → Option Slot → List Instr → Function
 fn parameters registers loops result code = record { parameters = parameters; registers = registers; loops = loops; result = result; code = code }
 
-same_function : (parameters : List Slot) (registers loops : ℕ) (result : Option Slot) (f : Function) → f.parameters ≡ parameters → f.registers ≡ registers → f.loops ≡ loops → f.result ≡ result → fn parameters registers loops result f.code ≡ f
+same_function : (parameters : List Slot) (registers loops : ℕ) (result : Option Slot) (f : Function) → f.parameters ≡ parameters
+    → f.registers ≡ registers → f.loops ≡ loops → f.result ≡ result → fn parameters registers loops result f.code ≡ f
 unfolding fn
 same_function parameters registers loops result f p r l o = rw (← p, ← r, ← l, ← o) refl
 
 enough_slots : (f : Function) (n : ℕ) → length f.parameters ≡ n → 4 * (n + 1) ≤ length (from_slots f)
-enough_slots f n e = omega (arith, e, length-items slot_bytes 4 length-slot_bytes f.parameters, length-append (flat_map slot_bytes f.parameters) (from_result f), length-append (result_bytes f.result) (from_count f), length-result_bytes f.result)
+enough_slots f n e = omega (
+  arith,
+  e,
+  length-items slot_bytes 4 length-slot_bytes f.parameters,
+  length-append (flat_map slot_bytes f.parameters) (from_result f),
+  length-append (result_bytes f.result) (from_count f),
+  length-result_bytes f.result,
+)
 
 enough_code : (f : Function) (n : ℕ) → length f.code ≡ n → 8 * n ≤ length (flat_map instruction f.code)
 enough_code f n e = omega (arith, e, length-items instruction 8 length-spelling f.code)
 
-fits_code : (version : ImageVersion) (classes : ℕ) → (n registers loops : ℕ) (parameters : List Slot) (result : Option Slot) (count : ℕ) (code : List Instr)
+fits_code : (version : ImageVersion) (classes : ℕ) → (n registers loops : ℕ) (parameters : List Slot) (result : Option Slot) (count : ℕ)
+    (code : List Instr)
     → is_within 0 16 n ≡ true → (is_within 1 64 registers && leb n registers) ≡ true → is_within 0 8 loops ≡ true
     → (length parameters ≡ n) × AllByRecursion (FitsSlot classes) parameters → IfSome result (FitsSlot classes)
     → is_within 1 4096 count ≡ true → (length code ≡ count) × AllByRecursion (IsInstrOf version) code
@@ -75,19 +84,25 @@ fits_code version classes n registers loops parameters result count code hn hr h
       code = hi.1;
     }
 
-pub function_reads : (version : ImageVersion) (classes : ℕ) → classes < 2 ^ 16 → (function : ℕ) → Reads (function_at version classes function) function_bytes (FitsFunction version classes)
+pub function_reads : (version : ImageVersion) (classes : ℕ) → classes < 2 ^ 16 → (function : ℕ)
+    → Reads (function_at version classes function) function_bytes (FitsFunction version classes)
 unfolding function_at function_bytes fn
 function_reads version classes few function =
     need_reads 4 Short (λ f g. omega arith)
     (then_reads (λ f. length f.parameters) from_registers (such_that_reads (is_within 0 16) Count (byte_reads Short))
     (λ f g. (omega (arith, g.parameters), within_of 0 16 (length f.parameters) (omega arith) g.parameters)) (λ n hn.
     then_reads (λ f. f.registers) from_loops (such_that_reads (λ r. is_within 1 64 r && leb n r) Count (byte_reads Short))
-    (λ f g. (omega (arith, g.1.registers), and_from (is_within 1 64 f.registers) (leb n f.registers) (within_of 1 64 f.registers g.1.registers.0 g.1.registers.1) (le-leb n f.registers (omega (arith, g.0, g.1.room))))) (λ registers hr.
+    (λ f g. (
+      omega (arith, g.1.registers),
+      and_from (is_within 1 64 f.registers) (leb n f.registers)
+          (within_of 1 64 f.registers g.1.registers.0 g.1.registers.1) (le-leb n f.registers (omega (arith, g.0, g.1.room))),
+    )) (λ registers hr.
     then_reads (λ f. f.loops) from_reserved (such_that_reads (is_within 0 8) Count (byte_reads Short))
     (λ f g. (omega (arith, g.1.1.loops), within_of 0 8 f.loops (omega arith) g.1.1.loops)) (λ loops hl.
     expect_reads 0 Reserved (byte_reads Short) (omega arith)
     (need_reads (4 * (n + 1)) Short (λ f g. enough_slots f n g.1.1.0)
-    (then_reads (λ f. f.parameters) from_result (each_reads (λ s _. s) (λ _. slot_reads classes few) n 0) (λ f g. (g.1.1.0, g.1.1.1.slots)) (λ parameters hp.
+    (then_reads (λ f. f.parameters) from_result (each_reads (λ s _. s) (λ _. slot_reads classes few) n 0) (λ f g. (g.1.1.0, g.1.1.1.slots))
+    (λ parameters hp.
     then_reads (λ f. f.result) from_count (result_reads classes few) (λ f g. g.1.1.1.1.result) (λ result ho.
     need_reads 4 Short (λ f g. omega arith)
     (then_reads (λ f. length f.code) from_zero (such_that_reads (is_within 1 4096) Count (number_reads w16 (2 ^ 16) wide16 Short))
@@ -96,4 +111,25 @@ function_reads version classes few function =
     (need_reads (8 * count) Short (λ f g. enough_code f count g.0)
     (last_reads (fn parameters registers loops result) (λ f. f.code) (each_reads (λ s _. suc s) (λ pc. instruction_reads version function pc) count 0)
     (λ f g. ((g.0, g.1.1.1.1.1.1.code), same_function parameters registers loops result f g.1.1.0 g.1.1.1.1.0 g.1.1.1.0 g.1.0))
-    (λ code hi. (refl, (hi.0, (refl, (refl, (refl, (refl, (hp.0, fits_code version classes n registers loops parameters result count code hn.1 hr.1 hl.1 hp ho hc.1 hi))))))))))))))))))))
+    (λ code hi. (
+      refl,
+      (
+        hi.0,
+        (
+          refl,
+          (
+            refl,
+            (
+              refl,
+              (
+                refl,
+                (
+                  hp.0,
+                  fits_code version classes n registers loops parameters result count code hn.1 hr.1 hl.1 hp ho hc.1 hi,
+                ),
+              ),
+            ),
+          ),
+        ),
+      ),
+    ))))))))))))))

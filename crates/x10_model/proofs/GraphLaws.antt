@@ -45,15 +45,32 @@ node_of class fields = record { class = class; fields = fields }
 same_node : (class : ℕ) (n : Node) → n.class ≡ class → node_of class n.fields ≡ n
 same_node class n e = rw (← e) refl
 
-pub node_reads : (v : FrameVersion) (places : ℕ) (all : Tables) → places < 2 ^ 16 → Few v all → (t : Turn) → Reads (node_at v places all t) (node_bytes v) (FitsNode places all t)
+pub node_reads : (v : FrameVersion) (places : ℕ) (all : Tables) → places < 2 ^ 16 → Few v all → (t : Turn)
+    → Reads (node_at v places all t) (node_bytes v) (FitsNode places all t)
 unfolding node_at node_bytes
 node_reads v places all few ok t =
-    then_reads (λ n. n.class) (λ n. length n.fields ∷ flat_map (item_bytes v) n.fields) (number_reads w16 (2 ^ 16) wide16 Short) (λ n g. g.class) (λ class hc.
+    then_reads (λ n. n.class) (λ n. length n.fields ∷ flat_map (item_bytes v) n.fields) (number_reads w16 (2 ^ 16) wide16 Short) (λ n g. g.class)
+    (λ class hc.
     check_reads (ltb t.number t.used.nodes) Order (λ n g. lt-ltb t.number t.used.nodes g.1.used) (λ used.
-    then_reads (λ n. length n.fields) (λ n. flat_map (item_bytes v) n.fields) (such_that_reads (λ k. leb k 16) Order (byte_reads Short)) (λ n g. (omega (arith, g.1.count), le-leb (length n.fields) 16 g.1.count)) (λ count hn.
+    then_reads (λ n. length n.fields) (λ n. flat_map (item_bytes v) n.fields) (such_that_reads (λ k. leb k 16) Order (byte_reads Short))
+    (λ n g. (omega (arith, g.1.count), le-leb (length n.fields) 16 g.1.count)) (λ count hn.
     last_reads (node_of class) (λ n. n.fields) (many_reads uses (item_reads v places all few ok) count t.used)
     (λ n g. ((g.0, g.1.1.fields), same_node class n g.1.0))
-    (λ fields h. (refl, (h.0, (refl, record { class = hc; used = ltb-true t.number t.used.nodes used; count = omega (arith, leb-true count 16 hn.1, h.0); fields = h.1 })))))))
+    (λ fields h. (
+      refl,
+      (
+        h.0,
+        (
+          refl,
+          record {
+            class = hc;
+            used = ltb-true t.number t.used.nodes used;
+            count = omega (arith, leb-true count 16 hn.1, h.0);
+            fields = h.1;
+          },
+        ),
+      ),
+    )))))
 
 -- ---- graphs
 
@@ -67,12 +84,14 @@ same_tables_of a b h =
     of_parts a b (eqb-true a.texts b.texts one.0) (eqb-true a.rails b.rails two.0) (eqb-true a.nodes b.nodes two.1)
 
 of_same_tables : (a b : Tables) → a ≡ b → same_tables a b ≡ true
-of_same_tables a b e = rw e (and_from (eqb b.texts b.texts) (eqb b.rails b.rails && eqb b.nodes b.nodes) (eq-eqb b.texts b.texts refl) (and_from (eqb b.rails b.rails) (eqb b.nodes b.nodes) (eq-eqb b.rails b.rails refl) (eq-eqb b.nodes b.nodes refl)))
+of_same_tables a b e = rw e (and_from (eqb b.texts b.texts) (eqb b.rails b.rails && eqb b.nodes b.nodes) (eq-eqb b.texts b.texts refl)
+    (and_from (eqb b.rails b.rails) (eqb b.nodes b.nodes) (eq-eqb b.rails b.rails refl) (eq-eqb b.nodes b.nodes refl)))
 
 graph_of : List Item → List (List ℕ) → List (List ℕ) → List Node → Graph
 graph_of roots texts rails nodes = record { roots = roots; texts = texts; rails = rails; nodes = nodes }
 
-same_graph : (roots : List Item) (texts rails : List (List ℕ)) (g : Graph) → g.roots ≡ roots → g.texts ≡ texts → g.rails ≡ rails → graph_of roots texts rails g.nodes ≡ g
+same_graph : (roots : List Item) (texts rails : List (List ℕ)) (g : Graph) → g.roots ≡ roots → g.texts ≡ texts → g.rails ≡ rails
+    → graph_of roots texts rails g.nodes ≡ g
 unfolding graph_of
 same_graph roots texts rails g r t l = rw (← r, ← t, ← l) refl
 
@@ -106,12 +125,14 @@ record Counted (places most : ℕ) (all : Tables) (g : Graph) : Type 0 where
   nodes : FitsEach (FitsNode places all) next_turn (turn 0 (used_after none g.roots)) g.nodes
   used : used_in_all g.roots g.nodes ≡ all
 
-counted : (v : FrameVersion) (places most t r n : ℕ) (g : Graph) → length g.texts ≡ t → length g.rails ≡ r → length g.nodes ≡ n → FitsGraph v places most g → Counted places most (tables t r n) g
+counted : (v : FrameVersion) (places most t r n : ℕ) (g : Graph) → length g.texts ≡ t → length g.rails ≡ r → length g.nodes ≡ n
+    → FitsGraph v places most g → Counted places most (tables t r n) g
 counted v places most t r n g ht hr hn fits = subst (λ (all : Tables). Counted places most all g) (rw (ht, hr, hn) refl) whole where
   whole : Counted places most (tables_of g) g
   whole = record { roots = fits.roots; nodes = fits.nodes.1; used = fits.used }
 
-fits_graph : (v : FrameVersion) (places most k t r n : ℕ) (g : Graph) → k ≤ most → length g.roots ≡ k → length g.texts ≡ t → length g.rails ≡ r → length g.nodes ≡ n → Few v (tables t r n)
+fits_graph : (v : FrameVersion) (places most k t r n : ℕ) (g : Graph) → k ≤ most → length g.roots ≡ k → length g.texts ≡ t → length g.rails ≡ r
+    → length g.nodes ≡ n → Few v (tables t r n)
     → AllByRecursion FitsText g.texts → AllByRecursion FitsRail g.rails → Counted places most (tables t r n) g → FitsGraph v places most g
 fits_graph v places most k t r n g le hk ht hr hn few texts rails c =
     let d : Counted places most (tables_of g) g = subst (λ (all : Tables). Counted places most all g) (rw (ht, hr, hn) refl) c in
@@ -124,7 +145,9 @@ fits_graph v places most k t r n g le hk ht hr hn few texts rails c =
       used = d.used;
     }
 
-on_roots : (places : ℕ) (all : Tables) (roots : List Item) (g : Graph) → g.roots ≡ roots → FitsEach (FitsNode places all) next_turn (turn 0 (used_after none g.roots)) g.nodes → FitsEach (FitsNode places all) next_turn (turn 0 (used_after none roots)) g.nodes
+on_roots : (places : ℕ) (all : Tables) (roots : List Item) (g : Graph) → g.roots ≡ roots
+    → FitsEach (FitsNode places all) next_turn (turn 0 (used_after none g.roots)) g.nodes
+    → FitsEach (FitsNode places all) next_turn (turn 0 (used_after none roots)) g.nodes
 on_roots places all roots g e h = subst (λ (rs : List Item). FitsEach (FitsNode places all) next_turn (turn 0 (used_after none rs)) g.nodes) e h
 
 pub count_reads : (v : FrameVersion) → Reads (count_at v) (to_be_bytes (width_of v)) (λ n. n ≤ most_of v)
@@ -134,19 +157,58 @@ count_reads Wide = fits_as (such_that_reads (λ n. leb n 1048576) Order (number_
     (λ n h. leb-true n 1048576 h.1)
     (λ n h. (omega (arith, h), le-leb n 1048576 h))
 
-pub graph_reads : (v : FrameVersion) (places most : ℕ) → places < 2 ^ 16 → most < 2 ^ 16 → Reads (graph_at v places most) (graph_bytes v) (FitsGraph v places most)
+pub graph_reads : (v : FrameVersion) (places most : ℕ) → places < 2 ^ 16 → most < 2 ^ 16
+    → Reads (graph_at v places most) (graph_bytes v) (FitsGraph v places most)
 unfolding graph_at graph_bytes graph_of
 graph_reads v places most few small =
-    then_reads (λ g. length g.roots) (from_text_count v) (such_that_reads (λ k. leb k most) Order (number_reads w16 (2 ^ 16) wide16 Short)) (λ g h. (omega (arith, h.count), le-leb (length g.roots) most h.count)) (λ k hk.
+    then_reads (λ g. length g.roots) (from_text_count v) (such_that_reads (λ k. leb k most) Order (number_reads w16 (2 ^ 16) wide16 Short))
+    (λ g h. (omega (arith, h.count), le-leb (length g.roots) most h.count)) (λ k hk.
     then_reads (λ g. length g.texts) (from_rail_count v) (count_reads v) (λ g h. h.1.texts.0) (λ t ht.
     then_reads (λ g. length g.rails) (from_node_count v) (count_reads v) (λ g h. h.1.1.rails.0) (λ r hr.
     then_reads (λ g. length g.nodes) (from_roots v) (count_reads v) (λ g h. h.1.1.1.nodes.0) (λ n hn.
     let ok : Few v (tables t r n) = few_of v t r n ht hr hn in
-    then_reads (λ g. g.roots) (from_texts v) (many_reads uses (item_reads v places (tables t r n) few ok) k none) (λ g h. (h.1.1.1.0, (counted v places most t r n g h.1.1.0 h.1.0 h.0 h.1.1.1.1).roots)) (λ roots hroots.
+    then_reads (λ g. g.roots) (from_texts v) (many_reads uses (item_reads v places (tables t r n) few ok) k none)
+    (λ g h. (h.1.1.1.0, (counted v places most t r n g h.1.1.0 h.1.0 h.0 h.1.1.1.1).roots)) (λ roots hroots.
     then_reads (λ g. g.texts) (from_rails v) (each_reads (λ s _. s) (λ _. text_reads) t 0) (λ g h. (h.1.1.1.0, h.1.1.1.1.1.texts.1)) (λ texts htexts.
-    then_reads (λ g. g.rails) (from_nodes v) (each_reads (λ s _. s) (λ _. rail_reads) r 0) (λ g h. (h.1.1.1.0, h.1.1.1.1.1.1.rails.1)) (λ rails hrails.
+    then_reads (λ g. g.rails) (from_nodes v) (each_reads (λ s _. s) (λ _. rail_reads) r 0) (λ g h. (h.1.1.1.0, h.1.1.1.1.1.1.rails.1))
+    (λ rails hrails.
     last_reads (graph_of roots texts rails) (λ g. g.nodes)
-    (such_that_reads (λ nodes. same_tables (used_in_all roots nodes) (tables t r n)) Order (many_reads next_turn (node_reads v places (tables t r n) few ok) n (turn 0 (used_after none roots))))
-    (λ g h. let c = counted v places most t r n g h.1.1.1.1.1.0 h.1.1.1.1.0 h.1.1.1.0 h.1.1.1.1.1.1.1 in (((h.1.1.1.0, on_roots places (tables t r n) roots g h.1.1.0 c.nodes), of_same_tables (used_in_all roots g.nodes) (tables t r n) (rw (← h.1.1.0) c.used)), same_graph roots texts rails g h.1.1.0 h.1.0 h.0))
-    (λ nodes h. let c : Counted places most (tables t r n) (graph_of roots texts rails nodes) = record { roots = hroots.1; nodes = h.0.1; used = same_tables_of (used_in_all roots nodes) (tables t r n) h.1 } in
-    (refl, (refl, (refl, (refl, (h.0.0, (hrails.0, (htexts.0, (hroots.0, fits_graph v places most k t r n (graph_of roots texts rails nodes) (leb-true k most hk.1) hroots.0 htexts.0 hrails.0 h.0.0 ok htexts.1 hrails.1 c))))))))))))))))
+    (such_that_reads (λ nodes. same_tables (used_in_all roots nodes) (tables t r n)) Order
+    (many_reads next_turn (node_reads v places (tables t r n) few ok) n (turn 0 (used_after none roots))))
+    (λ g h. let c = counted v places most t r n g h.1.1.1.1.1.0 h.1.1.1.1.0 h.1.1.1.0 h.1.1.1.1.1.1.1 in (
+      (
+        (h.1.1.1.0, on_roots places (tables t r n) roots g h.1.1.0 c.nodes),
+        of_same_tables (used_in_all roots g.nodes) (tables t r n) (rw (← h.1.1.0) c.used),
+      ),
+      same_graph roots texts rails g h.1.1.0 h.1.0 h.0,
+    ))
+    (λ nodes h. let c : Counted places most (tables t r n) (graph_of roots texts rails nodes) = record {
+      roots = hroots.1;
+      nodes = h.0.1;
+      used = same_tables_of (used_in_all roots nodes) (tables t r n) h.1;
+    } in (
+      refl,
+      (
+        refl,
+        (
+          refl,
+          (
+            refl,
+            (
+              h.0.0,
+              (
+                hrails.0,
+                (
+                  htexts.0,
+                  (
+                    hroots.0,
+                    fits_graph v places most k t r n (graph_of roots texts rails nodes)
+                        (leb-true k most hk.1) hroots.0 htexts.0 hrails.0 h.0.0 ok htexts.1 hrails.1 c,
+                  ),
+                ),
+              ),
+            ),
+          ),
+        ),
+      ),
+    )))))))))

@@ -49,7 +49,8 @@ after_version h = to_be_bytes w16 h.least_places ++ after_least h
 header : ImageVersion → ℕ → ℕ → ℕ → ℕ → ℕ → ℕ → Header
 header v l c i t f e = record { version = v; least_places = l; classes = c; ints = i; texts = t; functions = f; entry = e }
 
-same_header : (v : ImageVersion) (l c i t f e : ℕ) (h : Header) → h.version ≡ v → h.least_places ≡ l → h.classes ≡ c → h.ints ≡ i → h.texts ≡ t → h.functions ≡ f → h.entry ≡ e → header v l c i t f e ≡ h
+same_header : (v : ImageVersion) (l c i t f e : ℕ) (h : Header) → h.version ≡ v → h.least_places ≡ l → h.classes ≡ c → h.ints ≡ i → h.texts ≡ t
+    → h.functions ≡ f → h.entry ≡ e → header v l c i t f e ≡ h
 unfolding header
 same_header v l c i t f e h hv hl hc hi ht hf he = rw (← hv, ← hl, ← hc, ← hi, ← ht, ← hf, ← he) refl
 
@@ -90,8 +91,35 @@ header_reads =
     (λ h g. (omega (arith, g.1.1.1.1.1.functions), within_of 1 256 h.functions g.1.1.1.1.1.functions.0 g.1.1.1.1.1.functions.1)) (λ f hf.
     then_reads (λ h. h.entry) (λ h. to_be_bytes w16 0) wide (λ h g. g.1.1.1.1.1.1.entry) (λ e he.
     spelled_as (expect_reads 0 Reserved wide (omega arith)
-    (done_reads (header v l c i t f e)
-    (refl, (refl, (refl, (refl, (refl, (refl, (refl, record { least_places = of_within 1 64 l hl.1; classes = hc; ints = hi; texts = ht; functions = of_within 1 256 f hf.1; entry = he })))))))
+    (done_reads (header v l c i t f e) (
+      refl,
+      (
+        refl,
+        (
+          refl,
+          (
+            refl,
+            (
+              refl,
+              (
+                refl,
+                (
+                  refl,
+                  record {
+                    least_places = of_within 1 64 l hl.1;
+                    classes = hc;
+                    ints = hi;
+                    texts = ht;
+                    functions = of_within 1 256 f hf.1;
+                    entry = he;
+                  },
+                ),
+              ),
+            ),
+          ),
+        ),
+      ),
+    )
     (λ h g. same_header v l c i t f e h g.1.1.1.1.1.1.0 g.1.1.1.1.1.0 g.1.1.1.1.0 g.1.1.1.0 g.1.1.0 g.1.0 g.0)))
     (λ h. refl))))))))))
 
@@ -108,13 +136,24 @@ pub record FitsParts (m : Module) : Type 0 where
   pub entry : m.entry < 2 ^ 16
 
 module_of : Header → List (List ValueKind) → List ℤ → List (List ℕ) → List Function → Module
-module_of h classes ints texts functions = record { version = h.version; least_places = h.least_places; classes = classes; ints = ints; texts = texts; functions = functions; entry = h.entry }
+module_of h classes ints texts functions = record {
+  version = h.version;
+  least_places = h.least_places;
+  classes = classes;
+  ints = ints;
+  texts = texts;
+  functions = functions;
+  entry = h.entry;
+}
 
-same_module : (h : Header) (classes : List (List ValueKind)) (ints : List ℤ) (texts : List (List ℕ)) (m : Module) → header_of m ≡ h → m.classes ≡ classes → m.ints ≡ ints → m.texts ≡ texts → module_of h classes ints texts m.functions ≡ m
+same_module : (h : Header) (classes : List (List ValueKind)) (ints : List ℤ) (texts : List (List ℕ)) (m : Module) → header_of m ≡ h
+    → m.classes ≡ classes → m.ints ≡ ints → m.texts ≡ texts → module_of h classes ints texts m.functions ≡ m
 unfolding module_of
 same_module h classes ints texts m e c i t = rw (← e, ← c, ← i, ← t) refl
 
-made_header : (h : Header) (classes : List (List ValueKind)) (ints : List ℤ) (texts : List (List ℕ)) (functions : List Function) → length classes ≡ h.classes → length ints ≡ h.ints → length texts ≡ h.texts → length functions ≡ h.functions → header_of (module_of h classes ints texts functions) ≡ h
+made_header : (h : Header) (classes : List (List ValueKind)) (ints : List ℤ) (texts : List (List ℕ)) (functions : List Function)
+    → length classes ≡ h.classes → length ints ≡ h.ints → length texts ≡ h.texts → length functions ≡ h.functions
+    → header_of (module_of h classes ints texts functions) ≡ h
 unfolding module_of
 made_header h classes ints texts functions c i t f = rw (c, i, t, f) refl
 
@@ -136,7 +175,14 @@ fits_parts h classes ints texts functions fits c i t f = record {
 }
 
 fits_header : (m : Module) → FitsParts m → FitsHeader (header_of m)
-fits_header m g = record { least_places = g.least_places; classes = g.classes; ints = g.ints.0; texts = g.texts.0; functions = (g.functions.0, g.functions.1); entry = g.entry }
+fits_header m g = record {
+  least_places = g.least_places;
+  classes = g.classes;
+  ints = g.ints.0;
+  texts = g.texts.0;
+  functions = (g.functions.0, g.functions.1);
+  entry = g.entry;
+}
 
 abbrev from_functions : Module → List ℕ
 from_functions m = flat_map function_bytes m.functions
@@ -154,12 +200,30 @@ pub parts_reads : Reads parts_at spelling FitsParts
 unfolding parts_at spelling module_of
 parts_reads =
     then_reads header_of from_classes header_reads fits_header (λ h fh.
-    then_reads (λ m. m.classes) from_ints (each_reads (λ s _. s) (λ _. class_reads h.classes fh.classes) h.classes 0) (λ m g. rw (← g.0) (refl, g.1.fields)) (λ classes c.
+    then_reads (λ m. m.classes) from_ints (each_reads (λ s _. s) (λ _. class_reads h.classes fh.classes) h.classes 0)
+    (λ m g. rw (← g.0) (refl, g.1.fields)) (λ classes c.
     then_reads (λ m. m.ints) from_texts (each_reads (λ s _. s) (λ _. int_reads Short) h.ints 0) (λ m g. rw (← g.1.0) (refl, g.1.1.ints.1)) (λ ints i.
-    then_reads (λ m. m.texts) from_functions (each_reads (λ s _. s) (λ _. text_reads) h.texts 0) (λ m g. rw (← g.1.1.0) (refl, g.1.1.1.texts.1)) (λ texts t.
-    last_reads (module_of h classes ints texts) (λ m. m.functions) (each_reads (λ s _. suc s) (λ f. function_reads h.version h.classes fh.classes f) h.functions 0)
+    then_reads (λ m. m.texts) from_functions (each_reads (λ s _. s) (λ _. text_reads) h.texts 0) (λ m g. rw (← g.1.1.0) (refl, g.1.1.1.texts.1))
+    (λ texts t.
+    last_reads (module_of h classes ints texts) (λ m. m.functions)
+    (each_reads (λ s _. suc s) (λ f. function_reads h.version h.classes fh.classes f) h.functions 0)
     (λ m g. (rw (← g.1.1.1.0) (refl, g.1.1.1.1.functions.2), same_module h classes ints texts m g.1.1.1.0 g.1.1.0 g.1.0 g.0))
-    (λ functions f. (refl, (refl, (refl, (refl, (made_header h classes ints texts functions c.0 i.0 t.0 f.0, fits_parts h classes ints texts functions fh c i t f))))))))))
+    (λ functions f. (
+      refl,
+      (
+        refl,
+        (
+          refl,
+          (
+            refl,
+            (
+              made_header h classes ints texts functions c.0 i.0 t.0 f.0,
+              fits_parts h classes ints texts functions fh c i t f,
+            ),
+          ),
+        ),
+      ),
+    ))))))
 
 abbrev read_module : Module → Result Module ImageFault
 read_module m = Ok m
@@ -176,7 +240,8 @@ of_no_result None h = tt
 of_no_result (Some s) h = absurd cc
 
 is_entry_of : (f : Function) → IsEntry f → is_entry (Some f) ≡ true
-is_entry_of f fits = and_from (eqb (length f.parameters) 0) (is_none f.result) (eq-eqb (length f.parameters) 0 (omega (arith, fits.parameters))) (no_result f.result fits.result)
+is_entry_of f fits = and_from (eqb (length f.parameters) 0) (is_none f.result) (eq-eqb (length f.parameters) 0 (omega (arith, fits.parameters)))
+    (no_result f.result fits.result)
 
 entry_is : (o : Option Function) → is_entry o ≡ true → (f : Function) × (o ≡ Some f) × IsEntry f
 entry_is None h = absurd cc
@@ -196,7 +261,15 @@ fits_all_parts m g = record {
 }
 
 fits_image : (m : Module) → FitsParts m → (f : Function) × (slice_get m.functions m.entry ≡ Some f) × IsEntry f → FitsImage m
-fits_image m g e = record { least_places = g.least_places; classes = g.classes; fields = g.fields; ints = g.ints; texts = g.texts; functions = g.functions; entry = e }
+fits_image m g e = record {
+  least_places = g.least_places;
+  classes = g.classes;
+  fields = g.fields;
+  ints = g.ints;
+  texts = g.texts;
+  functions = g.functions;
+  entry = e;
+}
 
 -- what is spelled is read again
 pub module_again : (m : Module) → FitsImage m → module_at (spelling m) ≡ Ok m
@@ -205,7 +278,8 @@ module_again m g =
     ap entered (all_again parts_reads Trailing m (fits_all_parts m g))
     ∙ rw (g.entry.1, is_entry_of g.entry.0 g.entry.2) refl
 
-entered_module : (b : Bool) (n m : Module) → is_entry (slice_get n.functions n.entry) ≡ b → entered (Ok n) ≡ Ok m → (read_module n ≡ Ok m) × (is_entry (slice_get m.functions m.entry) ≡ true)
+entered_module : (b : Bool) (n m : Module) → is_entry (slice_get n.functions n.entry) ≡ b → entered (Ok n) ≡ Ok m
+    → (read_module n ≡ Ok m) × (is_entry (slice_get m.functions m.entry) ≡ true)
 entered_module true n m is e =
     let h : read_module n ≡ Ok m = rw is at e in
     (h, subst (λ (k : Module). is_entry (slice_get k.functions k.entry) ≡ true) (ok_same n m h) is)

@@ -29,9 +29,11 @@ pub of_within : (least most n : ℕ) → is_within least most n ≡ true → (le
 of_within least most n h = let b = and_parts (leb least n) (leb n most) h in (leb-true least n b.0, leb-true n most b.1)
 
 -- items of one length
-pub length-items : {A : Type 0} (spell : A → List ℕ) (k : ℕ) → ((x : A) → length (spell x) ≡ k) → (xs : List A) → length (flat_map spell xs) ≡ k * length xs
+pub length-items : {A : Type 0} (spell : A → List ℕ) (k : ℕ) → ((x : A) → length (spell x) ≡ k) → (xs : List A)
+    → length (flat_map spell xs) ≡ k * length xs
 length-items spell k each [] = omega arith
-length-items spell k each (x ∷ xs) = rw flat_map-cons (omega (arith, length-append (spell x) (flat_map spell xs), each x, length-items spell k each xs))
+length-items spell k each (x ∷ xs) = rw flat_map-cons (omega
+    (arith, length-append (spell x) (flat_map spell xs), each x, length-items spell k each xs))
 
 -- ---- classes
 
@@ -62,14 +64,16 @@ code_of-lt op.Intk = omega arith
 code_of-lt _ = omega arith
 
 four_small : (a b c d : ℕ) (bytes : List ℕ) → a < 256 → b < 256 → c < 256 → d < 256 → IsBytes bytes → IsBytes (a ∷ b ∷ c ∷ d ∷ bytes)
-four_small a b c d bytes ha hb hc hd h = IsBytes-cons a (b ∷ c ∷ d ∷ bytes) ha (IsBytes-cons b (c ∷ d ∷ bytes) hb (IsBytes-cons c (d ∷ bytes) hc (IsBytes-cons d bytes hd h)))
+four_small a b c d bytes ha hb hc hd h = IsBytes-cons a (b ∷ c ∷ d ∷ bytes) ha
+    (IsBytes-cons b (c ∷ d ∷ bytes) hb (IsBytes-cons c (d ∷ bytes) hc (IsBytes-cons d bytes hd h)))
 
 instruction_small : (i : Instr) → IsInstr i → IsBytes (instruction i)
 unfolding instruction
 instruction_small i fits = four_small (code_of i.op) i.a i.b i.c (to_be_bytes w32 i.x) (code_of-lt i.op) fits.a fits.b fits.c (bytes_below 4 i.x)
 
 -- a test that an instruction passed
-known_as : (version : ImageVersion) (j i : Instr) (b : Bool) → is_known version j.op ≡ b → (if b then Some j else None) ≡ Some i → (◌≡◌ {A = Option Instr} (Some j) (Some i)) × IsTrue (is_known version i.op)
+known_as : (version : ImageVersion) (j i : Instr) (b : Bool) → is_known version j.op ≡ b → (if b then Some j else None) ≡ Some i
+    → (◌≡◌ {A = Option Instr} (Some j) (Some i)) × IsTrue (is_known version i.op)
 known_as version j i true is e = (e, let same : j ≡ i = cc in subst (λ (k : Instr). IsTrue (is_known version k.op)) same is)
 known_as version j i false is e = absurd cc
 
@@ -80,14 +84,16 @@ known_is : (version : ImageVersion) (o : Option Instr) (i : Instr) → if_known 
 known_is version None i e = absurd cc
 known_is version (Some j) i e = known_as version j i (is_known version j.op) refl e
 
-instruction_means : (bytes : List ℕ) (o : Result Instr CodeFault) (i : Instr) → length bytes ≡ 8 → IsBytes bytes → decoded bytes ≡ o → if_decoded o ≡ Some i → (instruction i ≡ bytes) × IsInstr i
+instruction_means : (bytes : List ℕ) (o : Result Instr CodeFault) (i : Instr) → length bytes ≡ 8 → IsBytes bytes → decoded bytes ≡ o
+    → if_decoded o ≡ Some i → (instruction i ≡ bytes) × IsInstr i
 instruction_means bytes (Ok j) i len small is e =
     let t = decoded_takes bytes j len small is in
     let same : j ≡ i = cc in
     subst (λ (k : Instr). (instruction k ≡ bytes) × IsInstr k) same (sym t.1, t.0)
 instruction_means bytes (Err f) i len small is e = absurd cc
 
-instruction_known : (version : ImageVersion) (bytes : List ℕ) (i : Instr) → length bytes ≡ 8 → IsBytes bytes → if_known version (if_decoded (decoded bytes)) ≡ Some i → (instruction i ≡ bytes) × IsInstrOf version i
+instruction_known : (version : ImageVersion) (bytes : List ℕ) (i : Instr) → length bytes ≡ 8 → IsBytes bytes
+    → if_known version (if_decoded (decoded bytes)) ≡ Some i → (instruction i ≡ bytes) × IsInstrOf version i
 instruction_known version bytes i len small e =
     let k = known_is version (if_decoded (decoded bytes)) i e in
     let m = instruction_means bytes (decoded bytes) i len small refl k.0 in

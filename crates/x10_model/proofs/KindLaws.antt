@@ -18,12 +18,14 @@ record Means (classes : ℕ) (k : ValueKind) (tag class : ℕ) : Type 0 where
   tag_is : tag_of k ≡ tag
   below : NamesClassBelow classes k
 
-without_means : (classes : ℕ) (k : ValueKind) (tag class : ℕ) (y : ValueKind) → class_of k ≡ 0 → tag_of k ≡ tag → NamesClassBelow classes k → without_class k class ≡ Some y → Means classes y tag class
+without_means : (classes : ℕ) (k : ValueKind) (tag class : ℕ) (y : ValueKind) → class_of k ≡ 0 → tag_of k ≡ tag → NamesClassBelow classes k
+    → without_class k class ≡ Some y → Means classes y tag class
 without_means classes k tag class y c t b e =
     let h = cond_some (eqb class 0) k y e in
     subst (λ (z : ValueKind). Means classes z tag class) h.1 (record { class_is = c ∙ sym (eqb-true class 0 h.0); tag_is = t; below = b })
 
-with_means : (classes : ℕ) (make : ℕ → ValueKind) (tag class : ℕ) (y : ValueKind) → class_of (make class) ≡ class → tag_of (make class) ≡ tag → (class < classes → NamesClassBelow classes (make class)) → with_class make classes class ≡ Some y → Means classes y tag class
+with_means : (classes : ℕ) (make : ℕ → ValueKind) (tag class : ℕ) (y : ValueKind) → class_of (make class) ≡ class → tag_of (make class) ≡ tag
+    → (class < classes → NamesClassBelow classes (make class)) → with_class make classes class ≡ Some y → Means classes y tag class
 with_means classes make tag class y c t b e =
     let h = cond_some (ltb class classes) (make class) y e in
     subst (λ (z : ValueKind). Means classes z tag class) h.1 (record { class_is = c; tag_is = t; below = b (ltb-true class classes h.0) })
@@ -102,10 +104,13 @@ flag_below : (b : Bool) → flag_byte b < 256
 flag_below false = omega arith
 flag_below true = omega arith
 
-slot_again : (classes : ℕ) (s : Slot) → FitsSlot classes s → flagged (kind_of classes (tag_of s.kind) (class_of s.kind)) (flag_byte s.home_here) ≡ Some s
-slot_again classes s fits = ap (λ (o : Option ValueKind). flagged o (flag_byte s.home_here)) (kind_again classes s.kind fits.class) ∙ flagged_again s.kind s.home_here fits.flag
+slot_again : (classes : ℕ) (s : Slot) → FitsSlot classes s → flagged (kind_of classes (tag_of s.kind) (class_of s.kind)) (flag_byte s.home_here)
+    ≡ Some s
+slot_again classes s fits = ap (λ (o : Option ValueKind). flagged o (flag_byte s.home_here)) (kind_again classes s.kind fits.class)
+    ∙ flagged_again s.kind s.home_here fits.flag
 
-slot_means : (classes tag class flag : ℕ) (s : Slot) → Flags (kind_of classes tag class) flag s → (flag_byte s.home_here ≡ flag) × ((class_of s.kind ≡ class) × ((tag_of s.kind ≡ tag) × FitsSlot classes s))
+slot_means : (classes tag class flag : ℕ) (s : Slot) → Flags (kind_of classes tag class) flag s
+    → (flag_byte s.home_here ≡ flag) × ((class_of s.kind ≡ class) × ((tag_of s.kind ≡ tag) × FitsSlot classes s))
 slot_means classes tag class flag s f =
     let m = kind_means classes tag class s.kind f.kind_is in
     (f.flag_is, (m.class_is, (m.tag_is, record { class = m.below; flag = f.allowed })))
@@ -113,8 +118,10 @@ slot_means classes tag class flag s f =
 pub slot_reads : (classes : ℕ) → classes < 2 ^ 16 → Reads (slot_at classes) slot_bytes (FitsSlot classes)
 unfolding slot_at slot_bytes kind_bytes
 slot_reads classes few =
-    then_reads (λ s. tag_of s.kind) (λ s. to_be_bytes w16 (class_of s.kind) ++ flag_byte s.home_here ∷ []) (byte_reads Short) (λ s g. tag_below s.kind) (λ tag _.
-    then_reads (λ s. class_of s.kind) (λ s. flag_byte s.home_here ∷ []) (number_reads w16 (2 ^ 16) wide16 Short) (λ s g. class_below classes s.kind few g.1.class) (λ class _.
+    then_reads (λ s. tag_of s.kind) (λ s. to_be_bytes w16 (class_of s.kind) ++ flag_byte s.home_here ∷ []) (byte_reads Short)
+    (λ s g. tag_below s.kind) (λ tag _.
+    then_reads (λ s. class_of s.kind) (λ s. flag_byte s.home_here ∷ []) (number_reads w16 (2 ^ 16) wide16 Short)
+    (λ s g. class_below classes s.kind few g.1.class) (λ class _.
     given_reads (λ flag. flagged (kind_of classes tag class) flag) (λ _. Kind) (λ s. flag_byte s.home_here) (byte_reads Short)
     (λ s g. (flag_below s.home_here, rw (← g.0, ← g.1.0) (slot_again classes s g.1.1)))
     (λ flag s lt e. slot_means classes tag class flag s (flagged_means (kind_of classes tag class) flag s e))))
@@ -139,7 +146,8 @@ record IsResult (classes tag class flag : ℕ) (r : Option Slot) : Type 0 where
   tag_is : result_tag r ≡ tag
   fits : IfSome r (FitsSlot classes)
 
-some_means : (classes tag class flag : ℕ) (o : Option Slot) (r : Option Slot) → o ≡ flagged (kind_of classes tag class) flag → some_result o ≡ Some r → IsResult classes tag class flag r
+some_means : (classes tag class flag : ℕ) (o : Option Slot) (r : Option Slot) → o ≡ flagged (kind_of classes tag class) flag → some_result o ≡ Some r
+    → IsResult classes tag class flag r
 some_means classes tag class flag None r is e = absurd cc
 some_means classes tag class flag (Some s) r is e =
     let m = slot_means classes tag class flag s (flagged_means (kind_of classes tag class) flag s (sym is)) in
@@ -150,10 +158,16 @@ result_means : (classes tag class flag : ℕ) (r : Option Slot) → result_of cl
 result_means classes zero class flag r e =
     let h = cond_some (eqb class 0 && eqb flag 0) None r e in
     let both = and_parts (eqb class 0) (eqb flag 0) h.0 in
-    subst (IsResult classes 0 class flag) h.1 (record { flag_is = sym (eqb-true flag 0 both.1); class_is = sym (eqb-true class 0 both.0); tag_is = refl; fits = tt })
+    subst (IsResult classes 0 class flag) h.1 (record {
+      flag_is = sym (eqb-true flag 0 both.1);
+      class_is = sym (eqb-true class 0 both.0);
+      tag_is = refl;
+      fits = tt;
+    })
 result_means classes (suc tag) class flag r e = some_means classes (suc tag) class flag (flagged (kind_of classes (suc tag) class) flag) r refl e
 
-result_of_some : (classes : ℕ) (k : ValueKind) (class flag : ℕ) → result_of classes (tag_of k) class flag ≡ some_result (flagged (kind_of classes (tag_of k) class) flag)
+result_of_some : (classes : ℕ) (k : ValueKind) (class flag : ℕ)
+    → result_of classes (tag_of k) class flag ≡ some_result (flagged (kind_of classes (tag_of k) class) flag)
 result_of_some classes kind.Int class flag = refl
 result_of_some classes kind.Place class flag = refl
 result_of_some classes kind.Text class flag = refl
@@ -162,11 +176,14 @@ result_of_some classes (kind.Obj c) class flag = refl
 result_of_some classes (kind.Opt c) class flag = refl
 result_of_some classes (kind.GRef c) class flag = refl
 
-result_again : (classes : ℕ) (r : Option Slot) → IfSome r (FitsSlot classes) → result_of classes (result_tag r) (result_class r) (result_flag r) ≡ Some r
+result_again : (classes : ℕ) (r : Option Slot) → IfSome r (FitsSlot classes)
+    → result_of classes (result_tag r) (result_class r) (result_flag r) ≡ Some r
 result_again classes None fits = refl
-result_again classes (Some s) fits = result_of_some classes s.kind (class_of s.kind) (flag_byte s.home_here) ∙ ap some_result (slot_again classes s fits)
+result_again classes (Some s) fits = result_of_some classes s.kind (class_of s.kind) (flag_byte s.home_here)
+    ∙ ap some_result (slot_again classes s fits)
 
-result_small : (classes : ℕ) (r : Option Slot) → classes < 2 ^ 16 → IfSome r (FitsSlot classes) → (result_tag r < 256) × (result_class r < 2 ^ 16) × (result_flag r < 256)
+result_small : (classes : ℕ) (r : Option Slot) → classes < 2 ^ 16 → IfSome r (FitsSlot classes)
+    → (result_tag r < 256) × (result_class r < 2 ^ 16) × (result_flag r < 256)
 result_small classes None few fits = (omega arith, omega arith, omega arith)
 result_small classes (Some s) few fits = (tag_below s.kind, class_below classes s.kind few fits.class, flag_below s.home_here)
 
@@ -178,7 +195,8 @@ result_spelled (Some s) = refl
 pub result_reads : (classes : ℕ) → classes < 2 ^ 16 → Reads (result_at classes) result_bytes (λ r. IfSome r (FitsSlot classes))
 unfolding result_at
 result_reads classes few = spelled_as
-    (then_reads result_tag (λ r. to_be_bytes w16 (result_class r) ++ (result_flag r ∷ [])) (byte_reads Short) (λ r g. (result_small classes r few g).0) (λ tag _.
+    (then_reads result_tag (λ r. to_be_bytes w16 (result_class r) ++ (result_flag r ∷ [])) (byte_reads Short)
+    (λ r g. (result_small classes r few g).0) (λ tag _.
     then_reads result_class (λ r. result_flag r ∷ []) (number_reads w16 (2 ^ 16) wide16 Short) (λ r g. (result_small classes r few g.1).1) (λ class _.
     given_reads (λ flag. result_of classes tag class flag) (λ _. Kind) result_flag (byte_reads Short)
     (λ r g. ((result_small classes r few g.1.1).2, rw (← g.0, ← g.1.0) (result_again classes r g.1.1)))

@@ -7,8 +7,8 @@ pub mod Operations
 pub mod NotWrong
 pub mod Decided
 pub mod Choices
-pub mod Reaching
-pub mod Arriving
+pub mod WholeDecided
+pub mod ArrivalDecided
 pub mod Able
 pub mod Ready
 pub mod Balance
@@ -25,7 +25,7 @@ pub mod ItemLaws
 pub mod GraphLaws
 pub mod FrameLaws
 pub mod Loops
-pub mod Moving
+pub mod MoveLemmas
 pub mod Ways
 pub mod RelayMoves
 pub mod Relayed

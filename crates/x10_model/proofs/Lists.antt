@@ -22,7 +22,8 @@ append_get [] y ys = refl
 append_get (x ∷ xs) y ys = append_get xs y ys
 
 -- what is in a list with one item more
-pub last_or_before : {A : Type 0} (xs : List A) (x y : A) (i : ℕ) → slice_get (xs ++ x ∷ []) i ≡ Some y → (slice_get xs i ≡ Some y) ⊎ ((i ≡ length xs) × (x ≡ y))
+pub last_or_before : {A : Type 0} (xs : List A) (x y : A) (i : ℕ) → slice_get (xs ++ x ∷ []) i ≡ Some y
+    → (slice_get xs i ≡ Some y) ⊎ ((i ≡ length xs) × (x ≡ y))
 last_or_before [] x y zero e = inr (refl, same_Some x y e)
 last_or_before [] x y (suc i) e = absurd cc
 last_or_before (z ∷ zs) x y zero e = inl e

@@ -11,7 +11,8 @@ use Rattle.std.specs.Int.{Width, byte_len, from_be_bytes}
 -- ---- parts of a part
 
 -- what stands behind the front of a part
-pub later : (bytes : List ℕ) (at n next : ℕ) (front back : List ℕ) → n ≡ length front → next ≡ at + n → StandsAt bytes at (front ++ back) → StandsAt bytes next back
+pub later : (bytes : List ℕ) (at n next : ℕ) (front back : List ℕ) → n ≡ length front → next ≡ at + n → StandsAt bytes at (front ++ back)
+    → StandsAt bytes next back
 later bytes at n next front back len e s =
     record {
       rest = s.rest;
@@ -49,7 +50,8 @@ same_length R [] (y ∷ ys) h = absurd h
 same_length R (x ∷ xs) [] h = absurd h
 
 -- the item that the table's entry is for
-pub item_of : {Y : Type 0} (R : ℕ → Y → Type 0) (xs : List ℕ) (ys : List Y) (i : ℕ) → Pairwise R xs ys → i < length ys → (y : Y) × (slice_get ys i ≡ Some y) × R (get_or xs i 0) y
+pub item_of : {Y : Type 0} (R : ℕ → Y → Type 0) (xs : List ℕ) (ys : List Y) (i : ℕ) → Pairwise R xs ys → i < length ys
+    → (y : Y) × (slice_get ys i ≡ Some y) × R (get_or xs i 0) y
 item_of R [] [] i h lt = absurd (omega (arith, lt))
 item_of R (x ∷ xs) (y ∷ ys) zero h lt = (y, refl, h.0)
 item_of R (x ∷ xs) (y ∷ ys) (suc i) h lt = item_of R xs ys i h.1 (omega (arith, lt))
@@ -57,14 +59,16 @@ item_of R [] (y ∷ ys) i h lt = absurd h
 item_of R (x ∷ xs) [] i h lt = absurd h
 
 -- an item among others of one length
-pub item_at : {A : Type 0} (spell : A → List ℕ) (k : ℕ) → ((x : A) → length (spell x) ≡ k) → (bytes : List ℕ) (at : ℕ) (xs : List A) (i next : ℕ) → next ≡ at + k * i → StandsAt bytes at (flat_map spell xs) → i < length xs → (x : A) × (slice_get xs i ≡ Some x) × StandsAt bytes next (spell x)
+pub item_at : {A : Type 0} (spell : A → List ℕ) (k : ℕ) → ((x : A) → length (spell x) ≡ k) → (bytes : List ℕ) (at : ℕ) (xs : List A) (i next : ℕ)
+    → next ≡ at + k * i → StandsAt bytes at (flat_map spell xs) → i < length xs → (x : A) × (slice_get xs i ≡ Some x) × StandsAt bytes next (spell x)
 item_at spell k len bytes at [] i next e s lt = absurd (omega (arith, lt))
 item_at spell k len bytes at (x ∷ xs) zero next e s lt =
     let here : next ≡ at = omega (arith, e) in
     (x, refl, rw here (narrow bytes at (spell x) (flat_map spell xs) (rw flat_map-cons at s)))
 item_at spell k len bytes at (x ∷ xs) (suc i) next e s lt =
     let there : next ≡ (at + k) + k * i = omega (arith, e) in
-    item_at spell k len bytes (at + k) xs i next there (later bytes at k (at + k) (spell x) (flat_map spell xs) (sym (len x)) refl (rw flat_map-cons at s)) (omega (arith, lt))
+    item_at spell k len bytes (at + k) xs i next there (later bytes at k (at + k) (spell x) (flat_map spell xs) (sym (len x)) refl
+    (rw flat_map-cons at s)) (omega (arith, lt))
 
 -- ---- the end of the bytes
 
@@ -75,9 +79,13 @@ place_is image bytes part rest e is =
     record { rest = rest; is = rw at (ap (drop (length e.before)) e.is ∙ drop_at e.before bytes (length e.before) refl ∙ is) }
 
 pub still_ends : (image bytes part rest : List ℕ) → EndsWith image bytes → bytes ≡ part ++ rest → EndsWith image rest
-still_ends image bytes part rest e is = record { before = e.before ++ part; is = e.is ∙ ap (λ (t : List ℕ). e.before ++ t) is ∙ sym (append_assoc e.before part rest) }
+still_ends image bytes part rest e is = record {
+  before = e.before ++ part;
+  is = e.is ∙ ap (λ (t : List ℕ). e.before ++ t) is ∙ sym (append_assoc e.before part rest);
+}
 
-pub Pairwise-push : {X Y : Type 0} (R : X → Y → Type 0) (xs : List X) (ys : List Y) (x : X) (y : Y) → Pairwise R xs ys → R x y → Pairwise R (xs ++ x ∷ []) (ys ++ y ∷ [])
+pub Pairwise-push : {X Y : Type 0} (R : X → Y → Type 0) (xs : List X) (ys : List Y) (x : X) (y : Y) → Pairwise R xs ys → R x y
+    → Pairwise R (xs ++ x ∷ []) (ys ++ y ∷ [])
 Pairwise-push R [] [] x y h r = (r, tt)
 Pairwise-push R (a ∷ xs) (b ∷ ys) x y h r = (h.0, Pairwise-push R xs ys x y h.1 r)
 Pairwise-push R [] (b ∷ ys) x y h r = absurd h
@@ -88,7 +96,8 @@ ends_small image bytes e = omega (arith, ap length e.is, length-append e.before 
 
 pub ends_bytes : (image bytes : List ℕ) → IsBytes image → EndsWith image bytes → IsBytes bytes
 ends_bytes image bytes b e k =
-    let same : get_or image (length e.before + k) 0 ≡ get_or bytes k 0 = ap (λ (t : List ℕ). get_or t (length e.before + k) 0) e.is ∙ get_or-append-add e.before bytes k 0 in
+    let same : get_or image (length e.before + k) 0 ≡ get_or bytes k 0 =
+    ap (λ (t : List ℕ). get_or t (length e.before + k) 0) e.is ∙ get_or-append-add e.before bytes k 0 in
     subst (λ (n : ℕ). n < 256) same (b (length e.before + k))
 
 -- ---- numbers
@@ -97,6 +106,7 @@ pub number_short : {E : Type 0} (short : E) (w : Width) (bytes : List ℕ) → l
 unfolding number bind part
 number_short short w bytes h = rw (lt-ltb _ _ h) refl
 
-pub number_is : {E : Type 0} (short : E) (w : Width) (bytes : List ℕ) (n : ℕ) → byte_len w ≤ length bytes → from_be_bytes w (take (byte_len w) bytes) ≡ n → number w short bytes ≡ Ok (n, drop (byte_len w) bytes)
+pub number_is : {E : Type 0} (short : E) (w : Width) (bytes : List ℕ) (n : ℕ) → byte_len w ≤ length bytes
+    → from_be_bytes w (take (byte_len w) bytes) ≡ n → number w short bytes ≡ Ok (n, drop (byte_len w) bytes)
 unfolding number bind part done
 number_is short w bytes n h e = rw (le-ltb _ _ h, e) refl

@@ -86,13 +86,17 @@ arguments_fit op.Ata s new effect at d e = passed_at s at d.0 d.1 (subst (λ p. 
 arguments_fit _ s new effect at d e = absurd e
 
 -- a function that gives nothing back, where an activity begins with it
-pub no_result_dropped : (o : Op) (s : Situation) (new : places.Place) (effect : Effect) (slot : Slot) → Does o s new effect → IsDetached o → result_of (function_at s.setting.program s.instr.x) ≡ Some slot → ⊥
-no_result_dropped op.Async s new effect slot d h e = none_some (result_of (function_at s.setting.program s.instr.x)) slot (ap result_of d.3.callee_is ∙ d.4) e
-no_result_dropped op.Ata s new effect slot d h e = none_some (result_of (function_at s.setting.program s.instr.x)) slot (ap result_of d.5.callee_is ∙ d.6) e
+pub no_result_dropped : (o : Op) (s : Situation) (new : places.Place) (effect : Effect) (slot : Slot) → Does o s new effect → IsDetached o
+    → result_of (function_at s.setting.program s.instr.x) ≡ Some slot → ⊥
+no_result_dropped op.Async s new effect slot d h e = none_some (result_of (function_at s.setting.program s.instr.x)) slot
+    (ap result_of d.3.callee_is ∙ d.4) e
+no_result_dropped op.Ata s new effect slot d h e = none_some (result_of (function_at s.setting.program s.instr.x)) slot
+    (ap result_of d.5.callee_is ∙ d.6) e
 no_result_dropped _ s new effect slot d h e = h
 
 -- a get or a put found the field that it speaks of
-pub field_found : (o : Op) (s : Situation) (new : places.Place) (effect : Effect) (r c : ℕ) (fields : List Value) → Does o s new effect → IsFieldOwner s o r → s.place.cells r ≡ Some (Fields c fields) → slice_get fields s.instr.c ≡ None → ⊥
+pub field_found : (o : Op) (s : Situation) (new : places.Place) (effect : Effect) (r c : ℕ) (fields : List Value) → Does o s new effect
+    → IsFieldOwner s o r → s.place.cells r ≡ Some (Fields c fields) → slice_get fields s.instr.c ≡ None → ⊥
 field_found op.Get s new effect r c fields d h e none =
     let same = same_object s.place.cells d.0 r d.1 c d.2 fields (held_object s s.instr.b d.0 r d.4 h) d.5 e in
     none_some (slice_get fields s.instr.c) d.3 none (subst (λ xs. slice_get xs s.instr.c ≡ Some d.3) same.1 d.6)
@@ -105,30 +109,54 @@ field_found _ s new effect r c fields d h e none = h
 
 pub step : (o : Op) (s : Situation) → s.instr.op ≡ o → IsInRange s.setting.program s.function s.instr → HasRoom s → Result o s
 -- numbers
-step op.Intk s e range room = let z = get_below s.setting.program.ints s.instr.x (x_there op.Intk s e range) in inl (on s (put s (Int z.0)), Works, (z.0, z.1, (refl, refl)))
+step op.Intk s e range room = let z = get_below s.setting.program.ints s.instr.x (x_there op.Intk s e range) in
+    inl (on s (put s (Int z.0)), Works, (z.0, z.1, (refl, refl)))
 -- control
 step op.Move s e range room = and_then (ask op.Move s e s.instr.b Anything (0, refl)) (λ h. inl (on s (put s h.0), Works, (h.0, h.1, (refl, refl))))
 step op.Jmp s e range room = inl (on s (goes s.stay.top s.instr.x), Works, (refl, refl))
-step op.Jz s e range room = and_then (ask_int op.Jz s e s.instr.a (0, refl)) (λ z. inl (on s (if is_zero z.0 then goes s.stay.top s.instr.x else next s.stay.top), Works, (z.0, z.1, (refl, refl))))
-step op.Loop s e range room = inl (on s (record s.stay.top { pc = s.stay.top.pc + 1; loops = with_entry s.stay.top.loops s.instr.a s.instr.x }), Works, (refl, refl))
-step op.Endl s e range room = inl (on s (let left = s.stay.top.loops s.instr.a - 1 in record s.stay.top { pc = if nat_lt 0 left then s.instr.x else s.stay.top.pc + 1; loops = with_entry s.stay.top.loops s.instr.a left }), Works, (refl, refl))
+step op.Jz s e range room = and_then (ask_int op.Jz s e s.instr.a (0, refl))
+    (λ z. inl (on s (if is_zero z.0 then goes s.stay.top s.instr.x else next s.stay.top), Works, (z.0, z.1, (refl, refl))))
+step op.Loop s e range room = inl (
+  on s (record s.stay.top { pc = s.stay.top.pc + 1; loops = with_entry s.stay.top.loops s.instr.a s.instr.x }),
+  Works,
+  (refl, refl),
+)
+step op.Endl s e range room = inl (
+  on s (let left = s.stay.top.loops s.instr.a - 1 in
+      record s.stay.top { pc = if nat_lt 0 left then s.instr.x else s.stay.top.pc + 1; loops = with_entry s.stay.top.loops s.instr.a left }),
+  Works,
+  (refl, refl),
+)
 step op.Call s e range room = and_then (called op.Call s s.here e (x_there op.Call s e range) refl) (λ h.
-    inl (with_stay s.place s.key (Some (record s.stay { top = entry_frame s.instr.x h.1; callers = s.stay.top ∷ s.stay.callers })), Works, (h.0, h.1, h.2, refl, refl)))
+    inl (
+      with_stay s.place s.key (Some (record s.stay { top = entry_frame s.instr.x h.1; callers = s.stay.top ∷ s.stay.callers })),
+      Works,
+      (h.0, h.1, h.2, refl, refl),
+    ))
 step op.Ret s e range room = elim (gives_or_not s s.function.result) [
   | inl g ↦ and_then (returns_to s room g.0 s.stay.callers e g.1 refl) (λ r. inl (r.0, r.1, (g.0, g.1, r.2)))
   | inr never ↦ inr (result e never)
 ]
 -- text
-step op.Textk s e range room = let z = get_below s.setting.program.texts s.instr.x (x_there op.Textk s e range) in inl (on s (put s (Text z.0)), Works, (z.0, z.1, (refl, refl)))
-step op.Tlen s e range room = and_then (ask_text op.Tlen s e s.instr.b (0, refl)) (λ t. inl (on s (put s (Int (pos (length t.0)))), Works, (t.0, t.1, (refl, refl))))
+step op.Textk s e range room = let z = get_below s.setting.program.texts s.instr.x (x_there op.Textk s e range) in
+    inl (on s (put s (Text z.0)), Works, (z.0, z.1, (refl, refl)))
+step op.Tlen s e range room = and_then (ask_text op.Tlen s e s.instr.b (0, refl))
+    (λ t. inl (on s (put s (Int (pos (length t.0)))), Works, (t.0, t.1, (refl, refl))))
 step op.Tcat s e range room = and_then (ask_text op.Tcat s e s.instr.b (0, refl)) (λ t. and_then (ask_text op.Tcat s e s.instr.c (1, refl)) (λ u.
     inl (on s (writes_or_goes s (joined_text t.0 u.0)), Works, (t.0, u.0, t.1, u.1, (refl, refl)))))
 -- objects
-step op.New s e range room = let kinds = get_below s.setting.program.classes s.instr.x (x_there op.New s e range) in elim (kinds_or_not s s.instr.b kinds.0) [
-  | inl h ↦ inl (on_at s (with_cell s.place room.reference.0 (Fields s.instr.x h.0)) (put s (Object room.reference.0)), Works, (kinds.0, h.0, room.reference.0, kinds.1, h.1, h.2, room.reference.1, (refl, refl)))
-  | inr never ↦ inr (new_field e (λ vs held fit. never vs held (subst (λ (g : Option (List Kind)). AreOfKinds (IsOfKind s.place.cells) vs (fields_of g)) kinds.1 fit)))
-]
-step op.Get s e range room = and_then (ask_object op.Get s e s.instr.b (0, refl)) (λ h. get_field s h.0 h.1 h.2 (slice_get h.2 s.instr.c) e h.3 h.4 refl)
+step op.New s e range room = let kinds = get_below s.setting.program.classes s.instr.x (x_there op.New s e range) in
+    elim (kinds_or_not s s.instr.b kinds.0) [
+      | inl h ↦ inl (
+        on_at s (with_cell s.place room.reference.0 (Fields s.instr.x h.0)) (put s (Object room.reference.0)),
+        Works,
+        (kinds.0, h.0, room.reference.0, kinds.1, h.1, h.2, room.reference.1, (refl, refl)),
+      )
+      | inr never ↦ inr (new_field e (λ vs held fit. never vs held
+          (subst (λ (g : Option (List Kind)). AreOfKinds (IsOfKind s.place.cells) vs (fields_of g)) kinds.1 fit)))
+    ]
+step op.Get s e range room = and_then (ask_object op.Get s e s.instr.b (0, refl))
+    (λ h. get_field s h.0 h.1 h.2 (slice_get h.2 s.instr.c) e h.3 h.4 refl)
 step op.Put s e range room = and_then (ask_object op.Put s e s.instr.a (0, refl)) (λ h. and_then (ask op.Put s e s.instr.b Anything (1, refl)) (λ v.
     put_value s h.0 h.1 h.2 v.0 (slice_get h.2 s.instr.c) e h.3 h.4 v.1 refl))
 step op.Null s e range room = inl (on s (put s Null), Works, (refl, refl))
@@ -137,56 +165,84 @@ step op.Ifobj s e range room = and_then (ask op.Ifobj s e s.instr.b AnObjectOrNu
   | inr null ↦ inl (on s (goes s.stay.top s.instr.x), Works, inr (holds s s.instr.b h.0 Null h.1 null, (refl, refl)))
 ])
 -- rails
-step op.Rail s e range room = and_then (ask_int op.Rail s e s.instr.b (0, refl)) (λ z. let m = makes_rail s room (rail_length z.0) in inl (m.0, m.1, (z.0, z.1, m.2)))
+step op.Rail s e range room = and_then (ask_int op.Rail s e s.instr.b (0, refl))
+    (λ z. let m = makes_rail s room (rail_length z.0) in inl (m.0, m.1, (z.0, z.1, m.2)))
 step op.Rget s e range room = and_then (ask_rail op.Rget s e s.instr.b (0, refl)) (λ r. and_then (ask_int op.Rget s e s.instr.c (1, refl)) (λ z.
     inl (on s (writes_or_goes s (byte_value (byte_at r.1 z.0))), Works, (r.0, r.1, z.0, r.2, r.3, z.1, (refl, refl)))))
-step op.Rset s e range room = and_then (ask_rail op.Rset s e s.instr.a (0, refl)) (λ r. and_then (ask_int op.Rset s e s.instr.b (1, refl)) (λ z. and_then (ask_int op.Rset s e s.instr.c (2, refl)) (λ w.
+step op.Rset s e range room = and_then (ask_rail op.Rset s e s.instr.a (0, refl))
+    (λ r. and_then (ask_int op.Rset s e s.instr.b (1, refl)) (λ z. and_then (ask_int op.Rset s e s.instr.c (2, refl)) (λ w.
     let m = sets_byte s r.0 r.1 z.0 w.0 (byte_at r.1 z.0) in inl (m.0, m.1, (r.0, r.1, z.0, w.0, r.2, r.3, z.1, w.1, m.2)))))
-step op.Rlen s e range room = and_then (ask_rail op.Rlen s e s.instr.b (0, refl)) (λ r. inl (on s (put s (Int (pos (length r.1)))), Works, (r.0, r.1, r.2, r.3, (refl, refl))))
+step op.Rlen s e range room = and_then (ask_rail op.Rlen s e s.instr.b (0, refl))
+    (λ r. inl (on s (put s (Int (pos (length r.1)))), Works, (r.0, r.1, r.2, r.3, (refl, refl))))
 -- places
 step op.Here s e range room = inl (on s (put s (Place s.here)), Works, (refl, refl))
 step op.Placek s e range room = inl (on s (put s (Place s.instr.x)), Works, (refl, refl))
-step op.Placen s e range room = and_then (ask_int op.Placen s e s.instr.b (0, refl)) (λ z. inl (on s (writes_or_goes s (place_number s.setting.places z.0)), Works, (z.0, z.1, (refl, refl))))
-step op.Placei s e range room = and_then (ask_place op.Placei s e s.instr.b (0, refl)) (λ p. inl (on s (put s (Int (pos p.0))), Works, (p.0, p.1, (refl, refl))))
-step op.Nextp s e range room = and_then (ask_place op.Nextp s e s.instr.b (0, refl)) (λ p. inl (on s (put s (Place ((p.0 + 1) % s.setting.places))), Works, (p.0, p.1, (refl, refl))))
+step op.Placen s e range room = and_then (ask_int op.Placen s e s.instr.b (0, refl))
+    (λ z. inl (on s (writes_or_goes s (place_number s.setting.places z.0)), Works, (z.0, z.1, (refl, refl))))
+step op.Placei s e range room = and_then (ask_place op.Placei s e s.instr.b (0, refl))
+    (λ p. inl (on s (put s (Int (pos p.0))), Works, (p.0, p.1, (refl, refl))))
+step op.Nextp s e range room = and_then (ask_place op.Nextp s e s.instr.b (0, refl))
+    (λ p. inl (on s (put s (Place ((p.0 + 1) % s.setting.places))), Works, (p.0, p.1, (refl, refl))))
 step op.Count s e range room = inl (on s (put s (Int (pos s.setting.places))), Works, (refl, refl))
-step op.Home s e range room = and_then (ask_ref op.Home s e s.instr.b (0, refl)) (λ h. inl (on s (put s (Place h.0)), Works, (h.0, h.1, h.2, h.3, (refl, refl))))
+step op.Home s e range room = and_then (ask_ref op.Home s e s.instr.b (0, refl))
+    (λ h. inl (on s (put s (Place h.0)), Works, (h.0, h.1, h.2, h.3, (refl, refl))))
 step op.Gnew s e range room = and_then (ask_object op.Gnew s e s.instr.b (0, refl)) (λ h.
-    inl (on_at s (record s.place { exports = s.place.exports ++ record { class = h.1; object = h.0 } ∷ [] }) (put s (Ref s.here (length s.place.exports) h.1)), Works, (h.0, h.1, h.2, h.3, h.4, (refl, refl))))
+    inl (
+      on_at s (record s.place { exports = s.place.exports ++ record { class = h.1; object = h.0 } ∷ [] })
+          (put s (Ref s.here (length s.place.exports) h.1)),
+      Works,
+      (h.0, h.1, h.2, h.3, h.4, (refl, refl)),
+    ))
 step op.Gopen s e range room = and_then (ask_ref op.Gopen s e s.instr.b (0, refl)) (λ h. opened s h.0 h.1 h.2 e h.3)
-step op.Ifhere s e range room = and_then (ask_placed op.Ifhere s e s.instr.a (0, refl)) (λ h. inl (on s (next_or_goes s (h.1 == s.here)), Works, (h.0, h.1, h.2, h.3, (refl, refl))))
-step op.Ifsame s e range room = and_then (ask_placed op.Ifsame s e s.instr.a (0, refl)) (λ h. and_then (ask_placed op.Ifsame s e s.instr.b (1, refl)) (λ k.
+step op.Ifhere s e range room = and_then (ask_placed op.Ifhere s e s.instr.a (0, refl))
+    (λ h. inl (on s (next_or_goes s (h.1 == s.here)), Works, (h.0, h.1, h.2, h.3, (refl, refl))))
+step op.Ifsame s e range room = and_then (ask_placed op.Ifsame s e s.instr.a (0, refl))
+    (λ h. and_then (ask_placed op.Ifsame s e s.instr.b (1, refl)) (λ k.
     inl (on s (next_or_goes s (h.1 == k.1)), Works, (h.0, k.0, h.1, k.1, h.2, k.2, h.3, k.3, (refl, refl)))))
 -- activities
-step op.Async s e range room = and_then (called op.Async s s.here e (x_there op.Async s e range) refl) (λ h. and_then (detached op.Async s h.0 e tt h.2.callee_is) (λ none.
+step op.Async s e range room = and_then (called op.Async s s.here e (x_there op.Async s e range) refl)
+    (λ h. and_then (detached op.Async s h.0 e tt h.2.callee_is) (λ none.
     inl (
-      with_stay (with_stay s.place s.key (Some (record s.stay { top = next s.stay.top }))) room.key.0 (Some (new_stay s.instr.x h.1 (innermost s.here s.stay) None)),
+      with_stay (with_stay s.place s.key (Some (record s.stay { top = next s.stay.top }))) room.key.0
+          (Some (new_stay s.instr.x h.1 (innermost s.here s.stay) None)),
       Begins room.key.0 s.instr.x (innermost s.here s.stay),
       (h.0, h.1, room.key.0, h.2, none, room.key.1, refl, refl),
     )))
-step op.At s e range room = and_then (ask_place op.At s e s.instr.c (0, refl)) (λ to. and_then (called op.At s to.0 e (x_there op.At s e range) to.1) (λ h.
+step op.At s e range room = and_then (ask_place op.At s e s.instr.c (0, refl))
+    (λ to. and_then (called op.At s to.0 e (x_there op.At s e range) to.1) (λ h.
     let graph = captured op.At s room e h.1 (to.0, h.0, h.2) in
     inl (
       with_stay s.place s.key (Some (record s.stay { away = true })),
       Shifts (Shift s.here to.0 s.key (innermost s.here s.stay) s.instr.x graph.0) (innermost s.here s.stay),
       (h.0, h.1, to.0, graph.0, to.1, h.2, graph.1, refl, refl),
     )))
-step op.Ata s e range room = and_then (ask_place op.Ata s e s.instr.c (0, refl)) (λ to. and_then (called op.Ata s to.0 e (x_there op.Ata s e range) to.1) (λ h. and_then (detached op.Ata s h.0 e tt h.2.callee_is) (λ none.
+step op.Ata s e range room = and_then (ask_place op.Ata s e s.instr.c (0, refl))
+    (λ to. and_then (called op.Ata s to.0 e (x_there op.Ata s e range) to.1) (λ h. and_then (detached op.Ata s h.0 e tt h.2.callee_is) (λ none.
     let graph = captured op.Ata s room e h.1 (to.0, h.0, h.2) in
     inl (
       with_stay s.place s.key (Some (record s.stay { top = next s.stay.top })),
       Spawns (Spawn s.here to.0 (innermost s.here s.stay) s.instr.x graph.0) s.instr.x (innermost s.here s.stay),
       (h.0, h.1, to.0, graph.0, to.1, h.2, none, graph.1, refl, refl),
     ))))
-step op.Finb s e range room = inl (with_stay (record s.place { opened = s.place.opened + 1 }) s.key (Some (record s.stay { top = next s.stay.top; finishes = s.place.opened ∷ s.stay.finishes })), Opens s.place.opened (innermost s.here s.stay), (refl, refl))
+step op.Finb s e range room = inl (
+  with_stay (record s.place { opened = s.place.opened + 1 }) s.key
+      (Some (record s.stay { top = next s.stay.top; finishes = s.place.opened ∷ s.stay.finishes })),
+  Opens s.place.opened (innermost s.here s.stay),
+  (refl, refl),
+)
 step op.Fine s e range room = leaves s s.stay.finishes e refl
 step op.Atomb s e range room = inl (_, Works, (refl, refl))
 step op.Atome s e range room = inl (_, Works, (refl, refl))
 -- output
 step op.Print s e range room = and_then (ask op.Print s e s.instr.a AnIntOrText (0, refl)) (λ h.
-    let line = is_line s.place.cells h.0 h.2 in inl (on_at s (with_line s.place line.0) (next s.stay.top), Works, (h.0, line.0, h.1, line.1, (refl, refl))))
+    let line = is_line s.place.cells h.0 h.2 in inl (
+      on_at s (with_line s.place line.0) (next s.stay.top),
+      Works,
+      (h.0, line.0, h.1, line.1, (refl, refl)),
+    ))
 -- two numbers
-step o s e range room = and_then (ask_int o s e s.instr.b (0, refl)) (λ x. and_then (ask_int o s e s.instr.c (1, refl)) (λ y. inl (_, Works, (x.0, y.0, x.1, y.1, (refl, refl)))))
+step o s e range room = and_then (ask_int o s e s.instr.b (0, refl))
+    (λ x. and_then (ask_int o s e s.instr.c (1, refl)) (λ y. inl (_, Works, (x.0, y.0, x.1, y.1, (refl, refl)))))
 
 -- ---- how an operation goes on
 

@@ -42,7 +42,8 @@ part_is : {E : Type 0} (n : ℕ) (short : E) (bytes : List ℕ) → n ≤ length
 unfolding part
 part_is n short bytes h = rw (le-ltb _ _ h) refl
 
-part_long : {E : Type 0} (n : ℕ) (short : E) (bytes x rest : List ℕ) (b : Bool) → ltb (length bytes) n ≡ b → part n short bytes ≡ Ok (x, rest) → n ≤ length bytes
+part_long : {E : Type 0} (n : ℕ) (short : E) (bytes x rest : List ℕ) (b : Bool) → ltb (length bytes) n ≡ b → part n short bytes ≡ Ok (x, rest)
+    → n ≤ length bytes
 unfolding part
 part_long n short bytes x rest true is e = absurd (let h = rw is at e in cc)
 part_long n short bytes x rest false is e = ltb-false _ _ is
@@ -70,12 +71,15 @@ byte_again : {E : Type 0} (short : E) (x : ℕ) (rest : List ℕ) → byte short
 unfolding byte
 byte_again short x rest = refl
 
-byte_takes : {E : Type 0} (short : E) (bytes : List ℕ) (x : ℕ) (rest : List ℕ) → IsBytes bytes → byte short bytes ≡ Ok (x, rest) → Takes bytes (x ∷ []) rest × (x < 256)
+byte_takes : {E : Type 0} (short : E) (bytes : List ℕ) (x : ℕ) (rest : List ℕ) → IsBytes bytes → byte short bytes ≡ Ok (x, rest)
+    → Takes bytes (x ∷ []) rest × (x < 256)
 unfolding byte
 byte_takes short [] x rest b e = absurd cc
 byte_takes {E} short (n ∷ bytes) x rest b e =
-    let is = same {E = E} n x bytes rest e in
-    (record { parts = rw (is.0, is.1) refl; rest_fits = λ k. subst (λ (t : List ℕ). get_or t k 0 < 256) is.1 (b (suc k)) }, subst (λ (m : ℕ). m < 256) is.0 (b 0))
+    let is = same {E = E} n x bytes rest e in (
+      record { parts = rw (is.0, is.1) refl; rest_fits = λ k. subst (λ (t : List ℕ). get_or t k 0 < 256) is.1 (b (suc k)) },
+      subst (λ (m : ℕ). m < 256) is.0 (b 0),
+    )
 
 pub byte_reads : {E : Type 0} (short : E) → Reads (byte short) (λ n. n ∷ []) (λ n. n < 256)
 byte_reads short = record { again = λ x rest g. byte_again short x rest; takes = λ bytes x rest b e. byte_takes short bytes x rest b e }
@@ -130,20 +134,23 @@ int_reads short =
 
 many_again : {E S A : Type 0} (item : S → Reader E A) (spell : A → List ℕ) (Fits : S → A → Type 0) (after : S → A → S)
     → ((s : S) → Reads (item s) spell (Fits s))
-    → (n : ℕ) (s : S) (xs : List A) (rest : List ℕ) → length xs ≡ n → FitsEach Fits after s xs → many item after n s (flat_map spell xs ++ rest) ≡ Ok (xs, rest)
+    → (n : ℕ) (s : S) (xs : List A) (rest : List ℕ) → length xs ≡ n → FitsEach Fits after s xs
+    → many item after n s (flat_map spell xs ++ rest) ≡ Ok (xs, rest)
 unfolding many done
 many_again item spell Fits after each zero s [] rest len fits = refl
 many_again item spell Fits after each zero s (x ∷ xs) rest len fits = absurd (omega arith)
 many_again item spell Fits after each (suc n) s [] rest len fits = absurd (omega arith)
 many_again item spell Fits after each (suc n) s (x ∷ xs) rest len fits =
-    let regrouped : flat_map spell (x ∷ xs) ++ rest ≡ spell x ++ (flat_map spell xs ++ rest) = ap (λ (t : List ℕ). t ++ rest) (flat_map-cons spell x xs) ∙ append_assoc (spell x) (flat_map spell xs) rest in
+    let regrouped : flat_map spell (x ∷ xs) ++ rest ≡ spell x ++ (flat_map spell xs ++ rest) =
+    ap (λ (t : List ℕ). t ++ rest) (flat_map-cons spell x xs) ∙ append_assoc (spell x) (flat_map spell xs) rest in
     let one = (each s).again x (flat_map spell xs ++ rest) fits.0 in
     let others = many_again item spell Fits after each n (after s x) xs rest (omega arith) fits.1 in
     ap (many item after (suc n) s) regrouped ∙ bind_is (item s) _ _ x _ one ∙ bind_is (many item after n (after s x)) _ _ xs rest others
 
 many_takes : {E S A : Type 0} (item : S → Reader E A) (spell : A → List ℕ) (Fits : S → A → Type 0) (after : S → A → S)
     → ((s : S) → Reads (item s) spell (Fits s))
-    → (n : ℕ) (s : S) (bytes : List ℕ) (xs : List A) (rest : List ℕ) → IsBytes bytes → many item after n s bytes ≡ Ok (xs, rest) → Takes bytes (flat_map spell xs) rest × ((length xs ≡ n) × FitsEach Fits after s xs)
+    → (n : ℕ) (s : S) (bytes : List ℕ) (xs : List A) (rest : List ℕ) → IsBytes bytes → many item after n s bytes ≡ Ok (xs, rest)
+    → Takes bytes (flat_map spell xs) rest × ((length xs ≡ n) × FitsEach Fits after s xs)
 unfolding many done
 many_takes {E} {S} {A} item spell Fits after each zero s bytes xs rest b e =
     let is = same {E = E} [] xs bytes rest e in
@@ -169,11 +176,13 @@ many_reads {E} {S} {A} {item} {spell} {Fits} after each n s = record {
 }
 
 -- items whose rule is one for all
-each_from_all : {S A : Type 0} (Fits : A → Type 0) (after : S → A → S) (s : S) (xs : List A) → AllByRecursion Fits xs → FitsEach (λ _. Fits) after s xs
+each_from_all : {S A : Type 0} (Fits : A → Type 0) (after : S → A → S) (s : S) (xs : List A) → AllByRecursion Fits xs
+    → FitsEach (λ _. Fits) after s xs
 each_from_all Fits after s [] h = tt
 each_from_all Fits after s (x ∷ xs) h = (h.0, each_from_all Fits after (after s x) xs h.1)
 
-all_from_each : {S A : Type 0} (Fits : A → Type 0) (after : S → A → S) (s : S) (xs : List A) → FitsEach (λ _. Fits) after s xs → AllByRecursion Fits xs
+all_from_each : {S A : Type 0} (Fits : A → Type 0) (after : S → A → S) (s : S) (xs : List A) → FitsEach (λ _. Fits) after s xs
+    → AllByRecursion Fits xs
 all_from_each Fits after s [] h = tt
 all_from_each Fits after s (x ∷ xs) h = (h.0, all_from_each Fits after (after s x) xs h.1)
 
@@ -187,16 +196,19 @@ each_reads {Fits = Fits} after each n s =
 
 -- ---- all of the bytes
 
-pub all_again : {E A : Type 0} {r : Reader E A} {spell : A → List ℕ} {Fits : A → Type 0} → Reads r spell Fits → (trailing : E) (x : A) → Fits x → all_of r trailing (spell x) ≡ Ok x
+pub all_again : {E A : Type 0} {r : Reader E A} {spell : A → List ℕ} {Fits : A → Type 0} → Reads r spell Fits → (trailing : E) (x : A) → Fits x
+    → all_of r trailing (spell x) ≡ Ok x
 unfolding all_of
-all_again {E} {A} {r} {spell} h trailing x fits = ap (λ (t : List ℕ). ended trailing (r t)) (sym (append-nil (spell x))) ∙ ap (ended trailing) (h.again x [] fits)
+all_again {E} {A} {r} {spell} h trailing x fits = ap (λ (t : List ℕ). ended trailing (r t)) (sym (append-nil (spell x)))
+    ∙ ap (ended trailing) (h.again x [] fits)
 
 ended_ok : {E A : Type 0} (trailing : E) (o : Result (A × List ℕ) E) (x : A) → ended trailing o ≡ Ok x → o ≡ Ok (x, [])
 ended_ok trailing (Ok (y, [])) x e = cc
 ended_ok trailing (Ok (y, b ∷ bytes)) x e = absurd cc
 ended_ok trailing (Err f) x e = absurd cc
 
-pub all_takes : {E A : Type 0} {r : Reader E A} {spell : A → List ℕ} {Fits : A → Type 0} → Reads r spell Fits → (trailing : E) (bytes : List ℕ) (x : A) → IsBytes bytes → all_of r trailing bytes ≡ Ok x → Fits x × (bytes ≡ spell x)
+pub all_takes : {E A : Type 0} {r : Reader E A} {spell : A → List ℕ} {Fits : A → Type 0} → Reads r spell Fits
+    → (trailing : E) (bytes : List ℕ) (x : A) → IsBytes bytes → all_of r trailing bytes ≡ Ok x → Fits x × (bytes ≡ spell x)
 unfolding all_of
 all_takes {E} {A} {r} {spell} h trailing bytes x b e =
     let t = h.takes bytes x [] b (ended_ok trailing (r bytes) x e) in

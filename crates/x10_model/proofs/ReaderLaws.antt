@@ -32,20 +32,24 @@ pub record Step {E A B : Type 0} (r : Reader E A) (next : A → Reader E B) (byt
   pub first : r bytes ≡ Ok (value, middle)
   pub second : next value middle ≡ Ok (y, rest)
 
-bind_ok_of : {E A B : Type 0} (r : Reader E A) (next : A → Reader E B) (bytes : List ℕ) (y : B) (rest : List ℕ) (o : Result (A × List ℕ) E) → r bytes ≡ o → bind r next bytes ≡ Ok (y, rest) → Step r next bytes y rest
+bind_ok_of : {E A B : Type 0} (r : Reader E A) (next : A → Reader E B) (bytes : List ℕ) (y : B) (rest : List ℕ) (o : Result (A × List ℕ) E)
+    → r bytes ≡ o → bind r next bytes ≡ Ok (y, rest) → Step r next bytes y rest
 unfolding bind
 bind_ok_of r next bytes y rest (Ok p) is e = record { value = p.0; middle = p.1; first = is; second = rw is at e }
 bind_ok_of r next bytes y rest (Err f) is e = absurd (let h = rw is at e in cc)
 
-pub bind_ok : {E A B : Type 0} (r : Reader E A) (next : A → Reader E B) (bytes : List ℕ) (y : B) (rest : List ℕ) → bind r next bytes ≡ Ok (y, rest) → Step r next bytes y rest
+pub bind_ok : {E A B : Type 0} (r : Reader E A) (next : A → Reader E B) (bytes : List ℕ) (y : B) (rest : List ℕ) → bind r next bytes ≡ Ok (y, rest)
+    → Step r next bytes y rest
 bind_ok r next bytes y rest e = bind_ok_of r next bytes y rest (r bytes) refl e
 
-pub bind_is : {E A B : Type 0} (r : Reader E A) (next : A → Reader E B) (bytes : List ℕ) (x : A) (middle : List ℕ) → r bytes ≡ Ok (x, middle) → bind r next bytes ≡ next x middle
+pub bind_is : {E A B : Type 0} (r : Reader E A) (next : A → Reader E B) (bytes : List ℕ) (x : A) (middle : List ℕ) → r bytes ≡ Ok (x, middle)
+    → bind r next bytes ≡ next x middle
 unfolding bind
 bind_is r next bytes x middle e = rw e refl
 
 -- a reader and what follows it, where the whole value y holds the first reader's value as `proj y`
-pub then_reads : {E A B : Type 0} {r : Reader E A} {next : A → Reader E B} {spell : A → List ℕ} {Fits : A → Type 0} {G : B → Type 0} (proj : B → A) (tail : B → List ℕ)
+pub then_reads : {E A B : Type 0} {r : Reader E A} {next : A → Reader E B} {spell : A → List ℕ} {Fits : A → Type 0} {G : B → Type 0} (proj : B → A)
+    (tail : B → List ℕ)
     → Reads r spell Fits
     → ((y : B) → G y → Fits (proj y))
     → ((x : A) → Fits x → Reads (next x) tail (λ y. (proj y ≡ x) × G y))
@@ -79,21 +83,25 @@ last_reads {E} {A} {B} {r} {spell} {Fits} {G} make proj first fits made = record
       let one = first.takes bytes s.value s.middle b s.first in
       let is = same {E = E} (make s.value) y s.middle rest s.second in
       let m = made s.value one.1 in
-      let front : Takes bytes (spell (proj (make s.value))) s.middle = subst (λ (x : A). Takes bytes (spell x) s.middle) (sym m.0) one.0 in
-      (subst (λ (z : B). Takes bytes (spell (proj z)) rest) is.0 (subst (λ (t : List ℕ). Takes bytes (spell (proj (make s.value))) t) is.1 front), subst G is.0 m.1);
+      let front : Takes bytes (spell (proj (make s.value))) s.middle = subst (λ (x : A). Takes bytes (spell x) s.middle) (sym m.0) one.0 in (
+        subst (λ (z : B). Takes bytes (spell (proj z)) rest) is.0 (subst (λ (t : List ℕ). Takes bytes (spell (proj (make s.value))) t) is.1 front),
+        subst G is.0 m.1,
+      );
 }
 
 given_is : {E B : Type 0} (o : Option B) (y : B) (f : E) (rest : List ℕ) → o ≡ Some y → given o f rest ≡ Ok (y, rest)
 unfolding given
 given_is o y f rest e = rw e refl
 
-given_ok : {E B : Type 0} (o : Option B) (f : E) (bytes : List ℕ) (y : B) (rest : List ℕ) → given o f bytes ≡ Ok (y, rest) → (o ≡ Some y) × (bytes ≡ rest)
+given_ok : {E B : Type 0} (o : Option B) (f : E) (bytes : List ℕ) (y : B) (rest : List ℕ) → given o f bytes ≡ Ok (y, rest)
+    → (o ≡ Some y) × (bytes ≡ rest)
 unfolding given
 given_ok {E} (Some x) f bytes y rest e = let is = same {E = E} x y bytes rest e in (cc is.0, is.1)
 given_ok None f bytes y rest e = absurd cc
 
 -- the value of the last reader, where there is one
-pub given_reads : {E A B : Type 0} {r : Reader E A} {spell : A → List ℕ} {Fits : A → Type 0} {G : B → Type 0} (make : A → Option B) (fault : A → E) (code : B → A)
+pub given_reads : {E A B : Type 0} {r : Reader E A} {spell : A → List ℕ} {Fits : A → Type 0} {G : B → Type 0} (make : A → Option B) (fault : A → E)
+    (code : B → A)
     → Reads r spell Fits
     → ((y : B) → G y → Fits (code y) × (make (code y) ≡ Some y))
     → ((x : A) (y : B) → Fits x → make x ≡ Some y → (code y ≡ x) × G y)
@@ -131,16 +139,19 @@ check_reads false fault fits second = record {
   takes = λ bytes y rest b e. absurd cc;
 }
 
-need_enough : {E B : Type 0} (next : Reader E B) (n : ℕ) (short : E) (bytes : List ℕ) → n ≤ length bytes → bind (need n short) (λ _. next) bytes ≡ next bytes
+need_enough : {E B : Type 0} (next : Reader E B) (n : ℕ) (short : E) (bytes : List ℕ) → n ≤ length bytes
+    → bind (need n short) (λ _. next) bytes ≡ next bytes
 unfolding bind need
 need_enough next n short bytes h = rw (le-ltb _ _ h) refl
 
-need_got_of : {E B : Type 0} (next : Reader E B) (n : ℕ) (short : E) (bytes : List ℕ) (y : B) (rest : List ℕ) (b : Bool) → ltb (length bytes) n ≡ b → bind (need n short) (λ _. next) bytes ≡ Ok (y, rest) → next bytes ≡ Ok (y, rest)
+need_got_of : {E B : Type 0} (next : Reader E B) (n : ℕ) (short : E) (bytes : List ℕ) (y : B) (rest : List ℕ) (b : Bool) → ltb (length bytes) n ≡ b
+    → bind (need n short) (λ _. next) bytes ≡ Ok (y, rest) → next bytes ≡ Ok (y, rest)
 unfolding bind need
 need_got_of next n short bytes y rest true is e = absurd (let h = rw is at e in cc)
 need_got_of next n short bytes y rest false is e = rw is at e
 
-need_got : {E B : Type 0} (next : Reader E B) (n : ℕ) (short : E) (bytes : List ℕ) (y : B) (rest : List ℕ) → bind (need n short) (λ _. next) bytes ≡ Ok (y, rest) → next bytes ≡ Ok (y, rest)
+need_got : {E B : Type 0} (next : Reader E B) (n : ℕ) (short : E) (bytes : List ℕ) (y : B) (rest : List ℕ)
+    → bind (need n short) (λ _. next) bytes ≡ Ok (y, rest) → next bytes ≡ Ok (y, rest)
 need_got next n short bytes y rest e = need_got_of next n short bytes y rest (ltb (length bytes) n) refl e
 
 -- a part that has to be there whole
@@ -154,27 +165,31 @@ need_reads {E} {B} {next} {spell} {G} n short fits second = record {
 }
 
 -- the same, under another name for the rule
-pub fits_as : {E A : Type 0} {r : Reader E A} {spell : A → List ℕ} {F G : A → Type 0} → Reads r spell F → ((x : A) → F x → G x) → ((x : A) → G x → F x) → Reads r spell G
+pub fits_as : {E A : Type 0} {r : Reader E A} {spell : A → List ℕ} {F G : A → Type 0} → Reads r spell F → ((x : A) → F x → G x)
+    → ((x : A) → G x → F x) → Reads r spell G
 fits_as {E} {A} {r} {spell} {F} {G} h there back = record {
   again = λ x rest g. h.again x rest (back x g);
   takes = λ bytes x rest b e. let t = h.takes bytes x rest b e in (t.0, there x t.1);
 }
 
 -- the same, under another name for the spelling
-pub spelled_as : {E A : Type 0} {r : Reader E A} {spell other : A → List ℕ} {G : A → Type 0} → Reads r spell G → ((x : A) → spell x ≡ other x) → Reads r other G
+pub spelled_as : {E A : Type 0} {r : Reader E A} {spell other : A → List ℕ} {G : A → Type 0} → Reads r spell G → ((x : A) → spell x ≡ other x)
+    → Reads r other G
 spelled_as {E} {A} {r} {spell} {other} {G} h is = record {
   again = λ x rest g. ap (λ (t : List ℕ). r (t ++ rest)) (sym (is x)) ∙ h.again x rest g;
   takes = λ bytes x rest b e. let t = h.takes bytes x rest b e in (subst (λ (u : List ℕ). Takes bytes u rest) (is x) t.0, t.1);
 }
 
 -- the same where the two spellings agree on what fits
-pub spelled_where : {E A : Type 0} {r : Reader E A} {spell other : A → List ℕ} {G : A → Type 0} → Reads r spell G → ((x : A) → G x → spell x ≡ other x) → Reads r other G
+pub spelled_where : {E A : Type 0} {r : Reader E A} {spell other : A → List ℕ} {G : A → Type 0} → Reads r spell G
+    → ((x : A) → G x → spell x ≡ other x) → Reads r other G
 spelled_where {E} {A} {r} {spell} {other} {G} h is = record {
   again = λ x rest g. ap (λ (t : List ℕ). r (t ++ rest)) (sym (is x g)) ∙ h.again x rest g;
   takes = λ bytes x rest b e. let t = h.takes bytes x rest b e in (subst (λ (u : List ℕ). Takes bytes u rest) (is x t.1) t.0, t.1);
 }
 
-check_ok : {E : Type 0} (b : Bool) (fault : E) (bytes : List ℕ) (u : Unit {0}) (rest : List ℕ) → check b fault bytes ≡ Ok (u, rest) → (b ≡ true) × (bytes ≡ rest)
+check_ok : {E : Type 0} (b : Bool) (fault : E) (bytes : List ℕ) (u : Unit {0}) (rest : List ℕ) → check b fault bytes ≡ Ok (u, rest)
+    → (b ≡ true) × (bytes ≡ rest)
 unfolding check
 check_ok {E} true fault bytes u rest e = (refl, (same {E = E} tt u bytes rest e).1)
 check_ok false fault bytes u rest e = absurd cc
@@ -187,20 +202,24 @@ done_is : {E A : Type 0} (z x : A) (rest : List ℕ) → z ≡ x → done {E = E
 unfolding done
 done_is {E} {A} z x rest e = ap (λ (t : A). outcome {E = E} t rest) e
 
-such_that_again : {E A : Type 0} (r : Reader E A) (holds : A → Bool) (fault : E) (bytes : List ℕ) (x : A) (rest : List ℕ) → r bytes ≡ Ok (x, rest) → holds x ≡ true → such_that r holds fault bytes ≡ Ok (x, rest)
+such_that_again : {E A : Type 0} (r : Reader E A) (holds : A → Bool) (fault : E) (bytes : List ℕ) (x : A) (rest : List ℕ) → r bytes ≡ Ok (x, rest)
+    → holds x ≡ true → such_that r holds fault bytes ≡ Ok (x, rest)
 unfolding such_that bind check done
 such_that_again r holds fault bytes x rest e h = rw (e, h) refl
 
-expect_again : {E : Type 0} (r : Reader E ℕ) (n : ℕ) (fault : E) (bytes rest : List ℕ) → r bytes ≡ Ok (n, rest) → expect r n fault bytes ≡ Ok (tt, rest)
+expect_again : {E : Type 0} (r : Reader E ℕ) (n : ℕ) (fault : E) (bytes rest : List ℕ) → r bytes ≡ Ok (n, rest)
+    → expect r n fault bytes ≡ Ok (tt, rest)
 unfolding expect bind check
 expect_again r n fault bytes rest e = rw (e, eq-eqb n n refl) refl
 
-expect_step : {E : Type 0} (r : Reader E ℕ) (n : ℕ) (fault : E) (bytes : List ℕ) (u : Unit {0}) (rest : List ℕ) → expect r n fault bytes ≡ Ok (u, rest) → Step r (λ x. check (eqb x n) fault) bytes u rest
+expect_step : {E : Type 0} (r : Reader E ℕ) (n : ℕ) (fault : E) (bytes : List ℕ) (u : Unit {0}) (rest : List ℕ)
+    → expect r n fault bytes ≡ Ok (u, rest) → Step r (λ x. check (eqb x n) fault) bytes u rest
 unfolding expect
 expect_step r n fault bytes u rest e = bind_ok r (λ x. check (eqb x n) fault) bytes u rest e
 
 -- a value that breaks no rule
-pub such_that_reads : {E A : Type 0} {r : Reader E A} {spell : A → List ℕ} {Fits : A → Type 0} (holds : A → Bool) (fault : E) → Reads r spell Fits → Reads (such_that r holds fault) spell (λ x. Fits x × (holds x ≡ true))
+pub such_that_reads : {E A : Type 0} {r : Reader E A} {spell : A → List ℕ} {Fits : A → Type 0} (holds : A → Bool) (fault : E) → Reads r spell Fits
+    → Reads (such_that r holds fault) spell (λ x. Fits x × (holds x ≡ true))
 unfolding such_that
 such_that_reads {E} {A} {r} {spell} {Fits} holds fault first = record {
   again = λ x rest g. such_that_again r holds fault (spell x ++ rest) x rest (first.again x rest g.0) g.1;
@@ -215,19 +234,22 @@ such_that_reads {E} {A} {r} {spell} {Fits} holds fault first = record {
 }
 
 -- nothing but a number
-pub expect_reads : {E B : Type 0} {r : Reader E ℕ} {next : Reader E B} {spell : ℕ → List ℕ} {Fits : ℕ → Type 0} {tail : B → List ℕ} {G : B → Type 0} (n : ℕ) (fault : E)
+pub expect_reads : {E B : Type 0} {r : Reader E ℕ} {next : Reader E B} {spell : ℕ → List ℕ} {Fits : ℕ → Type 0} {tail : B → List ℕ} {G : B → Type 0}
+    (n : ℕ) (fault : E)
     → Reads r spell Fits → Fits n → Reads next tail G → Reads (bind (expect r n fault) (λ _. next)) (λ y. spell n ++ tail y) G
 expect_reads {E} {B} {r} {next} {spell} {Fits} {tail} {G} n fault first fits second = record {
   again = λ y rest g.
       ap (bind (expect r n fault) (λ _. next)) (append_assoc (spell n) (tail y) rest)
-      ∙ bind_is (expect r n fault) (λ _. next) (spell n ++ (tail y ++ rest)) tt (tail y ++ rest) (expect_again r n fault (spell n ++ (tail y ++ rest)) (tail y ++ rest) (first.again n (tail y ++ rest) fits))
+      ∙ bind_is (expect r n fault) (λ _. next) (spell n ++ (tail y ++ rest)) tt (tail y ++ rest)
+      (expect_again r n fault (spell n ++ (tail y ++ rest)) (tail y ++ rest) (first.again n (tail y ++ rest) fits))
       ∙ second.again y rest g;
   takes = λ bytes y rest b e.
       let s = bind_ok (expect r n fault) (λ _. next) bytes y rest e in
       let t = expect_step r n fault bytes s.value s.middle s.first in
       let one = first.takes bytes t.value t.middle b t.first in
       let is = check_ok (eqb t.value n) fault t.middle s.value s.middle t.second in
-      let front : Takes bytes (spell n) s.middle = subst (λ (x : ℕ). Takes bytes (spell x) s.middle) (eqb-true t.value n is.0) (subst (λ (m : List ℕ). Takes bytes (spell t.value) m) is.1 one.0) in
+      let front : Takes bytes (spell n) s.middle = subst (λ (x : ℕ). Takes bytes (spell x) s.middle) (eqb-true t.value n is.0)
+      (subst (λ (m : List ℕ). Takes bytes (spell t.value) m) is.1 one.0) in
       let two = second.takes s.middle y rest front.rest_fits s.second in
       (Takes-then bytes (spell n) s.middle (tail y) rest front two.0, two.1);
 }
@@ -249,6 +271,7 @@ made_reads {E} {A} {B} {r} {spell} {Fits} {whole} {G} make first fits case spell
       let s = bind_ok r (λ x. done (make x)) bytes y rest e in
       let one = first.takes bytes s.value s.middle b s.first in
       let is = done_same {E = E} (make s.value) s.middle y rest s.second in
-      let here : Takes bytes (whole (make s.value)) rest = subst (λ (t : List ℕ). Takes bytes t rest) (spelled s.value) (subst (λ (m : List ℕ). Takes bytes (spell s.value) m) is.1 one.0) in
+      let here : Takes bytes (whole (make s.value)) rest = subst (λ (t : List ℕ). Takes bytes t rest) (spelled s.value)
+      (subst (λ (m : List ℕ). Takes bytes (spell s.value) m) is.1 one.0) in
       subst (λ (z : B). Takes bytes (whole z) rest × G z) is.0 (here, fits s.value one.1);
 }

@@ -17,7 +17,7 @@ use Rattle.x10_model.specs.Places.{with_stay}
 use Rattle.x10_model.specs.Copies.{Node, Snapshot, Names, named, IsOfKindIn, IsInside, IsReached, root, field, IsWhole}
 use Rattle.x10_model.specs.Wrong.{AText, Meets, no_instruction, wrong_at, out_of_range, operand, argument, result_dropped, new_field, no_field, put_field, away, no_export, result, finish_open, no_call, no_finish, not_here, graph, torn, spawn, shift, back}
 use Rattle.x10_model.specs.Refused.{a_number, taker, giver, trying, an_object, at_zero, EachMoveGoesWrong, nothing, node, EachMessageMisfits, shared, SharedArrives}
-use Rattle.x10_model.proofs.Moving.{nobody, and_one, is_free}
+use Rattle.x10_model.proofs.MoveLemmas.{nobody, and_one, is_free}
 use Rattle.x10_model.proofs.Worked.{one_distinct}
 use Rattle.std.proofs.lemmas.Option.{same_Some}
 
@@ -33,11 +33,13 @@ ret_call o e f = cc
 null_text : (v : Value) → Null ≡ v → Meets an_object AText v → ⊥
 null_text v e = subst (λ w. Meets an_object AText w → ⊥) e (λ m. m)
 
-no_argument : (s : Situation) (at : ℕ) (vs : List Value) → s.stay.top.registers s.instr.b ≡ None → HoldsFrom s s.instr.b vs → FitSlots (IsOfKind s.place.cells) at vs (a_number ∷ []) → ⊥
+no_argument : (s : Situation) (at : ℕ) (vs : List Value) → s.stay.top.registers s.instr.b ≡ None → HoldsFrom s s.instr.b vs
+    → FitSlots (IsOfKind s.place.cells) at vs (a_number ∷ []) → ⊥
 no_argument s at [] none held fit = fit
 no_argument s at (v ∷ vs) none held fit = not_there v (sym none ∙ held.0)
 
-null_field : (s : Situation) (vs : List Value) → s.stay.top.registers s.instr.b ≡ Some Null → HoldsFrom s s.instr.b vs → AreOfKinds (IsOfKind s.place.cells) vs (kind.Int ∷ []) → ⊥
+null_field : (s : Situation) (vs : List Value) → s.stay.top.registers s.instr.b ≡ Some Null → HoldsFrom s s.instr.b vs
+    → AreOfKinds (IsOfKind s.place.cells) vs (kind.Int ∷ []) → ⊥
 null_field s [] null held fit = fit
 null_field s (v ∷ vs) null held fit = subst (λ w. IsOfKind s.place.cells w kind.Int) (sym (same_Some Null v (sym null ∙ held.0))) fit.0
 
@@ -49,28 +51,50 @@ no_result s None none g = g
 no_result s (Some v) none g = not_there v (sym none ∙ g.0)
 
 abbrev situated : Instr → List Value → Situation
-situated i values = record { setting = on_places 2 (trying i); here = 0; place = one_place an_object (one_frame (holding values)); key = 4; stay = one_stay (one_frame (holding values)); function = plain_function 8 1 (i ∷ []); instr = i }
+situated i values = record {
+  setting = on_places 2 (trying i);
+  here = 0;
+  place = one_place an_object (one_frame (holding values));
+  key = 4;
+  stay = one_stay (one_frame (holding values));
+  function = plain_function 8 1 (i ∷ []);
+  instr = i;
+}
 
 abbrev giving : Situation
 giving =
     let stay = one_stay (record at_zero { function = 2 }) in
-    record { setting = on_places 2 (trying (instr op.Fine 0 0 0 0)); here = 0; place = with_stay (one_place no_cells stay.top) 4 (Some stay); key = 4; stay = stay; function = giver; instr = instr op.Ret 0 0 0 0 }
+    record {
+      setting = on_places 2 (trying (instr op.Fine 0 0 0 0));
+      here = 0;
+      place = with_stay (one_place no_cells stay.top) 4 (Some stay);
+      key = 4;
+      stay = stay;
+      function = giver;
+      instr = instr op.Ret 0 0 0 0;
+    }
 
 pub each_move_goes_wrong : EachMoveGoesWrong
 each_move_goes_wrong = record {
   no_instruction = no_instruction _ refl refl (is_free _ 4 (and_one _ (and_one _ (nobody 4)))) refl;
-  out_of_range = wrong_at _ _ _ refl refl (is_free _ 4 (and_one _ (nobody 4))) refl refl (out_of_range (λ range. (let lt : 9 < 8 = range.a in absurd (omega arith))));
-  operand = wrong_at _ _ _ refl refl (is_free _ 4 (and_one _ (nobody 4))) refl refl (operand 0 AText (0, refl) (λ v held meets. null_text v (same_Some Null v held) meets));
-  argument = wrong_at _ _ _ refl refl (is_free _ 4 (and_one _ (nobody 4))) refl refl (argument 0 refl (λ vs held fit. no_argument (situated (instr op.Call 0 0 0 1) []) 0 vs refl held fit));
+  out_of_range = wrong_at _ _ _ refl refl (is_free _ 4 (and_one _ (nobody 4))) refl refl
+      (out_of_range (λ range. (let lt : 9 < 8 = range.a in absurd (omega arith))));
+  operand = wrong_at _ _ _ refl refl (is_free _ 4 (and_one _ (nobody 4))) refl refl
+      (operand 0 AText (0, refl) (λ v held meets. null_text v (same_Some Null v held) meets));
+  argument = wrong_at _ _ _ refl refl (is_free _ 4 (and_one _ (nobody 4))) refl refl
+      (argument 0 refl (λ vs held fit. no_argument (situated (instr op.Call 0 0 0 1) []) 0 vs refl held fit));
   result_dropped = wrong_at _ _ _ refl refl (is_free _ 4 (and_one _ (nobody 4))) refl refl (result_dropped _ tt refl);
-  new_field = wrong_at _ _ _ refl refl (is_free _ 4 (and_one _ (nobody 4))) refl refl (new_field refl (λ vs held fit. null_field (situated (instr op.New 1 0 0 0) (Null ∷ [])) vs refl held fit));
-  put_field = wrong_at _ _ _ refl refl (is_free _ 4 (and_one _ (nobody 4))) refl refl (put_field 5 0 (Int (pos 3) ∷ []) Null refl refl refl refl (λ k e is. null_put k e is));
+  new_field = wrong_at _ _ _ refl refl (is_free _ 4 (and_one _ (nobody 4))) refl refl
+      (new_field refl (λ vs held fit. null_field (situated (instr op.New 1 0 0 0) (Null ∷ [])) vs refl held fit));
+  put_field = wrong_at _ _ _ refl refl (is_free _ 4 (and_one _ (nobody 4))) refl refl
+      (put_field 5 0 (Int (pos 3) ∷ []) Null refl refl refl refl (λ k e is. null_put k e is));
   no_field = wrong_at _ _ _ refl refl (is_free _ 4 (and_one _ (nobody 4))) refl refl (no_field 5 0 (Int (pos 3) ∷ []) refl refl refl);
   away = wrong_at _ _ _ refl refl (is_free _ 4 (and_one _ (nobody 4))) refl refl (away 1 0 0 refl refl (one_zero 1 0 refl refl));
   no_export = wrong_at _ _ _ refl refl (is_free _ 4 (and_one _ (nobody 4))) refl refl (no_export 0 0 refl refl (λ object e. not_there _ e));
   result = wrong_at _ _ _ refl refl (is_free _ 4 (and_one _ (and_one _ (nobody 4)))) refl refl (result refl (λ v g. no_result giving v refl g));
   finish_open = wrong_at _ _ _ refl refl (is_free _ 4 (and_one _ (and_one _ (nobody 4)))) refl refl (finish_open 1 [] refl refl refl);
-  no_call = wrong_at _ _ _ refl refl (is_free _ 4 (and_one _ (and_one _ (nobody 4)))) refl refl (no_call _ [] refl refl (λ call e is. ret_call call.op (ap (λ (i : Instr). i.op) (sym (same_Some _ call e))) is));
+  no_call = wrong_at _ _ _ refl refl (is_free _ 4 (and_one _ (and_one _ (nobody 4)))) refl refl
+      (no_call _ [] refl refl (λ call e is. ret_call call.op (ap (λ (i : Instr). i.op) (sym (same_Some _ call e))) is));
   no_finish = wrong_at _ _ _ refl refl (is_free _ 4 (and_one _ (and_one _ (nobody 4)))) refl refl (no_finish refl refl);
 }
 
@@ -89,7 +113,8 @@ each_message_misfits = record {
   not_here = not_here _ (one_zero 1 0 refl refl);
   graph = graph _ (λ fits. not_there _ (fits.classes 0 (node 7) refl).1);
   torn = torn _ (λ whole. unreached (Object 0) (whole.nodes_reached 0 (lit< tt)));
-  spawn = spawn 1 0 _ 1 _ (λ callee fits none. subst (λ (f : Function). FitSlots (IsOfKindIn nothing) 0 [] f.parameters) (sym (same_Some taker callee fits.callee_is)) fits.arguments);
+  spawn = spawn 1 0 _ 1 _ (λ callee fits none. subst (λ (f : Function). FitSlots (IsOfKindIn nothing) 0 [] f.parameters)
+      (sym (same_Some taker callee fits.callee_is)) fits.arguments);
   shift = shift 1 0 0 _ 9 _ (λ callee fits. not_there callee fits.callee_is);
   back = back 1 0 0 _ (λ stay call callee waits fits. not_there stay waits.is_there);
 }
@@ -123,7 +148,8 @@ shared_names = record { objects = 5 ∷ []; rails = [] }
 abbrev after : Cells
 after = with_entry no_cells 5 (Some (Fields 0 []))
 
-lies_at : (k : ℕ) (n : Node) → slice_get shared.nodes k ≡ Some n → after (slice_index shared_names.objects k) ≡ Some (Fields n.class (map (named shared_names) n.fields))
+lies_at : (k : ℕ) (n : Node) → slice_get shared.nodes k ≡ Some n
+    → after (slice_index shared_names.objects k) ≡ Some (Fields n.class (map (named shared_names) n.fields))
 lies_at zero n e = subst (λ (j : Node). after 5 ≡ Some (Fields j.class (map (named shared_names) j.fields))) (same_Some (node 0) n e) refl
 lies_at (suc k) n e = absurd (not_there n e)
 

@@ -8,7 +8,7 @@ use Rattle.x10_model.specs.Moves.{Moves, new_stay, with_line}
 use Rattle.x10_model.specs.Deliveries.{FitsPlace}
 use Rattle.x10_model.specs.Worlds.{first_place, empty_place}
 use Rattle.x10_model.specs.Relay.{relaying}
-use Rattle.x10_model.proofs.Moving.{moves, IsAlone, nobody, and_one, is_free}
+use Rattle.x10_model.proofs.MoveLemmas.{moves, IsAlone, nobody, and_one, is_free}
 
 -- ---- nothing is passed
 
@@ -230,37 +230,46 @@ pub move2 : Moves relaying 0 home1 0 home2 (Works)
 move2 = moves refl refl (is_free home1.stays 0 home1_alone) refl refl (record { a = lit< tt; b = tt; c = tt; x = lit< tt }) (refl, refl)
 
 pub move3 : Moves relaying 0 home2 0 home3 (Shifts goes_there inner)
-move3 = moves refl refl (is_free home2.stays 0 home2_alone) refl refl (record { a = tt; b = (λ e. refl, lit≤ tt); c = lit< tt; x = lit< tt }) (_, [], 1, nothing, refl, record { callee_is = refl; held = tt; fit = tt }, captured home2.cells, refl, refl)
+move3 = moves refl refl (is_free home2.stays 0 home2_alone) refl refl (record { a = tt; b = (λ e. refl, lit≤ tt); c = lit< tt; x = lit< tt })
+    (_, [], 1, nothing, refl, record { callee_is = refl; held = tt; fit = tt }, captured home2.cells, refl, refl)
 
 pub move5 : Moves relaying 1 middle1 0 middle2 (Works)
 move5 = moves refl refl (is_free middle1.stays 0 middle1_alone) refl refl (record { a = lit< tt; b = tt; c = tt; x = lit< tt }) (refl, refl)
 
 pub move6 : Moves relaying 1 middle2 0 middle3 (Spawns begins_other 0 inner)
-move6 = moves refl refl (is_free middle2.stays 0 middle2_alone) refl refl (record { a = tt; b = (λ e. refl, lit≤ tt); c = lit< tt; x = lit< tt }) (_, [], 2, nothing, refl, record { callee_is = refl; held = tt; fit = tt }, refl, captured middle2.cells, refl, refl)
+move6 = moves refl refl (is_free middle2.stays 0 middle2_alone) refl refl (record { a = tt; b = (λ e. refl, lit≤ tt); c = lit< tt; x = lit< tt })
+    (_, [], 2, nothing, refl, record { callee_is = refl; held = tt; fit = tt }, refl, captured middle2.cells, refl, refl)
 
 pub move7 : Moves relaying 1 middle3 0 middle4 (Ends inner (Some comes_back))
-move7 = moves refl refl (is_free middle3.stays 0 middle3_alone) refl refl (record { a = tt; b = tt; c = tt; x = tt }) (None, tt, (Some comes_back, refl, (nothing, captured middle3.cells, refl), refl, refl))
+move7 = moves refl refl (is_free middle3.stays 0 middle3_alone) refl refl (record { a = tt; b = tt; c = tt; x = tt })
+    (None, tt, (Some comes_back, refl, (nothing, captured middle3.cells, refl), refl, refl))
 
 pub move9 : Moves relaying 0 home4 0 home4 (Waits 1)
 move9 = moves refl refl (is_free home4.stays 0 home4_alone) refl refl (record { a = tt; b = tt; c = tt; x = tt }) (1, [], refl, inl (refl, refl))
 
 pub move11 : Moves relaying 2 last1 0 last2 (Works)
-move11 = moves refl refl (is_free last1.stays 0 last1_alone) refl refl (record { a = lit< tt; b = tt; c = tt; x = lit< tt }) (pos 5, refl, (refl, refl))
+move11 = moves refl refl (is_free last1.stays 0 last1_alone) refl refl (record { a = lit< tt; b = tt; c = tt; x = lit< tt })
+    (pos 5, refl, (refl, refl))
 
 pub move12 : Moves relaying 2 last2 0 last3 (Works)
-move12 = moves refl refl (is_free last2.stays 0 last2_alone) refl refl (record { a = lit< tt; b = tt; c = tt; x = tt }) (Int (pos 5), Number (pos 5), refl, refl, (refl, refl))
+move12 = moves refl refl (is_free last2.stays 0 last2_alone) refl refl (record { a = lit< tt; b = tt; c = tt; x = tt })
+    (Int (pos 5), Number (pos 5), refl, refl, (refl, refl))
 
 pub move13 : Moves relaying 2 last3 0 last4 (Ends inner None)
-move13 = moves refl refl (is_free last3.stays 0 last3_alone) refl refl (record { a = tt; b = tt; c = tt; x = tt }) (None, tt, (None, refl, refl, refl, refl))
+move13 = moves refl refl (is_free last3.stays 0 last3_alone) refl refl (record { a = tt; b = tt; c = tt; x = tt })
+    (None, tt, (None, refl, refl, refl, refl))
 
 pub move14 : Moves relaying 0 home4 0 home5 (Closes 1)
 move14 = moves refl refl (is_free home4.stays 0 home4_alone) refl refl (record { a = tt; b = tt; c = tt; x = tt }) (1, [], refl, inr (refl, refl))
 
 pub move15 : Moves relaying 0 home5 0 home6 (Works)
-move15 = moves refl refl (is_free home5.stays 0 home5_alone) refl refl (record { a = lit< tt; b = tt; c = tt; x = lit< tt }) (pos 9, refl, (refl, refl))
+move15 = moves refl refl (is_free home5.stays 0 home5_alone) refl refl (record { a = lit< tt; b = tt; c = tt; x = lit< tt })
+    (pos 9, refl, (refl, refl))
 
 pub move16 : Moves relaying 0 home6 0 home7 (Works)
-move16 = moves refl refl (is_free home6.stays 0 home6_alone) refl refl (record { a = lit< tt; b = tt; c = tt; x = tt }) (Int (pos 9), Number (pos 9), refl, refl, (refl, refl))
+move16 = moves refl refl (is_free home6.stays 0 home6_alone) refl refl (record { a = lit< tt; b = tt; c = tt; x = tt })
+    (Int (pos 9), Number (pos 9), refl, refl, (refl, refl))
 
 pub move17 : Moves relaying 0 home7 0 home8 (Ends root None)
-move17 = moves refl refl (is_free home7.stays 0 home7_alone) refl refl (record { a = tt; b = tt; c = tt; x = tt }) (None, tt, (None, refl, refl, refl, refl))
+move17 = moves refl refl (is_free home7.stays 0 home7_alone) refl refl (record { a = tt; b = tt; c = tt; x = tt })
+    (None, tt, (None, refl, refl, refl, refl))

@@ -22,10 +22,20 @@ use Rattle.std.proofs.lemmas.Option.{same_Some}
 -- ---- the worlds
 
 abbrev moved : World → ℕ → places.Place → Effect → ℕ → World
-moved w here new effect number = record { net = net_after w.net here new effect number; book = book_after w.book (w.book.belongs here 0) here effect number }
+moved w here new effect number = record {
+  net = net_after w.net here new effect number;
+  book = book_after w.book (w.book.belongs here 0) here effect number;
+}
 
 abbrev took : World → ℕ → ℕ → places.Place → Message → World
-took w here number new message = record { net = record { places = with_entry w.net.places here (Some new); posts = with_entry w.net.posts number Taken; enclosing = w.net.enclosing }; book = book_with w.book (w.book.carries number) here 0 message }
+took w here number new message = record {
+  net = record {
+    places = with_entry w.net.places here (Some new);
+    posts = with_entry w.net.posts number Taken;
+    enclosing = w.net.enclosing;
+  };
+  book = book_with w.book (w.book.carries number) here 0 message;
+}
 
 abbrev w0 : World
 w0 = opening relaying 0
@@ -92,7 +102,8 @@ alone w n begun function made le zero bound lt e =
     omega arith
 alone w n begun function made le (suc a) bound lt e = absurd (omega arith)
 
-both : (w : World) (m n : ℕ) → w.book.begun ≡ 2 → (w.book.activities 0).function ≡ 2 → (w.book.activities 0).steps ≡ m → m ≤ 10 → (w.book.activities 1).function ≡ 0 → (w.book.activities 1).steps ≡ n → n ≤ 3 → InBounds w
+both : (w : World) (m n : ℕ) → w.book.begun ≡ 2 → (w.book.activities 0).function ≡ 2 → (w.book.activities 0).steps ≡ m → m ≤ 10
+    → (w.book.activities 1).function ≡ 0 → (w.book.activities 1).steps ≡ n → n ≤ 3 → InBounds w
 both w m n begun f0 s0 l0 f1 s1 l1 zero bound lt e =
     let is : 10 ≡ bound = same_Some 10 bound (subst (λ f. slice_get relay_bounds f ≡ Some bound) f0 e) in
     omega arith
@@ -151,10 +162,12 @@ root_outside h = outside root refl h
   where
     outside : (f : Finish) → f ≡ root → IsWithin w13.net.enclosing inner f → ⊥
     outside f e itself = apart 1 0 refl refl (ap (λ (g : Finish). g.number) e)
-    outside f e (enclosed g h is more) = (let none : w13.net.enclosing root ≡ Some h = subst (λ (k : Finish). w13.net.enclosing k ≡ Some h) e is in absurd cc)
+    outside f e (enclosed g h is more) = (let none : w13.net.enclosing root ≡ Some h = subst (λ (k : Finish). w13.net.enclosing k ≡ Some h) e is in
+        absurd cc)
 
 no_stays : (a : ℕ) → a ≡ 1 → (stay : ℕ × ℕ) (rest : List (ℕ × ℕ)) → (w13.book.activities a).stays ≡ stay ∷ rest → ⊥
-no_stays a e stay rest f = (let g : (w13.book.activities 1).stays ≡ stay ∷ rest = subst (λ k. (w13.book.activities k).stays ≡ stay ∷ rest) e f in absurd cc)
+no_stays a e stay rest f = (let g : (w13.book.activities 1).stays ≡ stay ∷ rest = subst (λ k. (w13.book.activities k).stays ≡ stay ∷ rest) e f in
+    absurd cc)
 
 inner_ended : HasEnded w13 inner
 inner_ended zero governs lives = root_outside governs
@@ -168,56 +181,215 @@ abbrev Goes : World → List Event → Type 0
 Goes w events = Run Ideal relaying (WithinBounds relay_bounds) w events w17
 
 step_on : (u v : World) (here : ℕ) (rest : List Event) → InBounds u → Steps Ideal relaying u here 0 v → Goes v rest → Goes u (Step here 0 ∷ rest)
-step_on u v here rest bound s more = then u v w17 (Step here 0) rest bound (happens_right Ideal relaying u v (Step here 0) (steps here 0 v s)) (steps here 0 v s) more
+step_on u v here rest bound s more = then u v w17 (Step here 0) rest bound (happens_right Ideal relaying u v (Step here 0) (steps here 0 v s))
+    (steps here 0 v s) more
 
 take_on : (u v : World) (number : ℕ) (rest : List Event) → InBounds u → Delivers relaying u number v → Goes v rest → Goes u (Deliver number ∷ rest)
-take_on u v number rest bound d more = then u v w17 (Deliver number) rest bound (happens_right Ideal relaying u v (Deliver number) (delivers number v d)) (delivers number v d) more
+take_on u v number rest bound d more = then u v w17 (Deliver number) rest bound
+    (happens_right Ideal relaying u v (Deliver number) (delivers number v d)) (delivers number v d) more
 
 step1 : Steps Ideal relaying w0 0 0 w1
-step1 = record { old = _; new = _; effect = _; number = 9; place_is = refl; moves = move1; allowed = tt; unused = refl; net_is = refl; book_is = refl }
+step1 = record {
+  old = _;
+  new = _;
+  effect = _;
+  number = 9;
+  place_is = refl;
+  moves = move1;
+  allowed = tt;
+  unused = refl;
+  net_is = refl;
+  book_is = refl;
+}
 
 step2 : Steps Ideal relaying w1 0 0 w2
-step2 = record { old = _; new = _; effect = _; number = 9; place_is = refl; moves = move2; allowed = tt; unused = refl; net_is = refl; book_is = refl }
+step2 = record {
+  old = _;
+  new = _;
+  effect = _;
+  number = 9;
+  place_is = refl;
+  moves = move2;
+  allowed = tt;
+  unused = refl;
+  net_is = refl;
+  book_is = refl;
+}
 
 step3 : Steps Ideal relaying w2 0 0 w3
-step3 = record { old = _; new = _; effect = _; number = 0; place_is = refl; moves = move3; allowed = tt; unused = refl; net_is = refl; book_is = refl }
+step3 = record {
+  old = _;
+  new = _;
+  effect = _;
+  number = 0;
+  place_is = refl;
+  moves = move3;
+  allowed = tt;
+  unused = refl;
+  net_is = refl;
+  book_is = refl;
+}
 
 step5 : Steps Ideal relaying w4 1 0 w5
-step5 = record { old = _; new = _; effect = _; number = 9; place_is = refl; moves = move5; allowed = tt; unused = refl; net_is = refl; book_is = refl }
+step5 = record {
+  old = _;
+  new = _;
+  effect = _;
+  number = 9;
+  place_is = refl;
+  moves = move5;
+  allowed = tt;
+  unused = refl;
+  net_is = refl;
+  book_is = refl;
+}
 
 step6 : Steps Ideal relaying w5 1 0 w6
-step6 = record { old = _; new = _; effect = _; number = 1; place_is = refl; moves = move6; allowed = tt; unused = refl; net_is = refl; book_is = refl }
+step6 = record {
+  old = _;
+  new = _;
+  effect = _;
+  number = 1;
+  place_is = refl;
+  moves = move6;
+  allowed = tt;
+  unused = refl;
+  net_is = refl;
+  book_is = refl;
+}
 
 step7 : Steps Ideal relaying w6 1 0 w7
-step7 = record { old = _; new = _; effect = _; number = 2; place_is = refl; moves = move7; allowed = tt; unused = refl; net_is = refl; book_is = refl }
+step7 = record {
+  old = _;
+  new = _;
+  effect = _;
+  number = 2;
+  place_is = refl;
+  moves = move7;
+  allowed = tt;
+  unused = refl;
+  net_is = refl;
+  book_is = refl;
+}
 
 step9 : Steps Ideal relaying w8 0 0 w9
-step9 = record { old = _; new = _; effect = _; number = 9; place_is = refl; moves = move9; allowed = tt; unused = refl; net_is = refl; book_is = refl }
+step9 = record {
+  old = _;
+  new = _;
+  effect = _;
+  number = 9;
+  place_is = refl;
+  moves = move9;
+  allowed = tt;
+  unused = refl;
+  net_is = refl;
+  book_is = refl;
+}
 
 step11 : Steps Ideal relaying w10 2 0 w11
-step11 = record { old = _; new = _; effect = _; number = 9; place_is = refl; moves = move11; allowed = tt; unused = refl; net_is = refl; book_is = refl }
+step11 = record {
+  old = _;
+  new = _;
+  effect = _;
+  number = 9;
+  place_is = refl;
+  moves = move11;
+  allowed = tt;
+  unused = refl;
+  net_is = refl;
+  book_is = refl;
+}
 
 step12 : Steps Ideal relaying w11 2 0 w12
-step12 = record { old = _; new = _; effect = _; number = 9; place_is = refl; moves = move12; allowed = tt; unused = refl; net_is = refl; book_is = refl }
+step12 = record {
+  old = _;
+  new = _;
+  effect = _;
+  number = 9;
+  place_is = refl;
+  moves = move12;
+  allowed = tt;
+  unused = refl;
+  net_is = refl;
+  book_is = refl;
+}
 
 step13 : Steps Ideal relaying w12 2 0 w13
-step13 = record { old = _; new = _; effect = _; number = 9; place_is = refl; moves = move13; allowed = tt; unused = refl; net_is = refl; book_is = refl }
+step13 = record {
+  old = _;
+  new = _;
+  effect = _;
+  number = 9;
+  place_is = refl;
+  moves = move13;
+  allowed = tt;
+  unused = refl;
+  net_is = refl;
+  book_is = refl;
+}
 
 step14 : Steps Ideal relaying w13 0 0 w14
-step14 = record { old = _; new = _; effect = _; number = 9; place_is = refl; moves = move14; allowed = inner_ended; unused = refl; net_is = refl; book_is = refl }
+step14 = record {
+  old = _;
+  new = _;
+  effect = _;
+  number = 9;
+  place_is = refl;
+  moves = move14;
+  allowed = inner_ended;
+  unused = refl;
+  net_is = refl;
+  book_is = refl;
+}
 
 step15 : Steps Ideal relaying w14 0 0 w15
-step15 = record { old = _; new = _; effect = _; number = 9; place_is = refl; moves = move15; allowed = tt; unused = refl; net_is = refl; book_is = refl }
+step15 = record {
+  old = _;
+  new = _;
+  effect = _;
+  number = 9;
+  place_is = refl;
+  moves = move15;
+  allowed = tt;
+  unused = refl;
+  net_is = refl;
+  book_is = refl;
+}
 
 step16 : Steps Ideal relaying w15 0 0 w16
-step16 = record { old = _; new = _; effect = _; number = 9; place_is = refl; moves = move16; allowed = tt; unused = refl; net_is = refl; book_is = refl }
+step16 = record {
+  old = _;
+  new = _;
+  effect = _;
+  number = 9;
+  place_is = refl;
+  moves = move16;
+  allowed = tt;
+  unused = refl;
+  net_is = refl;
+  book_is = refl;
+}
 
 step17 : Steps Ideal relaying w16 0 0 w17
-step17 = record { old = _; new = _; effect = _; number = 9; place_is = refl; moves = move17; allowed = tt; unused = refl; net_is = refl; book_is = refl }
+step17 = record {
+  old = _;
+  new = _;
+  effect = _;
+  number = 9;
+  place_is = refl;
+  moves = move17;
+  allowed = tt;
+  unused = refl;
+  net_is = refl;
+  book_is = refl;
+}
 
 -- a stay begins where nothing is passed
-begins : (here : ℕ) (old new : places.Place) (function : ℕ) (callee : Function) (back : Option Origin) → function_at relaying.program function ≡ Some callee → FitSlots (IsOfKindIn nothing) here [] callee.parameters
-    → (back ≡ None → callee.result ≡ None) → old.stays 0 ≡ None → new ≡ with_stay (record old { cells = old.cells }) 0 (Some (new_stay function [] inner back)) → Begins relaying here old function nothing inner back 0 new
+begins : (here : ℕ) (old new : places.Place) (function : ℕ) (callee : Function) (back : Option Origin)
+    → function_at relaying.program function ≡ Some callee → FitSlots (IsOfKindIn nothing) here [] callee.parameters
+    → (back ≡ None → callee.result ≡ None) → old.stays 0 ≡ None
+    → new ≡ with_stay (record old { cells = old.cells }) 0 (Some (new_stay function [] inner back))
+    → Begins relaying here old function nothing inner back 0 new
 begins here old new function callee back callee_is arguments no_result free new_is = record {
   callee = callee;
   fits_function = record { callee_is = callee_is; arguments = arguments };
@@ -288,7 +460,8 @@ take10 = record {
 }
 
 goes17 : Goes w16 (Step 0 0 ∷ [])
-goes17 = step_on w16 w17 0 [] (both w16 9 3 refl refl refl (lit≤ tt) refl refl (lit≤ tt)) step17 (done w17 (both w17 10 3 refl refl refl (lit≤ tt) refl refl (lit≤ tt)))
+goes17 = step_on w16 w17 0 [] (both w16 9 3 refl refl refl (lit≤ tt) refl refl (lit≤ tt)) step17
+    (done w17 (both w17 10 3 refl refl refl (lit≤ tt) refl refl (lit≤ tt)))
 
 goes16 : Goes w15 (Step 0 0 ∷ Step 0 0 ∷ [])
 goes16 = step_on w15 w16 0 (Step 0 0 ∷ []) (both w15 8 3 refl refl refl (lit≤ tt) refl refl (lit≤ tt)) step16 goes17
@@ -303,40 +476,58 @@ goes13 : Goes w12 (Step 2 0 ∷ Step 0 0 ∷ Step 0 0 ∷ Step 0 0 ∷ Step 0 0 
 goes13 = step_on w12 w13 2 (Step 0 0 ∷ Step 0 0 ∷ Step 0 0 ∷ Step 0 0 ∷ []) (both w12 6 2 refl refl refl (lit≤ tt) refl refl (lit≤ tt)) step13 goes14
 
 goes12 : Goes w11 (Step 2 0 ∷ Step 2 0 ∷ Step 0 0 ∷ Step 0 0 ∷ Step 0 0 ∷ Step 0 0 ∷ [])
-goes12 = step_on w11 w12 2 (Step 2 0 ∷ Step 0 0 ∷ Step 0 0 ∷ Step 0 0 ∷ Step 0 0 ∷ []) (both w11 6 1 refl refl refl (lit≤ tt) refl refl (lit≤ tt)) step12 goes13
+goes12 = step_on w11 w12 2 (Step 2 0 ∷ Step 0 0 ∷ Step 0 0 ∷ Step 0 0 ∷ Step 0 0 ∷ [])
+    (both w11 6 1 refl refl refl (lit≤ tt) refl refl (lit≤ tt)) step12 goes13
 
 goes11 : Goes w10 (Step 2 0 ∷ Step 2 0 ∷ Step 2 0 ∷ Step 0 0 ∷ Step 0 0 ∷ Step 0 0 ∷ Step 0 0 ∷ [])
-goes11 = step_on w10 w11 2 (Step 2 0 ∷ Step 2 0 ∷ Step 0 0 ∷ Step 0 0 ∷ Step 0 0 ∷ Step 0 0 ∷ []) (both w10 6 0 refl refl refl (lit≤ tt) refl refl (lit≤ tt)) step11 goes12
+goes11 = step_on w10 w11 2 (Step 2 0 ∷ Step 2 0 ∷ Step 0 0 ∷ Step 0 0 ∷ Step 0 0 ∷ Step 0 0 ∷ [])
+    (both w10 6 0 refl refl refl (lit≤ tt) refl refl (lit≤ tt)) step11 goes12
 
 goes10 : Goes w9 (Deliver 1 ∷ Step 2 0 ∷ Step 2 0 ∷ Step 2 0 ∷ Step 0 0 ∷ Step 0 0 ∷ Step 0 0 ∷ Step 0 0 ∷ [])
-goes10 = take_on w9 w10 1 (Step 2 0 ∷ Step 2 0 ∷ Step 2 0 ∷ Step 0 0 ∷ Step 0 0 ∷ Step 0 0 ∷ Step 0 0 ∷ []) (both w9 6 0 refl refl refl (lit≤ tt) refl refl (lit≤ tt)) take10 goes11
+goes10 = take_on w9 w10 1 (Step 2 0 ∷ Step 2 0 ∷ Step 2 0 ∷ Step 0 0 ∷ Step 0 0 ∷ Step 0 0 ∷ Step 0 0 ∷ [])
+    (both w9 6 0 refl refl refl (lit≤ tt) refl refl (lit≤ tt)) take10 goes11
 
 goes9 : Goes w8 (Step 0 0 ∷ Deliver 1 ∷ Step 2 0 ∷ Step 2 0 ∷ Step 2 0 ∷ Step 0 0 ∷ Step 0 0 ∷ Step 0 0 ∷ Step 0 0 ∷ [])
-goes9 = step_on w8 w9 0 (Deliver 1 ∷ Step 2 0 ∷ Step 2 0 ∷ Step 2 0 ∷ Step 0 0 ∷ Step 0 0 ∷ Step 0 0 ∷ Step 0 0 ∷ []) (both w8 6 0 refl refl refl (lit≤ tt) refl refl (lit≤ tt)) step9 goes10
+goes9 = step_on w8 w9 0 (Deliver 1 ∷ Step 2 0 ∷ Step 2 0 ∷ Step 2 0 ∷ Step 0 0 ∷ Step 0 0 ∷ Step 0 0 ∷ Step 0 0 ∷ [])
+    (both w8 6 0 refl refl refl (lit≤ tt) refl refl (lit≤ tt)) step9 goes10
 
 goes8 : Goes w7 (Deliver 2 ∷ Step 0 0 ∷ Deliver 1 ∷ Step 2 0 ∷ Step 2 0 ∷ Step 2 0 ∷ Step 0 0 ∷ Step 0 0 ∷ Step 0 0 ∷ Step 0 0 ∷ [])
-goes8 = take_on w7 w8 2 (Step 0 0 ∷ Deliver 1 ∷ Step 2 0 ∷ Step 2 0 ∷ Step 2 0 ∷ Step 0 0 ∷ Step 0 0 ∷ Step 0 0 ∷ Step 0 0 ∷ []) (both w7 6 0 refl refl refl (lit≤ tt) refl refl (lit≤ tt)) take8 goes9
+goes8 = take_on w7 w8 2 (Step 0 0 ∷ Deliver 1 ∷ Step 2 0 ∷ Step 2 0 ∷ Step 2 0 ∷ Step 0 0 ∷ Step 0 0 ∷ Step 0 0 ∷ Step 0 0 ∷ [])
+    (both w7 6 0 refl refl refl (lit≤ tt) refl refl (lit≤ tt)) take8 goes9
 
 goes7 : Goes w6 (Step 1 0 ∷ Deliver 2 ∷ Step 0 0 ∷ Deliver 1 ∷ Step 2 0 ∷ Step 2 0 ∷ Step 2 0 ∷ Step 0 0 ∷ Step 0 0 ∷ Step 0 0 ∷ Step 0 0 ∷ [])
-goes7 = step_on w6 w7 1 (Deliver 2 ∷ Step 0 0 ∷ Deliver 1 ∷ Step 2 0 ∷ Step 2 0 ∷ Step 2 0 ∷ Step 0 0 ∷ Step 0 0 ∷ Step 0 0 ∷ Step 0 0 ∷ []) (both w6 5 0 refl refl refl (lit≤ tt) refl refl (lit≤ tt)) step7 goes8
+goes7 = step_on w6 w7 1 (Deliver 2 ∷ Step 0 0 ∷ Deliver 1 ∷ Step 2 0 ∷ Step 2 0 ∷ Step 2 0 ∷ Step 0 0 ∷ Step 0 0 ∷ Step 0 0 ∷ Step 0 0 ∷ [])
+    (both w6 5 0 refl refl refl (lit≤ tt) refl refl (lit≤ tt)) step7 goes8
 
-goes6 : Goes w5 (Step 1 0 ∷ Step 1 0 ∷ Deliver 2 ∷ Step 0 0 ∷ Deliver 1 ∷ Step 2 0 ∷ Step 2 0 ∷ Step 2 0 ∷ Step 0 0 ∷ Step 0 0 ∷ Step 0 0 ∷ Step 0 0 ∷ [])
-goes6 = step_on w5 w6 1 (Step 1 0 ∷ Deliver 2 ∷ Step 0 0 ∷ Deliver 1 ∷ Step 2 0 ∷ Step 2 0 ∷ Step 2 0 ∷ Step 0 0 ∷ Step 0 0 ∷ Step 0 0 ∷ Step 0 0 ∷ []) (alone w5 4 refl refl refl (lit≤ tt)) step6 goes7
+goes6 : Goes w5 (Step 1 0 ∷ Step 1 0 ∷ Deliver 2 ∷ Step 0 0 ∷ Deliver 1 ∷ Step 2 0 ∷ Step 2 0 ∷ Step 2 0 ∷ Step 0 0 ∷ Step 0 0 ∷ Step 0 0 ∷ Step 0 0
+    ∷ [])
+goes6 = step_on w5 w6 1 (Step 1 0 ∷ Deliver 2 ∷ Step 0 0 ∷ Deliver 1 ∷ Step 2 0 ∷ Step 2 0 ∷ Step 2 0 ∷ Step 0 0 ∷ Step 0 0 ∷ Step 0 0 ∷ Step 0 0
+    ∷ []) (alone w5 4 refl refl refl (lit≤ tt)) step6 goes7
 
-goes5 : Goes w4 (Step 1 0 ∷ Step 1 0 ∷ Step 1 0 ∷ Deliver 2 ∷ Step 0 0 ∷ Deliver 1 ∷ Step 2 0 ∷ Step 2 0 ∷ Step 2 0 ∷ Step 0 0 ∷ Step 0 0 ∷ Step 0 0 ∷ Step 0 0 ∷ [])
-goes5 = step_on w4 w5 1 (Step 1 0 ∷ Step 1 0 ∷ Deliver 2 ∷ Step 0 0 ∷ Deliver 1 ∷ Step 2 0 ∷ Step 2 0 ∷ Step 2 0 ∷ Step 0 0 ∷ Step 0 0 ∷ Step 0 0 ∷ Step 0 0 ∷ []) (alone w4 3 refl refl refl (lit≤ tt)) step5 goes6
+goes5 : Goes w4 (Step 1 0 ∷ Step 1 0 ∷ Step 1 0 ∷ Deliver 2 ∷ Step 0 0 ∷ Deliver 1 ∷ Step 2 0 ∷ Step 2 0 ∷ Step 2 0 ∷ Step 0 0 ∷ Step 0 0 ∷ Step 0 0
+    ∷ Step 0 0 ∷ [])
+goes5 = step_on w4 w5 1 (Step 1 0 ∷ Step 1 0 ∷ Deliver 2 ∷ Step 0 0 ∷ Deliver 1 ∷ Step 2 0 ∷ Step 2 0 ∷ Step 2 0 ∷ Step 0 0 ∷ Step 0 0 ∷ Step 0 0
+    ∷ Step 0 0 ∷ []) (alone w4 3 refl refl refl (lit≤ tt)) step5 goes6
 
-goes4 : Goes w3 (Deliver 0 ∷ Step 1 0 ∷ Step 1 0 ∷ Step 1 0 ∷ Deliver 2 ∷ Step 0 0 ∷ Deliver 1 ∷ Step 2 0 ∷ Step 2 0 ∷ Step 2 0 ∷ Step 0 0 ∷ Step 0 0 ∷ Step 0 0 ∷ Step 0 0 ∷ [])
-goes4 = take_on w3 w4 0 (Step 1 0 ∷ Step 1 0 ∷ Step 1 0 ∷ Deliver 2 ∷ Step 0 0 ∷ Deliver 1 ∷ Step 2 0 ∷ Step 2 0 ∷ Step 2 0 ∷ Step 0 0 ∷ Step 0 0 ∷ Step 0 0 ∷ Step 0 0 ∷ []) (alone w3 3 refl refl refl (lit≤ tt)) take4 goes5
+goes4 : Goes w3 (Deliver 0 ∷ Step 1 0 ∷ Step 1 0 ∷ Step 1 0 ∷ Deliver 2 ∷ Step 0 0 ∷ Deliver 1 ∷ Step 2 0 ∷ Step 2 0 ∷ Step 2 0 ∷ Step 0 0 ∷ Step 0 0
+    ∷ Step 0 0 ∷ Step 0 0 ∷ [])
+goes4 = take_on w3 w4 0 (Step 1 0 ∷ Step 1 0 ∷ Step 1 0 ∷ Deliver 2 ∷ Step 0 0 ∷ Deliver 1 ∷ Step 2 0 ∷ Step 2 0 ∷ Step 2 0 ∷ Step 0 0 ∷ Step 0 0
+    ∷ Step 0 0 ∷ Step 0 0 ∷ []) (alone w3 3 refl refl refl (lit≤ tt)) take4 goes5
 
-goes3 : Goes w2 (Step 0 0 ∷ Deliver 0 ∷ Step 1 0 ∷ Step 1 0 ∷ Step 1 0 ∷ Deliver 2 ∷ Step 0 0 ∷ Deliver 1 ∷ Step 2 0 ∷ Step 2 0 ∷ Step 2 0 ∷ Step 0 0 ∷ Step 0 0 ∷ Step 0 0 ∷ Step 0 0 ∷ [])
-goes3 = step_on w2 w3 0 (Deliver 0 ∷ Step 1 0 ∷ Step 1 0 ∷ Step 1 0 ∷ Deliver 2 ∷ Step 0 0 ∷ Deliver 1 ∷ Step 2 0 ∷ Step 2 0 ∷ Step 2 0 ∷ Step 0 0 ∷ Step 0 0 ∷ Step 0 0 ∷ Step 0 0 ∷ []) (alone w2 2 refl refl refl (lit≤ tt)) step3 goes4
+goes3 : Goes w2 (Step 0 0 ∷ Deliver 0 ∷ Step 1 0 ∷ Step 1 0 ∷ Step 1 0 ∷ Deliver 2 ∷ Step 0 0 ∷ Deliver 1 ∷ Step 2 0 ∷ Step 2 0 ∷ Step 2 0 ∷ Step 0 0
+    ∷ Step 0 0 ∷ Step 0 0 ∷ Step 0 0 ∷ [])
+goes3 = step_on w2 w3 0 (Deliver 0 ∷ Step 1 0 ∷ Step 1 0 ∷ Step 1 0 ∷ Deliver 2 ∷ Step 0 0 ∷ Deliver 1 ∷ Step 2 0 ∷ Step 2 0 ∷ Step 2 0 ∷ Step 0 0
+    ∷ Step 0 0 ∷ Step 0 0 ∷ Step 0 0 ∷ []) (alone w2 2 refl refl refl (lit≤ tt)) step3 goes4
 
-goes2 : Goes w1 (Step 0 0 ∷ Step 0 0 ∷ Deliver 0 ∷ Step 1 0 ∷ Step 1 0 ∷ Step 1 0 ∷ Deliver 2 ∷ Step 0 0 ∷ Deliver 1 ∷ Step 2 0 ∷ Step 2 0 ∷ Step 2 0 ∷ Step 0 0 ∷ Step 0 0 ∷ Step 0 0 ∷ Step 0 0 ∷ [])
-goes2 = step_on w1 w2 0 (Step 0 0 ∷ Deliver 0 ∷ Step 1 0 ∷ Step 1 0 ∷ Step 1 0 ∷ Deliver 2 ∷ Step 0 0 ∷ Deliver 1 ∷ Step 2 0 ∷ Step 2 0 ∷ Step 2 0 ∷ Step 0 0 ∷ Step 0 0 ∷ Step 0 0 ∷ Step 0 0 ∷ []) (alone w1 1 refl refl refl (lit≤ tt)) step2 goes3
+goes2 : Goes w1 (Step 0 0 ∷ Step 0 0 ∷ Deliver 0 ∷ Step 1 0 ∷ Step 1 0 ∷ Step 1 0 ∷ Deliver 2 ∷ Step 0 0 ∷ Deliver 1 ∷ Step 2 0 ∷ Step 2 0 ∷ Step 2 0
+    ∷ Step 0 0 ∷ Step 0 0 ∷ Step 0 0 ∷ Step 0 0 ∷ [])
+goes2 = step_on w1 w2 0 (Step 0 0 ∷ Deliver 0 ∷ Step 1 0 ∷ Step 1 0 ∷ Step 1 0 ∷ Deliver 2 ∷ Step 0 0 ∷ Deliver 1 ∷ Step 2 0 ∷ Step 2 0 ∷ Step 2 0
+    ∷ Step 0 0 ∷ Step 0 0 ∷ Step 0 0 ∷ Step 0 0 ∷ []) (alone w1 1 refl refl refl (lit≤ tt)) step2 goes3
 
-goes1 : Goes w0 (Step 0 0 ∷ Step 0 0 ∷ Step 0 0 ∷ Deliver 0 ∷ Step 1 0 ∷ Step 1 0 ∷ Step 1 0 ∷ Deliver 2 ∷ Step 0 0 ∷ Deliver 1 ∷ Step 2 0 ∷ Step 2 0 ∷ Step 2 0 ∷ Step 0 0 ∷ Step 0 0 ∷ Step 0 0 ∷ Step 0 0 ∷ [])
-goes1 = step_on w0 w1 0 (Step 0 0 ∷ Step 0 0 ∷ Deliver 0 ∷ Step 1 0 ∷ Step 1 0 ∷ Step 1 0 ∷ Deliver 2 ∷ Step 0 0 ∷ Deliver 1 ∷ Step 2 0 ∷ Step 2 0 ∷ Step 2 0 ∷ Step 0 0 ∷ Step 0 0 ∷ Step 0 0 ∷ Step 0 0 ∷ []) (alone w0 0 refl refl refl (lit≤ tt)) step1 goes2
+goes1 : Goes w0 (Step 0 0 ∷ Step 0 0 ∷ Step 0 0 ∷ Deliver 0 ∷ Step 1 0 ∷ Step 1 0 ∷ Step 1 0 ∷ Deliver 2 ∷ Step 0 0 ∷ Deliver 1 ∷ Step 2 0 ∷ Step 2 0
+    ∷ Step 2 0 ∷ Step 0 0 ∷ Step 0 0 ∷ Step 0 0 ∷ Step 0 0 ∷ [])
+goes1 = step_on w0 w1 0 (Step 0 0 ∷ Step 0 0 ∷ Deliver 0 ∷ Step 1 0 ∷ Step 1 0 ∷ Step 1 0 ∷ Deliver 2 ∷ Step 0 0 ∷ Deliver 1 ∷ Step 2 0 ∷ Step 2 0
+    ∷ Step 2 0 ∷ Step 0 0 ∷ Step 0 0 ∷ Step 0 0 ∷ Step 0 0 ∷ []) (alone w0 0 refl refl refl (lit≤ tt)) step1 goes2
 
 pub relay_runs : RelayRuns
 relay_runs = (w17, goes1, (home8, refl, refl, refl), (middle4, refl, refl, refl), (last4, refl, refl, refl))

@@ -24,7 +24,8 @@ next_slots s at r slot slots h n next e = let same : r + suc n ≡ r + 1 + n = o
 
 -- ---- fields
 
-pub class_of_field : (o : Option (List Kind)) (c : ℕ) (field : Kind) → field_in o c ≡ Some field → (kinds : List Kind) × (o ≡ Some kinds) × (slice_get kinds c ≡ Some field)
+pub class_of_field : (o : Option (List Kind)) (c : ℕ) (field : Kind) → field_in o c ≡ Some field
+    → (kinds : List Kind) × (o ≡ Some kinds) × (slice_get kinds c ≡ Some field)
 class_of_field None c field e = absurd cc
 class_of_field (Some kinds) c field e = (kinds, refl, e)
 

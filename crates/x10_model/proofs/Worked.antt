@@ -15,37 +15,52 @@ use Rattle.x10_model.specs.Worlds.{World, Ideal, Steps, steps, Run, done, then, 
 use Rattle.x10_model.specs.Examples.{on_places, seven, AddWraps, LoopSetsItsSlot, TextsAreJoined, FieldIsRead, ByteIsSet, PlacesGoRound, FinishIsOpened, NumberIsPrinted, EachGroupMoves, CycleIsCopied, pair_of_objects, pair_snapshot, SevenRuns}
 use Rattle.x10_model.proofs.Events.{happens_right}
 use Rattle.std.proofs.lemmas.Option.{same_Some}
-use Rattle.x10_model.proofs.Moving.{moves, IsAlone, nobody, and_one, is_free}
+use Rattle.x10_model.proofs.MoveLemmas.{moves, IsAlone, nobody, and_one, is_free}
 
 -- ---- moves
 
 add_wraps : AddWraps
 unfolding int_wrap
-add_wraps = moves refl refl (is_free _ 4 (and_one _ (nobody 4))) refl refl (record { a = lit< tt; b = lit< tt; c = lit< tt; x = tt }) (pos 9223372036854775807, pos 1, refl, refl, (refl, refl))
+add_wraps = moves refl refl (is_free _ 4 (and_one _ (nobody 4))) refl refl (record { a = lit< tt; b = lit< tt; c = lit< tt; x = tt })
+    (pos 9223372036854775807, pos 1, refl, refl, (refl, refl))
 
 loop_sets : LoopSetsItsSlot
 loop_sets = moves refl refl (is_free _ 4 (and_one _ (nobody 4))) refl refl (record { a = lit< tt; b = tt; c = tt; x = tt }) (refl, refl)
 
 texts_join : TextsAreJoined
-texts_join = moves refl refl (is_free _ 4 (and_one _ (nobody 4))) refl refl (record { a = lit< tt; b = lit< tt; c = lit< tt; x = lit< tt }) (72 ∷ [], 105 ∷ [], refl, refl, (refl, refl))
+texts_join = moves refl refl (is_free _ 4 (and_one _ (nobody 4))) refl refl (record { a = lit< tt; b = lit< tt; c = lit< tt; x = lit< tt })
+    (72 ∷ [], 105 ∷ [], refl, refl, (refl, refl))
 
 field_read : FieldIsRead
-field_read = moves refl refl (is_free _ 4 (and_one _ (nobody 4))) refl refl (record { a = lit< tt; b = lit< tt; c = tt; x = tt }) (5, 0, Int (pos 3) ∷ Null ∷ [], Null, refl, refl, refl, (refl, refl))
+field_read = moves refl refl (is_free _ 4 (and_one _ (nobody 4))) refl refl (record { a = lit< tt; b = lit< tt; c = tt; x = tt })
+    (5, 0, Int (pos 3) ∷ Null ∷ [], Null, refl, refl, refl, (refl, refl))
 
 byte_set : ByteIsSet
-byte_set = moves refl refl (is_free _ 4 (and_one _ (nobody 4))) refl refl (record { a = lit< tt; b = lit< tt; c = lit< tt; x = lit< tt }) (5, 0 ∷ 0 ∷ [], pos 1, negsuc 0, refl, refl, refl, refl, (refl, refl))
+byte_set = moves refl refl (is_free _ 4 (and_one _ (nobody 4))) refl refl (record { a = lit< tt; b = lit< tt; c = lit< tt; x = lit< tt })
+    (5, 0 ∷ 0 ∷ [], pos 1, negsuc 0, refl, refl, refl, refl, (refl, refl))
 
 places_round : PlacesGoRound
-places_round = moves refl refl (is_free _ 4 (and_one _ (nobody 4))) refl refl (record { a = lit< tt; b = lit< tt; c = tt; x = tt }) (2, refl, (refl, refl))
+places_round = moves refl refl (is_free _ 4 (and_one _ (nobody 4))) refl refl (record { a = lit< tt; b = lit< tt; c = tt; x = tt })
+    (2, refl, (refl, refl))
 
 finish_opens : FinishIsOpened
 finish_opens = moves refl refl (is_free _ 4 (and_one _ (nobody 4))) refl refl (record { a = tt; b = tt; c = tt; x = tt }) (refl, refl)
 
 number_prints : NumberIsPrinted
-number_prints = moves refl refl (is_free _ 4 (and_one _ (nobody 4))) refl refl (record { a = lit< tt; b = tt; c = tt; x = tt }) (Int (pos 7), Number (pos 7), refl, refl, (refl, refl))
+number_prints = moves refl refl (is_free _ 4 (and_one _ (nobody 4))) refl refl (record { a = lit< tt; b = tt; c = tt; x = tt })
+    (Int (pos 7), Number (pos 7), refl, refl, (refl, refl))
 
 pub each_group : EachGroupMoves
-each_group = record { numbers = add_wraps; control = loop_sets; text = texts_join; objects = field_read; rails = byte_set; places = places_round; activities = finish_opens; output = number_prints }
+each_group = record {
+  numbers = add_wraps;
+  control = loop_sets;
+  text = texts_join;
+  objects = field_read;
+  rails = byte_set;
+  places = places_round;
+  activities = finish_opens;
+  output = number_prints;
+}
 
 -- ---- a copy
 
@@ -78,7 +93,11 @@ two_distinct x y ne (suc i) zero v e f = absurd (ne (same_Some x v f ∙ sym (on
 two_distinct x y ne (suc i) (suc j) v e f = ap suc (one_distinct y i j v e f)
 
 inside_fields : (w v : Value) (i : ℕ) → IsInside pair_snapshot w → slice_get (w ∷ Rail 0 ∷ []) i ≡ Some v → IsInside pair_snapshot v
-inside_fields w v i h g = elim (two_are w (Rail 0) v i g) [ inl s ↦ subst (λ u. IsInside pair_snapshot u) s h | inr s ↦ subst (λ u. IsInside pair_snapshot u) s (lit< tt) ]
+inside_fields w v i h g = elim (two_are w (Rail 0) v i g) [
+  | inl s ↦ subst (λ u. IsInside pair_snapshot u) s h
+  | inr s ↦ subst
+      (λ u. IsInside pair_snapshot u) s (lit< tt)
+]
 
 abbrev node_of : Value → Node
 node_of w = record { class = 0; fields = w ∷ Rail 0 ∷ [] }
@@ -99,7 +118,8 @@ pair_whole : IsWhole pair_snapshot
 pair_whole = record {
   roots = λ v m. subst (λ u. IsInside pair_snapshot u) (one_is (Object 0) v m.0 m.1) (lit< tt);
   fields = inside_both;
-  nodes_reached = below_two (λ k. IsReached pair_snapshot (Object k)) root_reached (field (Object 1) 0 (node_of (Object 1)) root_reached refl (0, refl));
+  nodes_reached = below_two (λ k. IsReached pair_snapshot (Object k)) root_reached
+      (field (Object 1) 0 (node_of (Object 1)) root_reached refl (0, refl));
   rails_reached = below_one (λ i. IsReached pair_snapshot (Rail i)) (field (Rail 0) 0 (node_of (Object 1)) root_reached refl (1, refl));
 }
 
@@ -115,7 +135,8 @@ lies_at zero node e = subst (LiesAt 0) (same_Some (node_of (Object 1)) node e) r
 lies_at (suc zero) node e = subst (LiesAt 1) (same_Some (node_of (Object 0)) node e) refl
 lies_at (suc (suc k)) node e = absurd cc
 
-bytes_at : (i : ℕ) (bytes : List ℕ) → slice_get pair_snapshot.rails i ≡ Some bytes → pair_of_objects (slice_index pair_names.rails i) ≡ Some (Bytes bytes)
+bytes_at : (i : ℕ) (bytes : List ℕ) → slice_get pair_snapshot.rails i ≡ Some bytes
+    → pair_of_objects (slice_index pair_names.rails i) ≡ Some (Bytes bytes)
 bytes_at zero bytes e = ap (λ b. Some (Bytes b)) (same_Some (0 ∷ 0 ∷ []) bytes e)
 bytes_at (suc i) bytes e = absurd cc
 
@@ -164,7 +185,10 @@ effect_of _ = Ends places.root None
 
 abbrev pub world_after : ℕ → World
 world_after zero = opening setting 0
-world_after (suc n) = record { net = net_after (world_after n).net 0 (place_after (suc n)) (effect_of n) 0; book = book_after (world_after n).book ((world_after n).book.belongs 0 0) 0 (effect_of n) 0 }
+world_after (suc n) = record {
+  net = net_after (world_after n).net 0 (place_after (suc n)) (effect_of n) 0;
+  book = book_after (world_after n).book ((world_after n).book.belongs 0 0) 0 (effect_of n) 0;
+}
 
 first_alone : IsAlone (place_after 0).stays 0
 first_alone = and_one _ (nobody 0)
@@ -179,22 +203,58 @@ first_move : Moves setting 0 (place_after 0) 0 (place_after 1) Works
 first_move = moves refl refl (is_free _ 0 first_alone) refl refl (record { a = lit< tt; b = tt; c = tt; x = lit< tt }) (pos 7, refl, (refl, refl))
 
 second_move : Moves setting 0 (place_after 1) 0 (place_after 2) Works
-second_move = moves refl refl (is_free _ 0 second_alone) refl refl (record { a = lit< tt; b = tt; c = tt; x = tt }) (Int (pos 7), Number (pos 7), refl, refl, (refl, refl))
+second_move = moves refl refl (is_free _ 0 second_alone) refl refl (record { a = lit< tt; b = tt; c = tt; x = tt })
+    (Int (pos 7), Number (pos 7), refl, refl, (refl, refl))
 
 third_move : Moves setting 0 (place_after 2) 0 (place_after 3) (Ends places.root None)
-third_move = moves refl refl (is_free _ 0 third_alone) refl refl (record { a = tt; b = tt; c = tt; x = tt }) (None, tt, (None, refl, refl, refl, refl))
+third_move = moves refl refl (is_free _ 0 third_alone) refl refl (record { a = tt; b = tt; c = tt; x = tt })
+    (None, tt, (None, refl, refl, refl, refl))
 
 first_step : Steps Ideal setting (world_after 0) 0 0 (world_after 1)
-first_step = record { old = _; new = _; effect = _; number = 0; place_is = refl; moves = first_move; allowed = tt; unused = refl; net_is = refl; book_is = refl }
+first_step = record {
+  old = _;
+  new = _;
+  effect = _;
+  number = 0;
+  place_is = refl;
+  moves = first_move;
+  allowed = tt;
+  unused = refl;
+  net_is = refl;
+  book_is = refl;
+}
 
 second_step : Steps Ideal setting (world_after 1) 0 0 (world_after 2)
-second_step = record { old = _; new = _; effect = _; number = 0; place_is = refl; moves = second_move; allowed = tt; unused = refl; net_is = refl; book_is = refl }
+second_step = record {
+  old = _;
+  new = _;
+  effect = _;
+  number = 0;
+  place_is = refl;
+  moves = second_move;
+  allowed = tt;
+  unused = refl;
+  net_is = refl;
+  book_is = refl;
+}
 
 third_step : Steps Ideal setting (world_after 2) 0 0 (world_after 3)
-third_step = record { old = _; new = _; effect = _; number = 0; place_is = refl; moves = third_move; allowed = tt; unused = refl; net_is = refl; book_is = refl }
+third_step = record {
+  old = _;
+  new = _;
+  effect = _;
+  number = 0;
+  place_is = refl;
+  moves = third_move;
+  allowed = tt;
+  unused = refl;
+  net_is = refl;
+  book_is = refl;
+}
 
 -- the one activity has made so many steps
-within : (w : World) (n : ℕ) → w.book.begun ≡ 1 → (w.book.activities 0).steps ≡ n → (w.book.activities 0).function ≡ 0 → n ≤ 3 → WithinBounds (3 ∷ []) w
+within : (w : World) (n : ℕ) → w.book.begun ≡ 1 → (w.book.activities 0).steps ≡ n → (w.book.activities 0).function ≡ 0 → n ≤ 3
+    → WithinBounds (3 ∷ []) w
 within w n begun made function le zero bound lt e =
     let is : 3 ≡ bound = same_Some 3 bound (subst (λ f. slice_get (3 ∷ []) f ≡ Some bound) function e) in
     omega arith
@@ -203,7 +263,9 @@ within w n begun made function le (suc a) bound lt e = absurd (omega arith)
 abbrev pub IsWithin : World → Type 0
 IsWithin w = WithinBounds (3 ∷ []) w
 
-made : (n : ℕ) (rest : List Event) → Steps Ideal setting (world_after n) 0 0 (world_after (suc n)) → IsWithin (world_after n) → Run Ideal setting (WithinBounds (3 ∷ [])) (world_after (suc n)) rest (world_after 3) → Run Ideal setting (WithinBounds (3 ∷ [])) (world_after n) (Step 0 0 ∷ rest) (world_after 3)
+made : (n : ℕ) (rest : List Event) → Steps Ideal setting (world_after n) 0 0 (world_after (suc n)) → IsWithin (world_after n)
+    → Run Ideal setting (WithinBounds (3 ∷ [])) (world_after (suc n)) rest (world_after 3)
+    → Run Ideal setting (WithinBounds (3 ∷ [])) (world_after n) (Step 0 0 ∷ rest) (world_after 3)
 made n rest s bound more = then (world_after n) (world_after (suc n)) (world_after 3) (Step 0 0) rest bound
     (happens_right Ideal setting (world_after n) (world_after (suc n)) (Step 0 0) (steps 0 0 (world_after (suc n)) s))
     (steps 0 0 (world_after (suc n)) s) more

@@ -35,7 +35,8 @@ holds_place (Some kind) = has_place kind
 -- the equations are an equivalence, and say nothing of a register that holds no place
 pub record IsState (s : State) : Type 0 where
   pub equivalence : IsEquivalence s.homes
-  pub alone : (r : ℕ) (t : Term) → r < 64 → holds_place (s.kinds r) ≡ false → IsTerm t → IsTrue (s.homes (term.Reg r) t) → t ≡ term.Reg r
+  pub alone : (r : ℕ) (t : Term) → r < 64 → holds_place (s.kinds r) ≡ false → IsTerm t
+      → IsTrue (s.homes (term.Reg r) t) → t ≡ term.Reg r
 
 -- the register is set to a kind that fits
 abbrev pub IsKind : State → ℕ → Kind → Type 0
@@ -55,10 +56,14 @@ parameter_kind (Some slot) = Some slot.kind
 -- the parameters from register r on that are said to have their home here
 abbrev pub homes_here : ℕ → List Slot → Equations
 homes_here r [] = alone
-homes_here r (slot ∷ slots) = if slot.home_here then joined (homes_here (r + 1) slots) (term.Reg r) term.Here else homes_here (r + 1) slots
+homes_here r (slot ∷ slots) = if slot.home_here then joined (homes_here (r + 1) slots)
+    (term.Reg r) term.Here else homes_here (r + 1) slots
 
 abbrev pub entry_state : Function → State
-entry_state f = record { kinds = λ r. parameter_kind (slice_get f.parameters r); homes = homes_here 0 f.parameters }
+entry_state f = record {
+  kinds = λ r. parameter_kind (slice_get f.parameters r);
+  homes = homes_here 0 f.parameters;
+}
 
 -- ---- rules
 
@@ -74,7 +79,10 @@ abbrev pub Edges : Type 0
 Edges = List (ℕ × State)
 
 abbrev pub set : State → ℕ → Kind → Option Term → State
-set s r kind like = record { kinds = with_entry s.kinds r (Some kind); homes = written s.homes r like }
+set s r kind like = record {
+  kinds = with_entry s.kinds r (Some kind);
+  homes = written s.homes r like;
+}
 
 -- ---- what a row asks
 
@@ -93,11 +101,13 @@ KindsAre s r kinds = (n : ℕ) (want : Kind) → slice_get kinds n ≡ Some want
 
 -- the register has the slot's kind, and its home is the place of a term where the slot asks for that
 abbrev pub FitsAs : State → Term → ℕ → Slot → Type 0
-FitsAs s at r slot = IsKind s r slot.kind × (IsTrue slot.home_here → IsTrue (s.homes (term.Reg r) at))
+FitsAs s at r slot = IsKind s r slot.kind
+    × (IsTrue slot.home_here → IsTrue (s.homes (term.Reg r) at))
 
 -- the registers from r on fit the slots, one by one
 abbrev pub SlotsAre : State → Term → ℕ → List Slot → Type 0
-SlotsAre s at r slots = (n : ℕ) (slot : Slot) → slice_get slots n ≡ Some slot → FitsAs s at (r + n) slot
+SlotsAre s at r slots = (n : ℕ) (slot : Slot) → slice_get slots n ≡ Some slot
+    → FitsAs s at (r + n) slot
 
 -- field c of a class, where there are both
 abbrev pub field_in : Option (List Kind) → ℕ → Option Kind
@@ -137,23 +147,32 @@ ReturnsWell p s (Some slot) = FitsAs s term.Here p.instr.a slot
 -- what an outcome asks, and its effect
 abbrev pub Settles : Outcome → Point → State → Effect → Type 0
 Settles (Fixed effect) p s e = e ≡ effect
-Settles Copies p s e = (kind : Kind) × (s.kinds p.instr.b ≡ Some kind) × (e ≡ Sets kind (like_if (has_place kind) (term.Reg p.instr.b)))
-Settles (Calls at) p s e = (callee : Function) × IsCalled p s at callee × GivesResult p at callee.result e
+Settles Copies p s e = (kind : Kind) × (s.kinds p.instr.b ≡ Some kind)
+    × (e ≡ Sets kind (like_if (has_place kind) (term.Reg p.instr.b)))
+Settles (Calls at) p s e = (callee : Function) × IsCalled p s at callee
+    × GivesResult p at callee.result e
 Settles Returns p s e = ReturnsWell p s p.function.result × (e ≡ Keeps)
 Settles Makes p s e = (kinds : List Kind) × (slice_get p.program.classes p.instr.x ≡ Some kinds)
     × KindsAre s p.instr.b kinds × (e ≡ Sets (Obj p.instr.x) None)
-Settles Gets p s e = (class : ℕ) × (field : Kind) × IsKind s p.instr.b (Obj class) × (field_of p.program class p.instr.c ≡ Some field)
+Settles Gets p s e = (class : ℕ) × (field : Kind) × IsKind s p.instr.b (Obj class)
+    × (field_of p.program class p.instr.c ≡ Some field)
     × (e ≡ Sets field None)
-Settles Puts p s e = (class : ℕ) × (field : Kind) × IsKind s p.instr.a (Obj class) × (field_of p.program class p.instr.c ≡ Some field)
+Settles Puts p s e = (class : ℕ) × (field : Kind) × IsKind s p.instr.a (Obj class)
+    × (field_of p.program class p.instr.c ≡ Some field)
     × IsKind s p.instr.b field × (e ≡ Keeps)
 Settles Unwraps p s e = (class : ℕ) × IsKind s p.instr.b (Opt class) × (e ≡ Sets (Obj class) None)
-Settles Locates p s e = (class : ℕ) × IsKind s p.instr.b (GRef class) × (e ≡ Sets Place (Some (term.Reg p.instr.b)))
-Settles Exports p s e = (class : ℕ) × IsKind s p.instr.b (Obj class) × (e ≡ Sets (GRef class) (Some term.Here))
-Settles Opens p s e = (class : ℕ) × IsKind s p.instr.b (GRef class) × IsTrue (s.homes (term.Reg p.instr.b) term.Here)
+Settles Locates p s e = (class : ℕ) × IsKind s p.instr.b (GRef class)
+    × (e ≡ Sets Place (Some (term.Reg p.instr.b)))
+Settles Exports p s e = (class : ℕ) × IsKind s p.instr.b (Obj class)
+    × (e ≡ Sets (GRef class) (Some term.Here))
+Settles Opens p s e = (class : ℕ) × IsKind s p.instr.b (GRef class)
+    × IsTrue (s.homes (term.Reg p.instr.b) term.Here)
     × (e ≡ Sets (Obj class) None)
 Settles FindsHere p s e = IsPlaced s p.instr.a × (e ≡ Joins (term.Reg p.instr.a) term.Here)
-Settles FindsSame p s e = IsPlaced s p.instr.a × IsPlaced s p.instr.b × (e ≡ Joins (term.Reg p.instr.a) (term.Reg p.instr.b))
-Settles (Starts at) p s e = (callee : Function) × IsCalled p s at callee × (callee.result ≡ None) × (e ≡ Keeps)
+Settles FindsSame p s e = IsPlaced s p.instr.a × IsPlaced s p.instr.b
+    × (e ≡ Joins (term.Reg p.instr.a) (term.Reg p.instr.b))
+Settles (Starts at) p s e = (callee : Function) × IsCalled p s at callee × (callee.result ≡ None)
+    × (e ≡ Keeps)
 Settles Prints p s e = (IsKind s p.instr.a Int ⊎ IsKind s p.instr.a Text) × (e ≡ Keeps)
 
 -- a row grants the instruction in a state, with this effect
@@ -177,11 +196,13 @@ edge_if false pc s = []
 
 -- to the next instruction with the effect, and to x with the state as it was
 abbrev pub edges_of : Op → Point → State → Effect → Edges
-edges_of o p s e = edge_if (goes_on_of o) (p.pc + 1) (after p.instr.a s e) ++ edge_if (is_target (form_of o).x) p.instr.x s
+edges_of o p s e = edge_if (goes_on_of o) (p.pc + 1) (after p.instr.a s e)
+    ++ edge_if (is_target (form_of o).x) p.instr.x s
 
 -- What an instruction asks of the state before it, by its row, and the states that it gives to those that may follow.
 abbrev pub Permits : Op → Point → State → Edges → Type 0
-Permits o p s out = (effect : Effect) × Grants (rule_for o p.instr) p s effect × (out ≡ edges_of o p s effect)
+Permits o p s out = (effect : Effect) × Grants (rule_for o p.instr) p s effect
+    × (out ≡ edges_of o p s effect)
 
 -- ---- assignments
 
@@ -191,11 +212,14 @@ Reaches states edge = (known : State) × (states edge.0 ≡ Some known) × IsBel
 
 -- States at some instructions of a function, the first among them, such that each rule holds and each instruction that
 -- follows one with a state has one that knows no more.
-pub record IsConsistent (program : Module) (function : Function) (states : ℕ → Option State) : Type 0 where
+pub record IsConsistent (program : Module) (function : Function)
+    (states : ℕ → Option State) : Type 0 where
   pub entry : Reaches states (0, entry_state function)
   pub valid : (pc : ℕ) (s : State) → states pc ≡ Some s → IsState s
-  pub permitted : (pc : ℕ) (s : State) → states pc ≡ Some s → (instr : Instr) × (out : Edges) × (slice_get function.code pc ≡ Some instr)
-      × Permits instr.op (record { program = program; function = function; pc = pc; instr = instr }) s out
+  pub permitted : (pc : ℕ) (s : State) → states pc ≡ Some s
+      → (instr : Instr) × (out : Edges) × (slice_get function.code pc ≡ Some instr)
+      × Permits instr.op (record { program = program; function = function; pc = pc; instr = instr })
+      s out
       × ((edge : ℕ × State) → IsIn edge out → Reaches states edge)
 
 abbrev pub HasAssignment : Module → Function → Type 0
@@ -203,5 +227,6 @@ HasAssignment program function = (states : ℕ → Option State) × IsConsistent
 
 -- every instruction names what is there
 abbrev pub AreInRange : Module → Type 0
-AreInRange program = (f pc : ℕ) (function : Function) (instr : Instr) → function_at program f ≡ Some function → slice_get function.code pc ≡ Some instr
+AreInRange program = (f pc : ℕ) (function : Function) (instr : Instr)
+    → function_at program f ≡ Some function → slice_get function.code pc ≡ Some instr
     → IsInRange program function instr

@@ -41,7 +41,8 @@ named n (Ref home id class) = Ref home id class
 -- the roots and what follows from them by fields
 pub data IsReached (s : Snapshot) : Value → Type 0 where
   root : (v : Value) → IsIn v s.roots → IsReached s v
-  field : (v : Value) (k : ℕ) (node : Node) → IsReached s (Object k) → slice_get s.nodes k ≡ Some node → IsIn v node.fields → IsReached s v
+  field : (v : Value) (k : ℕ) (node : Node) → IsReached s (Object k)
+      → slice_get s.nodes k ≡ Some node → IsIn v node.fields → IsReached s v
 
 -- a reference in the value is one of the snapshot's
 abbrev pub IsInside : Snapshot → Value → Type 0
@@ -52,7 +53,8 @@ IsInside s _ = Unit {0}
 -- the snapshot by itself: each reference leads to one of its parts, and each part is reached
 pub record IsWhole (s : Snapshot) : Type 0 where
   pub roots : (v : Value) → IsIn v s.roots → IsInside s v
-  pub fields : (k : ℕ) (node : Node) (v : Value) → slice_get s.nodes k ≡ Some node → IsIn v node.fields → IsInside s v
+  pub fields : (k : ℕ) (node : Node) (v : Value) → slice_get s.nodes k ≡ Some node
+      → IsIn v node.fields → IsInside s v
   pub nodes_reached : (k : ℕ) → k < length s.nodes → IsReached s (Object k)
   pub rails_reached : (i : ℕ) → i < length s.rails → IsReached s (Rail i)
 
@@ -69,8 +71,10 @@ pub record IsCopy (cells : Cells) (values : List Value) (s : Snapshot) (n : Name
   pub whole : IsWhole s
   pub names : AreNamesOf s n
   pub roots : values ≡ map (named n) s.roots
-  pub nodes : (k : ℕ) (node : Node) → slice_get s.nodes k ≡ Some node → cells (slice_index n.objects k) ≡ Some (Fields node.class (map (named n) node.fields))
-  pub bytes : (i : ℕ) (bytes : List ℕ) → slice_get s.rails i ≡ Some bytes → cells (slice_index n.rails i) ≡ Some (Bytes bytes)
+  pub nodes : (k : ℕ) (node : Node) → slice_get s.nodes k ≡ Some node
+      → cells (slice_index n.objects k) ≡ Some (Fields node.class (map (named n) node.fields))
+  pub bytes : (i : ℕ) (bytes : List ℕ) → slice_get s.rails i ≡ Some bytes
+      → cells (slice_index n.rails i) ≡ Some (Bytes bytes)
 
 -- the snapshot of some values
 abbrev pub Captures : Cells → List Value → Snapshot → Type 0

@@ -17,25 +17,30 @@ use Rattle.x10_model.specs.Moves.{new_stay, resumed}
 -- each object of the graph has the fields of its class
 abbrev pub FitsClasses : Module → Snapshot → Type 0
 FitsClasses m graph = (k : ℕ) (node : Node) → slice_get graph.nodes k ≡ Some node
-    → (kinds : List Kind) × (slice_get m.classes node.class ≡ Some kinds) × AreOfKinds (IsOfKindIn graph) node.fields kinds
+    → (kinds : List Kind) × (slice_get m.classes node.class ≡ Some kinds)
+    × AreOfKinds (IsOfKindIn graph) node.fields kinds
 
 -- a global reference whose home is the place names an object that the place exported with that class
 abbrev pub IsExported : ℕ → List Export → Value → Type 0
-IsExported here exports (Ref home id class) = home ≡ here → (object : ℕ) × (slice_get exports id ≡ Some (record { class = class; object = object }))
+IsExported here exports (Ref home id class) = home ≡ here
+    → (object : ℕ) × (slice_get exports id ≡ Some (record { class = class; object = object }))
 IsExported here exports _ = Unit {0}
 
 -- the same of each value in a graph
 pub record NamesExports (here : ℕ) (exports : List Export) (graph : Snapshot) : Type 0 where
   pub roots : (v : Value) → IsIn v graph.roots → IsExported here exports v
-  pub fields : (k : ℕ) (node : Node) (v : Value) → slice_get graph.nodes k ≡ Some node → IsIn v node.fields → IsExported here exports v
+  pub fields : (k : ℕ) (node : Node) (v : Value) → slice_get graph.nodes k ≡ Some node
+      → IsIn v node.fields → IsExported here exports v
 
 -- a graph that a place may take in
-pub record FitsPlace (setting : Setting) (here : ℕ) (place : places.Place) (graph : Snapshot) : Type 0 where
+pub record FitsPlace (setting : Setting) (here : ℕ) (place : places.Place)
+    (graph : Snapshot) : Type 0 where
   pub classes : FitsClasses setting.program graph
   pub exports : NamesExports here place.exports graph
 
 -- the arguments in a message fit the function that it names
-pub record FitsFunctionAt (setting : Setting) (here function : ℕ) (graph : Snapshot) (callee : Function) : Type 0 where
+pub record FitsFunctionAt (setting : Setting) (here function : ℕ) (graph : Snapshot)
+    (callee : Function) : Type 0 where
   pub callee_is : function_at setting.program function ≡ Some callee
   pub arguments : FitSlots (IsOfKindIn graph) here graph.roots callee.parameters
 
@@ -50,7 +55,8 @@ first_of [] = None
 first_of (v ∷ vs) = Some v
 
 -- a stay begins with the arguments that came, under a finish, with a key that no other stay has
-pub record Begins (setting : Setting) (here : ℕ) (old : places.Place) (function : ℕ) (graph : Snapshot) (under : Finish) (back : Option Origin) (key : ℕ)
+pub record Begins (setting : Setting) (here : ℕ) (old : places.Place) (function : ℕ)
+    (graph : Snapshot) (under : Finish) (back : Option Origin) (key : ℕ)
     (new : places.Place) : Type 0 where
   pub callee : Function
   pub fits_function : FitsFunctionAt setting here function graph callee
@@ -60,10 +66,12 @@ pub record Begins (setting : Setting) (here : ℕ) (old : places.Place) (functio
   pub cells : Cells
   pub arrives : Arrives old.cells graph arguments cells
   pub free : old.stays key ≡ None
-  pub new_is : new ≡ with_stay (record old { cells = cells }) key (Some (new_stay function arguments under back))
+  pub new_is : new ≡ with_stay (record old { cells = cells }) key
+      (Some (new_stay function arguments under back))
 
 -- the stay with the key waits for the function that it sent to the place from
-pub record WaitsFor (setting : Setting) (place : places.Place) (key from : ℕ) (stay : Stay) (call : Instr) (callee : Function) : Type 0 where
+pub record WaitsFor (setting : Setting) (place : places.Place) (key from : ℕ) (stay : Stay)
+    (call : Instr) (callee : Function) : Type 0 where
   pub is_there : place.stays key ≡ Some stay
   pub is_away : stay.away ≡ true
   pub call_is : instr_at setting.program stay.top.function stay.top.pc ≡ Some call
@@ -72,7 +80,8 @@ pub record WaitsFor (setting : Setting) (place : places.Place) (key from : ℕ) 
   pub callee_is : function_at setting.program call.x ≡ Some callee
 
 -- a waiting stay goes on after its at, with the result that came
-pub record Resumes (setting : Setting) (here : ℕ) (old : places.Place) (from : ℕ) (graph : Snapshot) (key : ℕ) (new : places.Place) : Type 0 where
+pub record Resumes (setting : Setting) (here : ℕ) (old : places.Place) (from : ℕ) (graph : Snapshot)
+    (key : ℕ) (new : places.Place) : Type 0 where
   pub stay : Stay
   pub call : Instr
   pub callee : Function
@@ -82,11 +91,15 @@ pub record Resumes (setting : Setting) (here : ℕ) (old : places.Place) (from :
   pub result : List Value
   pub cells : Cells
   pub arrives : Arrives old.cells graph result cells
-  pub new_is : new ≡ with_stay (record old { cells = cells }) key (Some (record stay { top = resumed stay.top call.a (first_of result); away = false }))
+  pub new_is : new ≡ with_stay (record old { cells = cells }) key
+      (Some (record stay { top = resumed stay.top call.a (first_of result); away = false }))
 
 -- the place here takes in a message: from old to new; key is that of the stay that begins or goes on
 abbrev pub Receives : Setting → ℕ → places.Place → Message → ℕ → places.Place → Type 0
-Receives setting here old (Spawn from to under function graph) key new = (to ≡ here) × Begins setting here old function graph under None key new
+Receives setting here old (Spawn from to under function graph) key new = (to ≡ here)
+    × Begins setting here old function graph under None key new
 Receives setting here old (Shift from to waiting under function graph) key new = (to ≡ here)
-    × Begins setting here old function graph under (Some (record { place = from; key = waiting })) key new
-Receives setting here old (Back from to waiting graph) key new = (to ≡ here) × (key ≡ waiting) × Resumes setting here old from graph key new
+    × Begins setting here old function graph under
+    (Some (record { place = from; key = waiting })) key new
+Receives setting here old (Back from to waiting graph) key new = (to ≡ here) × (key ≡ waiting)
+    × Resumes setting here old from graph key new

@@ -42,7 +42,12 @@ pub record Launch : Type 0 where
   pub graph : Graph
 
 abbrev pub launch : (home number function : ℕ) → Graph → Launch
-launch home number function graph = record { home = home; number = number; function = function; graph = graph }
+launch home number function graph = record {
+  home = home;
+  number = number;
+  function = function;
+  graph = graph;
+}
 
 pub data Frame : Type 0 where
   -- a new activity: from, to, the finish's home and number, the function, its arguments
@@ -87,7 +92,8 @@ untagged v (TextItem i) = to_be_bytes (width_of v) i
 untagged v (RailItem i) = to_be_bytes (width_of v) i
 untagged v (ObjectItem i) = to_be_bytes (width_of v) i
 untagged v NullItem = []
-untagged v (RefItem home id class) = to_be_bytes w16 home ++ (to_be_bytes w32 id ++ to_be_bytes w16 class)
+untagged v (RefItem home id class) = to_be_bytes w16 home
+    ++ (to_be_bytes w32 id ++ to_be_bytes w16 class)
 
 unfoldable pub item_bytes : FrameVersion → Item → List ℕ
 item_bytes v i = tag_of_item i ∷ untagged v i
@@ -111,7 +117,8 @@ graph_bytes v g =
     ++ flat_map (node_bytes v) g.nodes))))))
 
 unfoldable pub launch_bytes : FrameVersion → Launch → List ℕ
-launch_bytes v l = to_be_bytes w16 l.home ++ (to_be_bytes w32 l.number ++ (to_be_bytes w16 l.function ++ graph_bytes v l.graph))
+launch_bytes v l = to_be_bytes w16 l.home
+    ++ (to_be_bytes w32 l.number ++ (to_be_bytes w16 l.function ++ graph_bytes v l.graph))
 
 abbrev pub counts_bytes : List ℕ → List ℕ
 counts_bytes counts = flat_map (to_be_bytes w32) counts
@@ -135,13 +142,18 @@ to_of (Back from to waiting graph) = to
 to_of (Report from to number sent received) = to
 
 abbrev pub body_bytes : FrameVersion → Frame → List ℕ
-body_bytes v (Spawn from to home number function graph) = launch_bytes v (launch home number function graph)
-body_bytes v (Shift from to waiting home number function graph) = to_be_bytes w32 waiting ++ launch_bytes v (launch home number function graph)
+body_bytes v (Spawn from to home number function graph) =
+    launch_bytes v (launch home number function graph)
+body_bytes v (Shift from to waiting home number function graph) =
+    to_be_bytes w32 waiting ++ launch_bytes v (launch home number function graph)
 body_bytes v (Back from to waiting graph) = to_be_bytes w32 waiting ++ graph_bytes v graph
-body_bytes v (Report from to number sent received) = to_be_bytes w32 number ++ (to_be_bytes w16 (length sent) ++ (counts_bytes sent ++ counts_bytes received))
+body_bytes v (Report from to number sent received) =
+    to_be_bytes w32 number ++ (to_be_bytes w16 (length sent)
+    ++ (counts_bytes sent ++ counts_bytes received))
 
 unfoldable pub spelling : FrameVersion → Frame → List ℕ
-spelling v f = (byte_of v ∷ type_of f ∷ []) ++ (to_be_bytes w16 (from_of f) ++ (to_be_bytes w16 (to_of f) ++ body_bytes v f))
+spelling v f = (byte_of v ∷ type_of f ∷ [])
+    ++ (to_be_bytes w16 (from_of f) ++ (to_be_bytes w16 (to_of f) ++ body_bytes v f))
 
 -- ---- what has a spelling
 
@@ -179,7 +191,8 @@ FitsItem places all used (TextItem i) = FitsIndex used.texts all.texts i
 FitsItem places all used (RailItem i) = FitsIndex used.rails all.rails i
 FitsItem places all used (ObjectItem i) = FitsIndex used.nodes all.nodes i
 FitsItem places all used NullItem = Unit {0}
-FitsItem places all used (RefItem home id class) = (home < places) × (id < 2 ^ 32) × (class < 2 ^ 16)
+FitsItem places all used (RefItem home id class) = (home < places) × (id < 2 ^ 32)
+    × (class < 2 ^ 16)
 
 -- items are numbered by first use
 abbrev pub FitsItems : ℕ → Tables → Tables → List Item → Type 0
@@ -220,7 +233,9 @@ pub record FitsGraph (v : FrameVersion) (places most : ℕ) (g : Graph) : Type 0
   pub roots : FitsItems places (tables_of g) none g.roots
   pub texts : (length g.texts ≤ most_of v) × AllByRecursion FitsText g.texts
   pub rails : (length g.rails ≤ most_of v) × AllByRecursion FitsRail g.rails
-  pub nodes : (length g.nodes ≤ most_of v) × FitsEach (FitsNode places (tables_of g)) next_turn (turn 0 (used_after none g.roots)) g.nodes
+  pub nodes : (length g.nodes ≤ most_of v)
+      × FitsEach (FitsNode places (tables_of g)) next_turn
+      (turn 0 (used_after none g.roots)) g.nodes
   pub used : used_in_all g.roots g.nodes ≡ tables_of g
 
 pub record FitsLaunch (v : FrameVersion) (places : ℕ) (l : Launch) : Type 0 where
@@ -234,10 +249,13 @@ abbrev pub FitsCounts : ℕ → List ℕ → Type 0
 FitsCounts places counts = (length counts ≡ places) × AllByRecursion (λ n. n < 2 ^ 32) counts
 
 abbrev pub FitsBody : FrameVersion → ℕ → Frame → Type 0
-FitsBody v places (Spawn from to home number function graph) = FitsLaunch v places (launch home number function graph)
-FitsBody v places (Shift from to waiting home number function graph) = (waiting < 2 ^ 32) × FitsLaunch v places (launch home number function graph)
+FitsBody v places (Spawn from to home number function graph) =
+    FitsLaunch v places (launch home number function graph)
+FitsBody v places (Shift from to waiting home number function graph) = (waiting < 2 ^ 32)
+    × FitsLaunch v places (launch home number function graph)
 FitsBody v places (Back from to waiting graph) = (waiting < 2 ^ 32) × FitsGraph v places 1 graph
-FitsBody v places (Report from to number sent received) = (number < 2 ^ 32) × FitsCounts places sent × FitsCounts places received
+FitsBody v places (Report from to number sent received) = (number < 2 ^ 32) × FitsCounts places sent
+    × FitsCounts places received
 
 -- the frames that have a spelling in a version where there are so many places
 pub record FitsFrame (v : FrameVersion) (places : ℕ) (f : Frame) : Type 0 where

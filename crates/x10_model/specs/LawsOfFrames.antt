@@ -7,19 +7,24 @@ use Rattle.x10_model.specs.ReadingFrames.{FrameFault, Short, Version, FrameType,
 
 -- what is spelled, in either version, is read again
 abbrev pub IsReadAgain : Type 0
-IsReadAgain = (v : FrameVersion) (places : ℕ) → places < 2 ^ 16 → (f : Frame) → FitsFrame v places f → frame_at places (spelling v f) ≡ Ok f
+IsReadAgain = (v : FrameVersion) (places : ℕ) → places < 2 ^ 16 → (f : Frame) → FitsFrame v places f
+    → frame_at places (spelling v f) ≡ Ok f
 
 -- no two frames share a spelling, and no frame has one in both versions
 abbrev pub IsOneFrame : Type 0
-IsOneFrame = (v w : FrameVersion) (places : ℕ) → places < 2 ^ 16 → (f g : Frame) → FitsFrame v places f → FitsFrame w places g → spelling v f ≡ spelling w g → (v ≡ w) × (f ≡ g)
+IsOneFrame = (v w : FrameVersion) (places : ℕ) → places < 2 ^ 16 → (f g : Frame)
+    → FitsFrame v places f → FitsFrame w places g → spelling v f ≡ spelling w g → (v ≡ w) × (f ≡ g)
 
 -- what is read has a spelling in one of the versions, and is spelled so
 abbrev pub IsSpelledSo : Type 0
-IsSpelledSo = (places : ℕ) → places < 2 ^ 16 → (bytes : List ℕ) (f : Frame) → ((k : ℕ) → slice_index bytes k < 256) → frame_at places bytes ≡ Ok f → IsSpelled places f bytes
+IsSpelledSo = (places : ℕ) → places < 2 ^ 16 → (bytes : List ℕ) (f : Frame)
+    → ((k : ℕ) → slice_index bytes k < 256) → frame_at places bytes ≡ Ok f
+    → IsSpelled places f bytes
 
 -- what has a spelling in version 1 has one in version 2
 abbrev pub IsWider : Type 0
-IsWider = (v : FrameVersion) (places : ℕ) (f : Frame) → FitsFrame v places f → FitsFrame Wide places f
+IsWider = (v : FrameVersion) (places : ℕ) (f : Frame) → FitsFrame v places f
+    → FitsFrame Wide places f
 
 -- ---- examples
 
@@ -33,16 +38,19 @@ empty = record { roots = []; texts = []; rails = []; nodes = [] }
 
 -- at place 1, for place 2: function 0 without arguments, under finish 1 of place 0
 abbrev pub IsSpawn : Type 0
-IsSpawn = Spells Narrow 3 (1 ∷ 1 ∷ 0 ∷ 1 ∷ 0 ∷ 2 ∷ 0 ∷ 0 ∷ 0 ∷ 0 ∷ 0 ∷ 1 ∷ 0 ∷ 0 ∷ 0 ∷ 0 ∷ 0 ∷ 0 ∷ 0 ∷ 0 ∷ 0 ∷ 0 ∷ []) (Spawn 1 2 0 1 0 empty)
+IsSpawn = Spells Narrow 3 (1 ∷ 1 ∷ 0 ∷ 1 ∷ 0 ∷ 2 ∷ 0 ∷ 0 ∷ 0 ∷ 0 ∷ 0 ∷ 1 ∷ 0 ∷ 0 ∷ 0 ∷ 0 ∷ 0 ∷ 0 ∷ 0
+    ∷ 0 ∷ 0 ∷ 0 ∷ []) (Spawn 1 2 0 1 0 empty)
 
 -- the same of zeros alone, for one place
 abbrev pub IsLeast : Type 0
-IsLeast = Spells Narrow 1 (1 ∷ 1 ∷ 0 ∷ 0 ∷ 0 ∷ 0 ∷ 0 ∷ 0 ∷ 0 ∷ 0 ∷ 0 ∷ 0 ∷ 0 ∷ 0 ∷ 0 ∷ 0 ∷ 0 ∷ 0 ∷ 0 ∷ 0 ∷ 0 ∷ 0 ∷ []) (Spawn 0 0 0 0 0 empty)
+IsLeast = Spells Narrow 1 (1 ∷ 1 ∷ 0 ∷ 0 ∷ 0 ∷ 0 ∷ 0 ∷ 0 ∷ 0 ∷ 0 ∷ 0 ∷ 0 ∷ 0 ∷ 0 ∷ 0 ∷ 0 ∷ 0 ∷ 0 ∷ 0
+    ∷ 0 ∷ 0 ∷ 0 ∷ []) (Spawn 0 0 0 0 0 empty)
 
 -- place 1 on finish 1 of place 0: one activity sent to place 2, and one received from place 0
 abbrev pub IsReport : Type 0
 IsReport = Spells Narrow 3
-    (1 ∷ 4 ∷ 0 ∷ 1 ∷ 0 ∷ 0 ∷ 0 ∷ 0 ∷ 0 ∷ 1 ∷ 0 ∷ 3 ∷ 0 ∷ 0 ∷ 0 ∷ 0 ∷ 0 ∷ 0 ∷ 0 ∷ 0 ∷ 0 ∷ 0 ∷ 0 ∷ 1 ∷ 0 ∷ 0 ∷ 0 ∷ 1 ∷ 0 ∷ 0 ∷ 0 ∷ 0 ∷ 0 ∷ 0 ∷ 0 ∷ 0 ∷ [])
+    (1 ∷ 4 ∷ 0 ∷ 1 ∷ 0 ∷ 0 ∷ 0 ∷ 0 ∷ 0 ∷ 1 ∷ 0 ∷ 3 ∷ 0 ∷ 0 ∷ 0 ∷ 0 ∷ 0 ∷ 0 ∷ 0 ∷ 0 ∷ 0 ∷ 0 ∷ 0 ∷ 1
+    ∷ 0 ∷ 0 ∷ 0 ∷ 1 ∷ 0 ∷ 0 ∷ 0 ∷ 0 ∷ 0 ∷ 0 ∷ 0 ∷ 0 ∷ [])
     (Report 1 0 1 (0 ∷ 0 ∷ 1 ∷ []) (1 ∷ 0 ∷ 0 ∷ []))
 
 abbrev link : ℕ → Node
@@ -50,17 +58,26 @@ link i = record { class = 0; fields = ObjectItem i ∷ RailItem 0 ∷ RefItem 0 
 
 -- two objects that name each other and share a rail
 abbrev cycle : Graph
-cycle = record { roots = ObjectItem 0 ∷ []; texts = []; rails = (0 ∷ 0 ∷ []) ∷ []; nodes = link 1 ∷ link 0 ∷ [] }
+cycle = record {
+  roots = ObjectItem 0 ∷ [];
+  texts = [];
+  rails = (0 ∷ 0 ∷ []) ∷ [];
+  nodes = link 1 ∷ link 0 ∷ [];
+}
 
 abbrev pub IsCycle : Type 0
-IsCycle = Spells Narrow 2 (1 ∷ 1 ∷ 0 ∷ 0 ∷ 0 ∷ 1 ∷ 0 ∷ 0 ∷ 0 ∷ 0 ∷ 0 ∷ 1 ∷ 0 ∷ 0 ∷ 0 ∷ 1 ∷ 0 ∷ 0 ∷ 0 ∷ 1 ∷ 0 ∷ 2 ∷ 5 ∷ 0 ∷ 0 ∷ 0 ∷ 0 ∷ 0 ∷ 2 ∷ 0 ∷ 0 ∷ 0 ∷ 0 ∷ 3 ∷ 5
-    ∷ 0 ∷ 1 ∷ 4 ∷ 0 ∷ 0 ∷ 7 ∷ 0 ∷ 0 ∷ 0 ∷ 0 ∷ 0 ∷ 0 ∷ 0 ∷ 1 ∷ 0 ∷ 0 ∷ 3 ∷ 5 ∷ 0 ∷ 0 ∷ 4 ∷ 0 ∷ 0 ∷ 7 ∷ 0 ∷ 0 ∷ 0 ∷ 0 ∷ 0 ∷ 0 ∷ 0 ∷ 1 ∷ [])
+IsCycle = Spells Narrow 2 (1 ∷ 1 ∷ 0 ∷ 0 ∷ 0 ∷ 1 ∷ 0 ∷ 0 ∷ 0 ∷ 0 ∷ 0 ∷ 1 ∷ 0 ∷ 0 ∷ 0 ∷ 1 ∷ 0 ∷ 0 ∷ 0
+    ∷ 1 ∷ 0 ∷ 2 ∷ 5 ∷ 0 ∷ 0 ∷ 0 ∷ 0 ∷ 0 ∷ 2 ∷ 0 ∷ 0 ∷ 0 ∷ 0 ∷ 3 ∷ 5
+    ∷ 0 ∷ 1 ∷ 4 ∷ 0 ∷ 0 ∷ 7 ∷ 0 ∷ 0 ∷ 0 ∷ 0 ∷ 0 ∷ 0 ∷ 0 ∷ 1 ∷ 0 ∷ 0 ∷ 3 ∷ 5 ∷ 0 ∷ 0 ∷ 4 ∷ 0 ∷ 0 ∷ 7
+    ∷ 0 ∷ 0 ∷ 0 ∷ 0 ∷ 0 ∷ 0 ∷ 0 ∷ 1 ∷ [])
     (Spawn 0 1 0 1 0 cycle)
 
 -- the same in version 2
 abbrev pub IsWideCycle : Type 0
-IsWideCycle = Spells Wide 2 (2 ∷ 1 ∷ 0 ∷ 0 ∷ 0 ∷ 1 ∷ 0 ∷ 0 ∷ 0 ∷ 0 ∷ 0 ∷ 1 ∷ 0 ∷ 0 ∷ 0 ∷ 1 ∷ 0 ∷ 0 ∷ 0 ∷ 0 ∷ 0 ∷ 0 ∷ 0 ∷ 1 ∷ 0 ∷ 0 ∷ 0 ∷ 2 ∷ 5 ∷ 0 ∷ 0 ∷ 0 ∷ 0
-    ∷ 0 ∷ 0 ∷ 0 ∷ 2 ∷ 0 ∷ 0 ∷ 0 ∷ 0 ∷ 3 ∷ 5 ∷ 0 ∷ 0 ∷ 0 ∷ 1 ∷ 4 ∷ 0 ∷ 0 ∷ 0 ∷ 0 ∷ 7 ∷ 0 ∷ 0 ∷ 0 ∷ 0 ∷ 0 ∷ 0 ∷ 0 ∷ 1
+IsWideCycle = Spells Wide 2 (2 ∷ 1 ∷ 0 ∷ 0 ∷ 0 ∷ 1 ∷ 0 ∷ 0 ∷ 0 ∷ 0 ∷ 0 ∷ 1 ∷ 0 ∷ 0 ∷ 0 ∷ 1 ∷ 0 ∷ 0
+    ∷ 0 ∷ 0 ∷ 0 ∷ 0 ∷ 0 ∷ 1 ∷ 0 ∷ 0 ∷ 0 ∷ 2 ∷ 5 ∷ 0 ∷ 0 ∷ 0 ∷ 0
+    ∷ 0 ∷ 0 ∷ 0 ∷ 2 ∷ 0 ∷ 0 ∷ 0 ∷ 0 ∷ 3 ∷ 5 ∷ 0 ∷ 0 ∷ 0 ∷ 1 ∷ 4 ∷ 0 ∷ 0 ∷ 0 ∷ 0 ∷ 7 ∷ 0 ∷ 0 ∷ 0 ∷ 0
+    ∷ 0 ∷ 0 ∷ 0 ∷ 1
     ∷ 0 ∷ 0 ∷ 3 ∷ 5 ∷ 0 ∷ 0 ∷ 0 ∷ 0 ∷ 4 ∷ 0 ∷ 0 ∷ 0 ∷ 0 ∷ 7 ∷ 0 ∷ 0 ∷ 0 ∷ 0 ∷ 0 ∷ 0 ∷ 0 ∷ 1 ∷ [])
     (Spawn 0 1 0 1 0 cycle)
 
@@ -131,11 +148,13 @@ IsVersion = frame_at 2 (3 ∷ 1 ∷ []) ≡ Err Version
 
 -- in version 2, 1,048,577 objects
 abbrev pub IsTooManyNodes : Type 0
-IsTooManyNodes = frame_at 2 (2 ∷ 1 ∷ 0 ∷ 0 ∷ 0 ∷ 1 ∷ 0 ∷ 0 ∷ 0 ∷ 0 ∷ 0 ∷ 1 ∷ 0 ∷ 0 ∷ 0 ∷ 0 ∷ 0 ∷ 0 ∷ 0 ∷ 0 ∷ 0 ∷ 0 ∷ 0 ∷ 0 ∷ 0 ∷ 16 ∷ 0 ∷ 1 ∷ []) ≡ Err Order
+IsTooManyNodes = frame_at 2 (2 ∷ 1 ∷ 0 ∷ 0 ∷ 0 ∷ 1 ∷ 0 ∷ 0 ∷ 0 ∷ 0 ∷ 0 ∷ 1 ∷ 0 ∷ 0 ∷ 0 ∷ 0 ∷ 0 ∷ 0
+    ∷ 0 ∷ 0 ∷ 0 ∷ 0 ∷ 0 ∷ 0 ∷ 0 ∷ 16 ∷ 0 ∷ 1 ∷ []) ≡ Err Order
 
 -- in version 2, a number of two bytes
 abbrev pub IsHalfANumber : Type 0
-IsHalfANumber = frame_at 2 (2 ∷ 1 ∷ 0 ∷ 0 ∷ 0 ∷ 1 ∷ 0 ∷ 0 ∷ 0 ∷ 0 ∷ 0 ∷ 1 ∷ 0 ∷ 0 ∷ 0 ∷ 1 ∷ 0 ∷ 0 ∷ 0 ∷ 0 ∷ 0 ∷ 0 ∷ 0 ∷ 0 ∷ 0 ∷ 0 ∷ 0 ∷ 1 ∷ 5 ∷ 0 ∷ 0 ∷ []) ≡ Err Short
+IsHalfANumber = frame_at 2 (2 ∷ 1 ∷ 0 ∷ 0 ∷ 0 ∷ 1 ∷ 0 ∷ 0 ∷ 0 ∷ 0 ∷ 0 ∷ 1 ∷ 0 ∷ 0 ∷ 0 ∷ 1 ∷ 0 ∷ 0
+    ∷ 0 ∷ 0 ∷ 0 ∷ 0 ∷ 0 ∷ 0 ∷ 0 ∷ 0 ∷ 0 ∷ 1 ∷ 5 ∷ 0 ∷ 0 ∷ []) ≡ Err Short
 
 -- a type above 4, before anything else is read
 abbrev pub IsFrameType : Type 0
@@ -143,4 +162,5 @@ IsFrameType = frame_at 2 (1 ∷ 5 ∷ []) ≡ Err FrameType
 
 -- a report for another number of places
 abbrev pub IsOtherPlaces : Type 0
-IsOtherPlaces = frame_at 3 (1 ∷ 4 ∷ 0 ∷ 1 ∷ 0 ∷ 0 ∷ 0 ∷ 0 ∷ 0 ∷ 1 ∷ 0 ∷ 2 ∷ 0 ∷ 0 ∷ 0 ∷ 0 ∷ 0 ∷ 0 ∷ 0 ∷ 0 ∷ 0 ∷ 0 ∷ 0 ∷ 0 ∷ 0 ∷ 0 ∷ 0 ∷ 0 ∷ []) ≡ Err Place
+IsOtherPlaces = frame_at 3 (1 ∷ 4 ∷ 0 ∷ 1 ∷ 0 ∷ 0 ∷ 0 ∷ 0 ∷ 0 ∷ 1 ∷ 0 ∷ 2 ∷ 0 ∷ 0 ∷ 0 ∷ 0 ∷ 0 ∷ 0
+    ∷ 0 ∷ 0 ∷ 0 ∷ 0 ∷ 0 ∷ 0 ∷ 0 ∷ 0 ∷ 0 ∷ 0 ∷ []) ≡ Err Place

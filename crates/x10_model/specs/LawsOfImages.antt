@@ -19,7 +19,8 @@ IsOneModule = (m n : Module) → FitsImage m → FitsImage n → spelling m ≡ 
 
 -- what is read has a spelling, and is spelled so
 abbrev pub IsSpelledSo : Type 0
-IsSpelledSo = (bytes : List ℕ) (m : Module) → ((k : ℕ) → slice_index bytes k < 256) → module_at bytes ≡ Ok m → FitsImage m × (bytes ≡ spelling m)
+IsSpelledSo = (bytes : List ℕ) (m : Module) → ((k : ℕ) → slice_index bytes k < 256)
+    → module_at bytes ≡ Ok m → FitsImage m × (bytes ≡ spelling m)
 
 -- ---- an example
 
@@ -55,14 +56,17 @@ bytes_of_seven n =
     ∷ 0x29 ∷ 0 ∷ 0 ∷ 0 ∷ 0 ∷ 0 ∷ 0 ∷ 0 ∷ []
 
 abbrev pub IsSpelledSeven : Type 0
-IsSpelledSeven = (spelling (seven One) ≡ bytes_of_seven 1) × (spelling (seven Two) ≡ bytes_of_seven 2)
+IsSpelledSeven = (spelling (seven One) ≡ bytes_of_seven 1)
+    × (spelling (seven Two) ≡ bytes_of_seven 2)
 
 abbrev pub IsReadSeven : Type 0
-IsReadSeven = (module_at (bytes_of_seven 1) ≡ Ok (seven One)) × (module_at (bytes_of_seven 2) ≡ Ok (seven Two))
+IsReadSeven = (module_at (bytes_of_seven 1) ≡ Ok (seven One))
+    × (module_at (bytes_of_seven 2) ≡ Ok (seven Two))
 
 -- another version
 abbrev pub IsOtherVersion : Type 0
-IsOtherVersion = (module_at (bytes_of_seven 0) ≡ Err Version) × (module_at (bytes_of_seven 3) ≡ Err Version)
+IsOtherVersion = (module_at (bytes_of_seven 0) ≡ Err Version)
+    × (module_at (bytes_of_seven 3) ≡ Err Version)
 
 -- one byte less, one more, and an operand of INTK that its form doesn't use
 abbrev pub IsShort : Type 0

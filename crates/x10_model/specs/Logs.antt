@@ -35,17 +35,25 @@ pub data LocalEvent : Type 0 where
   TakesReport : LocalEvent
 
 -- nothing is there under the key that could move, or another is inside an atomic region
-abbrev pub IsIdleAt : places.Place → ℕ → Type 0
-IsIdleAt p key = (stay : Stay) → p.stays key ≡ Some stay → (stay.away ≡ true) ⊎ (IsFree p.stays key → ⊥)
+abbrev pub CannotMove : places.Place → ℕ → Type 0
+CannotMove p key = (stay : Stay) → p.stays key ≡ Some stay
+    → (stay.away ≡ true) ⊎ (IsFree p.stays key → ⊥)
 
 -- What one place does by itself, from its first state to its last, event by event, with the messages that it puts out.
-pub data Local (setting : Setting) (here : ℕ) : places.Place → List LocalEvent → List Message → places.Place → Type 0 where
+pub data Local (setting : Setting) (here : ℕ) : places.Place → List LocalEvent → List Message
+    → places.Place → Type 0 where
   nothing : (p : places.Place) → Local setting here p [] [] p
-  stepped : (p q r : places.Place) (key : ℕ) (effect : Effect) (events : List LocalEvent) (put_out : List Message) → Moves setting here p key q effect
-      → Local setting here q events put_out r → Local setting here p (Steps key ∷ events) (as_messages (sent effect) ++ put_out) r
-  idle : (p r : places.Place) (key : ℕ) (events : List LocalEvent) (put_out : List Message) → IsIdleAt p key → Local setting here p events put_out r
+  stepped : (p q r : places.Place) (key : ℕ) (effect : Effect) (events : List LocalEvent)
+      (put_out : List Message) → Moves setting here p key q effect
+      → Local setting here q events put_out r
+      → Local setting here p (Steps key ∷ events) (as_messages (sent effect) ++ put_out) r
+  idle : (p r : places.Place) (key : ℕ) (events : List LocalEvent) (put_out : List Message)
+      → CannotMove p key → Local setting here p events put_out r
       → Local setting here p (Steps key ∷ events) put_out r
-  took : (p q r : places.Place) (key : ℕ) (message : Message) (events : List LocalEvent) (put_out : List Message) → Receives setting here p message key q
-      → Local setting here q events put_out r → Local setting here p (Takes message ∷ events) put_out r
-  took_report : (p r : places.Place) (events : List LocalEvent) (put_out : List Message) → Local setting here p events put_out r
+  took : (p q r : places.Place) (key : ℕ) (message : Message) (events : List LocalEvent)
+      (put_out : List Message) → Receives setting here p message key q
+      → Local setting here q events put_out r
+      → Local setting here p (Takes message ∷ events) put_out r
+  took_report : (p r : places.Place) (events : List LocalEvent) (put_out : List Message)
+      → Local setting here p events put_out r
       → Local setting here p (TakesReport ∷ events) put_out r

@@ -7,7 +7,8 @@ with_entry map key value other = if other == key then value else map other
 
 -- the map with another value at one pair of numbers
 abbrev pub with_pair : {V : Type 0} → (ℕ → ℕ → V) → ℕ → ℕ → V → ℕ → ℕ → V
-with_pair map first second value other another = if other == first && another == second then value else map other another
+with_pair map first second value other another =
+    if other == first && another == second then value else map other another
 
 -- x is a member of xs
 abbrev pub IsIn : {X : Type 0} → X → List X → Type 0

@@ -25,13 +25,19 @@ abbrev pub node_of : List (List ℕ) → frames.Node → Node
 node_of texts n = record { class = n.class; fields = map (value_of texts) n.fields }
 
 abbrev pub snapshot_of : Graph → Snapshot
-snapshot_of g = record { roots = map (value_of g.texts) g.roots; rails = g.rails; nodes = map (node_of g.texts) g.nodes }
+snapshot_of g = record {
+  roots = map (value_of g.texts) g.roots;
+  rails = g.rails;
+  nodes = map (node_of g.texts) g.nodes;
+}
 
 -- the message that a frame carries; a report carries none
 abbrev pub message_of : Frame → Option Message
 message_of (frames.Spawn from to home number function graph) = Some
     (places.Spawn from to (record { home = home; number = number }) function (snapshot_of graph))
 message_of (frames.Shift from to waiting home number function graph) = Some
-    (places.Shift from to waiting (record { home = home; number = number }) function (snapshot_of graph))
-message_of (frames.Back from to waiting graph) = Some (places.Back from to waiting (snapshot_of graph))
+    (places.Shift from to waiting (record { home = home; number = number }) function
+    (snapshot_of graph))
+message_of (frames.Back from to waiting graph) =
+    Some (places.Back from to waiting (snapshot_of graph))
 message_of (frames.Report from to number sent received) = None

@@ -91,5 +91,6 @@ pub record FitsImage (m : Module) : Type 0 where
   pub fields : AllByRecursion (FitsClass (length m.classes)) m.classes
   pub ints : (length m.ints < 2 ^ 16) × AllByRecursion (FitsSigned w64) m.ints
   pub texts : (length m.texts < 2 ^ 16) × AllByRecursion FitsText m.texts
-  pub functions : (1 ≤ length m.functions) × (length m.functions ≤ MOST_FUNCTIONS) × AllByRecursion (FitsFunction m.version (length m.classes)) m.functions
+  pub functions : (1 ≤ length m.functions) × (length m.functions ≤ MOST_FUNCTIONS)
+      × AllByRecursion (FitsFunction m.version (length m.classes)) m.functions
   pub entry : (f : Function) × (slice_get m.functions m.entry ≡ Some f) × IsEntry f

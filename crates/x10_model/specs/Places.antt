@@ -62,7 +62,8 @@ pub record Place : Type 0 where
 
 -- none of the stays but that with the key is inside an atomic region
 abbrev pub IsFree : (ℕ → Option Stay) → ℕ → Type 0
-IsFree stays key = (other : ℕ) (stay : Stay) → stays other ≡ Some stay → stay.inside ≡ true → other ≡ key
+IsFree stays key = (other : ℕ) (stay : Stay) → stays other ≡ Some stay → stay.inside ≡ true
+    → other ≡ key
 
 -- what one place sends to another: a new activity, an activity that shifts, or the result of one that shifted
 pub data Message : Type 0 where
@@ -108,4 +109,7 @@ next frame = goes frame (frame.pc + 1)
 
 -- goes on with a value in a register
 abbrev pub writes : CallFrame → ℕ → Value → CallFrame
-writes frame register v = record frame { pc = frame.pc + 1; registers = with_entry frame.registers register (Some v) }
+writes frame register v = record frame {
+  pc = frame.pc + 1;
+  registers = with_entry frame.registers register (Some v);
+}

@@ -10,7 +10,8 @@ Reader E A = List ℕ → Result (A × List ℕ) E
 abbrev pub IsBytes : List ℕ → Type 0
 IsBytes bytes = (k : ℕ) → slice_index bytes k < 256
 
-abbrev pub and_then : {E A B : Type 0} → Result (A × List ℕ) E → (A → Reader E B) → Result (B × List ℕ) E
+abbrev pub and_then : {E A B : Type 0} → Result (A × List ℕ) E → (A → Reader E B)
+    → Result (B × List ℕ) E
 and_then (Ok p) next = next p.0 p.1
 and_then (Err e) next = Err e
 

@@ -28,7 +28,8 @@ place_at places = such_that (number w16 Short) (λ p. nat_lt p places) Place
 
 -- an index that was used before or is the next new one, and is in its table
 unfoldable pub index_at : FrameVersion → ℕ → ℕ → Reader FrameFault ℕ
-index_at v used table = such_that (number (width_of v) Short) (λ i. nat_le i used && nat_lt i table) Order
+index_at v used table = such_that (number (width_of v) Short)
+    (λ i. nat_le i used && nat_lt i table) Order
 
 unfoldable pub untagged_at : FrameVersion → ℕ → Tables → Tables → ℕ → Reader FrameFault Item
 untagged_at v places all used zero = given None Tag
@@ -102,7 +103,8 @@ graph_at v places most = do
   roots ← many (item_at v places all) uses root_count none
   texts ← times text_count text_at
   rails ← times rail_count rail_at
-  nodes ← such_that (many (node_at v places all) next_turn node_count (turn 0 (used_after none roots))) (λ nodes. same_tables (used_in_all roots nodes) all) Order
+  nodes ← such_that (many (node_at v places all) next_turn node_count
+      (turn 0 (used_after none roots))) (λ nodes. same_tables (used_in_all roots nodes) all) Order
   done (record { roots = roots; texts = texts; rails = rails; nodes = nodes })
 
 unfoldable pub launch_at : FrameVersion → ℕ → Reader FrameFault Launch

@@ -57,13 +57,15 @@ kind_of classes (suc (suc (suc zero))) class = without_class kind.Text class
 kind_of classes (suc (suc (suc (suc zero)))) class = without_class kind.Rail class
 kind_of classes (suc (suc (suc (suc (suc zero))))) class = with_class kind.Obj classes class
 kind_of classes (suc (suc (suc (suc (suc (suc zero)))))) class = with_class kind.Opt classes class
-kind_of classes (suc (suc (suc (suc (suc (suc (suc zero))))))) class = with_class kind.GRef classes class
+kind_of classes (suc (suc (suc (suc (suc (suc (suc zero))))))) class =
+    with_class kind.GRef classes class
 kind_of classes (suc (suc (suc (suc (suc (suc (suc (suc tag)))))))) class = None
 
 abbrev pub flagged : Option ValueKind → ℕ → Option Slot
 flagged None flag = None
 flagged (Some k) zero = Some (record { kind = k; home_here = false })
-flagged (Some k) (suc zero) = if takes_flag k then Some (record { kind = k; home_here = true }) else None
+flagged (Some k) (suc zero) = if takes_flag k then Some
+    (record { kind = k; home_here = true }) else None
 flagged (Some k) (suc (suc flag)) = None
 
 abbrev pub some_result : Option Slot → Option (Option Slot)
@@ -73,7 +75,8 @@ some_result (Some s) = Some (Some s)
 -- what stands for a result: four zeros for none
 abbrev pub result_of : ℕ → ℕ → ℕ → ℕ → Option (Option Slot)
 result_of classes zero class flag = if class == 0 && flag == 0 then Some None else None
-result_of classes (suc tag) class flag = some_result (flagged (kind_of classes (suc tag) class) flag)
+result_of classes (suc tag) class flag =
+    some_result (flagged (kind_of classes (suc tag) class) flag)
 
 unfoldable pub kind_at : ℕ → Reader ImageFault ValueKind
 kind_at classes = do
@@ -120,7 +123,15 @@ header_at = do
   functions ← such_that (number w16 Short) (is_within 1 MOST_FUNCTIONS) Count
   entry ← number w16 Short
   expect (number w16 Short) 0 Reserved
-  done (record { version = version; least_places = least_places; classes = classes; ints = ints; texts = texts; functions = functions; entry = entry })
+  done (record {
+    version = version;
+    least_places = least_places;
+    classes = classes;
+    ints = ints;
+    texts = texts;
+    functions = functions;
+    entry = entry;
+  })
 
 -- how many fields, and the kind of each
 unfoldable pub class_at : ℕ → Reader ImageFault (List ValueKind)
@@ -164,7 +175,13 @@ function_at version classes function = do
   expect (number w16 Short) 0 Reserved
   need (8 * instructions) Short
   code ← numbered instructions (instruction_at version function)
-  done (record { parameters = parameters; registers = registers; loops = loops; result = result; code = code })
+  done (record {
+    parameters = parameters;
+    registers = registers;
+    loops = loops;
+    result = result;
+    code = code;
+  })
 
 -- all but the rule for the entry
 unfoldable pub parts_at : Reader ImageFault Module
@@ -174,7 +191,15 @@ parts_at = do
   ints ← times header.ints (int Short)
   texts ← times header.texts text_at
   functions ← numbered header.functions (function_at header.version header.classes)
-  done (record { version = header.version; least_places = header.least_places; classes = classes; ints = ints; texts = texts; functions = functions; entry = header.entry })
+  done (record {
+    version = header.version;
+    least_places = header.least_places;
+    classes = classes;
+    ints = ints;
+    texts = texts;
+    functions = functions;
+    entry = header.entry;
+  })
 
 abbrev pub is_entry : Option Function → Bool
 is_entry None = false

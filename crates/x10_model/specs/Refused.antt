@@ -21,11 +21,23 @@ a_number = record { kind = kind.Int; home_here = false }
 
 -- takes a number
 abbrev pub taker : Function
-taker = record { parameters = a_number ∷ []; registers = 1; loops = 0; result = None; code = instr op.Ret 0 0 0 0 ∷ [] }
+taker = record {
+  parameters = a_number ∷ [];
+  registers = 1;
+  loops = 0;
+  result = None;
+  code = instr op.Ret 0 0 0 0 ∷ [];
+}
 
 -- gives a number
 abbrev pub giver : Function
-giver = record { parameters = []; registers = 1; loops = 0; result = Some a_number; code = instr op.Ret 0 0 0 0 ∷ [] }
+giver = record {
+  parameters = [];
+  registers = 1;
+  loops = 0;
+  result = Some a_number;
+  code = instr op.Ret 0 0 0 0 ∷ [];
+}
 
 -- function 0 has one instruction; class 0 has one field, a number
 abbrev pub trying : Instr → Module
@@ -45,11 +57,13 @@ an_object = with_entry no_cells 5 (Some (Fields 0 (Int (pos 3) ∷ [])))
 
 -- the instruction goes wrong, where the first registers hold these values
 abbrev pub IsWrongWith : Instr → List Value → Type 0
-IsWrongWith i values = IsWrong (on_places 2 (trying i)) 0 (one_place an_object (one_frame (holding values))) 4
+IsWrongWith i values = IsWrong (on_places 2 (trying i)) 0
+    (one_place an_object (one_frame (holding values))) 4
 
 -- a stay at an instruction of a function goes wrong
 abbrev pub IsWrongIn : Instr → Stay → Type 0
-IsWrongIn i stay = IsWrong (on_places 2 (trying i)) 0 (with_stay (one_place no_cells stay.top) 4 (Some stay)) 4
+IsWrongIn i stay = IsWrong (on_places 2 (trying i)) 0
+    (with_stay (one_place no_cells stay.top) 4 (Some stay)) 4
 
 abbrev pub at_zero : CallFrame
 at_zero = one_frame (holding [])
@@ -75,9 +89,11 @@ pub record EachMoveGoesWrong : Type 0 where
   pub no_export : IsWrongWith (instr op.Gopen 1 0 0 0) (Ref 0 0 0 ∷ [])
   -- the function that gives a number, with a register that holds nothing
   pub result : IsWrongIn (instr op.Fine 0 0 0 0) (one_stay (record at_zero { function = 2 }))
-  pub finish_open : IsWrongIn (instr op.Ret 0 0 0 0) (record (one_stay at_zero) { finishes = 1 ∷ [] })
+  pub finish_open : IsWrongIn (instr op.Ret 0 0 0 0)
+      (record (one_stay at_zero) { finishes = 1 ∷ [] })
   -- to a caller that stands at a RET
-  pub no_call : IsWrongIn (instr op.Ret 0 0 0 0) (record (one_stay at_zero) { callers = at_zero ∷ [] })
+  pub no_call : IsWrongIn (instr op.Ret 0 0 0 0)
+      (record (one_stay at_zero) { callers = at_zero ∷ [] })
   pub no_finish : IsWrongIn (instr op.Fine 0 0 0 0) (one_stay at_zero)
 
 -- ---- messages
@@ -100,7 +116,8 @@ pub record EachMessageMisfits : Type 0 where
   -- for place 1
   pub not_here : IsMisfitHere (Spawn 1 1 root 0 nothing)
   -- an object of a class that isn't there
-  pub graph : IsMisfitHere (Spawn 1 0 root 0 (record nothing { roots = Object 0 ∷ []; nodes = node 7 ∷ [] }))
+  pub graph : IsMisfitHere (Spawn 1 0 root 0
+      (record nothing { roots = Object 0 ∷ []; nodes = node 7 ∷ [] }))
   -- an object that nothing reaches
   pub torn : IsMisfitHere (Spawn 1 0 root 0 (record nothing { nodes = node 0 ∷ [] }))
   -- no argument for the function that takes one
@@ -118,4 +135,5 @@ shared = record nothing { roots = Object 0 ∷ Object 0 ∷ []; nodes = node 0 �
 
 -- it is one object where it arrives too
 abbrev pub SharedArrives : Type 0
-SharedArrives = Arrives no_cells shared (Object 5 ∷ Object 5 ∷ []) (with_entry no_cells 5 (Some (Fields 0 [])))
+SharedArrives = Arrives no_cells shared (Object 5 ∷ Object 5 ∷ [])
+    (with_entry no_cells 5 (Some (Fields 0 [])))

@@ -19,9 +19,12 @@ relay = record {
   classes = [];
   ints = pos 5 ∷ pos 9 ∷ [];
   texts = [];
-  functions = plain_function 1 0 (instr op.Intk 0 0 0 0 ∷ instr op.Print 0 0 0 0 ∷ instr op.Ret 0 0 0 0 ∷ [])
-      ∷ plain_function 1 0 (instr op.Placek 0 0 0 2 ∷ instr op.Ata 0 0 0 0 ∷ instr op.Ret 0 0 0 0 ∷ [])
-      ∷ plain_function 1 0 (instr op.Finb 0 0 0 0 ∷ instr op.Placek 0 0 0 1 ∷ instr op.At 0 0 0 1 ∷ instr op.Fine 0 0 0 0
+  functions = plain_function 1 0 (instr op.Intk 0 0 0 0 ∷ instr op.Print 0 0 0 0
+      ∷ instr op.Ret 0 0 0 0 ∷ [])
+      ∷ plain_function 1 0 (instr op.Placek 0 0 0 2 ∷ instr op.Ata 0 0 0 0 ∷ instr op.Ret 0 0 0 0
+      ∷ [])
+      ∷ plain_function 1 0 (instr op.Finb 0 0 0 0 ∷ instr op.Placek 0 0 0 1 ∷ instr op.At 0 0 0 1
+      ∷ instr op.Fine 0 0 0 0
       ∷ instr op.Intk 0 0 0 1 ∷ instr op.Print 0 0 0 0 ∷ instr op.Ret 0 0 0 0 ∷ [])
       ∷ [];
   entry = 2;
@@ -36,14 +39,17 @@ relay_bounds = 3 ∷ 3 ∷ 10 ∷ []
 -- message 0 shifts, 1 begins the other activity, 2 comes back; once it is back, main waits until the other has ended
 abbrev pub relay_events : List Event
 relay_events =
-    Step 0 0 ∷ Step 0 0 ∷ Step 0 0 ∷ Deliver 0 ∷ Step 1 0 ∷ Step 1 0 ∷ Step 1 0 ∷ Deliver 2 ∷ Step 0 0 ∷ Deliver 1
+    Step 0 0 ∷ Step 0 0 ∷ Step 0 0 ∷ Deliver 0 ∷ Step 1 0 ∷ Step 1 0 ∷ Step 1 0 ∷ Deliver 2
+    ∷ Step 0 0 ∷ Deliver 1
     ∷ Step 2 0 ∷ Step 2 0 ∷ Step 2 0 ∷ Step 0 0 ∷ Step 0 0 ∷ Step 0 0 ∷ Step 0 0 ∷ []
 
 -- a place with these lines where nobody is left
 abbrev pub EndsWith : World → ℕ → List Line → Type 0
-EndsWith w p lines = (place : places.Place) × (w.net.places p ≡ Some place) × (place.lines ≡ lines) × (place.stays 0 ≡ None)
+EndsWith w p lines = (place : places.Place) × (w.net.places p ≡ Some place) × (place.lines ≡ lines)
+    × (place.stays 0 ≡ None)
 
 -- by the ideal rule, each activity within its bound, to a world whose places have printed 9, nothing and 5
 abbrev pub RelayRuns : Type 0
-RelayRuns = (w : World) × Run Ideal relaying (WithinBounds relay_bounds) (opening relaying 0) relay_events w
+RelayRuns = (w : World) × Run Ideal relaying (WithinBounds relay_bounds)
+    (opening relaying 0) relay_events w
     × EndsWith w 0 (Number (pos 9) ∷ []) × EndsWith w 1 [] × EndsWith w 2 (Number (pos 5) ∷ [])

@@ -11,7 +11,8 @@ HasHome at (Ref home id class) = home ≡ at
 HasHome at _ = ⊥
 
 -- the value is of the slot's kind, and where the slot asks for a home here, that is the place at
-pub record FitsSlotAt (of_kind : Value → Kind → Type 0) (at : ℕ) (v : Value) (slot : Slot) : Type 0 where
+pub record FitsSlotAt (of_kind : Value → Kind → Type 0) (at : ℕ) (v : Value)
+    (slot : Slot) : Type 0 where
   pub kind : of_kind v slot.kind
   pub home : IsTrue slot.home_here → HasHome at v
 

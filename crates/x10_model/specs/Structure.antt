@@ -110,7 +110,8 @@ leaves_loops (r ∷ rs) target = same_openers (r ∷ rs) target || (is_loop r &&
 
 -- forward, inside the function, and out of loops alone
 abbrev pub jumps_forward : List Instr → ℕ → ℕ → Bool
-jumps_forward code pc x = nat_lt pc x && nat_lt x (length code) && leaves_loops (around code pc) (around code x)
+jumps_forward code pc x = nat_lt pc x && nat_lt x (length code) && leaves_loops (around code pc)
+    (around code x)
 
 -- the end of a loop goes to the instruction after its LOOP
 abbrev pub jumps_back : List Region → ℕ → Bool
@@ -130,7 +131,8 @@ depth_of (r ∷ rs) = if is_loop r then depth_of rs + 1 else depth_of rs
 
 -- a loop's slot is its depth among loops, and it turns 1 to 65,535 times
 abbrev pub has_slot : ℕ → List Region → Instr → Op → Bool
-has_slot loops rs i op.Loop = (i.a == depth_of rs) && nat_lt i.a loops && nat_le 1 i.x && nat_le i.x MOST_TURNS
+has_slot loops rs i op.Loop = (i.a == depth_of rs) && nat_lt i.a loops && nat_le 1 i.x && nat_le i.x
+    MOST_TURNS
 has_slot loops rs i op.Endl = (i.a + 1 == depth_of rs) && nat_lt i.a loops
 has_slot loops rs i _ = true
 
@@ -178,7 +180,8 @@ cost earlier i = if is_call i.op then 1 + slice_index earlier i.x else 1
 -- the sum over the instructions from pc on
 abbrev pub steps_from : List ℕ → List Instr → ℕ → List Instr → ℕ
 steps_from earlier code pc [] = 0
-steps_from earlier code pc (i ∷ rest) = cost earlier i * weight (around code pc) + steps_from earlier code (pc + 1) rest
+steps_from earlier code pc (i ∷ rest) = cost earlier i * weight
+    (around code pc) + steps_from earlier code (pc + 1) rest
 
 -- the most steps that a function takes, given those of the functions before it
 abbrev pub bound_of : List ℕ → List Instr → ℕ
@@ -213,14 +216,16 @@ is_empty (r ∷ rs) = false
 
 -- nothing is open at the end, and the last instruction ends the function
 abbrev pub ends_well : List Instr → Bool
-ends_well code = is_empty (around code (length code)) && is_last_ret (slice_get code (length code - 1))
+ends_well code = is_empty (around code (length code)) && is_last_ret
+    (slice_get code (length code - 1))
 
 abbrev pub or_else : Option ℕ → Option ℕ → Option ℕ
 or_else None o = o
 or_else (Some pc) o = Some pc
 
 abbrev pub nesting_fault : List Instr → Option ℕ
-nesting_fault code = or_else (first_failing (λ pc i. nests i.op (around code pc)) 0 code) (if ends_well code then None else Some (length code - 1))
+nesting_fault code = or_else (first_failing (λ pc i. nests i.op (around code pc)) 0 code)
+    (if ends_well code then None else Some (length code - 1))
 
 abbrev pub jump_fault : List Instr → Option ℕ
 jump_fault code = first_failing (λ pc i. jumps_well code pc i i.op) 0 code
@@ -235,7 +240,8 @@ abbrev pub atomic_fault : List Instr → Option ℕ
 atomic_fault code = first_failing (λ pc i. stays_out i.op (around code pc)) 0 code
 
 -- goes on where a function has no fault of a cause
-abbrev pub unless : {A : Type 0} → Option ℕ → BoundCause → ℕ → Result A BoundFault → Result A BoundFault
+abbrev pub unless : {A : Type 0} → Option ℕ → BoundCause → ℕ → Result A BoundFault
+    → Result A BoundFault
 unless None cause function r = r
 unless (Some pc) cause function r = Err (record { cause = cause; function = function; pc = pc })
 
@@ -247,16 +253,19 @@ checked_bound function earlier f =
     (unless (slot_fault f.loops f.code) LoopSlot function
     (unless (order_fault function f.code) CallOrder function
     (unless (atomic_fault f.code) InAtomic function
-    (if nat_le (bound_of earlier f.code) (2 ^ 48) then Ok (bound_of earlier f.code) else Err (record { cause = TooLarge; function = function; pc = 0 }))))))
+    (if nat_le (bound_of earlier f.code) (2 ^ 48) then Ok (bound_of earlier f.code) else Err
+    (record { cause = TooLarge; function = function; pc = 0 }))))))
 
 -- goes on with one bound more, or ends in a fault
-abbrev pub with_bound : List ℕ → Result ℕ BoundFault → (List ℕ → Result (List ℕ) BoundFault) → Result (List ℕ) BoundFault
+abbrev pub with_bound : List ℕ → Result ℕ BoundFault → (List ℕ → Result (List ℕ) BoundFault)
+    → Result (List ℕ) BoundFault
 with_bound earlier (Ok bound) others = others (earlier ++ bound ∷ [])
 with_bound earlier (Err fault) others = Err fault
 
 abbrev pub bounds_from : List ℕ → List Function → Result (List ℕ) BoundFault
 bounds_from earlier [] = Ok earlier
-bounds_from earlier (f ∷ fs) = with_bound earlier (checked_bound (length earlier) earlier f) (λ bounds. bounds_from bounds fs)
+bounds_from earlier (f ∷ fs) = with_bound earlier (checked_bound (length earlier) earlier f)
+    (λ bounds. bounds_from bounds fs)
 
 -- the bounds of a module's functions, or the fault of the least function that has one
 abbrev pub bounds_of : Module → Result (List ℕ) BoundFault

@@ -22,7 +22,8 @@ nothing = record { live = 0; sent = λ p. 0; received = λ p. 0 }
 
 -- the totals at the beginning: main's stay is live under the root at place 0
 abbrev pub first_totals : ℕ → Finish → Totals
-first_totals here f = if same_finish f root && (here == 0) then record nothing { live = 1 } else nothing
+first_totals here f = if same_finish f root && (here == 0) then record nothing
+    { live = 1 } else nothing
 
 abbrev pub sends_to : Totals → ℕ → Totals
 sends_to t p = record t { sent = with_entry t.sent p (t.sent p + 1) }
@@ -34,7 +35,10 @@ abbrev pub ends_one : Totals → Totals
 ends_one t = record t { live = t.live - 1 }
 
 abbrev pub receives_from : Totals → ℕ → Totals
-receives_from t p = record t { live = t.live + 1; received = with_entry t.received p (t.received p + 1) }
+receives_from t p = record t {
+  live = t.live + 1;
+  received = with_entry t.received p (t.received p + 1);
+}
 
 abbrev pub if_same : Finish → Finish → Totals → Totals → Totals
 if_same f g changed t = if same_finish f g then changed else t
@@ -43,12 +47,15 @@ if_same f g changed t = if same_finish f g then changed else t
 -- that begins here is live; the end of a stay ends one. Results and reports don't count.
 abbrev pub totals_after : Finish → Totals → Happening → Totals
 totals_after f t (Did (Begins key function under)) = if_same f under (begins_one t) t
-totals_after f t (Did (Spawns message function under)) = if_same f under (sends_to t (receiver message)) t
+totals_after f t (Did (Spawns message function under)) =
+    if_same f under (sends_to t (receiver message)) t
 totals_after f t (Did (Shifts message under)) = if_same f under (sends_to t (receiver message)) t
 totals_after f t (Did (Ends under back)) = if_same f under (ends_one t) t
 totals_after f t (Did _) = t
-totals_after f t (Took (Spawn from to under function graph)) = if_same f under (receives_from t from) t
-totals_after f t (Took (Shift from to waiting under function graph)) = if_same f under (receives_from t from) t
+totals_after f t (Took (Spawn from to under function graph)) =
+    if_same f under (receives_from t from) t
+totals_after f t (Took (Shift from to waiting under function graph)) =
+    if_same f under (receives_from t from) t
 totals_after f t (Took (Back from to waiting graph)) = t
 
 -- the totals of a finish after what happened so far, the first first
@@ -94,7 +101,10 @@ reported r = record { sent = slice_index r.sent; received = slice_index r.receiv
 
 -- the larger of each number
 abbrev pub larger : Entry → Entry → Entry
-larger e f = record { sent = λ p. max (e.sent p) (f.sent p); received = λ p. max (e.received p) (f.received p) }
+larger e f = record {
+  sent = λ p. max (e.sent p) (f.sent p);
+  received = λ p. max (e.received p) (f.received p);
+}
 
 -- the home takes in a report: it keeps the larger of each number
 abbrev pub merged : Cut → Report → Cut
@@ -110,7 +120,8 @@ all_below test zero = true
 all_below test (suc n) = all_below test n && test n
 
 abbrev pub is_balanced : ℕ → Cut → Bool
-is_balanced places cut = all_below (λ p. all_below (λ q. (cut p).sent q == (cut q).received p) places) places
+is_balanced places cut = all_below (λ p.
+    all_below (λ q. (cut p).sent q == (cut q).received p) places) places
 
 -- what the home looks at: its own totals as they are now, and of each other place what it kept
 abbrev pub seen_from : ℕ → Entry → Cut → Cut
@@ -118,4 +129,5 @@ seen_from home own kept = with_entry kept home own
 
 -- the home lets its finish end: nothing under it lives there, and what it sees balances
 abbrev pub IsDoneAt : ℕ → ℕ → Totals → Cut → Type 0
-IsDoneAt places home own kept = (own.live ≡ 0) × IsBalanced places (seen_from home (entry_of own) kept)
+IsDoneAt places home own kept = (own.live ≡ 0)
+    × IsBalanced places (seen_from home (entry_of own) kept)

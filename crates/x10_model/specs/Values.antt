@@ -23,7 +23,8 @@ Cells = ℕ → Option Cell
 
 -- the reference leads to an object of the class
 abbrev pub IsObjectOf : Cells → ℕ → ℕ → Type 0
-IsObjectOf cells reference class = (fields : List Value) × (cells reference ≡ Some (Fields class fields))
+IsObjectOf cells reference class = (fields : List Value)
+    × (cells reference ≡ Some (Fields class fields))
 
 -- the reference leads to a rail
 abbrev pub IsRail : Cells → ℕ → Type 0

@@ -9,4 +9,5 @@ use Rattle.x10_model.specs.Assignments.{AreInRange, HasAssignment}
 pub record IsVerified (program : Module) (bounds : List ℕ) : Type 0 where
   pub bounds_are : bounds_of program ≡ Ok bounds
   pub in_range : AreInRange program
-  pub assignments : (f : ℕ) (function : Function) → function_at program f ≡ Some function → HasAssignment program function
+  pub assignments : (f : ℕ) (function : Function) → function_at program f ≡ Some function
+      → HasAssignment program function

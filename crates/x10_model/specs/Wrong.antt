@@ -18,7 +18,8 @@ use Rattle.x10_model.specs.Deliveries.{FitsPlace, FitsFunctionAt, FitsResultAt, 
 
 -- what an operation asks of a register
 pub data Want : Type 0 where
-  Anything AnInt APlace AText ARail AnObject AReference AnIntOrText AnObjectOrNull APlaceOrReference : Want
+  Anything AnInt APlace AText ARail AnObject AReference AnIntOrText AnObjectOrNull
+      APlaceOrReference : Want
 
 abbrev pub Meets : Cells → Want → Value → Type 0
 Meets cells Anything v = Unit {0}
@@ -98,45 +99,70 @@ pub data IsWrongAt (s : Situation) : Type 0 where
       → ((v : Value) → Holds s register v → Meets s.place.cells want v → ⊥) → IsWrongAt s
   -- the arguments don't fit the function
   argument : (at : ℕ) → IsTarget s s.instr.op at
-      → ((vs : List Value) → HoldsFrom s s.instr.b vs → FitSlots (IsOfKind s.place.cells) at vs (parameters_of (function_at s.setting.program s.instr.x)) → ⊥)
+      → ((vs : List Value) → HoldsFrom s s.instr.b vs
+      → FitSlots (IsOfKind s.place.cells) at vs
+      (parameters_of (function_at s.setting.program s.instr.x)) → ⊥)
       → IsWrongAt s
   -- an activity is begun with a function that gives something back
-  result_dropped : (slot : Slot) → IsDetached s.instr.op → result_of (function_at s.setting.program s.instr.x) ≡ Some slot → IsWrongAt s
+  result_dropped : (slot : Slot) → IsDetached s.instr.op
+      → result_of (function_at s.setting.program s.instr.x) ≡ Some slot → IsWrongAt s
   -- the fields don't fit the class
   new_field : s.instr.op ≡ op.New
-      → ((vs : List Value) → HoldsFrom s s.instr.b vs → AreOfKinds (IsOfKind s.place.cells) vs (fields_of (slice_get s.setting.program.classes s.instr.x)) → ⊥)
+      → ((vs : List Value) → HoldsFrom s s.instr.b vs
+      → AreOfKinds (IsOfKind s.place.cells) vs
+      (fields_of (slice_get s.setting.program.classes s.instr.x)) → ⊥)
       → IsWrongAt s
   -- the object has no such field
-  no_field : (reference class : ℕ) (fields : List Value) → IsFieldOwner s s.instr.op reference → s.place.cells reference ≡ Some (Fields class fields)
+  no_field : (reference class : ℕ) (fields : List Value) → IsFieldOwner s s.instr.op reference
+      → s.place.cells reference ≡ Some (Fields class fields)
       → slice_get fields s.instr.c ≡ None → IsWrongAt s
   -- the value that is put doesn't fit the field's kind, or the class has no such field
-  put_field : (reference class : ℕ) (fields : List Value) (v : Value) → s.instr.op ≡ op.Put → Holds s s.instr.a (Object reference)
+  put_field : (reference class : ℕ) (fields : List Value) (v : Value) → s.instr.op ≡ op.Put
+      → Holds s s.instr.a (Object reference)
       → s.place.cells reference ≡ Some (Fields class fields) → Holds s s.instr.b v
-      → ((kind : Kind) → slice_get (fields_of (slice_get s.setting.program.classes class)) s.instr.c ≡ Some kind → IsOfKind s.place.cells v kind → ⊥)
+      → ((kind : Kind) → slice_get (fields_of (slice_get s.setting.program.classes class)) s.instr.c
+      ≡ Some kind → IsOfKind s.place.cells v kind → ⊥)
       → IsWrongAt s
   -- a global reference is opened away from its home
-  away : (home id class : ℕ) → s.instr.op ≡ op.Gopen → Holds s s.instr.b (Ref home id class) → home ≢ s.here → IsWrongAt s
+  away : (home id class : ℕ) → s.instr.op ≡ op.Gopen → Holds s s.instr.b (Ref home id class)
+      → home ≢ s.here → IsWrongAt s
   -- a global reference is opened that names no export of its class
   no_export : (id class : ℕ) → s.instr.op ≡ op.Gopen → Holds s s.instr.b (Ref s.here id class)
-      → ((object : ℕ) → slice_get s.place.exports id ≡ Some (record { class = class; object = object }) → ⊥) → IsWrongAt s
+      → ((object : ℕ) → slice_get s.place.exports id
+      ≡ Some (record { class = class; object = object }) → ⊥) → IsWrongAt s
   -- the result doesn't fit the function that ends
-  result : s.instr.op ≡ op.Ret → ((v : Option Value) → GivesBack s s.function.result v → ⊥) → IsWrongAt s
+  result : s.instr.op ≡ op.Ret → ((v : Option Value) → GivesBack s s.function.result v → ⊥)
+      → IsWrongAt s
   -- an activity's stay ends with a finish open
-  finish_open : (number : ℕ) (finishes : List ℕ) → s.instr.op ≡ op.Ret → s.stay.callers ≡ [] → s.stay.finishes ≡ number ∷ finishes → IsWrongAt s
+  finish_open : (number : ℕ) (finishes : List ℕ) → s.instr.op ≡ op.Ret → s.stay.callers ≡ []
+      → s.stay.finishes ≡ number ∷ finishes → IsWrongAt s
   -- a function ends whose caller doesn't stand at a call
-  no_call : (caller : CallFrame) (callers : List CallFrame) → s.instr.op ≡ op.Ret → s.stay.callers ≡ caller ∷ callers
-      → ((call : Instr) → instr_at s.setting.program caller.function caller.pc ≡ Some call → call.op ≡ op.Call → ⊥) → IsWrongAt s
+  no_call : (caller : CallFrame) (callers : List CallFrame) → s.instr.op ≡ op.Ret
+      → s.stay.callers ≡ caller ∷ callers
+      → ((call : Instr) → instr_at s.setting.program caller.function caller.pc ≡ Some call
+      → call.op ≡ op.Call → ⊥) → IsWrongAt s
   -- no finish is open where one is to be left
   no_finish : s.instr.op ≡ op.Fine → s.stay.finishes ≡ [] → IsWrongAt s
 
 -- The activity with a key is ready, no other is inside an atomic region, and its move goes wrong: it stands at no
 -- instruction, or at one that goes wrong.
 pub data IsWrong (setting : Setting) (here : ℕ) (place : places.Place) (key : ℕ) : Type 0 where
-  no_instruction : (stay : Stay) → place.stays key ≡ Some stay → stay.away ≡ false → IsFree place.stays key → instr_at setting.program stay.top.function stay.top.pc ≡ None
+  no_instruction : (stay : Stay) → place.stays key ≡ Some stay → stay.away ≡ false
+      → IsFree place.stays key → instr_at setting.program stay.top.function stay.top.pc ≡ None
       → IsWrong setting here place key
-  wrong_at : (stay : Stay) (function : Function) (instr : Instr) → place.stays key ≡ Some stay → stay.away ≡ false → IsFree place.stays key
-      → function_at setting.program stay.top.function ≡ Some function → slice_get function.code stay.top.pc ≡ Some instr
-      → IsWrongAt (record { setting = setting; here = here; place = place; key = key; stay = stay; function = function; instr = instr })
+  wrong_at : (stay : Stay) (function : Function) (instr : Instr) → place.stays key ≡ Some stay
+      → stay.away ≡ false → IsFree place.stays key
+      → function_at setting.program stay.top.function ≡ Some function
+      → slice_get function.code stay.top.pc ≡ Some instr
+      → IsWrongAt (record {
+        setting = setting;
+        here = here;
+        place = place;
+        key = key;
+        stay = stay;
+        function = function;
+        instr = instr;
+      })
       → IsWrong setting here place key
 
 abbrev pub graph_of : Message → Snapshot
@@ -147,17 +173,25 @@ graph_of (Back from to waiting graph) = graph
 -- Why a message doesn't fit the place that takes it in.
 pub data IsMisfit (setting : Setting) (here : ℕ) (place : places.Place) : Message → Type 0 where
   -- it is for another place
-  not_here : (message : Message) → places.receiver message ≢ here → IsMisfit setting here place message
+  not_here : (message : Message) → places.receiver message ≢ here
+      → IsMisfit setting here place message
   -- its graph doesn't fit the classes, or names an export that isn't there
-  graph : (message : Message) → (FitsPlace setting here place (graph_of message) → ⊥) → IsMisfit setting here place message
+  graph : (message : Message) → (FitsPlace setting here place (graph_of message) → ⊥)
+      → IsMisfit setting here place message
   -- a part of its graph is reached by nothing, or a reference leads to no part
-  torn : (message : Message) → (IsWhole (graph_of message) → ⊥) → IsMisfit setting here place message
+  torn : (message : Message) → (IsWhole (graph_of message) → ⊥)
+      → IsMisfit setting here place message
   -- its arguments don't fit its function, or there is none
   spawn : (from to : ℕ) (under : places.Finish) (function : ℕ) (g : Snapshot)
-      → ((callee : Function) → FitsFunctionAt setting here function g callee → callee.result ≡ None → ⊥)
+      → ((callee : Function) → FitsFunctionAt setting here function g callee → callee.result ≡ None
+      → ⊥)
       → IsMisfit setting here place (Spawn from to under function g)
   shift : (from to waiting : ℕ) (under : places.Finish) (function : ℕ) (g : Snapshot)
-      → ((callee : Function) → FitsFunctionAt setting here function g callee → ⊥) → IsMisfit setting here place (Shift from to waiting under function g)
+      → ((callee : Function) → FitsFunctionAt setting here function g callee → ⊥)
+      → IsMisfit setting here place (Shift from to waiting under function g)
   -- nobody waits for it, or its result doesn't fit the function that was waited for
-  back : (from to waiting : ℕ) (g : Snapshot) → ((stay : Stay) (call : Instr) (callee : Function) → WaitsFor setting place waiting from stay call callee
-      → FitsResultAt g from callee.result g.roots → ⊥) → IsMisfit setting here place (Back from to waiting g)
+  back : (from to waiting : ℕ) (g : Snapshot)
+      → ((stay : Stay) (call : Instr) (callee : Function)
+      → WaitsFor setting place waiting from stay call callee
+      → FitsResultAt g from callee.result g.roots → ⊥)
+      → IsMisfit setting here place (Back from to waiting g)

@@ -41,7 +41,8 @@ module _ (program : Module) (index at count : ℕ) (i : Instr) (fetched : IsFetc
 -- ---- a result that comes back
 
 -- why it doesn't, where somebody waits for it
-pub back_refused : (program : Module) (old : Slab StayState) (s : StoreState) (f : Frame) (from key : ℕ) (slots : List Slot) (why : Refusal) → IsExpected program old from key slots → IsRefusal program s.here from s.heap slots (graph_of f) why → IsBackRefused program old s f from key why
+pub back_refused : (program : Module) (old : Slab StayState) (s : StoreState) (f : Frame) (from key : ℕ) (slots : List Slot) (why : Refusal)
+    → IsExpected program old from key slots → IsRefusal program s.here from s.heap slots (graph_of f) why → IsBackRefused program old s f from key why
 back_refused program old s f from key slots refusal.Kind expected h = (slots, expected, h)
 back_refused program old s f from key slots refusal.Home expected h = (slots, expected, h)
 back_refused program old s f from key slots refusal.Ref expected h = (slots, expected, h)
@@ -50,14 +51,38 @@ back_refused program old s f from key slots (refusal.Limit limit) expected h = (
 back_refused program old s f from key slots _ expected h = absurd h
 
 -- the function that an AT names, by its signature
-callee_of : (program image : Module) (call : Instr) (sig : Signature) (slot : Option Slot) → image ≡ program → (g : Function) × (function_at image call.x ≡ Some g) × (sig ≡ signature_of g) → slot ≡ sig.result → (g : Function) × (function_at program call.x ≡ Some g) × (slot ≡ g.result)
-callee_of program image call sig slot same g e = (g.0, subst (λ (m : Module). function_at m call.x ≡ Some g.0) same g.1, e ∙ ap (λ (t : Signature). t.result) g.2)
+callee_of : (program image : Module) (call : Instr) (sig : Signature) (slot : Option Slot) → image ≡ program
+    → (g : Function) × (function_at image call.x ≡ Some g) × (sig ≡ signature_of g) → slot ≡ sig.result
+    → (g : Function) × (function_at program call.x ≡ Some g) × (slot ≡ g.result)
+callee_of program image call sig slot same g e = (
+  g.0,
+  subst (λ (m : Module). function_at m call.x ≡ Some g.0) same g.1,
+  e ∙ ap (λ (t : Signature). t.result) g.2,
+)
 
-module _ (program image : Module) (old : Slab StayState) (s : StoreState) (f : Frame) (from key : ℕ) (a : StayState) (call : Instr) (sig : Signature) (slot : Option Slot) (same : image ≡ program) (there : get old key ≡ Some a) (waits : IsWaitingFor program a from call) (g : (g : Function) × (function_at image call.x ≡ Some g) × (sig ≡ signature_of g)) (e : slot ≡ sig.result) where
+module _ (program image : Module) (old : Slab StayState) (s : StoreState) (f : Frame) (from key : ℕ) (a : StayState) (call : Instr) (sig : Signature)
+    (slot : Option Slot) (same : image ≡ program) (there : get old key ≡ Some a) (waits : IsWaitingFor program a from call)
+    (g : (g : Function) × (function_at image call.x ≡ Some g) × (sig ≡ signature_of g)) (e : slot ≡ sig.result) where
   pub expected : IsExpected program old from key (slots_of slot)
-  expected = let c = callee_of program image call sig slot same g e in record { stay = a; is_there = there; call = call; awaits = record { is_away = waits.is_away; call_is = subst (λ o. instr_in o a.top.pc ≡ Some call) (sym waits.fetched.is_function) waits.fetched.is_instr; is_at = waits.is_at; from_is = waits.from_is }; callee = c.0; callee_is = c.1; slots_are = ap slots_of c.2 }
+  expected = let c = callee_of program image call sig slot same g e in
+      record {
+        stay = a;
+        is_there = there;
+        call = call;
+        awaits = record {
+          is_away = waits.is_away;
+          call_is = subst (λ o. instr_in o a.top.pc ≡ Some call) (sym waits.fetched.is_function) waits.fetched.is_instr;
+          is_at = waits.is_at;
+          from_is = waits.from_is;
+        };
+        callee = c.0;
+        callee_is = c.1;
+        slots_are = ap slots_of c.2;
+      }
 
-  pub comes_back : (new : Slab StayState) (t : StoreState) (roots : List ℕ) (b : StayState) → IsArrived program s.here from s.heap (slots_of slot) (graph_of f) roots t.heap → IsTakenIn program s.here s.heap (slots_of slot) f roots t.heap
+  pub comes_back : (new : Slab StayState) (t : StoreState) (roots : List ℕ) (b : StayState)
+      → IsArrived program s.here from s.heap (slots_of slot) (graph_of f) roots t.heap
+      → IsTakenIn program s.here s.heap (slots_of slot) f roots t.heap
       → GoesOnBy roots a call.a b → Updates old new key (Some b) → t ≡ record s { heap = t.heap } → ComesBack program old s f from key new t
   comes_back new t roots b arrived taken goes changed store =
       let c = callee_of program image call sig slot same g e in

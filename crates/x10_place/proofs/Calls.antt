@@ -23,7 +23,7 @@ use Rattle.x10_model.specs.Moves.{Situation, Does, HoldsFrom, place_of, entry_fr
 use Rattle.x10_model.specs.Assignments.{State, Edges, SlotsAre, FitsAs, parameter_kind, entry_state, Permits}
 use Rattle.x10_model.proofs.Rules.{first_slot, next_slots}
 use Rattle.x10_verify.proofs.Wholes.{function_fits}
-use Rattle.x10_place.specs.declared.frame.CallFrame.{CallFrame}
+use Rattle.x10_place.specs.declared.call_frame.CallFrame.{CallFrame}
 use Rattle.x10_heap.specs.Heaps.{HeapState}
 use Rattle.x10_heap.specs.Words.{Context, IsWordOf, AreWordsOf, HoldsHeap}
 use Rattle.x10_place.specs.Homes.{AreHomes, place_in, place_at}
@@ -58,16 +58,23 @@ pub record IsTermOf (x : Context) (registers : ℕ → Option Value) (at : Term)
 
 -- what a register holds that fits a slot at a place
 abbrev pub FitsWord : Context → Cells → ℕ → (ℕ → Option Value) → ℕ → ℕ → Slot → Type 0
-FitsWord x cells there registers word r slot = (v : Value) × (registers r ≡ Some v) × FitsSlotAt (IsOfKind cells) there v slot × IsWordOf x slot.kind word v
+FitsWord x cells there registers word r slot = (v : Value) × (registers r ≡ Some v) × FitsSlotAt (IsOfKind cells) there v slot
+    × IsWordOf x slot.kind word v
 
-pub fits_word : (classes : ℕ) (x : Context) (cells : Cells) (s : State) (registers : ℕ → Option Value) (words : List ℕ) (r : ℕ) (slot : Slot) (at : Term) (there : ℕ) → IsTermOf x registers at there → HoldsHeap x cells → r < 64 → FitsSlot classes slot → HoldRegisters x s registers words → AreHomes x.here s.homes registers → FitsAs s at r slot
+pub fits_word : (classes : ℕ) (x : Context) (cells : Cells) (s : State) (registers : ℕ → Option Value) (words : List ℕ) (r : ℕ) (slot : Slot)
+    (at : Term) (there : ℕ) → IsTermOf x registers at there → HoldsHeap x cells → r < 64 → FitsSlot classes slot → HoldRegisters x s registers words
+    → AreHomes x.here s.homes registers → FitsAs s at r slot
     → FitsWord x cells there registers (slice_index words r) r slot
 fits_word classes x cells s registers words r slot at there stands holds few fit typed homes fits-as =
     let v = reads x s registers words r slot.kind typed fits-as.0 in
     let of = of_kind x cells slot.kind (slice_index words r) v.0 holds v.2 in (
       v.0,
       v.1,
-      record { kind = of; home = λ flag. has_home cells v.0 slot.kind there (fit.flag flag) of (sym (ap place_in v.1) ∙ homes (term.Reg r) at few stands.is_term (fits-as.1 flag) ∙ stands.place_is) },
+      record {
+        kind = of;
+        home = λ flag. has_home cells v.0 slot.kind there (fit.flag flag) of
+            (sym (ap place_in v.1) ∙ homes (term.Reg r) at few stands.is_term (fits-as.1 flag) ∙ stands.place_is);
+      },
       v.2,
     )
 
@@ -79,29 +86,43 @@ words_at words r zero = []
 words_at words r (suc n) = slice_index words r ∷ words_at words (r + 1) n
 
 -- what the registers from r on pass to a function's parameters at a place
-pub record PassesWords (x : Context) (cells : Cells) (there : ℕ) (sit : Situation) (words : List ℕ) (r : ℕ) (slots : List Slot) (vs : List Value) : Type 0 where
+pub record PassesWords (x : Context) (cells : Cells) (there : ℕ) (sit : Situation) (words : List ℕ) (r : ℕ) (slots : List Slot)
+    (vs : List Value) : Type 0 where
   pub held : HoldsFrom sit r vs
   pub fit : FitSlots (IsOfKind cells) there vs slots
   pub along : AreWordsOf x (kinds_of slots) (words_at words r (length slots)) vs
-  pub words_are : (k : ℕ) (want : Kind) → parameter_kind (slice_get slots k) ≡ Some want → (v : Value) × (slice_get vs k ≡ Some v) × IsWordOf x want (slice_index words (r + k)) v
+  pub words_are : (k : ℕ) (want : Kind) → parameter_kind (slice_get slots k) ≡ Some want
+      → (v : Value) × (slice_get vs k ≡ Some v) × IsWordOf x want (slice_index words (r + k)) v
 
 kind_is : (slot : Slot) (want : Kind) → parameter_kind (Some slot) ≡ Some want → slot.kind ≡ want
 kind_is slot want e = same_Some slot.kind want e
 
-module _ (classes : ℕ) (x : Context) (cells : Cells) (holds : HoldsHeap x cells) (sit : Situation) (s : State) (words : List ℕ) (typed : HoldRegisters x s sit.stay.top.registers words) (homes : AreHomes x.here s.homes sit.stay.top.registers) (to : Term) (there : ℕ) (stands : IsTermOf x sit.stay.top.registers to there) where
-  passes_words : (r : ℕ) (slots : List Slot) → r + length slots ≤ 64 → AllByRecursion (FitsSlot classes) slots → SlotsAre s to r slots → (vs : List Value) × PassesWords x cells there sit words r slots vs
+module _ (classes : ℕ) (x : Context) (cells : Cells) (holds : HoldsHeap x cells) (sit : Situation) (s : State) (words : List ℕ)
+    (typed : HoldRegisters x s sit.stay.top.registers words) (homes : AreHomes x.here s.homes sit.stay.top.registers) (to : Term) (there : ℕ)
+    (stands : IsTermOf x sit.stay.top.registers to there) where
+  passes_words : (r : ℕ) (slots : List Slot) → r + length slots ≤ 64 → AllByRecursion (FitsSlot classes) slots → SlotsAre s to r slots
+      → (vs : List Value) × PassesWords x cells there sit words r slots vs
   passes_words r [] few all fit = ([], record { held = tt; fit = tt; along = tt; words_are = λ k want e. absurd cc })
   passes_words r (slot ∷ slots) few all fit =
-      let v = fits_word classes x cells s sit.stay.top.registers words r slot to there stands holds (omega (arith, few)) all.0 typed homes (first_slot s to r slot slots fit) in
+      let v = fits_word classes x cells s sit.stay.top.registers words r slot to there stands holds (omega (arith, few)) all.0 typed homes
+      (first_slot s to r slot slots fit) in
       let rest = passes_words (r + 1) slots (omega (arith, few)) all.1 (next_slots s to r slot slots fit) in (
         v.0 ∷ rest.0,
         record { held = (v.1, rest.1.held); fit = (v.2, rest.1.fit); along = (v.3, rest.1.along); words_are = λ k want e. at k want e v rest },
       )
     where
-      at : (k : ℕ) (want : Kind) → parameter_kind (slice_get (slot ∷ slots) k) ≡ Some want → (v : FitsWord x cells there sit.stay.top.registers (slice_index words r) r slot) → (rest : (vs : List Value) × PassesWords x cells there sit words (r + 1) slots vs)
+      at : (k : ℕ) (want : Kind) → parameter_kind (slice_get (slot ∷ slots) k) ≡ Some want
+          → (v : FitsWord x cells there sit.stay.top.registers (slice_index words r) r slot)
+          → (rest : (vs : List Value) × PassesWords x cells there sit words (r + 1) slots vs)
           → (u : Value) × (slice_get (v.0 ∷ rest.0) k ≡ Some u) × IsWordOf x want (slice_index words (r + k)) u
-      at zero want e v rest = (v.0, refl, subst (λ n. IsWordOf x want (slice_index words n) v.0) (omega arith) (subst (λ k. IsWordOf x k (slice_index words r) v.0) (kind_is slot want e) v.3))
-      at (suc k) want e v rest = let u = rest.1.words_are k want e in (u.0, u.1, subst (λ n. IsWordOf x want (slice_index words n) u.0) (omega arith) u.2)
+      at zero want e v rest = (
+        v.0,
+        refl,
+        subst (λ n. IsWordOf x want (slice_index words n) v.0) (omega arith)
+            (subst (λ k. IsWordOf x k (slice_index words r) v.0) (kind_is slot want e) v.3),
+      )
+      at (suc k) want e v rest = let u = rest.1.words_are k want e in
+          (u.0, u.1, subst (λ n. IsWordOf x want (slice_index words n) u.0) (omega arith) u.2)
 
 pub no_turns : (n slot : ℕ) → slice_index (replicate n 0) slot ≡ 0
 no_turns zero slot = refl
@@ -115,7 +136,10 @@ slot_below [] r want e = absurd cc
 slot_below (slot ∷ slots) zero want e = omega arith
 slot_below (slot ∷ slots) (suc r) want e = let h : r < length slots = slot_below slots r want e in omega arith
 
-module _ (setting : Setting) (here : ℕ) (far : Far) (m : machine.Place) (key : ℕ) (s : Stay) (assigned : Assigned setting.program) (heap : HeapState) (holds : HoldsHeap (context setting here heap far) m.cells) (a : StayState) (h : StandsForStay setting.program assigned (context setting here heap far) a s) (i : Instr) (fetched : IsFetchedFor setting.program a.top i) where
+module _ (setting : Setting) (here : ℕ) (far : Far) (m : machine.Place) (key : ℕ) (s : Stay) (assigned : Assigned setting.program) (heap : HeapState)
+    (holds : HoldsHeap (context setting here heap far) m.cells) (a : StayState)
+    (h : StandsForStay setting.program assigned (context setting here heap far) a s) (i : Instr)
+    (fetched : IsFetchedFor setting.program a.top i) where
   abbrev x : Context
   x = context setting here heap far
 
@@ -126,7 +150,9 @@ module _ (setting : Setting) (here : ℕ) (far : Far) (m : machine.Place) (key :
   sit = situated setting here m key s function i
 
   -- the callee's call frame, at its first instruction
-  entered_stands : (callee : Function) (vs : List Value) (f : CallFrame) → length callee.parameters ≤ 16 → (e : IsEntered setting.program a.top.registers.items i f) → function_at setting.program i.x ≡ Some callee → PassesWords x m.cells here sit a.top.registers.items i.b callee.parameters vs
+  entered_stands : (callee : Function) (vs : List Value) (f : CallFrame) → length callee.parameters ≤ 16
+      → (e : IsEntered setting.program a.top.registers.items i f) → function_at setting.program i.x ≡ Some callee
+      → PassesWords x m.cells here sit a.top.registers.items i.b callee.parameters vs
       → StandsForFrame setting.program assigned x f (entry_frame i.x vs)
   entered_stands callee vs f few e is passed =
       let start = (assigned i.x callee is).1.consistent.entry in
@@ -139,7 +165,8 @@ module _ (setting : Setting) (here : ℕ) (far : Far) (m : machine.Place) (key :
         state = start.0;
         is_state = state.2;
         words = words_weaken x (entry_state callee) start.0 (slice_get vs) f.registers.items start.2 typed;
-        homes = homes_weaken here (entry_state callee) start.0 (slice_get vs) start.2 (homes_entry m.cells here callee vs (omega (arith, few)) passed.fit);
+        homes = homes_weaken here (entry_state callee) start.0 (slice_get vs) start.2
+            (homes_entry m.cells here callee vs (omega (arith, few)) passed.fit);
         slots = ap length e.loops_are;
         loops = λ slot lt. sym (ap (λ ls. slice_index ls slot) e.loops_are ∙ no_turns 8 slot);
       }
@@ -148,29 +175,38 @@ module _ (setting : Setting) (here : ℕ) (far : Far) (m : machine.Place) (key :
       typed r want k =
           let v = passed.words_are r want k in
           let same : e.callee ≡ callee = same_Some e.callee callee (sym e.is_callee ∙ is) in
-          let lt : r < length e.callee.parameters = subst (λ (g : Function). r < length g.parameters) (sym same) (slot_below callee.parameters r want k) in
+          let lt : r < length e.callee.parameters = subst (λ (g : Function). r < length g.parameters) (sym same)
+          (slot_below callee.parameters r want k) in
           (v.0, v.1, subst (λ w. IsWordOf x want w v.0) (sym (e.arguments r lt)) v.2)
 
   -- what an instruction passes to a function at a place
-  pub passed_to : (to : Term) (there : ℕ) → IsTermOf x s.top.registers to there → (callee : Function) → FitsImage setting.program → function_at setting.program i.x ≡ Some callee → SlotsAre h.top.state to i.b callee.parameters → i.b + length callee.parameters ≤ function.registers
+  pub passed_to : (to : Term) (there : ℕ) → IsTermOf x s.top.registers to there → (callee : Function) → FitsImage setting.program
+      → function_at setting.program i.x ≡ Some callee → SlotsAre h.top.state to i.b callee.parameters
+      → i.b + length callee.parameters ≤ function.registers
       → (vs : List Value) × PassesWords x m.cells there sit a.top.registers.items i.b callee.parameters vs
   passed_to to there stands callee image is slots counted =
       let few = (small setting.program assigned x a.top s.top h.top i fetched).registers.1 in
-      passes_words (length setting.program.classes) x m.cells holds sit h.top.state a.top.registers.items h.top.words h.top.homes to there stands i.b callee.parameters (omega (arith, counted, few)) (function_fits setting.program i.x callee image is).slots slots
+      passes_words (length setting.program.classes) x m.cells holds sit h.top.state a.top.registers.items h.top.words h.top.homes to there stands i.b
+      callee.parameters (omega (arith, counted, few)) (function_fits setting.program i.x callee image is).slots slots
 
   -- what a call, or the begin of an activity, passes
-  passed : (callee : Function) → FitsImage setting.program → function_at setting.program i.x ≡ Some callee → SlotsAre h.top.state term.Here i.b callee.parameters → i.b + length callee.parameters ≤ function.registers
+  passed : (callee : Function) → FitsImage setting.program → function_at setting.program i.x ≡ Some callee
+      → SlotsAre h.top.state term.Here i.b callee.parameters → i.b + length callee.parameters ≤ function.registers
       → (vs : List Value) × PassesWords x m.cells here sit a.top.registers.items i.b callee.parameters vs
   passed callee image is slots counted = passed_to term.Here here (record { is_term = tt; place_is = refl }) callee image is slots counted
 
-  pub call_moves : (b : StayState) (out : Edges) → FitsImage setting.program → IsPlaced setting.program b → i.op ≡ op.Call → Permits op.Call (point_of setting.program function a.top i) h.top.state out → Calls setting.program a i b
+  pub call_moves : (b : StayState) (out : Edges) → FitsImage setting.program → IsPlaced setting.program b → i.op ≡ op.Call
+      → Permits op.Call (point_of setting.program function a.top i) h.top.state out → Calls setting.program a i b
       → (t : Stay) × Does op.Call sit (with_stay m key (Some t)) Works × StandsForStay setting.program assigned x b t
   call_moves b out image placed o permits calls =
       let callee = permits.1.settles.0 in
       let is = permits.1.settles.1.there in
-      let range = subst (λ q. IsThere setting.program function i (form_of q).b i.b) o (in_range setting.program assigned x a.top s.top h.top i fetched).b in
-      let count : AreArgumentRegisters function (argument_count setting.program i op.Call) i.b = subst (λ q. AreArgumentRegisters function (argument_count setting.program i q) i.b) o range in
-      let counted : i.b + length callee.parameters ≤ function.registers = subst (λ g. i.b + length (parameters_of g) ≤ function.registers) is count.1 in
+      let range = subst (λ q. IsThere setting.program function i (form_of q).b i.b) o
+      (in_range setting.program assigned x a.top s.top h.top i fetched).b in
+      let count : AreArgumentRegisters function (argument_count setting.program i op.Call) i.b =
+      subst (λ q. AreArgumentRegisters function (argument_count setting.program i q) i.b) o range in
+      let counted : i.b + length callee.parameters ≤ function.registers =
+      subst (λ g. i.b + length (parameters_of g) ≤ function.registers) is count.1 in
       let passes = passed callee image is permits.1.settles.1.arguments counted in (
         record s { top = entry_frame i.x passes.0; callers = s.top ∷ s.callers },
         (callee, passes.0, record { callee_is = is; held = passes.1.held; fit = passes.1.fit }, refl, refl),
@@ -188,29 +224,45 @@ module _ (setting : Setting) (here : ℕ) (far : Far) (m : machine.Place) (key :
       )
 
   -- its innermost finish is of a place of the run
-  pub innermost_home : (inherited : Finish) (ns : List ℕ) → here < setting.places → inherited.home < setting.places → (innermost_of here inherited ns).home < setting.places
+  pub innermost_home : (inherited : Finish) (ns : List ℕ) → here < setting.places → inherited.home < setting.places
+      → (innermost_of here inherited ns).home < setting.places
   innermost_home inherited [] within lt = lt
   innermost_home inherited (n ∷ ns) within lt = within
 
   -- the activity that begins, and what of it is said
   pub record Begun (other : ℕ) (c : StayState) : Type 0 where
     pub child : Stay
-    pub does : m.stays other ≡ None → Does op.Async sit (with_stay (with_stay m key (Some (record s { top = next s.top }))) other (Some child)) (Begins other i.x (innermost here s))
+    pub does : m.stays other ≡ None → Does op.Async sit (with_stay (with_stay m key (Some (record s { top = next s.top }))) other (Some child))
+        (Begins other i.x (innermost here s))
     pub stands : StandsForStay setting.program assigned x c child
 
-  pub begin_moves : (other : ℕ) (c : StayState) (out : Edges) → FitsImage setting.program → IsPlaced setting.program c → i.op ≡ op.Async → Permits op.Async (point_of setting.program function a.top i) h.top.state out
-      → here < setting.places → (innermost_at here a).number < 2 ^ 32 → IsBegun setting.program a.top.registers.items i (innermost_at here a) c → Begun other c
+  pub begin_moves : (other : ℕ) (c : StayState) (out : Edges) → FitsImage setting.program → IsPlaced setting.program c → i.op ≡ op.Async
+      → Permits op.Async (point_of setting.program function a.top i) h.top.state out
+      → here < setting.places → (innermost_at here a).number < 2 ^ 32 → IsBegun setting.program a.top.registers.items i (innermost_at here a) c
+      → Begun other c
   begin_moves other c out image placed o permits within few begun =
       let callee = permits.1.settles.0 in
       let is = permits.1.settles.1.there in
-      let range = subst (λ q. IsThere setting.program function i (form_of q).b i.b) o (in_range setting.program assigned x a.top s.top h.top i fetched).b in
-      let count : AreArgumentRegisters function (argument_count setting.program i op.Async) i.b = subst (λ q. AreArgumentRegisters function (argument_count setting.program i q) i.b) o range in
-      let counted : i.b + length callee.parameters ≤ function.registers = subst (λ g. i.b + length (parameters_of g) ≤ function.registers) is count.1 in
+      let range = subst (λ q. IsThere setting.program function i (form_of q).b i.b) o
+      (in_range setting.program assigned x a.top s.top h.top i fetched).b in
+      let count : AreArgumentRegisters function (argument_count setting.program i op.Async) i.b =
+      subst (λ q. AreArgumentRegisters function (argument_count setting.program i q) i.b) o range in
+      let counted : i.b + length callee.parameters ≤ function.registers =
+      subst (λ g. i.b + length (parameters_of g) ≤ function.registers) is count.1 in
       let passes = passed callee image is permits.1.settles.1.arguments counted in
       let under : innermost here s ≡ innermost_at here a = ap₂ (λ f ns. innermost_of here f ns) h.inherited h.finishes in
       record {
         child = new_stay i.x passes.0 (innermost here s) None;
-        does = λ free. (callee, passes.0, other, record { callee_is = is; held = passes.1.held; fit = passes.1.fit }, permits.1.settles.2, free, refl, refl);
+        does = λ free. (
+          callee,
+          passes.0,
+          other,
+          record { callee_is = is; held = passes.1.held; fit = passes.1.fit },
+          permits.1.settles.2,
+          free,
+          refl,
+          refl,
+        );
         stands = record {
           placed = placed;
           top = entered_stands callee passes.0 c.top (function_fits setting.program i.x callee image is).parameters begun.entered is passes.1;
@@ -220,6 +272,10 @@ module _ (setting : Setting) (here : ℕ) (far : Far) (m : machine.Place) (key :
           away = sym begun.away;
           inside = sym begun.inside;
           back = sym begun.back;
-          run = record { inherited = subst (λ (f : Finish). (f.home < setting.places) × (f.number < 2 ^ 32)) (sym begun.inherited) (innermost_home a.inherited a.finishes within h.run.inherited.0, few); back = λ origin e. absurd (let none = begun.back in cc) };
+          run = record {
+            inherited = subst (λ (f : Finish). (f.home < setting.places) × (f.number < 2 ^ 32)) (sym begun.inherited)
+                (innermost_home a.inherited a.finishes within h.run.inherited.0, few);
+            back = λ origin e. absurd (let none = begun.back in cc);
+          };
         };
       }

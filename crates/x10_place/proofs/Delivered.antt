@@ -16,9 +16,9 @@ use Rattle.x10_place.specs.Arrivals.{Launches, IsLaunchRefused, FitsLaunch, Misf
 use Rattle.x10_place.specs.Receiving.{IsAwaited, IsSeated, IsMisplaced, IsRefusedFrame}
 use Rattle.x10_place.specs.Stays.{StayState, StoreState}
 use Rattle.x10_place.specs.StandsFor.{PlaceState, place_of}
-use Rattle.x10_place.proofs.Admitting.{takes_spawn, takes_shift}
+use Rattle.x10_place.proofs.AdmittedMessages.{takes_spawn, takes_shift}
 use Rattle.x10_place.proofs.Comeback.{takes_back}
-use Rattle.x10_place.proofs.Placing.{IsChecked}
+use Rattle.x10_place.proofs.StandingStays.{IsChecked}
 
 -- ---- results
 
@@ -32,13 +32,15 @@ err_then (Err e) f h = f e h
 
 -- ---- frames by their heads
 
-pub spawn_is : (f : Frame) (from to home number function : ℕ) → head_of f ≡ head.Spawn from to home number function → f ≡ frames.Spawn from to home number function (graph_of f)
+pub spawn_is : (f : Frame) (from to home number function : ℕ) → head_of f ≡ head.Spawn from to home number function
+    → f ≡ frames.Spawn from to home number function (graph_of f)
 spawn_is (frames.Spawn a b c d e g) from to home number function h = cc
 spawn_is (frames.Shift a b w c d e g) from to home number function h = absurd cc
 spawn_is (frames.Back a b w g) from to home number function h = absurd cc
 spawn_is (frames.Report a b n sent received) from to home number function h = absurd cc
 
-pub shift_is : (f : Frame) (from to waiting home number function : ℕ) → head_of f ≡ head.Shift from to waiting home number function → f ≡ frames.Shift from to waiting home number function (graph_of f)
+pub shift_is : (f : Frame) (from to waiting home number function : ℕ) → head_of f ≡ head.Shift from to waiting home number function
+    → f ≡ frames.Shift from to waiting home number function (graph_of f)
 shift_is (frames.Shift a b w c d e g) from to waiting home number function h = cc
 shift_is (frames.Spawn a b c d e g) from to waiting home number function h = absurd cc
 shift_is (frames.Back a b w g) from to waiting home number function h = absurd cc
@@ -60,13 +62,28 @@ module _ (v : Certified) (old : Slab StayState) (s : StoreState) where
     abbrev new_one : Launch
     new_one = record { from = from; function = function; under = record { home = home; number = number }; back = None }
 
-    spawn_seated : (g : Graph) (stopped : Bool) → FitsLaunch v.program s (frames.Spawn from to home number function g) new_one → IsSeated (place stopped) (frames.Spawn from to home number function g)
-    spawn_seated g stopped h = record { here = here; seat = record { home = s.here; slots = h.callee.parameters }; seat_is = (h.callee, h.begins.0, h.begins.1 refl, refl); fits = h.fits }
+    spawn_seated : (g : Graph) (stopped : Bool) → FitsLaunch v.program s (frames.Spawn from to home number function g) new_one
+        → IsSeated (place stopped) (frames.Spawn from to home number function g)
+    spawn_seated g stopped h = record {
+      here = here;
+      seat = record { home = s.here; slots = h.callee.parameters };
+      seat_is = (h.callee, h.begins.0, h.begins.1 refl, refl);
+      fits = h.fits;
+    }
 
-    spawn_misplaced : (g : Graph) (stopped : Bool) (why : Refusal) → MisfitsLaunch v.program s (frames.Spawn from to home number function g) new_one why → IsMisplaced (place stopped) (frames.Spawn from to home number function g) why
-    spawn_misplaced g stopped why h = record { here = here; seat = record { home = s.here; slots = h.callee.parameters }; seat_is = (h.callee, h.begins.0, h.begins.1 refl, refl); misfit = h.misfit }
+    spawn_misplaced : (g : Graph) (stopped : Bool) (why : Refusal)
+        → MisfitsLaunch v.program s (frames.Spawn from to home number function g) new_one why
+        → IsMisplaced (place stopped) (frames.Spawn from to home number function g) why
+    spawn_misplaced g stopped why h = record {
+      here = here;
+      seat = record { home = s.here; slots = h.callee.parameters };
+      seat_is = (h.callee, h.begins.0, h.begins.1 refl, refl);
+      misfit = h.misfit;
+    }
 
-    spawn_refused_by : (g : Graph) (why : Refusal) (stopped : Bool) → IsLaunchRefused v.program old s (frames.Spawn from to home number function g) new_one why → IsRefusedFrame (place stopped) (frames.Spawn from to home number function g) why
+    spawn_refused_by : (g : Graph) (why : Refusal) (stopped : Bool)
+        → IsLaunchRefused v.program old s (frames.Spawn from to home number function g) new_one why
+        → IsRefusedFrame (place stopped) (frames.Spawn from to home number function g) why
     spawn_refused_by g refusal.Function stopped h = (here, (refl, λ seat c. h c.0 (c.1, λ e. c.2)))
     spawn_refused_by g refusal.Kind stopped h = spawn_misplaced g stopped refusal.Kind h
     spawn_refused_by g refusal.Home stopped h = spawn_misplaced g stopped refusal.Home h
@@ -76,10 +93,15 @@ module _ (v : Certified) (old : Slab StayState) (s : StoreState) where
     spawn_refused_by g refusal.Memory stopped h = tt
     spawn_refused_by g _ stopped h = absurd h
 
-    pub spawn_refused : (f : Frame) → f ≡ frames.Spawn from to home number function (graph_of f) → (why : Refusal) → IsLaunchRefused v.program old s f new_one why → (stopped : Bool) → IsRefusedFrame (place stopped) f why
-    spawn_refused f e why h stopped = subst (λ q. IsRefusedFrame (place stopped) q why) (sym e) (spawn_refused_by (graph_of f) why stopped (subst (λ q. IsLaunchRefused v.program old s q new_one why) e h))
+    pub spawn_refused : (f : Frame) → f ≡ frames.Spawn from to home number function (graph_of f) → (why : Refusal)
+        → IsLaunchRefused v.program old s f new_one why → (stopped : Bool) → IsRefusedFrame (place stopped) f why
+    spawn_refused f e why h stopped = subst (λ q. IsRefusedFrame (place stopped) q why) (sym e)
+        (spawn_refused_by (graph_of f) why stopped (subst (λ q. IsLaunchRefused v.program old s q new_one why) e h))
 
-    spawn_taken_by : (g : Graph) (new : Slab StayState) (t : StoreState) → FitsImage v.program → FitsFrame Wide s.places (frames.Spawn from to home number function g) → Launches v.program old s (frames.Spawn from to home number function g) new_one new t → IsTakenFrame v old s (frames.Spawn from to home number function g) new t
+    spawn_taken_by : (g : Graph) (new : Slab StayState) (t : StoreState) → FitsImage v.program
+        → FitsFrame Wide s.places (frames.Spawn from to home number function g)
+        → Launches v.program old s (frames.Spawn from to home number function g) new_one new t
+        → IsTakenFrame v old s (frames.Spawn from to home number function g) new t
     spawn_taken_by g new t image fits h = record {
       takes = λ stopped. takes_spawn v old new s t stopped image from to home number function g here fits h;
       is_open = λ stopped shut. shut.1 (h.is_open shut.0);
@@ -88,22 +110,45 @@ module _ (v : Certified) (old : Slab StayState) (s : StoreState) where
       places = h.settles.counted.places_are;
     }
 
-    pub spawn_taken : (f : Frame) → f ≡ frames.Spawn from to home number function (graph_of f) → (new : Slab StayState) (t : StoreState) → FitsImage v.program → FitsFrame Wide s.places f → Launches v.program old s f new_one new t → IsTakenFrame v old s f new t
-    spawn_taken f e new t image fits h = subst (λ q. IsTakenFrame v old s q new t) (sym e) (spawn_taken_by (graph_of f) new t image (subst (λ q. FitsFrame Wide s.places q) e fits) (subst (λ q. Launches v.program old s q new_one new t) e h))
+    pub spawn_taken : (f : Frame) → f ≡ frames.Spawn from to home number function (graph_of f) → (new : Slab StayState) (t : StoreState)
+        → FitsImage v.program → FitsFrame Wide s.places f → Launches v.program old s f new_one new t → IsTakenFrame v old s f new t
+    spawn_taken f e new t image fits h = subst (λ q. IsTakenFrame v old s q new t) (sym e)
+        (spawn_taken_by (graph_of f) new t image (subst (λ q. FitsFrame Wide s.places q) e fits)
+        (subst (λ q. Launches v.program old s q new_one new t) e h))
 
     -- ---- one that goes on here
 
     module _ (waiting : ℕ) where
       abbrev moved_one : Launch
-      moved_one = record { from = from; function = function; under = record { home = home; number = number }; back = Some (record { place = from; key = waiting }) }
+      moved_one = record {
+        from = from;
+        function = function;
+        under = record { home = home; number = number };
+        back = Some (record { place = from; key = waiting });
+      }
 
-      shift_seated : (g : Graph) (stopped : Bool) → FitsLaunch v.program s (frames.Shift from to waiting home number function g) moved_one → IsSeated (place stopped) (frames.Shift from to waiting home number function g)
-      shift_seated g stopped h = record { here = here; seat = record { home = s.here; slots = h.callee.parameters }; seat_is = (h.callee, h.begins.0, refl); fits = h.fits }
+      shift_seated : (g : Graph) (stopped : Bool) → FitsLaunch v.program s (frames.Shift from to waiting home number function g) moved_one
+          → IsSeated (place stopped) (frames.Shift from to waiting home number function g)
+      shift_seated g stopped h = record {
+        here = here;
+        seat = record { home = s.here; slots = h.callee.parameters };
+        seat_is = (h.callee, h.begins.0, refl);
+        fits = h.fits;
+      }
 
-      shift_misplaced : (g : Graph) (stopped : Bool) (why : Refusal) → MisfitsLaunch v.program s (frames.Shift from to waiting home number function g) moved_one why → IsMisplaced (place stopped) (frames.Shift from to waiting home number function g) why
-      shift_misplaced g stopped why h = record { here = here; seat = record { home = s.here; slots = h.callee.parameters }; seat_is = (h.callee, h.begins.0, refl); misfit = h.misfit }
+      shift_misplaced : (g : Graph) (stopped : Bool) (why : Refusal)
+          → MisfitsLaunch v.program s (frames.Shift from to waiting home number function g) moved_one why
+          → IsMisplaced (place stopped) (frames.Shift from to waiting home number function g) why
+      shift_misplaced g stopped why h = record {
+        here = here;
+        seat = record { home = s.here; slots = h.callee.parameters };
+        seat_is = (h.callee, h.begins.0, refl);
+        misfit = h.misfit;
+      }
 
-      shift_refused_by : (g : Graph) (why : Refusal) (stopped : Bool) → IsLaunchRefused v.program old s (frames.Shift from to waiting home number function g) moved_one why → IsRefusedFrame (place stopped) (frames.Shift from to waiting home number function g) why
+      shift_refused_by : (g : Graph) (why : Refusal) (stopped : Bool)
+          → IsLaunchRefused v.program old s (frames.Shift from to waiting home number function g) moved_one why
+          → IsRefusedFrame (place stopped) (frames.Shift from to waiting home number function g) why
       shift_refused_by g refusal.Function stopped h = (here, (refl, λ seat c. h c.0 (c.1, λ e. absurd cc)))
       shift_refused_by g refusal.Kind stopped h = shift_misplaced g stopped refusal.Kind h
       shift_refused_by g refusal.Home stopped h = shift_misplaced g stopped refusal.Home h
@@ -113,10 +158,14 @@ module _ (v : Certified) (old : Slab StayState) (s : StoreState) where
       shift_refused_by g refusal.Memory stopped h = tt
       shift_refused_by g _ stopped h = absurd h
 
-      pub shift_refused : (f : Frame) → f ≡ frames.Shift from to waiting home number function (graph_of f) → (why : Refusal) → IsLaunchRefused v.program old s f moved_one why → (stopped : Bool) → IsRefusedFrame (place stopped) f why
-      shift_refused f e why h stopped = subst (λ q. IsRefusedFrame (place stopped) q why) (sym e) (shift_refused_by (graph_of f) why stopped (subst (λ q. IsLaunchRefused v.program old s q moved_one why) e h))
+      pub shift_refused : (f : Frame) → f ≡ frames.Shift from to waiting home number function (graph_of f) → (why : Refusal)
+          → IsLaunchRefused v.program old s f moved_one why → (stopped : Bool) → IsRefusedFrame (place stopped) f why
+      shift_refused f e why h stopped = subst (λ q. IsRefusedFrame (place stopped) q why) (sym e)
+          (shift_refused_by (graph_of f) why stopped (subst (λ q. IsLaunchRefused v.program old s q moved_one why) e h))
 
-      shift_taken_by : (g : Graph) (new : Slab StayState) (t : StoreState) → FitsImage v.program → FitsFrame Wide s.places (frames.Shift from to waiting home number function g) → Launches v.program old s (frames.Shift from to waiting home number function g) moved_one new t
+      shift_taken_by : (g : Graph) (new : Slab StayState) (t : StoreState) → FitsImage v.program
+          → FitsFrame Wide s.places (frames.Shift from to waiting home number function g)
+          → Launches v.program old s (frames.Shift from to waiting home number function g) moved_one new t
           → IsTakenFrame v old s (frames.Shift from to waiting home number function g) new t
       shift_taken_by g new t image fits h = record {
         takes = λ stopped. takes_shift v old new s t stopped image from to home number function g here waiting fits h;
@@ -126,8 +175,11 @@ module _ (v : Certified) (old : Slab StayState) (s : StoreState) where
         places = h.settles.counted.places_are;
       }
 
-      pub shift_taken : (f : Frame) → f ≡ frames.Shift from to waiting home number function (graph_of f) → (new : Slab StayState) (t : StoreState) → FitsImage v.program → FitsFrame Wide s.places f → Launches v.program old s f moved_one new t → IsTakenFrame v old s f new t
-      shift_taken f e new t image fits h = subst (λ q. IsTakenFrame v old s q new t) (sym e) (shift_taken_by (graph_of f) new t image (subst (λ q. FitsFrame Wide s.places q) e fits) (subst (λ q. Launches v.program old s q moved_one new t) e h))
+      pub shift_taken : (f : Frame) → f ≡ frames.Shift from to waiting home number function (graph_of f) → (new : Slab StayState) (t : StoreState)
+          → FitsImage v.program → FitsFrame Wide s.places f → Launches v.program old s f moved_one new t → IsTakenFrame v old s f new t
+      shift_taken f e new t image fits h = subst (λ q. IsTakenFrame v old s q new t) (sym e)
+          (shift_taken_by (graph_of f) new t image (subst (λ q. FitsFrame Wide s.places q) e fits)
+          (subst (λ q. Launches v.program old s q moved_one new t) e h))
 
   -- ---- a result that comes back
 
@@ -157,19 +209,44 @@ module _ (v : Certified) (old : Slab StayState) (s : StoreState) where
       slots_are = h.slots_are;
     }
 
-    back_refused_by : (g : Graph) (why : Refusal) (stopped : Bool) → IsBackRefused v.program old s (frames.Back from to waiting g) from waiting why → IsRefusedFrame (place stopped) (frames.Back from to waiting g) why
+    back_refused_by : (g : Graph) (why : Refusal) (stopped : Bool) → IsBackRefused v.program old s (frames.Back from to waiting g) from waiting why
+        → IsRefusedFrame (place stopped) (frames.Back from to waiting g) why
     back_refused_by g refusal.Segment stopped h = (here, (refl, λ seat c. h c.0 (expected_so stopped c.0 c.1)))
-    back_refused_by g refusal.Kind stopped h = record { here = here; seat = record { home = from; slots = h.0 }; seat_is = (h.0, awaited stopped h.0 h.1, refl); misfit = h.2 }
-    back_refused_by g refusal.Home stopped h = record { here = here; seat = record { home = from; slots = h.0 }; seat_is = (h.0, awaited stopped h.0 h.1, refl); misfit = h.2 }
-    back_refused_by g refusal.Ref stopped h = record { here = here; seat = record { home = from; slots = h.0 }; seat_is = (h.0, awaited stopped h.0 h.1, refl); misfit = h.2 }
-    back_refused_by g (refusal.Limit limit) stopped h = (record { here = here; seat = record { home = from; slots = h.0 }; seat_is = (h.0, awaited stopped h.0 h.1, refl); fits = h.2.0 }, (λ shut. shut), h.2.1)
+    back_refused_by g refusal.Kind stopped h = record {
+      here = here;
+      seat = record { home = from; slots = h.0 };
+      seat_is = (h.0, awaited stopped h.0 h.1, refl);
+      misfit = h.2;
+    }
+    back_refused_by g refusal.Home stopped h = record {
+      here = here;
+      seat = record { home = from; slots = h.0 };
+      seat_is = (h.0, awaited stopped h.0 h.1, refl);
+      misfit = h.2;
+    }
+    back_refused_by g refusal.Ref stopped h = record {
+      here = here;
+      seat = record { home = from; slots = h.0 };
+      seat_is = (h.0, awaited stopped h.0 h.1, refl);
+      misfit = h.2;
+    }
+    back_refused_by g (refusal.Limit limit) stopped h = (
+      record
+          { here = here; seat = record { home = from; slots = h.0 }; seat_is = (h.0, awaited stopped h.0 h.1, refl); fits = h.2.0 },
+      (λ shut. shut),
+      h.2.1,
+    )
     back_refused_by g refusal.Memory stopped h = tt
     back_refused_by g _ stopped h = absurd h.2
 
-    pub back_refused_so : (f : Frame) → f ≡ frames.Back from to waiting (graph_of f) → (why : Refusal) → IsBackRefused v.program old s f from waiting why → (stopped : Bool) → IsRefusedFrame (place stopped) f why
-    back_refused_so f e why h stopped = subst (λ q. IsRefusedFrame (place stopped) q why) (sym e) (back_refused_by (graph_of f) why stopped (subst (λ q. IsBackRefused v.program old s q from waiting why) e h))
+    pub back_refused_so : (f : Frame) → f ≡ frames.Back from to waiting (graph_of f) → (why : Refusal)
+        → IsBackRefused v.program old s f from waiting why → (stopped : Bool) → IsRefusedFrame (place stopped) f why
+    back_refused_so f e why h stopped = subst (λ q. IsRefusedFrame (place stopped) q why) (sym e)
+        (back_refused_by (graph_of f) why stopped (subst (λ q. IsBackRefused v.program old s q from waiting why) e h))
 
-    back_taken_by : (g : Graph) (new : Slab StayState) (t : StoreState) → IsChecked v.program → FitsFrame Wide s.places (frames.Back from to waiting g) → ComesBack v.program old s (frames.Back from to waiting g) from waiting new t → IsTakenFrame v old s (frames.Back from to waiting g) new t
+    back_taken_by : (g : Graph) (new : Slab StayState) (t : StoreState) → IsChecked v.program
+        → FitsFrame Wide s.places (frames.Back from to waiting g) → ComesBack v.program old s (frames.Back from to waiting g) from waiting new t
+        → IsTakenFrame v old s (frames.Back from to waiting g) new t
     back_taken_by g new t checks fits h = record {
       takes = λ stopped. takes_back v old new s t stopped checks from to waiting g here fits h;
       is_open = λ stopped shut. shut;
@@ -178,5 +255,8 @@ module _ (v : Certified) (old : Slab StayState) (s : StoreState) where
       places = ap (λ (u : StoreState). u.places) h.store;
     }
 
-    pub back_taken : (f : Frame) → f ≡ frames.Back from to waiting (graph_of f) → (new : Slab StayState) (t : StoreState) → IsChecked v.program → FitsFrame Wide s.places f → ComesBack v.program old s f from waiting new t → IsTakenFrame v old s f new t
-    back_taken f e new t checks fits h = subst (λ q. IsTakenFrame v old s q new t) (sym e) (back_taken_by (graph_of f) new t checks (subst (λ q. FitsFrame Wide s.places q) e fits) (subst (λ q. ComesBack v.program old s q from waiting new t) e h))
+    pub back_taken : (f : Frame) → f ≡ frames.Back from to waiting (graph_of f) → (new : Slab StayState) (t : StoreState) → IsChecked v.program
+        → FitsFrame Wide s.places f → ComesBack v.program old s f from waiting new t → IsTakenFrame v old s f new t
+    back_taken f e new t checks fits h = subst (λ q. IsTakenFrame v old s q new t) (sym e)
+        (back_taken_by (graph_of f) new t checks (subst (λ q. FitsFrame Wide s.places q) e fits)
+        (subst (λ q. ComesBack v.program old s q from waiting new t) e h))

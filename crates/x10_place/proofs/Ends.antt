@@ -20,7 +20,7 @@ use Rattle.x10_model.specs.Places.{Setting, Stay, Message, Works, Ends, with_sta
 use Rattle.x10_model.specs.Moves.{Situation, Does, GivesBack, SendsBack, Returns, resumed, line_of, with_line}
 use Rattle.x10_model.specs.Assignments.{State, Edges, ReturnsWell, GivesResult, like_if, Permits, Reaches, after as after_effect}
 use Rattle.x10_model.proofs.Rules.{leads}
-use Rattle.x10_place.specs.declared.frame.CallFrame.{CallFrame}
+use Rattle.x10_place.specs.declared.call_frame.CallFrame.{CallFrame}
 use Rattle.x10_heap.specs.Heaps.{HeapState}
 use Rattle.x10_heap.specs.Words.{Context, IsWordOf, HoldsHeap}
 use Rattle.x10_place.specs.Frames.{word_at, IsFetchedFor}
@@ -32,7 +32,7 @@ use Rattle.x10_place.proofs.Words.{reads, reads_int, words_written}
 use Rattle.x10_place.proofs.Homes.{homes_written, result_like}
 use Rattle.x10_place.proofs.Framed.{FrameAfter, point_of, onward, in_range, small, count, rule, frame_after}
 use Rattle.x10_place.proofs.Local.{situated}
-use Rattle.x10_place.proofs.Reading.{text_known}
+use Rattle.x10_place.proofs.HeapReads.{text_known}
 use Rattle.x10_place.proofs.Calls.{fits_word}
 
 -- ---- lists
@@ -63,29 +63,39 @@ IsGiven x cells (Some slot) (Some v) word = FitsSlotAt (IsOfKind cells) x.here v
 IsGiven x cells _ _ word = ⊥
 
 -- a caller's call frame after its call
-call_result : (program : Module) (function : Function) (i : Instr) (slot : Slot) (o : Option Slot) → i.op ≡ op.Call → IsThere program function i (form_of i.op).a i.a → result_of (function_at program i.x) ≡ o → o ≡ Some slot → i.a < function.registers
+call_result : (program : Module) (function : Function) (i : Instr) (slot : Slot) (o : Option Slot) → i.op ≡ op.Call
+    → IsThere program function i (form_of i.op).a i.a → result_of (function_at program i.x) ≡ o → o ≡ Some slot → i.a < function.registers
 call_result program function i slot o e there is some =
     let at = subst (λ q. IsThere program function i (form_of q).a i.a) e there in
     let register = subst (λ q. IsResultRegister function (result_for program function i q) i.a) e at in
     subst (λ q. IsResultRegister function q i.a) (is ∙ some) register
 
-module _ (program : Module) (assigned : Assigned program) (x : Context) (cells : Cells) (f : CallFrame) (c : machine.CallFrame) (h : StandsForFrame program assigned x f c) (call : Instr) (fetched : IsFetchedFor program f call) (o : call.op ≡ op.Call) where
+module _ (program : Module) (assigned : Assigned program) (x : Context) (cells : Cells) (f : CallFrame) (c : machine.CallFrame)
+    (h : StandsForFrame program assigned x f c) (call : Instr) (fetched : IsFetchedFor program f call) (o : call.op ≡ op.Call) where
   -- the caller goes on after its call
-  pub goes_after : (slot : Option Slot) (result : Option Value) (word : ℕ) (e : Effect) (top g : CallFrame) (i : Instr) → result_of (function_at program call.x) ≡ slot → GivesResult (point_of program h.function f call) term.Here slot e
-      → Reaches (assigned f.function h.function h.is_function).0 (f.pc + 1, after_effect call.a h.state e) → IsGiven x cells slot result word → word ≡ word_at top.registers.items i.a → GoesOn slot f call top i g → StandsForFrame program assigned x g (resumed c call.a result)
+  pub goes_after : (slot : Option Slot) (result : Option Value) (word : ℕ) (e : Effect) (top g : CallFrame) (i : Instr)
+      → result_of (function_at program call.x) ≡ slot → GivesResult (point_of program h.function f call) term.Here slot e
+      → Reaches (assigned f.function h.function h.is_function).0 (f.pc + 1, after_effect call.a h.state e) → IsGiven x cells slot result word
+      → word ≡ word_at top.registers.items i.a → GoesOn slot f call top i g → StandsForFrame program assigned x g (resumed c call.a result)
   goes_after None None word e top g i is given reached back same goes =
-      frame_after program assigned x f c h call fetched g (next c) (f.pc + 1) h.state f.registers.items f.loops (record { function_is = goes.function_is; pc_is = goes.pc_is; words_are = goes.words_are; loops_are = goes.loops_are })
-      (subst (λ q. Reaches (assigned f.function h.function h.is_function).0 (f.pc + 1, after_effect call.a h.state q)) given.1 reached) refl (ap (λ n. n + 1) h.pc_is) h.words h.homes h.slots h.loops
+      frame_after program assigned x f c h call fetched g (next c) (f.pc + 1) h.state f.registers.items f.loops
+      (record { function_is = goes.function_is; pc_is = goes.pc_is; words_are = goes.words_are; loops_are = goes.loops_are })
+      (subst (λ q. Reaches (assigned f.function h.function h.is_function).0 (f.pc + 1, after_effect call.a h.state q)) given.1 reached) refl
+      (ap (λ n. n + 1) h.pc_is) h.words h.homes h.slots h.loops
   goes_after (Some slot) (Some v) word e top g i is given reached back same goes =
       let there = call_result program h.function call slot (Some slot) o (in_range program assigned x f c h call fetched).a is refl in
       let lt : call.a < length f.registers.items = omega (arith, there, count program assigned x f c h call fetched) in
       let like = like_if slot.home_here term.Here in
       let known = after_effect call.a h.state (Sets slot.kind like) in
-      let typed : HoldRegisters x known (with_entry c.registers call.a (Some v)) (slice_set f.registers.items call.a word) = words_written x h.state c.registers f.registers.items call.a slot.kind like v word lt h.words back.1 in
+      let typed : HoldRegisters x known (with_entry c.registers call.a (Some v)) (slice_set f.registers.items call.a word) =
+      words_written x h.state c.registers f.registers.items call.a slot.kind like v word lt h.words back.1 in
       frame_after program assigned x f c h call fetched g (writes c call.a v) (f.pc + 1) known (slice_set f.registers.items call.a word) f.loops
-      (subst (λ w. FrameAfter f g (f.pc + 1) (slice_set f.registers.items call.a w) f.loops) (sym same) (record { function_is = goes.function_is; pc_is = goes.pc_is; words_are = goes.words_are; loops_are = goes.loops_are }))
-      (subst (λ q. Reaches (assigned f.function h.function h.is_function).0 (f.pc + 1, after_effect call.a h.state q)) given reached) refl (ap (λ n. n + 1) h.pc_is)
-      typed (homes_written x.here h.state.homes c.registers call.a like v h.homes (result_like cells x.here c.registers v slot back.0)) h.slots h.loops
+      (subst (λ w. FrameAfter f g (f.pc + 1) (slice_set f.registers.items call.a w) f.loops) (sym same)
+      (record { function_is = goes.function_is; pc_is = goes.pc_is; words_are = goes.words_are; loops_are = goes.loops_are }))
+      (subst (λ q. Reaches (assigned f.function h.function h.is_function).0 (f.pc + 1, after_effect call.a h.state q)) given reached) refl
+      (ap (λ n. n + 1) h.pc_is)
+      typed (homes_written x.here h.state.homes c.registers call.a like v h.homes (result_like cells x.here c.registers v slot back.0)) h.slots
+      h.loops
   goes_after None (Some v) word e top g i is given reached back same goes = absurd back
   goes_after (Some slot) None word e top g i is given reached back same goes = absurd back
 
@@ -95,13 +105,17 @@ slot_of : (classes : ℕ) (o : Option Slot) (slot : Slot) → o ≡ Some slot �
 slot_of classes None slot e h = absurd cc
 slot_of classes (Some t) slot e h = subst (λ u. FitsSlot classes u) (same_Some t slot e) h
 
-pub result_register : (program : Module) (function : Function) (i : Instr) (slot : Slot) → i.op ≡ op.Ret → IsThere program function i (form_of i.op).a i.a → function.result ≡ Some slot → i.a < function.registers
+pub result_register : (program : Module) (function : Function) (i : Instr) (slot : Slot) → i.op ≡ op.Ret
+    → IsThere program function i (form_of i.op).a i.a → function.result ≡ Some slot → i.a < function.registers
 result_register program function i slot e there is =
     let at = subst (λ q. IsThere program function i (form_of q).a i.a) e there in
     let register = subst (λ q. IsResultRegister function (result_for program function i q) i.a) e at in
     subst (λ q. IsResultRegister function q i.a) is register
 
-module _ (setting : Setting) (here : ℕ) (far : Far) (m : machine.Place) (key : ℕ) (s : Stay) (assigned : Assigned setting.program) (heap : HeapState) (holds : HoldsHeap (context setting here heap far) m.cells) (few : setting.places ≤ 64) (a : StayState) (h : StandsForStay setting.program assigned (context setting here heap far) a s) (i : Instr) (fetched : IsFetchedFor setting.program a.top i) where
+module _ (setting : Setting) (here : ℕ) (far : Far) (m : machine.Place) (key : ℕ) (s : Stay) (assigned : Assigned setting.program) (heap : HeapState)
+    (holds : HoldsHeap (context setting here heap far) m.cells) (few : setting.places ≤ 64) (a : StayState)
+    (h : StandsForStay setting.program assigned (context setting here heap far) a s) (i : Instr)
+    (fetched : IsFetchedFor setting.program a.top i) where
   abbrev x : Context
   x = context setting here heap far
 
@@ -112,16 +126,22 @@ module _ (setting : Setting) (here : ℕ) (far : Far) (m : machine.Place) (key :
   sit = situated setting here m key s function i
 
   -- what the function gives
-  gives_back : (slot : Option Slot) → i.op ≡ op.Ret → function.result ≡ slot → ReturnsWell (point_of setting.program function a.top i) h.top.state slot → (result : Option Value) × GivesBack sit slot result × IsGiven x m.cells slot result (word_at a.top.registers.items i.a)
+  gives_back : (slot : Option Slot) → i.op ≡ op.Ret → function.result ≡ slot
+      → ReturnsWell (point_of setting.program function a.top i) h.top.state slot
+      → (result : Option Value) × GivesBack sit slot result × IsGiven x m.cells slot result (word_at a.top.registers.items i.a)
   gives_back None o is well = (None, tt, tt)
   gives_back (Some slot) o is well =
       let fit = small setting.program assigned x a.top s.top h.top i fetched in
       let lt = result_register setting.program function i slot o (in_range setting.program assigned x a.top s.top h.top i fetched).a is in
-      let v = fits_word (length setting.program.classes) x m.cells h.top.state s.top.registers a.top.registers.items i.a slot term.Here here (record { is_term = tt; place_is = refl }) holds (omega (arith, lt, fit.registers.1)) (slot_of (length setting.program.classes) function.result slot is fit.result) h.top.words h.top.homes well in
+      let v = fits_word (length setting.program.classes) x m.cells h.top.state s.top.registers a.top.registers.items i.a slot term.Here here
+      (record { is_term = tt; place_is = refl }) holds (omega (arith, lt, fit.registers.1))
+      (slot_of (length setting.program.classes) function.result slot is fit.result) h.top.words h.top.homes well in
       (Some v.0, (v.1, v.2), (v.2, v.3))
 
   -- the last function of an activity ends
-  ends_stay : (result : Option Value) (back : Option Message) (cs : List machine.CallFrame) → s.callers ≡ cs → StandForCallers setting.program assigned x a.callers cs → a.callers ≡ [] → a.finishes ≡ [] → GivesBack sit function.result result → SendsBack sit result a.back back
+  ends_stay : (result : Option Value) (back : Option Message) (cs : List machine.CallFrame) → s.callers ≡ cs
+      → StandForCallers setting.program assigned x a.callers cs → a.callers ≡ [] → a.finishes ≡ [] → GivesBack sit function.result result
+      → SendsBack sit result a.back back
       → Does op.Ret sit (with_stay m key None) (Ends s.inherited back)
   ends_stay result back [] is callers none closed given sends = (
     result,
@@ -137,34 +157,48 @@ module _ (setting : Setting) (here : ℕ) (far : Far) (m : machine.Place) (key :
     pub given : IsGiven x m.cells function.result result (word_at a.top.registers.items i.a)
     pub does : (back : Option Message) → SendsBack sit result a.back back → Does op.Ret sit (with_stay m key None) (Ends s.inherited back)
 
-  pub ret_ends : (out : Edges) → i.op ≡ op.Ret → Permits op.Ret (point_of setting.program function a.top i) h.top.state out → a.callers ≡ [] → a.finishes ≡ [] → Ending
+  pub ret_ends : (out : Edges) → i.op ≡ op.Ret → Permits op.Ret (point_of setting.program function a.top i) h.top.state out → a.callers ≡ []
+      → a.finishes ≡ [] → Ending
   ret_ends out o permits none closed =
       let given = gives_back function.result o refl permits.1.settles.0 in
       record { result = given.0; given = given.2; does = λ back sends. ends_stay given.0 back s.callers refl h.callers none closed given.1 sends }
 
   -- a called function ends
-  resumes_stay : (b : StayState) (placed : IsPlaced setting.program b) (r : Resumes setting.program a i b) (result : Option Value) (cs : List machine.CallFrame) → s.callers ≡ cs → StandForCallers setting.program assigned x a.callers cs → GivesBack sit function.result result → IsGiven x m.cells function.result result (word_at a.top.registers.items i.a)
+  resumes_stay : (b : StayState) (placed : IsPlaced setting.program b) (r : Resumes setting.program a i b) (result : Option Value)
+      (cs : List machine.CallFrame) → s.callers ≡ cs → StandForCallers setting.program assigned x a.callers cs → GivesBack sit function.result result
+      → IsGiven x m.cells function.result result (word_at a.top.registers.items i.a)
       → (t : Stay) × Does op.Ret sit (with_stay m key (Some t)) Works × StandsForStay setting.program assigned x b t
   resumes_stay b placed r result [] is callers given word = absurd (not_empty b.callers r.caller (sym r.callers ∙ callers))
   resumes_stay b placed r result (c ∷ cs) is callers given word =
       let same = last_same b.callers callers.0 r.caller callers.1 (sym r.callers ∙ callers.2) in
-      let stands : StandsForFrame setting.program assigned x r.caller c = subst (λ f. StandsForFrame setting.program assigned x f c) (sym same.1) callers.3 in
+      let stands : StandsForFrame setting.program assigned x r.caller c =
+      subst (λ f. StandsForFrame setting.program assigned x f c) (sym same.1) callers.3 in
       let at = rule setting.program assigned x r.caller c stands r.back.call r.back.fetched in
       let call = subst (λ q. Permits q (point_of setting.program stands.function r.caller r.back.call) stands.state at.0) r.back.op_is at.1 in
-      let callee : function_at setting.program r.back.call.x ≡ Some function = ap (λ n. function_at setting.program n) r.back.callee_is ∙ h.top.is_function in
+      let callee : function_at setting.program r.back.call.x ≡ Some function =
+      ap (λ n. function_at setting.program n) r.back.callee_is ∙ h.top.is_function in
       let asked = call.1.settles in
       let same-callee : asked.0 ≡ function = same_Some asked.0 function (sym asked.1.there ∙ callee) in
       let t = after_effect r.back.call.a stands.state call.0 in
-      let gives : GivesResult (point_of setting.program stands.function r.caller r.back.call) term.Here function.result call.0 = subst (λ (g : Function). GivesResult (point_of setting.program stands.function r.caller r.back.call) term.Here g.result call.0) same-callee asked.2 in
+      let gives : GivesResult (point_of setting.program stands.function r.caller r.back.call) term.Here function.result call.0 =
+      subst (λ (g : Function). GivesResult (point_of setting.program stands.function r.caller r.back.call) term.Here g.result call.0) same-callee
+      asked.2 in
       let reached = at.2 (r.caller.pc + 1, t) (subst (λ (o : Edges). IsIn (r.caller.pc + 1, t) o) (sym call.2) (0, refl)) in
       let goes = subst (λ o. GoesOn o r.caller r.back.call a.top i b.top) (ap result_of h.top.is_function) r.back.goes in
       let call-is : instr_at setting.program c.function c.pc ≡ Some r.back.call =
-      ap (λ n. instr_at setting.program n c.pc) stands.function_is ∙ ap (λ n. instr_at setting.program r.caller.function n) stands.pc_is ∙ subst (λ o. instr_in o r.caller.pc ≡ Some r.back.call) (sym r.back.fetched.is_function) r.back.fetched.is_instr in (
+      ap (λ n. instr_at setting.program n c.pc) stands.function_is ∙ ap (λ n. instr_at setting.program r.caller.function n) stands.pc_is
+      ∙ subst (λ o. instr_in o r.caller.pc ≡ Some r.back.call) (sym r.back.fetched.is_function) r.back.fetched.is_instr in (
         record s { top = resumed c r.back.call.a result; callers = cs },
-        (result, given, subst (λ ks. Returns sit ks result (with_stay m key (Some (record s { top = resumed c r.back.call.a result; callers = cs }))) Works) (sym is) (r.back.call, call-is, r.back.op_is, refl, refl)),
+        (
+          result,
+          given,
+          subst (λ ks. Returns sit ks result (with_stay m key (Some (record s { top = resumed c r.back.call.a result; callers = cs })))
+              Works) (sym is) (r.back.call, call-is, r.back.op_is, refl, refl),
+        ),
         record {
           placed = placed;
-          top = goes_after setting.program assigned x m.cells r.caller c stands r.back.call r.back.fetched r.back.op_is function.result result (word_at a.top.registers.items i.a) call.0 a.top b.top i (ap result_of callee) gives reached word refl goes;
+          top = goes_after setting.program assigned x m.cells r.caller c stands r.back.call r.back.fetched r.back.op_is function.result result
+              (word_at a.top.registers.items i.a) call.0 a.top b.top i (ap result_of callee) gives reached word refl goes;
           callers = subst (λ fs. StandForCallers setting.program assigned x fs cs) (sym same.0) callers.4;
           finishes = h.finishes ∙ ap (λ (y : StayState). y.finishes) (sym r.rest);
           inherited = h.inherited ∙ ap (λ (y : StayState). y.inherited) (sym r.rest);
@@ -175,17 +209,23 @@ module _ (setting : Setting) (here : ℕ) (far : Far) (m : machine.Place) (key :
         },
       )
 
-  pub ret_resumes : (b : StayState) (out : Edges) → IsPlaced setting.program b → i.op ≡ op.Ret → Permits op.Ret (point_of setting.program function a.top i) h.top.state out → Resumes setting.program a i b → (t : Stay) × Does op.Ret sit (with_stay m key (Some t)) Works × StandsForStay setting.program assigned x b t
-  ret_resumes b out placed o permits r = let back = gives_back function.result o refl permits.1.settles.0 in resumes_stay b placed r back.0 s.callers refl h.callers back.1 back.2
+  pub ret_resumes : (b : StayState) (out : Edges) → IsPlaced setting.program b → i.op ≡ op.Ret
+      → Permits op.Ret (point_of setting.program function a.top i) h.top.state out → Resumes setting.program a i b
+      → (t : Stay) × Does op.Ret sit (with_stay m key (Some t)) Works × StandsForStay setting.program assigned x b t
+  ret_resumes b out placed o permits r = let back = gives_back function.result o refl permits.1.settles.0 in
+      resumes_stay b placed r back.0 s.callers refl h.callers back.1 back.2
 
   -- ---- the next instruction
 
-  pub next_stands : (b : StayState) (out : Edges) → out ≡ onward (point_of setting.program function a.top i) h.top.state → ((edge : ℕ × State) → IsIn edge out → Reaches (assigned a.top.function function h.top.is_function).0 edge) → GoesNext a.top b.top
+  pub next_stands : (b : StayState) (out : Edges) → out ≡ onward (point_of setting.program function a.top i) h.top.state
+      → ((edge : ℕ × State) → IsIn edge out → Reaches (assigned a.top.function function h.top.is_function).0 edge) → GoesNext a.top b.top
       → StandsForFrame setting.program assigned x b.top (next s.top)
   next_stands b out is edges goes =
-      frame_after setting.program assigned x a.top s.top h.top i fetched b.top (next s.top) (a.top.pc + 1) h.top.state a.top.registers.items a.top.loops
+      frame_after setting.program assigned x a.top s.top h.top i fetched b.top (next s.top)
+      (a.top.pc + 1) h.top.state a.top.registers.items a.top.loops
       (record { function_is = goes.function_is; pc_is = goes.pc_is; words_are = goes.words_are; loops_are = goes.loops_are })
-      (edges (a.top.pc + 1, h.top.state) (subst (λ (o : Edges). IsIn (a.top.pc + 1, h.top.state) o) (sym is) (0, refl))) refl (ap (λ n. n + 1) h.top.pc_is) h.top.words h.top.homes h.top.slots h.top.loops
+      (edges (a.top.pc + 1, h.top.state) (subst (λ (o : Edges). IsIn (a.top.pc + 1, h.top.state) o) (sym is) (0, refl))) refl
+      (ap (λ n. n + 1) h.top.pc_is) h.top.words h.top.homes h.top.slots h.top.loops
 
   -- ---- output
 
@@ -198,12 +238,15 @@ module _ (setting : Setting) (here : ℕ) (far : Far) (m : machine.Place) (key :
       let known = number function h.top.is_function (assigned a.top.function function h.top.is_function) h.top.state h.top.is_state in
       (Int z, reads_int x h.top.state s.top.registers a.top.registers.items i.a h.top.words known ∙ ap (λ n. Some (Int n)) (sym is), refl)
   printed (line.Text t) (text, is) =
-      let v = reads x h.top.state s.top.registers a.top.registers.items i.a kind.Text h.top.words (text_known setting.program assigned x refl m.cells holds few a.top s.top h.top i fetched text) in
+      let v = reads x h.top.state s.top.registers a.top.registers.items i.a kind.Text h.top.words
+      (text_known setting.program assigned x refl m.cells holds few a.top s.top h.top i fetched text) in
       (Text (string_bytes t), v.1 ∙ ap Some (v.2.2 ∙ ap Text (same_Some v.2.0 (string_bytes t) (sym v.2.1 ∙ is))), refl)
 
-  pub print_moves : (b : StayState) (out : Edges) (l : Line) → IsPrinted setting.program heap a.top i.a l → Permits op.Print (point_of setting.program function a.top i) h.top.state out
+  pub print_moves : (b : StayState) (out : Edges) (l : Line) → IsPrinted setting.program heap a.top i.a l
+      → Permits op.Print (point_of setting.program function a.top i) h.top.state out
       → ((edge : ℕ × State) → IsIn edge out → Reaches (assigned a.top.function function h.top.is_function).0 edge) → GoesNext a.top b.top
-      → Does op.Print sit (with_stay (with_line m (line_as l)) key (Some (record s { top = next s.top }))) Works × StandsForFrame setting.program assigned x b.top (next s.top)
+      → Does op.Print sit (with_stay (with_line m (line_as l)) key (Some (record s { top = next s.top }))) Works
+      × StandsForFrame setting.program assigned x b.top (next s.top)
   print_moves b out l is permits edges goes =
       let v = printed l is in (
         (v.0, line_as l, v.1, v.2, (refl, refl)),

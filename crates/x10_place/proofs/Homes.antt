@@ -18,7 +18,8 @@ use Rattle.x10_place.specs.Homes.{place_in, place_at, AreHomes, IsLike}
 -- ---- what is known changes
 
 -- a state that knows less
-pub homes_weaken : (here : ℕ) (s t : State) (registers : ℕ → Option Value) → IsBelow s t → AreHomes here s.homes registers → AreHomes here t.homes registers
+pub homes_weaken : (here : ℕ) (s t : State) (registers : ℕ → Option Value) → IsBelow s t → AreHomes here s.homes registers
+    → AreHomes here t.homes registers
 homes_weaken here s t registers below homes v w v_term w_term e = homes v w v_term w_term (below.homes v w v_term w_term e)
 
 -- a term stands for one place
@@ -26,7 +27,8 @@ pub homes_alone : (here : ℕ) (registers : ℕ → Option Value) → AreHomes h
 homes_alone here registers v w v_term w_term e = ap (place_at here registers) (same_term-is v w e)
 
 joined_place : (here : ℕ) (e : Equations) (registers : ℕ → Option Value) (t u v w : Term) → IsTerm t → IsTerm u → IsTerm v → IsTerm w
-    → AreHomes here e registers → place_at here registers t ≡ place_at here registers u → Ways e t u v w → place_at here registers v ≡ place_at here registers w
+    → AreHomes here e registers → place_at here registers t ≡ place_at here registers u → Ways e t u v w
+    → place_at here registers v ≡ place_at here registers w
 joined_place here e registers t u v w t_term u_term v_term w_term homes same (inl direct) = homes v w v_term w_term direct
 joined_place here e registers t u v w t_term u_term v_term w_term homes same (inr (inl forth)) =
     homes v t v_term t_term forth.0 ∙ same ∙ homes u w u_term w_term forth.1
@@ -42,7 +44,8 @@ homes_joined here e registers t u homes t_term u_term same v w v_term w_term kno
 -- ---- writing a register
 
 -- after the write, a term stands for the place for which what it is read as stood before
-read_chosen : (here : ℕ) (registers : ℕ → Option Value) (t u : Term) (x : Value) (o : Option Value) (b : Bool) → place_at here registers t ≡ place_of x
+read_chosen : (here : ℕ) (registers : ℕ → Option Value) (t u : Term) (x : Value) (o : Option Value) (b : Bool)
+    → place_at here registers t ≡ place_of x
     → place_in o ≡ place_at here registers u → place_in (if b then Some x else o) ≡ place_at here registers (if b then t else u)
 read_chosen here registers t u x o true like same = sym like
 read_chosen here registers t u x o false like same = same
@@ -64,7 +67,8 @@ other_place here registers a x term.Here other = refl
 other_place here registers a x (term.Place p) other = refl
 other_place here registers a x (term.Reg r) other = other_chosen x (registers r) (r == a) other
 
-alone_place : (here : ℕ) (e : Equations) (registers : ℕ → Option Value) (a : ℕ) (x : Value) (v w : Term) → IsTerm v → IsTerm w → AreHomes here e registers
+alone_place : (here : ℕ) (e : Equations) (registers : ℕ → Option Value) (a : ℕ) (x : Value) (v w : Term) → IsTerm v → IsTerm w
+    → AreHomes here e registers
     → AloneWays e a v w → place_at here (with_entry registers a (Some x)) v ≡ place_at here (with_entry registers a (Some x)) w
 alone_place here e registers a x v w v_term w_term homes (inl same) = ap (place_at here (with_entry registers a (Some x))) (same_term-is v w same)
 alone_place here e registers a x v w v_term w_term homes (inr known) =
@@ -88,7 +92,8 @@ home_place at (Ref home id class) home_is = ap Some home_is
 home_place at _ home_is = absurd home_is
 
 -- a value that fits a slot at a term's place is like the term, where the slot asks for a home
-pub slot_like : (cells : Cells) (here at : ℕ) (registers : ℕ → Option Value) (t : Term) (v : Value) (slot : Slot) → IsTerm t → place_at here registers t ≡ Some at
+pub slot_like : (cells : Cells) (here at : ℕ) (registers : ℕ → Option Value) (t : Term) (v : Value) (slot : Slot) → IsTerm t
+    → place_at here registers t ≡ Some at
     → FitsSlotAt (IsOfKind cells) at v slot → IsLike here registers (like_if slot.home_here t) v
 slot_like cells here at registers t v slot t_term t_place fits = chosen slot.home_here fits.home
   where
@@ -133,7 +138,8 @@ homes_from cells here registers (v ∷ values) (slot ∷ slots) r few fit held =
     next i = let same : r + 1 + i ≡ r + suc i = omega arith in ap registers same ∙ held (suc i)
 
 -- the equations at the entry of a function are true of its arguments
-pub homes_entry : (cells : Cells) (here : ℕ) (f : Function) (arguments : List Value) → length f.parameters ≤ 64 → FitSlots (IsOfKind cells) here arguments f.parameters
+pub homes_entry : (cells : Cells) (here : ℕ) (f : Function) (arguments : List Value) → length f.parameters ≤ 64
+    → FitSlots (IsOfKind cells) here arguments f.parameters
     → AreHomes here (entry_state f).homes (slice_get arguments)
 homes_entry cells here f arguments few fit =
     homes_from cells here (slice_get arguments) arguments f.parameters 0 (omega arith) fit

@@ -39,15 +39,23 @@ not_zero : (y : ℤ) (b : Bool) → is_zero y ≡ b → (y ≡ pos 0 → ⊥) �
 not_zero y false e ne = e
 not_zero y true e ne = absurd (ne ((Decides-int_eq y (pos 0)).0 e))
 
-pub quotient_is : (x y : ℤ) (z : ℤ) → FitsSigned w64 x → FitsSigned w64 y → FitsSigned w64 z → (cast_unsigned w64 y ≡ 0 → ⊥) → z ≡ int_wrapping_div w64 (cast_signed w64 (cast_unsigned w64 x)) (cast_signed w64 (cast_unsigned w64 y)) → Some (Int (cast_signed w64 (cast_unsigned w64 z))) ≡ quotient x y
+pub quotient_is : (x y : ℤ) (z : ℤ) → FitsSigned w64 x → FitsSigned w64 y → FitsSigned w64 z → (cast_unsigned w64 y ≡ 0 → ⊥)
+    → z ≡ int_wrapping_div w64 (cast_signed w64 (cast_unsigned w64 x)) (cast_signed w64 (cast_unsigned w64 y))
+    → Some (Int (cast_signed w64 (cast_unsigned w64 z))) ≡ quotient x y
 quotient_is x y z fx fy fz ne e =
-    let z-is : cast_signed w64 (cast_unsigned w64 z) ≡ int_wrap w64 (int_div x y) = to_z-of_z w64 z fz ∙ e ∙ ap₂ (λ m n. int_wrapping_div w64 m n) (to_z-of_z w64 x fx) (to_z-of_z w64 y fy) ∙ div_wraps x y fx fy in
-    ap (λ v. Some (Int v)) z-is ∙ ap (λ b. if b then None else Some (wrapped (int_div x y))) (sym (not_zero y (is_zero y) refl (λ same. ne (ap (cast_unsigned w64) same))))
+    let z-is : cast_signed w64 (cast_unsigned w64 z) ≡ int_wrap w64 (int_div x y) =
+    to_z-of_z w64 z fz ∙ e ∙ ap₂ (λ m n. int_wrapping_div w64 m n) (to_z-of_z w64 x fx) (to_z-of_z w64 y fy) ∙ div_wraps x y fx fy in
+    ap (λ v. Some (Int v)) z-is ∙ ap (λ b. if b then None else Some (wrapped (int_div x y)))
+    (sym (not_zero y (is_zero y) refl (λ same. ne (ap (cast_unsigned w64) same))))
 
-pub sum_is : (program : Module) (heap : HeapState) (words : List ℕ) (i : Instr) (n : Number) (x y : ℤ) → FitsSigned w64 x → FitsSigned w64 y → n ≡ number.Sum → x ≡ int_at words i.b → y ≡ int_at words i.c → Some (Int (int_wrapping_add w64 x y)) ≡ given n program heap words i
+pub sum_is : (program : Module) (heap : HeapState) (words : List ℕ) (i : Instr) (n : Number) (x y : ℤ) → FitsSigned w64 x → FitsSigned w64 y
+    → n ≡ number.Sum → x ≡ int_at words i.b → y ≡ int_at words i.c → Some (Int (int_wrapping_add w64 x y)) ≡ given n program heap words i
 sum_is program heap words i n x y fx fy e ex ey =
-    subst (λ o. Some (Int (int_wrapping_add w64 x y)) ≡ given o program heap words i) (sym e) (ap (λ z. Some (Int z)) (wrapping_add_is w64 x y fx fy ∙ ap₂ (λ m n. int_wrap w64 (m +ℤ n)) ex ey))
+    subst (λ o. Some (Int (int_wrapping_add w64 x y)) ≡ given o program heap words i) (sym e)
+    (ap (λ z. Some (Int z)) (wrapping_add_is w64 x y fx fy ∙ ap₂ (λ m n. int_wrap w64 (m +ℤ n)) ex ey))
 
-pub difference_is : (program : Module) (heap : HeapState) (words : List ℕ) (i : Instr) (n : Number) (x y : ℤ) → FitsSigned w64 x → FitsSigned w64 y → n ≡ number.Difference → x ≡ int_at words i.b → y ≡ int_at words i.c → Some (Int (int_wrapping_sub w64 x y)) ≡ given n program heap words i
+pub difference_is : (program : Module) (heap : HeapState) (words : List ℕ) (i : Instr) (n : Number) (x y : ℤ) → FitsSigned w64 x → FitsSigned w64 y
+    → n ≡ number.Difference → x ≡ int_at words i.b → y ≡ int_at words i.c → Some (Int (int_wrapping_sub w64 x y)) ≡ given n program heap words i
 difference_is program heap words i n x y fx fy e ex ey =
-    subst (λ o. Some (Int (int_wrapping_sub w64 x y)) ≡ given o program heap words i) (sym e) (ap (λ z. Some (Int z)) (wrapping_sub_is w64 x y fx fy ∙ ap₂ (λ m n. int_wrap w64 (m -ℤ n)) ex ey))
+    subst (λ o. Some (Int (int_wrapping_sub w64 x y)) ≡ given o program heap words i) (sym e)
+    (ap (λ z. Some (Int z)) (wrapping_sub_is w64 x y fx fy ∙ ap₂ (λ m n. int_wrap w64 (m -ℤ n)) ex ey))

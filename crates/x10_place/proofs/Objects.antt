@@ -8,7 +8,8 @@ use Rattle.x10_heap.specs.Heaps.{ObjectState, HasField}
 use Rattle.x10_heap.specs.Words.{Context, IsWordOf, IsObjectWord, AreWordsOf, IsObjectCell, HoldsObject, HoldsHeap}
 
 -- the word and the value of a field
-pub word_in : (x : Context) (ks : List Kind) (ws : List ℕ) (vs : List Value) (n : ℕ) (k : Kind) → AreWordsOf x ks ws vs → slice_get ks n ≡ Some k → (w : ℕ) × (v : Value) × (slice_get ws n ≡ Some w) × (slice_get vs n ≡ Some v) × IsWordOf x k w v
+pub word_in : (x : Context) (ks : List Kind) (ws : List ℕ) (vs : List Value) (n : ℕ) (k : Kind) → AreWordsOf x ks ws vs → slice_get ks n ≡ Some k
+    → (w : ℕ) × (v : Value) × (slice_get ws n ≡ Some w) × (slice_get vs n ≡ Some v) × IsWordOf x k w v
 word_in x [] ws vs n k h e = absurd cc
 word_in x (j ∷ ks) [] vs n k h e = absurd h
 word_in x (j ∷ ks) (w ∷ ws) [] n k h e = absurd h
@@ -16,7 +17,8 @@ word_in x (j ∷ ks) (w ∷ ws) (v ∷ vs) zero k h e = (w, v, refl, refl, subst
 word_in x (j ∷ ks) (w ∷ ws) (v ∷ vs) (suc n) k h e = word_in x ks ws vs n k h.1 e
 
 -- one field is written, with its value
-pub words_set : (x : Context) (ks : List Kind) (ws : List ℕ) (vs : List Value) (n : ℕ) (k : Kind) (w : ℕ) (v : Value) → AreWordsOf x ks ws vs → slice_get ks n ≡ Some k → IsWordOf x k w v → AreWordsOf x ks (slice_set ws n w) (slice_set vs n v)
+pub words_set : (x : Context) (ks : List Kind) (ws : List ℕ) (vs : List Value) (n : ℕ) (k : Kind) (w : ℕ) (v : Value) → AreWordsOf x ks ws vs
+    → slice_get ks n ≡ Some k → IsWordOf x k w v → AreWordsOf x ks (slice_set ws n w) (slice_set vs n v)
 words_set x [] ws vs n k w v h e new = absurd cc
 words_set x (j ∷ ks) [] vs n k w v h e new = absurd h
 words_set x (j ∷ ks) (a ∷ ws) [] n k w v h e new = absurd h
@@ -36,9 +38,11 @@ pub record ObjectAt (x : Context) (cells : Cells) (class : ℕ) (kinds : List Ki
   pub cell_is : cells reference ≡ Some (Fields class values)
   pub value_is : v ≡ Object reference
 
-pub object_at : (x : Context) (cells : Cells) (class : ℕ) (kinds : List Kind) (word : ℕ) (v : Value) → HoldsHeap x cells → IsObjectWord x.heap class word v → slice_get x.classes class ≡ Some kinds → ObjectAt x cells class kinds word v
+pub object_at : (x : Context) (cells : Cells) (class : ℕ) (kinds : List Kind) (word : ℕ) (v : Value) → HoldsHeap x cells
+    → IsObjectWord x.heap class word v → slice_get x.classes class ≡ Some kinds → ObjectAt x cells class kinds word v
 object_at x cells class kinds word v holds h known =
-    let cell : IsObjectCell x h.object (cells (2 * h.number)) = subst (λ o. HoldsObject x o (cells (2 * h.number))) h.is_there (holds.objects h.number) in
+    let cell : IsObjectCell x h.object (cells (2 * h.number)) =
+    subst (λ o. HoldsObject x o (cells (2 * h.number))) h.is_there (holds.objects h.number) in
     let number : h.number ≡ word - 1 = omega (arith, h.word_is) in
     let same : cell.kinds ≡ kinds = same_Some cell.kinds kinds (sym cell.kinds_are ∙ ap (λ c. slice_get x.classes c) h.class_is ∙ known) in
     record {
@@ -55,7 +59,8 @@ object_at x cells class kinds word v holds h known =
     }
 
 -- the object has the field
-pub field_there : (x : Context) (cells : Cells) (class : ℕ) (kinds : List Kind) (word : ℕ) (v : Value) (field : ℕ) (k : Kind) → ObjectAt x cells class kinds word v → slice_get kinds field ≡ Some k → HasField x.heap (word - 1) field
+pub field_there : (x : Context) (cells : Cells) (class : ℕ) (kinds : List Kind) (word : ℕ) (v : Value) (field : ℕ) (k : Kind)
+    → ObjectAt x cells class kinds word v → slice_get kinds field ≡ Some k → HasField x.heap (word - 1) field
 field_there x cells class kinds word v field k o known =
     let w = word_in x kinds o.object.fields o.values field k o.words known in
     record { it = o.object; is_there = o.is_there; has_it = slice_get_within o.object.fields field w.0 w.2 }

@@ -27,12 +27,13 @@ use Rattle.x10_place.specs.StandsFor.{IsWithinPlaces, Far, PlaceState, place_of,
 use Rattle.x10_place.specs.Opening.{IsMain, HoldsOnly, opening_place, IsNewStore, Opens}
 use Rattle.x10_place.proofs.Homes.{homes_weaken, homes_entry}
 use Rattle.x10_place.proofs.Calls.{no_turns}
-use Rattle.x10_place.proofs.Booking.{without, booked_first}
-use Rattle.x10_place.proofs.Placing.{open_first, region_first}
+use Rattle.x10_place.proofs.BooksOfFinishes.{without, booked_first}
+use Rattle.x10_place.proofs.StandingStays.{open_first, region_first}
 
 -- ---- main
 
-entry_words : (x : Context) (f : Function) (known : State) (registers : ℕ → Option Value) (words : List ℕ) → length f.parameters ≤ 0 → IsBelow (entry_state f) known → HoldRegisters x known registers words
+entry_words : (x : Context) (f : Function) (known : State) (registers : ℕ → Option Value) (words : List ℕ) → length f.parameters ≤ 0
+    → IsBelow (entry_state f) known → HoldRegisters x known registers words
 entry_words x f known registers words none below r kind e =
     let h = below.kinds r kind e in
     absurd (no_parameter f.parameters r h.0 none h.1)
@@ -56,7 +57,8 @@ main_placed program a fits main =
     }
 
 -- main's words stand for main's stay
-main_stands : (program : Module) (assigned : Assigned program) (x : Context) (cells : Cells) (a : StayState) → FitsImage program → IsMain program a → x.here ≡ 0 → 0 < x.places → StandsForStay program assigned x a (new_stay program.entry [] root None)
+main_stands : (program : Module) (assigned : Assigned program) (x : Context) (cells : Cells) (a : StayState) → FitsImage program → IsMain program a
+    → x.here ≡ 0 → 0 < x.places → StandsForStay program assigned x a (new_stay program.entry [] root None)
 main_stands program assigned x cells a fits main first within =
     let start = (assigned a.top.function main.function main.is_function).1.consistent.entry in
     record {
@@ -70,7 +72,8 @@ main_stands program assigned x cells a fits main first within =
         is_state = subst (λ n. (assigned a.top.function main.function main.is_function).0 n ≡ Some start.0) (sym main.pc) start.1;
         words = entry_words x main.function start.0 (slice_get []) a.top.registers.items main.is_entry.parameters start.2;
         homes = homes_weaken x.here (entry_state main.function) start.0 (slice_get []) start.2
-            (homes_entry cells x.here main.function [] (omega (arith, main.is_entry.parameters)) (none_fit (IsOfKind cells) x.here main.function.parameters main.is_entry.parameters));
+            (homes_entry cells x.here main.function [] (omega (arith, main.is_entry.parameters))
+            (none_fit (IsOfKind cells) x.here main.function.parameters main.is_entry.parameters));
         slots = ap length main.loops;
         loops = λ slot lt. sym (ap (λ ls. slice_index ls slot) main.loops ∙ no_turns 8 slot);
       };
@@ -80,7 +83,10 @@ main_stands program assigned x cells a fits main first within =
       away = sym main.away;
       inside = sym main.inside;
       back = sym main.back;
-      run = record { inherited = subst (λ (f : Finish). (f.home < x.places) × (f.number < 2 ^ 32)) (sym main.inherited) (within, omega arith); back = λ origin e. absurd (let none = main.back in cc) };
+      run = record {
+        inherited = subst (λ (f : Finish). (f.home < x.places) × (f.number < 2 ^ 32)) (sym main.inherited) (within, omega arith);
+        back = λ origin e. absurd (let none = main.back in cc);
+      };
     }
 
 -- ---- places
@@ -119,7 +125,8 @@ nothing_lives id f totals ne e = ap (λ (t : Totals). t.live) e ∙ by (same_fin
 
 module _ (far : Far) (p : PlaceState) where
   -- a place with main alone stands for the first place of the machine
-  pub first_stands : (key : ℕ) (a : StayState) → key < 2 ^ 32 → p.id ≡ 0 → IsFresh p → IsMain p.program a → HoldsOnly p.stays key a → StandsFor far p (first_place (setting_of p) key)
+  pub first_stands : (key : ℕ) (a : StayState) → key < 2 ^ 32 → p.id ≡ 0 → IsFresh p → IsMain p.program a → HoldsOnly p.stays key a
+      → StandsFor far p (first_place (setting_of p) key)
   first_stands key a few zero_is fresh main only = record {
     assigned = fresh.assigned;
     keys = λ k le. only.others k (λ same. absurd (omega (arith, few, le, same)));
@@ -131,8 +138,10 @@ module _ (far : Far) (p : PlaceState) where
       | inl same ↦ (
         first,
         subst (λ q. with_entry (λ (n : ℕ). None) key (Some first) q ≡ Some first) (sym same) (at_key (λ (n : ℕ). None) key (Some first)),
-        subst (λ x. StandsForStay p.program fresh.assigned (context_of far p) x first) (same_Some a b (sym (subst (λ q. get p.stays q ≡ Some a) (sym same) only.here) ∙ e))
-            (main_stands p.program fresh.assigned (context_of far p) (λ r. None) a fresh.fits main zero_is (let lt = fresh.site.within in omega (arith, lt))),
+        subst (λ x. StandsForStay p.program fresh.assigned (context_of far p) x first)
+            (same_Some a b (sym (subst (λ q. get p.stays q ≡ Some a) (sym same) only.here) ∙ e))
+            (main_stands p.program fresh.assigned (context_of far p) (λ r. None) a fresh.fits main zero_is
+            (let lt = fresh.site.within in omega (arith, lt))),
       )
       | inr ne ↦ absurd (none_some (get p.stays k) b (only.others k ne) e)
     ];
@@ -141,8 +150,11 @@ module _ (far : Far) (p : PlaceState) where
     exports = empty_exports p.heap fresh.store.heap;
     opened = sym (fresh.store.opened ∙ ap first_number zero_is);
     lines = sym (ap (λ ls. map line_as ls) fresh.store.lines);
-    tallied = begun_tallied (λ k. None) root key first (λ f. nothing) (totals_in (store_of p)) (none_tallied (λ f. nothing) (λ f. refl)) refl refl (λ f. main_lives p.id f (totals_in (store_of p) f) zero_is (fresh.store.totals f));
-    booked = without p.id p.opened (λ k. None) (books_in (store_of p)) (booked_first p.id p.opened (books_in (store_of p)) fresh.store.opened fresh.store.unopened fresh.store.root) key (Some first) (λ s e. absurd cc) (λ t e. ap (λ (s : Stay). s.finishes) (sym (same_Some first t e)));
+    tallied = begun_tallied (λ k. None) root key first (λ f. nothing) (totals_in (store_of p)) (none_tallied (λ f. nothing) (λ f. refl)) refl refl
+        (λ f. main_lives p.id f (totals_in (store_of p) f) zero_is (fresh.store.totals f));
+    booked = without p.id p.opened (λ k. None) (books_in (store_of p))
+        (booked_first p.id p.opened (books_in (store_of p)) fresh.store.opened fresh.store.unopened fresh.store.root) key (Some first)
+        (λ s e. absurd cc) (λ t e. ap (λ (s : Stay). s.finishes) (sym (same_Some first t e)));
   }
     where
       first : Stay
@@ -170,7 +182,8 @@ not_zero : (n : ℕ) → (n ≡ 0 → ⊥) → (n == 0) ≡ false
 not_zero n h = ne_eqb n 0 h
 
 -- a place with a new store is fresh
-pub fresh : (v : Certified) (slab : Slab StayState) (s : StoreState) (id places : ℕ) → FitsImage v.program → Assigned v.program → IsWithinPlaces v.program id places → IsNewStore id places s → IsFresh (place_of v slab s false)
+pub fresh : (v : Certified) (slab : Slab StayState) (s : StoreState) (id places : ℕ) → FitsImage v.program → Assigned v.program
+    → IsWithinPlaces v.program id places → IsNewStore id places s → IsFresh (place_of v slab s false)
 fresh v slab s id places fits assigned site new = record {
   fits = fits;
   assigned = assigned;
@@ -178,18 +191,21 @@ fresh v slab s id places fits assigned site new = record {
   store = subst (λ n. IsNewStore n s.places s) (sym new.here) (subst (λ n. IsNewStore id n s) (sym new.places_is) new);
 }
 
-pub opened_first : (p : PlaceState) (slab : Slab StayState) → IsFresh p → p.stays ≡ plain slab → (key : ℕ) × (a : StayState) × IsMain p.program a × HoldsOnly slab key a × (key < 2 ^ 32) → p.id ≡ 0 → Opens p
+pub opened_first : (p : PlaceState) (slab : Slab StayState) → IsFresh p → p.stays ≡ plain slab
+    → (key : ℕ) × (a : StayState) × IsMain p.program a × HoldsOnly slab key a × (key < 2 ^ 32) → p.id ≡ 0 → Opens p
 opened_first p slab fresh is main e = (
   main.0,
   (λ far. subst (λ id. StandsFor far p (opening_place (setting_of p) main.0 id)) (sym e)
-      (first_stands far p main.0 main.1 main.4 e fresh main.2 (subst (λ s. HoldsOnly s main.0 main.1) (sym is) (record { here = main.3.here; others = main.3.others })))),
+      (first_stands far p main.0 main.1 main.4 e fresh main.2 (subst (λ s. HoldsOnly s main.0 main.1) (sym is)
+      (record { here = main.3.here; others = main.3.others })))),
 )
 
 pub opened_empty : (p : PlaceState) (slab : Slab StayState) → IsFresh p → p.stays ≡ plain slab → slab.slots ≡ [] → (p.id ≡ 0 → ⊥) → Opens p
 opened_empty p slab fresh is slots ne = (
   0,
   (λ far. subst (λ b. StandsFor far p (cond b (first_place (setting_of p) 0) (empty_place 0))) (sym (not_zero p.id ne))
-      (empty_stands far p (not_zero p.id ne) fresh (subst (λ s. (k : ℕ) → get s k ≡ None) (sym is) (λ k. ap (λ xs. slice_index_or xs k None) slots)))),
+      (empty_stands far p (not_zero p.id ne) fresh (subst (λ s. (k : ℕ) → get s k ≡ None) (sym is)
+      (λ k. ap (λ xs. slice_index_or xs k None) slots)))),
 )
 
 pub opens_standing : (p : PlaceState) → Opens p → IsStanding p
@@ -201,7 +217,8 @@ is_some_is None h = absurd cc
 
 -- ---- nobody is inside an atomic region
 
-pub main_outside : (program : Module) (slab : Slab StayState) → (key : ℕ) × (a : StayState) × IsMain program a × HoldsOnly slab key a × (key < 2 ^ 32) → IsInsider slab None
+pub main_outside : (program : Module) (slab : Slab StayState) → (key : ℕ) × (a : StayState) × IsMain program a × HoldsOnly slab key a × (key < 2 ^ 32)
+    → IsInsider slab None
 main_outside program slab main k = elim (cases_eq k main.0) [
   | inl same ↦ ap (inside_at slab) same ∙ ap is_inside main.3.here ∙ main.2.inside
   | inr apart ↦ ap is_inside (main.3.others k apart)

@@ -3,6 +3,8 @@ use Rattle.std.proofs.Common.{◌≡◌, ℕ, Bool, false, Option, Some, Result,
 use Rattle.std.specs.Prelude.{OnOk}
 use Rattle.std.proofs.lemmas.Option.{same_Some}
 use Rattle.slab.specs.Slab.{Slab, get, Updates}
+use Rattle.x10_kinds.specs.declared.limit.Limit.{Limit}
+use Rattle.x10_kinds.specs.declared.limit.Limit.TheVariants as limits
 use Rattle.x10_kinds.specs.declared.stop.Stop.{Stop}
 use Rattle.x10_kinds.specs.declared.stop.Stop.TheVariants as stop
 use Rattle.x10_code.specs.declared.op.Op.TheVariants as op
@@ -11,28 +13,29 @@ use Rattle.x10_model.specs.Ranges.{instr_at, instr_in}
 use Rattle.x10_verify.specs.Certified.{Certified}
 use Rattle.x10_copy.specs.Captured.{kinds_of, Refuses}
 use Rattle.x10_place.specs.declared.place.Stepped.TheVariants as stepped
+use Rattle.x10_place.specs.declared.outcome.Deed.{Deed}
+use Rattle.x10_place.specs.declared.outcome.Departure.{Departure}
+use Rattle.x10_place.specs.declared.outcome.Departure.TheVariants as departure
 use Rattle.x10_place.specs.declared.route.Route.{Route}
-use Rattle.x10_place.specs.declared.route.Route.TheVariants as route
 use Rattle.x10_place.specs.declared.sent.Sent.{Sent}
-use Rattle.x10_place.specs.Frames.{IsFetchedFor}
-use Rattle.x10_place.specs.Routes.{route_of}
+use Rattle.x10_place.specs.Routes.{route_of, op_going}
 use Rattle.x10_place.specs.Messages.{no_sent}
 use Rattle.x10_place.specs.Sending.{IsSending, slots_sent, words_sent}
 use Rattle.x10_place.specs.Parting.{DepartsAt, LeavesAt}
-use Rattle.x10_place.specs.Stays.{StayState, StoreState, Steps}
-use Rattle.x10_place.specs.declared.stay.Outcome.TheVariants as outcome
-use Rattle.x10_place.specs.StandsFor.{PlaceState, place_of, location_of, plain, LeadsAll, Overfills, OverfillsBegin, OverfillsSend, IsOverfull, IsHindered}
+use Rattle.x10_place.specs.Stays.{StayState, StoreState}
+use Rattle.x10_place.specs.StandsFor.{PlaceState, place_of, plain, LeadsAll, Overfills, OverfillsBegin, OverfillsSend, IsOverfull, IsHindered}
 use Rattle.x10_place.specs.Stretches.{BeginsAt, RefusesBegin, IsForPlace, IsMade}
-use Rattle.x10_place.proofs.Placing.{IsChecked, is_return, outside_ends}
+use Rattle.x10_place.proofs.StandingStays.{IsChecked, outside_ends}
 use Rattle.x10_place.proofs.Steps.{begin_leads}
 use Rattle.x10_place.proofs.Departures.{depart_leads}
 use Rattle.x10_place.proofs.Leavings.{leave_leads}
-use Rattle.x10_place.proofs.Striding.{seen_after, overfull}
+use Rattle.x10_place.proofs.StepsOfPlace.{seen_after, overfull}
 
 plain_updates : {old new : Slab StayState} {key : ℕ} {o : Option StayState} → Updates old new key o → Updates (plain old) new key o
 plain_updates up = record { changed = up.changed; others = up.others }
 
-module _ (v : Certified) (old : Slab StayState) (s : StoreState) (key : ℕ) (i : Instr) (checks : IsChecked v.program) (h : IsForPlace v old s key i) where
+module _ (v : Certified) (old : Slab StayState) (s : StoreState) (key : ℕ) {todo : Deed} (i : Instr) (checks : IsChecked v.program)
+    (h : IsForPlace v old s key todo i) where
   abbrev place : Bool → PlaceState
   place stopped = place_of v old s stopped
 
@@ -41,9 +44,12 @@ module _ (v : Certified) (old : Slab StayState) (s : StoreState) (key : ℕ) (i 
 
   -- ---- what they do
 
-  pub begun_made : (new : Slab StayState) (t : StoreState) (sent : Sent) → sent ≡ no_sent → BeginsAt v.program old s key new t → IsMade v old s key sent new t
+  pub begun_made : (new : Slab StayState) (t : StoreState) (sent : Sent) → sent ≡ no_sent → BeginsAt v.program old s key new t
+      → IsMade v old s key sent new t
   begun_made new t sent none b = subst (λ o. IsMade v old s key o new t) (sym none) (record {
-    leads = λ stopped. subst (λ q. LeadsAll (place stopped) key (stepped.Moved no_sent) q) (seen_after v old new s t stopped b.store.here b.store.places_are) (begin_leads (place stopped) key new t checks plain_begins (ready_too b.stay b.is_there) h.outside);
+    leads = λ stopped. subst (λ q. LeadsAll (place stopped) key (stepped.Moved no_sent) q)
+        (seen_after v old new s t stopped b.store.here b.store.places_are)
+        (begin_leads (place stopped) key new t checks plain_begins (ready_too b.stay b.is_there) h.outside);
     here = b.store.here;
     places = b.store.places_are;
     parts = λ stopped. inr (inl (record { key = b.other; free = b.free; begun = (b.child, b.now_child) }));
@@ -73,7 +79,9 @@ module _ (v : Certified) (old : Slab StayState) (s : StoreState) (key : ℕ) (i 
 
   pub departed_made : (new : Slab StayState) (t : StoreState) (sent : Sent) → DepartsAt v.program old s key sent new t → IsMade v old s key sent new t
   departed_made new t sent d = record {
-    leads = λ stopped. subst (λ q. LeadsAll (place stopped) key (stepped.Moved sent) q) (seen_after v old new s t stopped d.store.here d.store.places_are) (depart_leads (place stopped) key sent new t checks plain_departs (ready_too d.stay d.is_there) h.outside);
+    leads = λ stopped. subst (λ q. LeadsAll (place stopped) key (stepped.Moved sent) q)
+        (seen_after v old new s t stopped d.store.here d.store.places_are)
+        (depart_leads (place stopped) key sent new t checks plain_departs (ready_too d.stay d.is_there) h.outside);
     here = d.store.here;
     places = d.store.places_are;
     parts = λ stopped. inr (inr (λ f. absurd (let g : Some d.message ≡ no_sent.message = ap (λ (o : Sent). o.message) (sym d.sent_is ∙ f) in cc)));
@@ -85,7 +93,8 @@ module _ (v : Certified) (old : Slab StayState) (s : StoreState) (key : ℕ) (i 
         is_there = d.is_there;
         instr = d.instr;
         fetched = d.fetched;
-        route_is = d.route_is;
+        departure = d.departure;
+        is_going = d.is_going;
         next = d.next;
         number = d.number;
         departs = d.departs;
@@ -99,7 +108,9 @@ module _ (v : Certified) (old : Slab StayState) (s : StoreState) (key : ℕ) (i 
 
   pub left_made : (new : Slab StayState) (t : StoreState) (sent : Sent) → LeavesAt v.program old s key sent new t → IsMade v old s key sent new t
   left_made new t sent d = record {
-    leads = λ stopped. subst (λ q. LeadsAll (place stopped) key (stepped.Moved sent) q) (seen_after v old new s t stopped d.store.here d.store.places_are) (leave_leads (place stopped) key sent new t checks plain_leaves (ready_too d.stay d.is_there) h.outside);
+    leads = λ stopped. subst (λ q. LeadsAll (place stopped) key (stepped.Moved sent) q)
+        (seen_after v old new s t stopped d.store.here d.store.places_are)
+        (leave_leads (place stopped) key sent new t checks plain_leaves (ready_too d.stay d.is_there) h.outside);
     here = d.store.here;
     places = d.store.places_are;
     parts = λ stopped. inl d.updates.changed;
@@ -125,20 +136,23 @@ module _ (v : Certified) (old : Slab StayState) (s : StoreState) (key : ℕ) (i 
   instr_is = subst (λ o. instr_in o h.stay.top.pc ≡ Some i) (sym h.fetched.is_function) h.fetched.is_instr
 
   -- what would be one too many
-  pub overfills_there : (limit : ℕ) → IsOverfull (place false) key limit → Overfills (route_of i.op) (place false) h.stay i limit
+  pub overfills_there : (limit : Limit) → IsOverfull (place false) key limit → Overfills (route_of i.op) (place false) h.stay i limit
   overfills_there limit over =
       let same = same_Some over.stay h.stay (sym over.is_there ∙ h.is_there) in
       let at = subst (λ (c : StayState). instr_at v.program c.top.function c.top.pc ≡ Some over.instr) same over.instr_is in
       let instr = same_Some over.instr i (sym at ∙ instr_is) in
-      subst (λ (j : Instr). Overfills (route_of j.op) (place false) h.stay j limit) instr (subst (λ c. Overfills (route_of over.instr.op) (place false) c over.instr limit) same over.overfills)
+      subst (λ (j : Instr). Overfills (route_of j.op) (place false) h.stay j limit) instr
+      (subst (λ c. Overfills (route_of over.instr.op) (place false) c over.instr limit) same over.overfills)
 
-  pub begin_over : i.op ≡ op.Async → (limit : ℕ) → IsOverfull (place false) key limit → OverfillsBegin (place false) h.stay limit
+  pub begin_over : i.op ≡ op.Async → (limit : Limit) → IsOverfull (place false) key limit → OverfillsBegin (place false) h.stay limit
   begin_over e limit over = subst (λ o. Overfills (route_of o) (place false) h.stay i limit) e (overfills_there limit over)
 
-  pub send_over : route_of i.op ≡ route.Send → (limit : ℕ) → IsOverfull (place false) key limit → OverfillsSend (place false) h.stay i limit
-  send_over e limit over = subst (λ r. Overfills r (place false) h.stay i limit) e (overfills_there limit over)
+  pub send_over : (w : Departure) → i.op ≡ op_going w → (limit : Limit) → IsOverfull (place false) key limit
+      → OverfillsSend (place false) h.stay i limit
+  send_over departure.At e limit over = subst (λ o. Overfills (route_of o) (place false) h.stay i limit) e (overfills_there limit over)
+  send_over departure.Ata e limit over = subst (λ o. Overfills (route_of o) (place false) h.stay i limit) e (overfills_there limit over)
 
-  pub end_over : i.op ≡ op.Ret → (limit : ℕ) → IsOverfull (place false) key limit → ⊥
+  pub end_over : i.op ≡ op.Ret → (limit : Limit) → IsOverfull (place false) key limit → ⊥
   end_over e limit over = subst (λ o. Overfills (route_of o) (place false) h.stay i limit) e (overfills_there limit over)
 
   pub begin_hindered : i.op ≡ op.Async → (why : Stop) → RefusesBegin v old s key why → IsHindered (place false) key why
@@ -152,73 +166,100 @@ module _ (v : Certified) (old : Slab StayState) (s : StoreState) (key : ℕ) (i 
             (subst (λ o. Overfills (route_of o) (place false) h.stay i limit) (sym e) (subst (λ b. OverfillsBegin (place false) b limit) same over))),
       )
 
-  pub send_hindered : (why : Stop) → route_of i.op ≡ route.Send → (why ≡ stop.Limit 6) → OverfillsSend (place false) h.stay i 6 → IsHindered (place false) key why
-  send_hindered why e is over = inr (6, is, inl (overfull (place false) key h.stay h.is_there h.ready h.outside i h.fetched 6 (subst (λ r. Overfills r (place false) h.stay i 6) (sym e) over)))
+  send_overfills : (w : Departure) → OverfillsSend (place false) h.stay i limits.Activities
+      → Overfills (route_of (op_going w)) (place false) h.stay i limits.Activities
+  send_overfills departure.At over = over
+  send_overfills departure.Ata over = over
+
+  pub send_hindered : (why : Stop) (w : Departure) → i.op ≡ op_going w → (why ≡ stop.Limit limits.Activities)
+      → OverfillsSend (place false) h.stay i limits.Activities → IsHindered (place false) key why
+  send_hindered why w e is over = inr (
+    limits.Activities,
+    is,
+    inl (overfull (place false) key h.stay h.is_there h.ready h.outside i h.fetched limits.Activities
+        (subst (λ o. Overfills (route_of o) (place false) h.stay i limits.Activities) (sym e) (send_overfills w over))),
+  )
 
   -- a frame can't take along what is sent
-  pub frame_hindered : (why : Stop) (r : Route) → route_of i.op ≡ r → IsSending r h.stay → Refuses v.program.classes s.heap (kinds_of (slots_sent r v.program h.stay i)) (words_sent r (slots_sent r v.program h.stay i) h.stay i) why → IsHindered (place false) key why
-  frame_hindered why r e sends refuses = by (subst (λ q. IsSending q h.stay) (sym e) sends) (subst (λ q. Refuses v.program.classes s.heap (kinds_of (slots_sent q v.program h.stay i)) (words_sent q (slots_sent q v.program h.stay i) h.stay i) why) (sym e) refuses)
+  pub frame_hindered : (why : Stop) (r : Route) → route_of i.op ≡ r → IsSending r h.stay
+      → Refuses v.program.classes s.heap (kinds_of (slots_sent r v.program h.stay i)) (words_sent r (slots_sent r v.program h.stay i) h.stay i) why
+      → IsHindered (place false) key why
+  frame_hindered why r e sends refuses = by (subst (λ q. IsSending q h.stay) (sym e) sends)
+      (subst (λ q. Refuses v.program.classes s.heap (kinds_of (slots_sent q v.program h.stay i))
+      (words_sent q (slots_sent q v.program h.stay i) h.stay i) why) (sym e) refuses)
     where
-      by : IsSending (route_of i.op) h.stay → Refuses v.program.classes s.heap (kinds_of (slots_sent (route_of i.op) v.program h.stay i)) (words_sent (route_of i.op) (slots_sent (route_of i.op) v.program h.stay i) h.stay i) why → IsHindered (place false) key why
+      by : IsSending (route_of i.op) h.stay → Refuses v.program.classes s.heap (kinds_of (slots_sent (route_of i.op) v.program h.stay i))
+          (words_sent (route_of i.op) (slots_sent (route_of i.op) v.program h.stay i) h.stay i) why → IsHindered (place false) key why
       by sending (inl memory) = inl memory
-      by sending (inr (inl nodes)) = inr (7, nodes.0, inr (record { stay = h.stay; is_there = h.is_there; is_ready = h.ready; is_free = h.outside; instr = i; instr_is = instr_is; sends = sending; overloads = inl (refl, nodes.1) }))
-      by sending (inr (inr (inl texts))) = inr (8, texts.0, inr (record { stay = h.stay; is_there = h.is_there; is_ready = h.ready; is_free = h.outside; instr = i; instr_is = instr_is; sends = sending; overloads = inr (inl (refl, texts.1)) }))
-      by sending (inr (inr (inr rails))) = inr (9, rails.0, inr (record { stay = h.stay; is_there = h.is_there; is_ready = h.ready; is_free = h.outside; instr = i; instr_is = instr_is; sends = sending; overloads = inr (inr (refl, rails.1)) }))
+      by sending (inr (inl nodes)) = inr (
+        limits.FrameObjects,
+        nodes.0,
+        inr (record {
+          stay = h.stay;
+          is_there = h.is_there;
+          is_ready = h.ready;
+          is_free = h.outside;
+          instr = i;
+          instr_is = instr_is;
+          sends = sending;
+          overloads = inl (refl, nodes.1);
+        }),
+      )
+      by sending (inr (inr (inl texts))) = inr (
+        limits.FrameTexts,
+        texts.0,
+        inr (record {
+          stay = h.stay;
+          is_there = h.is_there;
+          is_ready = h.ready;
+          is_free = h.outside;
+          instr = i;
+          instr_is = instr_is;
+          sends = sending;
+          overloads = inr (inl (refl, texts.1));
+        }),
+      )
+      by sending (inr (inr (inr rails))) = inr (
+        limits.FrameRails,
+        rails.0,
+        inr (record {
+          stay = h.stay;
+          is_there = h.is_there;
+          is_ready = h.ready;
+          is_free = h.outside;
+          instr = i;
+          instr_is = instr_is;
+          sends = sending;
+          overloads = inr (inr (refl, rails.1));
+        }),
+      )
 
 -- ---- as the place's functions answer
 
-module _ (v : Certified) (old : Slab StayState) (s : StoreState) (key : ℕ) (checks : IsChecked v.program) (h : (i : Instr) × IsForPlace v old s key i) where
+module _ (v : Certified) (old : Slab StayState) (s : StoreState) (key : ℕ) {todo : Deed} (i : Instr) (checks : IsChecked v.program)
+    (h : IsForPlace v old s key todo i) where
   abbrev now : PlaceState
   now = place_of v old s false
 
-  pub begun_ok : (new : Slab StayState) (t : StoreState) (r : Result Sent Stop) → OnOk r (BeginsAt v.program old s key new t) → IfOk r (λ sent. sent ≡ no_sent) → IfOk r (λ sent. IsMade v old s key sent new t)
-  begun_ok new t (Ok sent) begins none = begun_made v old s key h.0 checks h.1 new t sent none begins
+  pub begun_ok : (new : Slab StayState) (t : StoreState) (r : Result Sent Stop) → OnOk r (BeginsAt v.program old s key new t)
+      → IfOk r (λ sent. sent ≡ no_sent) → IfOk r (λ sent. IsMade v old s key sent new t)
+  begun_ok new t (Ok sent) begins none = begun_made v old s key i checks h new t sent none begins
   begun_ok new t (Err why) begins none = tt
 
-  pub departed_ok : (new : Slab StayState) (t : StoreState) (r : Result Sent Stop) → IfOk r (λ sent. DepartsAt v.program old s key sent new t) → IfOk r (λ sent. IsMade v old s key sent new t)
-  departed_ok new t (Ok sent) departs = departed_made v old s key h.0 checks h.1 new t sent departs
+  pub departed_ok : (new : Slab StayState) (t : StoreState) (r : Result Sent Stop) → IfOk r (λ sent. DepartsAt v.program old s key sent new t)
+      → IfOk r (λ sent. IsMade v old s key sent new t)
+  departed_ok new t (Ok sent) departs = departed_made v old s key i checks h new t sent departs
   departed_ok new t (Err why) departs = tt
 
-  pub left_ok : (new : Slab StayState) (t : StoreState) (r : Result Sent Stop) → IfOk r (λ sent. LeavesAt v.program old s key sent new t) → IfOk r (λ sent. IsMade v old s key sent new t)
-  left_ok new t (Ok sent) leaves = left_made v old s key h.0 checks h.1 new t sent leaves
+  pub left_ok : (new : Slab StayState) (t : StoreState) (r : Result Sent Stop) → IfOk r (λ sent. LeavesAt v.program old s key sent new t)
+      → IfOk r (λ sent. IsMade v old s key sent new t)
+  left_ok new t (Ok sent) leaves = left_made v old s key i checks h new t sent leaves
   left_ok new t (Err why) leaves = tt
 
-  pub begin_refused : (r : Result Sent Stop) → h.0.op ≡ op.Async → IfErr r (RefusesBegin v old s key) → IfErr r (IsHindered now key)
+  pub begin_refused : (r : Result Sent Stop) → i.op ≡ op.Async → IfErr r (RefusesBegin v old s key) → IfErr r (IsHindered now key)
   begin_refused (Ok sent) e refused = tt
-  begin_refused (Err why) e refused = begin_hindered v old s key h.0 checks h.1 e why refused
-
-  pub begin_full : h.0.op ≡ op.Async → (limit : ℕ) → IsOverfull now key limit → OverfillsBegin now h.1.stay limit
-  begin_full e = begin_over v old s key h.0 checks h.1 e
-
-  pub end_full : h.0.op ≡ op.Ret → (limit : ℕ) → IsOverfull now key limit → ⊥
-  end_full e = end_over v old s key h.0 checks h.1 e
+  begin_refused (Err why) e refused = begin_hindered v old s key i checks h e why refused
 
   -- a stay that ends is inside no atomic region
-  pub end_outside : h.0.op ≡ op.Ret → h.1.stay.inside ≡ false
-  end_outside e = outside_ends v.program checks h.1.stay h.0 (h.1.standing.1.some key h.1.stay h.1.is_there).2.placed h.1.fetched e
-
-  -- the instruction that was fetched
-  pub fetched_is : (a : StayState) (j : Instr) → get old key ≡ Some a → IsFetchedFor v.program a.top j → h.0 ≡ j
-  fetched_is a j there fetched =
-      let same : h.1.stay ≡ a = same_Some h.1.stay a (sym h.1.is_there ∙ there) in
-      let here : instr_at v.program h.1.stay.top.function h.1.stay.top.pc ≡ Some h.0 = instr_is v old s key h.0 checks h.1 in
-      let seen : instr_at v.program a.top.function a.top.pc ≡ Some j = ap (λ o. instr_in o a.top.pc) fetched.is_function ∙ fetched.is_instr in
-      same_Some h.0 j (sym here ∙ ap (λ (c : StayState). instr_at v.program c.top.function c.top.pc) same ∙ seen)
-
-  -- an instruction that is for the place, but begins and sends nothing, is a RET
-  pub is_end : (j : Instr) → h.0 ≡ j → (route_of j.op ≡ route.Begin → ⊥) → (route_of j.op ≡ route.Send → ⊥) → j.op ≡ op.Ret
-  is_end j e begin send = ends (route_of j.op) refl (subst (λ (i : Instr). Steps (route_of i.op) (location_of now) h.1.stay s i outcome.ForPlace h.1.stay s) e h.1.steps)
-    where
-      ends : (r : Route) → route_of j.op ≡ r → Steps r (location_of now) h.1.stay s j outcome.ForPlace h.1.stay s → j.op ≡ op.Ret
-      ends route.Return is steps = is_return j.op is
-      ends route.Begin is steps = absurd (begin is)
-      ends route.Send is steps = absurd (send is)
-      ends (route.Local l) is steps = absurd (let f = steps.0 in cc)
-      ends (route.Make k) is steps = absurd (let f = steps.0 in cc)
-      ends (route.Site k) is steps = absurd (let f = steps.0 in cc)
-      ends route.Export is steps = absurd (let f = steps.0 in cc)
-      ends route.Call is steps = absurd (let f = steps.0 in cc)
-      ends route.Print is steps = absurd (let f = steps.0 in cc)
-      ends (route.Region inside) is steps = absurd (let f = steps.0 in cc)
-      ends route.OpenFinish is steps = absurd (let f = steps.0 in cc)
-      ends route.CloseFinish is steps = absurd steps
+  pub end_outside : i.op ≡ op.Ret → h.stay.inside ≡ false
+  end_outside e = outside_ends v.program checks h.stay i (h.standing.1.some key h.stay h.is_there).2.placed h.fetched e

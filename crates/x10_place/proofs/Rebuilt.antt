@@ -4,7 +4,7 @@ use Rattle.std.specs.Prelude.{map}
 use Rattle.std.proofs.lemmas.Bool.{cases_eq}
 use Rattle.slab.specs.Slab.{Slab, get, Updates}
 use Rattle.x10_heap.specs.Words.{Context, HoldsHeap}
-use Rattle.x10_heap.proofs.Growing.{Grows}
+use Rattle.x10_heap.proofs.GrownHeaps.{Grows}
 use Rattle.x10_model.specs.Maps.{with_entry}
 use Rattle.x10_model.specs.Modules.{Module}
 use Rattle.x10_model.specs.Places as machine
@@ -15,20 +15,23 @@ use Rattle.x10_finish.proofs.Tallied.{received_tallied}
 use Rattle.x10_place.specs.Receiving.{Admits, IsCountedIn}
 use Rattle.x10_place.specs.Stays.{StayState, StoreState, totals_in, books_of}
 use Rattle.x10_place.specs.StandsFor.{Far, context, context_of, PlaceState, store_of, with_stays, line_as, Assigned, StandsForStay, HoldsExports, StandsFor, AreBooked, setting_of}
-use Rattle.x10_place.proofs.Growing.{stay_kept}
+use Rattle.x10_place.proofs.GrownFrames.{stay_kept}
 
 -- a stay of the program, or none, stands for what the machine has under the same key
 abbrev pub Keyed : (program : Module) → Assigned program → Context → Option StayState → Option Stay → Type 0
 Keyed program assigned x None o = o ≡ None
 Keyed program assigned x (Some a) o = (s : Stay) × (o ≡ Some s) × StandsForStay program assigned x a s
 
-keyed_none : (program : Module) (assigned : Assigned program) (x : Context) (o : Option StayState) (s : Option Stay) → Keyed program assigned x o s → o ≡ None → s ≡ None
+keyed_none : (program : Module) (assigned : Assigned program) (x : Context) (o : Option StayState) (s : Option Stay) → Keyed program assigned x o s
+    → o ≡ None → s ≡ None
 keyed_none program assigned x o s h e = subst (λ q. Keyed program assigned x q s) e h
 
-keyed_some : (program : Module) (assigned : Assigned program) (x : Context) (o : Option StayState) (s : Option Stay) (a : StayState) → Keyed program assigned x o s → o ≡ Some a → (t : Stay) × (s ≡ Some t) × StandsForStay program assigned x a t
+keyed_some : (program : Module) (assigned : Assigned program) (x : Context) (o : Option StayState) (s : Option Stay) (a : StayState)
+    → Keyed program assigned x o s → o ≡ Some a → (t : Stay) × (s ≡ Some t) × StandsForStay program assigned x a t
 keyed_some program assigned x o s a h e = subst (λ q. Keyed program assigned x q s) e h
 
-keyed_kept : (x y : Context) (grows : Grows x y) (program : Module) (assigned : Assigned program) (o : Option StayState) (s : Option Stay) → Keyed program assigned x o s → Keyed program assigned y o s
+keyed_kept : (x y : Context) (grows : Grows x y) (program : Module) (assigned : Assigned program) (o : Option StayState) (s : Option Stay)
+    → Keyed program assigned x o s → Keyed program assigned y o s
 keyed_kept x y grows program assigned None s h = h
 keyed_kept x y grows program assigned (Some a) s h = (h.0, h.1, stay_kept x y grows program assigned a h.0 h.2)
 
@@ -42,14 +45,16 @@ module _ (far : Far) (p : PlaceState) (m : machine.Place) (h : StandsFor far p m
   after = context (setting_of p) p.id t.heap far
 
   -- the stay under a key is another one, and stands
-  module _ (key : ℕ) (a : StayState) (s : Stay) (up : Updates p.stays slab key (Some a)) (grows : Grows (context_of far p) after) (stands : StandsForStay p.program h.assigned after a s) where
+  module _ (key : ℕ) (a : StayState) (s : Stay) (up : Updates p.stays slab key (Some a)) (grows : Grows (context_of far p) after)
+      (stands : StandsForStay p.program h.assigned after a s) where
     keyed_now : (k : ℕ) → Keyed p.program h.assigned after (get slab k) (with_entry m.stays key (Some s) k)
     keyed_now k = elim (cases_eq k key) [
       | inl e ↦ subst (λ q. Keyed p.program h.assigned after (get slab q) (with_entry m.stays key (Some s) q)) (sym e)
           (subst (λ o. Keyed p.program h.assigned after o (with_entry m.stays key (Some s) key)) (sym up.changed)
           (subst (λ o. Keyed p.program h.assigned after (Some a) o) (sym (at_key m.stays key (Some s))) (s, refl, stands)))
       | inr ne ↦ subst (λ o. Keyed p.program h.assigned after o (with_entry m.stays key (Some s) k)) (sym (up.others k ne))
-          (subst (λ o. Keyed p.program h.assigned after (get p.stays k) o) (sym (off_key m.stays key k (Some s) ne)) (keyed_kept (context_of far p) after grows p.program h.assigned (get p.stays k) (m.stays k) (keyed_of k (get p.stays k) refl)))
+          (subst (λ o. Keyed p.program h.assigned after (get p.stays k) o) (sym (off_key m.stays key k (Some s) ne))
+          (keyed_kept (context_of far p) after grows p.program h.assigned (get p.stays k) (m.stays k) (keyed_of k (get p.stays k) refl)))
     ]
 
     none_above : (2 ^ 32 ≤ key → ⊥) → (k : ℕ) → 2 ^ 32 ≤ k → get slab k ≡ None
@@ -58,8 +63,10 @@ module _ (far : Far) (p : PlaceState) (m : machine.Place) (h : StandsFor far p m
       | inr ne ↦ up.others k ne ∙ h.keys k le
     ]
 
-    pub admitted : (message : Message) (next : machine.Place) → (2 ^ 32 ≤ key → ⊥) → Receives (setting_of p) p.id m message key next → next.stays ≡ with_entry m.stays key (Some s) → HoldsHeap after next.cells → HoldsExports t.heap next.exports
-        → next.opened ≡ t.opened → next.lines ≡ map line_as t.lines → IsCountedIn (store_of p) message t → AreBooked p.id next.stays t.opened (books_of t.books) → Admits far p m message (with_stays p slab t)
+    pub admitted : (message : Message) (next : machine.Place) → (2 ^ 32 ≤ key → ⊥) → Receives (setting_of p) p.id m message key next
+        → next.stays ≡ with_entry m.stays key (Some s) → HoldsHeap after next.cells → HoldsExports t.heap next.exports
+        → next.opened ≡ t.opened → next.lines ≡ map line_as t.lines → IsCountedIn (store_of p) message t
+        → AreBooked p.id next.stays t.opened (books_of t.books) → Admits far p m message (with_stays p slab t)
     admitted message next low receives same holds exports opened lines counted booked = record {
       key = key;
       new = next;

@@ -16,7 +16,7 @@ use Rattle.x10_frame.specs.declared.fault.FrameFault.TheVariants as fault
 use Rattle.x10_frame.specs.Faults.{named, IsFault, IsFaultOrMemory}
 use Rattle.x10_copy.specs.declared.refusal.Refusal.{Refusal}
 use Rattle.x10_copy.specs.declared.refusal.Refusal.TheVariants as refusal
-use Rattle.x10_copy.proofs.Receiving.{named_anywhere}
+use Rattle.x10_copy.proofs.ArrivedLemmas.{named_anywhere}
 use Rattle.x10_verify.specs.Certified.{Certified}
 use Rattle.x10_place.specs.Arrivals.{IsUnread, IsTakenFrame}
 use Rattle.x10_place.specs.Receiving.{merged_in, TakesMessage, TakesReport, TakesFrame, IsTaken, IsRefusedFrame, IsRefusedBytes, IsOfFrame}
@@ -27,7 +27,8 @@ use Rattle.x10_place.specs.Stretches.{IsUntouched}
 -- ---- a report
 
 -- each book is there still
-book_kept : (p : PlaceState) (to : ℕ) (r : Report) (q : PlaceState) → TakesReport p to r q → (n : ℕ) → HasBook (books_of p.books) n → HasBook (books_of q.books) n
+book_kept : (p : PlaceState) (to : ℕ) (r : Report) (q : PlaceState) → TakesReport p to r q → (n : ℕ) → HasBook (books_of p.books) n
+    → HasBook (books_of q.books) n
 book_kept p to r q h n has = elim (cases_eq n r.number) [
   | inl e ↦ (merged has.0 r, ap (books_of q.books) e ∙ h.this ∙ ap (merged_in r) (sym (ap (books_of p.books) e) ∙ has.1))
   | inr ne ↦ (has.0, h.others n ne ∙ has.1)
@@ -38,13 +39,16 @@ was_merged r None cut e = absurd cc
 was_merged r (Some c) cut e = (c, refl)
 
 -- and each was there
-book_was : (p : PlaceState) (to : ℕ) (r : Report) (q : PlaceState) → TakesReport p to r q → (n : ℕ) → HasBook (books_of q.books) n → HasBook (books_of p.books) n
+book_was : (p : PlaceState) (to : ℕ) (r : Report) (q : PlaceState) → TakesReport p to r q → (n : ℕ) → HasBook (books_of q.books) n
+    → HasBook (books_of p.books) n
 book_was p to r q h n has = elim (cases_eq n r.number) [
-  | inl e ↦ was_merged r (books_of p.books n) has.0 (ap (λ k. merged_in r (books_of p.books k)) e ∙ sym h.this ∙ ap (books_of q.books) (sym e) ∙ has.1)
+  | inl e ↦ was_merged r (books_of p.books n) has.0 (ap (λ k. merged_in r (books_of p.books k)) e ∙ sym h.this ∙ ap (books_of q.books) (sym e)
+      ∙ has.1)
   | inr ne ↦ (has.0, sym (h.others n ne) ∙ has.1)
 ]
 
-booked_still : (p : PlaceState) (to : ℕ) (r : Report) (q : PlaceState) (stays : ℕ → Option Stay) → TakesReport p to r q → AreBooked p.id stays p.opened (books_of p.books) → AreBooked p.id stays p.opened (books_of q.books)
+booked_still : (p : PlaceState) (to : ℕ) (r : Report) (q : PlaceState) (stays : ℕ → Option Stay) → TakesReport p to r q
+    → AreBooked p.id stays p.opened (books_of p.books) → AreBooked p.id stays p.opened (books_of q.books)
 booked_still p to r q stays h b = record {
   booked = λ k i n s is f. book_kept p to r q h n (b.booked k i n s is f);
   numbered = b.numbered;
@@ -56,7 +60,8 @@ booked_still p to r q stays h b = record {
 }
 
 -- a place that takes a report in stands for the same place of the machine
-pub report_stands : (far : Far) (p : PlaceState) (to : ℕ) (r : Report) (q : PlaceState) (m : machine.Place) → TakesReport p to r q → StandsFor far p m → StandsFor far q m
+pub report_stands : (far : Far) (p : PlaceState) (to : ℕ) (r : Report) (q : PlaceState) (m : machine.Place) → TakesReport p to r q → StandsFor far p m
+    → StandsFor far q m
 report_stands far p to r q m h s = subst (λ (u : PlaceState). StandsFor far u m) (sym h.rest) (record {
   assigned = s.assigned;
   none = s.none;
@@ -77,7 +82,8 @@ abbrev any : Far
 any home id class = true
 
 message_standing : (p : PlaceState) (message : Message) (q : PlaceState) → IsStanding p → TakesMessage p message q → IsStanding q
-message_standing p message q s takes = let a = takes any s.0 s.1 (named_anywhere (context_of any p) (wrong.graph_of message) (λ home id class. refl)) in (a.new, a.stands)
+message_standing p message q s takes = let a = takes any s.0 s.1
+    (named_anywhere (context_of any p) (wrong.graph_of message) (λ home id class. refl)) in (a.new, a.stands)
 
 pub taken_standing : (p : PlaceState) (f : Frame) (q : PlaceState) → IsStanding p → TakesFrame p f q → IsStanding q
 taken_standing p (frames.Spawn from to home number function graph) q s h = message_standing p h.0 q s h.2
@@ -85,29 +91,11 @@ taken_standing p (frames.Shift from to waiting home number function graph) q s h
 taken_standing p (frames.Back from to waiting graph) q s h = message_standing p h.0 q s h.2
 taken_standing p (frames.Report from to number sent received) q s h = (s.0, report_stands any p to _ q s.0 h s.1)
 
--- whether the place has stopped is nothing to the machine
-pub flagged_standing : (v : Certified) (stays : Slab StayState) (s : StoreState) (b c : Bool) → IsStanding (place_of v stays s b) → IsStanding (place_of v stays s c)
-flagged_standing v stays s b c h = (
-  h.0,
-  record {
-    assigned = h.1.assigned;
-    none = h.1.none;
-    keys = h.1.keys;
-    some = h.1.some;
-    site = h.1.site;
-    heap = h.1.heap;
-    exports = h.1.exports;
-    opened = h.1.opened;
-    lines = h.1.lines;
-    tallied = h.1.tallied;
-    booked = h.1.booked;
-  },
-)
-
 -- ---- bytes
 
 -- a fault that isn't a refusal of memory is one of the bytes
-pub fault_told : {Y : Type 0} (f : FrameFault) (read : Result Y reading.FrameFault) → (f ≡ fault.Memory → ⊥) → IsFaultOrMemory (named f) read → IsFault (named f) read
+pub fault_told : {Y : Type 0} (f : FrameFault) (read : Result Y reading.FrameFault) → (f ≡ fault.Memory → ⊥) → IsFaultOrMemory (named f) read
+    → IsFault (named f) read
 fault_told fault.Short read ne h = h
 fault_told fault.Version read ne h = h
 fault_told fault.FrameType read ne h = h
@@ -122,7 +110,9 @@ pub fits_wide : (places : ℕ) (f : Frame) (bytes : List ℕ) → IsSpelled plac
 fits_wide places f bytes s = wider s.version places f s.fits
 
 module _ (v : Certified) (old : Slab StayState) (s : StoreState) (bytes : List ℕ) where
-  pub taken_bytes : (new : Slab StayState) (t : StoreState) (f : Frame) → IsSpelled s.places f bytes → ((g : Frame) → IsSpelled s.places g bytes → f ≡ g) → IsTakenFrame v old s f new t → (stopped : Bool) → IsTaken (place_of v old s stopped) bytes (place_of v new t stopped)
+  pub taken_bytes : (new : Slab StayState) (t : StoreState) (f : Frame) → IsSpelled s.places f bytes
+      → ((g : Frame) → IsSpelled s.places g bytes → f ≡ g) → IsTakenFrame v old s f new t → (stopped : Bool)
+      → IsTaken (place_of v old s stopped) bytes (place_of v new t stopped)
   taken_bytes new t f spelled only h stopped = record {
     frame = f;
     spelled = spelled;
@@ -131,10 +121,12 @@ module _ (v : Certified) (old : Slab StayState) (s : StoreState) (bytes : List �
     takes = λ g same. subst (λ q. TakesFrame (place_of v old s stopped) q (place_of v new t stopped)) (only g same) (h.takes stopped);
   }
 
-  refused_as : (f : Frame) (why : Refusal) (stopped : Bool) → ((g : Frame) → IsSpelled s.places g bytes → f ≡ g) → IsRefusedFrame (place_of v old s stopped) f why → (g : Frame) → IsSpelled s.places g bytes → IsRefusedFrame (place_of v old s stopped) g why
+  refused_as : (f : Frame) (why : Refusal) (stopped : Bool) → ((g : Frame) → IsSpelled s.places g bytes → f ≡ g)
+      → IsRefusedFrame (place_of v old s stopped) f why → (g : Frame) → IsSpelled s.places g bytes → IsRefusedFrame (place_of v old s stopped) g why
   refused_as f why stopped only h g same = subst (λ q. IsRefusedFrame (place_of v old s stopped) q why) (only g same) h
 
-  pub refused_bytes : (f : Frame) → ((g : Frame) → IsSpelled s.places g bytes → f ≡ g) → (why : Refusal) → ((stopped : Bool) → IsRefusedFrame (place_of v old s stopped) f why) → (stopped : Bool) → IsRefusedBytes (place_of v old s stopped) bytes why
+  pub refused_bytes : (f : Frame) → ((g : Frame) → IsSpelled s.places g bytes → f ≡ g) → (why : Refusal)
+      → ((stopped : Bool) → IsRefusedFrame (place_of v old s stopped) f why) → (stopped : Bool) → IsRefusedBytes (place_of v old s stopped) bytes why
   refused_bytes f only (refusal.Frame fault) h stopped = absurd (h stopped)
   refused_bytes f only refusal.NotHere h stopped = refused_as f refusal.NotHere stopped only (h stopped)
   refused_bytes f only refusal.Function h stopped = refused_as f refusal.Function stopped only (h stopped)
@@ -175,14 +167,18 @@ module _ (v : Certified) (old : Slab StayState) (s : StoreState) (bytes : List �
   read_before f h (Err why) = read_first f h why
 
   -- a place where nothing has changed stands as it did
-  pub untouched_standing : (new : Slab StayState) (t : StoreState) → IsStanding (place_of v old s false) → IsUntouched old s new t → IsStanding (place_of v new t false)
+  pub untouched_standing : (new : Slab StayState) (t : StoreState) → IsStanding (place_of v old s false) → IsUntouched old s new t
+      → IsStanding (place_of v new t false)
   untouched_standing new t standing same =
-      subst (λ (slab : Slab StayState). IsStanding (record (place_of v new t false) { stays = slab })) (sym same.stays) (subst (λ u. IsStanding (place_of v old u false)) (sym same.store) standing)
+      subst (λ (slab : Slab StayState). IsStanding (record (place_of v new t false) { stays = slab })) (sym same.stays)
+      (subst (λ u. IsStanding (place_of v old u false)) (sym same.store) standing)
 
-  pub standing_after : {A : Type 0} (new : Slab StayState) (t : StoreState) (f : Frame) (r : Result A Refusal) → IsStanding (place_of v old s false) → OnOk r (IsTakenFrame v old s f new t) → OnErr r (IsUntouched old s new t) → IsStanding (place_of v new t false)
+  pub standing_after : {A : Type 0} (new : Slab StayState) (t : StoreState) (f : Frame) (r : Result A Refusal) → IsStanding (place_of v old s false)
+      → OnOk r (IsTakenFrame v old s f new t) → OnErr r (IsUntouched old s new t) → IsStanding (place_of v new t false)
   standing_after new t f (Ok x) standing h same = taken_standing (place_of v old s false) f (place_of v new t false) standing (h.takes false)
   standing_after new t f (Err why) standing h same = untouched_standing new t standing same
 
-  pub here_after : {A : Type 0} (new : Slab StayState) (t : StoreState) (f : Frame) (r : Result A Refusal) → OnOk r (IsTakenFrame v old s f new t) → OnErr r (IsUntouched old s new t) → (t.here ≡ s.here) × (t.places ≡ s.places)
+  pub here_after : {A : Type 0} (new : Slab StayState) (t : StoreState) (f : Frame) (r : Result A Refusal) → OnOk r (IsTakenFrame v old s f new t)
+      → OnErr r (IsUntouched old s new t) → (t.here ≡ s.here) × (t.places ≡ s.places)
   here_after new t f (Ok x) h same = (h.here, h.places)
   here_after new t f (Err why) h same = (ap (λ (u : StoreState). u.here) same.store, ap (λ (u : StoreState). u.places) same.store)

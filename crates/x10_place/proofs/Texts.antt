@@ -18,7 +18,7 @@ use Rattle.x10_place.specs.declared.route.Route.{Route}
 use Rattle.x10_place.specs.declared.route.Route.TheVariants as route
 use Rattle.x10_place.specs.declared.route.Site.{Site}
 use Rattle.x10_place.specs.declared.route.Site.TheVariants as site
-use Rattle.x10_place.specs.declared.stay.Outcome.TheVariants as outcome
+use Rattle.x10_place.specs.declared.outcome.Outcome.TheVariants as outcome
 use Rattle.x10_place.specs.Frames.{Workspace, space_of, text_in, IsFetchedFor, Acts, SetsByte, Joins, MakesRail, ActsAt, Puts, numbered, int_at}
 use Rattle.x10_place.specs.Routes.{route_of}
 use Rattle.x10_place.specs.Stays.{StayState, StoreState, Location, Steps}
@@ -78,8 +78,9 @@ module _ (at : Location) (a : StayState) (s : StoreState) (i : Instr) (b : StayS
   kept_by (route.Region inside) none steps = ap (λ (q : StoreState). q.heap.texts) steps.2
   kept_by route.OpenFinish none steps = ap texts steps.1.store.heap
   kept_by route.CloseFinish none steps = ap texts steps.store.heap
-  kept_by route.Begin none steps = absurd (let f = steps.0 in cc)
-  kept_by route.Send none steps = absurd (let f = steps.0 in cc)
+  kept_by route.Async none steps = absurd (let f = steps.0 in cc)
+  kept_by route.At none steps = absurd (let f = steps.0 in cc)
+  kept_by route.Ata none steps = absurd (let f = steps.0 in cc)
 
   -- the texts that it makes are added
   abbrev Added : Op → Type 0
@@ -89,21 +90,33 @@ module _ (at : Location) (a : StayState) (s : StoreState) (i : Instr) (b : StayS
   goes_added op.Textk steps = (let m = steps.1.changes in (m.0 ∷ [], (m.0, m.1, refl), ap texts m.2.becomes.heap_is))
   goes_added op.Tcat steps = (let m = steps.1.changes in joined m.0 m.1 m.2 m.3 (nat_le (length m.0 + length m.1) MOST_BYTES) refl m.4)
     where
-      joined : (y z : List ℕ) → text_in s.heap a.top.registers.items i.b ≡ Some y → text_in s.heap a.top.registers.items i.c ≡ Some z → (few : Bool) → nat_le (length y + length z) MOST_BYTES ≡ few → Joins few (y ++ z) (space_of a.top s.heap) i (space_of b.top t.heap) → Added op.Tcat
-      joined y z first second true is m = ((y ++ z) ∷ [], (y, z, first, second, ap (λ few. only_if few (y ++ z)) (sym is)), ap texts m.becomes.heap_is)
-      joined y z first second false is m = ([], (y, z, first, second, ap (λ few. only_if few (y ++ z)) (sym is)), ap texts m.heap_is ∙ sym (append-nil s.heap.texts))
+      joined : (y z : List ℕ) → text_in s.heap a.top.registers.items i.b ≡ Some y → text_in s.heap a.top.registers.items i.c ≡ Some z → (few : Bool)
+          → nat_le (length y + length z) MOST_BYTES ≡ few → Joins few (y ++ z) (space_of a.top s.heap) i (space_of b.top t.heap) → Added op.Tcat
+      joined y z first second true is m = (
+        (y ++ z) ∷ [],
+        (y, z, first, second, ap (λ few. only_if few (y ++ z)) (sym is)),
+        ap texts m.becomes.heap_is,
+      )
+      joined y z first second false is m = (
+        [],
+        (y, z, first, second, ap (λ few. only_if few (y ++ z)) (sym is)),
+        ap texts m.heap_is ∙ sym (append-nil s.heap.texts),
+      )
   goes_added o steps = ([], refl, kept_by (route_of o) tt steps ∙ sym (append-nil s.heap.texts))
 
 -- ---- a step of the stay under a key
 
 -- an operation that makes no text
-pub makes_none : (o : Op) (program : Module) (heap : HeapState) (words : List ℕ) (i : Instr) → o ≢ op.Textk → o ≢ op.Tcat → MakesTexts o program heap words i []
+pub makes_none : (o : Op) (program : Module) (heap : HeapState) (words : List ℕ) (i : Instr) → o ≢ op.Textk → o ≢ op.Tcat
+    → MakesTexts o program heap words i []
 makes_none op.Textk program heap words i textk tcat = absurd (textk refl)
 makes_none op.Tcat program heap words i textk tcat = absurd (tcat refl)
 makes_none o program heap words i textk tcat = refl
 
-module _ (p : PlaceState) (key : ℕ) (a : StayState) (i : Instr) (e : get p.stays key ≡ Some a) (fetched : IsFetchedFor p.program a.top i) (q : PlaceState) where
-  pub adds : (new : List (List ℕ)) → MakesTexts i.op p.program p.heap a.top.registers.items i new → q.heap.texts ≡ p.heap.texts ++ new → AddsTexts p key q
+module _ (p : PlaceState) (key : ℕ) (a : StayState) (i : Instr) (e : get p.stays key ≡ Some a) (fetched : IsFetchedFor p.program a.top i)
+    (q : PlaceState) where
+  pub adds : (new : List (List ℕ)) → MakesTexts i.op p.program p.heap a.top.registers.items i new → q.heap.texts ≡ p.heap.texts ++ new
+      → AddsTexts p key q
   adds new makes is = record {
     stay = a;
     is_there = e;
@@ -116,4 +129,5 @@ module _ (p : PlaceState) (key : ℕ) (a : StayState) (i : Instr) (e : get p.sta
 
   -- by an operation that makes none and leaves the heap as it is
   pub adds_none : i.op ≢ op.Textk → i.op ≢ op.Tcat → q.heap ≡ p.heap → AddsTexts p key q
-  adds_none textk tcat same = adds [] (makes_none i.op p.program p.heap a.top.registers.items i textk tcat) (ap texts same ∙ sym (append-nil p.heap.texts))
+  adds_none textk tcat same = adds [] (makes_none i.op p.program p.heap a.top.registers.items i textk tcat)
+      (ap texts same ∙ sym (append-nil p.heap.texts))

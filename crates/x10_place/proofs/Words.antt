@@ -41,7 +41,8 @@ word_up x w v (kind.GRef c) want f h = same_kind x w v (kind.GRef c) want f h
 
 -- ---- values of a kind
 
-object_of : (x : Context) (cells : Cells) (c w : ℕ) (v : Value) → HoldsHeap x cells → (h : IsObjectWord x.heap c w v) → IsObjectOf cells (2 * h.number) c
+object_of : (x : Context) (cells : Cells) (c w : ℕ) (v : Value) → HoldsHeap x cells → (h : IsObjectWord x.heap c w v)
+    → IsObjectOf cells (2 * h.number) c
 object_of x cells c w v holds h =
     let cell = subst (λ o. HoldsObject x o (cells (2 * h.number))) h.is_there (holds.objects h.number) in
     (cell.values, subst (λ k. cells (2 * h.number) ≡ Some (Fields k cell.values)) h.class_is cell.cell_is)
@@ -63,30 +64,36 @@ of_kind x cells (kind.GRef c) w v holds h = subst (λ u. IsOfKind cells u (kind.
 abbrev pub Reads : Context → (ℕ → Option Value) → List ℕ → ℕ → Kind → Type 0
 Reads x registers words r kind = (v : Value) × (registers r ≡ Some v) × IsWordOf x kind (slice_index words r) v
 
-pub reads : (x : Context) (s : State) (registers : ℕ → Option Value) (words : List ℕ) (r : ℕ) (want : Kind) → HoldRegisters x s registers words → IsKind s r want → Reads x registers words r want
+pub reads : (x : Context) (s : State) (registers : ℕ → Option Value) (words : List ℕ) (r : ℕ) (want : Kind) → HoldRegisters x s registers words
+    → IsKind s r want → Reads x registers words r want
 reads x s registers words r want typed k =
     let h = typed r k.0 k.1 in
     (h.0, h.1, word_up x (slice_index words r) h.0 k.0 want k.2 h.2)
 
 -- a register of kind Int holds the number that its word stands for
-pub reads_int : (x : Context) (s : State) (registers : ℕ → Option Value) (words : List ℕ) (r : ℕ) → HoldRegisters x s registers words → IsKind s r kind.Int → registers r ≡ Some (Int (cast_signed w64 (slice_index words r)))
+pub reads_int : (x : Context) (s : State) (registers : ℕ → Option Value) (words : List ℕ) (r : ℕ) → HoldRegisters x s registers words
+    → IsKind s r kind.Int → registers r ≡ Some (Int (cast_signed w64 (slice_index words r)))
 reads_int x s registers words r typed k =
     let h = reads x s registers words r kind.Int typed k in
     h.1 ∙ ap Some h.2
 
 -- ---- what is known changes
 
-pub words_weaken : (x : Context) (s t : State) (registers : ℕ → Option Value) (words : List ℕ) → IsBelow s t → HoldRegisters x s registers words → HoldRegisters x t registers words
+pub words_weaken : (x : Context) (s t : State) (registers : ℕ → Option Value) (words : List ℕ) → IsBelow s t → HoldRegisters x s registers words
+    → HoldRegisters x t registers words
 words_weaken x s t registers words below typed r kind e = reads x s registers words r kind typed (below.kinds r kind e)
 
 -- a value and its word are written to a register
-pub words_written : (x : Context) (s : State) (registers : ℕ → Option Value) (words : List ℕ) (a : ℕ) (k : Kind) (like : Option Term) (v : Value) (word : ℕ) → a < length words → HoldRegisters x s registers words → IsWordOf x k word v
+pub words_written : (x : Context) (s : State) (registers : ℕ → Option Value) (words : List ℕ) (a : ℕ) (k : Kind) (like : Option Term) (v : Value)
+    (word : ℕ) → a < length words → HoldRegisters x s registers words → IsWordOf x k word v
     → HoldRegisters x (set_kind s a k like) (with_entry registers a (Some v)) (slice_set words a word)
 words_written x s registers words a k like v word lt typed word-is r kind e = elim (cases_eq r a) [
   | inl at ↦
       (let k-is : k ≡ kind = same_Some k kind (sym (at_key s.kinds a (Some k)) ∙ subst (λ q. with_entry s.kinds a (Some k) q ≡ Some kind) at e) in
-      let held : with_entry registers a (Some v) r ≡ Some v = subst (λ q. with_entry registers a (Some v) q ≡ Some v) (sym at) (at_key registers a (Some v)) in
-      let got : get_or (set words a word) r 0 ≡ word = subst (λ q. get_or (set words a word) q 0 ≡ word) (sym at) (get_or-set_same words a word 0 lt) in
+      let held : with_entry registers a (Some v) r ≡ Some v = subst (λ q. with_entry registers a (Some v) q ≡ Some v) (sym at)
+      (at_key registers a (Some v)) in
+      let got : get_or (set words a word) r 0 ≡ word = subst (λ q. get_or (set words a word) q 0 ≡ word) (sym at)
+      (get_or-set_same words a word 0 lt) in
       (v, held, subst (λ w. IsWordOf x kind w v) (sym got) (subst (λ w. IsWordOf x w word v) k-is word-is)))
   | inr off ↦
       (let h = typed r kind (sym (off_key s.kinds a r (Some k) off) ∙ e) in

@@ -19,13 +19,15 @@ use Rattle.x10_frame.specs.Faults.{named, IsFault}
 use Rattle.x10_image.specs.Parts.{Signature, signature_of}
 use Rattle.x10_finish.specs.declared.count.Change.TheVariants as change
 use Rattle.x10_finish.specs.Counts.{IsFull}
+use Rattle.x10_kinds.specs.declared.limit.Limit.{Limit}
+use Rattle.x10_kinds.specs.declared.limit.Limit.TheVariants as limits
 use Rattle.x10_kinds.specs.declared.stop.Stop.{Stop}
 use Rattle.x10_kinds.specs.declared.stop.Stop.TheVariants as stop
 use Rattle.x10_copy.specs.declared.refusal.Refusal.{Refusal}
 use Rattle.x10_copy.specs.declared.refusal.Refusal.TheVariants as refusal
-use Rattle.x10_copy.specs.Arrived.{FitsArrival, IsMisfit, Passes, IsBrought, IsArrived, IsRefusal}
+use Rattle.x10_copy.specs.Arrived.{FitsArrival, IsFirstFault, PassesLimit, IsBrought, IsArrived, IsRefusal}
 use Rattle.x10_copy.specs.Taken.{IsTakenIn}
-use Rattle.x10_place.specs.declared.frame.CallFrame.{CallFrame}
+use Rattle.x10_place.specs.declared.call_frame.CallFrame.{CallFrame}
 use Rattle.x10_place.specs.declared.launching.Launch.{Launch}
 use Rattle.x10_place.specs.Frames.{word_at, IsFetchedFor, IsEnteredWith}
 use Rattle.x10_place.specs.Stays.{StayState, StoreState, GoesNext, GoesNextWith, Recounts, HasBook, totals_in, books_in, changed_at, finish_as, origin_as}
@@ -67,26 +69,32 @@ IsShutHere s f = (f.home ≡ s.here) × (HasBook (books_in s) f.number → ⊥)
 
 -- an activity that came from a place is counted as received, and as live
 abbrev pub Comes : StoreState → ℕ → Finish → StoreState → Type 0
-Comes s from under t = Recounts s t s.opened (changed_at (totals_in s) under (λ u. receives_from u from)) (books_in s)
+Comes s from under t = Recounts s t s.opened
+    (changed_at (totals_in s) under (λ u. receives_from u from)) (books_in s)
 
 -- why it isn't
 abbrev pub IsKeptOut : StoreState → ℕ → Finish → Stop → Type 0
-IsKeptOut s from under why = (why ≡ stop.Memory) ⊎ ((why ≡ stop.Limit 6) × IsFull (change.Receives from) (totals_in s under))
+IsKeptOut s from under why = (why ≡ stop.Memory)
+    ⊎ ((why ≡ stop.Limit limits.Activities) × IsFull (change.Receives from) (totals_in s under))
 
 -- a frame brings its graph into the heap, and its activity is counted
-pub record Settles (s : StoreState) (g : Graph) (l : Launch) (roots : List ℕ) (t : StoreState) : Type 0 where
+pub record Settles (s : StoreState) (g : Graph) (l : Launch) (roots : List ℕ)
+    (t : StoreState) : Type 0 where
   pub brought : IsBrought s.heap g roots t.heap
   pub counted : Comes (record s { heap = t.heap }) l.from (finish_as l.under) t
 
 -- why nothing came in
 abbrev pub IsUnsettled : StoreState → Graph → Launch → Refusal → Type 0
 IsUnsettled s g l refusal.Memory = Unit {0}
-IsUnsettled s g l (refusal.Limit limit) = Passes s.heap g limit ⊎ ((limit ≡ 6) × IsFull (change.Receives l.from) (totals_in s (finish_as l.under)))
+IsUnsettled s g l (refusal.Limit limit) = PassesLimit s.heap g limit
+    ⊎ ((limit ≡ limits.Activities) × IsFull (change.Receives l.from)
+    (totals_in s (finish_as l.under)))
 IsUnsettled s g l _ = ⊥
 
 -- the function may begin: a new activity's has no result
 abbrev pub MayBegin : Module → Launch → Function → Type 0
-MayBegin program l callee = (function_at program l.function ≡ Some callee) × (origin_as l.back ≡ None → callee.result ≡ None)
+MayBegin program l callee = (function_at program l.function ≡ Some callee)
+    × (origin_as l.back ≡ None → callee.result ≡ None)
 
 -- the signature of a function that may begin
 pub record IsEntrance (program : Module) (l : Launch) (s : Signature) : Type 0 where
@@ -97,7 +105,8 @@ pub record IsEntrance (program : Module) (l : Launch) (s : Signature) : Type 0 w
   pub room : length s.parameters ≤ s.registers
 
 -- the stay that begins with these words
-pub record IsLaunched (l : Launch) (callee : Function) (words : List ℕ) (c : StayState) : Type 0 where
+pub record IsLaunched (l : Launch) (callee : Function) (words : List ℕ)
+    (c : StayState) : Type 0 where
   pub count : ℕ
   pub registers : callee.registers ≤ count
   pub entered : IsEnteredWith l.function count words c.top
@@ -109,7 +118,8 @@ pub record IsLaunched (l : Launch) (callee : Function) (words : List ℕ) (c : S
   pub back : c.back ≡ origin_as l.back
 
 -- an activity begins with what a frame brings, under a key that was free
-pub record Launches (program : Module) (old : Slab StayState) (s : StoreState) (f : Frame) (l : Launch) (new : Slab StayState) (t : StoreState) : Type 0 where
+pub record Launches (program : Module) (old : Slab StayState) (s : StoreState) (f : Frame)
+    (l : Launch) (new : Slab StayState) (t : StoreState) : Type 0 where
   pub callee : Function
   pub begins : MayBegin program l callee
   pub fits : FitsArrival program s.here s.here s.heap callee.parameters (snapshot_of (graph_of f))
@@ -131,24 +141,31 @@ pub record FitsLaunch (program : Module) (s : StoreState) (f : Frame) (l : Launc
   pub fits : FitsArrival program s.here s.here s.heap callee.parameters (snapshot_of (graph_of f))
 
 -- they don't
-pub record MisfitsLaunch (program : Module) (s : StoreState) (f : Frame) (l : Launch) (why : Refusal) : Type 0 where
+pub record MisfitsLaunch (program : Module) (s : StoreState) (f : Frame) (l : Launch)
+    (why : Refusal) : Type 0 where
   pub callee : Function
   pub begins : MayBegin program l callee
-  pub misfit : IsMisfit program s.here s.here s.heap callee.parameters (graph_of f) why
+  pub misfit : IsFirstFault program s.here s.here s.heap callee.parameters (graph_of f) why
 
--- there can be no more keys (10), or activities under its finish (6)
-abbrev pub IsCrowded : Slab StayState → StoreState → Launch → ℕ → Type 0
-IsCrowded old s l limit = ((limit ≡ 10) × (2 ^ 32 ≤ old.vacant_key)) ⊎ ((limit ≡ 6) × IsFull (change.Receives l.from) (totals_in s (finish_as l.under)))
+-- there can be no more keys, or activities under its finish
+abbrev pub IsCrowded : Slab StayState → StoreState → Launch → Limit → Type 0
+IsCrowded old s l limit = ((limit ≡ limits.Keys) × (2 ^ 32 ≤ old.vacant_key))
+    ⊎ ((limit ≡ limits.Activities) × IsFull (change.Receives l.from)
+    (totals_in s (finish_as l.under)))
 
 -- why it doesn't begin: the first fault
-abbrev pub IsLaunchRefused : Module → Slab StayState → StoreState → Frame → Launch → Refusal → Type 0
-IsLaunchRefused program old s f l refusal.Function = (callee : Function) → MayBegin program l callee → ⊥
+abbrev pub IsLaunchRefused : Module → Slab StayState → StoreState → Frame → Launch → Refusal
+    → Type 0
+IsLaunchRefused program old s f l refusal.Function = (callee : Function) → MayBegin program l callee
+    → ⊥
 IsLaunchRefused program old s f l refusal.Kind = MisfitsLaunch program s f l refusal.Kind
 IsLaunchRefused program old s f l refusal.Home = MisfitsLaunch program s f l refusal.Home
 IsLaunchRefused program old s f l refusal.Ref = MisfitsLaunch program s f l refusal.Ref
-IsLaunchRefused program old s f l refusal.Finish = FitsLaunch program s f l × IsShutHere s (finish_as l.under)
-IsLaunchRefused program old s f l (refusal.Limit limit) = FitsLaunch program s f l × IsOpenHere s (finish_as l.under)
-    × (Passes s.heap (graph_of f) limit ⊎ IsCrowded old s l limit)
+IsLaunchRefused program old s f l refusal.Finish = FitsLaunch program s f l
+    × IsShutHere s (finish_as l.under)
+IsLaunchRefused program old s f l (refusal.Limit limit) = FitsLaunch program s f l
+    × IsOpenHere s (finish_as l.under)
+    × (PassesLimit s.heap (graph_of f) limit ⊎ IsCrowded old s l limit)
 IsLaunchRefused program old s f l refusal.Memory = Unit {0}
 IsLaunchRefused program old s f l _ = ⊥
 
@@ -179,7 +196,8 @@ pub record GoesOnBy (words : List ℕ) (a : StayState) (register : ℕ) (b : Sta
   pub rest : b ≡ record a { top = b.top; away = false }
 
 -- the result that a frame brings is put where the stay with a key waits for it, and the stay goes on
-pub record ComesBack (program : Module) (old : Slab StayState) (s : StoreState) (f : Frame) (from key : ℕ) (new : Slab StayState)
+pub record ComesBack (program : Module) (old : Slab StayState) (s : StoreState) (f : Frame)
+    (from key : ℕ) (new : Slab StayState)
     (t : StoreState) : Type 0 where
   pub stay : StayState
   pub is_there : get old key ≡ Some stay
@@ -188,7 +206,8 @@ pub record ComesBack (program : Module) (old : Slab StayState) (s : StoreState) 
   pub callee : Function
   pub callee_is : function_at program call.x ≡ Some callee
   pub roots : List ℕ
-  pub arrived : IsArrived program s.here from s.heap (slots_of callee.result) (graph_of f) roots t.heap
+  pub arrived : IsArrived program s.here from s.heap (slots_of callee.result)
+      (graph_of f) roots t.heap
   pub taken : IsTakenIn program s.here s.heap (slots_of callee.result) f roots t.heap
   pub next : StayState
   pub goes : GoesOnBy roots stay call.a next
@@ -196,7 +215,8 @@ pub record ComesBack (program : Module) (old : Slab StayState) (s : StoreState) 
   pub store : t ≡ record s { heap = t.heap }
 
 -- a stay with a key waits for a result of these slots
-pub record IsExpected (program : Module) (old : Slab StayState) (from key : ℕ) (slots : List Slot) : Type 0 where
+pub record IsExpected (program : Module) (old : Slab StayState) (from key : ℕ)
+    (slots : List Slot) : Type 0 where
   pub stay : StayState
   pub is_there : get old key ≡ Some stay
   pub call : Instr
@@ -206,9 +226,12 @@ pub record IsExpected (program : Module) (old : Slab StayState) (from key : ℕ)
   pub slots_are : slots ≡ slots_of callee.result
 
 -- why it doesn't: nobody waits, or the result is refused
-abbrev pub IsBackRefused : Module → Slab StayState → StoreState → Frame → (from key : ℕ) → Refusal → Type 0
-IsBackRefused program old s f from key refusal.Segment = (slots : List Slot) → IsExpected program old from key slots → ⊥
-IsBackRefused program old s f from key why = (slots : List Slot) × IsExpected program old from key slots
+abbrev pub IsBackRefused : Module → Slab StayState → StoreState → Frame → (from key : ℕ) → Refusal
+    → Type 0
+IsBackRefused program old s f from key refusal.Segment = (slots : List Slot)
+    → IsExpected program old from key slots → ⊥
+IsBackRefused program old s f from key why = (slots : List Slot)
+    × IsExpected program old from key slots
     × IsRefusal program s.here from s.heap slots (graph_of f) why
 
 -- ---- a frame
@@ -220,8 +243,10 @@ to_in (head.Back from to waiting) = to
 to_in (head.Report from to number) = to
 
 -- the place takes a frame in, whether or not it has stopped
-pub record IsTakenFrame (verified : Certified) (old : Slab StayState) (s : StoreState) (f : Frame) (new : Slab StayState) (t : StoreState) : Type 0 where
-  pub takes : (stopped : Bool) → TakesFrame (place_of verified old s stopped) f (place_of verified new t stopped)
+pub record IsTakenFrame (verified : Certified) (old : Slab StayState) (s : StoreState) (f : Frame)
+    (new : Slab StayState) (t : StoreState) : Type 0 where
+  pub takes : (stopped : Bool) → TakesFrame (place_of verified old s stopped) f
+      (place_of verified new t stopped)
   pub is_open : (stopped : Bool) → IsShut (place_of verified old s stopped) f → ⊥
   pub texts : t.heap.texts ≡ s.heap.texts ++ (graph_of f).texts
   pub here : t.here ≡ s.here

@@ -1,10 +1,12 @@
 -- Call frames: what an instruction does to the words in the registers and to the turns of the loops.
-use Rattle.std.specs.Prelude.{◌≡◌, ◌≢◌, ℕ, ℤ, pos, negsuc, ◌+ℤ◌, ◌-ℤ◌, ◌*ℤ◌, int_lt, ◌+◌, ◌-◌, ◌*◌, ◌/◌, ◌%◌, ◌^◌, ◌<◌, ◌≤◌, ◌⊎◌, Bool, true, false}
+use Rattle.std.specs.Prelude.{◌≡◌, ◌≢◌, ℕ, ℤ, pos, negsuc, ◌+ℤ◌, ◌-ℤ◌, ◌*ℤ◌, int_lt, ◌+◌, ◌-◌, ◌%◌, ◌^◌, ◌<◌, ◌≤◌, ◌⊎◌, Bool, true, false}
 use Rattle.std.specs.Prelude.{◌==◌, nat_lt, nat_le, List, ◌++◌, length, replicate, Option, Some, None, IfSome, if◌then◌else◌, slice_get}
 use Rattle.std.specs.Prelude.{slice_index, slice_set}
 use Rattle.std.specs.List.{AllByRecursion, slice_range}
 use Rattle.std.specs.Int.{w64, cast_signed, int_rem_euclid}
 use Rattle.std.specs.Ordering.{int_eq}
+use Rattle.x10_kinds.specs.declared.limit.Limit.{Limit}
+use Rattle.x10_kinds.specs.declared.limit.Limit.TheVariants as limits
 use Rattle.x10_kinds.specs.declared.kind.Kind.{Kind}
 use Rattle.x10_kinds.specs.declared.stop.Stop.{Stop}
 use Rattle.x10_kinds.specs.declared.stop.Stop.TheVariants as stop
@@ -16,9 +18,10 @@ use Rattle.x10_model.specs.Ranges.{function_at, IsInRange}
 use Rattle.x10_model.specs.Values.{Value, Int}
 use Rattle.x10_model.specs.declared.limits.TheConstants.{MOST_BYTES}
 use Rattle.x10_model.specs.Moves.{is_zero, wrapped, quotient, remainder, truth, rail_length, byte_at, byte_value, index_of}
+use Rattle.x10_heap.specs.References.{home_of, id_of, reference_word}
 use Rattle.x10_heap.specs.Heaps.{HeapState, ObjectState, HasField, with_object, with_rail, with_text, with_field, with_byte, with_export, IsFull}
 use Rattle.x10_heap.specs.declared.export.Export.{Export}
-use Rattle.x10_place.specs.declared.frame.CallFrame.{CallFrame}
+use Rattle.x10_place.specs.declared.call_frame.CallFrame.{CallFrame}
 use Rattle.x10_place.specs.declared.route.Local.{Local}
 use Rattle.x10_place.specs.declared.route.Local.TheVariants as local
 use Rattle.x10_place.specs.declared.route.Partial.{Partial}
@@ -47,7 +50,11 @@ space_of f heap = workspace f.pc f.registers.items f.loops heap
 
 -- a call frame with another one
 abbrev pub with_space : CallFrame → Workspace → CallFrame
-with_space f w = record f { pc = w.pc; loops = w.loops; registers = record f.registers { items = w.words } }
+with_space f w = record f {
+  pc = w.pc;
+  loops = w.loops;
+  registers = record f.registers { items = w.words };
+}
 
 abbrev pub word_at : List ℕ → ℕ → ℕ
 word_at words r = slice_index words r
@@ -125,19 +132,10 @@ byte_in (Some bytes) z = byte_value (byte_at bytes z)
 
 -- a rail with the lowest eight bits of a number at an index
 abbrev pub byte_set : HeapState → ℕ → List ℕ → (index number : ℤ) → HeapState
-byte_set heap rail bytes index number = with_byte heap rail bytes (index_of index) (index_of (int_rem_euclid number (pos 256)))
+byte_set heap rail bytes index number = with_byte heap rail bytes (index_of index)
+    (index_of (int_rem_euclid number (pos 256)))
 
 -- ---- places
-
--- the place that the word of a place or of a global reference stands for, and the reference's number there
-abbrev pub home_of : ℕ → ℕ
-home_of word = word % 65536
-
-abbrev pub id_of : ℕ → ℕ
-id_of word = word / 65536
-
-abbrev pub reference_word : (home id : ℕ) → ℕ
-reference_word home id = home + 65536 * id
 
 -- two registers stand for one place
 abbrev pub are_same : List ℕ → ℕ → ℕ → Bool
@@ -164,7 +162,8 @@ given number.Sum program heap words i = Some (wrapped (int_at words i.b +ℤ int
 given number.Difference program heap words i = Some (wrapped (int_at words i.b -ℤ int_at words i.c))
 given number.Product program heap words i = Some (wrapped (int_at words i.b *ℤ int_at words i.c))
 given number.Less program heap words i = Some (truth (int_lt (int_at words i.b) (int_at words i.c)))
-given number.Equal program heap words i = Some (truth (int_eq (int_at words i.b) (int_at words i.c)))
+given number.Equal program heap words i =
+    Some (truth (int_eq (int_at words i.b) (int_at words i.c)))
 given number.RailLength program heap words i = size (rail_in heap words i.b)
 given number.TextLength program heap words i = size (text_in heap words i.b)
 given number.PlaceNumber program heap words i = Some (Int (pos (word_at words i.b)))
@@ -177,7 +176,8 @@ tried partial.Byte heap words i = byte_in (rail_in heap words i.b) (int_at words
 
 -- the number's word goes to register a
 abbrev pub Writes : Workspace → Instr → ℤ → Workspace → Type 0
-Writes w i z v = (word : ℕ) × (z ≡ cast_signed w64 word) × Becomes v (w.pc + 1) (slice_set w.words i.a word) w.loops w.heap
+Writes w i z v = (word : ℕ) × (z ≡ cast_signed w64 word)
+    × Becomes v (w.pc + 1) (slice_set w.words i.a word) w.loops w.heap
 
 -- the same; where there is no number, the next instruction is x
 abbrev pub Takes : Workspace → Instr → Option ℤ → Workspace → Type 0
@@ -191,7 +191,8 @@ turns_left loops slot = slice_index loops slot - 1
 -- a reference is copied; where it is null, the next instruction is x
 abbrev pub CopiesUnless : Bool → Workspace → Instr → Workspace → Type 0
 CopiesUnless true w i v = Becomes v i.x w.words w.loops w.heap
-CopiesUnless false w i v = Becomes v (w.pc + 1) (slice_set w.words i.a (word_at w.words i.b)) w.loops w.heap
+CopiesUnless false w i v = Becomes v (w.pc + 1)
+    (slice_set w.words i.a (word_at w.words i.b)) w.loops w.heap
 
 -- a field is copied to register a
 pub record GetsField (w : Workspace) (i : Instr) (v : Workspace) : Type 0 where
@@ -205,32 +206,43 @@ pub record GetsField (w : Workspace) (i : Instr) (v : Workspace) : Type 0 where
 pub record SetsField (w : Workspace) (i : Instr) (v : Workspace) : Type 0 where
   pub object : ObjectState
   pub is_object : slice_get w.heap.objects (object_in w.words i.a) ≡ Some object
-  pub becomes : Becomes v (w.pc + 1) w.words w.loops (with_field w.heap (object_in w.words i.a) object i.c (word_at w.words i.b))
+  pub becomes : Becomes v (w.pc + 1) w.words w.loops
+      (with_field w.heap (object_in w.words i.a) object i.c (word_at w.words i.b))
 
 -- the byte of a rail at an index is written; where there is none, the next instruction is x
 abbrev pub SetsByte : Option ℕ → List ℕ → Workspace → Instr → Workspace → Type 0
-SetsByte (Some byte) bytes w i v = Becomes v (w.pc + 1) w.words w.loops (byte_set w.heap (word_at w.words i.a) bytes (int_at w.words i.b) (int_at w.words i.c))
+SetsByte (Some byte) bytes w i v = Becomes v (w.pc + 1) w.words w.loops
+    (byte_set w.heap (word_at w.words i.a) bytes (int_at w.words i.b) (int_at w.words i.c))
 SetsByte None bytes w i v = Becomes v i.x w.words w.loops w.heap
 
 -- what an operation of one call frame does
 abbrev pub Acts : Local → Module → Workspace → Instr → Workspace → Type 0
-Acts (local.Number n) program w i v = (z : ℤ) × (Some (Int z) ≡ given n program w.heap w.words i) × Writes w i z v
-Acts (local.Partial d) program w i v = (z : Option ℤ) × (as_value z ≡ tried d w.heap w.words i) × Takes w i z v
-Acts local.Copy program w i v = Becomes v (w.pc + 1) (slice_set w.words i.a (word_at w.words i.b)) w.loops w.heap
+Acts (local.Number n) program w i v = (z : ℤ) × (Some (Int z) ≡ given n program w.heap w.words i)
+    × Writes w i z v
+Acts (local.Partial d) program w i v = (z : Option ℤ) × (as_value z ≡ tried d w.heap w.words i)
+    × Takes w i z v
+Acts local.Copy program w i v = Becomes v (w.pc + 1)
+    (slice_set w.words i.a (word_at w.words i.b)) w.loops w.heap
 Acts local.Null program w i v = Becomes v (w.pc + 1) (slice_set w.words i.a 0) w.loops w.heap
 Acts local.NotNull program w i v = CopiesUnless (word_at w.words i.b == 0) w i v
 Acts local.GetField program w i v = GetsField w i v
 Acts local.SetField program w i v = SetsField w i v
-Acts local.SetByte program w i v = (bytes : List ℕ) × (rail_in w.heap w.words i.a ≡ Some bytes) × SetsByte (byte_at bytes (int_at w.words i.b)) bytes w i v
+Acts local.SetByte program w i v = (bytes : List ℕ) × (rail_in w.heap w.words i.a ≡ Some bytes)
+    × SetsByte (byte_at bytes (int_at w.words i.b)) bytes w i v
 Acts local.Place program w i v = Becomes v (w.pc + 1) (slice_set w.words i.a i.x) w.loops w.heap
-Acts local.Home program w i v = Becomes v (w.pc + 1) (slice_set w.words i.a (home_of (word_at w.words i.b))) w.loops w.heap
-Acts local.Open program w i v = (e : Export) × (slice_get w.heap.exports (id_of (word_at w.words i.b)) ≡ Some e)
+Acts local.Home program w i v = Becomes v (w.pc + 1)
+    (slice_set w.words i.a (home_of (word_at w.words i.b))) w.loops w.heap
+Acts local.Open program w i v = (e : Export)
+    × (slice_get w.heap.exports (id_of (word_at w.words i.b)) ≡ Some e)
     × Becomes v (w.pc + 1) (slice_set w.words i.a (e.object + 1)) w.loops w.heap
-Acts local.SamePlace program w i v = Becomes v (if are_same w.words i.a i.b then w.pc + 1 else i.x) w.words w.loops w.heap
+Acts local.SamePlace program w i v = Becomes v
+    (if are_same w.words i.a i.b then w.pc + 1 else i.x) w.words w.loops w.heap
 Acts local.Jump program w i v = Becomes v i.x w.words w.loops w.heap
-Acts local.JumpIfZero program w i v = Becomes v (if is_zero (int_at w.words i.a) then i.x else w.pc + 1) w.words w.loops w.heap
+Acts local.JumpIfZero program w i v = Becomes v
+    (if is_zero (int_at w.words i.a) then i.x else w.pc + 1) w.words w.loops w.heap
 Acts local.Loop program w i v = Becomes v (w.pc + 1) w.words (slice_set w.loops i.a i.x) w.heap
-Acts local.EndLoop program w i v = Becomes v (if nat_lt 0 (turns_left w.loops i.a) then i.x else w.pc + 1) w.words
+Acts local.EndLoop program w i v = Becomes v
+    (if nat_lt 0 (turns_left w.loops i.a) then i.x else w.pc + 1) w.words
     (slice_set w.loops i.a (turns_left w.loops i.a)) w.heap
 
 -- what an operation that gives a number asks of the constants and of the number of registers
@@ -245,13 +257,15 @@ AsksNumber _ program registers i = (i.a < registers) × (i.b < registers) × (i.
 -- number of an instruction
 abbrev pub Asks : Local → Module → ℕ → Instr → Type 0
 Asks (local.Number n) program registers i = AsksNumber n program registers i
-Asks (local.Partial d) program registers i = (i.a < registers) × (i.b < registers) × (i.c < registers) × (i.x < 2 ^ 16)
+Asks (local.Partial d) program registers i = (i.a < registers) × (i.b < registers)
+    × (i.c < registers) × (i.x < 2 ^ 16)
 Asks local.Copy program registers i = (i.a < registers) × (i.b < registers)
 Asks local.Null program registers i = i.a < registers
 Asks local.NotNull program registers i = (i.a < registers) × (i.b < registers) × (i.x < 2 ^ 16)
 Asks local.GetField program registers i = (i.a < registers) × (i.b < registers)
 Asks local.SetField program registers i = (i.a < registers) × (i.b < registers)
-Asks local.SetByte program registers i = (i.a < registers) × (i.b < registers) × (i.c < registers) × (i.x < 2 ^ 16)
+Asks local.SetByte program registers i = (i.a < registers) × (i.b < registers) × (i.c < registers)
+    × (i.x < 2 ^ 16)
 Asks local.Place program registers i = i.a < registers
 Asks local.Home program registers i = (i.a < registers) × (i.b < registers)
 Asks local.Open program registers i = (i.a < registers) × (i.b < registers)
@@ -286,7 +300,8 @@ Reads _ heap words i = Unit {0}
 -- a text, under the next number, which goes to register a
 pub record MakesText (w : Workspace) (i : Instr) (text : List ℕ) (v : Workspace) : Type 0 where
   pub few : length w.heap.texts < 2 ^ 32
-  pub becomes : Becomes v (w.pc + 1) (slice_set w.words i.a (length w.heap.texts)) w.loops (with_text w.heap text)
+  pub becomes : Becomes v (w.pc + 1) (slice_set w.words i.a (length w.heap.texts)) w.loops
+      (with_text w.heap text)
 
 -- the same of two texts joined; where they are too long together, the next instruction is x
 abbrev pub Joins : Bool → List ℕ → Workspace → Instr → Workspace → Type 0
@@ -302,7 +317,8 @@ pub record MakesObject (w : Workspace) (i : Instr) (count : ℕ) (v : Workspace)
 -- a rail of so many zeros, under the next number
 pub record MakesZeros (w : Workspace) (i : Instr) (count : ℕ) (v : Workspace) : Type 0 where
   pub few : length w.heap.rails < 2 ^ 32
-  pub becomes : Becomes v (w.pc + 1) (slice_set w.words i.a (length w.heap.rails)) w.loops (with_rail w.heap (replicate count 0))
+  pub becomes : Becomes v (w.pc + 1) (slice_set w.words i.a (length w.heap.rails)) w.loops
+      (with_rail w.heap (replicate count 0))
 
 -- the same, where there is such a length; the next instruction is x where there is none
 abbrev pub MakesRail : Option ℕ → Workspace → Instr → Workspace → Type 0
@@ -311,39 +327,49 @@ MakesRail None w i v = Becomes v i.x w.words w.loops w.heap
 
 -- what an operation makes
 abbrev pub Makes : Make → Module → Workspace → Instr → Workspace → Type 0
-Makes make.Text program w i v = (text : List ℕ) × (slice_get program.texts i.x ≡ Some text) × MakesText w i text v
-Makes make.JoinedText program w i v = (t u : List ℕ) × (text_in w.heap w.words i.b ≡ Some t) × (text_in w.heap w.words i.c ≡ Some u)
+Makes make.Text program w i v = (text : List ℕ) × (slice_get program.texts i.x ≡ Some text)
+    × MakesText w i text v
+Makes make.JoinedText program w i v = (t u : List ℕ) × (text_in w.heap w.words i.b ≡ Some t)
+    × (text_in w.heap w.words i.c ≡ Some u)
     × Joins (nat_le (length t + length u) MOST_BYTES) (t ++ u) w i v
-Makes make.Object program w i v = (kinds : List Kind) × (slice_get program.classes i.x ≡ Some kinds) × MakesObject w i (length kinds) v
+Makes make.Object program w i v = (kinds : List Kind) × (slice_get program.classes i.x ≡ Some kinds)
+    × MakesObject w i (length kinds) v
 Makes make.Rail program w i v = MakesRail (rail_length (int_at w.words i.b)) w i v
 
 -- what it asks of the module and of the number of registers
 abbrev pub AsksMake : Make → Module → ℕ → Instr → Type 0
 AsksMake make.Text program registers i = (i.a < registers) × (i.x < length program.texts)
-AsksMake make.JoinedText program registers i = (i.a < registers) × (i.b < registers) × (i.c < registers) × (i.x < 2 ^ 16)
+AsksMake make.JoinedText program registers i = (i.a < registers) × (i.b < registers)
+    × (i.c < registers) × (i.x < 2 ^ 16)
 AsksMake make.Object program registers i = (i.a < registers)
-    × ((kinds : List Kind) → slice_get program.classes i.x ≡ Some kinds → i.b + length kinds ≤ registers) × (i.x < length program.classes)
+    × ((kinds : List Kind) → slice_get program.classes i.x ≡ Some kinds
+    → i.b + length kinds ≤ registers) × (i.x < length program.classes)
 AsksMake make.Rail program registers i = (i.a < registers) × (i.b < registers) × (i.x < 2 ^ 16)
 
 -- what it reads in the heap is there
 abbrev pub ReadsMake : Make → HeapState → List ℕ → Instr → Type 0
-ReadsMake make.JoinedText heap words i = (word_at words i.b < length heap.texts) × (word_at words i.c < length heap.texts)
+ReadsMake make.JoinedText heap words i = (word_at words i.b < length heap.texts)
+    × (word_at words i.c < length heap.texts)
 ReadsMake _ heap words i = Unit {0}
 
 -- the two texts together are no longer than a text may be
 abbrev pub FitTogether : HeapState → List ℕ → Instr → Type 0
-FitTogether heap words i = (t u : List ℕ) → text_in heap words i.b ≡ Some t → text_in heap words i.c ≡ Some u → length t + length u ≤ MOST_BYTES
+FitTogether heap words i = (t u : List ℕ) → text_in heap words i.b ≡ Some t
+    → text_in heap words i.c ≡ Some u → length t + length u ≤ MOST_BYTES
 
 -- it would make one more of what there can be no more of
-abbrev pub Overfills : Make → HeapState → List ℕ → Instr → ℕ → Type 0
-Overfills make.Text heap words i limit = (limit ≡ 2) × IsFull (length heap.texts)
-Overfills make.JoinedText heap words i limit = (limit ≡ 2) × IsFull (length heap.texts) × FitTogether heap words i
-Overfills make.Object heap words i limit = (limit ≡ 1) × IsFull (length heap.objects)
-Overfills make.Rail heap words i limit = (limit ≡ 3) × IsFull (length heap.rails) × ((count : ℕ) × (rail_length (int_at words i.b) ≡ Some count))
+abbrev pub Overfills : Make → HeapState → List ℕ → Instr → Limit → Type 0
+Overfills make.Text heap words i limit = (limit ≡ limits.Texts) × IsFull (length heap.texts)
+Overfills make.JoinedText heap words i limit = (limit ≡ limits.Texts) × IsFull (length heap.texts)
+    × FitTogether heap words i
+Overfills make.Object heap words i limit = (limit ≡ limits.Objects) × IsFull (length heap.objects)
+Overfills make.Rail heap words i limit = (limit ≡ limits.Rails) × IsFull (length heap.rails)
+    × ((count : ℕ) × (rail_length (int_at words i.b) ≡ Some count))
 
 -- why it makes nothing: memory was refused, or there can be no more
 abbrev pub IsRefused : Make → HeapState → List ℕ → Instr → Stop → Type 0
-IsRefused m heap words i why = (why ≡ stop.Memory) ⊎ ((limit : ℕ) × (why ≡ stop.Limit limit) × Overfills m heap words i limit)
+IsRefused m heap words i why = (why ≡ stop.Memory)
+    ⊎ ((limit : Limit) × (why ≡ stop.Limit limit) × Overfills m heap words i limit)
 
 -- ---- by the place
 
@@ -358,7 +384,8 @@ ActsAt site.Here here places w i v = Puts (Some here) w i v
 ActsAt site.Count here places w i v = Writes w i (pos places) v
 ActsAt site.Next here places w i v = Puts (Some ((word_at w.words i.b + 1) % places)) w i v
 ActsAt site.Numbered here places w i v = Puts (numbered places (int_at w.words i.b)) w i v
-ActsAt site.IsHere here places w i v = Becomes v (if is_at w.words i.a here then w.pc + 1 else i.x) w.words w.loops w.heap
+ActsAt site.IsHere here places w i v = Becomes v
+    (if is_at w.words i.a here then w.pc + 1 else i.x) w.words w.loops w.heap
 
 -- what it asks of the number of registers
 abbrev pub AsksAt : Site → ℕ → Instr → Type 0
@@ -380,7 +407,8 @@ pub record ExportsObject (here : ℕ) (w : Workspace) (i : Instr) (v : Workspace
   pub few : length w.heap.exports < 2 ^ 32
   pub object : ObjectState
   pub is_object : slice_get w.heap.objects (object_in w.words i.b) ≡ Some object
-  pub becomes : Becomes v (w.pc + 1) (slice_set w.words i.a (reference_word here (length w.heap.exports))) w.loops
+  pub becomes : Becomes v (w.pc + 1) (slice_set w.words i.a
+      (reference_word here (length w.heap.exports))) w.loops
       (with_export w.heap object.class (object_in w.words i.b))
 
 -- the register names an object
@@ -390,15 +418,17 @@ pub record NamesObject (heap : HeapState) (words : List ℕ) (r : ℕ) : Type 0 
 
 -- why there is no export: memory was refused, or there can be no more
 abbrev pub IsExportRefused : HeapState → Stop → Type 0
-IsExportRefused heap why = (why ≡ stop.Memory) ⊎ ((limit : ℕ) × (why ≡ stop.Limit limit) × (limit ≡ 4) × IsFull (length heap.exports))
+IsExportRefused heap why = (why ≡ stop.Memory)
+    ⊎ ((limit : Limit) × (why ≡ stop.Limit limit) × (limit ≡ limits.References)
+    × IsFull (length heap.exports))
 
 -- ---- calls
 
 -- the operations that pass arguments to a function of this place
-abbrev pub Passes : Op → Type 0
-Passes op.Call = Unit {0}
-Passes op.Async = Unit {0}
-Passes _ = ⊥
+abbrev pub PassesArguments : Op → Type 0
+PassesArguments op.Call = Unit {0}
+PassesArguments op.Async = Unit {0}
+PassesArguments _ = ⊥
 
 -- the call frame of the function that an instruction calls, at its beginning
 pub record IsEntered (program : Module) (words : List ℕ) (i : Instr) (f : CallFrame) : Type 0 where
@@ -407,7 +437,8 @@ pub record IsEntered (program : Module) (words : List ℕ) (i : Instr) (f : Call
   pub function_is : f.function ≡ i.x
   pub pc_is : f.pc ≡ 0
   pub registers : callee.registers ≤ length f.registers.items
-  pub arguments : (r : ℕ) → r < length callee.parameters → word_at f.registers.items r ≡ word_at words (i.b + r)
+  pub arguments : (r : ℕ) → r < length callee.parameters
+      → word_at f.registers.items r ≡ word_at words (i.b + r)
   pub loops_are : f.loops ≡ replicate 8 0
 
 -- a call frame at the first instruction of a function, with so many registers, of which the first ones have these words

@@ -19,7 +19,8 @@ place_at here registers (term.Reg r) = place_in (registers r)
 
 -- terms that are known to be equal stand for the same place
 abbrev pub AreHomes : ℕ → Equations → (ℕ → Option Value) → Type 0
-AreHomes here e registers = (v w : Term) → IsTerm v → IsTerm w → IsTrue (e v w) → place_at here registers v ≡ place_at here registers w
+AreHomes here e registers = (v w : Term) → IsTerm v → IsTerm w → IsTrue (e v w)
+    → place_at here registers v ≡ place_at here registers w
 
 -- the term, where there is one, stands for the place of the value
 abbrev pub IsLike : ℕ → (ℕ → Option Value) → Option Term → Value → Type 0

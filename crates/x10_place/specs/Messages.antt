@@ -18,7 +18,8 @@ use Rattle.x10_place.specs.Stays.{StoreState, totals_in}
 
 -- The bytes spell a frame of version 2 that carries the message, one of so many places. The objects in it have the fields of their
 -- classes.
-pub record Carries (program : Module) (places : ℕ) (bytes : List ℕ) (message : Message) : Type 0 where
+pub record Carries (program : Module) (places : ℕ) (bytes : List ℕ)
+    (message : Message) : Type 0 where
   pub frame : Frame
   pub fits : FitsFrame Wide places frame
   pub spelled : bytes ≡ spelling Wide frame
@@ -41,14 +42,16 @@ abbrev pub no_sent : Sent
 no_sent = record { message = None; report = None }
 
 -- the message that a move sends, in a frame for its receiver; each global reference in it names an object
-pub record IsMessageSent (program : Module) (x : Context) (o : Outgoing) (message : Message) : Type 0 where
+pub record IsMessageSent (program : Module) (x : Context) (o : Outgoing)
+    (message : Message) : Type 0 where
   pub to_is : o.to ≡ receiver message
   pub carries : Carries program x.places o.bytes.items message
   pub named : AreNamed x (graph_of message)
 
 abbrev pub SendsMessage : Module → Context → Option Outgoing → Option Message → Type 0
 SendsMessage program x None sent = sent ≡ None
-SendsMessage program x (Some o) sent = (message : Message) × (sent ≡ Some message) × IsMessageSent program x o message
+SendsMessage program x (Some o) sent = (message : Message) × (sent ≡ Some message)
+    × IsMessageSent program x o message
 
 -- what a place has counted of a finish, in a frame for the finish's home
 pub record IsReportSent (s : StoreState) (f : Finish) (o : Outgoing) : Type 0 where
@@ -62,9 +65,11 @@ pub record IsReportSent (s : StoreState) (f : Finish) (o : Outgoing) : Type 0 wh
 -- the report that is due after a move, or none
 abbrev pub SendsReport : StoreState → Effect → Option Outgoing → Type 0
 SendsReport s effect None = (f : Finish) → is_reported s.here f (totals_in s f) (Did effect) ≡ false
-SendsReport s effect (Some o) = (f : Finish) × (is_reported s.here f (totals_in s f) (Did effect) ≡ true) × IsReportSent s f o
+SendsReport s effect (Some o) = (f : Finish)
+    × (is_reported s.here f (totals_in s f) (Did effect) ≡ true) × IsReportSent s f o
 
 -- what a move with an effect puts out
-pub record PutsOut (program : Module) (x : Context) (s : StoreState) (effect : Effect) (out : Sent) : Type 0 where
+pub record PutsOut (program : Module) (x : Context) (s : StoreState) (effect : Effect)
+    (out : Sent) : Type 0 where
   pub message : SendsMessage program x out.message (sent effect)
   pub report : SendsReport s effect out.report

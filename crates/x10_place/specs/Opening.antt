@@ -52,7 +52,8 @@ pub record IsNewStore (id places : ℕ) (s : StoreState) : Type 0 where
 
 -- the place stands for the machine's place at the beginning, whatever other places export
 abbrev pub Opens : PlaceState → Type 0
-Opens p = (key : ℕ) × ((far : ℕ → ℕ → ℕ → Bool) → StandsFor far p (opening_place (setting_of p) key p.id))
+Opens p = (key : ℕ) × ((far : ℕ → ℕ → ℕ → Bool)
+    → StandsFor far p (opening_place (setting_of p) key p.id))
 
 -- a place as it was asked for, with what a place keeps at the beginning
 pub record IsNew (verified : Certified) (id places : ℕ) (p : PlaceState) : Type 0 where

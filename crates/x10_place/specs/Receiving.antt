@@ -1,5 +1,7 @@
 -- What a place does with bytes that come from a place.
 use Rattle.std.specs.Prelude.{◌≡◌, ◌≢◌, ◌⊎◌, ℕ, ◌≤◌, ◌<◌, ◌^◌, Bool, true, false, List, ◌++◌, Option, Some, None}
+use Rattle.x10_kinds.specs.declared.limit.Limit.{Limit}
+use Rattle.x10_kinds.specs.declared.limit.Limit.TheVariants as limits
 use Rattle.slab.specs.Slab.{get}
 use Rattle.x10_code.specs.declared.op.Op.TheVariants as op
 use Rattle.x10_code.specs.declared.instr.Instr.{Instr}
@@ -22,7 +24,7 @@ use Rattle.x10_finish.specs.Counts.{IsFull}
 use Rattle.x10_finish.specs.Ledgers.{totals_of}
 use Rattle.x10_copy.specs.declared.refusal.Refusal.{Refusal}
 use Rattle.x10_copy.specs.declared.refusal.Refusal.TheVariants as refusal
-use Rattle.x10_copy.specs.Arrived.{FitsArrival, IsMisfit, Passes}
+use Rattle.x10_copy.specs.Arrived.{FitsArrival, IsFirstFault, PassesLimit}
 use Rattle.x10_copy.specs.References.{AreNamedElsewhere}
 use Rattle.x10_place.specs.Frames.{word_at}
 use Rattle.x10_place.specs.Stays.{StayState, StoreState, totals_in, books_of, books_in, HasBook}
@@ -39,7 +41,8 @@ pub record IsCountedIn (s : StoreState) (message : Message) (t : StoreState) : T
   pub kept : (n : ℕ) → books_in t n ≡ books_in s n
 
 -- a place of the machine that the old state stands for takes the message in, and the new state stands for it then
-pub record Admits (far : Far) (p : PlaceState) (m : machine.Place) (message : Message) (q : PlaceState) : Type 0 where
+pub record Admits (far : Far) (p : PlaceState) (m : machine.Place) (message : Message)
+    (q : PlaceState) : Type 0 where
   pub key : ℕ
   pub new : machine.Place
   pub receives : Receives (setting_of p) p.id m message key new
@@ -48,7 +51,8 @@ pub record Admits (far : Far) (p : PlaceState) (m : machine.Place) (message : Me
 
 -- each place of the machine that the state stands for does, where its global references to objects elsewhere name some
 abbrev pub TakesMessage : PlaceState → Message → PlaceState → Type 0
-TakesMessage p message q = (far : Far) (m : machine.Place) → StandsFor far p m → AreNamedElsewhere (context_of far p) (wrong.graph_of message)
+TakesMessage p message q = (far : Far) (m : machine.Place) → StandsFor far p m
+    → AreNamedElsewhere (context_of far p) (wrong.graph_of message)
     → Admits far p m message q
 
 abbrev pub merged_in : Report → Option Cut → Option Cut
@@ -66,16 +70,24 @@ pub record TakesReport (p : PlaceState) (to : ℕ) (r : Report) (q : PlaceState)
 
 -- the report of a frame
 abbrev pub report_of : (from number : ℕ) → List ℕ → List ℕ → Report
-report_of from number sent received = record { place = from; number = number; sent = sent; received = received }
+report_of from number sent received = record {
+  place = from;
+  number = number;
+  sent = sent;
+  received = received;
+}
 
 abbrev pub TakesFrame : PlaceState → Frame → PlaceState → Type 0
-TakesFrame p (frames.Report from to number sent received) q = TakesReport p to (report_of from number sent received) q
+TakesFrame p (frames.Report from to number sent received) q =
+    TakesReport p to (report_of from number sent received) q
 TakesFrame p f q = (message : Message) × (message_of f ≡ Some message) × TakesMessage p message q
 
 -- the finish under which a frame begins something is one of this place that is not open
 abbrev pub IsShut : PlaceState → Frame → Type 0
-IsShut p (frames.Spawn from to home number function graph) = (home ≡ p.id) × (HasBook (books_of p.books) number → ⊥)
-IsShut p (frames.Shift from to waiting home number function graph) = (home ≡ p.id) × (HasBook (books_of p.books) number → ⊥)
+IsShut p (frames.Spawn from to home number function graph) = (home ≡ p.id)
+    × (HasBook (books_of p.books) number → ⊥)
+IsShut p (frames.Shift from to waiting home number function graph) = (home ≡ p.id)
+    × (HasBook (books_of p.books) number → ⊥)
 IsShut p f = ⊥
 
 -- The bytes are those of a frame of either version, and the place takes it in: one whose finish is open, if it is one of this place. The texts
@@ -109,30 +121,37 @@ pub record Seat : Type 0 where
 
 -- the function that a frame names may begin with its values; a new activity's has no result
 abbrev pub IsSeat : PlaceState → Frame → Seat → Type 0
-IsSeat p (frames.Spawn from to home number function graph) seat = (callee : Function) × (function_at p.program function ≡ Some callee) × (callee.result ≡ None)
+IsSeat p (frames.Spawn from to home number function graph) seat = (callee : Function)
+    × (function_at p.program function ≡ Some callee) × (callee.result ≡ None)
     × (seat ≡ record { home = p.id; slots = callee.parameters })
-IsSeat p (frames.Shift from to waiting home number function graph) seat = (callee : Function) × (function_at p.program function ≡ Some callee)
+IsSeat p (frames.Shift from to waiting home number function graph) seat = (callee : Function)
+    × (function_at p.program function ≡ Some callee)
     × (seat ≡ record { home = p.id; slots = callee.parameters })
-IsSeat p (frames.Back from to waiting graph) seat = (slots : List Slot) × IsAwaited p waiting from slots × (seat ≡ record { home = from; slots = slots })
+IsSeat p (frames.Back from to waiting graph) seat = (slots : List Slot)
+    × IsAwaited p waiting from slots × (seat ≡ record { home = from; slots = slots })
 IsSeat p (frames.Report from to number sent received) seat = ⊥
 
 -- there is none: no such function, or nobody who waits
 abbrev pub LacksSeat : PlaceState → Frame → Refusal → Type 0
-LacksSeat p (frames.Back from to waiting graph) why = (why ≡ refusal.Segment) × ((seat : Seat) → IsSeat p (frames.Back from to waiting graph) seat → ⊥)
+LacksSeat p (frames.Back from to waiting graph) why = (why ≡ refusal.Segment)
+    × ((seat : Seat) → IsSeat p (frames.Back from to waiting graph) seat → ⊥)
 LacksSeat p (frames.Report from to number sent received) why = ⊥
 LacksSeat p f why = (why ≡ refusal.Function) × ((seat : Seat) → IsSeat p f seat → ⊥)
 
--- there can be no more of what a frame begins: of activities under its finish (6) or of keys (10)
-abbrev pub OverfillsLaunch : PlaceState → (from : ℕ) → Finish → ℕ → Type 0
-OverfillsLaunch p from under limit = ((limit ≡ 10) × (2 ^ 32 ≤ p.stays.vacant_key)) ⊎ ((limit ≡ 6) × IsFull (change.Receives from) (totals_of p.ledger under))
+-- there can be no more of what a frame begins: of activities under its finish, or of keys
+abbrev pub OverfillsLaunch : PlaceState → (from : ℕ) → Finish → Limit → Type 0
+OverfillsLaunch p from under limit = ((limit ≡ limits.Keys) × (2 ^ 32 ≤ p.stays.vacant_key))
+    ⊎ ((limit ≡ limits.Activities) × IsFull (change.Receives from) (totals_of p.ledger under))
 
 -- or of what it brings: of objects (1), texts (2) or rails (3)
-abbrev pub OverfillsArrival : PlaceState → Frame → ℕ → Type 0
-OverfillsArrival p (frames.Spawn from to home number function graph) limit = Passes p.heap graph limit
+abbrev pub OverfillsArrival : PlaceState → Frame → Limit → Type 0
+OverfillsArrival p (frames.Spawn from to home number function graph) limit =
+    PassesLimit p.heap graph limit
     ⊎ OverfillsLaunch p from (record { home = home; number = number }) limit
-OverfillsArrival p (frames.Shift from to waiting home number function graph) limit = Passes p.heap graph limit
+OverfillsArrival p (frames.Shift from to waiting home number function graph) limit =
+    PassesLimit p.heap graph limit
     ⊎ OverfillsLaunch p from (record { home = home; number = number }) limit
-OverfillsArrival p (frames.Back from to waiting graph) limit = Passes p.heap graph limit
+OverfillsArrival p (frames.Back from to waiting graph) limit = PassesLimit p.heap graph limit
 OverfillsArrival p (frames.Report from to number sent received) limit = ⊥
 
 -- the values of a frame for this place fit
@@ -147,7 +166,7 @@ pub record IsMisplaced (p : PlaceState) (f : Frame) (why : Refusal) : Type 0 whe
   pub here : to_of f ≡ p.id
   pub seat : Seat
   pub seat_is : IsSeat p f seat
-  pub misfit : IsMisfit p.program p.id seat.home p.heap seat.slots (graph_of f) why
+  pub misfit : IsFirstFault p.program p.id seat.home p.heap seat.slots (graph_of f) why
 
 -- a report of a finish that this place never opened
 abbrev pub IsUnopened : PlaceState → Frame → Type 0
@@ -163,7 +182,8 @@ IsRefusedFrame p f refusal.Kind = IsMisplaced p f refusal.Kind
 IsRefusedFrame p f refusal.Home = IsMisplaced p f refusal.Home
 IsRefusedFrame p f refusal.Ref = IsMisplaced p f refusal.Ref
 IsRefusedFrame p f refusal.Finish = (IsSeated p f × IsShut p f) ⊎ IsUnopened p f
-IsRefusedFrame p f (refusal.Limit limit) = IsSeated p f × (IsShut p f → ⊥) × OverfillsArrival p f limit
+IsRefusedFrame p f (refusal.Limit limit) = IsSeated p f × (IsShut p f → ⊥)
+    × OverfillsArrival p f limit
 IsRefusedFrame p f refusal.Memory = Unit {0}
 IsRefusedFrame p f refusal.Stopped = ⊥
 IsRefusedFrame p f (refusal.Frame fault) = ⊥

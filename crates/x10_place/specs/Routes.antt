@@ -2,6 +2,10 @@
 use Rattle.std.specs.Prelude.{true, false}
 use Rattle.x10_code.specs.declared.op.Op.{Op}
 use Rattle.x10_code.specs.declared.op.Op.TheVariants as op
+use Rattle.x10_place.specs.declared.outcome.Deed.{Deed}
+use Rattle.x10_place.specs.declared.outcome.Deed.TheVariants as deed
+use Rattle.x10_place.specs.declared.outcome.Departure.{Departure}
+use Rattle.x10_place.specs.declared.outcome.Departure.TheVariants as departure
 use Rattle.x10_place.specs.declared.route.Route.{Route}
 use Rattle.x10_place.specs.declared.route.Route.TheVariants as route
 use Rattle.x10_place.specs.declared.route.Local.TheVariants as local
@@ -50,10 +54,21 @@ route_of op.Gnew = route.Export
 route_of op.Gopen = route.Local local.Open
 route_of op.Ifhere = route.Site site.IsHere
 route_of op.Ifsame = route.Local local.SamePlace
-route_of op.Async = route.Begin
-route_of op.At = route.Send
-route_of op.Ata = route.Send
+route_of op.Async = route.Async
+route_of op.At = route.At
+route_of op.Ata = route.Ata
 route_of op.Finb = route.OpenFinish
 route_of op.Fine = route.CloseFinish
 route_of op.Atomb = route.Region true
 route_of op.Atome = route.Region false
+
+-- the operation by which an activity goes to a place
+abbrev pub op_going : Departure → Op
+op_going departure.At = op.At
+op_going departure.Ata = op.Ata
+
+-- the operation of what a place makes
+abbrev pub op_made : Deed → Op
+op_made deed.Begin = op.Async
+op_made (deed.Depart d) = op_going d
+op_made deed.Leave = op.Ret

@@ -3,6 +3,8 @@ use Rattle.std.specs.Prelude.{◌≡◌, ◌≢◌, ℕ, ◌<◌, ◌≤◌, ◌
 use Rattle.std.specs.Prelude.{None, slice_get, slice_index}
 use Rattle.std.specs.Prelude.{string_bytes}
 use Rattle.slab.specs.Slab.{Slab, get}
+use Rattle.x10_kinds.specs.declared.limit.Limit.{Limit}
+use Rattle.x10_kinds.specs.declared.limit.Limit.TheVariants as limits
 use Rattle.x10_kinds.specs.declared.kind.Kind.{Kind}
 use Rattle.x10_kinds.specs.declared.stop.Stop.{Stop}
 use Rattle.x10_kinds.specs.declared.stop.Stop.TheVariants as stop
@@ -27,7 +29,7 @@ use Rattle.x10_finish.specs.Counts.{IsLargest}
 use Rattle.x10_finish.specs.Ledgers.{Ledger, totals_of}
 use Rattle.x10_finish.specs.Nesting.{nth}
 use Rattle.x10_finish.specs.Watching.{closes, IsTallied}
-use Rattle.x10_place.specs.declared.frame.CallFrame.{CallFrame}
+use Rattle.x10_place.specs.declared.call_frame.CallFrame.{CallFrame}
 use Rattle.x10_place.specs.declared.line.Line.{Line}
 use Rattle.x10_place.specs.declared.line.Line.TheVariants as line
 use Rattle.x10_place.specs.declared.place.Stepped.{Stepped}
@@ -61,7 +63,15 @@ pub record PlaceState : Type 0 where
 
 -- what it keeps for all its stays
 abbrev pub store_of : PlaceState → StoreState
-store_of p = record { heap = p.heap; lines = p.lines; opened = p.opened; here = p.id; places = p.places; ledger = p.ledger; books = p.books }
+store_of p = record {
+  heap = p.heap;
+  lines = p.lines;
+  opened = p.opened;
+  here = p.id;
+  places = p.places;
+  ledger = p.ledger;
+  books = p.books;
+}
 
 -- how much room there is for stays isn't part of what callers see
 abbrev pub plain : Slab StayState → Slab StayState
@@ -85,7 +95,14 @@ place_of verified stays store stopped = record {
 
 -- the place with other stays, and what it then keeps for them
 abbrev pub with_stays : PlaceState → Slab StayState → StoreState → PlaceState
-with_stays p stays s = record p { stays = plain stays; heap = s.heap; lines = s.lines; opened = s.opened; ledger = s.ledger; books = s.books }
+with_stays p stays s = record p {
+  stays = plain stays;
+  heap = s.heap;
+  lines = s.lines;
+  opened = s.opened;
+  ledger = s.ledger;
+  books = s.books;
+}
 
 -- which home, number and class name an object at another place
 abbrev pub Far : Type 0
@@ -93,7 +110,13 @@ Far = ℕ → ℕ → ℕ → Bool
 
 -- what the meaning of words rests on, at a place with a heap, where it is known what other places export
 abbrev pub context : Setting → ℕ → HeapState → Far → Context
-context setting here heap far = record { classes = setting.program.classes; here = here; places = setting.places; heap = heap; far = far }
+context setting here heap far = record {
+  classes = setting.program.classes;
+  here = here;
+  places = setting.places;
+  heap = heap;
+  far = far;
+}
 
 -- what does not change in a run
 abbrev pub setting_of : PlaceState → Setting
@@ -129,7 +152,8 @@ line_as (line.Text t) = Words (string_bytes t)
 
 -- the least consistent assignment of each function
 abbrev pub Assigned : Module → Type 0
-Assigned program = (f : ℕ) (function : Function) → function_at program f ≡ Some function → HasLeast program function
+Assigned program = (f : ℕ) (function : Function) → function_at program f ≡ Some function
+    → HasLeast program function
 
 -- each register of which the kind is known holds a value, and its word stands for that value
 abbrev pub HoldRegisters : Context → State → (ℕ → Option Value) → List ℕ → Type 0
@@ -138,7 +162,8 @@ HoldRegisters x s registers words = (r : ℕ) (kind : Kind) → s.kinds r ≡ So
 
 -- a call frame of the program stands for one of the machine: at the same instruction of the same function, with words for
 -- the values of each register of which the assignment knows the kind there, with homes as it knows them, and the same turns
-pub record StandsForFrame (program : Module) (assigned : Assigned program) (x : Context) (f : CallFrame) (c : machine.CallFrame) : Type 0 where
+pub record StandsForFrame (program : Module) (assigned : Assigned program) (x : Context)
+    (f : CallFrame) (c : machine.CallFrame) : Type 0 where
   pub function_is : c.function ≡ f.function
   pub pc_is : c.pc ≡ f.pc
   pub function : Function
@@ -152,9 +177,11 @@ pub record StandsForFrame (program : Module) (assigned : Assigned program) (x : 
 
 -- Call frames stand for the machine's callers, of which the last one is the first. Each stands at its CALL on both sides: so
 -- a return rests on the rule of that CALL and on its own.
-abbrev pub StandForCallers : (program : Module) → Assigned program → Context → List CallFrame → List machine.CallFrame → Type 0
+abbrev pub StandForCallers : (program : Module) → Assigned program → Context → List CallFrame
+    → List machine.CallFrame → Type 0
 StandForCallers program assigned x fs [] = fs ≡ []
-StandForCallers program assigned x fs (c ∷ cs) = (before : List CallFrame) × (f : CallFrame) × (fs ≡ before ++ f ∷ []) × StandsForFrame program assigned x f c
+StandForCallers program assigned x fs (c ∷ cs) = (before : List CallFrame) × (f : CallFrame)
+    × (fs ≡ before ++ f ∷ []) × StandsForFrame program assigned x f c
     × StandForCallers program assigned x before cs
 
 -- the finish that it inherited is of a place of the run, and so is the stay that its result goes back to, with a key that a
@@ -164,7 +191,8 @@ pub record IsOfRun (places : ℕ) (a : StayState) : Type 0 where
   pub back : (o : Origin) → a.back ≡ Some o → (o.place < places) × (o.key < 2 ^ 32)
 
 -- a stay of the program stands where it can go on, and stands for a stay of the machine
-pub record StandsForStay (program : Module) (assigned : Assigned program) (x : Context) (a : StayState) (s : Stay) : Type 0 where
+pub record StandsForStay (program : Module) (assigned : Assigned program) (x : Context)
+    (a : StayState) (s : Stay) : Type 0 where
   pub placed : IsPlaced program a
   pub top : StandsForFrame program assigned x a.top s.top
   pub callers : StandForCallers program assigned x a.callers s.callers
@@ -197,9 +225,11 @@ pub record IsTypedFrame (program : Module) (heap : HeapState) (f : CallFrame) : 
   pub named : AreNamed heap
   pub far : Far
   pub frame : machine.CallFrame
-  pub stands : StandsForFrame program assigned (context (record { program = program; places = places }) here heap far) f frame
+  pub stands : StandsForFrame program assigned
+      (context (record { program = program; places = places }) here heap far) f frame
   pub cells : Cells
-  pub holds : HoldsHeap (context (record { program = program; places = places }) here heap far) cells
+  pub holds : HoldsHeap (context (record { program = program; places = places }) here heap far)
+      cells
 
 -- The same of all words of a stay: at its place, beside this heap, it stands for some stay.
 pub record IsTyped (at : Location) (heap : HeapState) (a : StayState) : Type 0 where
@@ -208,9 +238,11 @@ pub record IsTyped (at : Location) (heap : HeapState) (a : StayState) : Type 0 w
   pub named : AreNamed heap
   pub far : Far
   pub stay : Stay
-  pub stands : StandsForStay at.program assigned (context (record { program = at.program; places = at.places }) at.here heap far) a stay
+  pub stands : StandsForStay at.program assigned
+      (context (record { program = at.program; places = at.places }) at.here heap far) a stay
   pub cells : Cells
-  pub holds : HoldsHeap (context (record { program = at.program; places = at.places }) at.here heap far) cells
+  pub holds : HoldsHeap (context (record { program = at.program; places = at.places }) at.here heap
+      far) cells
 
 -- The place counts the stay, and keeps a book of each finish that it has open.
 pub record IsRegistered (at : Location) (s : StoreState) (a : StayState) : Type 0 where
@@ -244,10 +276,14 @@ IsOpenIn stays n = (k i : ℕ) × (s : Stay) × (stays k ≡ Some s) × (nth s.f
 
 -- Each finish that a stay has open has a number that its place gave, and a book. No two are the same, and a number that was
 -- not given yet has no book. At place 0 there is the root's book. There are no other books: a finish that was closed has none.
-pub record AreBooked (id : ℕ) (stays : ℕ → Option Stay) (opened : ℕ) (books : ℕ → Option Cut) : Type 0 where
-  pub booked : (k i n : ℕ) (s : Stay) → stays k ≡ Some s → nth s.finishes i ≡ Some n → HasBook books n
-  pub numbered : (k i n : ℕ) (s : Stay) → stays k ≡ Some s → nth s.finishes i ≡ Some n → (first_number id ≤ n) × (n < opened)
-  pub apart : (k l i j n : ℕ) (s t : Stay) → stays k ≡ Some s → stays l ≡ Some t → nth s.finishes i ≡ Some n → nth t.finishes j ≡ Some n → (k ≡ l) × (i ≡ j)
+pub record AreBooked (id : ℕ) (stays : ℕ → Option Stay) (opened : ℕ)
+    (books : ℕ → Option Cut) : Type 0 where
+  pub booked : (k i n : ℕ) (s : Stay) → stays k ≡ Some s → nth s.finishes i ≡ Some n
+      → HasBook books n
+  pub numbered : (k i n : ℕ) (s : Stay) → stays k ≡ Some s → nth s.finishes i ≡ Some n
+      → (first_number id ≤ n) × (n < opened)
+  pub apart : (k l i j n : ℕ) (s t : Stay) → stays k ≡ Some s → stays l ≡ Some t
+      → nth s.finishes i ≡ Some n → nth t.finishes j ≡ Some n → (k ≡ l) × (i ≡ j)
   pub unopened : (n : ℕ) → opened ≤ n → books n ≡ None
   pub first : first_number id ≤ opened
   pub root : id ≡ 0 → HasBook books 0
@@ -262,7 +298,8 @@ pub record StandsFor (far : Far) (p : PlaceState) (m : machine.Place) : Type 0 w
   pub none : (key : ℕ) → get p.stays key ≡ None → m.stays key ≡ None
   pub keys : (key : ℕ) → 2 ^ 32 ≤ key → get p.stays key ≡ None
   pub some : (key : ℕ) (a : StayState) → get p.stays key ≡ Some a
-      → (s : Stay) × (m.stays key ≡ Some s) × StandsForStay p.program assigned (context_of far p) a s
+      → (s : Stay) × (m.stays key ≡ Some s)
+      × StandsForStay p.program assigned (context_of far p) a s
   pub site : IsWithinPlaces p.program p.id p.places
   pub heap : HoldsHeap (context_of far p) m.cells
   pub exports : HoldsExports p.heap m.exports
@@ -286,14 +323,18 @@ pub record Keeps (p q : PlaceState) : Type 0 where
 pub record IsCountedBy (s : StoreState) (effect : Effect) (t : StoreState) : Type 0 where
   pub here : t.here ≡ s.here
   pub places : t.places ≡ s.places
-  pub totals : (f : Finish) → closes s.here effect f ≡ false → totals_in t f ≡ totals_after f (totals_in s f) (Did effect)
-  pub kept : (n : ℕ) → closes s.here effect (finish_at s.here n) ≡ false → kept_in (books_in t n) ≡ kept_in (books_in s n)
-  pub done : (n : ℕ) → effect ≡ Closes n → IsDoneHere s n × (totals_in t (finish_at s.here n) ≡ nothing)
+  pub totals : (f : Finish) → closes s.here effect f ≡ false
+      → totals_in t f ≡ totals_after f (totals_in s f) (Did effect)
+  pub kept : (n : ℕ) → closes s.here effect (finish_at s.here n) ≡ false
+      → kept_in (books_in t n) ≡ kept_in (books_in s n)
+  pub done : (n : ℕ) → effect ≡ Closes n → IsDoneHere s n
+      × (totals_in t (finish_at s.here n) ≡ nothing)
 
 -- a step finds nothing to do exactly where the move waits at the end of a finish, else it tells what the move puts out
 abbrev pub Answers : Far → PlaceState → Stepped → Effect → Type 0
 Answers far p stepped.Idle effect = (number : ℕ) × (effect ≡ Waits number)
-Answers far p (stepped.Moved out) effect = ((number : ℕ) → effect ≡ Waits number → ⊥) × PutsOut p.program (context_of far p) (store_of p) effect out
+Answers far p (stepped.Moved out) effect = ((number : ℕ) → effect ≡ Waits number → ⊥)
+    × PutsOut p.program (context_of far p) (store_of p) effect out
 
 -- A step of the activity with the key adds the texts that its instruction makes, and no others; those that were there stay.
 pub record AddsTexts (p : PlaceState) (key : ℕ) (q : PlaceState) : Type 0 where
@@ -307,7 +348,8 @@ pub record AddsTexts (p : PlaceState) (key : ℕ) (q : PlaceState) : Type 0 wher
 
 -- From a place of the machine that the old state stands for, the move of the activity with the key leads to one that
 -- the new state stands for.
-pub record Leads (far : Far) (p : PlaceState) (m : machine.Place) (key : ℕ) (answer : Stepped) (q : PlaceState) : Type 0 where
+pub record Leads (far : Far) (p : PlaceState) (m : machine.Place) (key : ℕ) (answer : Stepped)
+    (q : PlaceState) : Type 0 where
   pub effect : Effect
   pub new : machine.Place
   pub moves : Moves (setting_of p) p.id m key new effect
@@ -318,25 +360,30 @@ pub record Leads (far : Far) (p : PlaceState) (m : machine.Place) (key : ℕ) (a
 
 -- each place of the machine that the state stands for makes such a move
 abbrev pub LeadsAll : PlaceState → ℕ → Stepped → PlaceState → Type 0
-LeadsAll p key answer q = (far : Far) (m : machine.Place) → StandsFor far p m → Leads far p m key answer q
+LeadsAll p key answer q = (far : Far) (m : machine.Place) → StandsFor far p m
+    → Leads far p m key answer q
 
--- an activity would begin that there can't be: its key (10), or how many live under its finish (6), would be too large
-abbrev pub OverfillsBegin : PlaceState → StayState → ℕ → Type 0
-OverfillsBegin p a limit = ((limit ≡ 10) × (2 ^ 32 ≤ p.stays.vacant_key))
-    ⊎ ((limit ≡ 6) × (p.stays.vacant_key < 2 ^ 32) × IsLargest (totals_of p.ledger (innermost_at p.id a)).live)
+-- an activity would begin that there can't be: its key, or how many live under its finish, would be too large
+abbrev pub OverfillsBegin : PlaceState → StayState → Limit → Type 0
+OverfillsBegin p a limit = ((limit ≡ limits.Keys) × (2 ^ 32 ≤ p.stays.vacant_key))
+    ⊎ ((limit ≡ limits.Activities) × (p.stays.vacant_key < 2 ^ 32)
+    × IsLargest (totals_of p.ledger (innermost_at p.id a)).live)
 
--- as many as can be counted were sent under its finish to the place that an instruction names (6)
-abbrev pub OverfillsSend : PlaceState → StayState → Instr → ℕ → Type 0
-OverfillsSend p a i limit = (limit ≡ 6) × IsLargest ((totals_of p.ledger (innermost_at p.id a)).sent (word_at a.top.registers.items i.c))
+-- as many as can be counted were sent under its finish to the place that an instruction names
+abbrev pub OverfillsSend : PlaceState → StayState → Instr → Limit → Type 0
+OverfillsSend p a i limit = (limit ≡ limits.Activities)
+    × IsLargest ((totals_of p.ledger (innermost_at p.id a)).sent
+    (word_at a.top.registers.items i.c))
 
-abbrev pub Overfills : Route → PlaceState → StayState → Instr → ℕ → Type 0
-Overfills route.Begin p a i limit = OverfillsBegin p a limit
-Overfills route.Send p a i limit = OverfillsSend p a i limit
+abbrev pub Overfills : Route → PlaceState → StayState → Instr → Limit → Type 0
+Overfills route.Async p a i limit = OverfillsBegin p a limit
+Overfills route.At p a i limit = OverfillsSend p a i limit
+Overfills route.Ata p a i limit = OverfillsSend p a i limit
 Overfills r p a i limit = OverfillsBy r a (store_of p) i limit
 
 -- the activity with the key is ready, no other is inside an atomic region, and its instruction would make one more of what
 -- there can be no more of
-pub record IsOverfull (p : PlaceState) (key limit : ℕ) : Type 0 where
+pub record IsOverfull (p : PlaceState) (key : ℕ) (limit : Limit) : Type 0 where
   pub stay : StayState
   pub is_there : get p.stays key ≡ Some stay
   pub is_ready : stay.away ≡ false
@@ -347,7 +394,7 @@ pub record IsOverfull (p : PlaceState) (key limit : ℕ) : Type 0 where
 
 -- The activity with the key is ready, no other is inside an atomic region, and what its instruction sends would have more
 -- objects (7), texts (8) or rails (9) than a frame can have.
-pub record IsOverloaded (p : PlaceState) (key limit : ℕ) : Type 0 where
+pub record IsOverloaded (p : PlaceState) (key : ℕ) (limit : Limit) : Type 0 where
   pub stay : StayState
   pub is_there : get p.stays key ≡ Some stay
   pub is_ready : stay.away ≡ false
@@ -355,21 +402,21 @@ pub record IsOverloaded (p : PlaceState) (key limit : ℕ) : Type 0 where
   pub instr : Instr
   pub instr_is : instr_at p.program stay.top.function stay.top.pc ≡ Some instr
   pub sends : IsSending (route_of instr.op) stay
-  pub overloads : Overloads p.program.classes p.heap (slots_sent (route_of instr.op) p.program stay instr)
-      (words_sent (route_of instr.op) (slots_sent (route_of instr.op) p.program stay instr) stay instr) limit
-
--- the limits that a step may pass: objects (1), texts (2), rails (3), global references (4), finishes (5), activities under
--- one finish (6), objects, texts and rails of one frame (7, 8, 9), and keys (10)
-abbrev pub IsStepLimit : ℕ → Type 0
-IsStepLimit limit = (1 ≤ limit) × (limit ≤ 10)
+  pub overloads : Overloads p.program.classes p.heap
+      (slots_sent (route_of instr.op) p.program stay instr)
+      (words_sent (route_of instr.op) (slots_sent (route_of instr.op) p.program stay instr) stay
+      instr) limit
 
 -- why a step of the activity with the key is not made: memory was refused, or it would pass a limit
 abbrev pub IsHindered : PlaceState → ℕ → Stop → Type 0
-IsHindered p key why = (why ≡ stop.Memory) ⊎ ((limit : ℕ) × (why ≡ stop.Limit limit) × (IsOverfull p key limit ⊎ IsOverloaded p key limit))
+IsHindered p key why = (why ≡ stop.Memory)
+    ⊎ ((limit : Limit) × (why ≡ stop.Limit limit)
+    × (IsOverfull p key limit ⊎ IsOverloaded p key limit))
 
 -- the operation of an instruction of a function
 abbrev pub IsOperation : Module → ℕ → ℕ → Op → Type 0
-IsOperation program function pc op = (i : Instr) × (instr_at program function pc ≡ Some i) × (i.op ≡ op)
+IsOperation program function pc op = (i : Instr) × (instr_at program function pc ≡ Some i)
+    × (i.op ≡ op)
 
 -- A step of the activity with the key would find nothing to do: there is none, it is away, another is inside an atomic
 -- region, or it stands at the end of a finish that may not end yet.
@@ -377,7 +424,8 @@ pub data IsIdleAt (p : PlaceState) (key : ℕ) : Type 0 where
   nobody : get p.stays key ≡ None → IsIdleAt p key
   away : (a : StayState) → get p.stays key ≡ Some a → a.away ≡ true → IsIdleAt p key
   kept_out : (other : ℕ) → inside_at p.stays other ≡ true → other ≢ key → IsIdleAt p key
-  waits : (a : StayState) (number : ℕ) (outer : List ℕ) → get p.stays key ≡ Some a → AreOutside p.stays key → IsOperation p.program a.top.function a.top.pc op.Fine
+  waits : (a : StayState) (number : ℕ) (outer : List ℕ) → get p.stays key ≡ Some a
+      → AreOutside p.stays key → IsOperation p.program a.top.function a.top.pc op.Fine
       → a.finishes ≡ number ∷ outer → (IsDoneHere (store_of p) number → ⊥) → IsIdleAt p key
 
 -- the activity with the key can move, and none with a lower key can
@@ -387,4 +435,5 @@ pub record IsFirstAble (p : PlaceState) (key : ℕ) : Type 0 where
 
 -- the activity with the key stands at an instruction of a function
 abbrev pub IsAt : Slab StayState → ℕ → ℕ → ℕ → Type 0
-IsAt slab key function pc = (a : StayState) × (get slab key ≡ Some a) × (a.top.function ≡ function) × (a.top.pc ≡ pc)
+IsAt slab key function pc = (a : StayState) × (get slab key ≡ Some a) × (a.top.function ≡ function)
+    × (a.top.pc ≡ pc)

@@ -3,6 +3,8 @@ use Rattle.std.specs.Prelude.{◌≡◌, ℕ, ◌+◌, ◌<◌, ◌⊎◌, Bool,
 use Rattle.std.specs.BTreeMap.{is_at}
 use Rattle.std.specs.Map.{lookup}
 use Rattle.std.specs.Ordering.{nat_cmp}
+use Rattle.x10_kinds.specs.declared.limit.Limit.{Limit}
+use Rattle.x10_kinds.specs.declared.limit.Limit.TheVariants as limits
 use Rattle.x10_kinds.specs.declared.kind.Kind.TheVariants as kind
 use Rattle.x10_kinds.specs.declared.stop.Stop.{Stop}
 use Rattle.x10_kinds.specs.declared.stop.Stop.TheVariants as stop
@@ -24,11 +26,13 @@ use Rattle.x10_finish.specs.Ledgers.{Ledger, totals_of}
 use Rattle.x10_heap.specs.Heaps.{HeapState, IsFull}
 use Rattle.x10_verify.specs.Least.{HasLeast}
 use Rattle.x10_verify.specs.Printing.{PrintsText}
-use Rattle.x10_place.specs.declared.frame.CallFrame.{CallFrame}
+use Rattle.x10_place.specs.declared.call_frame.CallFrame.{CallFrame}
 use Rattle.x10_place.specs.declared.stay.Origin as stay
-use Rattle.x10_place.specs.declared.stay.Outcome.{Outcome}
-use Rattle.x10_place.specs.declared.stay.Outcome.TheVariants as outcome
-use Rattle.x10_place.specs.declared.stay.Spot.{Spot}
+use Rattle.x10_place.specs.declared.outcome.Deed.TheVariants as deed
+use Rattle.x10_place.specs.declared.outcome.Departure.TheVariants as departure
+use Rattle.x10_place.specs.declared.outcome.Outcome.{Outcome}
+use Rattle.x10_place.specs.declared.outcome.Outcome.TheVariants as outcome
+use Rattle.x10_place.specs.declared.stay.Locality.{Locality}
 use Rattle.x10_place.specs.declared.line.Line.{Line}
 use Rattle.x10_place.specs.declared.line.Line.TheVariants as line
 use Rattle.x10_place.specs.declared.route.Route.{Route}
@@ -89,7 +93,8 @@ pub record IsBookOf (here places n : ℕ) (b : Kept) : Type 0 where
   pub places_are : b.places ≡ places
 
 abbrev pub AreBooks : ℕ → ℕ → List (ℕ × Kept) → Type 0
-AreBooks here places books = (n : ℕ) (b : Kept) → book_at books n ≡ Some b → IsBookOf here places n b
+AreBooks here places books = (n : ℕ) (b : Kept) → book_at books n ≡ Some b
+    → IsBookOf here places n b
 
 -- the finish with a number that a place opened
 abbrev pub finish_at : ℕ → ℕ → Finish
@@ -110,10 +115,12 @@ changed_at totals f change g = if_same g f (change (totals g)) (totals g)
 
 -- the home lets the finish with a number end
 abbrev pub IsDoneHere : StoreState → ℕ → Type 0
-IsDoneHere s n = IsDoneAt s.places s.here (totals_in s (finish_at s.here n)) (kept_in (books_in s n))
+IsDoneHere s n = IsDoneAt s.places s.here (totals_in s (finish_at s.here n))
+    (kept_in (books_in s n))
 
 -- a store with other finishes opened, other totals and other books, and all else as it was
-pub record Recounts (s t : StoreState) (opened : ℕ) (totals : Finish → Totals) (books : ℕ → Option Cut) : Type 0 where
+pub record Recounts (s t : StoreState) (opened : ℕ) (totals : Finish → Totals)
+    (books : ℕ → Option Cut) : Type 0 where
   pub heap : t.heap ≡ s.heap
   pub lines : t.lines ≡ s.lines
   pub here : t.here ≡ s.here
@@ -128,8 +135,12 @@ pub record Location : Type 0 where
   pub here : ℕ
   pub places : ℕ
 
-abbrev pub location : Module → Spot → Location
-location program spot = record { program = program; here = spot.here; places = spot.places }
+abbrev pub location : Module → Locality → Location
+location program locality = record {
+  program = program;
+  here = locality.here;
+  places = locality.places;
+}
 
 abbrev pub finish_as : finish.Finish → Finish
 finish_as f = record { home = f.home; number = f.number }
@@ -156,7 +167,8 @@ next_function (f ∷ fs) top = f.function
 -- each call frame stands at a call of the function of the next one
 abbrev pub AreCalling : Module → List CallFrame → ℕ → Type 0
 AreCalling program [] top = Unit {0}
-AreCalling program (f ∷ fs) top = IsCalling program f (next_function fs top) × AreCalling program fs top
+AreCalling program (f ∷ fs) top = IsCalling program f (next_function fs top)
+    × AreCalling program fs top
 
 -- how many finishes of its function a call frame stands in
 abbrev pub open_at : Module → CallFrame → ℕ
@@ -181,7 +193,8 @@ pub record IsPlaced (program : Module) (a : StayState) : Type 0 where
 -- ---- steps
 
 -- the top call frame and the heap change so, and nothing else does
-pub record ChangesTop (change : Workspace → Workspace → Type 0) (a : StayState) (s : StoreState) (b : StayState) (t : StoreState) : Type 0 where
+pub record ChangesTop (change : Workspace → Workspace → Type 0) (a : StayState) (s : StoreState)
+    (b : StayState) (t : StoreState) : Type 0 where
   pub changes : change (space_of a.top s.heap) (space_of b.top t.heap)
   pub function_is : b.top.function ≡ a.top.function
   pub rest : b ≡ record a { top = b.top }
@@ -209,10 +222,12 @@ pub record Calls (program : Module) (a : StayState) (i : Instr) (b : StayState) 
 -- the caller goes on after its call, with the result, if there is one, in the call's register a
 abbrev pub GoesOn : Option Slot → CallFrame → Instr → CallFrame → Instr → CallFrame → Type 0
 GoesOn None caller call top i f = GoesNext caller f
-GoesOn (Some slot) caller call top i f = GoesNextWith caller call.a (word_at top.registers.items i.a) f
+GoesOn (Some slot) caller call top i f =
+    GoesNextWith caller call.a (word_at top.registers.items i.a) f
 
 -- the call frame, which stands at its call of the function that ends, goes on
-pub record GoesBack (program : Module) (top : CallFrame) (i : Instr) (caller f : CallFrame) : Type 0 where
+pub record GoesBack (program : Module) (top : CallFrame) (i : Instr)
+    (caller f : CallFrame) : Type 0 where
   pub call : Instr
   pub fetched : IsFetchedFor program caller call
   pub op_is : call.op ≡ op.Call
@@ -227,24 +242,29 @@ pub record Resumes (program : Module) (a : StayState) (i : Instr) (b : StayState
   pub rest : b ≡ record a { top = b.top; callers = b.callers }
 
 -- a function ends: its caller goes on, or there is none, and the place ends the stay
-abbrev pub Returns : Module → StayState → StoreState → Instr → Outcome → StayState → StoreState → Type 0
+abbrev pub Returns : Module → StayState → StoreState → Instr → Outcome → StayState → StoreState
+    → Type 0
 Returns program a s i outcome.Goes b t = Resumes program a i b × (t ≡ s)
-Returns program a s i outcome.ForPlace b t = (a.callers ≡ []) × (b ≡ a) × (t ≡ s)
+Returns program a s i (outcome.ForPlace d j) b t = (d ≡ deed.Leave) × (j ≡ i) × (a.callers ≡ [])
+    × (b ≡ a) × (t ≡ s)
 Returns program a s i _ b t = ⊥
 
 -- the least consistent assignment knows a number where the PRINT stands, if it has a state there
 abbrev pub PrintsNumber : Module → ℕ → ℕ → ℕ → Type 0
-PrintsNumber program f pc r = (function : Function) (is : function_at program f ≡ Some function) (assigned : HasLeast program function) (s : State)
+PrintsNumber program f pc r = (function : Function) (is : function_at program f ≡ Some function)
+    (assigned : HasLeast program function) (s : State)
     → assigned.0 pc ≡ Some s → IsKind s r kind.Int
 
 -- what a PRINT says of its register: a number, or a text
 abbrev pub IsPrinted : Module → HeapState → CallFrame → ℕ → Line → Type 0
-IsPrinted program heap f r (line.Int z) = PrintsNumber program f.function f.pc r × (z ≡ int_at f.registers.items r)
+IsPrinted program heap f r (line.Int z) = PrintsNumber program f.function f.pc r
+    × (z ≡ int_at f.registers.items r)
 IsPrinted program heap f r (line.Text text) = PrintsText program f.function f.pc
     × (slice_get heap.texts (word_at f.registers.items r) ≡ Some (string_bytes text))
 
 -- a line is printed
-pub record Prints (program : Module) (a : StayState) (s : StoreState) (i : Instr) (b : StayState) (t : StoreState) : Type 0 where
+pub record Prints (program : Module) (a : StayState) (s : StoreState) (i : Instr) (b : StayState)
+    (t : StoreState) : Type 0 where
   pub printed : Line
   pub is_printed : IsPrinted program s.heap a.top i.a printed
   pub top : GoesNext a.top b.top
@@ -261,22 +281,27 @@ pub record GoesOnInside (inside : Bool) (a b : StayState) : Type 0 where
 -- ---- finishes
 
 -- a finish is opened: it takes the next number, and nothing was reported of it yet
-pub record OpensFinish (a : StayState) (s : StoreState) (b : StayState) (t : StoreState) : Type 0 where
+pub record OpensFinish (a : StayState) (s : StoreState) (b : StayState)
+    (t : StoreState) : Type 0 where
   pub top : GoesNext a.top b.top
   pub rest : b ≡ record a { top = b.top; finishes = s.opened ∷ a.finishes }
-  pub store : Recounts s t (s.opened + 1) (totals_in s) (with_entry (books_in s) s.opened (Some (λ p. zeros)))
+  pub store : Recounts s t (s.opened + 1) (totals_in s)
+      (with_entry (books_in s) s.opened (Some (λ p. zeros)))
 
 -- the innermost finish may end, and is closed: what was counted of it goes, and its book
-pub record ClosesFinish (a : StayState) (s : StoreState) (b : StayState) (t : StoreState) : Type 0 where
+pub record ClosesFinish (a : StayState) (s : StoreState) (b : StayState)
+    (t : StoreState) : Type 0 where
   pub number : ℕ
   pub innermost : a.finishes ≡ number ∷ b.finishes
   pub done : IsDoneHere s number
   pub top : GoesNext a.top b.top
   pub rest : b ≡ record a { top = b.top; finishes = b.finishes }
-  pub store : Recounts s t s.opened (changed_at (totals_in s) (finish_at s.here number) (λ u. nothing)) (with_entry (books_in s) number None)
+  pub store : Recounts s t s.opened (changed_at (totals_in s) (finish_at s.here number)
+      (λ u. nothing)) (with_entry (books_in s) number None)
 
 -- it may not end yet, and nothing changes
-pub record WaitsAtFinish (a : StayState) (s : StoreState) (b : StayState) (t : StoreState) : Type 0 where
+pub record WaitsAtFinish (a : StayState) (s : StoreState) (b : StayState)
+    (t : StoreState) : Type 0 where
   pub number : ℕ
   pub outer : List ℕ
   pub innermost : a.finishes ≡ number ∷ outer
@@ -293,23 +318,32 @@ LeavesFinish a s _ b t = ⊥
 
 -- What an operation does to a stay and to what the place keeps, and what becomes of the stay. Where the step is for the
 -- place to make, nothing has happened yet.
-abbrev pub Steps : Route → Location → StayState → StoreState → Instr → Outcome → StayState → StoreState → Type 0
-Steps (route.Local l) at a s i o b t = (o ≡ outcome.Goes) × ChangesTop (λ v w. Acts l at.program v i w) a s b t
-Steps (route.Make m) at a s i o b t = (o ≡ outcome.Goes) × ChangesTop (λ v w. Makes m at.program v i w) a s b t
-Steps (route.Site k) at a s i o b t = (o ≡ outcome.Goes) × ChangesTop (λ v w. ActsAt k at.here at.places v i w) a s b t
-Steps route.Export at a s i o b t = (o ≡ outcome.Goes) × ChangesTop (λ v w. ExportsObject at.here v i w) a s b t
+abbrev pub Steps : Route → Location → StayState → StoreState → Instr → Outcome → StayState
+    → StoreState → Type 0
+Steps (route.Local l) at a s i o b t = (o ≡ outcome.Goes)
+    × ChangesTop (λ v w. Acts l at.program v i w) a s b t
+Steps (route.Make m) at a s i o b t = (o ≡ outcome.Goes)
+    × ChangesTop (λ v w. Makes m at.program v i w) a s b t
+Steps (route.Site k) at a s i o b t = (o ≡ outcome.Goes)
+    × ChangesTop (λ v w. ActsAt k at.here at.places v i w) a s b t
+Steps route.Export at a s i o b t = (o ≡ outcome.Goes)
+    × ChangesTop (λ v w. ExportsObject at.here v i w) a s b t
 Steps route.Call at a s i o b t = (o ≡ outcome.Goes) × Calls at.program a i b × (t ≡ s)
 Steps route.Return at a s i o b t = Returns at.program a s i o b t
 Steps route.Print at a s i o b t = (o ≡ outcome.Goes) × Prints at.program a s i b t
 Steps (route.Region inside) at a s i o b t = (o ≡ outcome.Goes) × GoesOnInside inside a b × (t ≡ s)
 Steps route.OpenFinish at a s i o b t = (o ≡ outcome.Goes) × OpensFinish a s b t
 Steps route.CloseFinish at a s i o b t = LeavesFinish a s o b t
-Steps route.Begin at a s i o b t = (o ≡ outcome.ForPlace) × (b ≡ a) × (t ≡ s)
-Steps route.Send at a s i o b t = (o ≡ outcome.ForPlace) × (b ≡ a) × (t ≡ s)
+Steps route.Async at a s i o b t = (o ≡ outcome.ForPlace deed.Begin i) × (b ≡ a) × (t ≡ s)
+Steps route.At at a s i o b t = (o ≡ outcome.ForPlace (deed.Depart departure.At) i) × (b ≡ a)
+    × (t ≡ s)
+Steps route.Ata at a s i o b t = (o ≡ outcome.ForPlace (deed.Depart departure.Ata) i) × (b ≡ a)
+    × (t ≡ s)
 
 -- the innermost finish is open at this place
 abbrev pub HasFinish : StayState → StoreState → Type 0
-HasFinish a s = (number : ℕ) × (outer : List ℕ) × (a.finishes ≡ number ∷ outer) × HasBook (books_in s) number
+HasFinish a s = (number : ℕ) × (outer : List ℕ) × (a.finishes ≡ number ∷ outer)
+    × HasBook (books_in s) number
 
 -- what an operation reads in the heap, of places or of finishes is there
 abbrev pub ReadsStore : Route → Location → StayState → StoreState → Instr → Type 0
@@ -317,22 +351,24 @@ ReadsStore (route.Local l) at a s i = Reads l s.heap a.top.registers.items i
 ReadsStore (route.Make m) at a s i = ReadsMake m s.heap a.top.registers.items i
 ReadsStore (route.Site k) at a s i = ReadsAt k at.places a.top.registers.items i
 ReadsStore route.Export at a s i = NamesObject s.heap a.top.registers.items i.b
-ReadsStore route.Print at a s i = PrintsText at.program a.top.function a.top.pc → word_at a.top.registers.items i.a < length s.heap.texts
+ReadsStore route.Print at a s i = PrintsText at.program a.top.function a.top.pc
+    → word_at a.top.registers.items i.a < length s.heap.texts
 ReadsStore route.CloseFinish at a s i = HasFinish a s
 ReadsStore _ at a s i = Unit {0}
 
 -- an operation of a stay would make one more of what there can be no more of
-abbrev pub OverfillsBy : Route → StayState → StoreState → Instr → ℕ → Type 0
+abbrev pub OverfillsBy : Route → StayState → StoreState → Instr → Limit → Type 0
 OverfillsBy (route.Make m) a s i limit = Overfills m s.heap a.top.registers.items i limit
-OverfillsBy route.Export a s i limit = (limit ≡ 4) × IsFull (length s.heap.exports)
-OverfillsBy route.OpenFinish a s i limit = (limit ≡ 5) × IsFull s.opened
+OverfillsBy route.Export a s i limit = (limit ≡ limits.References) × IsFull (length s.heap.exports)
+OverfillsBy route.OpenFinish a s i limit = (limit ≡ limits.Finishes) × IsFull s.opened
 OverfillsBy _ a s i limit = ⊥
 
 -- why an operation of a stay is refused: since memory is refused, or since there can be no more of what it makes
 abbrev pub Refuses : Route → StayState → StoreState → Instr → Stop → Type 0
 Refuses (route.Make m) a s i why = IsRefused m s.heap a.top.registers.items i why
 Refuses route.Export a s i why = IsExportRefused s.heap why
-Refuses route.OpenFinish a s i why = (why ≡ stop.Memory) ⊎ ((why ≡ stop.Limit 5) × IsFull s.opened)
+Refuses route.OpenFinish a s i why = (why ≡ stop.Memory)
+    ⊎ ((why ≡ stop.Limit limits.Finishes) × IsFull s.opened)
 Refuses route.Call a s i why = why ≡ stop.Memory
 Refuses route.Print a s i why = why ≡ stop.Memory
 Refuses _ a s i why = ⊥
@@ -344,7 +380,8 @@ abbrev pub innermost_at : ℕ → StayState → Finish
 innermost_at here a = innermost_of here a.inherited a.finishes
 
 -- a stay at the first instruction of a function, with the arguments in its first registers, under a finish
-pub record IsBegun (program : Module) (words : List ℕ) (i : Instr) (under : Finish) (c : StayState) : Type 0 where
+pub record IsBegun (program : Module) (words : List ℕ) (i : Instr) (under : Finish)
+    (c : StayState) : Type 0 where
   pub entered : IsEntered program words i c.top
   pub callers : c.callers ≡ []
   pub finishes : c.finishes ≡ []

@@ -15,7 +15,9 @@ only_if false text = []
 
 -- TEXTK makes its text of the module, and TCAT its two texts joined, unless they are too long together. Nothing else makes one.
 abbrev pub MakesTexts : Op → Module → HeapState → List ℕ → Instr → List (List ℕ) → Type 0
-MakesTexts op.Textk program heap words i texts = (text : List ℕ) × (slice_get program.texts i.x ≡ Some text) × (texts ≡ text ∷ [])
-MakesTexts op.Tcat program heap words i texts = (t u : List ℕ) × (text_in heap words i.b ≡ Some t) × (text_in heap words i.c ≡ Some u)
+MakesTexts op.Textk program heap words i texts = (text : List ℕ)
+    × (slice_get program.texts i.x ≡ Some text) × (texts ≡ text ∷ [])
+MakesTexts op.Tcat program heap words i texts = (t u : List ℕ) × (text_in heap words i.b ≡ Some t)
+    × (text_in heap words i.c ≡ Some u)
     × (texts ≡ only_if (nat_le (length t + length u) MOST_BYTES) (t ++ u))
 MakesTexts _ program heap words i texts = texts ≡ []

@@ -1,5 +1,5 @@
 //! An activity that comes from a place begins: a new one, or one that goes on here.
-ghost use Rattle.std.specs.Prelude.{◌≡◌, ◌<◌, ◌≤◌, ℕ, IfErr, IfOk, OnErr, OnOk, List, None, length, slice_index};
+ghost use Rattle.std.specs.Prelude.{◌≡◌, ◌<◌, ◌≤◌, ℕ, IfErr, IfOk, OnErr, OnOk, List, length, slice_index};
 ghost use Rattle.x10_model.specs.Marshalling.{snapshot_of};
 ghost use Rattle.x10_model.specs.Modules.{Module, Function};
 ghost use Rattle.x10_model.specs.declared.slot.Slot.{Slot};
@@ -11,17 +11,18 @@ ghost use Rattle.x10_place.specs.Arrivals.{Settles, IsUnsettled, MayBegin, IsEnt
 ghost use Rattle.x10_place.specs.Frames.{IsEnteredWith};
 ghost use Rattle.x10_place.specs.Stretches.{IsUntouched};
 
-use crate::frame::CallFrame;
+use crate::call_frame::CallFrame;
+use crate::ground::Ground;
 use crate::sending::parameters;
-use crate::starting::{KEYS, MOST_KEYS};
+use crate::starting::MOST_KEYS;
 use crate::stay::{Origin, Stay};
 use crate::store::Store;
-use slab::Slab;
 use std::alloc::Global;
 use x10_copy::{Refusal, Roots, bring, check, refusal_of};
 use x10_finish::Finish;
 use x10_frame::FrameView;
 use x10_image::SigView;
+use x10_kinds::Limit;
 use x10_verify::Verified;
 
 /// What begins: from which place it comes, the function, the finish under which it counts, and the stay that waits for its
@@ -37,7 +38,8 @@ pub(crate) struct Launch {
 /// The signature of the function, if it may begin.
 fn entrance<'a>(verified: &Verified<'a>, launch: &Launch) -> Result<SigView<'a>, Refusal>
     ensures ok { IfOk result (IsEntrance verified.now.program launch.now) }
-    ensures err { IfErr result (λ why. (why ≡ refusal.Function) × ((callee : Function) → MayBegin verified.now.program launch.now callee → ⊥)) }
+    ensures err { IfErr result (λ why. (why ≡ refusal.Function) × ((callee : Function) → MayBegin
+        verified.now.program launch.now callee → ⊥)) }
 {
     verified.certificate();
     let image = verified.image();
@@ -55,7 +57,8 @@ fn entrance<'a>(verified: &Verified<'a>, launch: &Launch) -> Result<SigView<'a>,
 /// Writes words to the first registers.
 fn put_words(registers: &mut [u64], words: &[u64])
     requires { length words.now ≤ length registers.old }
-    ensures arguments { (r : ℕ) → r < length words.now → slice_index registers.new r ≡ slice_index words.now r }
+    ensures arguments { (r : ℕ) → r < length words.now → slice_index registers.new r ≡ slice_index
+        words.now r }
 {
     registers[..words.len()].copy_from_slice(words);
 }
@@ -77,9 +80,13 @@ fn settle(
     launch: &Launch,
 ) -> Result<Roots, Refusal>
     requires { launch.now.from < store.old.places }
-    ensures ok { IfOk result (λ roots. Settles store.old (graph_of view.now) launch.now roots.items store.new) }
-    ensures taken { IfOk result (λ roots. (m : Module) (here home : ℕ) (slots : List Slot) → FitsArrival m here home store.old.heap slots (snapshot_of (graph_of view.now)) → IsTakenIn m here store.old.heap slots view.now roots.items store.new.heap) }
-    ensures err { IfErr result (λ why. (store.new ≡ store.old) × IsUnsettled store.old (graph_of view.now) launch.now why) }
+    ensures ok { IfOk result (λ roots. Settles store.old (graph_of view.now) launch.now roots.items
+        store.new) }
+    ensures taken { IfOk result (λ roots. (m : Module) (here home : ℕ) (slots : List Slot) →
+        FitsArrival m here home store.old.heap slots (snapshot_of (graph_of view.now)) → IsTakenIn m
+        here store.old.heap slots view.now roots.items store.new.heap) }
+    ensures err { IfErr result (λ why. (store.new ≡ store.old) × IsUnsettled store.old (graph_of
+        view.now) launch.now why) }
 {
     let (objects, rails, texts) = (store.heap.objects(), store.heap.rails(), store.heap.texts());
     let roots = bring(alloc, view, &mut store.heap)?;
@@ -90,43 +97,45 @@ fn settle(
     Ok(roots)
 }
 
-/// An activity begins with what a frame brings. Where it is refused, nothing has changed.
-pub(crate) fn launch_with(
-    alloc: Global,
-    verified: &Verified,
-    stays: &mut Slab<Stay>,
-    store: &mut Store,
-    view: &FrameView,
-    launch: Launch,
-) -> Result<(), Refusal>
-    requires { launch.from < store.old.places }
-    ensures ok { OnOk result (Launches verified.now.program stays.old store.old view.now launch stays.new store.new) }
-    ensures err { OnErr result (IsUntouched stays.old store.old stays.new store.new) }
-    ensures refused { IfErr result (IsLaunchRefused verified.now.program stays.old store.old view.now launch) }
-{
-    let signature = entrance(verified, &launch)?;
-    let slots = parameters(&signature);
-    let slots = &slots[..signature.parameters()];
-    let here = store.spot().here;
-    check(view, &store.heap, verified.image(), here, here, slots)?;
-    if !store.is_open(launch.under) {
-        return Err(Refusal::Finish);
+impl<'a> Ground<'a> {
+    /// An activity begins with what a frame brings. Where it is refused, nothing has changed.
+    pub(crate) fn launch(&mut self, view: &FrameView, launch: Launch) -> Result<(), Refusal>
+        requires { launch.from < self.old.store.places }
+        ensures ok { OnOk result (Launches self.old.verified.now.program self.old.stays
+            self.old.store view.now launch self.new.stays self.new.store) }
+        ensures err { OnErr result (IsUntouched self.old.stays self.old.store self.new.stays
+            self.new.store) }
+        ensures refused { IfErr result (IsLaunchRefused self.old.verified.now.program self.old.stays
+            self.old.store view.now launch) }
+        ensures verified { self.new.verified.now ≡ self.old.verified.now }
+    {
+        let verified = self.verified;
+        let signature = entrance(verified, &launch)?;
+        let slots = parameters(&signature);
+        let slots = &slots[..signature.parameters()];
+        let here = self.store.locality().here;
+        check(view, &self.store.heap, verified.image(), here, here, slots)?;
+        if !self.store.is_open(launch.under) {
+            return Err(Refusal::Finish);
+        }
+        if self.stays.vacant_key() > MOST_KEYS {
+            return Err(Refusal::Limit(Limit::Keys));
+        }
+        self.stays.reserve(1)?;
+        let mut top = self
+            .store
+            .frame(self.alloc, usize::from(signature.registers()))?;
+        let roots = settle(self.alloc, view, &mut self.store, &launch)?;
+        enter(&mut top, launch.function, &roots);
+        self.stays.insert_reserved(Stay {
+            top,
+            callers: Vec::new(self.alloc),
+            finishes: Vec::new(self.alloc),
+            inherited: launch.under,
+            away: false,
+            inside: false,
+            back: launch.back,
+        });
+        Ok(())
     }
-    if stays.vacant_key() > MOST_KEYS {
-        return Err(Refusal::Limit(KEYS));
-    }
-    stays.reserve(1)?;
-    let mut top = store.frame(alloc, usize::from(signature.registers()))?;
-    let roots = settle(alloc, view, store, &launch)?;
-    enter(&mut top, launch.function, &roots);
-    stays.insert_reserved(Stay {
-        top,
-        callers: Vec::new(alloc),
-        finishes: Vec::new(alloc),
-        inherited: launch.under,
-        away: false,
-        inside: false,
-        back: launch.back,
-    });
-    Ok(())
 }

@@ -1,19 +1,21 @@
 //! The end of a stay.
-ghost use Rattle.std.specs.Prelude.{◌≡◌, ◌<◌, ◌≤◌, ◌^◌, ℕ, [], None, false, Err, IfErr, IfOk, OnErr, Some};
+ghost use Rattle.std.specs.Prelude.{◌≡◌, ◌<◌, ◌≤◌, ◌^◌, [], None, false, Err, IfErr, IfOk, OnErr, Some};
 ghost use Rattle.std.specs.List.{AllByRecursion};
-ghost use Rattle.slab.specs.Slab.{get, Updates};
+ghost use Rattle.slab.specs.Slab.{Updates};
 ghost use Rattle.x10_code.specs.declared.op.Op.TheVariants as op;
 ghost use Rattle.x10_copy.specs.Captured.{kinds_of, Refuses};
 ghost use Rattle.x10_frame.specs.declared.head.Head.TheVariants as head;
 ghost use Rattle.x10_kinds.specs.declared.stop.Stop.TheVariants as stop;
 ghost use Rattle.x10_place.specs.Frames.{IsFetchedFor};
+ghost use Rattle.x10_place.specs.declared.outcome.Deed.TheVariants as deed;
 ghost use Rattle.x10_place.specs.Parting.{TakesAlong, Reports, LeavesAt};
 ghost use Rattle.x10_place.specs.Sending.{StandForSome, slots_of_end, words_from};
 ghost use Rattle.x10_place.specs.StandsFor.{place_of, IsHindered};
-ghost use Rattle.x10_place.specs.Stays.{StayState, totals_in, finish_as};
+ghost use Rattle.x10_place.specs.Stays.{totals_in, finish_as};
 ghost use Rattle.x10_place.specs.Stretches.{IsForPlace, IsUntouched};
 
-use crate::frame::CallFrame;
+use crate::call_frame::CallFrame;
+use crate::ground::Ground;
 use crate::sending::frame;
 use crate::sent::{Outgoing, Sent};
 use crate::stay::{Origin, Stay};
@@ -47,15 +49,22 @@ fn result(
 ) -> Result<Outgoing, Stop>
     requires fetched { IsFetchedFor verified.now.program top.now instr }
     requires op { instr.op ≡ op.Ret }
-    requires standing { StandForSome verified.now.program store.old (slots_of_end verified.now.program top.now) (words_from top.now instr.a (slots_of_end verified.now.program top.now)) }
+    requires standing { StandForSome verified.now.program store.old (slots_of_end
+        verified.now.program top.now) (words_from top.now instr.a (slots_of_end verified.now.program
+        top.now)) }
     ensures to { IfOk result (λ out. out.to ≡ origin.place) }
-    ensures copy { IfOk result (λ out. TakesAlong verified.now.program store.old (slots_of_end verified.now.program top.now) (words_from top.now instr.a (slots_of_end verified.now.program top.now)) (head.Back store.old.here origin.place origin.key) out.bytes.items) }
-    ensures err { IfErr result (λ why. Refuses verified.now.program.classes store.old.heap (kinds_of (slots_of_end verified.now.program top.now)) (words_from top.now instr.a (slots_of_end verified.now.program top.now)) why) }
+    ensures copy { IfOk result (λ out. TakesAlong verified.now.program store.old (slots_of_end
+        verified.now.program top.now) (words_from top.now instr.a (slots_of_end
+        verified.now.program top.now)) (head.Back store.old.here origin.place origin.key)
+        out.bytes.items) }
+    ensures err { IfErr result (λ why. Refuses verified.now.program.classes store.old.heap (kinds_of
+        (slots_of_end verified.now.program top.now)) (words_from top.now instr.a (slots_of_end
+        verified.now.program top.now)) why) }
     ensures kept { store.new ≡ store.old }
 {
     verified.certificate();
     let head = Head::Back {
-        from: store.spot().here,
+        from: store.locality().here,
         to: origin.place,
         waiting: origin.key,
     };
@@ -99,7 +108,7 @@ fn report(alloc: Global, store: &Store, finish: Finish) -> Result<Option<Outgoin
     };
     counts_are_small(sent);
     counts_are_small(received);
-    let here = store.spot().here;
+    let here = store.locality().here;
     match write_counts(alloc, here, finish.home, finish.number, sent, received) {
         Ok(bytes) => Ok(Some(Outgoing {
             to: finish.home,
@@ -109,30 +118,37 @@ fn report(alloc: Global, store: &Store, finish: Finish) -> Result<Option<Outgoin
     }
 }
 
-/// The stay with a key ends with the RET of its last function. Where it is refused, nothing has changed.
-pub(crate) fn leave(
-    alloc: Global,
-    verified: &Verified,
-    stays: &mut Slab<Stay>,
-    store: &mut Store,
-    key: usize,
-    instr: Instr,
-) -> Result<Sent, Stop>
-    requires place { IsForPlace verified.now stays.old store.old key instr }
-    requires op { instr.op ≡ op.Ret }
-    ensures ok { IfOk result (λ sent. LeavesAt verified.now.program stays.old store.old key sent stays.new store.new) }
-    ensures err { OnErr result (IsUntouched stays.old store.old stays.new store.new) }
-    ensures refused { IfErr result (IsHindered (place_of verified.now stays.old store.old false) key) }
-{
-    verified.certificate();
-    let stay = &stays[key];
-    let message = match stay.back {
-        Some(origin) => Some(result(alloc, verified, store, stay.frame(), instr, origin)?),
-        None => None,
-    };
-    let inherited = stay.inherited;
-    let report = report(alloc, store, inherited)?;
-    store.end(inherited);
-    remove(stays, store, key);
-    Ok(Sent { message, report })
+impl<'a> Ground<'a> {
+    /// The stay with a key ends with the RET of its last function. Where it is refused, nothing has changed.
+    pub(crate) fn leave(&mut self, key: usize, instr: Instr) -> Result<Sent, Stop>
+        requires { IsForPlace self.old.verified.now self.old.stays self.old.store key deed.Leave
+            instr }
+        ensures ok { IfOk result (λ sent. LeavesAt self.old.verified.now.program self.old.stays
+            self.old.store key sent self.new.stays self.new.store) }
+        ensures err { OnErr result (IsUntouched self.old.stays self.old.store self.new.stays
+            self.new.store) }
+        ensures refused { IfErr result (IsHindered (place_of self.old.verified.now self.old.stays
+            self.old.store false) key) }
+        ensures verified { self.new.verified.now ≡ self.old.verified.now }
+    {
+        let verified = self.verified;
+        verified.certificate();
+        let stay = &self.stays[key];
+        let message = match stay.back {
+            Some(origin) => Some(result(
+                self.alloc,
+                verified,
+                &mut self.store,
+                stay.frame(),
+                instr,
+                origin,
+            )?),
+            None => None,
+        };
+        let inherited = stay.inherited;
+        let report = report(self.alloc, &self.store, inherited)?;
+        self.store.end(inherited);
+        remove(&mut self.stays, &mut self.store, key);
+        Ok(Sent { message, report })
+    }
 }

@@ -1,8 +1,9 @@
 //! One place of the machine: its activities, and their steps.
 #![tactic(auto)]
 
+mod call_frame;
 mod departing;
-mod frame;
+mod ground;
 mod heap;
 mod launching;
 pub mod laws;
@@ -10,6 +11,7 @@ mod leaving;
 mod line;
 mod making;
 mod opening;
+mod outcome;
 mod place;
 mod receiving;
 mod reports;
@@ -23,7 +25,7 @@ mod stay;
 mod step;
 mod store;
 
-pub use frame::CallFrame;
+pub use call_frame::CallFrame;
 pub use line::Line;
 pub use place::{Place, Stepped};
 pub use sent::{Outgoing, Sent};

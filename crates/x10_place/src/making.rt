@@ -1,11 +1,12 @@
 //! Texts, objects and rails that an instruction makes in the heap of its place.
 ghost use Rattle.std.specs.Prelude.{◌≡◌, ◌+◌, ◌<◌, ◌^◌, ℕ, IfErr, IfOk, Err, length};
+ghost use Rattle.x10_kinds.specs.declared.limit.Limit.{Limit};
 ghost use Rattle.x10_kinds.specs.declared.stop.Stop.TheVariants as stop;
 ghost use Rattle.x10_model.specs.Moves as machine;
 ghost use Rattle.x10_place.specs.declared.route.Make.TheVariants as make;
 ghost use Rattle.x10_place.specs.Frames.{space_of, Makes, AsksMake, ReadsMake, Overfills, IsRefused};
 
-use crate::frame::CallFrame;
+use crate::call_frame::CallFrame;
 use crate::route::Make;
 use x10_code::Instr;
 use x10_heap::Heap;
@@ -22,11 +23,15 @@ fn rail_length(number: i64) -> Option<u16>
 impl CallFrame {
     /// A text of the module becomes a text of the heap.
     fn make_text(&mut self, verified: &Verified, heap: &mut Heap, instr: Instr) -> Result<(), Stop>
-        requires asks { AsksMake make.Text verified.now.program (length self.old.registers.items) instr }
+        requires asks { AsksMake make.Text verified.now.program
+            (length self.old.registers.items) instr }
         requires next { self.old.pc + 1 < 2 ^ 16 }
-        ensures ok { IfOk result (λ _. Makes make.Text verified.now.program (space_of self.old heap.old) instr (space_of self.new heap.new)) }
-        ensures err { IfErr result (λ why. (self.new ≡ self.old) × (heap.new ≡ heap.old) × IsRefused make.Text heap.old self.old.registers.items instr why) }
-        ensures full { (limit : ℕ) → Overfills make.Text heap.old self.old.registers.items instr limit → result ≡ Err (stop.Limit limit) }
+        ensures ok { IfOk result (λ _. Makes make.Text verified.now.program
+            (space_of self.old heap.old) instr (space_of self.new heap.new)) }
+        ensures err { IfErr result (λ why. (self.new ≡ self.old) × (heap.new ≡ heap.old)
+            × IsRefused make.Text heap.old self.old.registers.items instr why) }
+        ensures full { (limit : Limit) → Overfills make.Text heap.old self.old.registers.items
+            instr limit → result ≡ Err (stop.Limit limit) }
         ensures function { self.new.function ≡ self.old.function }
     {
         let text = verified.image().text(instr.x as usize);
@@ -37,12 +42,16 @@ impl CallFrame {
 
     /// Two texts are joined, or none where they would be too long.
     fn join_texts(&mut self, verified: &Verified, heap: &mut Heap, instr: Instr) -> Result<(), Stop>
-        requires asks { AsksMake make.JoinedText verified.now.program (length self.old.registers.items) instr }
+        requires asks { AsksMake make.JoinedText verified.now.program
+            (length self.old.registers.items) instr }
         requires reads { ReadsMake make.JoinedText heap.old self.old.registers.items instr }
         requires next { self.old.pc + 1 < 2 ^ 16 }
-        ensures ok { IfOk result (λ _. Makes make.JoinedText verified.now.program (space_of self.old heap.old) instr (space_of self.new heap.new)) }
-        ensures err { IfErr result (λ why. (self.new ≡ self.old) × (heap.new ≡ heap.old) × IsRefused make.JoinedText heap.old self.old.registers.items instr why) }
-        ensures full { (limit : ℕ) → Overfills make.JoinedText heap.old self.old.registers.items instr limit → result ≡ Err (stop.Limit limit) }
+        ensures ok { IfOk result (λ _. Makes make.JoinedText verified.now.program
+            (space_of self.old heap.old) instr (space_of self.new heap.new)) }
+        ensures err { IfErr result (λ why. (self.new ≡ self.old) × (heap.new ≡ heap.old)
+            × IsRefused make.JoinedText heap.old self.old.registers.items instr why) }
+        ensures full { (limit : Limit) → Overfills make.JoinedText heap.old
+            self.old.registers.items instr limit → result ≡ Err (stop.Limit limit) }
         ensures function { self.new.function ≡ self.old.function }
     {
         heap.fits();
@@ -62,11 +71,15 @@ impl CallFrame {
         heap: &mut Heap,
         instr: Instr,
     ) -> Result<(), Stop>
-        requires asks { AsksMake make.Object verified.now.program (length self.old.registers.items) instr }
+        requires asks { AsksMake make.Object verified.now.program
+            (length self.old.registers.items) instr }
         requires next { self.old.pc + 1 < 2 ^ 16 }
-        ensures ok { IfOk result (λ _. Makes make.Object verified.now.program (space_of self.old heap.old) instr (space_of self.new heap.new)) }
-        ensures err { IfErr result (λ why. (self.new ≡ self.old) × (heap.new ≡ heap.old) × IsRefused make.Object heap.old self.old.registers.items instr why) }
-        ensures full { (limit : ℕ) → Overfills make.Object heap.old self.old.registers.items instr limit → result ≡ Err (stop.Limit limit) }
+        ensures ok { IfOk result (λ _. Makes make.Object verified.now.program
+            (space_of self.old heap.old) instr (space_of self.new heap.new)) }
+        ensures err { IfErr result (λ why. (self.new ≡ self.old) × (heap.new ≡ heap.old)
+            × IsRefused make.Object heap.old self.old.registers.items instr why) }
+        ensures full { (limit : Limit) → Overfills make.Object heap.old self.old.registers.items
+            instr limit → result ≡ Err (stop.Limit limit) }
         ensures function { self.new.function ≡ self.old.function }
     {
         let image = verified.image();
@@ -80,11 +93,15 @@ impl CallFrame {
 
     /// A rail of zeros, or none where it can't be that long.
     fn make_rail(&mut self, verified: &Verified, heap: &mut Heap, instr: Instr) -> Result<(), Stop>
-        requires asks { AsksMake make.Rail verified.now.program (length self.old.registers.items) instr }
+        requires asks { AsksMake make.Rail verified.now.program
+            (length self.old.registers.items) instr }
         requires next { self.old.pc + 1 < 2 ^ 16 }
-        ensures ok { IfOk result (λ _. Makes make.Rail verified.now.program (space_of self.old heap.old) instr (space_of self.new heap.new)) }
-        ensures err { IfErr result (λ why. (self.new ≡ self.old) × (heap.new ≡ heap.old) × IsRefused make.Rail heap.old self.old.registers.items instr why) }
-        ensures full { (limit : ℕ) → Overfills make.Rail heap.old self.old.registers.items instr limit → result ≡ Err (stop.Limit limit) }
+        ensures ok { IfOk result (λ _. Makes make.Rail verified.now.program
+            (space_of self.old heap.old) instr (space_of self.new heap.new)) }
+        ensures err { IfErr result (λ why. (self.new ≡ self.old) × (heap.new ≡ heap.old)
+            × IsRefused make.Rail heap.old self.old.registers.items instr why) }
+        ensures full { (limit : Limit) → Overfills make.Rail heap.old self.old.registers.items
+            instr limit → result ≡ Err (stop.Limit limit) }
         ensures function { self.new.function ≡ self.old.function }
     {
         let Some(count) = rail_length(self.word(instr.b).cast_signed()) else {
@@ -107,9 +124,12 @@ impl CallFrame {
         requires asks { AsksMake make verified.now.program (length self.old.registers.items) instr }
         requires reads { ReadsMake make heap.old self.old.registers.items instr }
         requires next { self.old.pc + 1 < 2 ^ 16 }
-        ensures ok { IfOk result (λ _. Makes make verified.now.program (space_of self.old heap.old) instr (space_of self.new heap.new)) }
-        ensures err { IfErr result (λ why. (self.new ≡ self.old) × (heap.new ≡ heap.old) × IsRefused make heap.old self.old.registers.items instr why) }
-        ensures full { (limit : ℕ) → Overfills make heap.old self.old.registers.items instr limit → result ≡ Err (stop.Limit limit) }
+        ensures ok { IfOk result (λ _. Makes make verified.now.program
+            (space_of self.old heap.old) instr (space_of self.new heap.new)) }
+        ensures err { IfErr result (λ why. (self.new ≡ self.old) × (heap.new ≡ heap.old)
+            × IsRefused make heap.old self.old.registers.items instr why) }
+        ensures full { (limit : Limit) → Overfills make heap.old self.old.registers.items instr
+            limit → result ≡ Err (stop.Limit limit) }
         ensures function { self.new.function ≡ self.old.function }
     {
         match make {

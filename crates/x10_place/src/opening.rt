@@ -4,7 +4,7 @@ ghost use Rattle.slab.specs.Slab.{get};
 ghost use Rattle.x10_place.specs.Opening.{IsMain, HoldsOnly};
 ghost use Rattle.x10_place.specs.Stays.{StayState};
 
-use crate::frame::first_frame;
+use crate::call_frame::first_frame;
 use crate::stay::Stay;
 use slab::Slab;
 use std::alloc::{AllocError, Global};
@@ -35,7 +35,8 @@ fn main(alloc: Global, verified: &Verified) -> Result<Stay, AllocError>
 
 /// Main alone, under some key.
 pub(crate) fn with_main(alloc: Global, verified: &Verified) -> Result<Slab<Stay>, AllocError>
-    ensures { IfOk result (λ slab. (key : ℕ) × (a : StayState) × IsMain verified.now.program a × HoldsOnly slab key a × (key < 2 ^ 32)) }
+    ensures { IfOk result (λ slab. (key : ℕ) × (a : StayState) × IsMain verified.now.program a
+        × HoldsOnly slab key a × (key < 2 ^ 32)) }
 {
     let mut stays = Slab::new(alloc);
     let main = main(alloc, verified)?;

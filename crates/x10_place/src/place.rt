@@ -1,5 +1,6 @@
 ghost use Rattle.std.specs.Prelude.{◌≡◌, ◌≢◌, ◌==◌, ◌<◌, ◌≤◌, ◌↔◌, ◌⊎◌, ℕ, true, false, IsTrue, IfOk, IfErr, IfSome, MatchOption, MatchResult, Ok, Err, Some, None};
 ghost use Rattle.slab.specs.Slab.{get, slab_len, ContainsKey};
+ghost use Rattle.x10_kinds.specs.declared.limit.Limit.{Limit};
 ghost use Rattle.x10_kinds.specs.declared.stop.Stop.TheVariants as stop;
 ghost use Rattle.x10_place.specs.StandsFor.{PlaceState, store_of, LeadsAll, Keeps, IsIdleAt, IsOverfull, IsHindered, IsFirstAble, IsAt, IsOperation, inside_at, AreOutside, IsInsider};
 ghost use Rattle.x10_place.specs.Opening.{IsNew, IsNextKey, Opens, keys_of};
@@ -9,12 +10,12 @@ ghost use Rattle.x10_place.specs.Receiving.{IsTaken, IsRefusedBytes, IsOfFrame, 
 ghost use Rattle.x10_place.specs.Stretches.{Strides, StridesTo, BeginsLast};
 ghost use Rattle.x10_copy.specs.declared.refusal.Refusal.TheVariants as refusal;
 
+use crate::ground::Ground;
 use crate::line::Line;
 use crate::opening::with_main;
-use crate::receiving::{is_stop, receive_in};
+use crate::receiving::is_stop;
 use crate::sent::{Sent, no_sent};
-use crate::stay::{Spot, Stay};
-use crate::step::{run_in, step_in};
+use crate::stay::Locality;
 use crate::store::Store;
 use slab::Slab;
 use std::alloc::{AllocError, Global};
@@ -37,14 +38,11 @@ pub enum Stepped {
 /// A place: the stays of activities by key, which of them is inside an atomic region, and what they share.
 #[derive(Drop)]
 pub struct Place<'a> {
-    alloc: Global,
-    verified: &'a Verified<'a>,
-    stays: Slab<Stay>,
+    ground: Ground<'a>,
     /// The key of the stay that is inside an atomic region: a step of another key is idle after one comparison. Only `step`
     /// and `run` change it: what comes in, begins or ends is outside, since no instruction that does such things stands in a
     /// region.
     inside: Option<usize>,
-    store: Store,
     stopped: bool,
 }
 
@@ -53,19 +51,16 @@ impl<'a> Model for Place<'a> {
 
     ghost Value = { PlaceState };
 
-    ghost view = { λ a. place_of a.verified.now a.stays a.store a.stopped };
+    ghost view = { λ a. place_of a.ground.verified.now a.ground.stays a.ground.store a.stopped };
 
-    ghost invariant = { λ a. IsStanding (place_of a.verified.now a.stays a.store a.stopped) × IsInsider a.stays a.inside };
+    ghost invariant = { λ a. IsStanding (place_of a.ground.verified.now a.ground.stays a.ground.store a.stopped) × IsInsider a.ground.stays a.inside };
 }
 
 impl<'a> Place<'a> {
     /// One step of the activity with a key, and what it puts out. It is Idle, and nothing has changed, exactly where there
     /// is no such activity, where it is away, where another is inside an atomic region, or where it stands at the end of a
     /// finish that may not end yet. A Stop comes only where a growth was refused, where there can be no more of what the
-    /// step would make (Limit 1: objects, 2: texts, 3: rails, 4: global references, 5: finishes; at most 2^32 - 1 of each;
-    /// 6: activities that live under one finish, or were sent to one place under it; 10: the number of a key), where what
-    /// the step sends leads to more than 1,048,576 objects, texts or rails (Limit 7, 8, 9), or after another Stop; the
-    /// output is then that of the steps before it.
+    /// step would make or send (`x10_kinds::Limit`), or after another Stop; the output is then that of the steps before it.
     ///
     /// Constant time, except that CALL, ASYNC, NEW, RAIL, TEXTK, TCAT and PRINT of a text also copy or fill what they make,
     /// that AT, ATA and a RET that sends a result back copy all that they send, that FINB makes two numbers for each pair of
@@ -74,12 +69,16 @@ impl<'a> Place<'a> {
     /// copied now and then. What makes, prints or sends something takes memory, and so do CALL, ASYNC and FINB.
     #[inline(always)]
     pub fn step(&mut self, key: usize) -> Result<Stepped, Stop>
-        ensures idle { self.old.stopped ≢ true → IsIdleAt self.old key → (result ≡ Ok Stepped.Idle) × (self.new ≡ self.old) }
+        ensures idle { self.old.stopped ≢ true → IsIdleAt self.old key
+            → (result ≡ Ok Stepped.Idle) × (self.new ≡ self.old) }
         ensures only { self.old.stopped ≢ true → result ≡ Ok Stepped.Idle → IsIdleAt self.old key }
-        ensures some { (a : StayState) → get self.old.stays key ≡ Some a → a.away ≡ false → AreOutside self.old.stays key → IfOk result (λ stepped. LeadsAll self.old key stepped self.new) }
+        ensures some { (a : StayState) → get self.old.stays key ≡ Some a → a.away ≡ false
+            → AreOutside self.old.stays key → IfOk result
+            (λ stepped. LeadsAll self.old key stepped self.new) }
         ensures stopped { self.old.stopped ≡ true → result ≡ Err stop.Stopped }
         ensures refused { self.old.stopped ≢ true → IfErr result (IsHindered self.old key) }
-        ensures full { self.old.stopped ≢ true → (limit : ℕ) → IsOverfull self.old key limit → result ≡ Err (stop.Limit limit) }
+        ensures full { self.old.stopped ≢ true → (limit : Limit) → IsOverfull self.old key limit
+            → result ≡ Err (stop.Limit limit) }
         ensures stop { IfErr result (λ _. self.new ≡ record self.old { stopped = true }) }
         ensures goes { IfOk result (λ _. self.new.stopped ≢ true) }
         ensures kept { Keeps self.old self.new }
@@ -90,16 +89,7 @@ impl<'a> Place<'a> {
         if self.is_kept_out(key) {
             return Ok(Stepped::Idle);
         }
-        let verified = self.verified;
-        verified.certificate();
-        let made = step_in(
-            self.alloc,
-            verified,
-            &mut self.stays,
-            &mut self.inside,
-            &mut self.store,
-            key,
-        );
+        let made = self.ground.step(&mut self.inside, key);
         self.stopped = made.is_err();
         made
     }
@@ -109,9 +99,14 @@ impl<'a> Place<'a> {
     /// last one put out; or, where one was refused, why no more were made. Each is as `step` makes it, and moves; but the
     /// activity is looked up once, and operations of one call frame touch nothing else.
     pub fn run(&mut self, key: usize, most: u64) -> (u64, Result<Sent, Stop>)
-        ensures ran { MatchResult result.1 (λ sent. StridesTo key self.old result.0 sent self.new) (λ why. (p : PlaceState) × Strides key self.old result.0 p × (self.new ≡ record p { stopped = true }) × (self.old.stopped ≢ true → IsHindered p key why)) }
+        ensures ran { MatchResult result.1 (λ sent. StridesTo key self.old result.0 sent self.new)
+            (λ why. (p : PlaceState) × Strides key self.old result.0 p
+            × (self.new ≡ record p { stopped = true })
+            × (self.old.stopped ≢ true → IsHindered p key why)) }
         ensures few { result.0 ≤ most }
-        ensures all { IfOk result.1 (λ sent. result.0 < most → IsIdleAt self.new key ⊎ BeginsLast key self.old result.0 self.new ⊎ (sent ≢ nothing_sent)) }
+        ensures all { IfOk result.1 (λ sent. result.0 < most
+            → IsIdleAt self.new key ⊎ BeginsLast key self.old result.0 self.new
+            ⊎ (sent ≢ nothing_sent)) }
         ensures stopped { self.old.stopped ≡ true → (result.0 ≡ 0) × (result.1 ≡ Err stop.Stopped) }
         ensures goes { IfOk result.1 (λ _. self.new.stopped ≢ true) }
         ensures kept { Keeps self.old self.new }
@@ -122,17 +117,7 @@ impl<'a> Place<'a> {
         if self.is_kept_out(key) {
             return (0, Ok(no_sent()));
         }
-        let verified = self.verified;
-        verified.certificate();
-        let (done, last) = run_in(
-            self.alloc,
-            verified,
-            &mut self.stays,
-            &mut self.inside,
-            &mut self.store,
-            key,
-            most,
-        );
+        let (done, last) = self.ground.run_activity(&mut self.inside, key, most);
         self.stopped = last.is_err();
         (done, last)
     }
@@ -146,8 +131,10 @@ impl<'a> Place<'a> {
     /// bytes; takes memory.
     pub fn receive(&mut self, bytes: &[u8]) -> Result<(), Refusal>
         ensures ok { IfOk result (λ _. IsTaken self.old bytes.now self.new) }
-        ensures refused { self.old.stopped ≢ true → IfErr result (IsRefusedBytes self.old bytes.now) }
-        ensures read { self.old.stopped ≢ true → IfErr result (IsOfFrame self.old.places bytes.now) }
+        ensures refused { self.old.stopped ≢ true → IfErr result
+            (IsRefusedBytes self.old bytes.now) }
+        ensures read { self.old.stopped ≢ true → IfErr result
+            (IsOfFrame self.old.places bytes.now) }
         ensures stopped { self.old.stopped ≡ true → result ≡ Err refusal.Stopped }
         ensures left { IfErr result (λ why. self.new ≡ record self.old { stopped = stops why }) }
         ensures goes { IfOk result (λ _. self.new.stopped ≢ true) }
@@ -156,13 +143,7 @@ impl<'a> Place<'a> {
         if self.stopped {
             return Err(Refusal::Stopped);
         }
-        let taken = receive_in(
-            self.alloc,
-            self.verified,
-            &mut self.stays,
-            &mut self.store,
-            bytes,
-        );
+        let taken = self.ground.receive(bytes);
         if let Err(why) = taken {
             self.stopped = is_stop(why);
         }
@@ -194,25 +175,28 @@ impl<'a> Place<'a> {
         } else {
             Slab::new(alloc)
         };
-        let Ok(store) = Store::new(alloc, Spot { here: id, places }) else {
+        let Ok(store) = Store::new(alloc, Locality { here: id, places }) else {
             return Err(AllocError);
         };
         Ok(Place {
-            alloc,
-            verified,
-            stays,
+            ground: Ground {
+                alloc,
+                verified,
+                stays,
+                store,
+            },
             inside: None,
-            store,
             stopped: false,
         })
     }
 
     /// The least key in use that is not below a number. Linear in the keys that it passes over.
     pub fn next_key(&self, from: usize) -> Option<usize>
-        ensures { MatchOption result ((k : ℕ) → from ≤ k → get self.now.stays k ≡ None) (IsNextKey self.now.stays from) }
+        ensures { MatchOption result ((k : ℕ) → from ≤ k → get self.now.stays k ≡ None)
+            (IsNextKey self.now.stays from) }
     {
-        for key in from..self.stays.capacity() {
-            if self.stays.contains(key) {
+        for key in from..self.ground.stays.capacity() {
+            if self.ground.stays.contains(key) {
                 return Some(key);
             }
         }
@@ -224,7 +208,7 @@ impl<'a> Place<'a> {
         ensures { IfOk result (λ keys. keys.items ≡ keys_of self.now.stays) }
     {
         let mut keys = Vec::with_capacity(alloc, self.live())?;
-        for (key, _) in self.stays.iter() {
+        for (key, _) in self.ground.stays.iter() {
             keys.push(key)?;
         }
         Ok(keys)
@@ -235,7 +219,7 @@ impl<'a> Place<'a> {
     pub fn live(&self) -> usize
         ensures { result ≡ slab_len self.now.stays }
     {
-        self.stays.len()
+        self.ground.stays.len()
     }
 
     /// Whether no activity is here. Constant time.
@@ -243,7 +227,7 @@ impl<'a> Place<'a> {
     pub fn is_empty(&self) -> bool
         ensures { result ≡ (slab_len self.now.stays == 0) }
     {
-        self.stays.is_empty()
+        self.ground.stays.is_empty()
     }
 
     /// Whether there is an activity with a key. Constant time.
@@ -251,7 +235,7 @@ impl<'a> Place<'a> {
     pub fn contains(&self, key: usize) -> bool
         ensures { IsTrue result ↔ ContainsKey self.now.stays key }
     {
-        self.stays.contains(key)
+        self.ground.stays.contains(key)
     }
 
     /// The key that the next activity that begins here gets. Constant time.
@@ -260,7 +244,7 @@ impl<'a> Place<'a> {
         ensures value { result ≡ self.now.stays.vacant_key }
         ensures vacant { get self.now.stays result ≡ None }
     {
-        self.stays.vacant_key()
+        self.ground.stays.vacant_key()
     }
 
     /// The key of the activity that is inside an atomic region: no other of this place moves until it has left it. Constant
@@ -275,7 +259,8 @@ impl<'a> Place<'a> {
     /// Whether another activity than that with a key is inside an atomic region.
     #[inline(always)]
     fn is_kept_out(&self, key: usize) -> bool
-        ensures out { IsTrue result → (other : ℕ) × (inside_at self.now.stays other ≡ true) × (other ≢ key) }
+        ensures out { IsTrue result → (other : ℕ) × (inside_at self.now.stays other ≡ true)
+            × (other ≢ key) }
         ensures free { result ≡ false → AreOutside self.now.stays key }
     {
         match self.inside {
@@ -287,13 +272,17 @@ impl<'a> Place<'a> {
     /// The function and the number of the instruction at which the activity with a key stands, and its operation.
     /// Constant time.
     pub fn at(&self, key: usize) -> Option<(u16, u16, Op)>
-        ensures place { MatchOption result (get self.now.stays key ≡ None) (λ at. IsAt self.now.stays key at.0 at.1) }
+        ensures place { MatchOption result (get self.now.stays key ≡ None)
+            (λ at. IsAt self.now.stays key at.0 at.1) }
         ensures op { IfSome result (λ at. IsOperation self.now.program at.0 at.1 at.2) }
     {
-        let stay = self.stays.get(key)?;
+        let stay = self.ground.stays.get(key)?;
         let top = stay.frame();
         let (function, pc) = (top.function, top.pc);
-        let instr = self.verified.fetch(usize::from(function), usize::from(pc));
+        let instr = self
+            .ground
+            .verified
+            .fetch(usize::from(function), usize::from(pc));
         Some((function, pc, instr.op))
     }
 
@@ -305,10 +294,10 @@ impl<'a> Place<'a> {
         if self.is_kept_out(key) {
             return true;
         }
-        let verified = self.verified;
+        let verified = self.ground.verified;
         verified.certificate();
-        match self.stays.get(key) {
-            Some(stay) => stay.away || stay.is_waiting(verified, &self.store),
+        match self.ground.stays.get(key) {
+            Some(stay) => stay.away || stay.is_waiting(verified, &self.ground.store),
             None => true,
         }
     }
@@ -318,7 +307,7 @@ impl<'a> Place<'a> {
     pub fn first_able(&self) -> Option<usize>
         ensures { MatchOption result ((key : ℕ) → IsIdleAt self.now key) (IsFirstAble self.now) }
     {
-        for key in 0..self.stays.capacity() {
+        for key in 0..self.ground.stays.capacity() {
             if !self.is_idle(key) {
                 return Some(key);
             }
@@ -330,7 +319,7 @@ impl<'a> Place<'a> {
     pub fn output(&self) -> &[Line]
         ensures { result.now ≡ self.now.lines }
     {
-        &self.store.lines
+        &self.ground.store.lines
     }
 
     /// Whether the root finish may end: at place 0, whether no activity under it lives here, and as many have come to each
@@ -339,7 +328,7 @@ impl<'a> Place<'a> {
     pub fn closed(&self) -> bool
         ensures { IsTrue result ↔ ((self.now.id ≡ 0) × IsDoneHere (store_of self.now) 0) }
     {
-        let here = self.store.spot().here;
-        here == 0 && self.store.is_done(0)
+        let here = self.ground.store.locality().here;
+        here == 0 && self.ground.store.is_done(0)
     }
 }

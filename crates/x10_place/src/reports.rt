@@ -44,8 +44,11 @@ pub(crate) fn take_report(
     requires few { store.old.places ≤ 64 }
     requires sent { length (sent_of view.now) ≡ store.old.places }
     requires received { length (received_of view.now) ≡ store.old.places }
-    ensures ok { OnOk result ((number < store.old.opened) × Merges store.old (report_of from number (sent_of view.now) (received_of view.now)) store.new) }
-    ensures err { IfErr result (λ why. (store.new ≡ store.old) × IsReportRefused store.old number why) }
+    ensures ok { OnOk result ((number < store.old.opened)
+        × Merges store.old (report_of from number (sent_of view.now) (received_of view.now))
+        store.new) }
+    ensures err { IfErr result (λ why. (store.new ≡ store.old)
+        × IsReportRefused store.old number why) }
 {
     if !store.was_opened(number) {
         return Err(Refusal::Finish);

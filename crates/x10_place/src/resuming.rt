@@ -1,6 +1,5 @@
 //! The result of a function that an activity sent to another place comes back.
-ghost use Rattle.std.specs.Prelude.{◌≡◌, ◌<◌, ◌≤◌, ◌+◌, ◌^◌, ℕ, IfErr, IfOk, IfSome, OnErr, OnOk, None, Some, false, length};
-ghost use Rattle.slab.specs.Slab.{get};
+ghost use Rattle.std.specs.Prelude.{◌≡◌, ◌<◌, ◌+◌, ◌^◌, IfErr, IfOk, IfSome, OnErr, OnOk, None, Some, false, length};
 ghost use Rattle.x10_code.specs.declared.instr.Instr as instr;
 ghost use Rattle.x10_frame.specs.Heads.{graph_of};
 ghost use Rattle.x10_copy.specs.Arrived.{IsArrived, IsRefusal};
@@ -8,12 +7,12 @@ ghost use Rattle.x10_copy.specs.Taken.{IsTakenIn};
 ghost use Rattle.x10_place.specs.Arrivals.{IsAwaiting, IsWaitingFor, GoesOnBy, ComesBack, IsBackRefused};
 ghost use Rattle.x10_place.specs.Sending.{slots_of};
 ghost use Rattle.x10_place.specs.StandsFor.{place_of, IsStanding};
-ghost use Rattle.x10_place.specs.Stays.{StayState, IsPlaced};
+ghost use Rattle.x10_place.specs.Stays.{IsPlaced};
 ghost use Rattle.x10_place.specs.Stretches.{IsUntouched};
 
+use crate::ground::Ground;
 use crate::stay::Stay;
 use crate::store::Store;
-use slab::Slab;
 use std::alloc::Global;
 use x10_code::{Instr, Op};
 use x10_copy::{Refusal, Roots, arrive};
@@ -25,7 +24,8 @@ use x10_verify::Verified;
 fn awaited(verified: &Verified, stay: &Stay, from: u16) -> Option<Instr>
     requires { IsPlaced verified.now.program stay.now }
     ensures some { IfSome result (IsWaitingFor verified.now.program stay.now from) }
-    ensures none { result ≡ None → (call : instr.Instr) → IsAwaiting verified.now.program stay.now from call → ⊥ }
+    ensures none { result ≡ None → (call : instr.Instr) → IsAwaiting verified.now.program stay.now
+        from call → ⊥ }
 {
     if !stay.away {
         return None;
@@ -49,12 +49,15 @@ fn arrive_as(
     from: u16,
     slot: Option<Slot>,
 ) -> Result<Roots, Refusal>
-    ensures ok { IfOk result (λ roots. IsArrived verified.now.program store.old.here from store.old.heap (slots_of slot) (graph_of view.now) roots.items store.new.heap) }
-    ensures taken { IfOk result (λ roots. IsTakenIn verified.now.program store.old.here store.old.heap (slots_of slot) view.now roots.items store.new.heap) }
+    ensures ok { IfOk result (λ roots. IsArrived verified.now.program store.old.here from
+        store.old.heap (slots_of slot) (graph_of view.now) roots.items store.new.heap) }
+    ensures taken { IfOk result (λ roots. IsTakenIn verified.now.program store.old.here
+        store.old.heap (slots_of slot) view.now roots.items store.new.heap) }
     ensures store { OnOk result (store.new ≡ record store.old { heap = store.new.heap }) }
-    ensures err { IfErr result (λ why. (store.new ≡ store.old) × IsRefusal verified.now.program store.old.here from store.old.heap (slots_of slot) (graph_of view.now) why) }
+    ensures err { IfErr result (λ why. (store.new ≡ store.old) × IsRefusal verified.now.program
+        store.old.here from store.old.heap (slots_of slot) (graph_of view.now) why) }
 {
-    let here = store.spot().here;
+    let here = store.locality().here;
     let image = verified.image();
     match slot {
         Some(slot) => arrive(alloc, view, &mut store.heap, image, here, from, &[slot]),
@@ -75,31 +78,35 @@ fn come_back(stay: &mut Stay, register: u8, roots: &Roots)
     stay.away = false;
 }
 
-/// The stay with a key goes on with the result that comes from a place, if it waits for it. Where it is refused, nothing
-/// has changed.
-pub(crate) fn resume(
-    alloc: Global,
-    verified: &Verified,
-    stays: &mut Slab<Stay>,
-    store: &mut Store,
-    view: &FrameView,
-    from: u16,
-    waiting: u32,
-) -> Result<(), Refusal>
-    requires { IsStanding (place_of verified.now stays.old store.old false) }
-    ensures ok { OnOk result (ComesBack verified.now.program stays.old store.old view.now from waiting stays.new store.new) }
-    ensures err { OnErr result (IsUntouched stays.old store.old stays.new store.new) }
-    ensures refused { IfErr result (IsBackRefused verified.now.program stays.old store.old view.now from waiting) }
-{
-    verified.certificate();
-    let Some(stay) = stays.get_mut(waiting as usize) else {
-        return Err(Refusal::Segment);
-    };
-    let Some(call) = awaited(verified, stay, from) else {
-        return Err(Refusal::Segment);
-    };
-    let slot = verified.image().signature(call.x as usize).result();
-    let roots = arrive_as(alloc, verified, store, view, from, slot)?;
-    come_back(stay, call.a, &roots);
-    Ok(())
+impl<'a> Ground<'a> {
+    /// The stay with a key goes on with the result that comes from a place, if it waits for it. Where it is refused, nothing
+    /// has changed.
+    pub(crate) fn resume(
+        &mut self,
+        view: &FrameView,
+        from: u16,
+        waiting: u32,
+    ) -> Result<(), Refusal>
+        requires { IsStanding (place_of self.old.verified.now self.old.stays self.old.store false) }
+        ensures ok { OnOk result (ComesBack self.old.verified.now.program self.old.stays
+            self.old.store view.now from waiting self.new.stays self.new.store) }
+        ensures err { OnErr result (IsUntouched self.old.stays self.old.store self.new.stays
+            self.new.store) }
+        ensures refused { IfErr result (IsBackRefused self.old.verified.now.program self.old.stays
+            self.old.store view.now from waiting) }
+        ensures verified { self.new.verified.now ≡ self.old.verified.now }
+    {
+        let verified = self.verified;
+        verified.certificate();
+        let Some(stay) = self.stays.get_mut(waiting as usize) else {
+            return Err(Refusal::Segment);
+        };
+        let Some(call) = awaited(verified, stay, from) else {
+            return Err(Refusal::Segment);
+        };
+        let slot = verified.image().signature(call.x as usize).result();
+        let roots = arrive_as(self.alloc, verified, &mut self.store, view, from, slot)?;
+        come_back(stay, call.a, &roots);
+        Ok(())
+    }
 }

@@ -110,9 +110,11 @@ pub(crate) enum Route {
     /// Closes the innermost finish, or waits there.
     CloseFinish,
     /// Begins an activity at this place.
-    Begin,
-    /// Sends an activity to a place, or goes on there itself.
-    Send,
+    Async,
+    /// Goes on at a place, for which the stay here waits.
+    At,
+    /// Sends an activity to a place.
+    Ata,
 }
 
 /// What an operation does.
@@ -160,10 +162,11 @@ pub(crate) fn classify(op: Op) -> Route
         Op::Gopen => Route::Local(Local::Open),
         Op::Ifhere => Route::Site(Site::IsHere),
         Op::Ifsame => Route::Local(Local::SamePlace),
-        Op::Async => Route::Begin,
+        Op::Async => Route::Async,
         Op::Finb => Route::OpenFinish,
         Op::Fine => Route::CloseFinish,
-        Op::At | Op::Ata => Route::Send,
+        Op::At => Route::At,
+        Op::Ata => Route::Ata,
         Op::Atomb => Route::Region(true),
         Op::Atome => Route::Region(false),
     }

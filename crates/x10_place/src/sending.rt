@@ -47,12 +47,14 @@ pub(crate) fn frame(
     requires few { length words.now ≤ most_roots head.now }
     requires standing { StandForSome verified.now.program store.old slots.now words.now }
     requires slots { AllByRecursion (FitsSlot (length verified.now.program.classes)) slots.now }
-    ensures copy { IfOk result (λ bytes. IsCopied verified.now.program.classes store.old.places store.old.heap (kinds_of slots.now) words.now head.now bytes.items) }
-    ensures err { IfErr result (λ why. Refuses verified.now.program.classes store.old.heap (kinds_of slots.now) words.now why) }
+    ensures copy { IfOk result (λ bytes. IsCopied verified.now.program.classes store.old.places
+        store.old.heap (kinds_of slots.now) words.now head.now bytes.items) }
+    ensures err { IfErr result (λ why. Refuses verified.now.program.classes store.old.heap
+        (kinds_of slots.now) words.now why) }
     ensures kept { store.new ≡ store.old }
 {
     verified.certificate();
-    let places = store.spot().places;
+    let places = store.locality().places;
     let image = verified.image();
     standing_is_sound();
     capture(

@@ -1,18 +1,20 @@
 //! The stay of an activity at this place, and one step of it.
-ghost use Rattle.std.specs.Prelude.{◌≡◌, ◌+◌, ◌<◌, ◌≤◌, ◌^◌, ◌⊎◌, ◌↔◌, ℕ, IsTrue, Err, OnErr, OnOk, IfErr, IfOk, length, IfNone, IfSome};
+ghost use Rattle.std.specs.Prelude.{◌≡◌, ◌+◌, ◌<◌, ◌^◌, ◌⊎◌, ◌↔◌, IsTrue, Err, OnErr, OnOk, IfErr, IfOk, length};
 ghost use Rattle.x10_code.specs.declared.op.Op.TheVariants as op;
+ghost use Rattle.x10_kinds.specs.declared.limit.Limit.{Limit};
+ghost use Rattle.x10_kinds.specs.declared.limit.Limit.TheVariants as limits;
 ghost use Rattle.x10_kinds.specs.declared.stop.Stop.TheVariants as stop;
 ghost use Rattle.x10_code.specs.declared.instr.Instr.{Instr};
 ghost use Rattle.x10_verify.specs.Printing.{PrintsText};
 ghost use Rattle.x10_place.specs.Frames.{IsInside, IsFetchedFor, word_at};
 ghost use Rattle.x10_place.specs.Routes.{route_of};
 ghost use Rattle.x10_heap.specs.Heaps.{IsFull};
-ghost use Rattle.x10_place.specs.StandsFor.{IsTypedFrame, IsWorking};
-ghost use Rattle.x10_place.specs.declared.stay.Spot.{Spot};
+ghost use Rattle.x10_place.specs.declared.stay.Locality.{Locality};
 ghost use Rattle.x10_place.specs.Stays.{location, finish_as, innermost_at, IsBegun, IsPlaced, Calls, Returns, IsPrinted, Prints, GoesOnInside, OpensFinish, LeavesFinish, HasFinish, WaitsAtFinish, ReadsStore, OverfillsBy, Refuses, Steps};
 
-use crate::frame::CallFrame;
+use crate::call_frame::CallFrame;
 use crate::line::Line;
+use crate::outcome::{Deed, Departure, Outcome};
 use crate::route::{Route, classify};
 use crate::store::Store;
 use std::alloc::{AllocError, Global};
@@ -27,7 +29,7 @@ mod stretch;
 
 /// A place of a run: its number, and how many places there are.
 #[derive(Clone, Copy, Debug, PartialEq, Eq)]
-pub(crate) struct Spot {
+pub(crate) struct Locality {
     pub(crate) here: u16,
     pub(crate) places: u16,
 }
@@ -63,17 +65,6 @@ impl Model for Stay {
     ghost view = { λ a. record { top = a.top.value; callers = frames_of a.callers.items; finishes = reverse a.finishes.items; inherited = finish_as a.inherited; away = a.away; inside = a.inside; back = origin_as a.back } };
 }
 
-/// What becomes of a stay in a step.
-#[derive(Clone, Copy, Debug, PartialEq, Eq)]
-pub(crate) enum Outcome {
-    /// It goes on.
-    Goes,
-    /// It waits at the end of a finish that may not end yet; nothing has changed.
-    Waits,
-    /// The step is for its place to make; nothing has changed.
-    ForPlace,
-}
-
 impl Stay {
     /// The function that an instruction calls begins. Where memory is refused, nothing has changed.
     #[inline(always)]
@@ -104,10 +95,11 @@ impl Stay {
         requires placed { IsPlaced verified.now.program self.old }
         requires fetched { IsFetchedFor verified.now.program self.old.top instr }
         requires op { instr.op ≡ op.Ret }
-        ensures returns { Returns verified.now.program self.old store.old instr result self.new store.new }
+        ensures returns { Returns verified.now.program self.old store.old instr result self.new
+            store.new }
     {
         let Some(mut caller) = self.callers.pop() else {
-            return Outcome::ForPlace;
+            return Outcome::ForPlace(Deed::Leave, instr);
         };
         caller.resume(verified, &self.top, instr);
         let ended = std::mem::replace(&mut self.top, caller);
@@ -165,7 +157,8 @@ impl Stay {
     ) -> Result<Stay, AllocError>
         requires fetched { IsFetchedFor verified.now.program self.now.top instr }
         requires op { instr.op ≡ op.Async }
-        ensures begun { IfOk result (IsBegun verified.now.program self.now.top.registers.items instr (finish_as under)) }
+        ensures begun { IfOk result (IsBegun verified.now.program self.now.top.registers.items
+            instr (finish_as under)) }
         ensures kept { store.new ≡ store.old }
     {
         Ok(Stay {
@@ -194,8 +187,10 @@ impl Stay {
         requires next { self.old.top.pc + 1 < 2 ^ 16 }
         requires within { store.old.here < store.old.places }
         ensures ok { OnOk result (OpensFinish self.old store.old self.new store.new) }
-        ensures err { IfErr result (λ why. (self.new ≡ self.old) × (store.new ≡ store.old) × ((why ≡ stop.Memory) ⊎ ((why ≡ stop.Limit 5) × IsFull store.old.opened))) }
-        ensures full { IsFull store.old.opened → result ≡ Err (stop.Limit 5) }
+        ensures err { IfErr result (λ why. (self.new ≡ self.old) × (store.new ≡ store.old)
+            × ((why ≡ stop.Memory) ⊎ ((why ≡ stop.Limit limits.Finishes)
+            × IsFull store.old.opened))) }
+        ensures full { IsFull store.old.opened → result ≡ Err (stop.Limit limits.Finishes) }
     {
         let number = store.next_number()?;
         if self.finishes.reserve(1).is_err() {
@@ -228,8 +223,11 @@ impl Stay {
     /// Whether the stay stands at the end of a finish that may not end yet.
     pub(crate) fn is_waiting(&self, verified: &Verified, store: &Store) -> bool
         requires inside { IsInside verified.now.program self.now.top }
-        requires open { (i : Instr) → IsFetchedFor verified.now.program self.now.top i → i.op ≡ op.Fine → HasFinish self.now store.now }
-        ensures { (i : Instr) × IsFetchedFor verified.now.program self.now.top i × (IsTrue result ↔ (i.op ≡ op.Fine) × WaitsAtFinish self.now store.now self.now store.now) }
+        requires open { (i : Instr) → IsFetchedFor verified.now.program self.now.top i
+            → i.op ≡ op.Fine → HasFinish self.now store.now }
+        ensures { (i : Instr) × IsFetchedFor verified.now.program self.now.top i
+            × (IsTrue result ↔ (i.op ≡ op.Fine)
+            × WaitsAtFinish self.now store.now self.now store.now) }
     {
         let instr = self.instr(verified);
         match instr.op {
@@ -256,8 +254,10 @@ impl Stay {
         register: u8,
     ) -> Result<Line, AllocError>
         requires there { register < length self.now.top.registers.items }
-        requires print { (i : Instr) × IsFetchedFor verified.now.program self.now.top i × (i.op ≡ op.Print) × (i.a ≡ register) }
-        requires text { PrintsText verified.now.program self.now.top.function self.now.top.pc → word_at self.now.top.registers.items register < length heap.now.texts }
+        requires print { (i : Instr) × IsFetchedFor verified.now.program self.now.top i
+            × (i.op ≡ op.Print) × (i.a ≡ register) }
+        requires text { PrintsText verified.now.program self.now.top.function self.now.top.pc
+            → word_at self.now.top.registers.items register < length heap.now.texts }
         ensures { IfOk result (IsPrinted verified.now.program heap.now self.now.top register) }
     {
         let top = self.frame();
@@ -279,10 +279,12 @@ impl Stay {
     ) -> Result<(), AllocError>
         requires fetched { IsFetchedFor verified.now.program self.old.top instr }
         requires op { instr.op ≡ op.Print }
-        requires reads { PrintsText verified.now.program self.old.top.function self.old.top.pc → word_at self.old.top.registers.items instr.a < length store.old.heap.texts }
+        requires reads { PrintsText verified.now.program self.old.top.function self.old.top.pc
+            → word_at self.old.top.registers.items instr.a < length store.old.heap.texts }
         requires there { instr.a < length self.old.top.registers.items }
         requires next { self.old.top.pc + 1 < 2 ^ 16 }
-        ensures ok { OnOk result (Prints verified.now.program self.old store.old instr self.new store.new) }
+        ensures ok { OnOk result (Prints verified.now.program self.old store.old instr self.new
+            store.new) }
         ensures err { OnErr result ((self.new ≡ self.old) × (store.new ≡ store.old)) }
     {
         let line = self.line(alloc, verified, &store.heap, instr.a)?;
@@ -297,17 +299,22 @@ impl Stay {
         &mut self,
         alloc: Global,
         verified: &Verified,
-        spot: Spot,
+        locality: Locality,
         store: &mut Store,
         instr: Instr,
     ) -> Result<Outcome, Stop>
         requires placed { IsPlaced verified.now.program self.old }
         requires fetched { IsFetchedFor verified.now.program self.old.top instr }
         requires within { store.old.here < store.old.places }
-        requires reads { ReadsStore (route_of instr.op) (location verified.now.program spot) self.old store.old instr }
-        ensures ok { IfOk result (λ outcome. Steps (route_of instr.op) (location verified.now.program spot) self.old store.old instr outcome self.new store.new) }
-        ensures err { IfErr result (λ why. (self.new ≡ self.old) × (store.new ≡ store.old) × Refuses (route_of instr.op) self.old store.old instr why) }
-        ensures full { (limit : ℕ) → OverfillsBy (route_of instr.op) self.old store.old instr limit → result ≡ Err (stop.Limit limit) }
+        requires reads { ReadsStore (route_of instr.op)
+            (location verified.now.program locality) self.old store.old instr }
+        ensures ok { IfOk result (λ outcome. Steps (route_of instr.op)
+            (location verified.now.program locality) self.old store.old instr outcome self.new
+            store.new) }
+        ensures err { IfErr result (λ why. (self.new ≡ self.old) × (store.new ≡ store.old)
+            × Refuses (route_of instr.op) self.old store.old instr why) }
+        ensures full { (limit : Limit) → OverfillsBy (route_of instr.op) self.old store.old instr
+            limit → result ≡ Err (stop.Limit limit) }
     {
         let made = match classify(instr.op) {
             Route::Local(local) => {
@@ -319,11 +326,11 @@ impl Stay {
                 return Ok(Outcome::Goes);
             }
             Route::Site(site) => {
-                self.top.act_at(spot, site, instr);
+                self.top.act_at(locality, site, instr);
                 return Ok(Outcome::Goes);
             }
             Route::Export => {
-                self.top.export(spot, &mut store.heap, instr)?;
+                self.top.export(locality, &mut store.heap, instr)?;
                 return Ok(Outcome::Goes);
             }
             Route::Region(inside) => {
@@ -336,7 +343,9 @@ impl Stay {
             }
             Route::CloseFinish => return Ok(self.close_finish(store)),
             Route::Return => return Ok(self.ret(verified, store, instr)),
-            Route::Begin | Route::Send => return Ok(Outcome::ForPlace),
+            Route::Async => return Ok(Outcome::ForPlace(Deed::Begin, instr)),
+            Route::At => return Ok(Outcome::ForPlace(Deed::Depart(Departure::At), instr)),
+            Route::Ata => return Ok(Outcome::ForPlace(Deed::Depart(Departure::Ata), instr)),
             Route::Call => self.call(alloc, verified, store, instr),
             Route::Print => self.print(alloc, verified, store, instr),
         };
@@ -345,17 +354,4 @@ impl Stay {
             Err(_) => Err(Stop::Memory),
         }
     }
-}
-
-/// Why a stay makes no more steps in a stretch.
-#[derive(Clone, Copy, Debug, PartialEq, Eq)]
-pub(crate) enum Pause {
-    /// It has made as many as were asked for.
-    Goes,
-    /// It waits at the end of a finish that may not end yet.
-    Waits,
-    /// The next one is for its place to make.
-    ForPlace,
-    /// The next one was refused.
-    Refused(Stop),
 }

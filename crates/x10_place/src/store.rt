@@ -3,6 +3,7 @@ ghost use Rattle.std.specs.Prelude.{◌≡◌, ◌≤◌, ◌<◌, ◌^◌, ◌+
 ghost use Rattle.x10_heap.specs.Heaps.{IsFull};
 ghost use Rattle.x10_finish.specs.Counts.{IsLargest};
 ghost use Rattle.x10_finish.specs.Ledgers.{gives_report, AreDue};
+ghost use Rattle.x10_kinds.specs.declared.limit.Limit.TheVariants as limits;
 ghost use Rattle.x10_kinds.specs.declared.stop.Stop.TheVariants as stop;
 ghost use Rattle.x10_model.specs.Maps.{with_entry};
 ghost use Rattle.x10_model.specs.Totals.{zeros, nothing, begins_one, ends_one, sends_to};
@@ -11,19 +12,16 @@ ghost use Rattle.x10_place.specs.Stays.{finish_as, finish_at, totals_in, books_i
 ghost use Rattle.x10_place.specs.Receiving.{report_of};
 ghost use Rattle.x10_place.specs.Arrivals.{Merges, IsOpenHere, Comes, IsKeptOut};
 
-use crate::frame::{CallFrame, first_frame};
+use crate::call_frame::{CallFrame, first_frame};
 use crate::line::Line;
-use crate::stay::Spot;
+use crate::stay::Locality;
 use std::alloc::{AllocError, Global};
 use std::collections::BTreeMap;
 use std::marker::Model;
 use x10_copy::Marks;
 use x10_finish::{Book, Finish, Tally};
 use x10_heap::Heap;
-use x10_kinds::Stop;
-
-/// The limit of finishes that one place opens.
-const FINISHES: u8 = 5;
+use x10_kinds::{Limit, Stop};
 
 /// What a place keeps for all its stays: the heap, the lines of output, and how many finishes it opened; what it has
 /// counted of each finish, and a book of each that it opened and that is open; which parts of the heap the last message took
@@ -53,22 +51,22 @@ impl Model for Store {
 
 impl Store {
     /// Nothing yet, except that place 0 begins with main under the root finish. Takes memory only at place 0.
-    pub(crate) fn new(alloc: Global, spot: Spot) -> Result<Store, Stop>
-        requires { spot.here < spot.places }
-        ensures ok { IfOk result (IsNewStore spot.here spot.places) }
-        ensures err { IfErr result (λ _. spot.here ≡ 0) }
+    pub(crate) fn new(alloc: Global, locality: Locality) -> Result<Store, Stop>
+        requires { locality.here < locality.places }
+        ensures ok { IfOk result (IsNewStore locality.here locality.places) }
+        ensures err { IfErr result (λ _. locality.here ≡ 0) }
     {
         let mut store = Store {
             alloc,
             heap: Heap::new(alloc),
             lines: Vec::new(alloc),
             opened: 0,
-            tally: Tally::new(alloc, spot.here, spot.places),
+            tally: Tally::new(alloc, locality.here, locality.places),
             books: BTreeMap::new(alloc),
             marks: Marks::new(alloc),
             spare: Vec::new(alloc),
         };
-        if spot.here == 0 {
+        if locality.here == 0 {
             store.open_finish(0)?;
             store.begin(Finish { home: 0, number: 0 })?;
         }
@@ -77,11 +75,11 @@ impl Store {
 
     /// Which place it is, of how many.
     #[inline(always)]
-    pub(crate) fn spot(&self) -> Spot
+    pub(crate) fn locality(&self) -> Locality
         ensures here { result.here ≡ self.now.here }
         ensures places { result.places ≡ self.now.places }
     {
-        Spot {
+        Locality {
             here: self.tally.place(),
             places: self.tally.places(),
         }
@@ -89,7 +87,8 @@ impl Store {
 
     /// One more line. Where memory is refused, nothing has changed.
     pub(crate) fn print(&mut self, line: Line) -> Result<(), AllocError>
-        ensures ok { OnOk result (self.new ≡ record self.old { lines = self.old.lines ++ line ∷ [] }) }
+        ensures ok { OnOk result (self.new ≡ record self.old
+            { lines = self.old.lines ++ line ∷ [] }) }
         ensures err { OnErr result (self.new ≡ self.old) }
     {
         self.lines.push(line)?;
@@ -154,7 +153,8 @@ impl Store {
     pub(crate) fn come(&mut self, finish: Finish, from: u16) -> Result<(), Stop>
         requires { from < self.old.places }
         ensures ok { OnOk result (Comes self.old from (finish_as finish) self.new) }
-        ensures err { IfErr result (λ why. (self.new ≡ self.old) × IsKeptOut self.old from (finish_as finish) why) }
+        ensures err { IfErr result (λ why. (self.new ≡ self.old)
+            × IsKeptOut self.old from (finish_as finish) why) }
     {
         self.tally.came(finish, from)
     }
@@ -187,11 +187,12 @@ impl Store {
     /// The number that the next finish takes, if there can be one more.
     pub(crate) fn next_number(&self) -> Result<u32, Stop>
         ensures ok { IfOk result (λ number. (number ≡ self.now.opened) × (number + 1 < 2 ^ 32)) }
-        ensures err { IfErr result (λ why. (why ≡ stop.Limit 5) × IsFull self.now.opened) }
-        ensures full { IsFull self.now.opened → result ≡ Err (stop.Limit 5) }
+        ensures err { IfErr result (λ why. (why ≡ stop.Limit limits.Finishes)
+            × IsFull self.now.opened) }
+        ensures full { IsFull self.now.opened → result ≡ Err (stop.Limit limits.Finishes) }
     {
         if self.opened == u32::MAX {
-            return Err(Stop::Limit(FINISHES));
+            return Err(Stop::Limit(Limit::Finishes));
         }
         Ok(self.opened)
     }
@@ -201,7 +202,9 @@ impl Store {
         requires next { number ≡ self.old.opened }
         requires few { number + 1 < 2 ^ 32 }
         requires within { self.old.here < self.old.places }
-        ensures ok { OnOk result (Recounts self.old self.new (self.old.opened + 1) (totals_in self.old) (with_entry (books_in self.old) self.old.opened (Some (λ p. zeros)))) }
+        ensures ok { OnOk result (Recounts self.old self.new (self.old.opened + 1)
+            (totals_in self.old) (with_entry (books_in self.old) self.old.opened
+            (Some (λ p. zeros)))) }
         ensures err { IfErr result (λ why. (self.new ≡ self.old) × (why ≡ stop.Memory)) }
     {
         let book = Book::open(self.alloc, self.finish(number), self.tally.places())?;
@@ -222,7 +225,9 @@ impl Store {
 
     /// Closes a finish that is open here: its book is dropped, and what was counted of it. Takes no memory.
     pub(crate) fn close_finish(&mut self, number: u32)
-        ensures { Recounts self.old self.new self.old.opened (changed_at (totals_in self.old) (finish_at self.old.here number) (λ t. nothing)) (with_entry (books_in self.old) number None) }
+        ensures { Recounts self.old self.new self.old.opened
+            (changed_at (totals_in self.old) (finish_at self.old.here number) (λ t. nothing))
+            (with_entry (books_in self.old) number None) }
     {
         let finish = self.finish(number);
         self.books.remove(&number);
@@ -238,8 +243,11 @@ impl Store {
 
     /// An activity begins here under a finish. Where it is refused, nothing has changed.
     pub(crate) fn begin(&mut self, finish: Finish) -> Result<(), Stop>
-        ensures ok { OnOk result (Recounts self.old self.new self.old.opened (changed_at (totals_in self.old) (finish_as finish) begins_one) (books_in self.old)) }
-        ensures err { IfErr result (λ why. (self.new ≡ self.old) × ((why ≡ stop.Memory) ⊎ ((why ≡ stop.Limit 6) × IsLargest (totals_in self.old (finish_as finish)).live))) }
+        ensures ok { OnOk result (Recounts self.old self.new self.old.opened
+            (changed_at (totals_in self.old) (finish_as finish) begins_one) (books_in self.old)) }
+        ensures err { IfErr result (λ why. (self.new ≡ self.old)
+            × ((why ≡ stop.Memory) ⊎ ((why ≡ stop.Limit limits.Activities)
+            × IsLargest (totals_in self.old (finish_as finish)).live))) }
     {
         self.tally.began(finish)
     }
@@ -257,8 +265,12 @@ impl Store {
     /// An activity is sent to a place under a finish, or goes on there. Where it is refused, nothing has changed.
     pub(crate) fn spawned(&mut self, finish: Finish, to: u16) -> Result<(), Stop>
         requires { to < self.old.places }
-        ensures ok { OnOk result (Recounts self.old self.new self.old.opened (changed_at (totals_in self.old) (finish_as finish) (λ t. sends_to t to)) (books_in self.old)) }
-        ensures err { IfErr result (λ why. (self.new ≡ self.old) × ((why ≡ stop.Memory) ⊎ ((why ≡ stop.Limit 6) × IsLargest ((totals_in self.old (finish_as finish)).sent to)))) }
+        ensures ok { OnOk result (Recounts self.old self.new self.old.opened
+            (changed_at (totals_in self.old) (finish_as finish) (λ t. sends_to t to))
+            (books_in self.old)) }
+        ensures err { IfErr result (λ why. (self.new ≡ self.old)
+            × ((why ≡ stop.Memory) ⊎ ((why ≡ stop.Limit limits.Activities)
+            × IsLargest ((totals_in self.old (finish_as finish)).sent to)))) }
     {
         self.tally.spawned(finish, to)
     }
@@ -268,7 +280,8 @@ impl Store {
     pub(crate) fn due(&self, finish: Finish) -> Option<(&[u32], &[u32])>
         requires { 0 < (totals_in self.now (finish_as finish)).live }
         ensures none { IfNone result (gives_report self.now.ledger (finish_as finish) ≡ false) }
-        ensures some { IfSome result (λ x. (gives_report self.now.ledger (finish_as finish) ≡ true) × AreDue self.now.ledger (finish_as finish) x.0.now x.1.now) }
+        ensures some { IfSome result (λ x. (gives_report self.now.ledger (finish_as finish)
+            ≡ true) × AreDue self.now.ledger (finish_as finish) x.0.now x.1.now) }
         ensures here { self.now.ledger.place ≡ self.now.here }
         ensures places { self.now.ledger.places ≡ self.now.places }
     {
@@ -278,7 +291,8 @@ impl Store {
     /// An activity under a finish ends here. Takes no memory.
     pub(crate) fn end(&mut self, finish: Finish)
         requires { 0 < (totals_in self.old (finish_as finish)).live }
-        ensures { Recounts self.old self.new self.old.opened (changed_at (totals_in self.old) (finish_as finish) ends_one) (books_in self.old) }
+        ensures { Recounts self.old self.new self.old.opened
+            (changed_at (totals_in self.old) (finish_as finish) ends_one) (books_in self.old) }
     {
         self.tally.left(finish);
     }

@@ -2,7 +2,7 @@
 ghost use Rattle.std.specs.Prelude.{◌≡◌, ◌≢◌, IfOk, IfSome, None};
 ghost use Rattle.x10_schedule.specs.declared.schedule.Schedule.TheVariants as schedule;
 ghost use Rattle.x10_world.specs.Happenings.{CanHappen, NothingCanHappen};
-ghost use Rattle.x10_world.specs.Rounds.{IsQuiet};
+ghost use Rattle.x10_world.specs.Rounds.{IsEmptyWorld};
 
 use crate::lot::Lot;
 use crate::turns::Turns;
@@ -69,9 +69,11 @@ impl Scheduler {
     /// The event that comes next; none only where nothing can happen. By rounds it may be an idle one, and none comes only
     /// where no activity is anywhere and no frame is in flight. Takes memory for keys and numbers of frames.
     pub fn next(&mut self, world: &World) -> Result<Option<Event>, AllocError>
-        ensures able { self.old ≢ schedule.Rounds → IfOk result (λ event. IfSome event (CanHappen world.now)) }
+        ensures able { self.old ≢ schedule.Rounds → IfOk result
+            (λ event. IfSome event (CanHappen world.now)) }
         ensures none { IfOk result (λ event. event ≡ None → NothingCanHappen world.now) }
-        ensures quiet { self.old ≡ schedule.Rounds → IfOk result (λ event. event ≡ None → IsQuiet world.now) }
+        ensures quiet { self.old ≡ schedule.Rounds → IfOk result
+            (λ event. event ≡ None → IsEmptyWorld world.now) }
         ensures kept { self.new ≡ self.old }
     {
         let named = match &mut self.order {

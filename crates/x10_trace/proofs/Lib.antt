@@ -1,1 +1,1 @@
-pub mod Posting
+pub mod FrameLines

@@ -9,18 +9,21 @@ use Rattle.x10_world.specs.declared.done.Done.{Done}
 use Rattle.x10_world.specs.declared.done.Done.TheVariants as done
 use Rattle.x10_flights.specs.Flights.{Flight, FlightsState, flight_of}
 use Rattle.x10_model.specs.Worlds.{World}
-use Rattle.x10_world.specs.Happenings.{IsDone}
-use Rattle.x10_world.specs.StandsForWorld.{WorldState, StandsForWorld, Makes}
+use Rattle.x10_world.specs.Happenings.{HasDone}
+use Rattle.x10_world.specs.StandsForWorld.{WorldState, StandsForWorld, MakesEvent}
 
 -- a step: its place and key, and the function, the instruction and the operation at which it was made
 abbrev pub step_line : ℕ → ℕ → ℕ → ℕ → Op → List ℕ
 step_line place key function pc op = codes "S " ++ (decimal place ++
-    (codes " " ++ (decimal key ++ (codes " " ++ (decimal function ++ (codes " " ++ (decimal pc ++ (codes " " ++ (name_of op ++ 10 ∷ [])))))))))
+    (codes " " ++ (decimal key ++ (codes " "
+    ++ (decimal function ++ (codes " " ++ (decimal pc
+    ++ (codes " " ++ (name_of op ++ 10 ∷ [])))))))))
 
 -- a frame that was put out: its number, the place that it is from, the one that it is for, and its bytes
 abbrev pub post_line : ℕ → ℕ → ℕ → List ℕ → List ℕ
 post_line number from to bytes = codes "P "
-    ++ (decimal number ++ (codes " " ++ (decimal from ++ (codes " " ++ (decimal to ++ (codes " " ++ (encode_lower bytes ++ 10 ∷ [])))))))
+    ++ (decimal number ++ (codes " " ++ (decimal from
+    ++ (codes " " ++ (decimal to ++ (codes " " ++ (encode_lower bytes ++ 10 ∷ [])))))))
 
 -- a frame that was taken in: its number and the place
 abbrev pub delivery_line : ℕ → ℕ → List ℕ
@@ -42,7 +45,8 @@ flight_line from (Some f) = post_line f.number from f.to f.bytes
 -- the lines of so many frames, numbered from one on
 abbrev pub post_lines : FlightsState → ℕ → ℕ → ℕ → List ℕ
 post_lines s from first zero = []
-post_lines s from first (suc n) = flight_line from (flight_of s first) ++ post_lines s from (first + 1) n
+post_lines s from first (suc n) = flight_line from (flight_of s first)
+    ++ post_lines s from (first + 1) n
 
 -- how many of so many numbers from one on are below 2^64 - 1, as the numbers of all frames are
 abbrev pub in_range : ℕ → ℕ → ℕ
@@ -55,7 +59,8 @@ delivered_line number _ = idle_delivery_line number
 
 -- the lines of an event, in the world after it
 abbrev pub trace_lines : WorldState → Event → Done → List ℕ
-trace_lines x (Step place key) (done.Moved function pc op first count) = step_line place key function pc op
+trace_lines x (Step place key) (done.Moved function pc op first count) =
+    step_line place key function pc op
     ++ post_lines x.flights place first (in_range first count)
 trace_lines x (Step place key) _ = idle_step_line place key
 trace_lines x (Deliver number) did = delivered_line number did
@@ -64,5 +69,7 @@ trace_lines x (Deliver number) did = delivered_line number did
 -- world of the machine that the state before it stands for.
 pub data Traced : WorldState → List ℕ → WorldState → Type 0 where
   begins : (x : WorldState) → Traced x [] x
-  goes_on : (x y z : WorldState) (text : List ℕ) (event : Event) (did : Done) → Traced x text y → IsDone y event did z
-      → ((w : World) → StandsForWorld y w → Makes y w event z) → Traced x (text ++ trace_lines z event did) z
+  goes_on : (x y z : WorldState) (text : List ℕ) (event : Event) (did : Done) → Traced x text y
+      → HasDone y event did z
+      → ((w : World) → StandsForWorld y w → MakesEvent y w event z)
+      → Traced x (text ++ trace_lines z event did) z

@@ -40,7 +40,8 @@ fn push_step(
     key: usize,
     done: &Done,
 ) -> Result<(), AllocError>
-    ensures { OnOk result (string_bytes text.new ≡ string_bytes text.old ++ trace_lines world.now (Step place key) done.now) }
+    ensures { OnOk result (string_bytes text.new
+        ≡ string_bytes text.old ++ trace_lines world.now (Step place key) done.now) }
 {
     let Done::Moved {
         function,
@@ -66,7 +67,8 @@ fn push_posts(
     first: u64,
     count: u64,
 ) -> Result<(), AllocError>
-    ensures { OnOk result (string_bytes text.new ≡ string_bytes text.old ++ post_lines world.now.flights from first (in_range first count)) }
+    ensures { OnOk result (string_bytes text.new
+        ≡ string_bytes text.old ++ post_lines world.now.flights from first (in_range first count)) }
 {
     for number in first..first.saturating_add(count) {
         push_post(alloc, text, world, from, number)?;
@@ -82,7 +84,8 @@ fn push_post(
     from: u16,
     number: u64,
 ) -> Result<(), AllocError>
-    ensures { OnOk result (string_bytes text.new ≡ string_bytes text.old ++ flight_line from (flight_of world.now.flights number)) }
+    ensures { OnOk result (string_bytes text.new
+        ≡ string_bytes text.old ++ flight_line from (flight_of world.now.flights number)) }
 {
     let Some((to, bytes)) = world.frame(number) else {
         return Ok(());
@@ -93,7 +96,8 @@ fn push_post(
 
 /// The line of a delivery.
 fn push_delivery(text: &mut String, number: u64, done: &Done) -> Result<(), AllocError>
-    ensures { OnOk result (string_bytes text.new ≡ string_bytes text.old ++ delivered_line number done.now) }
+    ensures { OnOk result (string_bytes text.new
+        ≡ string_bytes text.old ++ delivered_line number done.now) }
 {
     match *done {
         Done::Taken { to } => writeln!(text, "D {number} {to}"),

@@ -1,1 +1,1 @@
-mod Tasking
+mod TaskNumbers

@@ -121,7 +121,8 @@ pub record IsReadFrom (explain : Bool) (m : ArgMatches) (t : Task) : Type 0 wher
   pub asked : Option ℕ
   pub is_asked : IsNumberIn 64 (one_text found (codes "limit")) asked
   pub limit_is : t.limit ≡ unwrap_or asked 1000000
-  pub schedule_is : t.schedule ≡ schedule_named (first_value found (codes "schedule")) (is_some t.seed)
+  pub schedule_is : t.schedule ≡ schedule_named (first_value found (codes "schedule"))
+      (is_some t.seed)
   pub seed_is : IsNumberIn 64 (one_text found (codes "seed")) t.seed
   pub asked_seeds : Option ℕ
   pub are_asked : IsNumberIn 64 (one_text found (codes "seeds")) asked_seeds

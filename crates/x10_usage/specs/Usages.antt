@@ -11,4 +11,5 @@ text_of (Some text) = string_bytes text
 
 -- what is answered in place of a task: a text with status 0 or 3, or status 2 and no text, where memory was refused
 abbrev pub IsAnswer : Usage → Type 0
-IsAnswer u = ((u.status ≡ 0) × IsSome u.text) ⊎ ((u.status ≡ 2) × (u.text ≡ None)) ⊎ ((u.status ≡ 3) × IsSome u.text)
+IsAnswer u = ((u.status ≡ 0) × IsSome u.text) ⊎ ((u.status ≡ 2) × (u.text ≡ None))
+    ⊎ ((u.status ≡ 3) × IsSome u.text)

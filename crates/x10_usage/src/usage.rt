@@ -285,9 +285,11 @@ fn json_is_for_few(task: &Task) -> bool
 
 /// A schedule is for a run in this thread, and a seed for a random one.
 fn is_schedule(task: &Task) -> bool
-    ensures schedule { IsTrue result → task.now.schedule ≢ Schedule.Rounds → (tasks.is_run task.now.verb ≡ true) × (task.now.threads ≡ false) }
+    ensures schedule { IsTrue result → task.now.schedule ≢ Schedule.Rounds
+        → (tasks.is_run task.now.verb ≡ true) × (task.now.threads ≡ false) }
     ensures runs { IsTrue result → task.now.verb ≡ Verb.Runs → task.now.schedule ≡ Schedule.Rounds }
-    ensures seed { IsTrue result → is_some task.now.seed ≡ true → task.now.schedule ≡ Schedule.Random }
+    ensures seed { IsTrue result → is_some task.now.seed ≡ true
+        → task.now.schedule ≡ Schedule.Random }
 {
     let runs_here = is_run(task.verb) && !matches!(task.verb, Verb::Runs) && !task.threads;
     match task.schedule {

@@ -18,7 +18,10 @@ pub IsBelow-refl : (s : State) → IsBelow s s
 IsBelow-refl s = record { kinds = λ r want e. (want, e, Fits-refl want); homes = λ v w tv tw h. h }
 
 pub IsBelow-trans : (s t u : State) → IsBelow s t → IsBelow t u → IsBelow s u
-IsBelow-trans s t u a b = record { kinds = λ r want e. IsKind-down s t r want a (b.kinds r want e); homes = λ v w tv tw h. a.homes v w tv tw (b.homes v w tv tw h) }
+IsBelow-trans s t u a b = record {
+  kinds = λ r want e. IsKind-down s t r want a (b.kinds r want e);
+  homes = λ v w tv tw h. a.homes v w tv tw (b.homes v w tv tw h);
+}
 
 pub SameState-below : (s t : State) → SameState s t → IsBelow s t
 SameState-below s t same = record { kinds = λ r want e. (want, same.kinds r ∙ e, Fits-refl want); homes = λ v w tv tw h. same.homes v w tv tw ∙ h }

@@ -29,15 +29,20 @@ more_written : (r s : Equations) (reg : ℕ) (like : Option Term) → IsTermLike
 more_written r s reg None it more = written-None-more r s reg more
 more_written r s reg (Some t) it more = written-Some-more r s reg t it more
 
-set_kinds : (s t : State) (r : ℕ) (k l : Kind) (like : Option Term) → Fits k l → IsBelow s t → (q : ℕ) (want : Kind) → with_entry t.kinds r (Some l) q ≡ Some want → IsKind (set s r k like) q want
+set_kinds : (s t : State) (r : ℕ) (k l : Kind) (like : Option Term) → Fits k l → IsBelow s t → (q : ℕ) (want : Kind)
+    → with_entry t.kinds r (Some l) q ≡ Some want → IsKind (set s r k like) q want
 set_kinds s t r k l like fits below q want e = elim (entry_cases (Option Kind) r q) [
   | inl at ↦ (k, at.1 s.kinds (Some k), subst (λ w. Fits k w) (same_Some l want (sym (at.1 t.kinds (Some l)) ∙ e)) fits)
   | inr off ↦ (let h = below.kinds q want (sym (off.1 t.kinds (Some l)) ∙ e) in (h.0, off.1 s.kinds (Some k) ∙ h.1, h.2))
 ]
 
 -- a kind written to the same register of both
-set_below : (s t : State) (r : ℕ) (k l : Kind) (like : Option Term) → IsTermLike like → Fits k l → IsBelow s t → IsBelow (set s r k like) (set t r l like)
-set_below s t r k l like it fits below = record { kinds = set_kinds s t r k l like fits below; homes = more_written s.homes t.homes r like it below.homes }
+set_below : (s t : State) (r : ℕ) (k l : Kind) (like : Option Term) → IsTermLike like → Fits k l → IsBelow s t
+    → IsBelow (set s r k like) (set t r l like)
+set_below s t r k l like it fits below = record {
+  kinds = set_kinds s t r k l like fits below;
+  homes = more_written s.homes t.homes r like it below.homes;
+}
 
 like_term : (s : State) (k : Kind) (like : Option Term) → IsSoundIn s (Sets k like) → IsTermLike like
 like_term s k None h = tt
@@ -46,7 +51,10 @@ like_term s k (Some t) h = stands_term s t h.1
 same_below : (a : ℕ) (s t : State) (e : Effect) → IsSoundIn s e → IsBelow s t → IsBelow (after a s e) (after a t e)
 same_below a s t Keeps sound below = below
 same_below a s t (Sets k like) sound below = set_below s t a k k like (like_term s k like sound) (Fits-refl k) below
-same_below a s t (Joins u v) sound below = record { kinds = below.kinds; homes = joined-more s.homes t.homes u v (stands_term s u sound.0) (stands_term s v sound.1) below.homes }
+same_below a s t (Joins u v) sound below = record {
+  kinds = below.kinds;
+  homes = joined-more s.homes t.homes u v (stands_term s u sound.0) (stands_term s v sound.1) below.homes;
+}
 
 pub after_below : (a : ℕ) (s t : State) (e f : Effect) → IsSoundIn s e → Leaves e f → IsBelow s t → IsBelow (after a s e) (after a t f)
 after_below a s t e f sound (inl same) below = subst (λ x. IsBelow (after a s e) (after a t x)) same (same_below a s t e sound below)
@@ -118,5 +126,12 @@ join_alone s t u one two is r v lt none it e = elim (ways s.homes t u (term.Reg 
 pub after_state : (a : ℕ) (s : State) (e : Effect) → IsSoundIn s e → IsState s → IsState (after a s e)
 after_state a s Keeps sound is = is
 after_state a s (Sets k None) sound is = record { equivalence = written-None_is s.homes a is.equivalence; alone = set_alone_None s a k is }
-after_state a s (Sets k (Some t)) sound is = record { equivalence = written-Some_is s.homes a t (stands_term s t sound.1) is.equivalence; alone = set_alone_Some s a k t sound.0 sound.1 is }
-after_state a s (Joins t u) sound is = record { equivalence = joined_is s.homes t u (stands_term s t sound.0) (stands_term s u sound.1) is.equivalence; alone = join_alone s t u sound.0 sound.1 is }
+after_state a s (Sets k (Some t)) sound is = record {
+  equivalence = written-Some_is s.homes a t (stands_term s t sound.1) is.equivalence;
+  alone = set_alone_Some s a k t sound.0 sound.1 is;
+}
+after_state a s (Joins t u) sound is = record {
+  equivalence = joined_is s.homes t u (stands_term s t sound.0)
+      (stands_term s u sound.1) is.equivalence;
+  alone = join_alone s t u sound.0 sound.1 is;
+}

@@ -43,7 +43,8 @@ kinds_begin slots kinds size none = record { size = size; set = λ r lt. absurd 
 kind_of_slot : (slots : List Slot) (i : ℕ) (slot : Slot) → slice_get slots i ≡ Some slot → parameter_kind (slice_get slots i) ≡ Some slot.kind
 kind_of_slot slots i slot e = ap parameter_kind e
 
-pub kinds_go_on : (slots : List Slot) (kinds : List ℕ) (i n : ℕ) (slot : Slot) → KindsTo slots kinds i → i < 64 → slice_get slots i ≡ Some slot → kind_coded n ≡ Some slot.kind
+pub kinds_go_on : (slots : List Slot) (kinds : List ℕ) (i n : ℕ) (slot : Slot) → KindsTo slots kinds i → i < 64 → slice_get slots i ≡ Some slot
+    → kind_coded n ≡ Some slot.kind
     → KindsTo slots (set kinds i n) (i + 1)
 kinds_go_on slots kinds i n slot h lt e coded = record { size = simp length-set h.size; set = set_all; unset = unset_all }
   where
@@ -65,8 +66,13 @@ kinds_go_on slots kinds i n slot h lt e coded = record { size = simp length-set 
       | inr off ↦ is r ∙ off.1 (kind_in kinds) (Some slot.kind) ∙ h.unset r (omega arith)
     ]
 
-pub kinds_done : (slots : List Slot) (kinds : List ℕ) (i : ℕ) → KindsTo slots kinds i → length slots ≤ i → (r : ℕ) → kind_in kinds r ≡ parameter_kind (slice_get slots r)
-kinds_done slots kinds i h le r = elim (cases_lt r i) [ inl lt ↦ h.set r lt | inr ge ↦ h.unset r ge ∙ sym (ap parameter_kind (slice_get_past slots r (omega arith))) ]
+pub kinds_done : (slots : List Slot) (kinds : List ℕ) (i : ℕ) → KindsTo slots kinds i → length slots ≤ i → (r : ℕ)
+    → kind_in kinds r ≡ parameter_kind (slice_get slots r)
+kinds_done slots kinds i h le r = elim (cases_lt r i) [
+  | inl lt ↦ h.set r lt
+  | inr ge ↦ h.unset r ge
+      ∙ sym (ap parameter_kind (slice_get_past slots r (omega arith)))
+]
 
 -- ---- homes
 
@@ -79,31 +85,41 @@ all_dropped : (slots : List Slot) → drop (length slots) slots ≡ []
 all_dropped [] = refl
 all_dropped (s ∷ ss) = all_dropped ss
 
-pub homes_end : (slots : List Slot) (from : ℕ) (homes : Homes) → from ≡ length slots → SameEquations (equations homes) alone → SameEquations (equations homes) (homes_here from (drop from slots))
-homes_end slots from homes e same = subst (λ (rest : List Slot). SameEquations (equations homes) (homes_here from rest)) (sym (ap (λ n. drop n slots) e ∙ all_dropped slots)) same
+pub homes_end : (slots : List Slot) (from : ℕ) (homes : Homes) → from ≡ length slots → SameEquations (equations homes) alone
+    → SameEquations (equations homes) (homes_here from (drop from slots))
+homes_end slots from homes e same = subst (λ (rest : List Slot). SameEquations (equations homes) (homes_here from rest))
+    (sym (ap (λ n. drop n slots) e ∙ all_dropped slots)) same
 
 -- one parameter more in front
-front : (slots : List Slot) (from : ℕ) (slot : Slot) (r : Equations) → slice_get slots from ≡ Some slot → SameEquations r (homes_here from (slot ∷ drop (suc from) slots)) → SameEquations r (homes_here from (drop from slots))
+front : (slots : List Slot) (from : ℕ) (slot : Slot) (r : Equations) → slice_get slots from ≡ Some slot
+    → SameEquations r (homes_here from (slot ∷ drop (suc from) slots)) → SameEquations r (homes_here from (drop from slots))
 front slots from slot r e same = subst (λ (rest : List Slot). SameEquations r (homes_here from rest)) (sym (drop_at slots from slot e)) same
 
 joined_same : (r s : Equations) (t u : Term) → IsTerm t → IsTerm u → SameEquations r s → SameEquations (joined r t u) (joined s t u)
 joined_same r s t u tt' ut same v w tv tw =
     rw (same v w tv tw, same v t tv tt', same u w ut tw, same v u tv ut, same t w tt' tw) refl
 
-pub homes_flagged : (slots : List Slot) (from : ℕ) (slot : Slot) (rest after : Homes) → slice_get slots from ≡ Some slot → slot.home_here ≡ true → from < 64 → SameEquations (equations rest) (homes_here (from + 1) (drop (from + 1) slots)) → SameEquations (equations after) (joined (equations rest) (term.Reg from) term.Here)
+pub homes_flagged : (slots : List Slot) (from : ℕ) (slot : Slot) (rest after : Homes) → slice_get slots from ≡ Some slot → slot.home_here ≡ true
+    → from < 64 → SameEquations (equations rest) (homes_here (from + 1) (drop (from + 1) slots))
+    → SameEquations (equations after) (joined (equations rest) (term.Reg from) term.Here)
     → SameEquations (equations after) (homes_here from (drop from slots))
 homes_flagged slots from slot rest after e flag lt same join = front slots from slot (equations after) e flagged
   where
-    flagged : SameEquations (equations after) (cond slot.home_here (joined (homes_here (from + 1) (drop (suc from) slots)) (term.Reg from) term.Here) (homes_here (from + 1) (drop (suc from) slots)))
-    flagged v w tv tw = rw flag (join v w tv tw ∙ joined_same (equations rest) (homes_here (from + 1) (drop (suc from) slots)) (term.Reg from) term.Here lt tt (subst (λ n. SameEquations (equations rest) (homes_here (from + 1) (drop n slots))) one same) v w tv tw)
+    flagged : SameEquations (equations after) (cond slot.home_here (joined (homes_here (from + 1) (drop (suc from) slots)) (term.Reg from) term.Here)
+        (homes_here (from + 1) (drop (suc from) slots)))
+    flagged v w tv tw = rw flag (join v w tv tw ∙ joined_same (equations rest) (homes_here (from + 1) (drop (suc from) slots))
+        (term.Reg from) term.Here lt tt (subst (λ n. SameEquations (equations rest) (homes_here (from + 1) (drop n slots))) one same) v w tv tw)
       where
         one : from + 1 ≡ suc from
         one = omega arith
 
-pub homes_plain : (slots : List Slot) (from : ℕ) (slot : Slot) (rest : Homes) → slice_get slots from ≡ Some slot → slot.home_here ≡ false → SameEquations (equations rest) (homes_here (from + 1) (drop (from + 1) slots)) → SameEquations (equations rest) (homes_here from (drop from slots))
+pub homes_plain : (slots : List Slot) (from : ℕ) (slot : Slot) (rest : Homes) → slice_get slots from ≡ Some slot → slot.home_here ≡ false
+    → SameEquations (equations rest) (homes_here (from + 1) (drop (from + 1) slots))
+    → SameEquations (equations rest) (homes_here from (drop from slots))
 homes_plain slots from slot rest e flag same = front slots from slot (equations rest) e plain
   where
-    plain : SameEquations (equations rest) (cond slot.home_here (joined (homes_here (from + 1) (drop (suc from) slots)) (term.Reg from) term.Here) (homes_here (from + 1) (drop (suc from) slots)))
+    plain : SameEquations (equations rest) (cond slot.home_here (joined (homes_here (from + 1) (drop (suc from) slots)) (term.Reg from) term.Here)
+        (homes_here (from + 1) (drop (suc from) slots)))
     plain v w tv tw = rw flag (subst (λ n. SameEquations (equations rest) (homes_here (from + 1) (drop n slots))) one same v w tv tw)
       where
         one : from + 1 ≡ suc from
@@ -137,7 +153,8 @@ joined_alone inner r q h ne t e = elim (ways inner (term.Reg r) term.Here (term.
   ]
 ]
 
-front_alone : (b : Bool) (inner : Equations) (r q : ℕ) → IsAlone inner q → (b ≡ true → r ≡ q → ⊥) → IsAlone (cond b (joined inner (term.Reg r) term.Here) inner) q
+front_alone : (b : Bool) (inner : Equations) (r q : ℕ) → IsAlone inner q → (b ≡ true → r ≡ q → ⊥)
+    → IsAlone (cond b (joined inner (term.Reg r) term.Here) inner) q
 front_alone true inner r q h ne = joined_alone inner r q h (ne refl)
 front_alone false inner r q h ne = h
 
@@ -145,7 +162,8 @@ front_alone false inner r q h ne = h
 homes_alone : (q : ℕ) (slots : List Slot) (r : ℕ) → IsUnflagged q r slots → IsAlone (homes_here r slots) q
 homes_alone q [] r h t e = sym (same_term-is (term.Reg q) t e)
 homes_alone q (s ∷ slots) r h t e =
-    front_alone s.home_here (homes_here (r + 1) slots) r q (homes_alone q slots (r + 1) (later q r s slots h)) (λ flag same. h 0 s refl flag (omega arith)) t e
+    front_alone s.home_here (homes_here (r + 1) slots) r q (homes_alone q slots (r + 1) (later q r s slots h))
+    (λ flag same. h 0 s refl flag (omega arith)) t e
 
 flag_has_place : (k : Kind) → takes_flag k ≡ true → has_place k ≡ true
 flag_has_place (kind.GRef c) e = refl
@@ -169,5 +187,6 @@ unflagged slots q fits none i slot e flag at =
 pub entry_valid : (slots : List Slot) (k : Known) → FlagsFit slots → SameState (state_of k) (entered slots) → IsState (state_of k)
 entry_valid slots k fits same = record {
   equivalence = equations_is k.homes;
-  alone = λ r t lt none it e. homes_alone r slots 0 (unflagged slots r fits (subst (λ o. holds_place o ≡ false) (same.kinds r) none)) t (sym (same.homes (term.Reg r) t lt it) ∙ e);
+  alone = λ r t lt none it e. homes_alone r slots 0 (unflagged slots r fits (subst (λ o. holds_place o ≡ false) (same.kinds r) none)) t
+      (sym (same.homes (term.Reg r) t lt it) ∙ e);
 }

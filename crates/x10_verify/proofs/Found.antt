@@ -32,9 +32,9 @@ use Rattle.x10_verify.specs.declared.want.Want.TheVariants.{Anything, Fitting, A
 use Rattle.x10_verify.specs.Causes.{Meets, IsRefused, IsUnfit, HasNoField, IsNoPlace, IsUncalled, IsUnreturned, IsCauseOf, IsCauseAt}
 use Rattle.x10_verify.specs.LawsOfFaults.{CausesRefuteRules, FollowedIsKnown, FoundIsWithout}
 use Rattle.x10_verify.proofs.Below.{entry_cases}
-use Rattle.x10_verify.proofs.Settling.{object_once, grants_sound}
+use Rattle.x10_verify.proofs.SettledLemmas.{object_once, grants_sound}
 use Rattle.x10_verify.proofs.Tables.{table_sound, can_apply, results_fit}
-use Rattle.x10_verify.proofs.Solving.{least_on, least_jump, least_never, least_same}
+use Rattle.x10_verify.proofs.WorkListLemmas.{least_on, least_jump, least_never, least_same}
 use Rattle.x10_verify.proofs.Stepped.{edges_in}
 use Rattle.x10_verify.proofs.Wholes.{function_fits, has_names}
 use Rattle.x10_model.proofs.Lists.{none_some}
@@ -77,7 +77,8 @@ unreturned_not p s None why h r = h.1 r
 unreturned_not p s (Some slot) why h r = unfit_not s term.Here p.instr.a slot why h r
 
 -- the class of an object in a register has the field, or it hasn't
-no_field_not : (p : Point) (s : State) (r : ℕ) (why : FlowCause) (class : ℕ) (field : Kind) → HasNoField p s r why → IsKind s r (kind.Obj class) → field_of p.program class p.instr.c ≡ Some field → ⊥
+no_field_not : (p : Point) (s : State) (r : ℕ) (why : FlowCause) (class : ℕ) (field : Kind) → HasNoField p s r why → IsKind s r (kind.Obj class)
+    → field_of p.program class p.instr.c ≡ Some field → ⊥
 no_field_not p s r flow.Kind class field h k is =
     none_some (field_of p.program class p.instr.c) field (subst (λ c. field_of p.program c p.instr.c ≡ None) (object_once s r h.0 class h.1 k) h.2) is
 no_field_not p s r flow.Unset class field h k is = h
@@ -85,7 +86,8 @@ no_field_not p s r flow.Home class field h k is = h
 no_field_not p s r flow.Result class field h k is = h
 
 -- a value that is put is of the field's kind, or it isn't
-put_not : (p : Point) (s : State) (why : FlowCause) (c d : ℕ) (k l : Kind) → IsKind s p.instr.a (kind.Obj c) → IsKind s p.instr.a (kind.Obj d) → field_of p.program c p.instr.c ≡ Some k → field_of p.program d p.instr.c ≡ Some l
+put_not : (p : Point) (s : State) (why : FlowCause) (c d : ℕ) (k l : Kind) → IsKind s p.instr.a (kind.Obj c) → IsKind s p.instr.a (kind.Obj d)
+    → field_of p.program c p.instr.c ≡ Some k → field_of p.program d p.instr.c ≡ Some l
     → IsRefused s p.instr.b (Fitting k) why → IsKind s p.instr.b l → ⊥
 put_not p s why c d k l hc hd hk hl h g =
     let same : c ≡ d = object_once s p.instr.a c d hc hd in
@@ -127,13 +129,16 @@ settled_not FindsHere p s why e h g = placed_not s p.instr.a why h g.0
 settled_not FindsSame p s why e (inl h) g = placed_not s p.instr.a why h g.0
 settled_not FindsSame p s why e (inr h) g = placed_not s p.instr.b why h g.1
 settled_not (Starts at) p s why e (inl h) g = uncalled_not at p s why g.0 h g.1
-settled_not (Starts at) p s why e (inr (callee, result, there, some)) g = some (subst (λ (f : Function). f.result ≡ None) (same_Some g.0 callee (sym g.1.there ∙ there)) g.2)
+settled_not (Starts at) p s why e (inr (callee, result, there, some)) g =
+    some (subst (λ (f : Function). f.result ≡ None) (same_Some g.0 callee (sym g.1.there ∙ there)) g.2)
 settled_not Prints p s why e h (inl k, g) = refused_not s p.instr.a AnIntOrText why k.0 h k.1 (inl k.2)
 settled_not Prints p s why e h (inr k, g) = refused_not s p.instr.a AnIntOrText why k.0 h k.1 (inr k.2)
 
-asked_not : (s : State) (r q : ℕ) (o : Option Kind) (want : Kind) (why : FlowCause) → o ≡ Some want → r ≡ q → IsRefused s r (Fitting want) why → IsKindIf s q o → ⊥
+asked_not : (s : State) (r q : ℕ) (o : Option Kind) (want : Kind) (why : FlowCause) → o ≡ Some want → r ≡ q → IsRefused s r (Fitting want) why
+    → IsKindIf s q o → ⊥
 asked_not s r q None want why is here h a = absurd cc
-asked_not s r q (Some k) want why is here h a = unkind_not s q k why (subst (λ n. IsRefused s n (Fitting k) why) here (subst (λ x. IsRefused s r (Fitting x) why) (sym (same_Some k want is)) h)) a
+asked_not s r q (Some k) want why is here h a = unkind_not s q k why
+    (subst (λ n. IsRefused s n (Fitting k) why) here (subst (λ x. IsRefused s r (Fitting x) why) (sym (same_Some k want is)) h)) a
 
 granted_not : (row : Rule) (p : Point) (s : State) (why : FlowCause) (e : Effect) → IsCauseAt row p s why → Grants row p s e → ⊥
 granted_not row p s why e (inl (r, want, inl at, h)) g = asked_not s r p.instr.a row.a want why at.0 at.1 h g.a
@@ -166,21 +171,25 @@ record IsPassed (program : Module) (function : Function) (pc : ℕ) (s : State) 
   least : LeastAt program function pc s
   narrow : IsNarrow s
 
-passed_entry : (m : Module) (f : ℕ) (function : Function) → FitsImage m → function_at m f ≡ Some function → IsPassed m function 0 (entry_state function)
+passed_entry : (m : Module) (f : ℕ) (function : Function) → FitsImage m → function_at m f ≡ Some function
+    → IsPassed m function 0 (entry_state function)
 passed_entry m f function fits there = record {
   least = record { below = λ states consistent. consistent.entry; follows = entered };
   narrow = entry_narrow m f function fits there;
 }
 
-passed_edge : (m : Module) (f : ℕ) (function : Function) (pc : ℕ) (s : State) (instr : Instr) (out : Edges) (edge : ℕ × State) → FitsImage m → AreInRange m → function_at m f ≡ Some function
-    → IsPassed m function pc s → slice_get function.code pc ≡ Some instr → Permits instr.op (point m function pc instr) s out → IsIn edge out → IsPassed m function edge.0 edge.1
+passed_edge : (m : Module) (f : ℕ) (function : Function) (pc : ℕ) (s : State) (instr : Instr) (out : Edges) (edge : ℕ × State) → FitsImage m
+    → AreInRange m → function_at m f ≡ Some function
+    → IsPassed m function pc s → slice_get function.code pc ≡ Some instr → Permits instr.op (point m function pc instr) s out → IsIn edge out
+    → IsPassed m function edge.0 edge.1
 passed_edge m f function pc s instr out edge fits range there passed is parts leads =
     let p = point m function pc instr in
     let results = results_fit m fits in
     let named = has_names m f fits range pc instr (ap (λ o. instr_in o pc) there ∙ is) in
     let sound = grants_sound (rule_for instr.op instr) p s parts.0 passed.narrow results (table_sound instr.op instr named.small.place) parts.1 in
     let can = can_apply p s parts.0 passed.narrow results named parts.1 in
-    elim (edges_in (goes_on_of instr.op) (is_target (form_of instr.op).x) (pc + 1) instr.x (after instr.a s parts.0) s edge (subst (λ o. IsIn edge o) parts.2 leads)) [
+    elim (edges_in (goes_on_of instr.op) (is_target (form_of instr.op).x) (pc + 1) instr.x (after instr.a s parts.0) s edge
+    (subst (λ o. IsIn edge o) parts.2 leads)) [
       | inl on ↦ subst (λ (e : ℕ × State). IsPassed m function e.0 e.1) (sym on.1) (record {
         least = least_on m function pc s instr parts.0 passed.narrow is passed.least parts.1 sound on.0;
         narrow = after_narrow instr.a s parts.0 passed.narrow can;
@@ -191,7 +200,8 @@ passed_edge m f function pc s instr out edge fits range there passed is parts le
       })
     ]
 
-passed_merged : (m : Module) (function : Function) (pc : ℕ) (s t u : State) → IsPassed m function pc s → IsPassed m function pc t → IsMet s t u → IsPassed m function pc u
+passed_merged : (m : Module) (function : Function) (pc : ℕ) (s t u : State) → IsPassed m function pc s → IsPassed m function pc t → IsMet s t u
+    → IsPassed m function pc u
 passed_merged m function pc s t u h g met = record {
   least = record {
     below = λ states consistent. (
@@ -204,7 +214,8 @@ passed_merged m function pc s t u h g met = record {
   narrow = met.kept.narrow;
 }
 
-passed : (m : Module) (f : ℕ) (function : Function) → FitsImage m → AreInRange m → function_at m f ≡ Some function → (pc : ℕ) (s : State) → Follows m function pc s → IsPassed m function pc s
+passed : (m : Module) (f : ℕ) (function : Function) → FitsImage m → AreInRange m → function_at m f ≡ Some function → (pc : ℕ) (s : State)
+    → Follows m function pc s → IsPassed m function pc s
 passed m f function fits range there pc s entered = passed_entry m f function fits there
 passed m f function fits range there pc' s' (handed_on pc s instr out edge h is permits leads) =
     passed_edge m f function pc s instr out edge fits range there (passed m f function fits range there pc s h) is permits leads

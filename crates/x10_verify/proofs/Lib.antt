@@ -5,12 +5,12 @@ pub mod Wholes
 pub mod Refuted
 pub mod Below
 pub mod Effects
-pub mod Settling
+pub mod SettledLemmas
 pub mod Tables
-pub mod Deciding
-pub mod Merging
+pub mod RuleDecided
+pub mod WeakestState
 pub mod Tabled
-pub mod Solving
+pub mod WorkListLemmas
 pub mod Stepped
 pub mod InFunction
 pub mod Solved

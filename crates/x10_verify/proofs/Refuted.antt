@@ -23,14 +23,17 @@ target_is operand.Target e = refl
 target_is _ e = absurd cc
 
 -- each instruction leads to one of its function, where the structure holds and all that is named is there
-leads_on : (m : Module) (f pc : ℕ) (function : Function) (instr : Instr) (why : FlowCause) → HasBounds m → AreInRange m → function_at m f ≡ Some function → slice_get function.code pc ≡ Some instr → LeadsOut function pc instr why → ⊥
+leads_on : (m : Module) (f pc : ℕ) (function : Function) (instr : Instr) (why : FlowCause) → HasBounds m → AreInRange m
+    → function_at m f ≡ Some function → slice_get function.code pc ≡ Some instr → LeadsOut function pc instr why → ⊥
 leads_on m f pc function instr why bounds range there is out = elim out.1 [
   | inl jump ↦ (
-      let lt : instr.x < length function.code = there_as m function instr (form_of instr.op).x operand.Target instr.x (target_is (form_of instr.op).x jump.0) (range f pc function instr there is).x in
+      let lt : instr.x < length function.code = there_as m function instr (form_of instr.op).x operand.Target instr.x
+      (target_is (form_of instr.op).x jump.0) (range f pc function instr there is).x in
       absurd (omega (arith, lt, jump.1)))
   | inr next ↦ (
       let b = bounds_each m bounds.0 f function bounds.1 there in
-      let lt : pc + 1 < length function.code = has_next function.code pc instr b.2.1 is (λ ret. absurd (let e = subst (λ o. goes_on_of o ≡ true) ret next.0 in cc)) in
+      let lt : pc + 1 < length function.code = has_next function.code pc instr b.2.1 is
+      (λ ret. absurd (let e = subst (λ o. goes_on_of o ≡ true) ret next.0 in cc)) in
       absurd (omega (arith, lt, next.1)))
 ]
 
@@ -39,11 +42,13 @@ found_in : (m : Module) (c : FlowCause) (f pc : ℕ) → HasBounds m → AreInRa
 found_in m c f pc bounds range (function, there, inl found) = (function, there, found)
 found_in m c f pc bounds range (function, there, inr (instr, is, out)) = absurd (leads_on m f pc function instr c bounds range there is out)
 
-refutes_by : (m : Module) (c : FlowCause) (f pc : ℕ) → HasBounds m → AreInRange m → IsFirstWithout m f → IsFoundIn m f pc c → RefutesBy (flow_cause c) m f pc
+refutes_by : (m : Module) (c : FlowCause) (f pc : ℕ) → HasBounds m → AreInRange m → IsFirstWithout m f → IsFoundIn m f pc c
+    → RefutesBy (flow_cause c) m f pc
 refutes_by m flow.Unset f pc bounds range first found = (bounds, range, first, found)
 refutes_by m flow.Kind f pc bounds range first found = (bounds, range, first, found)
 refutes_by m flow.Home f pc bounds range first found = (bounds, range, first, found)
 refutes_by m flow.Result f pc bounds range first found = (bounds, range, first, found)
 
-pub flow_refutes : (m : Module) (c : FlowCause) (f pc : ℕ) → HasBounds m → AreInRange m → IsFirstWithout m f → StopsIn m f pc c → RefutesBy (flow_cause c) m f pc
+pub flow_refutes : (m : Module) (c : FlowCause) (f pc : ℕ) → HasBounds m → AreInRange m → IsFirstWithout m f → StopsIn m f pc c
+    → RefutesBy (flow_cause c) m f pc
 flow_refutes m c f pc bounds range first stops = refutes_by m c f pc bounds range first (found_in m c f pc bounds range stops)

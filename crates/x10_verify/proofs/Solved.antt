@@ -16,15 +16,21 @@ use Rattle.x10_verify.specs.Least.{IsLeast}
 use Rattle.x10_verify.specs.Solving.{IsSolved, Solves}
 use Rattle.x10_verify.specs.States.{state_in, stated, waits, IsFresh, IsMetIn, Arrives}
 use Rattle.x10_verify.proofs.Below.{IsBelow-trans, SameState-below, SameState-sym}
-use Rattle.x10_verify.proofs.Solving.{Arrived, arrived}
+use Rattle.x10_verify.proofs.WorkListLemmas.{Arrived, arrived}
 use Rattle.x10_model.proofs.Lists.{none_some}
 
 -- with the state at the entry alone
-pub begins : (program : Module) (function : Function) (known : Known) (old new : List Entry) (changed : Bool) → 0 < length function.code → IsFresh old → Arrives old 0 known new changed
+pub begins : (program : Module) (function : Function) (known : Known) (old new : List Entry) (changed : Bool) → 0 < length function.code → IsFresh old
+    → Arrives old 0 known new changed
     → SameState (state_of known) (entered function.parameters) → IsState (state_of known) → IsNarrow (state_of known) → Solves program function 0 new
 begins program function known old new changed some fresh arrives same state narrow = record {
   inside = λ q ge. off q (λ e. absurd (omega arith));
-  entry = (state_of known, here, SameState-below (entry_state function) (state_of known) (SameState-sym (state_of known) (entry_state function) same));
+  entry = (
+    state_of known,
+    here,
+    SameState-below (entry_state function) (state_of known)
+        (SameState-sym (state_of known) (entry_state function) same),
+  );
   kept = λ q s e. subst IsKept (only q s e).1 (record { state = state; narrow = narrow });
   settled = λ q s e w. absurd (let f = waiting in let g : waits new 0 ≡ false = ap (waits new) (sym (only q s e).0) ∙ w in cc);
   least = λ q s e. subst (λ n. LeastAt program function n s) (sym (only q s e).0) (subst (λ x. LeastAt program function 0 x) (only q s e).1 least);
@@ -64,7 +70,8 @@ begins program function known old new changed some fresh arrives same state narr
     }
 
 -- none waits any more
-pub solved : (program : Module) (function : Function) (at len : ℕ) (table : List Entry) → length function.code ≡ len → len ≤ at → Solves program function at table → IsLeast program function (stated table)
+pub solved : (program : Module) (function : Function) (at len : ℕ) (table : List Entry) → length function.code ≡ len → len ≤ at
+    → Solves program function at table → IsLeast program function (stated table)
 solved program function at len table size le h = record {
   consistent = record {
     entry = h.entry;
@@ -77,18 +84,22 @@ solved program function at len table size le h = record {
   below = λ pc s e a. (h.least pc s e).below a.0 a.1;
 }
 
-pub solved_least : (program : Module) (function : Function) (table : List Entry) → IsSolved program function table → IsLeast program function (stated table)
+pub solved_least : (program : Module) (function : Function) (table : List Entry) → IsSolved program function table
+    → IsLeast program function (stated table)
 solved_least program function table h = solved program function h.0 (length function.code) table refl h.1 h.2
 
 -- and nothing is left of the function
-pub cleared : (program : Module) (function : Function) (at len : ℕ) (old new : List Entry) → length function.code ≡ len → Solves program function at old → ((q : ℕ) → q < len → state_in (slice_get new q) ≡ None) → ((q : ℕ) → len ≤ q → slice_get new q ≡ slice_get old q) → IsFresh new
+pub cleared : (program : Module) (function : Function) (at len : ℕ) (old new : List Entry) → length function.code ≡ len
+    → Solves program function at old → ((q : ℕ) → q < len → state_in (slice_get new q) ≡ None)
+    → ((q : ℕ) → len ≤ q → slice_get new q ≡ slice_get old q) → IsFresh new
 cleared program function at len old new size h below above q = elim (cases_lt q len) [
   | inl lt ↦ below q lt
   | inr ge ↦ ap state_in (above q ge) ∙ h.inside q (omega arith)
 ]
 
 -- an instruction that does not wait
-pub passed_by : (program : Module) (function : Function) (at : ℕ) (table : List Entry) → waits table at ≡ false → Solves program function at table → Solves program function (at + 1) table
+pub passed_by : (program : Module) (function : Function) (at : ℕ) (table : List Entry) → waits table at ≡ false → Solves program function at table
+    → Solves program function (at + 1) table
 passed_by program function at table w h = record {
   inside = h.inside;
   entry = h.entry;
@@ -105,7 +116,8 @@ mul_le zero b k le = omega (arith)
 mul_le (suc a) zero k le = absurd (omega arith)
 mul_le (suc a) (suc b) k le = let h : a * k ≤ b * k = mul_le a b k (omega arith) in omega (arith, suc-mul a k, suc-mul b k)
 
-pub measure_falls : (before after len at next : ℕ) → at < len → ((next ≡ at + 1) × (after ≤ before)) ⊎ ((next ≤ at) × (after < before)) → after * (len + 1) + (len - next) < before * (len + 1) + (len - at)
+pub measure_falls : (before after len at next : ℕ) → at < len → ((next ≡ at + 1) × (after ≤ before)) ⊎ ((next ≤ at) × (after < before))
+    → after * (len + 1) + (len - next) < before * (len + 1) + (len - at)
 measure_falls before after len at next lt (inl on) =
     let h : after * (len + 1) ≤ before * (len + 1) = mul_le after before (len + 1) on.1 in
     let e : next ≡ at + 1 = on.0 in

@@ -18,7 +18,8 @@ small_ok true n x fault e = cc
 small_ok false n x fault e = absurd cc
 
 -- a function that has a bound has the structure, and the bound is that of its code
-pub checked : (function : ℕ) (earlier : List ℕ) (f : Function) (bound : ℕ) → checked_bound function earlier f ≡ Ok bound → (nesting_fault f.code ≡ None) × (bound_of earlier f.code ≡ bound)
+pub checked : (function : ℕ) (earlier : List ℕ) (f : Function) (bound : ℕ) → checked_bound function earlier f ≡ Ok bound
+    → (nesting_fault f.code ≡ None) × (bound_of earlier f.code ≡ bound)
 checked function earlier f bound e =
     let n = unless_ok (nesting_fault f.code) Nesting function _ bound e in
     let j = unless_ok (jump_fault f.code) Jump function _ bound n.1 in
@@ -39,7 +40,8 @@ append_front (z ∷ xs) ys zero x e = e
 append_front (z ∷ xs) ys (suc i) x e = append_front xs ys i x e
 
 -- the bounds so far stay where they are
-kept : (fs : List Function) (earlier bounds : List ℕ) (i x : ℕ) → bounds_from earlier fs ≡ Ok bounds → slice_get earlier i ≡ Some x → slice_get bounds i ≡ Some x
+kept : (fs : List Function) (earlier bounds : List ℕ) (i x : ℕ) → bounds_from earlier fs ≡ Ok bounds → slice_get earlier i ≡ Some x
+    → slice_get bounds i ≡ Some x
 kept [] earlier bounds i x e g = subst (λ (bs : List ℕ). slice_get bs i ≡ Some x) (ok_is earlier bounds e) g
   where
     ok_is : (a b : List ℕ) → bounds_from a [] ≡ Ok b → a ≡ b
@@ -48,12 +50,14 @@ kept (f ∷ fs) earlier bounds i x e g =
     let w = with_ok earlier (checked_bound (length earlier) earlier f) (λ bs. bounds_from bs fs) bounds e in
     kept fs (earlier ++ w.0 ∷ []) bounds i x w.2 (append_front earlier (w.0 ∷ []) i x g)
 
-each : (fs : List Function) (earlier bounds : List ℕ) (i : ℕ) (f : Function) → bounds_from earlier fs ≡ Ok bounds → slice_get fs i ≡ Some f → (bound : ℕ) × (slice_get bounds (length earlier + i) ≡ Some bound) × HasBound f bound
+each : (fs : List Function) (earlier bounds : List ℕ) (i : ℕ) (f : Function) → bounds_from earlier fs ≡ Ok bounds → slice_get fs i ≡ Some f
+    → (bound : ℕ) × (slice_get bounds (length earlier + i) ≡ Some bound) × HasBound f bound
 each [] earlier bounds i f e g = absurd cc
 each (h ∷ fs) earlier bounds zero f e g =
     let w = with_ok earlier (checked_bound (length earlier) earlier h) (λ bs. bounds_from bs fs) bounds e in
     let c = checked (length earlier) earlier h w.0 w.1 in
-    let here : slice_get bounds (length earlier) ≡ Some w.0 = kept fs (earlier ++ w.0 ∷ []) bounds (length earlier) w.0 w.2 (append_get earlier w.0 []) in
+    let here : slice_get bounds (length earlier) ≡ Some w.0 = kept fs (earlier ++ w.0 ∷ []) bounds (length earlier) w.0 w.2
+    (append_get earlier w.0 []) in
     let at : length earlier + 0 ≡ length earlier = omega arith in
     (w.0, subst (λ n. slice_get bounds n ≡ Some w.0) (sym at) here, subst (λ (k : Function). HasBound k w.0) (same_Some h f g) (earlier, c.0, c.1))
 each (h ∷ fs) earlier bounds (suc i) f e g =
@@ -63,7 +67,8 @@ each (h ∷ fs) earlier bounds (suc i) f e g =
     (r.0, subst (λ n. slice_get bounds n ≡ Some r.0) at r.1, r.2)
 
 -- each function of a module with bounds has its own
-pub bounds_each : (m : Module) (bounds : List ℕ) (i : ℕ) (f : Function) → bounds_of m ≡ Ok bounds → slice_get m.functions i ≡ Some f → (bound : ℕ) × (slice_get bounds i ≡ Some bound) × HasBound f bound
+pub bounds_each : (m : Module) (bounds : List ℕ) (i : ℕ) (f : Function) → bounds_of m ≡ Ok bounds → slice_get m.functions i ≡ Some f
+    → (bound : ℕ) × (slice_get bounds i ≡ Some bound) × HasBound f bound
 bounds_each m bounds i f e g =
     let r = each m.functions [] bounds i f e g in
     let at : 0 + i ≡ i = omega arith in
@@ -76,7 +81,8 @@ or_none None p e = (refl, e)
 or_none (Some n) p e = absurd cc
 
 ends : (code : List Instr) → nesting_fault code ≡ None → ends_well code ≡ true
-ends code e = chosen (ends_well code) (length code - 1) (or_none (first_failing (λ pc i. nests i.op (around code pc)) 0 code) (cond (ends_well code) None (Some (length code - 1))) e).1
+ends code e = chosen (ends_well code) (length code - 1) (or_none (first_failing (λ pc i. nests i.op (around code pc)) 0 code)
+    (cond (ends_well code) None (Some (length code - 1))) e).1
   where
     chosen : (b : Bool) (n : ℕ) → cond b None (Some n) ≡ None → b ≡ true
     chosen true n h = refl
@@ -90,7 +96,8 @@ last_is_ret : (o : Option Instr) (i : Instr) → is_last_ret o ≡ true → o �
 last_is_ret o i e f = ret_is i.op (subst (λ x. is_last_ret x ≡ true) f e)
 
 -- an instruction that doesn't end its function has one after it
-pub has_next : (code : List Instr) (pc : ℕ) (i : Instr) → nesting_fault code ≡ None → slice_get code pc ≡ Some i → (i.op ≡ op.Ret → ⊥) → pc + 1 < length code
+pub has_next : (code : List Instr) (pc : ℕ) (i : Instr) → nesting_fault code ≡ None → slice_get code pc ≡ Some i → (i.op ≡ op.Ret → ⊥)
+    → pc + 1 < length code
 has_next code pc i e g not-ret = next (cases_lt (pc + 1) (length code))
   where
     lt : pc < length code
@@ -100,4 +107,6 @@ has_next code pc i e g not-ret = next (cases_lt (pc + 1) (length code))
     next (inl h) = h
     next (inr h) =
         let at : length code - 1 ≡ pc = omega (arith, lt, h) in
-        absurd (not-ret (last_is_ret (slice_get code (length code - 1)) i (and_parts (is_empty (around code (length code))) (is_last_ret (slice_get code (length code - 1))) (ends code e)).1 (subst (λ n. slice_get code n ≡ Some i) (sym at) g)))
+        absurd (not-ret (last_is_ret (slice_get code (length code - 1)) i
+        (and_parts (is_empty (around code (length code))) (is_last_ret (slice_get code (length code - 1))) (ends code e)).1
+        (subst (λ n. slice_get code n ≡ Some i) (sym at) g)))

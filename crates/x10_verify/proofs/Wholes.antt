@@ -29,36 +29,52 @@ below_or_at q pc lt = elim (cases_lt q pc) [ inl less ↦ inl less | inr le ↦ 
 
 -- ---- ranges
 
-pub range_more : (m : Module) (f pc : ℕ) (function : Function) (i : Instr) → function_at m f ≡ Some function → instr_at m f pc ≡ Some i → AreInRangeTo m function pc → IsInRange m function i → AreInRangeTo m function (pc + 1)
+pub range_more : (m : Module) (f pc : ℕ) (function : Function) (i : Instr) → function_at m f ≡ Some function → instr_at m f pc ≡ Some i
+    → AreInRangeTo m function pc → IsInRange m function i → AreInRangeTo m function (pc + 1)
 range_more m f pc function i e is before here q j lt g = elim (below_or_at q pc lt) [
   | inl less ↦ before q j less g
-  | inr at ↦ subst (λ k. IsInRange m function k) (same_Some i j (sym (in_function m f pc function i e is) ∙ subst (λ n. slice_get function.code n ≡ Some j) at g)) here
+  | inr at ↦ subst (λ k. IsInRange m function k) (same_Some i j
+      (sym (in_function m f pc function i e is) ∙ subst (λ n. slice_get function.code n ≡ Some j) at g)) here
 ]
 
-pub range_out : (m : Module) (f pc : ℕ) (function : Function) (i : Instr) → function_at m f ≡ Some function → instr_at m f pc ≡ Some i → AreInRangeTo m function pc → (IsInRange m function i → ⊥) → IsOutAt m function pc
+pub range_out : (m : Module) (f pc : ℕ) (function : Function) (i : Instr) → function_at m f ≡ Some function → instr_at m f pc ≡ Some i
+    → AreInRangeTo m function pc → (IsInRange m function i → ⊥) → IsOutAt m function pc
 range_out m f pc function i e is before out = record { before = before; instr = i; is_instr = in_function m f pc function i e is; out = out }
 
-pub functions_more : (m : Module) (P : Function → Type 0) (f : ℕ) → ((g : ℕ) (function : Function) → g < f → function_at m g ≡ Some function → P function) → ((function : Function) → function_at m f ≡ Some function → P function) → (g : ℕ) (function : Function) → g < f + 1 → function_at m g ≡ Some function → P function
+pub functions_more : (m : Module) (P : Function → Type 0) (f : ℕ)
+    → ((g : ℕ) (function : Function) → g < f → function_at m g ≡ Some function → P function)
+    → ((function : Function) → function_at m f ≡ Some function → P function) → (g : ℕ) (function : Function) → g < f + 1
+    → function_at m g ≡ Some function → P function
 functions_more m P f before here g function lt e = elim (below_or_at g f lt) [
   | inl less ↦ before g function less e
   | inr at ↦ here function (subst (λ n. function_at m n ≡ Some function) at e)
 ]
 
-pub first_out_is : (m : Module) (f pc : ℕ) → f < length m.functions → ((g : ℕ) (function : Function) → g < f → function_at m g ≡ Some function → AreInRangeTo m function (length function.code)) → ((function : Function) → function_at m f ≡ Some function → IsOutAt m function pc) → IsFirstOut m f pc
-first_out_is m f pc lt before out = let g = get_below m.functions f lt in record { before = before; function = g.0; is_function = g.1; out = out g.0 g.1 }
+pub first_out_is : (m : Module) (f pc : ℕ) → f < length m.functions
+    → ((g : ℕ) (function : Function) → g < f → function_at m g ≡ Some function → AreInRangeTo m function (length function.code))
+    → ((function : Function) → function_at m f ≡ Some function → IsOutAt m function pc) → IsFirstOut m f pc
+first_out_is m f pc lt before out = let g = get_below m.functions f lt in
+    record { before = before; function = g.0; is_function = g.1; out = out g.0 g.1 }
 
-pub first_without_is : (m : Module) (f : ℕ) → f < length m.functions → ((g : ℕ) (function : Function) → g < f → function_at m g ≡ Some function → HasAssignment m function) → ((function : Function) → function_at m f ≡ Some function → HasAssignment m function → ⊥) → IsFirstWithout m f
-first_without_is m f lt before without = let g = get_below m.functions f lt in record { before = before; function = g.0; is_function = g.1; without = without g.0 g.1 }
+pub first_without_is : (m : Module) (f : ℕ) → f < length m.functions
+    → ((g : ℕ) (function : Function) → g < f → function_at m g ≡ Some function → HasAssignment m function)
+    → ((function : Function) → function_at m f ≡ Some function → HasAssignment m function → ⊥) → IsFirstWithout m f
+first_without_is m f lt before without = let g = get_below m.functions f lt in
+    record { before = before; function = g.0; is_function = g.1; without = without g.0 g.1 }
 
-pub function_there : (m : Module) (f : ℕ) (P : Function → Type 0) → f < length m.functions → ((function : Function) → function_at m f ≡ Some function → P function) → (function : Function) × (function_at m f ≡ Some function) × P function
+pub function_there : (m : Module) (f : ℕ) (P : Function → Type 0) → f < length m.functions
+    → ((function : Function) → function_at m f ≡ Some function → P function) → (function : Function) × (function_at m f ≡ Some function) × P function
 function_there m f P lt h = let g = get_below m.functions f lt in (g.0, g.1, h g.0 g.1)
 
-pub all_in_range : (m : Module) (n : ℕ) → length m.functions ≤ n → ((g : ℕ) (function : Function) → g < n → function_at m g ≡ Some function → AreInRangeTo m function (length function.code)) → AreInRange m
+pub all_in_range : (m : Module) (n : ℕ) → length m.functions ≤ n
+    → ((g : ℕ) (function : Function) → g < n → function_at m g ≡ Some function → AreInRangeTo m function (length function.code)) → AreInRange m
 all_in_range m n le h f pc function instr e i =
     let lt = slice_get_within m.functions f function e in
     h f function (omega arith) e pc instr (slice_get_within function.code pc instr i) i
 
-pub all_functions : (m : Module) (P : Function → Type 0) (n : ℕ) → length m.functions ≤ n → ((g : ℕ) (function : Function) → g < n → function_at m g ≡ Some function → P function) → (f : ℕ) (function : Function) → function_at m f ≡ Some function → P function
+pub all_functions : (m : Module) (P : Function → Type 0) (n : ℕ) → length m.functions ≤ n
+    → ((g : ℕ) (function : Function) → g < n → function_at m g ≡ Some function → P function) → (f : ℕ) (function : Function)
+    → function_at m f ≡ Some function → P function
 all_functions m P n le h f function e = let lt = slice_get_within m.functions f function e in h f function (omega arith) e
 
 pub least_assigns : (m : Module) (function : Function) → HasLeast m function → HasAssignment m function
@@ -66,11 +82,13 @@ least_assigns m function least = (least.0, least.1.consistent)
 
 -- ---- functions and instructions
 
-pub function_fits : (m : Module) (f : ℕ) (function : Function) → FitsImage m → function_at m f ≡ Some function → FitsFunction m.version (length m.classes) function
+pub function_fits : (m : Module) (f : ℕ) (function : Function) → FitsImage m → function_at m f ≡ Some function
+    → FitsFunction m.version (length m.classes) function
 function_fits m f function fits e = all_at (FitsFunction m.version (length m.classes)) m.functions f function fits.functions.2 e
 
 -- an instruction of a function, by its number
-instr_of : (m : Module) (f pc : ℕ) (o : Option Function) (i : Instr) → function_at m f ≡ o → instr_in o pc ≡ Some i → (function : Function) × (function_at m f ≡ Some function) × (slice_get function.code pc ≡ Some i)
+instr_of : (m : Module) (f pc : ℕ) (o : Option Function) (i : Instr) → function_at m f ≡ o → instr_in o pc ≡ Some i
+    → (function : Function) × (function_at m f ≡ Some function) × (slice_get function.code pc ≡ Some i)
 instr_of m f pc None i e g = absurd cc
 instr_of m f pc (Some function) i e g = (function, e, g)
 
@@ -85,9 +103,12 @@ result_register f None n le h = tt
 result_register f (Some slot) n le h = omega (arith, h)
 
 -- the register of a call's result
-call_result : (o : Op) (m : Module) (f : Function) (i : Instr) → is_call o ≡ true → f.registers ≤ 64 → i.op ≡ o → IsThere m f i (form_of i.op).a i.a → IsResultNamed (result_of (function_at m i.x)) i.a
-call_result op.Call m f i c le e h = result_register f (result_of (function_at m i.x)) i.a le (subst (λ o. IsResultRegister f (result_for m f i o) i.a) e (subst (λ o. IsThere m f i (form_of o).a i.a) e h))
-call_result op.At m f i c le e h = result_register f (result_of (function_at m i.x)) i.a le (subst (λ o. IsResultRegister f (result_for m f i o) i.a) e (subst (λ o. IsThere m f i (form_of o).a i.a) e h))
+call_result : (o : Op) (m : Module) (f : Function) (i : Instr) → is_call o ≡ true → f.registers ≤ 64 → i.op ≡ o → IsThere m f i (form_of i.op).a i.a
+    → IsResultNamed (result_of (function_at m i.x)) i.a
+call_result op.Call m f i c le e h = result_register f (result_of (function_at m i.x)) i.a le
+    (subst (λ o. IsResultRegister f (result_for m f i o) i.a) e (subst (λ o. IsThere m f i (form_of o).a i.a) e h))
+call_result op.At m f i c le e h = result_register f (result_of (function_at m i.x)) i.a le
+    (subst (λ o. IsResultRegister f (result_for m f i o) i.a) e (subst (λ o. IsThere m f i (form_of o).a i.a) e h))
 call_result _ m f i c le e h = absurd cc
 
 named_in : (m : Module) (f : Function) (i : Instr) → FitsImage m → FitsFunction m.version (length m.classes) f → IsInRange m f i → IsNamed m i
@@ -107,26 +128,30 @@ has_names m f fits range pc i is =
     named_in m g.0 i fits (function_fits m f g.0 fits g.1) (range f pc g.0 i g.1 g.2)
 
 -- the same of one function, by itself
-pub names_in : (m : Module) (f : ℕ) → FitsImage m → ((function : Function) → function_at m f ≡ Some function → AreInRangeTo m function (length function.code)) → HasNames m f
+pub names_in : (m : Module) (f : ℕ) → FitsImage m → ((function : Function) → function_at m f ≡ Some function
+    → AreInRangeTo m function (length function.code)) → HasNames m f
 names_in m f fits range pc i is =
     let g = instr_of m f pc (function_at m f) i refl is in
     named_in m g.0 i fits (function_fits m f g.0 fits g.1) (range g.0 g.1 pc i (slice_get_within g.0.code pc i g.2) g.2)
 
 -- ---- the longest function
 
-pub length_more : (m : Module) (f longest len : ℕ) → ((g : ℕ) → g < f → length (code_at m g) ≤ longest) → len ≡ length (code_at m f) → (g : ℕ) → g < f + 1 → length (code_at m g) ≤ max longest len
+pub length_more : (m : Module) (f longest len : ℕ) → ((g : ℕ) → g < f → length (code_at m g) ≤ longest) → len ≡ length (code_at m f) → (g : ℕ)
+    → g < f + 1 → length (code_at m g) ≤ max longest len
 length_more m f longest len before here g lt = elim (below_or_at g f lt) [
   | inl less ↦ (let h : length (code_at m g) ≤ longest = before g less in omega arith)
   | inr at ↦ (let h : length (code_at m g) ≡ len = ap (λ n. length (code_at m n)) at ∙ sym here in omega arith)
 ]
 
-pub length_one : (m : Module) (f longest len : ℕ) → (g : ℕ) × (length (code_at m g) ≡ longest) → len ≡ length (code_at m f) → (g : ℕ) × (length (code_at m g) ≡ max longest len)
+pub length_one : (m : Module) (f longest len : ℕ) → (g : ℕ) × (length (code_at m g) ≡ longest) → len ≡ length (code_at m f)
+    → (g : ℕ) × (length (code_at m g) ≡ max longest len)
 length_one m f longest len before here = elim (cases_lt longest len) [
   | inl lt ↦ (f, omega (arith, here))
   | inr ge ↦ (before.0, omega (arith, before.1))
 ]
 
-pub all_lengths : (m : Module) (n longest : ℕ) → length m.functions ≤ n → ((g : ℕ) → g < n → length (code_at m g) ≤ longest) → (g : ℕ) → length (code_at m g) ≤ longest
+pub all_lengths : (m : Module) (n longest : ℕ) → length m.functions ≤ n → ((g : ℕ) → g < n → length (code_at m g) ≤ longest) → (g : ℕ)
+    → length (code_at m g) ≤ longest
 all_lengths m n longest le h g = elim (cases_lt g n) [
   | inl lt ↦ h g lt
   | inr ge ↦ (let e : length (code_at m g) ≡ 0 = ap (λ o. length (code_in o)) (slice_get_past m.functions g (omega arith)) in omega arith)
@@ -134,10 +159,12 @@ all_lengths m n longest le h g = elim (cases_lt g n) [
 
 -- ---- what a certificate says of an instruction
 
-pub fetched_in_range : (m : Module) (f pc : ℕ) (i : Instr) → AreInRange m → instr_at m f pc ≡ Some i → (function : Function) → function_at m f ≡ Some function → IsInRange m function i
+pub fetched_in_range : (m : Module) (f pc : ℕ) (i : Instr) → AreInRange m → instr_at m f pc ≡ Some i → (function : Function)
+    → function_at m f ≡ Some function → IsInRange m function i
 fetched_in_range m f pc i range is function e = range f pc function i e (in_function m f pc function i e is)
 
-pub fetched_follows : (m : Module) (bounds : List ℕ) (f pc : ℕ) (i : Instr) → bounds_of m ≡ Ok bounds → instr_at m f pc ≡ Some i → i.op ≢ op.Ret → pc + 1 < length (code_at m f)
+pub fetched_follows : (m : Module) (bounds : List ℕ) (f pc : ℕ) (i : Instr) → bounds_of m ≡ Ok bounds → instr_at m f pc ≡ Some i → i.op ≢ op.Ret
+    → pc + 1 < length (code_at m f)
 fetched_follows m bounds f pc i e is ne =
     let g = instr_of m f pc (function_at m f) i refl is in
     let b = bounds_each m bounds f g.0 e g.1 in

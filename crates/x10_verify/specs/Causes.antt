@@ -47,7 +47,8 @@ IsUnfit s at r slot flow.Result = ⊥
 
 -- Kind: the class of the object in a register has no field c
 abbrev pub HasNoField : Point → State → ℕ → FlowCause → Type 0
-HasNoField p s r flow.Kind = (class : ℕ) × IsKind s r (kind.Obj class) × (field_of p.program class p.instr.c ≡ None)
+HasNoField p s r flow.Kind = (class : ℕ) × IsKind s r (kind.Obj class)
+    × (field_of p.program class p.instr.c ≡ None)
 HasNoField p s r _ = ⊥
 
 -- the term that a call goes by is no place; no row has a place's number there
@@ -60,7 +61,9 @@ IsNoPlace s (term.Place q) why = why ≡ flow.Kind
 abbrev pub IsUncalled : Term → Point → State → FlowCause → Type 0
 IsUncalled at p s why = IsNoPlace s at why
     ⊎ (((why ≡ flow.Kind) × (function_at p.program p.instr.x ≡ None))
-    ⊎ ((callee : Function) × (n : ℕ) × (slot : Slot) × (function_at p.program p.instr.x ≡ Some callee) × (slice_get callee.parameters n ≡ Some slot)
+    ⊎ ((callee : Function) × (n : ℕ) × (slot : Slot)
+    × (function_at p.program p.instr.x ≡ Some callee)
+    × (slice_get callee.parameters n ≡ Some slot)
     × IsUnfit s at (p.instr.b + n) slot why))
 
 -- the result of the function that ends: it doesn't fit, or Result: there is none, and a isn't 0
@@ -74,39 +77,48 @@ IsCauseOf (Fixed effect) p s why = ⊥
 IsCauseOf Copies p s why = IsRefused s p.instr.b Anything why
 -- Result: a isn't 0, and the function gives nothing
 IsCauseOf (Calls at) p s why = IsUncalled at p s why
-    ⊎ ((callee : Function) × (why ≡ flow.Result) × (function_at p.program p.instr.x ≡ Some callee) × (callee.result ≡ None) × (p.instr.a ≢ 0))
+    ⊎ ((callee : Function) × (why ≡ flow.Result) × (function_at p.program p.instr.x ≡ Some callee)
+    × (callee.result ≡ None) × (p.instr.a ≢ 0))
 IsCauseOf Returns p s why = IsUnreturned p s p.function.result why
 -- the class is there by then
 IsCauseOf Makes p s why = ((why ≡ flow.Kind) × (slice_get p.program.classes p.instr.x ≡ None))
-    ⊎ ((kinds : List Kind) × (n : ℕ) × (want : Kind) × (slice_get p.program.classes p.instr.x ≡ Some kinds) × (slice_get kinds n ≡ Some want)
+    ⊎ ((kinds : List Kind) × (n : ℕ) × (want : Kind)
+    × (slice_get p.program.classes p.instr.x ≡ Some kinds) × (slice_get kinds n ≡ Some want)
     × IsRefused s (p.instr.b + n) (Fitting want) why)
 IsCauseOf Gets p s why = IsRefused s p.instr.b AnObject why ⊎ HasNoField p s p.instr.b why
 IsCauseOf Puts p s why = IsRefused s p.instr.a AnObject why
     ⊎ (HasNoField p s p.instr.a why
-    ⊎ ((class : ℕ) × (field : Kind) × IsKind s p.instr.a (kind.Obj class) × (field_of p.program class p.instr.c ≡ Some field)
+    ⊎ ((class : ℕ) × (field : Kind) × IsKind s p.instr.a (kind.Obj class)
+    × (field_of p.program class p.instr.c ≡ Some field)
     × IsRefused s p.instr.b (Fitting field) why))
 IsCauseOf Unwraps p s why = IsRefused s p.instr.b AnObjectOrNull why
 IsCauseOf Locates p s why = IsRefused s p.instr.b AReference why
 IsCauseOf Exports p s why = IsRefused s p.instr.b AnObject why
 -- Home: the reference isn't known to have its home here
-IsCauseOf Opens p s why = IsRefused s p.instr.b AReference why ⊎ ((why ≡ flow.Home) × (s.homes (term.Reg p.instr.b) term.Here ≡ false))
+IsCauseOf Opens p s why = IsRefused s p.instr.b AReference why
+    ⊎ ((why ≡ flow.Home) × (s.homes (term.Reg p.instr.b) term.Here ≡ false))
 IsCauseOf FindsHere p s why = IsRefused s p.instr.a APlaceOrReference why
-IsCauseOf FindsSame p s why = IsRefused s p.instr.a APlaceOrReference why ⊎ IsRefused s p.instr.b APlaceOrReference why
+IsCauseOf FindsSame p s why = IsRefused s p.instr.a APlaceOrReference why
+    ⊎ IsRefused s p.instr.b APlaceOrReference why
 -- Result: an activity would begin with a function that gives something
 IsCauseOf (Starts at) p s why = IsUncalled at p s why
-    ⊎ ((callee : Function) × (why ≡ flow.Result) × (function_at p.program p.instr.x ≡ Some callee) × (callee.result ≢ None))
+    ⊎ ((callee : Function) × (why ≡ flow.Result) × (function_at p.program p.instr.x ≡ Some callee)
+    × (callee.result ≢ None))
 IsCauseOf Prints p s why = IsRefused s p.instr.a AnIntOrText why
 
 -- a row asks a register for a kind
 abbrev pub AsksIn : Rule → Point → ℕ → Kind → Type 0
-AsksIn row p r want = ((row.a ≡ Some want) × (r ≡ p.instr.a)) ⊎ (((row.b ≡ Some want) × (r ≡ p.instr.b)) ⊎ ((row.c ≡ Some want) × (r ≡ p.instr.c)))
+AsksIn row p r want = ((row.a ≡ Some want) × (r ≡ p.instr.a))
+    ⊎ (((row.b ≡ Some want) × (r ≡ p.instr.b)) ⊎ ((row.c ≡ Some want) × (r ≡ p.instr.c)))
 
 -- the cause holds at an instruction in a state, by its row
 abbrev pub IsCauseAt : Rule → Point → State → FlowCause → Type 0
-IsCauseAt row p s why = ((r : ℕ) × (want : Kind) × AsksIn row p r want × IsRefused s r (Fitting want) why) ⊎ IsCauseOf row.outcome p s why
+IsCauseAt row p s why = ((r : ℕ) × (want : Kind) × AsksIn row p r want
+    × IsRefused s r (Fitting want) why) ⊎ IsCauseOf row.outcome p s why
 
 -- the cause holds at an instruction, in a state there that follows from the entry
-pub record IsFound (program : Module) (function : Function) (pc : ℕ) (why : FlowCause) : Type 0 where
+pub record IsFound (program : Module) (function : Function) (pc : ℕ)
+    (why : FlowCause) : Type 0 where
   pub instr : Instr
   pub state : State
   pub is_instr : slice_get function.code pc ≡ Some instr

@@ -54,7 +54,8 @@ IsSoundOutcome _ = Unit {0}
 
 -- the first effect leaves all that the second does: they are the same, or set a kind that fits
 abbrev pub Leaves : Effect → Effect → Type 0
-Leaves e f = (e ≡ f) ⊎ ((k : Kind) × (l : Kind) × (like : Option Term) × Fits k l × (e ≡ Sets k like) × (f ≡ Sets l like))
+Leaves e f = (e ≡ f) ⊎ ((k : Kind) × (l : Kind) × (like : Option Term) × Fits k l
+    × (e ≡ Sets k like) × (f ≡ Sets l like))
 
 -- what an effect writes is there
 abbrev pub IsTermLike : Option Term → Type 0

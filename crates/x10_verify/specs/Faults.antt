@@ -33,7 +33,8 @@ IsStructureFault m (Some c) f pc = bounds_of m ≡ Err (record { cause = c; func
 
 -- the cause holds at an instruction of function f
 abbrev pub IsFoundIn : Module → ℕ → ℕ → FlowCause → Type 0
-IsFoundIn m f pc why = (function : Function) × (function_at m f ≡ Some function) × IsFound m function pc why
+IsFoundIn m f pc why = (function : Function) × (function_at m f ≡ Some function)
+    × IsFound m function pc why
 
 -- the structure holds
 abbrev pub HasBounds : Module → Type 0
@@ -45,10 +46,14 @@ HasBounds m = (bounds : List ℕ) × (bounds_of m ≡ Ok bounds)
 abbrev pub RefutesBy : VerifyCause → Module → ℕ → ℕ → Type 0
 RefutesBy (cause.Structure c) m f pc = IsStructureFault m (named c) f pc
 RefutesBy cause.Index m f pc = HasBounds m × IsFirstOut m f pc
-RefutesBy cause.Unset m f pc = HasBounds m × AreInRange m × IsFirstWithout m f × IsFoundIn m f pc flow.Unset
-RefutesBy cause.Kind m f pc = HasBounds m × AreInRange m × IsFirstWithout m f × IsFoundIn m f pc flow.Kind
-RefutesBy cause.Home m f pc = HasBounds m × AreInRange m × IsFirstWithout m f × IsFoundIn m f pc flow.Home
-RefutesBy cause.Result m f pc = HasBounds m × AreInRange m × IsFirstWithout m f × IsFoundIn m f pc flow.Result
+RefutesBy cause.Unset m f pc = HasBounds m × AreInRange m × IsFirstWithout m f
+    × IsFoundIn m f pc flow.Unset
+RefutesBy cause.Kind m f pc = HasBounds m × AreInRange m × IsFirstWithout m f
+    × IsFoundIn m f pc flow.Kind
+RefutesBy cause.Home m f pc = HasBounds m × AreInRange m × IsFirstWithout m f
+    × IsFoundIn m f pc flow.Home
+RefutesBy cause.Result m f pc = HasBounds m × AreInRange m × IsFirstWithout m f
+    × IsFoundIn m f pc flow.Result
 RefutesBy cause.Memory m f pc = (f ≡ 0) × (pc ≡ 0)
 
 abbrev pub Refutes : Module → VerifyFault → Type 0

@@ -36,7 +36,8 @@ same_of (Some s) t u = s.homes t u
 
 -- all that the function names is there, it has no consistent assignment, and the flow stops at the instruction; each state
 -- is one that every assignment would have at least, and the cause holds in that of the instruction
-pub record IsStopped (m : Module) (function : Function) (pc : ℕ) (table : List Entry) (why : FlowCause) : Type 0 where
+pub record IsStopped (m : Module) (function : Function) (pc : ℕ) (table : List Entry)
+    (why : FlowCause) : Type 0 where
   pub range : AreInRangeTo m function (length function.code)
   pub without : HasAssignment m function → ⊥
   pub stops : Stops m function pc why
@@ -53,5 +54,7 @@ FlawsBy _ m function pc table = ⊥
 
 -- without a fault all that the function names is there, and the states are its least assignment; a fault says what is broken
 abbrev pub Judges : Option VerifyFault → Module → ℕ → Function → List Entry → Type 0
-Judges None m f function table = AreInRangeTo m function (length function.code) × IsLeast m function (stated table)
-Judges (Some fault) m f function table = (fault.function ≡ f) × FlawsBy fault.cause m function fault.pc table
+Judges None m f function table = AreInRangeTo m function (length function.code)
+    × IsLeast m function (stated table)
+Judges (Some fault) m f function table = (fault.function ≡ f)
+    × FlawsBy fault.cause m function fault.pc table

@@ -36,8 +36,12 @@ state_of k = record { kinds = kind_in k.kinds; homes = equations k.homes }
 
 -- the state at the entry of a function with these parameters
 abbrev pub entered : List Slot → State
-entered parameters = record { kinds = λ r. parameter_kind (slice_get parameters r); homes = homes_here 0 parameters }
+entered parameters = record {
+  kinds = λ r. parameter_kind (slice_get parameters r);
+  homes = homes_here 0 parameters;
+}
 
 -- only global references are said to have their home here
 abbrev pub FlagsFit : List Slot → Type 0
-FlagsFit parameters = (i : ℕ) (slot : Slot) → slice_get parameters i ≡ Some slot → IsTrue slot.home_here → IsTrue (takes_flag slot.kind)
+FlagsFit parameters = (i : ℕ) (slot : Slot) → slice_get parameters i ≡ Some slot
+    → IsTrue slot.home_here → IsTrue (takes_flag slot.kind)

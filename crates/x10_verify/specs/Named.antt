@@ -22,4 +22,5 @@ pub record IsNamed (program : Module) (i : Instr) : Type 0 where
 
 -- the same of each instruction of function f
 abbrev pub HasNames : Module → ℕ → Type 0
-HasNames program f = (pc : ℕ) (instr : Instr) → instr_at program f pc ≡ Some instr → IsNamed program instr
+HasNames program f = (pc : ℕ) (instr : Instr) → instr_at program f pc ≡ Some instr
+    → IsNamed program instr

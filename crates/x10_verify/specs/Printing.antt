@@ -20,7 +20,8 @@ pub record PrintsText (program : Module) (index pc : ℕ) : Type 0 where
   pub instr : Instr
   pub is_instr : slice_get function.code pc ≡ Some instr
   pub op_is : instr.op ≡ op.Print
-  pub text : (a : HasAssignment program function) → (s : State) × (a.0 pc ≡ Some s) × (s.kinds instr.a ≡ Some Text)
+  pub text : (a : HasAssignment program function)
+      → (s : State) × (a.0 pc ≡ Some s) × (s.kinds instr.a ≡ Some Text)
 
 -- ---- what is noted of it
 
@@ -61,7 +62,8 @@ bit_at rows f pc = row_if (slice_get rows f) pc
 -- the rows of a module are as long as its functions
 pub record HasRows (program : Module) (rows : List (Vec Bool Global)) : Type 0 where
   pub count : length rows ≡ length program.functions
-  pub sizes : (f : ℕ) (row : Vec Bool Global) → slice_get rows f ≡ Some row → length row.items ≡ length (code_at program f)
+  pub sizes : (f : ℕ) (row : Vec Bool Global) → slice_get rows f ≡ Some row
+      → length row.items ≡ length (code_at program f)
 
 -- the bits say of function f which instructions print a text
 abbrev pub AreNoted : Module → (ℕ → Bool) → ℕ → Type 0
@@ -70,5 +72,6 @@ AreNoted program bits f = (pc : ℕ) → bits pc ≡ true ↔ PrintsText program
 -- what the verifier keeps of a module: its certificate, the least assignments, and which instructions print a text
 pub record IsKnownWell (c : Certified) (rows : List (Vec Bool Global)) : Type 0 where
   pub certified : IsCertified c
-  pub least : (f : ℕ) (function : Function) → function_at c.program f ≡ Some function → HasLeast c.program function
+  pub least : (f : ℕ) (function : Function) → function_at c.program f ≡ Some function
+      → HasLeast c.program function
   pub noted : (f : ℕ) → AreNoted c.program (bit_at rows f) f

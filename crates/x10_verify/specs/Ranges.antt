@@ -6,4 +6,5 @@ use Rattle.x10_image.specs.Parts.{Signature, signature_of}
 
 -- the signature is that of function f
 abbrev pub SaysOf : Module → ℕ → Signature → Type 0
-SaysOf program f s = (function : Function) → function_at program f ≡ Some function → s ≡ signature_of function
+SaysOf program f s = (function : Function) → function_at program f ≡ Some function
+    → s ≡ signature_of function

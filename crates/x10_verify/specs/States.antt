@@ -8,7 +8,7 @@ use Rattle.x10_verify.specs.declared.states.Mark.TheVariants.{Unreached, Waiting
 use Rattle.x10_verify.specs.declared.states.Entry.{Entry}
 use Rattle.x10_verify.specs.Known.{state_of}
 use Rattle.x10_verify.specs.Effects.{IsKept}
-use Rattle.x10_verify.specs.Merging.{IsMet, rank_of}
+use Rattle.x10_verify.specs.Merging.{IsMet, rank_of, heights}
 
 abbrev pub state_if : Mark → Known → Option State
 state_if Unreached k = None
@@ -46,7 +46,7 @@ IsMetIn (Some v) s u = IsKept v → IsKept s → IsMet v s u
 
 -- how often an entry can still change, at most
 abbrev pub height_if : Mark → Known → ℕ
-height_if Unreached k = 16642 * 129
+height_if Unreached k = heights
 height_if _ k = rank_of k
 
 abbrev pub height_in : Option Entry → ℕ
@@ -61,7 +61,8 @@ pub record Receives (old : Entry) (known : Known) (new : Entry) (changed : Bool)
   pub falls : changed ≡ true → height_if new.mark new.known < height_if old.mark old.known
 
 -- one entry has received a state
-pub record Arrives (old : List Entry) (target : ℕ) (known : Known) (new : List Entry) (changed : Bool) : Type 0 where
+pub record Arrives (old : List Entry) (target : ℕ) (known : Known) (new : List Entry)
+    (changed : Bool) : Type 0 where
   pub entry : Entry
   pub before : Entry
   pub was : slice_get old target ≡ Some before
@@ -78,7 +79,8 @@ pub record Takes (old : List Entry) (at : ℕ) (known : Known) (new : List Entry
 
 -- an instruction has been looked at
 abbrev pub IsDone : List Entry → ℕ → Type 0
-IsDone table at = (known : Known) × (slice_get table at ≡ Some (record { mark = Done; known = known }))
+IsDone table at = (known : Known) × (slice_get table at
+    ≡ Some (record { mark = Done; known = known }))
 
 -- how often the table can still change, at most
 unfoldable pub total : List Entry → ℕ

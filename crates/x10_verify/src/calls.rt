@@ -24,7 +24,8 @@ use x10_model::Slot;
 // A register fits a slot whose home, where it asks for one, is the place of a term.
 fn fits_as(slot: Slot, register: u8, at: Term, known: &Known) -> Result<(), FlowCause>
     requires { IsTerm at }
-    ensures fits { MatchResult result (λ _. FitsAs (state_of known.now) at register slot) (λ _. FitsAs (state_of known.now) at register slot → ⊥) }
+    ensures fits { MatchResult result (λ _. FitsAs (state_of known.now) at register slot)
+        (λ _. FitsAs (state_of known.now) at register slot → ⊥) }
     ensures cause { IfErr result (λ why. IsUnfit (state_of known.now) at register slot why) }
 {
     known.ask(register, slot.kind)?;
@@ -38,8 +39,12 @@ fn fits_as(slot: Slot, register: u8, at: Term, known: &Known) -> Result<(), Flow
 fn arguments_fit(signature: &SigView, first: u8, at: Term, known: &Known) -> Result<(), FlowCause>
     requires term { IsTerm at }
     requires few { length signature.now.parameters ≤ 16 }
-    ensures fit { MatchResult result (λ _. SlotsAre (state_of known.now) at first signature.now.parameters) (λ _. SlotsAre (state_of known.now) at first signature.now.parameters → ⊥) }
-    ensures cause { IfErr result (λ why. (n : ℕ) × (slot : slots.Slot) × (slice_get signature.now.parameters n ≡ Some slot) × IsUnfit (state_of known.now) at (first + n) slot why) }
+    ensures fit { MatchResult result (λ _. SlotsAre
+        (state_of known.now) at first signature.now.parameters)
+        (λ _. SlotsAre (state_of known.now) at first signature.now.parameters → ⊥) }
+    ensures cause { IfErr result (λ why. (n : ℕ) × (slot : slots.Slot)
+        × (slice_get signature.now.parameters n ≡ Some slot)
+        × IsUnfit (state_of known.now) at (first + n) slot why) }
 {
     known.narrow();
     for n in 0..signature.parameters() {
@@ -55,7 +60,8 @@ fn arguments_fit(signature: &SigView, first: u8, at: Term, known: &Known) -> Res
 
 // A term is here, or a register that holds a place.
 fn place(at: Term, known: &Known) -> Result<(), FlowCause>
-    ensures place { MatchResult result (λ _. IsPlaceTerm (state_of known.now) at) (λ _. IsPlaceTerm (state_of known.now) at → ⊥) }
+    ensures place { MatchResult result (λ _. IsPlaceTerm (state_of known.now) at)
+        (λ _. IsPlaceTerm (state_of known.now) at → ⊥) }
     ensures term { IfOk result (λ _. IsTerm at) }
     ensures cause { IfErr result (λ why. IsNoPlace (state_of known.now) at why) }
 {
@@ -73,8 +79,14 @@ fn callee<'a>(
     at: Term,
     known: &Known,
 ) -> Result<SigView<'a>, FlowCause>
-    ensures found { (function : Function) (pc : ℕ) → MatchResult result (λ signature. (callee : modules.Function) × IsCalled (point image.now function pc instr) (state_of known.now) at callee × (signature ≡ signature_of callee)) (λ _. (callee : modules.Function) → IsCalled (point image.now function pc instr) (state_of known.now) at callee → ⊥) }
-    ensures cause { IfErr result (λ why. (function : Function) (pc : ℕ) → IsUncalled at (point image.now function pc instr) (state_of known.now) why) }
+    ensures found { (function : Function) (pc : ℕ) → MatchResult result
+        (λ signature. (callee : modules.Function)
+        × IsCalled (point image.now function pc instr) (state_of known.now) at callee
+        × (signature ≡ signature_of callee))
+        (λ _. (callee : modules.Function) → IsCalled (point image.now function pc instr)
+        (state_of known.now) at callee → ⊥) }
+    ensures cause { IfErr result (λ why. (function : Function) (pc : ℕ)
+        → IsUncalled at (point image.now function pc instr) (state_of known.now) why) }
 {
     place(at, known)?;
     if instr.x as usize >= image.functions() {
@@ -99,8 +111,12 @@ pub(crate) fn called(
     at: Term,
     known: &Known,
 ) -> Result<Effect, FlowCause>
-    ensures decides { (function : Function) (pc : ℕ) → Decides (Settles (Outcome.Calls at) (point image.now function pc instr) (state_of known.now)) result }
-    ensures cause { IfErr result (λ why. (function : Function) (pc : ℕ) → IsCauseOf (Outcome.Calls at) (point image.now function pc instr) (state_of known.now) why) }
+    ensures decides { (function : Function) (pc : ℕ)
+        → Decides (Settles (Outcome.Calls at) (point image.now function pc instr)
+        (state_of known.now)) result }
+    ensures cause { IfErr result (λ why. (function : Function) (pc : ℕ)
+        → IsCauseOf (Outcome.Calls at) (point image.now function pc instr)
+        (state_of known.now) why) }
 {
     let signature = callee(image, instr, at, known)?;
     match signature.result() {
@@ -122,8 +138,12 @@ pub(crate) fn started(
     at: Term,
     known: &Known,
 ) -> Result<Effect, FlowCause>
-    ensures decides { (function : Function) (pc : ℕ) → Decides (Settles (Outcome.Starts at) (point image.now function pc instr) (state_of known.now)) result }
-    ensures cause { IfErr result (λ why. (function : Function) (pc : ℕ) → IsCauseOf (Outcome.Starts at) (point image.now function pc instr) (state_of known.now) why) }
+    ensures decides { (function : Function) (pc : ℕ)
+        → Decides (Settles (Outcome.Starts at) (point image.now function pc instr)
+        (state_of known.now)) result }
+    ensures cause { IfErr result (λ why. (function : Function) (pc : ℕ)
+        → IsCauseOf (Outcome.Starts at) (point image.now function pc instr)
+        (state_of known.now) why) }
 {
     let signature = callee(image, instr, at, known)?;
     match signature.result() {
@@ -134,8 +154,12 @@ pub(crate) fn started(
 
 /// RET: register a fits the function's result, whose home is here where it has one; without a result a is 0.
 pub(crate) fn returned(slot: Option<Slot>, instr: Instr, known: &Known) -> Result<Effect, FlowCause>
-    ensures decides { (program : modules.Module) (function : Function) (pc : ℕ) → function.result ≡ slot → Decides (Settles Outcome.Returns (point program function pc instr) (state_of known.now)) result }
-    ensures cause { IfErr result (λ why. (program : modules.Module) (function : Function) (pc : ℕ) → function.result ≡ slot → IsCauseOf Outcome.Returns (point program function pc instr) (state_of known.now) why) }
+    ensures decides { (program : modules.Module) (function : Function) (pc : ℕ)
+        → function.result ≡ slot → Decides (Settles Outcome.Returns
+        (point program function pc instr) (state_of known.now)) result }
+    ensures cause { IfErr result (λ why. (program : modules.Module) (function : Function) (pc : ℕ)
+        → function.result ≡ slot → IsCauseOf Outcome.Returns (point program function pc instr)
+        (state_of known.now) why) }
 {
     match slot {
         None => {

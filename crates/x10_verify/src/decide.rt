@@ -30,8 +30,12 @@ pub(crate) fn decide(
     known: &Known,
 ) -> Result<Effect, FlowCause>
     requires { NamesSmall instr }
-    ensures decides { (function : Function) (pc : ℕ) → function.result ≡ slot.now → Decides (Grants (rule_for instr.op instr) (point image.now function pc instr) (state_of known.now)) result }
-    ensures cause { IfErr result (λ why. (function : Function) (pc : ℕ) → function.result ≡ slot.now → IsCauseAt (rule_for instr.op instr) (point image.now function pc instr) (state_of known.now) why) }
+    ensures decides { (function : Function) (pc : ℕ) → function.result ≡ slot.now
+        → Decides (Grants (rule_for instr.op instr) (point image.now function pc instr)
+        (state_of known.now)) result }
+    ensures cause { IfErr result (λ why. (function : Function) (pc : ℕ)
+        → function.result ≡ slot.now → IsCauseAt (rule_for instr.op instr)
+        (point image.now function pc instr) (state_of known.now) why) }
 {
     let rule = rule_of(instr);
     asked(instr.a, rule.a, known)?;
@@ -42,8 +46,10 @@ pub(crate) fn decide(
 
 // A register is asked for a kind, or for nothing.
 fn asked(register: u8, want: Option<Kind>, known: &Known) -> Result<(), FlowCause>
-    ensures asked { MatchResult result (λ _. IsKindIf (state_of known.now) register want) (λ _. IsKindIf (state_of known.now) register want → ⊥) }
-    ensures cause { IfErr result (λ why. (kind : kinds.Kind) × (want ≡ Some kind) × IsRefused (state_of known.now) register (Fitting kind) why) }
+    ensures asked { MatchResult result (λ _. IsKindIf (state_of known.now) register want)
+        (λ _. IsKindIf (state_of known.now) register want → ⊥) }
+    ensures cause { IfErr result (λ why. (kind : kinds.Kind) × (want ≡ Some kind)
+        × IsRefused (state_of known.now) register (Fitting kind) why) }
 {
     match want {
         None => Ok(()),
@@ -59,8 +65,12 @@ fn settled(
     outcome: Outcome,
     known: &Known,
 ) -> Result<Effect, FlowCause>
-    ensures decides { (function : Function) (pc : ℕ) → function.result ≡ slot.now → Decides (Settles outcome (point image.now function pc instr) (state_of known.now)) result }
-    ensures cause { IfErr result (λ why. (function : Function) (pc : ℕ) → function.result ≡ slot.now → IsCauseOf outcome (point image.now function pc instr) (state_of known.now) why) }
+    ensures decides { (function : Function) (pc : ℕ) → function.result ≡ slot.now
+        → Decides (Settles outcome (point image.now function pc instr) (state_of known.now))
+        result }
+    ensures cause { IfErr result (λ why. (function : Function) (pc : ℕ)
+        → function.result ≡ slot.now → IsCauseOf outcome (point image.now function pc instr)
+        (state_of known.now) why) }
 {
     match outcome {
         Outcome::Fixed(effect) => Ok(effect),

@@ -38,7 +38,8 @@ fn kinds(signature: &SigView) -> Kinds
 fn homes(signature: &SigView, from: usize) -> Homes
     requires count { length signature.now.parameters ≤ 16 }
     requires from { from ≤ length signature.now.parameters }
-    ensures { SameEquations (equations result) (homes_here from (drop from signature.now.parameters)) }
+    ensures { SameEquations (equations result) (homes_here from
+        (drop from signature.now.parameters)) }
 {
     if from == signature.parameters() {
         return Homes::new();

@@ -38,7 +38,8 @@ impl Model for Flow {
 /// isn't looked at. The time is that of `verify` for this function alone; 0.4 kB for each instruction of it.
 pub fn known_flow(alloc: Global, image: &ImageView, f: usize) -> Result<Flow, AllocError>
     requires { f < length image.now.functions }
-    ensures { IfOk result (λ flow. (function : Function) → function_at image.now f ≡ Some function → Judges flow.fault image.now f function flow.table) }
+    ensures { IfOk result (λ flow. (function : Function) → function_at image.now f ≡ Some function
+        → Judges flow.fault image.now f function flow.table) }
 {
     let mut table = blank(alloc, image.code_len(f))?;
     let fault = flow_fault(image, f, &mut table);
@@ -50,7 +51,8 @@ fn flow_fault(image: &ImageView, f: usize, table: &mut Vec<Entry>) -> Option<Ver
     requires there { f < length image.now.functions }
     requires room { length (code_at image.now f) ≤ length table.old.items }
     requires fresh { IsFresh table.old.items }
-    ensures { (function : Function) → function_at image.now f ≡ Some function → Judges result image.now f function table.new.items }
+    ensures { (function : Function) → function_at image.now f ≡ Some function
+        → Judges result image.now f function table.new.items }
 {
     image.fits();
     image.functions();

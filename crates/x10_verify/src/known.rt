@@ -37,9 +37,11 @@ impl Known {
 
     /// Asks that a register is set to a kind that fits.
     pub(crate) fn ask(&self, register: u8, want: Kind) -> Result<(), FlowCause>
-        ensures asked { MatchResult result (λ _. IsKind (state_of self.now) register want) (λ _. IsKind (state_of self.now) register want → ⊥) }
+        ensures asked { MatchResult result (λ _. IsKind (state_of self.now) register want)
+            (λ _. IsKind (state_of self.now) register want → ⊥) }
         ensures within { IfOk result (λ _. register < 64) }
-        ensures cause { IfErr result (λ why. IsRefused (state_of self.now) register (Fitting want) why) }
+        ensures cause { IfErr result (λ why. IsRefused (state_of self.now) register
+            (Fitting want) why) }
     {
         match self.kind(register) {
             None => Err(FlowCause::Unset),
@@ -56,7 +58,8 @@ impl Known {
     /// What an instruction does to the state that goes on, where `register` is its operand a.
     pub(crate) fn apply(&mut self, register: u8, effect: Effect)
         requires { CanApply register effect }
-        ensures { IsState (state_of self.old) → SameState (state_of self.new) (after register (state_of self.old) effect) }
+        ensures { IsState (state_of self.old) → SameState (state_of self.new)
+            (after register (state_of self.old) effect) }
     {
         match effect {
             Effect::Keeps => {}
@@ -69,7 +72,8 @@ impl Known {
     fn set(&mut self, register: u8, kind: Kind, like: Option<Term>)
         requires register { register < 64 }
         requires like { ForSome like IsTerm }
-        ensures { IsState (state_of self.old) → SameState (state_of self.new) (set (state_of self.old) register kind like) }
+        ensures { IsState (state_of self.old) → SameState (state_of self.new)
+            (set (state_of self.old) register kind like) }
     {
         self.relocate(register, like);
         self.kinds[register as usize] = encode(Some(kind));
@@ -80,7 +84,8 @@ impl Known {
         requires register { register < 64 }
         requires like { ForSome like IsTerm }
         ensures kinds { self.new.kinds ≡ self.old.kinds }
-        ensures homes { IsState (state_of self.old) → SameEquations (equations self.new.homes) (written (equations self.old.homes) register like) }
+        ensures homes { IsState (state_of self.old) → SameEquations (equations self.new.homes)
+            (written (equations self.old.homes) register like) }
     {
         if like.is_none() && !holds_place(self.kind(register)) {
             return;

@@ -14,7 +14,8 @@ impl Known {
     /// Gives up what isn't known in the other state too, and answers whether there was anything to give up. Each time there
     /// was, the rank falls. One pass over the registers and, where an equation is given up, one over the terms.
     pub(crate) fn weaken(&mut self, other: &Known) -> bool
-        ensures met { IsKept (state_of self.old) → IsKept (state_of other.now) → IsMet (state_of self.old) (state_of other.now) (state_of self.new) }
+        ensures met { IsKept (state_of self.old) → IsKept (state_of other.now)
+            → IsMet (state_of self.old) (state_of other.now) (state_of self.new) }
         ensures kept { result ≡ false → self.new ≡ self.old }
         ensures falls { result ≡ true → rank_of self.new < rank_of self.old }
     {
@@ -42,8 +43,13 @@ impl Known {
     // The same of one register. Most have one number on both ways, and aren't decoded.
     fn weaken_register(&mut self, register: u8, other: &Known) -> bool
         requires { register < 64 }
-        ensures same { result ≡ false → (self.new ≡ self.old) × (common_of (kind_in self.old.kinds register) (kind_in other.now.kinds register) ≡ kind_in self.old.kinds register) }
-        ensures changed { result ≡ true → (common_of (kind_in self.old.kinds register) (kind_in other.now.kinds register) ≢ kind_in self.old.kinds register) × SameState (state_of self.new) (parted (state_of self.old) register (common_of (kind_in self.old.kinds register) (kind_in other.now.kinds register))) }
+        ensures same { result ≡ false → (self.new ≡ self.old)
+            × (common_of (kind_in self.old.kinds register) (kind_in other.now.kinds register)
+            ≡ kind_in self.old.kinds register) }
+        ensures changed { result ≡ true → (common_of (kind_in self.old.kinds register)
+            (kind_in other.now.kinds register) ≢ kind_in self.old.kinds register)
+            × SameState (state_of self.new) (parted (state_of self.old) register
+            (common_of (kind_in self.old.kinds register) (kind_in other.now.kinds register))) }
     {
         if self.kinds[register as usize] == other.kinds[register as usize] {
             return false;

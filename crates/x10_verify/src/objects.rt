@@ -19,7 +19,9 @@ use x10_kinds::{Kind, Term};
 
 // The class of the object in a register.
 fn object(register: u8, known: &Known) -> Result<u16, FlowCause>
-    ensures class { MatchResult result (λ class. IsKind (state_of known.now) register (Kind.Obj class)) (λ _. (class : ℕ) → IsKind (state_of known.now) register (Kind.Obj class) → ⊥) }
+    ensures class { MatchResult result (λ class. IsKind (state_of known.now) register
+        (Kind.Obj class)) (λ _. (class : ℕ) → IsKind (state_of known.now) register
+        (Kind.Obj class) → ⊥) }
     ensures cause { IfErr result (λ why. IsRefused (state_of known.now) register AnObject why) }
 {
     match known.kind(register) {
@@ -46,8 +48,11 @@ fn field(image: &ImageView, class: u16, at: u8) -> Option<Kind>
 // The registers from `first` on have the kinds of a class's fields.
 fn fields_fit(fields: &ClassView, first: u8, known: &Known) -> Result<(), FlowCause>
     requires { length fields.now ≤ 16 }
-    ensures fit { MatchResult result (λ _. KindsAre (state_of known.now) first fields.now) (λ _. KindsAre (state_of known.now) first fields.now → ⊥) }
-    ensures cause { IfErr result (λ why. (n : ℕ) × (want : kinds.Kind) × (slice_get fields.now n ≡ Some want) × IsRefused (state_of known.now) (first + n) (Fitting want) why) }
+    ensures fit { MatchResult result (λ _. KindsAre (state_of known.now) first fields.now)
+        (λ _. KindsAre (state_of known.now) first fields.now → ⊥) }
+    ensures cause { IfErr result (λ why. (n : ℕ) × (want : kinds.Kind)
+        × (slice_get fields.now n ≡ Some want)
+        × IsRefused (state_of known.now) (first + n) (Fitting want) why) }
 {
     known.narrow();
     for n in 0..fields.len() {
@@ -63,8 +68,11 @@ fn fields_fit(fields: &ClassView, first: u8, known: &Known) -> Result<(), FlowCa
 
 /// NEW: the registers from b on fit the fields of class x; a gets an object of it.
 pub(crate) fn made(image: &ImageView, instr: Instr, known: &Known) -> Result<Effect, FlowCause>
-    ensures decides { (function : Function) (pc : ℕ) → Decides (Settles Outcome.Makes (point image.now function pc instr) (state_of known.now)) result }
-    ensures cause { IfErr result (λ why. (function : Function) (pc : ℕ) → IsCauseOf Outcome.Makes (point image.now function pc instr) (state_of known.now) why) }
+    ensures decides { (function : Function) (pc : ℕ)
+        → Decides (Settles Outcome.Makes (point image.now function pc instr) (state_of known.now))
+        result }
+    ensures cause { IfErr result (λ why. (function : Function) (pc : ℕ)
+        → IsCauseOf Outcome.Makes (point image.now function pc instr) (state_of known.now) why) }
 {
     if instr.x as usize >= image.classes() {
         return Err(FlowCause::Kind);
@@ -75,8 +83,11 @@ pub(crate) fn made(image: &ImageView, instr: Instr, known: &Known) -> Result<Eff
 
 /// GET: register b is an object that has field c; a gets its kind.
 pub(crate) fn got(image: &ImageView, instr: Instr, known: &Known) -> Result<Effect, FlowCause>
-    ensures decides { (function : Function) (pc : ℕ) → Decides (Settles Outcome.Gets (point image.now function pc instr) (state_of known.now)) result }
-    ensures cause { IfErr result (λ why. (function : Function) (pc : ℕ) → IsCauseOf Outcome.Gets (point image.now function pc instr) (state_of known.now) why) }
+    ensures decides { (function : Function) (pc : ℕ)
+        → Decides (Settles Outcome.Gets (point image.now function pc instr) (state_of known.now))
+        result }
+    ensures cause { IfErr result (λ why. (function : Function) (pc : ℕ)
+        → IsCauseOf Outcome.Gets (point image.now function pc instr) (state_of known.now) why) }
 {
     let class = object(instr.b, known)?;
     match field(image, class, instr.c) {
@@ -87,8 +98,11 @@ pub(crate) fn got(image: &ImageView, instr: Instr, known: &Known) -> Result<Effe
 
 /// PUT: register a is an object that has field c, and b fits it.
 pub(crate) fn put(image: &ImageView, instr: Instr, known: &Known) -> Result<Effect, FlowCause>
-    ensures decides { (function : Function) (pc : ℕ) → Decides (Settles Outcome.Puts (point image.now function pc instr) (state_of known.now)) result }
-    ensures cause { IfErr result (λ why. (function : Function) (pc : ℕ) → IsCauseOf Outcome.Puts (point image.now function pc instr) (state_of known.now) why) }
+    ensures decides { (function : Function) (pc : ℕ)
+        → Decides (Settles Outcome.Puts (point image.now function pc instr) (state_of known.now))
+        result }
+    ensures cause { IfErr result (λ why. (function : Function) (pc : ℕ)
+        → IsCauseOf Outcome.Puts (point image.now function pc instr) (state_of known.now) why) }
 {
     let class = object(instr.a, known)?;
     let Some(kind) = field(image, class, instr.c) else {
@@ -100,8 +114,11 @@ pub(crate) fn put(image: &ImageView, instr: Instr, known: &Known) -> Result<Effe
 
 /// IFOBJ: register b is an object or null; on going on, a gets the object.
 pub(crate) fn unwrapped(instr: Instr, known: &Known) -> Result<Effect, FlowCause>
-    ensures decides { (program : Module) (function : Function) (pc : ℕ) → Decides (Settles Outcome.Unwraps (point program function pc instr) (state_of known.now)) result }
-    ensures cause { IfErr result (λ why. (program : Module) (function : Function) (pc : ℕ) → IsCauseOf Outcome.Unwraps (point program function pc instr) (state_of known.now) why) }
+    ensures decides { (program : Module) (function : Function) (pc : ℕ)
+        → Decides (Settles Outcome.Unwraps (point program function pc instr) (state_of known.now))
+        result }
+    ensures cause { IfErr result (λ why. (program : Module) (function : Function) (pc : ℕ)
+        → IsCauseOf Outcome.Unwraps (point program function pc instr) (state_of known.now) why) }
 {
     match known.kind(instr.b) {
         None => Err(FlowCause::Unset),
@@ -112,8 +129,11 @@ pub(crate) fn unwrapped(instr: Instr, known: &Known) -> Result<Effect, FlowCause
 
 /// GNEW: register b is an object; a gets a reference to it, whose home is here.
 pub(crate) fn exported(instr: Instr, known: &Known) -> Result<Effect, FlowCause>
-    ensures decides { (program : Module) (function : Function) (pc : ℕ) → Decides (Settles Outcome.Exports (point program function pc instr) (state_of known.now)) result }
-    ensures cause { IfErr result (λ why. (program : Module) (function : Function) (pc : ℕ) → IsCauseOf Outcome.Exports (point program function pc instr) (state_of known.now) why) }
+    ensures decides { (program : Module) (function : Function) (pc : ℕ)
+        → Decides (Settles Outcome.Exports (point program function pc instr) (state_of known.now))
+        result }
+    ensures cause { IfErr result (λ why. (program : Module) (function : Function) (pc : ℕ)
+        → IsCauseOf Outcome.Exports (point program function pc instr) (state_of known.now) why) }
 {
     let class = object(instr.b, known)?;
     Ok(Effect::Sets(Kind::GRef(class), Some(Term::Here)))
@@ -121,8 +141,11 @@ pub(crate) fn exported(instr: Instr, known: &Known) -> Result<Effect, FlowCause>
 
 /// GOPEN: register b is a reference whose home is here; a gets the object.
 pub(crate) fn opened(instr: Instr, known: &Known) -> Result<Effect, FlowCause>
-    ensures decides { (program : Module) (function : Function) (pc : ℕ) → Decides (Settles Outcome.Opens (point program function pc instr) (state_of known.now)) result }
-    ensures cause { IfErr result (λ why. (program : Module) (function : Function) (pc : ℕ) → IsCauseOf Outcome.Opens (point program function pc instr) (state_of known.now) why) }
+    ensures decides { (program : Module) (function : Function) (pc : ℕ)
+        → Decides (Settles Outcome.Opens (point program function pc instr) (state_of known.now))
+        result }
+    ensures cause { IfErr result (λ why. (program : Module) (function : Function) (pc : ℕ)
+        → IsCauseOf Outcome.Opens (point program function pc instr) (state_of known.now) why) }
 {
     let class = reference(instr.b, known)?;
     if !known.homes.same(Term::Reg(instr.b), Term::Here) {

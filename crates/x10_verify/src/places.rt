@@ -42,8 +42,11 @@ pub(crate) fn like_if(holds: bool, term: Term) -> Option<Term>
 
 /// MOVE: register b is set; a gets its kind and its place.
 pub(crate) fn copied(instr: Instr, known: &Known) -> Result<Effect, FlowCause>
-    ensures decides { (program : Module) (function : Function) (pc : ℕ) → Decides (Settles Outcome.Copies (point program function pc instr) (state_of known.now)) result }
-    ensures cause { IfErr result (λ why. (program : Module) (function : Function) (pc : ℕ) → IsCauseOf Outcome.Copies (point program function pc instr) (state_of known.now) why) }
+    ensures decides { (program : Module) (function : Function) (pc : ℕ)
+        → Decides (Settles Outcome.Copies (point program function pc instr) (state_of known.now))
+        result }
+    ensures cause { IfErr result (λ why. (program : Module) (function : Function) (pc : ℕ)
+        → IsCauseOf Outcome.Copies (point program function pc instr) (state_of known.now) why) }
 {
     match known.kind(instr.b) {
         None => Err(FlowCause::Unset),
@@ -53,7 +56,9 @@ pub(crate) fn copied(instr: Instr, known: &Known) -> Result<Effect, FlowCause>
 
 /// The class of the global reference in a register.
 pub(crate) fn reference(register: u8, known: &Known) -> Result<u16, FlowCause>
-    ensures class { MatchResult result (λ class. IsKind (state_of known.now) register (Kind.GRef class)) (λ _. (class : ℕ) → IsKind (state_of known.now) register (Kind.GRef class) → ⊥) }
+    ensures class { MatchResult result (λ class. IsKind (state_of known.now) register
+        (Kind.GRef class)) (λ _. (class : ℕ)
+        → IsKind (state_of known.now) register (Kind.GRef class) → ⊥) }
     ensures within { IfOk result (λ _. register < 64) }
     ensures cause { IfErr result (λ why. IsRefused (state_of known.now) register AReference why) }
 {
@@ -66,8 +71,11 @@ pub(crate) fn reference(register: u8, known: &Known) -> Result<u16, FlowCause>
 
 /// HOME: register a gets the home of the reference in b.
 pub(crate) fn located(instr: Instr, known: &Known) -> Result<Effect, FlowCause>
-    ensures decides { (program : Module) (function : Function) (pc : ℕ) → Decides (Settles Outcome.Locates (point program function pc instr) (state_of known.now)) result }
-    ensures cause { IfErr result (λ why. (program : Module) (function : Function) (pc : ℕ) → IsCauseOf Outcome.Locates (point program function pc instr) (state_of known.now) why) }
+    ensures decides { (program : Module) (function : Function) (pc : ℕ)
+        → Decides (Settles Outcome.Locates (point program function pc instr) (state_of known.now))
+        result }
+    ensures cause { IfErr result (λ why. (program : Module) (function : Function) (pc : ℕ)
+        → IsCauseOf Outcome.Locates (point program function pc instr) (state_of known.now) why) }
 {
     reference(instr.b, known)?;
     Ok(Effect::Sets(Kind::Place, Some(Term::Reg(instr.b))))
@@ -75,8 +83,10 @@ pub(crate) fn located(instr: Instr, known: &Known) -> Result<Effect, FlowCause>
 
 // A register holds a place, or a reference with a home.
 fn placed(register: u8, known: &Known) -> Result<(), FlowCause>
-    ensures placed { MatchResult result (λ _. IsPlaced (state_of known.now) register) (λ _. IsPlaced (state_of known.now) register → ⊥) }
-    ensures cause { IfErr result (λ why. IsRefused (state_of known.now) register APlaceOrReference why) }
+    ensures placed { MatchResult result (λ _. IsPlaced (state_of known.now) register)
+        (λ _. IsPlaced (state_of known.now) register → ⊥) }
+    ensures cause { IfErr result (λ why. IsRefused (state_of known.now) register APlaceOrReference
+        why) }
 {
     match known.kind(register) {
         None => Err(FlowCause::Unset),
@@ -88,8 +98,11 @@ fn placed(register: u8, known: &Known) -> Result<(), FlowCause>
 
 /// IFHERE: on going on, what register a stands for is here.
 pub(crate) fn found_here(instr: Instr, known: &Known) -> Result<Effect, FlowCause>
-    ensures decides { (program : Module) (function : Function) (pc : ℕ) → Decides (Settles Outcome.FindsHere (point program function pc instr) (state_of known.now)) result }
-    ensures cause { IfErr result (λ why. (program : Module) (function : Function) (pc : ℕ) → IsCauseOf Outcome.FindsHere (point program function pc instr) (state_of known.now) why) }
+    ensures decides { (program : Module) (function : Function) (pc : ℕ)
+        → Decides (Settles Outcome.FindsHere (point program function pc instr)
+        (state_of known.now)) result }
+    ensures cause { IfErr result (λ why. (program : Module) (function : Function) (pc : ℕ)
+        → IsCauseOf Outcome.FindsHere (point program function pc instr) (state_of known.now) why) }
 {
     placed(instr.a, known)?;
     Ok(Effect::Joins(Term::Reg(instr.a), Term::Here))
@@ -97,8 +110,11 @@ pub(crate) fn found_here(instr: Instr, known: &Known) -> Result<Effect, FlowCaus
 
 /// IFSAME: on going on, registers a and b stand for the same place.
 pub(crate) fn found_same(instr: Instr, known: &Known) -> Result<Effect, FlowCause>
-    ensures decides { (program : Module) (function : Function) (pc : ℕ) → Decides (Settles Outcome.FindsSame (point program function pc instr) (state_of known.now)) result }
-    ensures cause { IfErr result (λ why. (program : Module) (function : Function) (pc : ℕ) → IsCauseOf Outcome.FindsSame (point program function pc instr) (state_of known.now) why) }
+    ensures decides { (program : Module) (function : Function) (pc : ℕ)
+        → Decides (Settles Outcome.FindsSame (point program function pc instr)
+        (state_of known.now)) result }
+    ensures cause { IfErr result (λ why. (program : Module) (function : Function) (pc : ℕ)
+        → IsCauseOf Outcome.FindsSame (point program function pc instr) (state_of known.now) why) }
 {
     placed(instr.a, known)?;
     placed(instr.b, known)?;
@@ -107,8 +123,11 @@ pub(crate) fn found_same(instr: Instr, known: &Known) -> Result<Effect, FlowCaus
 
 /// PRINT: register a is a number or a text.
 pub(crate) fn printed(instr: Instr, known: &Known) -> Result<Effect, FlowCause>
-    ensures decides { (program : Module) (function : Function) (pc : ℕ) → Decides (Settles Outcome.Prints (point program function pc instr) (state_of known.now)) result }
-    ensures cause { IfErr result (λ why. (program : Module) (function : Function) (pc : ℕ) → IsCauseOf Outcome.Prints (point program function pc instr) (state_of known.now) why) }
+    ensures decides { (program : Module) (function : Function) (pc : ℕ)
+        → Decides (Settles Outcome.Prints (point program function pc instr) (state_of known.now))
+        result }
+    ensures cause { IfErr result (λ why. (program : Module) (function : Function) (pc : ℕ)
+        → IsCauseOf Outcome.Prints (point program function pc instr) (state_of known.now) why) }
 {
     match known.kind(instr.a) {
         None => Err(FlowCause::Unset),

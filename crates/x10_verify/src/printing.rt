@@ -30,7 +30,8 @@ pub(crate) fn note(image: &ImageView, f: usize, table: &Vec<Entry>, row: &mut Ve
     requires there { f < length image.now.functions }
     requires room { length (code_at image.now f) ≤ length table.now.items }
     requires size { length row.old.items ≡ length (code_at image.now f) }
-    ensures noted { (pc : ℕ) → bit_in row.new.items pc ≡ prints_in (instr_at image.now f pc) (stated table.now.items pc) }
+    ensures noted { (pc : ℕ) → bit_in row.new.items pc
+        ≡ prints_in (instr_at image.now f pc) (stated table.now.items pc) }
     ensures size { length row.new.items ≡ length row.old.items }
 {
     let code = image.code(f);

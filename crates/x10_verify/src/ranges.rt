@@ -14,7 +14,8 @@ use x10_model::Slot;
 pub(crate) fn in_range(image: &ImageView, f: usize, signature: &SigView, instr: Instr) -> bool
     requires there { f < length image.now.functions }
     requires signature { SaysOf image.now f signature.now }
-    ensures { (function : Function) → function_at image.now f ≡ Some function → IsTrue result ↔ IsInRange image.now function instr }
+    ensures { (function : Function) → function_at image.now f ≡ Some function
+        → IsTrue result ↔ IsInRange image.now function instr }
 {
     let form = form(instr.op);
     is_there(image, f, signature, instr, form.a, u32::from(instr.a))
@@ -37,7 +38,8 @@ fn is_there(
     requires signature { SaysOf image.now f signature.now }
     requires result { operand ≡ Operand.Result → (form_of instr.op).a ≡ Operand.Result }
     requires arguments { operand ≡ Operand.Arguments → (form_of instr.op).b ≡ Operand.Arguments }
-    ensures { (function : Function) → function_at image.now f ≡ Some function → IsTrue result ↔ IsThere image.now function instr operand n }
+    ensures { (function : Function) → function_at image.now f ≡ Some function
+        → IsTrue result ↔ IsThere image.now function instr operand n }
 {
     match operand {
         Operand::Unused | Operand::Count | Operand::Field => true,
@@ -57,7 +59,9 @@ fn is_there(
 // Whether a result's register is there, where there is a result.
 fn result_fits(image: &ImageView, signature: &SigView, instr: Instr, n: u32) -> bool
     requires { (form_of instr.op).a ≡ Operand.Result }
-    ensures { (function : Function) → signature.now ≡ signature_of function → IsTrue result ↔ IsResultRegister function (result_for image.now function instr instr.op) n }
+    ensures { (function : Function) → signature.now ≡ signature_of function
+        → IsTrue result ↔ IsResultRegister function
+        (result_for image.now function instr instr.op) n }
 {
     match named_result(image, signature, instr) {
         None => true,
@@ -68,7 +72,8 @@ fn result_fits(image: &ImageView, signature: &SigView, instr: Instr, n: u32) -> 
 // The result of the function that an instruction calls, or else of the one that it ends.
 fn named_result(image: &ImageView, signature: &SigView, instr: Instr) -> Option<Slot>
     requires { (form_of instr.op).a ≡ Operand.Result }
-    ensures { (function : Function) → signature.now ≡ signature_of function → result ≡ result_for image.now function instr instr.op }
+    ensures { (function : Function) → signature.now ≡ signature_of function
+        → result ≡ result_for image.now function instr instr.op }
 {
     if form(instr.op).x == Operand::Function {
         callee_result(image, instr)
@@ -91,7 +96,9 @@ fn callee_result(image: &ImageView, instr: Instr) -> Option<Slot>
 // Whether the registers of the arguments are there.
 fn arguments_fit(image: &ImageView, signature: &SigView, instr: Instr, n: u32) -> bool
     requires { (form_of instr.op).b ≡ Operand.Arguments }
-    ensures { (function : Function) → signature.now ≡ signature_of function → IsTrue result ↔ AreArgumentRegisters function (argument_count image.now instr instr.op) n }
+    ensures { (function : Function) → signature.now ≡ signature_of function
+        → IsTrue result ↔ AreArgumentRegisters function
+        (argument_count image.now instr instr.op) n }
 {
     let count = named_count(image, instr);
     (count != 0 || n == 0) && n as usize + count <= usize::from(signature.registers())

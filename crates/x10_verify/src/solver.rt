@@ -10,7 +10,7 @@ ghost use Rattle.x10_model.specs.Ranges.{function_at};
 ghost use Rattle.x10_verify.specs.Least.{HasLeast};
 ghost use Rattle.x10_verify.specs.Named.{HasNames};
 ghost use Rattle.x10_verify.specs.Printing.{AreNoted, bit_in};
-ghost use Rattle.x10_verify.specs.Solving.{IsSolved, Shows, Steps, Stops};
+ghost use Rattle.x10_verify.specs.Solving.{IsSolved, Shows, SolvesOneMore, Stops};
 ghost use Rattle.x10_verify.specs.States.{IsFresh, total};
 
 use crate::entry::entry;
@@ -35,10 +35,15 @@ pub(crate) fn solve(image: &ImageView, f: usize, table: &mut Vec<Entry>) -> Resu
     requires names { HasNames image.now f }
     requires room { length (code_at image.now f) ≤ length table.old.items }
     requires fresh { IsFresh table.old.items }
-    ensures solved { IfOk result (λ _. (function : Function) → function_at image.now f ≡ Some function → IsSolved image.now function table.new.items) }
-    ensures without { IfErr result (λ _. (function : Function) → function_at image.now f ≡ Some function → HasAssignment image.now function → ⊥) }
-    ensures cause { IfErr result (λ fault. (function : Function) → function_at image.now f ≡ Some function → Stops image.now function fault.pc fault.cause) }
-    ensures shows { IfErr result (λ fault. (function : Function) → function_at image.now f ≡ Some function → Shows image.now function fault.pc fault.cause table.new.items) }
+    ensures solved { IfOk result (λ _. (function : Function)
+        → function_at image.now f ≡ Some function → IsSolved image.now function table.new.items) }
+    ensures without { IfErr result (λ _. (function : Function)
+        → function_at image.now f ≡ Some function → HasAssignment image.now function → ⊥) }
+    ensures cause { IfErr result (λ fault. (function : Function)
+        → function_at image.now f ≡ Some function → Stops image.now function fault.pc fault.cause) }
+    ensures shows { IfErr result (λ fault. (function : Function)
+        → function_at image.now f ≡ Some function
+        → Shows image.now function fault.pc fault.cause table.new.items) }
     ensures small { IfErr result (λ fault. fault.pc ≤ 4096) }
     ensures size { IfOk result (λ _. length table.new.items ≡ length table.old.items) }
 {
@@ -72,9 +77,12 @@ pub(crate) fn check_function(
     requires room { length (code_at image.now f) ≤ length table.old.items }
     requires fresh { IsFresh table.old.items }
     requires row { length row.old.items ≡ length (code_at image.now f) }
-    ensures decides { (function : Function) → function_at image.now f ≡ Some function → MatchResult result (λ _. HasLeast image.now function) (λ _. HasAssignment image.now function → ⊥) }
+    ensures decides { (function : Function) → function_at image.now f ≡ Some function
+        → MatchResult result (λ _. HasLeast image.now function)
+        (λ _. HasAssignment image.now function → ⊥) }
     ensures noted { IfOk result (λ _. AreNoted image.now (bit_in row.new.items) f) }
-    ensures cause { (function : Function) → function_at image.now f ≡ Some function → IfErr result (λ fault. Stops image.now function fault.pc fault.cause) }
+    ensures cause { (function : Function) → function_at image.now f ≡ Some function
+        → IfErr result (λ fault. Stops image.now function fault.pc fault.cause) }
     ensures small { IfErr result (λ fault. fault.pc ≤ 4096) }
     ensures fresh { IfOk result (λ _. IsFresh table.new.items) }
     ensures size { IfOk result (λ _. length table.new.items ≡ length table.old.items) }
@@ -104,9 +112,13 @@ fn pass(
     requires len { len ≡ length (code_at image.now f) }
     requires at { at < len }
     requires room { len ≤ length table.old.items }
-    ensures steps { (function : Function) → function_at image.now f ≡ Some function → function.result ≡ slot.now → Steps image.now function at table.old.items result table.new.items }
+    ensures steps { (function : Function) → function_at image.now f ≡ Some function
+        → function.result ≡ slot.now → SolvesOneMore image.now function at table.old.items result
+        table.new.items }
     ensures size { IfOk result (λ _. length table.new.items ≡ length table.old.items) }
-    ensures falls { IfOk result (λ next. ((next ≡ at + 1) × (total table.new.items ≤ total table.old.items)) ⊎ ((next ≤ at) × (total table.new.items < total table.old.items))) }
+    ensures falls { IfOk result (λ next. ((next ≡ at + 1)
+        × (total table.new.items ≤ total table.old.items))
+        ⊎ ((next ≤ at) × (total table.new.items < total table.old.items))) }
 {
     if !is_waiting(table, at) {
         return Ok(at + 1);

@@ -86,7 +86,8 @@ pub(crate) fn finish(table: &mut Vec<Entry>, at: usize)
 /// What is known before an instruction that is reached.
 pub(crate) fn known_at(table: &Vec<Entry>, at: usize) -> &Known
     requires { at < length table.now.items }
-    ensures known { (entry : Entry) → slice_get table.now.items at ≡ Some entry → result.now ≡ entry.known }
+    ensures known { (entry : Entry) → slice_get table.now.items at ≡ Some entry
+        → result.now ≡ entry.known }
     ensures narrow { IsNarrow (state_of result.now) }
 {
     let known = &table[at].known;
@@ -99,7 +100,8 @@ pub(crate) fn known_at(table: &Vec<Entry>, at: usize) -> &Known
 pub(crate) fn advance(table: &mut Vec<Entry>, at: usize, register: u8, effect: Effect)
     requires within { at + 1 < length table.old.items }
     requires can { CanApply register effect }
-    ensures { (entry : Entry) → slice_get table.old.items at ≡ Some entry → Advances at register effect entry.known table.old.items table.new.items }
+    ensures { (entry : Entry) → slice_get table.old.items at ≡ Some entry
+        → Advances at register effect entry.known table.old.items table.new.items }
 {
     let known = table[at].known;
     table[at + 1].receive_after(&known, register, effect);
@@ -111,7 +113,8 @@ pub(crate) fn lead(table: &mut Vec<Entry>, at: usize, target: usize) -> bool
     requires within { at < length table.old.items }
     requires target { target < length table.old.items }
     requires done { IsDone table.old.items at }
-    ensures arrives { (entry : Entry) → slice_get table.old.items at ≡ Some entry → Arrives table.old.items target entry.known table.new.items result }
+    ensures arrives { (entry : Entry) → slice_get table.old.items at ≡ Some entry
+        → Arrives table.old.items target entry.known table.new.items result }
     ensures kept { slice_get table.new.items at ≡ slice_get table.old.items at }
 {
     if target == at {

@@ -5,7 +5,7 @@ ghost use Rattle.x10_model.specs.Structure.{is_target};
 ghost use Rattle.x10_model.specs.Modules.{Function};
 ghost use Rattle.x10_verify.specs.Effects.{CanApply};
 ghost use Rattle.x10_verify.specs.Named.{IsNamed};
-ghost use Rattle.x10_verify.specs.Solving.{GoesOn, Jumps, Steps};
+ghost use Rattle.x10_verify.specs.Solving.{GoesOn, Jumps, SolvesOneMore};
 ghost use Rattle.x10_verify.specs.States.{IsDone, total, waits};
 
 use crate::decide::decide;
@@ -30,9 +30,13 @@ pub(crate) fn step(
     requires at { at < len }
     requires room { len ≤ length table.old.items }
     requires waiting { waits table.old.items at ≡ true }
-    ensures steps { (function : Function) → function.result ≡ slot.now → slice_get function.code at ≡ Some instr → length function.code ≡ len → Steps image.now function at table.old.items result table.new.items }
+    ensures steps { (function : Function) → function.result ≡ slot.now
+        → slice_get function.code at ≡ Some instr → length function.code ≡ len
+        → SolvesOneMore image.now function at table.old.items result table.new.items }
     ensures size { IfOk result (λ _. length table.new.items ≡ length table.old.items) }
-    ensures falls { IfOk result (λ next. ((next ≡ at + 1) × (total table.new.items ≤ total table.old.items)) ⊎ ((next ≤ at) × (total table.new.items < total table.old.items))) }
+    ensures falls { IfOk result (λ next. ((next ≡ at + 1)
+        × (total table.new.items ≤ total table.old.items))
+        ⊎ ((next ≤ at) × (total table.new.items < total table.old.items))) }
 {
     image.fits();
     finish(table, at);
@@ -47,7 +51,8 @@ fn jump(instr: Instr, at: usize, len: usize, table: &mut Vec<Entry>) -> Result<u
     requires at { at < len }
     requires room { len ≤ length table.old.items }
     requires done { IsDone table.old.items at }
-    ensures jumps { (entry : Entry) → slice_get table.old.items at ≡ Some entry → Jumps instr at len entry.known table.old.items result table.new.items }
+    ensures jumps { (entry : Entry) → slice_get table.old.items at ≡ Some entry
+        → Jumps instr at len entry.known table.old.items result table.new.items }
     ensures kept { slice_get table.new.items at ≡ slice_get table.old.items at }
 {
     if !jumps(instr.op) {
@@ -74,7 +79,8 @@ fn hand_on(
     requires at { at < len }
     requires room { len ≤ length table.old.items }
     requires can { CanApply instr.a effect }
-    ensures { (entry : Entry) → slice_get table.old.items at ≡ Some entry → GoesOn instr at len effect entry.known table.old.items result table.new.items }
+    ensures { (entry : Entry) → slice_get table.old.items at ≡ Some entry
+        → GoesOn instr at len effect entry.known table.old.items result table.new.items }
 {
     if !goes_on(instr.op) {
         return Ok(());

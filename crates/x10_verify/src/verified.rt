@@ -110,7 +110,8 @@ impl<'a> Verified<'a> {
 
     /// Each function has a least assignment: for callers whose own clauses rely on it. It does nothing.
     pub fn assignments(&self)
-        ensures { (f : ℕ) (function : Function) → function_at self.now.program f ≡ Some function → HasLeast self.now.program function }
+        ensures { (f : ℕ) (function : Function) → function_at self.now.program f ≡ Some function
+            → HasLeast self.now.program function }
     {
         let _ = &self.bounds;
     }
@@ -120,8 +121,17 @@ impl<'a> Verified<'a> {
     /// assignment may know anything, so `number` speaks only of what is reached. Constant time, no memory.
     pub fn prints_text(&self, f: usize, pc: usize) -> bool
         ensures exact { IsTrue result ↔ PrintsText self.now.program f pc }
-        ensures text { IsTrue result → (function : Function) → function_at self.now.program f ≡ Some function → (i : instrs.Instr) → slice_get function.code pc ≡ Some i → (a : HasAssignment self.now.program function) (s : State) → a.0 pc ≡ Some s → IsKind s i.a kind.Text }
-        ensures number { IsFalse result → (function : Function) → function_at self.now.program f ≡ Some function → IsReached self.now.program function pc → (i : instrs.Instr) → slice_get function.code pc ≡ Some i → i.op ≡ op.Print → (a : HasAssignment self.now.program function) (s : State) → a.0 pc ≡ Some s → IsKind s i.a kind.Int }
+        ensures text { IsTrue result → (function : Function)
+            → function_at self.now.program f ≡ Some function → (i : instrs.Instr)
+            → slice_get function.code pc ≡ Some i
+            → (a : HasAssignment self.now.program function) (s : State) → a.0 pc ≡ Some s
+            → IsKind s i.a kind.Text }
+        ensures number { IsFalse result → (function : Function)
+            → function_at self.now.program f ≡ Some function
+            → IsReached self.now.program function pc → (i : instrs.Instr)
+            → slice_get function.code pc ≡ Some i → i.op ≡ op.Print
+            → (a : HasAssignment self.now.program function) (s : State) → a.0 pc ≡ Some s
+            → IsKind s i.a kind.Int }
     {
         noted(&self.rows, f, pc)
     }
@@ -134,7 +144,8 @@ impl<'a> Verified<'a> {
         requires pc { pc < length (code_at self.now.program f) }
         ensures value { instr_at self.now.program f pc ≡ Some result }
         ensures fits { IsInstr result }
-        ensures in_range { (function : Function) → function_at self.now.program f ≡ Some function → IsInRange self.now.program function result }
+        ensures in_range { (function : Function) → function_at self.now.program f ≡ Some function
+            → IsInRange self.now.program function result }
         ensures follows { result.op ≢ op.Ret → pc + 1 < length (code_at self.now.program f) }
     {
         self.image.instr(f, pc)
@@ -158,7 +169,8 @@ impl<'a> Verified<'a> {
         requires pc { pc < length (code_at self.now.program f) }
         ensures value { instr_at self.now.program f pc ≡ Some result }
         ensures fits { IsInstr result }
-        ensures in_range { (function : Function) → function_at self.now.program f ≡ Some function → IsInRange self.now.program function result }
+        ensures in_range { (function : Function) → function_at self.now.program f ≡ Some function
+            → IsInRange self.now.program function result }
         ensures follows { result.op ≢ op.Ret → pc + 1 < length (code_at self.now.program f) }
     {
         self.image.instr_from(code, f, pc)

@@ -25,7 +25,9 @@ pub(crate) struct Position {
 /// The first instruction of a function that names what isn't there.
 pub(crate) fn first_out(image: &ImageView, f: usize) -> Option<usize>
     requires { f < length image.now.functions }
-    ensures first { (function : Function) → function_at image.now f ≡ Some function → MatchOption result (AreInRangeTo image.now function (length function.code)) (λ pc. IsOutAt image.now function pc) }
+    ensures first { (function : Function) → function_at image.now f ≡ Some function
+        → MatchOption result (AreInRangeTo image.now function (length function.code))
+        (λ pc. IsOutAt image.now function pc) }
     ensures small { IfSome result (λ pc. pc < 4096) }
 {
     let signature = image.signature(f);
@@ -75,7 +77,8 @@ pub(crate) fn check_flow(
     requires rows { HasRows image.now rows.old.items }
     requires room { (f : ℕ) → length (code_at image.now f) ≤ length table.old.items }
     requires fresh { IsFresh table.old.items }
-    ensures ok { IfOk result (λ _. (f : ℕ) (function : Function) → function_at image.now f ≡ Some function → HasLeast image.now function) }
+    ensures ok { IfOk result (λ _. (f : ℕ) (function : Function)
+        → function_at image.now f ≡ Some function → HasLeast image.now function) }
     ensures noted { IfOk result (λ _. (f : ℕ) → AreNoted image.now (bit_at rows.new.items f) f) }
     ensures err { IfErr result (λ at. IsFirstWithout image.now at.0) }
     ensures cause { IfErr result (λ at. StopsIn image.now at.0 at.1.pc at.1.cause) }

@@ -1,9 +1,9 @@
-mod Playing
-mod Flying
-mod Leading
-mod Striding
+mod PlayLemmas
+mod FlightTables
+mod WorkLemmas
+mod StrideSteps
 mod Woven
-mod Following
-mod Gathering
-mod Replaying
-mod Reporting
+mod LogRuns
+mod KeptTurns
+mod ReplayFaults
+mod ReportLines

@@ -18,26 +18,27 @@ use Rattle.x10_place.specs.Stays.{StayState}
 use Rattle.x10_hall.specs.declared.turn.Taken.{Taken}
 use Rattle.x10_hall.specs.declared.turn.Posted.{Posted}
 use Rattle.x10_hall.specs.declared.turn.Turn.{Turn}
-use Rattle.x10_hall.specs.Halls.{Frame, Numbered, frame_of, told}
+use Rattle.x10_hall.specs.Halls.{PostedFrame, Numbered, frame_of, told}
 use Rattle.x10_world.specs.declared.done.Done.{Done}
 use Rattle.x10_world.specs.declared.done.Done.TheVariants as done
 use Rattle.x10_flights.specs.Flights.{Flight, FlightsState, flight_of, taken_from, with_room}
-use Rattle.x10_world.specs.Happenings.{Happened, IsDone, StandsAt, frames_in}
+use Rattle.x10_world.specs.Happenings.{Happened, HasTaken, HasDone, StandsAtInstr, frame_count}
 use Rattle.x10_world.specs.StandsForWorld as world
-use Rattle.x10_world.specs.StandsForWorld.{WorldState, world_of, IsWorld, IsMade, IsStepped, after_step, far_in}
-use Rattle.x10_world.proofs.Handling.{did_of, handles_made, handles_taken}
+use Rattle.x10_world.specs.StandsForWorld.{WorldState, world_of, IsWorld, IsMadeStep, IsStepped, after_step, far_in}
+use Rattle.x10_world.proofs.EventLemmas.{did_of, handles_made, handles_taken}
 use Rattle.x10_world.proofs.Lists.{set_here}
 use Rattle.x10_workers.specs.declared.trail.OwnTurn.{OwnTurn}
-use Rattle.x10_workers.specs.Plays.{flight_as, Takes, takes_none, takes_more, StepsAll, steps_none, steps_more, PlaysTurn}
-use Rattle.x10_workers.specs.Trails.{frames_out, TakesIn, TakesEach, StepsBy, by_step, by_stride, StepsEach, TurnLeads}
+use Rattle.x10_workers.specs.Plays.{flight_as, TakesFrames, takes_none, takes_more, StepsAll, steps_none, steps_more, PlaysTurn}
+use Rattle.x10_workers.specs.Trails.{frames_out, TakesFrame, TakesEach, StepsBy, by_step, by_stride, StepsEach, TurnLeads}
 use Rattle.x10_workers.specs.Weaves.{TakesOff, TakesOffEach, IsTurnOf, all_flying}
-use Rattle.x10_workers.proofs.Leading.{at_map}
-use Rattle.x10_workers.proofs.Striding.{stride_made}
-use Rattle.x10_workers.proofs.Flying.{IsTable, table_flight, table_taken, table_stepped}
+use Rattle.x10_workers.proofs.WorkLemmas.{at_map}
+use Rattle.x10_workers.proofs.StrideSteps.{stride_made}
+use Rattle.x10_workers.proofs.FlightTables.{IsTable, table_flight, table_taken, table_stepped}
 
 -- ---- where an activity stands
 
-instr_there : (program : Module) (f pc : ℕ) (function : Function) → function_at program f ≡ Some function → pc < length function.code → (i : Instr) × (instr_at program f pc ≡ Some i)
+instr_there : (program : Module) (f pc : ℕ) (function : Function) → function_at program f ≡ Some function → pc < length function.code
+    → (i : Instr) × (instr_at program f pc ≡ Some i)
 instr_there program f pc function is lt = go (slice_get function.code pc) refl
   where
     go : (o : Option Instr) → slice_get function.code pc ≡ o → (i : Instr) × (instr_at program f pc ≡ Some i)
@@ -60,10 +61,11 @@ module _ (c : Certified) (bounds-are : bounds_of c.program ≡ Ok c.bounds) wher
   IsGoing places flights = IsWorld c.program c.bounds places flights false
 
   -- an activity that isn't idle stands at an instruction
-  stood : (places : List PlaceState) (flights : FlightsState) (here key : ℕ) (p : PlaceState) → IsGoing places flights → slice_get places here ≡ Some p → (IsIdleAt p key → ⊥) → (f : ℕ) × (pc : ℕ) × (i : Instr) × StandsAt places here key f pc i.op
+  stood : (places : List PlaceState) (flights : FlightsState) (here key : ℕ) (p : PlaceState) → IsGoing places flights
+      → slice_get places here ≡ Some p → (IsIdleAt p key → ⊥) → (f : ℕ) × (pc : ℕ) × (i : Instr) × StandsAtInstr places here key f pc i.op
   stood places flights here key p w is busy = at_stay (get p.stays key) refl
     where
-      at_stay : (o : Option StayState) → get p.stays key ≡ o → (f : ℕ) × (pc : ℕ) × (i : Instr) × StandsAt places here key f pc i.op
+      at_stay : (o : Option StayState) → get p.stays key ≡ o → (f : ℕ) × (pc : ℕ) × (i : Instr) × StandsAtInstr places here key f pc i.op
       at_stay None none = absurd (busy (nobody none))
       at_stay (Some a) there =
           let old = w.stands.some here p is in
@@ -75,64 +77,85 @@ module _ (c : Certified) (bounds-are : bounds_of c.program ≡ Ok c.bounds) wher
   -- ---- frames that are taken in
 
   -- a world goes on with one place changed: frames with these numbers were taken in there
-  record TakenTo (x : WorldState) (here : ℕ) (numbers : List ℕ) (places : List PlaceState) (table : List (Option Frame)) : Type 0 where
+  record TakenTo (x : WorldState) (here : ℕ) (numbers : List ℕ) (places : List PlaceState) (table : List (Option PostedFrame)) : Type 0 where
     flights : FlightsState
     going : IsGoing places flights
     table_is : IsTable table flights
-    takes : Takes x here numbers (now places flights)
+    takes : TakesFrames x here numbers (now places flights)
 
-  take_more : (x : WorldState) (here : ℕ) (before : List ℕ) (places : List PlaceState) (table after : List (Option Frame)) (f : Numbered) (p q : PlaceState) → TakenTo x here before places table → slice_get places here ≡ Some p → TakesOff table here f after → TakesIn p f.bytes q
+  take_more : (x : WorldState) (here : ℕ) (before : List ℕ) (places : List PlaceState) (table after : List (Option PostedFrame)) (f : Numbered)
+      (p q : PlaceState) → TakenTo x here before places table → slice_get places here ≡ Some p → TakesOff table here f after → TakesFrame p f.bytes q
       → TakenTo x here (before ++ f.number ∷ []) (slice_set places here q) after
   take_more x here before places table after f p q t is off led =
       let flight : Flight = record { number = f.number; to = here; bytes = f.bytes } in
-      let flies : flight_of t.flights f.number ≡ Some flight = table_flight table t.flights f.number (record { to = here; bytes = f.bytes }) t.table_is off.flies in
+      let flies : flight_of t.flights f.number ≡ Some flight = table_flight table t.flights f.number
+      (record { to = here; bytes = f.bytes }) t.table_is off.flies in
       let h = handles_taken c places t.flights f.number flight p q bounds-are t.going flies is led.kept led.taken led.goes in
+      let did = h.told.1 in
+      let to_is = sym did.to_is ∙ ap (λ (g : Flight). g.to) (same_Some did.flight flight (sym did.flying ∙ flies)) in
       record {
         flights = taken_from t.flights f.number;
         going = h.world;
         table_is = subst (λ ts. IsTable ts (taken_from t.flights f.number)) (sym off.after_is) (table_taken table t.flights f.number t.table_is);
-        takes = takes_more before f.number (now places t.flights) (now (slice_set places here q) (taken_from t.flights f.number)) t.takes (record { done = h.told; makes = h.made; kept = record { program = refl; bounds = refl; count = h.count } });
+        takes = takes_more before f.number (now places t.flights) (now (slice_set places here q) (taken_from t.flights f.number)) t.takes (record {
+          done = subst (λ to. HasTaken places t.flights f.number to (slice_set places here q) (taken_from t.flights f.number)) to_is did;
+          makes = h.made;
+          kept = record { program = refl; bounds = refl; count = h.count };
+        });
       }
 
-  take_each : (x : WorldState) (here : ℕ) (before : List ℕ) (places : List PlaceState) (table after : List (Option Frame)) (fs : List Numbered) (p q : PlaceState) → TakenTo x here before places table → slice_get places here ≡ Some p → TakesOffEach table here fs after → TakesEach p fs q
+  take_each : (x : WorldState) (here : ℕ) (before : List ℕ) (places : List PlaceState) (table after : List (Option PostedFrame)) (fs : List Numbered)
+      (p q : PlaceState) → TakenTo x here before places table → slice_get places here ≡ Some p → TakesOffEach table here fs after → TakesEach p fs q
       → TakenTo x here (before ++ map (λ f. f.number) fs) (slice_set places here q) after
   take_each x here before places table after [] p q t is off led =
       subst (λ ns. TakenTo x here ns (slice_set places here q) after) (sym (append-nil before))
-      (subst (λ ps. TakenTo x here before ps after) (sym (ap (λ r. slice_set places here r) led ∙ set_same places here p is)) (subst (λ ts. TakenTo x here before places ts) (sym off) t))
+      (subst (λ ps. TakenTo x here before ps after) (sym (ap (λ r. slice_set places here r) led ∙ set_same places here p is))
+      (subst (λ ts. TakenTo x here before places ts) (sym off) t))
   take_each x here before places table after (f ∷ fs) p q t is off led =
       subst (λ ps. TakenTo x here (before ++ f.number ∷ map (λ g. g.number) fs) ps after) (set-set places here led.0 q)
-      (subst (λ ns. TakenTo x here ns (slice_set (slice_set places here led.0) here q) after) (append_assoc before (f.number ∷ []) (map (λ g. g.number) fs))
-      (take_each x here (before ++ f.number ∷ []) (slice_set places here led.0) off.0 after fs led.0 q (take_more x here before places table off.0 f p led.0 t is off.1 led.1) (set_here places here led.0 p is) off.2 led.2))
+      (subst (λ ns. TakenTo x here ns (slice_set (slice_set places here led.0) here q) after)
+      (append_assoc before (f.number ∷ []) (map (λ g. g.number) fs))
+      (take_each x here (before ++ f.number ∷ []) (slice_set places here led.0) off.0 after fs led.0 q
+      (take_more x here before places table off.0 f p led.0 t is off.1 led.1) (set_here places here led.0 p is) off.2 led.2))
 
   -- ---- steps
 
   -- the same of steps of these keys
-  record SteppedTo (x : WorldState) (here : ℕ) (keys : List ℕ) (places : List PlaceState) (table : List (Option Frame)) : Type 0 where
+  record SteppedTo (x : WorldState) (here : ℕ) (keys : List ℕ) (places : List PlaceState) (table : List (Option PostedFrame)) : Type 0 where
     flights : FlightsState
     going : IsGoing places flights
     table_is : IsTable table flights
     steps : StepsAll x here keys (now places flights)
 
-  done_by : (places new : List PlaceState) (flights after : FlightsState) (here key : ℕ) (answer : Stepped) → IsGoing places flights → Happened places flights (Step here key) (did_of answer) new after → (did : Done) × IsDone (now places flights) (Step here key) did (now new after)
+  done_by : (places new : List PlaceState) (flights after : FlightsState) (here key : ℕ) (answer : Stepped) → IsGoing places flights
+      → Happened places flights (Step here key) (did_of answer) new after
+      → (did : Done) × HasDone (now places flights) (Step here key) did (now new after)
   done_by places new flights after here key stepped.Idle w h = (done.Idle, h)
   done_by places new flights after here key (stepped.Moved out) w h =
       let s = stood places flights here key h.1.place w h.1.is_there h.1.busy in
-      (done.Moved s.0 s.1 s.2.op flights.posted (frames_in h.0), record { out = h.0; moved = h.1; stood = s.3; first_is = refl; count_is = refl })
+      (done.Moved s.0 s.1 s.2.op flights.posted (frame_count h.0), record { out = h.0; moved = h.1; stood = s.3; first_is = refl; count_is = refl })
 
   -- a step that its place made, in whichever way
-  made_by : (places : List PlaceState) (flights : FlightsState) (here key : ℕ) (answer : Stepped) (p q : PlaceState) → IsGoing places flights → slice_get places here ≡ Some p → StepsBy p key answer q → IsMade p q key answer × Keeps p q
+  made_by : (places : List PlaceState) (flights : FlightsState) (here key : ℕ) (answer : Stepped) (p q : PlaceState) → IsGoing places flights
+      → slice_get places here ≡ Some p → StepsBy p key answer q → IsMadeStep p q key answer × Keeps p q
   made_by places flights here key answer p q going is (by_step a r made kept) = (made, kept)
   made_by places flights here key answer p q going is (by_stride out r stride) =
       let stand = going.stands.some here p is in
       (stride_made (far_in going.world) p q stand.0 key out stand.2 (going.none_stopped (λ e. cc) here p is) stride, stride.kept)
 
-  step_more : (x : WorldState) (here : ℕ) (before : List ℕ) (places : List PlaceState) (table : List (Option Frame)) (key : ℕ) (answer : Stepped) (p q : PlaceState) → SteppedTo x here before places table → slice_get places here ≡ Some p → StepsBy p key answer q
+  step_more : (x : WorldState) (here : ℕ) (before : List ℕ) (places : List PlaceState) (table : List (Option PostedFrame)) (key : ℕ)
+      (answer : Stepped) (p q : PlaceState) → SteppedTo x here before places table → slice_get places here ≡ Some p → StepsBy p key answer q
       → SteppedTo x here (before ++ key ∷ []) (slice_set places here q) (table ++ all_flying (frames_out answer))
   step_more x here before places table key answer p q t is led =
       let by = made_by places t.flights here key answer p q t.going is led in
       let one : world.StepsOne places (slice_set places here q) here key (Ok answer) = record {
         gone = λ none. absurd (none_some (slice_get places here) p none is);
-        there = λ r e. (q, refl, subst (λ z. IsStepped z q key (Ok answer)) (same_Some p r (sym is ∙ e)) (record { kept = by.1; made = by.0; hindered = λ off. tt; stop = tt }));
+        there = λ r e. (
+          q,
+          refl,
+          subst (λ z. IsStepped z q key (Ok answer)) (same_Some p r (sym is ∙ e))
+              (record { kept = by.1; made = by.0; hindered = λ off. tt; stop = tt }),
+        );
       } in
       let after = after_step (with_room t.flights) answer in
       let h = handles_made c places (slice_set places here q) t.flights here key bounds-are t.going answer after one refl in
@@ -141,10 +164,13 @@ module _ (c : Certified) (bounds-are : bounds_of c.program ≡ Ok c.bounds) wher
         flights = after;
         going = h.world;
         table_is = table_stepped table t.flights answer t.table_is;
-        steps = steps_more before key (now places t.flights) (now (slice_set places here q) after) t.steps (did.0, record { done = did.1; makes = h.made; kept = record { program = refl; bounds = refl; count = h.count } });
+        steps = steps_more before key (now places t.flights) (now (slice_set places here q) after) t.steps
+            (did.0, record { done = did.1; makes = h.made; kept = record { program = refl; bounds = refl; count = h.count } });
       }
 
-  step_each : (x : WorldState) (here : ℕ) (before : List ℕ) (places : List PlaceState) (table : List (Option Frame)) (keys : List ℕ) (frames : List Frame) (p q : PlaceState) → SteppedTo x here before places table → slice_get places here ≡ Some p → StepsEach p keys frames q
+  step_each : (x : WorldState) (here : ℕ) (before : List ℕ) (places : List PlaceState) (table : List (Option PostedFrame)) (keys : List ℕ)
+      (frames : List PostedFrame) (p q : PlaceState) → SteppedTo x here before places table → slice_get places here ≡ Some p
+      → StepsEach p keys frames q
       → SteppedTo x here (before ++ keys) (slice_set places here q) (table ++ all_flying frames)
   step_each x here before places table [] frames p q t is led =
       subst (λ ts. SteppedTo x here (before ++ []) (slice_set places here q) ts) (sym (ap (λ fs. table ++ all_flying fs) led.0 ∙ append-nil table))
@@ -154,18 +180,24 @@ module _ (c : Certified) (bounds-are : bounds_of c.program ≡ Ok c.bounds) wher
       let answer = led.0 in
       let rest = led.1 in
       let r = led.2 in
-      let later = step_each x here (before ++ key ∷ []) (slice_set places here r) (table ++ all_flying (frames_out answer)) keys rest r q (step_more x here before places table key answer p r t is led.4) (set_here places here r p is) led.5 in
+      let later = step_each x here (before ++ key ∷ []) (slice_set places here r) (table ++ all_flying (frames_out answer)) keys rest r q
+      (step_more x here before places table key answer p r t is led.4) (set_here places here r p is) led.5 in
       let behind : (table ++ all_flying (frames_out answer)) ++ all_flying rest ≡ table ++ all_flying frames =
-      append_assoc table (all_flying (frames_out answer)) (all_flying rest) ∙ ap (λ ts. table ++ ts) (sym (map-append (λ f. Some f) (frames_out answer) rest) ∙ ap all_flying (sym led.3)) in
+      append_assoc table (all_flying (frames_out answer)) (all_flying rest)
+      ∙ ap (λ ts. table ++ ts) (sym (map-append (λ f. Some f) (frames_out answer) rest) ∙ ap all_flying (sym led.3)) in
       subst (λ ts. SteppedTo x here (before ++ key ∷ keys) (slice_set places here q) ts) behind
-      (subst (λ ps. SteppedTo x here (before ++ key ∷ keys) ps ((table ++ all_flying (frames_out answer)) ++ all_flying rest)) (set-set places here r q)
-      (subst (λ ks. SteppedTo x here ks (slice_set (slice_set places here r) here q) ((table ++ all_flying (frames_out answer)) ++ all_flying rest)) (append_assoc before (key ∷ []) keys) later))
+      (subst (λ ps. SteppedTo x here (before ++ key ∷ keys) ps ((table ++ all_flying (frames_out answer)) ++ all_flying rest))
+      (set-set places here r q)
+      (subst (λ ks. SteppedTo x here ks (slice_set (slice_set places here r) here q) ((table ++ all_flying (frames_out answer)) ++ all_flying rest))
+      (append_assoc before (key ∷ []) keys) later))
 
   -- ---- a turn
 
-  length_taken : (table after : List (Option Frame)) (here : ℕ) (fs : List Numbered) → TakesOffEach table here fs after → length after ≡ length table
+  length_taken : (table after : List (Option PostedFrame)) (here : ℕ) (fs : List Numbered) → TakesOffEach table here fs after
+      → length after ≡ length table
   length_taken table after here [] off = ap (λ ts. length ts) off
-  length_taken table after here (f ∷ fs) off = length_taken off.0 after here fs off.2 ∙ ap (λ ts. length ts) off.1.after_is ∙ length-set table f.number None
+  length_taken table after here (f ∷ fs) off = length_taken off.0 after here fs off.2 ∙ ap (λ ts. length ts) off.1.after_is
+      ∙ length-set table f.number None
 
   numbers_told : (fs : List Taken) → map (λ f. f.number) (map told fs) ≡ map (λ f. f.number) fs
   numbers_told [] = refl
@@ -176,28 +208,37 @@ module _ (c : Certified) (bounds-are : bounds_of c.program ≡ Ok c.bounds) wher
   length_flying (f ∷ fs) = ap suc (length_flying fs)
 
   -- a frame behind others, as it flies
-  behind_all : (table : List (Option Frame)) (fs : List Posted) (i : ℕ) (f : Posted) → slice_get fs i ≡ Some f → slice_get (table ++ all_flying (map frame_of fs)) (length table + i) ≡ Some (Some (frame_of f))
-  behind_all table fs i f is = append_at table (all_flying (map frame_of fs)) (length table + i) i refl ∙ at_map (λ g. Some g) (map frame_of fs) i (frame_of f) (at_map frame_of fs i f is)
+  behind_all : (table : List (Option PostedFrame)) (fs : List Posted) (i : ℕ) (f : Posted) → slice_get fs i ≡ Some f
+      → slice_get (table ++ all_flying (map frame_of fs)) (length table + i) ≡ Some (Some (frame_of f))
+  behind_all table fs i f is = append_at table (all_flying (map frame_of fs)) (length table + i) i refl
+      ∙ at_map (λ g. Some g) (map frame_of fs) i (frame_of f) (at_map frame_of fs i f is)
 
-  pub record PlayedTo (places : List PlaceState) (flights : FlightsState) (t : Turn) (new : List PlaceState) (table : List (Option Frame)) : Type 0 where
+  pub record PlayedTo (places : List PlaceState) (flights : FlightsState) (t : Turn) (new : List PlaceState)
+      (table : List (Option PostedFrame)) : Type 0 where
     pub flights_then : FlightsState
     pub going : IsGoing new flights_then
     pub table_is : IsTable table flights_then
     pub plays : PlaysTurn (now places flights) t (now new flights_then)
 
-  pub turn_plays : (places : List PlaceState) (flights : FlightsState) (table middle : List (Option Frame)) (p q : PlaceState) (own : OwnTurn) (t : Turn) → IsGoing places flights → IsTable table flights → slice_get places t.place ≡ Some p → TurnLeads p own q → IsTurnOf own t
-      → TakesOffEach table t.place (map told own.taken.items) middle → PlayedTo places flights t (slice_set places t.place q) (middle ++ all_flying (map frame_of t.frames.items))
+  pub turn_plays : (places : List PlaceState) (flights : FlightsState) (table middle : List (Option PostedFrame)) (p q : PlaceState) (own : OwnTurn)
+      (t : Turn) → IsGoing places flights → IsTable table flights → slice_get places t.place ≡ Some p → TurnLeads p own q → IsTurnOf own t
+      → TakesOffEach table t.place (map told own.taken.items) middle
+      → PlayedTo places flights t (slice_set places t.place q) (middle ++ all_flying (map frame_of t.frames.items))
   turn_plays places flights table middle p q own t going table-is is led same off = record {
     flights_then = stepped.flights;
     going = subst (λ ps. IsGoing ps stepped.flights) once stepped.going;
     table_is = table_then;
     plays = record {
       middle = now between taken.flights;
-      takes = subst (λ ns. Takes (now places flights) t.place ns (now between taken.flights)) (numbers_told own.taken.items ∙ same.taken) taken.takes;
-      steps = subst (λ ps. StepsAll (now between taken.flights) t.place t.keys (now ps stepped.flights)) once (subst (λ ks. StepsAll (now between taken.flights) t.place ks (now (slice_set between t.place q) stepped.flights)) same.keys stepped.steps);
+      takes = subst (λ ns. TakesFrames (now places flights) t.place ns (now between taken.flights))
+          (numbers_told own.taken.items ∙ same.taken) taken.takes;
+      steps = subst (λ ps. StepsAll (now between taken.flights) t.place t.keys (now ps stepped.flights)) once
+          (subst (λ ks. StepsAll (now between taken.flights) t.place ks (now (slice_set between t.place q) stepped.flights)) same.keys stepped.steps);
       puts_out = record {
         count = count;
-        each = λ i f there. ap (λ n. flight_of stepped.flights n) (first i) ∙ table_flight (middle ++ all_flying (map frame_of t.frames.items)) stepped.flights (length middle + i) (frame_of f) table_then (behind_all middle t.frames.items i f there) ∙ ap (λ n. Some (flight_as n f)) (sym (first i));
+        each = λ i f there. ap (λ n. flight_of stepped.flights n) (first i)
+            ∙ table_flight (middle ++ all_flying (map frame_of t.frames.items)) stepped.flights (length middle + i) (frame_of f) table_then
+            (behind_all middle t.frames.items i f there) ∙ ap (λ n. Some (flight_as n f)) (sym (first i));
       };
       prints = record { old = p; new = q; old_is = is; new_is = set_here places t.place q p is; printed = led.printed ∙ same.lines };
     };
@@ -207,10 +248,14 @@ module _ (c : Certified) (bounds-are : bounds_of c.program ≡ Ok c.bounds) wher
       between = slice_set places t.place led.middle
 
       taken : TakenTo (now places flights) t.place (map (λ f. f.number) (map told own.taken.items)) between middle
-      taken = take_each (now places flights) t.place [] places table middle (map told own.taken.items) p led.middle (record { flights = flights; going = going; table_is = table-is; takes = takes_none }) is off led.takes
+      taken = take_each (now places flights) t.place [] places table middle (map told own.taken.items) p led.middle
+          (record { flights = flights; going = going; table_is = table-is; takes = takes_none }) is off led.takes
 
-      stepped : SteppedTo (now between taken.flights) t.place own.keys (slice_set between t.place q) (middle ++ all_flying (map frame_of own.frames.items))
-      stepped = step_each (now between taken.flights) t.place [] between middle own.keys (map frame_of own.frames.items) led.middle q (record { flights = taken.flights; going = taken.going; table_is = taken.table_is; steps = steps_none }) (set_here places t.place led.middle p is) led.steps
+      stepped : SteppedTo (now between taken.flights) t.place own.keys (slice_set between t.place q)
+          (middle ++ all_flying (map frame_of own.frames.items))
+      stepped = step_each (now between taken.flights) t.place [] between middle own.keys (map frame_of own.frames.items) led.middle q
+          (record { flights = taken.flights; going = taken.going; table_is = taken.table_is; steps = steps_none })
+          (set_here places t.place led.middle p is) led.steps
 
       once : slice_set between t.place q ≡ slice_set places t.place q
       once = set-set places t.place led.middle q
@@ -228,4 +273,5 @@ module _ (c : Certified) (bounds-are : bounds_of c.program ≡ Ok c.bounds) wher
       many = length_flying t.frames.items
 
       count : stepped.flights.posted ≡ flights.posted + length t.frames.items
-      count = table_then.posted ∙ length-append middle (all_flying (map frame_of t.frames.items)) ∙ ap (λ n. length middle + n) many ∙ sym (first (length t.frames.items))
+      count = table_then.posted ∙ length-append middle (all_flying (map frame_of t.frames.items)) ∙ ap (λ n. length middle + n) many
+          ∙ sym (first (length t.frames.items))

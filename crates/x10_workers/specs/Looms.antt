@@ -2,12 +2,12 @@
 use Rattle.std.specs.Prelude.{Option, Some, None, map}
 use Rattle.std.specs.Borrow.{Bor}
 use Rattle.x10_hall.specs.declared.turn.Posted.{Posted}
-use Rattle.x10_hall.specs.Halls.{Frame, frame_of}
+use Rattle.x10_hall.specs.Halls.{PostedFrame, frame_of}
 use Rattle.x10_workers.specs.declared.weaving.Loom.{Loom}
 use Rattle.x10_workers.specs.Weaves.{Woven}
 
 -- a frame that was posted, unless it was taken
-abbrev pub flying_as : Option (Bor Posted) → Option Frame
+abbrev pub flying_as : Option (Bor Posted) → Option PostedFrame
 flying_as None = None
 flying_as (Some f) = Some (frame_of f.now)
 

@@ -24,10 +24,14 @@ pub record AreLinesBy (count : ℕ) (log : List Turn) (outputs : List (List Line
 -- the lines of one turn more
 pub record AddsTurn (t : Turn) (old new : List (List Line)) : Type 0 where
   pub count : length new ≡ length old
-  pub each : (place : ℕ) (lines : List Line) → slice_get old place ≡ Some lines → slice_get new place ≡ Some (lines ++ lines_in_turn place t)
+  pub each : (place : ℕ) (lines : List Line) → slice_get old place ≡ Some lines
+      → slice_get new place ≡ Some (lines ++ lines_in_turn place t)
 
 -- what a fault tells of a run: its report has the lines of its log; at the limit of turns the log has so many
 abbrev pub IsTold : ℕ → ℕ → WorkFault → Type 0
-IsTold places turns (fault.Stop place why report) = AreLinesBy places report.log.items (lines_in report.outputs.items)
-IsTold places turns (fault.Turns report) = AreLinesBy places report.log.items (lines_in report.outputs.items) × (length report.log.items ≡ turns)
+IsTold places turns (fault.Stop place why report) =
+    AreLinesBy places report.log.items (lines_in report.outputs.items)
+IsTold places turns (fault.Turns report) =
+    AreLinesBy places report.log.items (lines_in report.outputs.items)
+    × (length report.log.items ≡ turns)
 IsTold places turns why = Unit {0}

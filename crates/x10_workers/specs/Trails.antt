@@ -10,28 +10,28 @@ use Rattle.x10_place.specs.Receiving.{IsTaken}
 use Rattle.x10_place.specs.StandsFor.{PlaceState, store_of, line_as, Keeps}
 use Rattle.x10_place.specs.Stays.{IsDoneHere}
 use Rattle.x10_place.specs.Stretches.{IsStride}
-use Rattle.x10_hall.specs.Halls.{Frame, Numbered, frame_of, told}
-use Rattle.x10_world.specs.Opening.{IsOpened, IsForbidden}
-use Rattle.x10_world.specs.StandsForWorld.{IsMade}
+use Rattle.x10_hall.specs.Halls.{PostedFrame, Numbered, frame_of, told}
+use Rattle.x10_world.specs.Opening.{IsOpenedPlace, IsForbidden}
+use Rattle.x10_world.specs.StandsForWorld.{IsMadeStep}
 use Rattle.x10_workers.specs.declared.trail.Kept.{Kept}
 use Rattle.x10_workers.specs.declared.trail.OwnTurn.{OwnTurn}
 
 -- the frame that a step puts out, if there is one
-abbrev pub frame_in : Option Outgoing → List Frame
-frame_in None = []
-frame_in (Some o) = record { to = o.to; bytes = o.bytes.items } ∷ []
+abbrev pub frame_sent : Option Outgoing → List PostedFrame
+frame_sent None = []
+frame_sent (Some o) = record { to = o.to; bytes = o.bytes.items } ∷ []
 
 -- both, the message first
-abbrev pub frames_in : Sent → List Frame
-frames_in out = frame_in out.message ++ frame_in out.report
+abbrev pub frames_sent : Sent → List PostedFrame
+frames_sent out = frame_sent out.message ++ frame_sent out.report
 
 -- what a step puts out
-abbrev pub frames_out : Stepped → List Frame
+abbrev pub frames_out : Stepped → List PostedFrame
 frames_out stepped.Idle = []
-frames_out (stepped.Moved out) = frames_in out
+frames_out (stepped.Moved out) = frames_sent out
 
 -- a place takes bytes in, and goes on
-pub record TakesIn (p : PlaceState) (bytes : List ℕ) (q : PlaceState) : Type 0 where
+pub record TakesFrame (p : PlaceState) (bytes : List ℕ) (q : PlaceState) : Type 0 where
   pub taken : IsTaken p bytes q
   pub goes : q.stopped ≢ true
   pub kept : Keeps p q
@@ -39,17 +39,20 @@ pub record TakesIn (p : PlaceState) (bytes : List ℕ) (q : PlaceState) : Type 0
 -- frames, one after another
 abbrev pub TakesEach : PlaceState → List Numbered → PlaceState → Type 0
 TakesEach p [] q = q ≡ p
-TakesEach p (f ∷ fs) q = (r : PlaceState) × TakesIn p f.bytes r × TakesEach r fs q
+TakesEach p (f ∷ fs) q = (r : PlaceState) × TakesFrame p f.bytes r × TakesEach r fs q
 
 -- a place makes a step of the activity with a key, or finds nothing to do; or the step is one of several at a stretch
 pub data StepsBy (p : PlaceState) (key : ℕ) : Stepped → PlaceState → Type 0 where
-  by_step : (answer : Stepped) (q : PlaceState) → IsMade p q key answer → Keeps p q → StepsBy p key answer q
-  by_stride : (out : Sent) (q : PlaceState) → IsStride key p out q → StepsBy p key (stepped.Moved out) q
+  by_step : (answer : Stepped) (q : PlaceState) → IsMadeStep p q key answer → Keeps p q
+      → StepsBy p key answer q
+  by_stride : (out : Sent) (q : PlaceState) → IsStride key p out q
+      → StepsBy p key (stepped.Moved out) q
 
 -- a step of each key, one after another, which put out these frames
-abbrev pub StepsEach : PlaceState → List ℕ → List Frame → PlaceState → Type 0
+abbrev pub StepsEach : PlaceState → List ℕ → List PostedFrame → PlaceState → Type 0
 StepsEach p [] frames q = (frames ≡ []) × (q ≡ p)
-StepsEach p (key ∷ keys) frames q = (answer : Stepped) × (rest : List Frame) × (r : PlaceState) × (frames ≡ frames_out answer ++ rest) × StepsBy p key answer r
+StepsEach p (key ∷ keys) frames q = (answer : Stepped) × (rest : List PostedFrame)
+    × (r : PlaceState) × (frames ≡ frames_out answer ++ rest) × StepsBy p key answer r
     × StepsEach r keys rest q
 
 -- A turn of a place: it takes frames in, then makes steps; these put out and print what the turn says.
@@ -60,9 +63,9 @@ pub record TurnLeads (p : PlaceState) (t : OwnTurn) (q : PlaceState) : Type 0 wh
   pub printed : map line_as (drop (length p.lines) q.lines) ≡ map line_as t.lines.items
 
 -- turns, one after another
-abbrev pub Leads : PlaceState → List OwnTurn → PlaceState → Type 0
-Leads p [] q = q ≡ p
-Leads p (t ∷ ts) q = (r : PlaceState) × TurnLeads p t r × Leads r ts q
+abbrev pub TrailLeads : PlaceState → List OwnTurn → PlaceState → Type 0
+TrailLeads p [] q = q ≡ p
+TrailLeads p (t ∷ ts) q = (r : PlaceState) × TurnLeads p t r × TrailLeads r ts q
 
 -- what callers see of a trail: the module, how many places the run has, the number of the place, its turns, all lines that it
 -- printed, and whether the root finish may end, as this place knows it
@@ -76,12 +79,19 @@ pub record TrailState : Type 0 where
 
 -- the trail of a place, one of so many of a module, of which something was kept
 abbrev pub trail_of : Certified → ℕ → Kept → TrailState
-trail_of c places kept = record { certified = c; places = places; id = kept.id; turns = kept.turns.items; lines = kept.lines.items; closed = kept.closed }
+trail_of c places kept = record {
+  certified = c;
+  places = places;
+  id = kept.id;
+  turns = kept.turns.items;
+  lines = kept.lines.items;
+  closed = kept.closed;
+}
 
 -- From a place, turns lead to one that has printed a trail's lines, and where the root finish may end if the trail says so.
 pub record EndsAs (p : PlaceState) (turns : List OwnTurn) (t : TrailState) : Type 0 where
   pub last : PlaceState
-  pub leads : Leads p turns last
+  pub leads : TrailLeads p turns last
   pub lines : map line_as t.lines ≡ map line_as last.lines
   pub closed : IsTrue t.closed ↔ ((last.id ≡ 0) × IsDoneHere (store_of last) 0)
 
@@ -89,5 +99,5 @@ pub record EndsAs (p : PlaceState) (turns : List OwnTurn) (t : TrailState) : Typ
 pub record IsTrail (t : TrailState) : Type 0 where
   pub permitted : IsForbidden t.certified t.places → ⊥
   pub first : PlaceState
-  pub opened : IsOpened t.certified t.places t.id first
+  pub opened : IsOpenedPlace t.certified t.places t.id first
   pub ends : EndsAs first t.turns t

@@ -4,7 +4,7 @@ use Rattle.std.specs.Prelude.{length, map, replicate, take, slice_get, slice_set
 use Rattle.x10_kinds.specs.declared.stop.Stop.TheVariants as stop
 use Rattle.x10_place.specs.StandsFor.{line_as}
 use Rattle.x10_hall.specs.declared.turn.Turn.{Turn}
-use Rattle.x10_hall.specs.Halls.{Frame, Numbered, frame_of, told}
+use Rattle.x10_hall.specs.Halls.{PostedFrame, Numbered, frame_of, told}
 use Rattle.x10_workers.specs.declared.fault.AuditFault.{AuditFault}
 use Rattle.x10_workers.specs.declared.fault.AuditFault.TheVariants as fault
 use Rattle.x10_workers.specs.declared.trail.OwnTurn.{OwnTurn}
@@ -13,25 +13,28 @@ use Rattle.x10_workers.specs.declared.trail.Trail.{Trail}
 -- how many turns of each trail are in the log so far, and the frames that were posted, each under its number until it is taken
 pub record Woven : Type 0 where
   pub cursors : List ℕ
-  pub flying : List (Option Frame)
+  pub flying : List (Option PostedFrame)
 
 -- nothing was logged
 abbrev pub nothing_woven : ℕ → Woven
 nothing_woven places = record { cursors = replicate places 0; flying = [] }
 
 -- frames that fly
-abbrev pub all_flying : List Frame → List (Option Frame)
+abbrev pub all_flying : List PostedFrame → List (Option PostedFrame)
 all_flying frames = map (λ f. Some f) frames
 
 -- the frame with a number flies to a place, and is taken
-pub record TakesOff (flying : List (Option Frame)) (place : ℕ) (f : Numbered) (after : List (Option Frame)) : Type 0 where
+pub record TakesOff (flying : List (Option PostedFrame)) (place : ℕ) (f : Numbered)
+    (after : List (Option PostedFrame)) : Type 0 where
   pub flies : slice_get flying f.number ≡ Some (Some (record { to = place; bytes = f.bytes }))
   pub after_is : after ≡ slice_set flying f.number None
 
 -- frames, one after another
-abbrev pub TakesOffEach : List (Option Frame) → ℕ → List Numbered → List (Option Frame) → Type 0
+abbrev pub TakesOffEach : List (Option PostedFrame) → ℕ → List Numbered → List (Option PostedFrame)
+    → Type 0
 TakesOffEach flying place [] after = after ≡ flying
-TakesOffEach flying place (f ∷ fs) after = (middle : List (Option Frame)) × TakesOff flying place f middle × TakesOffEach middle place fs after
+TakesOffEach flying place (f ∷ fs) after = (middle : List (Option PostedFrame))
+    × TakesOff flying place f middle × TakesOffEach middle place fs after
 
 -- a turn of a log tells what a place kept of its turn
 pub record IsTurnOf (own : OwnTurn) (t : Turn) : Type 0 where
@@ -41,7 +44,8 @@ pub record IsTurnOf (own : OwnTurn) (t : Turn) : Type 0 where
   pub lines : map line_as own.lines.items ≡ map line_as t.lines.items
 
 -- what a place kept of its next turn: the one at its cursor in its trail
-pub record IsNext (trails : List Trail) (cursors : List ℕ) (place cursor : ℕ) (own : OwnTurn) : Type 0 where
+pub record IsNextTurn (trails : List Trail) (cursors : List ℕ) (place cursor : ℕ)
+    (own : OwnTurn) : Type 0 where
   pub trail : Trail
   pub trail_is : slice_get trails place ≡ Some trail
   pub cursor_is : slice_get cursors place ≡ Some cursor
@@ -52,20 +56,25 @@ pub record IsNext (trails : List Trail) (cursors : List ℕ) (place cursor : ℕ
 pub record Weaves (trails : List Trail) (x : Woven) (t : Turn) (y : Woven) : Type 0 where
   pub cursor : ℕ
   pub own : OwnTurn
-  pub middle : List (Option Frame)
-  pub next : IsNext trails x.cursors t.place cursor own
+  pub middle : List (Option PostedFrame)
+  pub next : IsNextTurn trails x.cursors t.place cursor own
   pub same : IsTurnOf own t
   pub takes : TakesOffEach x.flying t.place (map told own.taken.items) middle
-  pub new_is : y ≡ record { cursors = slice_set x.cursors t.place (cursor + 1); flying = middle ++ all_flying (map frame_of t.frames.items) }
+  pub new_is : y ≡ record {
+    cursors = slice_set x.cursors t.place (cursor + 1);
+    flying = middle ++ all_flying (map frame_of t.frames.items);
+  }
 
 -- turns of a log, one after another
 pub data WeavesAll (trails : List Trail) (x : Woven) : List Turn → Woven → Type 0 where
   weaves_none : WeavesAll trails x [] x
-  weaves_more : (turns : List Turn) (t : Turn) (y z : Woven) → WeavesAll trails x turns y → Weaves trails y t z → WeavesAll trails x (turns ++ t ∷ []) z
+  weaves_more : (turns : List Turn) (t : Turn) (y z : Woven) → WeavesAll trails x turns y
+      → Weaves trails y t z → WeavesAll trails x (turns ++ t ∷ []) z
 
 -- all turns of each trail are in the log
 abbrev pub AreAllWoven : List Trail → Woven → Type 0
-AreAllWoven trails x = (id : ℕ) (t : Trail) → slice_get trails id ≡ Some t → slice_get x.cursors id ≡ Some (length t.turns)
+AreAllWoven trails x = (id : ℕ) (t : Trail) → slice_get trails id ≡ Some t
+    → slice_get x.cursors id ≡ Some (length t.turns)
 
 -- all turns of a log are found in the trails, all of these are in the log, and the root finish may end as place 0 knows it
 pub record IsWovenWhole (trails : List Trail) (log : List Turn) : Type 0 where
@@ -77,11 +86,13 @@ pub record IsWovenWhole (trails : List Trail) (log : List Turn) : Type 0 where
   pub closed : IsTrue trail.closed
 
 -- The first turns of a log are found in the trails, up to a number. The next one isn't; or there is none, and a trail has more.
-pub record IsDifference (trails : List Trail) (x : Woven) (log : List Turn) (number : ℕ) : Type 0 where
+pub record IsDifference (trails : List Trail) (x : Woven) (log : List Turn)
+    (number : ℕ) : Type 0 where
   pub within : number ≤ length log
   pub now : Woven
   pub before : WeavesAll trails x (take number log) now
-  pub differs : MatchOption (slice_get log number) (AreAllWoven trails now → ⊥) (λ t. (after : Woven) → Weaves trails now t after → ⊥)
+  pub differs : MatchOption (slice_get log number) (AreAllWoven trails now → ⊥)
+      (λ t. (after : Woven) → Weaves trails now t after → ⊥)
 
 -- all turns of a log are found in the trails, and all of these in it, but the root finish may not end
 pub record IsStillOpen (trails : List Trail) (x : Woven) (log : List Turn) : Type 0 where
@@ -96,5 +107,5 @@ IsNotWoven trails x log (fault.Differs number) = IsDifference trails x log numbe
 IsNotWoven trails x log fault.Open = IsStillOpen trails x log
 IsNotWoven trails x log (fault.Stop why) = why ≡ stop.Memory
 
-abbrev pub Explains : List Trail → List Turn → AuditFault → Type 0
-Explains trails log why = IsNotWoven trails (nothing_woven (length trails)) log why
+abbrev pub ExplainsWeave : List Trail → List Turn → AuditFault → Type 0
+ExplainsWeave trails log why = IsNotWoven trails (nothing_woven (length trails)) log why

@@ -3,13 +3,13 @@ use Rattle.std.specs.Prelude.{◌≡◌, ◌≢◌, ◌↔◌, ℕ, List, ◌++�
 use Rattle.x10_verify.specs.Certified.{Certified}
 use Rattle.x10_place.specs.StandsFor.{PlaceState, store_of, line_as}
 use Rattle.x10_place.specs.Stays.{IsDoneHere}
-use Rattle.x10_hall.specs.Halls.{Frame, frame_of}
+use Rattle.x10_hall.specs.Halls.{PostedFrame, frame_of}
 use Rattle.x10_workers.specs.declared.halt.Halt.{Halt}
 use Rattle.x10_workers.specs.declared.trail.Kept.{Kept}
 use Rattle.x10_workers.specs.declared.trail.OwnTurn.{OwnTurn}
 use Rattle.x10_workers.specs.declared.trail.Trail.{Trail}
 use Rattle.x10_workers.specs.declared.worker.Steps.{Steps}
-use Rattle.x10_workers.specs.Trails.{StepsEach, Leads, IsTrail, trail_of}
+use Rattle.x10_workers.specs.Trails.{StepsEach, TrailLeads, IsTrail, trail_of}
 
 -- a trail of a place of a run of a module at so many places
 pub record IsTrailOf (c : Certified) (places id : ℕ) (t : Trail) : Type 0 where
@@ -34,10 +34,11 @@ pub record IsKeptOf (c : Certified) (places id : ℕ) (kept : Kept) : Type 0 whe
 -- how the workers of so many places ended, by place: each with what it kept, or not
 pub record AreEnds (c : Certified) (places : ℕ) (ends : List (Result Kept Halt)) : Type 0 where
   pub count : length ends ≡ places
-  pub each : (id : ℕ) (end : Result Kept Halt) → slice_get ends id ≡ Some end → IfOk end (IsKeptOf c places id)
+  pub each : (id : ℕ) (end : Result Kept Halt) → slice_get ends id ≡ Some end
+      → IfOk end (IsKeptOf c places id)
 
 -- what was kept of each of so many places
-pub record AreKept (c : Certified) (places : ℕ) (kept : List Kept) : Type 0 where
+pub record AreAllKept (c : Certified) (places : ℕ) (kept : List Kept) : Type 0 where
   pub count : length kept ≡ places
   pub each : (id : ℕ) (k : Kept) → slice_get kept id ≡ Some k → IsKeptOf c places id k
 
@@ -46,7 +47,7 @@ pub record AreKept (c : Certified) (places : ℕ) (kept : List Kept) : Type 0 wh
 -- More steps of a turn, told behind those before. Where nothing has moved so far, the place is as it was.
 pub record AddsSteps (p : PlaceState) (old : Steps) (q : PlaceState) (new : Steps) : Type 0 where
   pub more : List ℕ
-  pub out : List Frame
+  pub out : List PostedFrame
   pub steps : StepsEach p more out q
   pub goes : q.stopped ≢ true
   pub keys : new.keys.items ≡ old.keys.items ++ more
@@ -54,14 +55,15 @@ pub record AddsSteps (p : PlaceState) (old : Steps) (q : PlaceState) (new : Step
   pub still : new.moved ≡ false → (old.moved ≡ false) × (q ≡ p)
 
 -- the turns that were kept since lead from one place to another, which goes on
-pub record GoesOn (p : PlaceState) (old : List OwnTurn) (q : PlaceState) (new : List OwnTurn) : Type 0 where
+pub record WorksOn (p : PlaceState) (old : List OwnTurn) (q : PlaceState)
+    (new : List OwnTurn) : Type 0 where
   pub more : List OwnTurn
   pub kept : new ≡ old ++ more
-  pub leads : Leads p more q
+  pub leads : TrailLeads p more q
   pub goes : q.stopped ≢ true
 
 -- what is kept of them and of the place with a number, at the end
-pub record IsWhole (id : ℕ) (p : PlaceState) (made : List OwnTurn) (kept : Kept) : Type 0 where
+pub record IsKeptWhole (id : ℕ) (p : PlaceState) (made : List OwnTurn) (kept : Kept) : Type 0 where
   pub id_is : kept.id ≡ id
   pub turns : kept.turns.items ≡ made
   pub lines : map line_as kept.lines.items ≡ map line_as p.lines

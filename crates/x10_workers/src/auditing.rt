@@ -59,7 +59,8 @@ pub fn audit(
     log: &[Turn],
 ) -> Result<Vec<Vec<Line>>, AuditFault>
     requires permitted { IsForbidden verified.now places → ⊥ }
-    ensures ok { IfOk result (λ outputs. IsPlayed verified.now places log.now (lines_in outputs.items)) }
+    ensures ok { IfOk result (λ outputs. IsPlayed verified.now places log.now
+        (lines_in outputs.items)) }
     ensures err { IfErr result (IsNotPlayed verified.now places log.now) }
 {
     let Ok(mut world) = World::open(alloc, verified, places) else {

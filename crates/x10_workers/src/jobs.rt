@@ -5,7 +5,7 @@ ghost use Rattle.x10_workers.specs.declared.trail.Kept as kept;
 
 use crate::halt::Halt;
 use crate::trail::Kept;
-use std::alloc::Global;
+use std::alloc::{AllocError, Global};
 use std::sync::Wait;
 use std::thread;
 use std::thread::{Promise, Threads};
@@ -19,6 +19,16 @@ pub(crate) enum Failure {
     Memory,
     /// A worker could not be started.
     Thread,
+}
+
+impl From<AllocError> for Failure {
+    ghost from_gives = { λ _ failure. failure ≡ Memory };
+
+    ghost use Rattle.x10_workers.specs.declared.jobs.Failure.TheVariants.{Memory};
+
+    fn from(_error: AllocError) -> Failure {
+        Failure::Memory
+    }
 }
 
 /// What the workers of a run do, each given the number of its place. It is a trait, since a closure that holds a reference
@@ -69,18 +79,18 @@ pub(crate) fn make_all<R: Threads + Wait + Sync, J: Job + Sync>(
 ) -> Result<Vec<Result<Kept, Halt>>, Failure>
     requires { (id : ℕ) → id < count → J.asks job.now id }
     ensures count { IfOk result (λ ends. length ends.items ≡ count) }
-    ensures each { IfOk result (λ ends. (id : ℕ) (end : Result kept.Kept halt.Halt) → slice_get ends.items id ≡ Some end → J.gives job.now id end) }
+    ensures each { IfOk result (λ ends. (id : ℕ) (end : Result kept.Kept halt.Halt)
+        → slice_get ends.items id ≡ Some end → J.gives job.now id end) }
 {
-    let Ok(mut handles) = Vec::with_capacity(alloc, usize::from(count)) else {
-        return Err(Failure::Memory);
-    };
+    let mut handles = Vec::with_capacity(alloc, usize::from(count))?;
     thread::scope(
         thread::scope_env(),
         rt,
         move |scope| -> Result<Vec<Result<Kept, Halt>>, Failure>
             requires { ((id : ℕ) → id < count → J.asks job.now id) × (vec_len handles ≡ 0) }
             ensures count { IfOk result (λ ends. length ends.items ≡ count) }
-            ensures each { IfOk result (λ ends. (id : ℕ) (end : Result kept.Kept halt.Halt) → slice_get ends.items id ≡ Some end → J.gives job.entry.now id end) }
+            ensures each { IfOk result (λ ends. (id : ℕ) (end : Result kept.Kept halt.Halt)
+                → slice_get ends.items id ≡ Some end → J.gives job.entry.now id end) }
         {
             for id in 0..count {
                 let started = scope.spawn_with(
@@ -97,10 +107,10 @@ pub(crate) fn make_all<R: Threads + Wait + Sync, J: Job + Sync>(
                     return Err(stopped(job, Failure::Memory));
                 };
             }
-            match thread::join_promised(rt, handles) {
-                Ok(ends) => Ok(ends),
-                Err(_) => Err(stopped(job, Failure::Memory)),
-            }
+            let Ok(ends) = thread::join_promised(rt, handles) else {
+                return Err(stopped(job, Failure::Memory));
+            };
+            Ok(ends)
         },
     )
 }

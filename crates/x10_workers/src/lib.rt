@@ -8,7 +8,7 @@ mod halt;
 mod jobs;
 mod lines;
 mod report;
-mod rounds;
+mod step_order;
 mod threads;
 mod trail;
 mod turns;

@@ -7,6 +7,7 @@ ghost use Rattle.x10_place.specs.StandsFor.{line_as};
 use std::alloc::{AllocError, Global};
 use x10_hall::Turn;
 use x10_place::Line;
+use x10_world::push_lines;
 
 /// Whether two lines print the same.
 fn same_line(one: &Line, other: &Line) -> bool
@@ -44,36 +45,6 @@ pub(crate) fn are_behind(all: &[Line], before: usize, lines: &[Line]) -> bool
     same_lines(&all[before..], lines)
 }
 
-/// A copy of a line.
-fn copied(alloc: Global, line: &Line) -> Result<Line, AllocError>
-    ensures { IfOk result (λ copy. line_as copy ≡ line_as line.now) }
-{
-    match line {
-        Line::Int(number) => Ok(Line::Int(*number)),
-        Line::Text(text) => Ok(Line::Text(String::from_str(alloc, text)?)),
-    }
-}
-
-/// Pushes copies of lines.
-fn push_all(alloc: Global, lines: &[Line], to: &mut Vec<Line>) -> Result<(), AllocError>
-    ensures { IfOk result (λ _. map line_as to.new.items ≡ map line_as to.old.items ++ map line_as lines.now) }
-{
-    for at in 0..lines.len() {
-        let copy = copied(alloc, &lines[at])?;
-        to.push(copy)?;
-    }
-    Ok(())
-}
-
-/// A copy of lines.
-pub(crate) fn copied_lines(alloc: Global, lines: &[Line]) -> Result<Vec<Line>, AllocError>
-    ensures { IfOk result (λ copy. map line_as copy.items ≡ map line_as lines.now) }
-{
-    let mut copy = Vec::with_capacity(alloc, lines.len())?;
-    push_all(alloc, lines, &mut copy)?;
-    Ok(copy)
-}
-
 /// Pushes copies of the lines after the first `before`.
 pub(crate) fn push_copies(
     alloc: Global,
@@ -81,12 +52,13 @@ pub(crate) fn push_copies(
     before: usize,
     to: &mut Vec<Line>,
 ) -> Result<(), AllocError>
-    ensures { IfOk result (λ _. map line_as to.new.items ≡ map line_as to.old.items ++ map line_as (drop before lines.now)) }
+    ensures { IfOk result (λ _. map line_as to.new.items
+        ≡ map line_as to.old.items ++ map line_as (drop before lines.now)) }
 {
     if before > lines.len() {
         return Ok(());
     }
-    push_all(alloc, &lines[before..], to)
+    push_lines(alloc, &lines[before..], to)
 }
 
 /// `count` lists with nothing in them.
@@ -102,11 +74,12 @@ fn empty_lists(alloc: Global, count: u16) -> Result<Vec<Vec<Line>>, AllocError>
 
 /// Pushes copies of a turn's lines to the list of its place, if there is such a place.
 fn push_turn(alloc: Global, turn: &Turn, lists: &mut Vec<Vec<Line>>) -> Result<(), AllocError>
-    ensures { IfOk result (λ _. AddsTurn turn.now (lines_in lists.old.items) (lines_in lists.new.items)) }
+    ensures { IfOk result (λ _. AddsTurn turn.now (lines_in lists.old.items)
+        (lines_in lists.new.items)) }
 {
     let place = usize::from(turn.place);
     if place < lists.len() {
-        return push_all(alloc, &turn.lines, &mut lists[place]);
+        return push_lines(alloc, &turn.lines, &mut lists[place]);
     }
     Ok(())
 }

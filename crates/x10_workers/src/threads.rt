@@ -3,7 +3,7 @@ ghost use Rattle.std.specs.Prelude.{◌≡◌, ◌≢◌, ◌<◌, ◌≤◌, �
 ghost use Rattle.x10_workers.specs.Reports.{IsTold};
 ghost use Rattle.x10_workers.specs.declared.halt.WorkFault.TheVariants as fault;
 ghost use Rattle.x10_workers.specs.Plays.{IsPlayed};
-ghost use Rattle.x10_workers.specs.Workings.{AreTrails, AreEnds, AreKept, AreTrailsOf};
+ghost use Rattle.x10_workers.specs.Workings.{AreTrails, AreEnds, AreAllKept, AreTrailsOf};
 ghost use Rattle.x10_verify.specs.Certified.{Certified};
 ghost use Rattle.x10_world.specs.Endings.{lines_in};
 ghost use Rattle.x10_world.specs.Opening.{IsForbidden};
@@ -21,6 +21,7 @@ use std::alloc::Global;
 use std::sync::Wait;
 use std::thread::Threads;
 use x10_hall::{Desk, End, Mail, Port, Turn};
+use x10_model::limits::MOST_PLACES;
 use x10_verify::Verified;
 
 /// The workers of a run, with the mail for their port.
@@ -75,14 +76,13 @@ fn first_failure(ends: &[Result<Kept, Halt>]) -> Option<Failure> {
 
 /// What all workers kept, or why one of them has nothing.
 fn gathered(alloc: Global, ends: Vec<Result<Kept, Halt>>) -> Result<Vec<Kept>, Failure>
-    ensures { (c : Certified) (places : ℕ) → AreEnds c places ends.items → IfOk result (λ kept. AreKept c places kept.items) }
+    ensures { (c : Certified) (places : ℕ) → AreEnds c places ends.items
+        → IfOk result (λ kept. AreAllKept c places kept.items) }
 {
     if let Some(failure) = first_failure(&ends) {
         return Err(failure);
     }
-    let Ok(mut all) = Vec::with_capacity(alloc, ends.len()) else {
-        return Err(Failure::Memory);
-    };
+    let mut all = Vec::with_capacity(alloc, ends.len())?;
     for end in ends {
         let Ok(kept) = end else {
             return Err(Failure::Thread);
@@ -101,12 +101,10 @@ fn trails_from<'a>(
     places: u16,
     all: Vec<Kept>,
 ) -> Result<Vec<Trail<'a>>, Failure>
-    requires { AreKept verified.now places all.items }
+    requires { AreAllKept verified.now places all.items }
     ensures { IfOk result (λ trails. AreTrailsOf verified.now places trails.items) }
 {
-    let Ok(mut trails) = Vec::with_capacity(alloc, all.len()) else {
-        return Err(Failure::Memory);
-    };
+    let mut trails = Vec::with_capacity(alloc, all.len())?;
     for kept in all {
         if trails.push(Trail::new(verified, places, kept)).is_err() {
             return Err(Failure::Memory);
@@ -117,7 +115,8 @@ fn trails_from<'a>(
 
 /// The report of a run that has ended, if its log is found in the trails of its places.
 fn finished(alloc: Global, trails: &[Trail], log: Vec<Turn>) -> Result<RunReport, WorkFault>
-    ensures ok { (c : Certified) → AreTrails c trails.now → IfOk result (λ r. IsPlayed c (length trails.now) r.log.items (lines_in r.outputs.items)) }
+    ensures ok { (c : Certified) → AreTrails c trails.now
+        → IfOk result (λ r. IsPlayed c (length trails.now) r.log.items (lines_in r.outputs.items)) }
     ensures places { IsErrOf result fault.Places → ⊥ }
     ensures told { (places turns : ℕ) → IfErr result (IsTold places turns) }
 {
@@ -191,12 +190,13 @@ pub fn run_threads<R: Threads + Wait + Sync, G: Gate + Sync>(
     turns: u64,
     gate: &G,
 ) -> Result<RunReport, WorkFault>
-    ensures ok { IfOk result (λ r. IsPlayed verified.now places r.log.items (lines_in r.outputs.items)) }
+    ensures ok { IfOk result (λ r. IsPlayed verified.now places r.log.items
+        (lines_in r.outputs.items)) }
     ensures places { IsErrOf result fault.Places ↔ IsForbidden verified.now places }
     ensures told { IfErr result (IsTold places turns) }
 {
     verified.certificate();
-    if places < verified.image().least() || places > 64 {
+    if places < verified.image().least() || places > MOST_PLACES {
         return Err(WorkFault::Places);
     }
     let mail = Mail::new(alloc, places, turns)?;

@@ -2,10 +2,10 @@
 ghost use Rattle.std.specs.Prelude.{◌≡◌, ◌≢◌, ◌↔◌, true, IsTrue, IsFalse, IfOk, IfErr, MatchOption, Some, length};
 ghost use Rattle.x10_model.specs.declared.event.Event.TheVariants.{Step, Deliver};
 ghost use Rattle.x10_flights.specs.Flights.{flight_of};
-ghost use Rattle.x10_world.specs.Queries.{IsNoPlace, HasPlace};
+ghost use Rattle.x10_world.specs.Queries.{HasNoPlace, HasPlace};
 ghost use Rattle.x10_world.specs.StandsForWorld.{WorldState};
-ghost use Rattle.x10_workers.specs.Audits.{IsNotFor, HasPrinted, IsOther, IsHaltedAt, HaltsTaking, HaltsStepping, HaltsTurn};
-ghost use Rattle.x10_workers.specs.Plays.{Takes, TakesOne, StepsAll, StepsOne, PutsOut, PlaysTurn, flight_as};
+ghost use Rattle.x10_workers.specs.Audits.{IsNotFor, HasPrinted, IsOther, IsRefusedAt, HaltsTaking, HaltsStepping, HaltsTurn};
+ghost use Rattle.x10_workers.specs.Plays.{TakesFrames, TakesOne, StepsAll, StepsKey, PutsOutFrames, PlaysTurn, flight_as};
 
 use crate::lines::are_behind;
 use x10_hall::{Keys, Posted, Turn};
@@ -20,7 +20,7 @@ fn take_one(world: &mut World, place: u16, number: u64) -> Result<bool, Stop>
     ensures takes { IfOk result (λ same. IsTrue same → TakesOne world.old place number world.new) }
     ensures refuses { IfOk result (λ same. IsFalse same → IsNotFor world.old number place) }
     ensures goes { IfOk result (λ _. world.new.stopped ≢ true) }
-    ensures halted { IfErr result (IsHaltedAt world.old (Deliver number)) }
+    ensures halted { IfErr result (IsRefusedAt world.old (Deliver number)) }
 {
     match world.event(Event::Deliver(number))? {
         Done::Taken { to } => Ok(to == place),
@@ -31,8 +31,10 @@ fn take_one(world: &mut World, place: u16, number: u64) -> Result<bool, Stop>
 /// Takes frames in, one after another, and answers whether each was in flight to the place then.
 fn take_all(world: &mut World, place: u16, taken: &[u64]) -> Result<bool, Stop>
     requires { world.old.stopped ≢ true }
-    ensures takes { IfOk result (λ same. IsTrue same → Takes world.old place taken.now world.new) }
-    ensures refuses { IfOk result (λ same. IsFalse same → (y : WorldState) → Takes world.old place taken.now y → ⊥) }
+    ensures takes { IfOk result (λ same. IsTrue same
+        → TakesFrames world.old place taken.now world.new) }
+    ensures refuses { IfOk result (λ same. IsFalse same → (y : WorldState)
+        → TakesFrames world.old place taken.now y → ⊥) }
     ensures goes { IfOk result (λ _. world.new.stopped ≢ true) }
     ensures halted { IfErr result (HaltsTaking world.old place taken.now) }
 {
@@ -47,9 +49,9 @@ fn take_all(world: &mut World, place: u16, taken: &[u64]) -> Result<bool, Stop>
 /// One step of the activity with a key at a place, if it is there.
 fn step_one(world: &mut World, place: u16, key: usize) -> Result<(), Stop>
     requires { world.old.stopped ≢ true }
-    ensures steps { IfOk result (λ _. StepsOne world.old place key world.new) }
+    ensures steps { IfOk result (λ _. StepsKey world.old place key world.new) }
     ensures goes { IfOk result (λ _. world.new.stopped ≢ true) }
-    ensures halted { IfErr result (IsHaltedAt world.old (Step place key)) }
+    ensures halted { IfErr result (IsRefusedAt world.old (Step place key)) }
 {
     world.event(Event::Step(place, key))?;
     Ok(())
@@ -70,7 +72,8 @@ fn step_all(world: &mut World, place: u16, keys: &Keys) -> Result<(), Stop>
 
 /// Whether a frame is in flight under a number.
 fn is_flying(world: &World, number: u64, frame: &Posted) -> bool
-    ensures { IsTrue result ↔ (flight_of world.now.flights number ≡ Some (flight_as number frame.now)) }
+    ensures { IsTrue result ↔ (flight_of world.now.flights number
+        ≡ Some (flight_as number frame.now)) }
 {
     match world.frame(number) {
         Some((to, bytes)) => to == frame.to && bytes == frame.bytes.as_slice(),
@@ -80,7 +83,7 @@ fn is_flying(world: &World, number: u64, frame: &Posted) -> bool
 
 /// Whether these frames are in flight under the numbers from `first` on, and no others were numbered since.
 fn were_posted(world: &World, first: u64, frames: &[Posted]) -> bool
-    ensures { IsTrue result ↔ PutsOut first frames.now world.now }
+    ensures { IsTrue result ↔ PutsOutFrames first frames.now world.now }
 {
     let posted = world.posted();
     if posted < first || posted - first != frames.len() as u64 {
@@ -106,14 +109,16 @@ fn were_printed(world: &World, place: u16, before: usize, lines: &[Line]) -> boo
 
 /// Whether what was put out and printed since is what a turn says.
 fn is_told(world: &World, first: u64, before: usize, turn: &Turn) -> bool
-    ensures { IsTrue result ↔ (PutsOut first turn.now.frames.items world.now × HasPrinted world.now turn.now.place before turn.now.lines.items) }
+    ensures { IsTrue result ↔ (PutsOutFrames first turn.now.frames.items world.now
+        × HasPrinted world.now turn.now.place before turn.now.lines.items) }
 {
     were_posted(world, first, &turn.frames) && were_printed(world, turn.place, before, &turn.lines)
 }
 
 /// How many lines a place has printed; none where there is no such place.
 fn printed_at(world: &World, place: u16) -> Option<usize>
-    ensures { MatchOption result (IsNoPlace world.now.places place) (λ count. HasPlace world.now.places place (λ p. count ≡ length p.lines)) }
+    ensures { MatchOption result (HasNoPlace world.now.places place)
+        (λ count. HasPlace world.now.places place (λ p. count ≡ length p.lines)) }
 {
     Some(world.output(place)?.len())
 }

@@ -1,6 +1,6 @@
 //! Whether a log is a run, found out from the trails of its places.
 ghost use Rattle.std.specs.Prelude.{◌≡◌, ◌↔◌, ℕ, ◌+◌, ◌<◌, ◌^◌, ◌++◌, List, Option, Some, IsTrue, IsFalse, IfOk, IfErr, IfSome, IfNone, length, map, slice_get};
-ghost use Rattle.x10_hall.specs.Halls.{Frame, frame_of, told};
+ghost use Rattle.x10_hall.specs.Halls.{PostedFrame, frame_of, told};
 ghost use Rattle.x10_place.specs.StandsFor.{line_as};
 ghost use Rattle.x10_verify.specs.Certified.{Certified, IsCertified};
 ghost use Rattle.x10_world.specs.Endings.{lines_in};
@@ -8,17 +8,18 @@ ghost use Rattle.x10_workers.specs.Plays.{IsPlayed};
 ghost use Rattle.x10_workers.specs.Trails.{IsTrail};
 ghost use Rattle.x10_workers.specs.Workings.{AreTrails};
 ghost use Rattle.x10_workers.specs.declared.trail.Trail as trail;
-ghost use Rattle.x10_workers.specs.Weaves.{Woven, IsTurnOf, TakesOff, TakesOffEach, IsNext, Weaves, WeavesAll, AreAllWoven, IsWovenWhole, IsNotWoven, Explains, all_flying, nothing_woven};
+ghost use Rattle.x10_workers.specs.Weaves.{Woven, IsTurnOf, TakesOff, TakesOffEach, IsNextTurn, Weaves, WeavesAll, AreAllWoven, IsWovenWhole, IsNotWoven, ExplainsWeave, all_flying, nothing_woven};
 ghost use Rattle.x10_workers.specs.Looms.{woven};
 ghost use Rattle.x10_workers.specs.declared.trail.OwnTurn as turn;
 
 use crate::fault::AuditFault;
-use crate::lines::{copied_lines, same_lines};
+use crate::lines::same_lines;
 use crate::trail::{OwnTurn, Trail};
 use std::alloc::{AllocError, Global};
 use x10_hall::{Posted, Taken, Turn};
 use x10_kinds::Stop;
 use x10_place::Line;
+use x10_world::copied_lines;
 
 /// How far a log was found in the trails.
 #[derive(Drop)]
@@ -78,7 +79,8 @@ fn is_turn_of(own: &OwnTurn, turn: &Turn) -> bool
 
 /// Whether a frame was posted to a place, with these bytes.
 fn goes_to(posted: &Posted, place: u16, frame: &Taken) -> bool
-    ensures { IsTrue result ↔ (frame_of posted.now ≡ record { to = place; bytes = (told frame.now).bytes }) }
+    ensures { IsTrue result ↔ (frame_of posted.now
+        ≡ record { to = place; bytes = (told frame.now).bytes }) }
 {
     posted.to == place && posted.bytes.as_slice() == frame.bytes.as_slice()
 }
@@ -97,8 +99,10 @@ impl<'l> Loom<'l> {
     /// Takes a frame that a place took in, and answers whether it was in flight to this place.
     fn take_one(&mut self, place: u16, frame: &Taken) -> bool
         ensures cursors { self.new.cursors ≡ self.old.cursors }
-        ensures takes { IsTrue result → TakesOff (woven self.old).flying place (told frame.now) (woven self.new).flying }
-        ensures refuses { IsFalse result → (after : List (Option Frame)) → TakesOff (woven self.old).flying place (told frame.now) after → ⊥ }
+        ensures takes { IsTrue result → TakesOff (woven self.old).flying place (told frame.now)
+            (woven self.new).flying }
+        ensures refuses { IsFalse result → (after : List (Option PostedFrame))
+            → TakesOff (woven self.old).flying place (told frame.now) after → ⊥ }
     {
         let number = frame.number as usize;
         if number >= self.flying.len() {
@@ -116,8 +120,10 @@ impl<'l> Loom<'l> {
     /// Takes frames, one after another, and answers whether each was in flight to the place then.
     fn take_all(&mut self, place: u16, frames: &[Taken]) -> bool
         ensures cursors { self.new.cursors ≡ self.old.cursors }
-        ensures takes { IsTrue result → TakesOffEach (woven self.old).flying place (map told frames.now) (woven self.new).flying }
-        ensures refuses { IsFalse result → (after : List (Option Frame)) → TakesOffEach (woven self.old).flying place (map told frames.now) after → ⊥ }
+        ensures takes { IsTrue result → TakesOffEach (woven self.old).flying place
+            (map told frames.now) (woven self.new).flying }
+        ensures refuses { IsFalse result → (after : List (Option PostedFrame))
+            → TakesOffEach (woven self.old).flying place (map told frames.now) after → ⊥ }
     {
         for at in 0..frames.len() {
             if !self.take_one(place, &frames[at]) {
@@ -130,7 +136,8 @@ impl<'l> Loom<'l> {
     /// Puts frames under the next numbers.
     fn post_all(&mut self, frames: &'l [Posted]) -> Result<(), AllocError>
         ensures cursors { self.new.cursors ≡ self.old.cursors }
-        ensures flying { IfOk result (λ _. (woven self.new).flying ≡ (woven self.old).flying ++ all_flying (map frame_of frames.now)) }
+        ensures flying { IfOk result (λ _. (woven self.new).flying
+            ≡ (woven self.old).flying ++ all_flying (map frame_of frames.now)) }
     {
         for at in 0..frames.len() {
             self.flying.push(Some(&frames[at]))?;
@@ -140,9 +147,11 @@ impl<'l> Loom<'l> {
 
     /// The next turn of a place's trail, and its number.
     fn next_of<'t>(&self, trails: &'t [Trail], place: usize) -> Option<(usize, &'t OwnTurn)>
-        ensures next { IfSome result (λ next. IsNext trails.now (woven self.now).cursors place next.0 next.1.now) }
+        ensures next { IfSome result (λ next. IsNextTurn trails.now
+            (woven self.now).cursors place next.0 next.1.now) }
         ensures small { IfSome result (λ next. next.0 + 1 < 2 ^ 64) }
-        ensures none { IfNone result ((cursor : ℕ) (own : turn.OwnTurn) → IsNext trails.now (woven self.now).cursors place cursor own → ⊥) }
+        ensures none { IfNone result ((cursor : ℕ) (own : turn.OwnTurn)
+            → IsNextTurn trails.now (woven self.now).cursors place cursor own → ⊥) }
     {
         if place >= trails.len() {
             return None;
@@ -160,8 +169,10 @@ impl<'l> Loom<'l> {
 
     /// Whether a turn is the next one of its place's trail, and took what was in flight to this place. If so, it is counted.
     fn weave_turn(&mut self, trails: &[Trail], turn: &'l Turn) -> Result<bool, AllocError>
-        ensures weaves { IfOk result (λ same. IsTrue same → Weaves trails.now (woven self.old) turn.now (woven self.new)) }
-        ensures refuses { IfOk result (λ same. IsFalse same → (after : Woven) → Weaves trails.now (woven self.old) turn.now after → ⊥) }
+        ensures weaves { IfOk result (λ same. IsTrue same
+            → Weaves trails.now (woven self.old) turn.now (woven self.new)) }
+        ensures refuses { IfOk result (λ same. IsFalse same → (after : Woven)
+            → Weaves trails.now (woven self.old) turn.now after → ⊥) }
     {
         let place = usize::from(turn.place);
         let Some((cursor, own)) = self.next_of(trails, place) else {
@@ -180,7 +191,8 @@ impl<'l> Loom<'l> {
 
     /// Goes through a log, up to the first turn that differs.
     fn weave_all(&mut self, trails: &[Trail], log: &'l [Turn]) -> Result<(), AuditFault>
-        ensures ok { IfOk result (λ _. WeavesAll trails.now (woven self.old) log.now (woven self.new)) }
+        ensures ok { IfOk result (λ _. WeavesAll trails.now (woven self.old) log.now
+            (woven self.new)) }
         ensures err { IfErr result (IsNotWoven trails.now (woven self.old) log.now) }
     {
         for at in 0..log.len() {
@@ -195,7 +207,8 @@ impl<'l> Loom<'l> {
 
     /// Whether all turns of the trail with a number are in the log.
     fn is_at_end(&self, at: usize, trail: &Trail) -> bool
-        ensures { IsTrue result ↔ (slice_get self.now.cursors.items at ≡ Some (length trail.now.turns)) }
+        ensures { IsTrue result ↔ (slice_get self.now.cursors.items at
+            ≡ Some (length trail.now.turns)) }
     {
         at < self.cursors.len() && self.cursors[at] == trail.turns().len()
     }
@@ -215,7 +228,8 @@ impl<'l> Loom<'l> {
 
 /// A copy of the lines of each place.
 fn outputs_of(alloc: Global, trails: &[Trail]) -> Result<Vec<Vec<Line>>, AllocError>
-    ensures { IfOk result (λ outputs. lines_in outputs.items ≡ map (λ t. map line_as t.lines) trails.now) }
+    ensures { IfOk result (λ outputs. lines_in outputs.items
+        ≡ map (λ t. map line_as t.lines) trails.now) }
 {
     let mut outputs = Vec::with_capacity(alloc, trails.len())?;
     for at in 0..trails.len() {
@@ -227,7 +241,8 @@ fn outputs_of(alloc: Global, trails: &[Trail]) -> Result<Vec<Vec<Line>>, AllocEr
 
 /// All trails are trails, as each one is.
 fn assure(trails: &[Trail])
-    ensures { (id : ℕ) (t : trail.Trail) → slice_get trails.now id ≡ Some t → IsTrail t × IsCertified t.certified }
+    ensures { (id : ℕ) (t : trail.Trail) → slice_get trails.now id ≡ Some t
+        → IsTrail t × IsCertified t.certified }
 {
     for at in 0..trails.len() {
         trails[at].assure();
@@ -241,10 +256,12 @@ fn assure(trails: &[Trail])
 /// An Ok says that all turns of the log are in the trails and all turns of the trails in the log, whoever made them. No step is
 /// made. Linear in the turns, with the bytes of their frames and lines.
 pub fn weave(alloc: Global, log: &[Turn], trails: &[Trail]) -> Result<Vec<Vec<Line>>, AuditFault>
-    ensures ok { (c : Certified) → AreTrails c trails.now → IfOk result (λ outputs. IsPlayed c (length trails.now) log.now (lines_in outputs.items)) }
+    ensures ok { (c : Certified) → AreTrails c trails.now
+        → IfOk result (λ outputs. IsPlayed c (length trails.now) log.now (lines_in outputs.items)) }
     ensures whole { IfOk result (λ _. IsWovenWhole trails.now log.now) }
-    ensures lines { IfOk result (λ outputs. lines_in outputs.items ≡ map (λ t. map line_as t.lines) trails.now) }
-    ensures err { IfErr result (Explains trails.now log.now) }
+    ensures lines { IfOk result (λ outputs. lines_in outputs.items
+        ≡ map (λ t. map line_as t.lines) trails.now) }
+    ensures err { IfErr result (ExplainsWeave trails.now log.now) }
 {
     assure(trails);
     let Ok(mut loom) = Loom::new(alloc, trails.len()) else {

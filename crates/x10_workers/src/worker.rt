@@ -1,19 +1,20 @@
 //! A worker: one place, and the turns that it makes.
 ghost use Rattle.std.specs.Prelude.{◌≡◌, ◌≢◌, ◌≤◌, ◌++◌, ◌∷◌, [], true, false, IfOk, map, replicate};
 ghost use Rattle.x10_hall.specs.Halls.{frame_of, told};
-ghost use Rattle.x10_workers.specs.Trails.{frame_in, frames_in, TakesIn, TakesEach, StepsEach};
-ghost use Rattle.x10_workers.specs.Workings.{AddsSteps, GoesOn, IsWhole};
+ghost use Rattle.x10_workers.specs.Trails.{frame_sent, frames_sent, TakesFrame, TakesEach, StepsEach};
+ghost use Rattle.x10_workers.specs.Workings.{AddsSteps, WorksOn, IsKeptWhole};
 
 use crate::gate::Gate;
 use crate::halt::Halt;
-use crate::lines::{copied_lines, push_copies};
-use crate::rounds::Rounds;
+use crate::lines::push_copies;
+use crate::step_order::StepOrder;
 use crate::trail::{Kept, OwnTurn};
 use std::alloc::{AllocError, Global};
 use std::mem;
 use std::sync::Arc;
 use x10_hall::{End, Keys, Port, Posted, Take, Taken, Turn};
 use x10_place::{Line, Outgoing, Place, Sent, Stepped};
+use x10_world::copied_lines;
 
 /// The most frames that a turn takes.
 const MOST_FRAMES: u8 = 16;
@@ -49,7 +50,7 @@ pub(crate) struct Worker<'a> {
     alloc: Global,
     id: u16,
     place: Place<'a>,
-    rounds: Rounds,
+    order: StepOrder,
     /// How many turns the gate was notified of.
     turns: u64,
     kept: Vec<OwnTurn>,
@@ -63,7 +64,8 @@ fn put_frame(
     frame: Option<Outgoing>,
     frames: &mut Vec<Posted>,
 ) -> Result<(), AllocError>
-    ensures { IfOk result (λ _. map frame_of frames.new.items ≡ map frame_of frames.old.items ++ frame_in frame) }
+    ensures { IfOk result (λ _. map frame_of frames.new.items
+        ≡ map frame_of frames.old.items ++ frame_sent frame) }
 {
     let Some(frame) = frame else {
         return Ok(());
@@ -78,7 +80,8 @@ fn put_frame(
 
 /// Puts out what a step sent, the message first.
 fn put_sent(alloc: Global, sent: Sent, frames: &mut Vec<Posted>) -> Result<(), AllocError>
-    ensures { IfOk result (λ _. map frame_of frames.new.items ≡ map frame_of frames.old.items ++ frames_in sent) }
+    ensures { IfOk result (λ _. map frame_of frames.new.items
+        ≡ map frame_of frames.old.items ++ frames_sent sent) }
 {
     put_frame(alloc, sent.message, frames)?;
     put_frame(alloc, sent.report, frames)
@@ -120,12 +123,12 @@ impl<'a> Worker<'a> {
     pub fn new(alloc: Global, id: u16, place: Place<'a>) -> Result<Worker<'a>, AllocError>
         ensures { IfOk result (λ worker. (worker.place ≡ place.entry) × (worker.kept.items ≡ [])) }
     {
-        let rounds = Rounds::new(alloc, &place)?;
+        let order = StepOrder::new(alloc, &place)?;
         Ok(Worker {
             alloc,
             id,
             place,
-            rounds,
+            order,
             turns: 0,
             kept: Vec::new(alloc),
             unposted: Vec::new(alloc),
@@ -135,7 +138,8 @@ impl<'a> Worker<'a> {
     /// One turn: takes frames, makes steps, and keeps what it did, if it did something.
     pub fn turn(&mut self, port: &impl Port, gate: &impl Gate) -> Result<Went, Halt>
         requires { self.old.place.stopped ≢ true }
-        ensures { IfOk result (λ _. GoesOn self.old.place self.old.kept.items self.new.place self.new.kept.items) }
+        ensures { IfOk result (λ _. WorksOn self.old.place self.old.kept.items self.new.place
+            self.new.kept.items) }
     {
         let printed = self.place.output().len();
         let taken = self.take_frames(port)?;
@@ -205,7 +209,7 @@ impl<'a> Worker<'a> {
 
     /// What was kept of the place with a number, at the end.
     pub fn into_kept(self, id: u16) -> Result<Kept, AllocError>
-        ensures { IfOk result (IsWhole id self.entry.place self.entry.kept.items) }
+        ensures { IfOk result (IsKeptWhole id self.entry.place self.entry.kept.items) }
     {
         let lines = copied_lines(self.alloc, self.place.output())?;
         let closed = self.place.closed();
@@ -233,7 +237,8 @@ impl<'a> Worker<'a> {
     /// the lock is taken once for several turns.
     fn take_frames(&mut self, port: &impl Port) -> Result<Vec<Taken>, Halt>
         requires { self.old.place.stopped ≢ true }
-        ensures takes { IfOk result (λ taken. TakesEach self.old.place (map told taken.items) self.new.place) }
+        ensures takes { IfOk result (λ taken. TakesEach self.old.place
+            (map told taken.items) self.new.place) }
         ensures goes { IfOk result (λ _. self.new.place.stopped ≢ true) }
         ensures kept { self.new.kept ≡ self.old.kept }
     {
@@ -254,14 +259,15 @@ impl<'a> Worker<'a> {
     /// Takes a frame in.
     fn accept(&mut self, frame: Taken, taken: &mut Vec<Taken>) -> Result<(), Halt>
         requires { self.old.place.stopped ≢ true }
-        ensures takes { IfOk result (λ _. TakesIn self.old.place (told frame).bytes self.new.place) }
+        ensures takes { IfOk result (λ _. TakesFrame self.old.place
+            (told frame).bytes self.new.place) }
         ensures taken { IfOk result (λ _. taken.new.items ≡ taken.old.items ++ frame ∷ []) }
         ensures kept { self.new.kept ≡ self.old.kept }
     {
         taken.reserve(1)?;
         let vacant = self.place.vacant_key();
         self.place.receive(&frame.bytes)?;
-        self.rounds.came(&self.place, vacant)?;
+        self.order.came(&self.place, vacant)?;
         taken.push_reserved(frame);
         Ok(())
     }
@@ -269,9 +275,11 @@ impl<'a> Worker<'a> {
     /// Makes the steps of a turn, up to the most that a turn makes, or until all keys were tried since something moved.
     fn make_steps(&mut self) -> Result<Steps, Halt>
         requires { self.old.place.stopped ≢ true }
-        ensures steps { IfOk result (λ steps. StepsEach self.old.place steps.keys.items (map frame_of steps.frames.items) self.new.place) }
+        ensures steps { IfOk result (λ steps. StepsEach self.old.place steps.keys.items
+            (map frame_of steps.frames.items) self.new.place) }
         ensures goes { IfOk result (λ _. self.new.place.stopped ≢ true) }
-        ensures still { IfOk result (λ steps. steps.moved ≡ false → self.new.place ≡ self.old.place) }
+        ensures still { IfOk result (λ steps. steps.moved ≡ false
+            → self.new.place ≡ self.old.place) }
         ensures kept { self.new.kept ≡ self.old.kept }
     {
         let mut steps = Steps {
@@ -284,7 +292,7 @@ impl<'a> Worker<'a> {
             if steps.keys.len() >= MOST_STEPS {
                 return Ok(steps);
             }
-            let Some(key) = self.rounds.next_key(&self.place)? else {
+            let Some(key) = self.order.next_key(&self.place)? else {
                 steps.went = Went::Idle;
                 return Ok(steps);
             };
@@ -296,10 +304,11 @@ impl<'a> Worker<'a> {
     /// A step of the activity with a key; where no other activity can move, as many steps as the turn may still make.
     fn make_some(&mut self, key: usize, steps: &mut Steps) -> Result<(), Halt>
         requires { self.old.place.stopped ≢ true }
-        ensures adds { IfOk result (λ _. AddsSteps self.old.place steps.old self.new.place steps.new) }
+        ensures adds { IfOk result (λ _. AddsSteps self.old.place steps.old self.new.place
+            steps.new) }
         ensures kept { self.new.kept ≡ self.old.kept }
     {
-        if self.rounds.is_single() {
+        if self.order.is_single() {
             return self.make_stretch(key, steps);
         }
         self.make_step(key, steps)
@@ -309,7 +318,8 @@ impl<'a> Worker<'a> {
     /// or begins or ends an activity, or one that finds nothing to do.
     fn make_stretch(&mut self, key: usize, steps: &mut Steps) -> Result<(), Halt>
         requires { self.old.place.stopped ≢ true }
-        ensures adds { IfOk result (λ _. AddsSteps self.old.place steps.old self.new.place steps.new) }
+        ensures adds { IfOk result (λ _. AddsSteps self.old.place steps.old self.new.place
+            steps.new) }
         ensures kept { self.new.kept ≡ self.old.kept }
     {
         let most = MOST_STEPS.saturating_sub(steps.keys.len());
@@ -321,7 +331,7 @@ impl<'a> Worker<'a> {
         }
         push_steps(&mut steps.keys, key, made as usize)?;
         steps.moved = true;
-        self.rounds.stepped(&self.place, key, vacant)?;
+        self.order.stepped(&self.place, key, vacant)?;
         put_sent(self.alloc, sent, &mut steps.frames)?;
         Ok(())
     }
@@ -329,7 +339,8 @@ impl<'a> Worker<'a> {
     /// One step of the activity with a key.
     fn make_step(&mut self, key: usize, steps: &mut Steps) -> Result<(), Halt>
         requires { self.old.place.stopped ≢ true }
-        ensures adds { IfOk result (λ _. AddsSteps self.old.place steps.old self.new.place steps.new) }
+        ensures adds { IfOk result (λ _. AddsSteps self.old.place steps.old self.new.place
+            steps.new) }
         ensures kept { self.new.kept ≡ self.old.kept }
     {
         steps.keys.reserve(1)?;
@@ -337,12 +348,12 @@ impl<'a> Worker<'a> {
         let vacant = self.place.vacant_key();
         match self.place.step(key)? {
             Stepped::Idle => {
-                self.rounds.waits(key)?;
+                self.order.waits(key)?;
                 Ok(())
             }
             Stepped::Moved(sent) => {
                 steps.moved = true;
-                self.rounds.stepped(&self.place, key, vacant)?;
+                self.order.stepped(&self.place, key, vacant)?;
                 put_sent(self.alloc, sent, &mut steps.frames)?;
                 Ok(())
             }

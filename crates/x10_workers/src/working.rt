@@ -1,6 +1,6 @@
 //! The loop of a worker's thread.
 ghost use Rattle.std.specs.Prelude.{◌≢◌, ◌<◌, ◌≤◌, true, IfOk};
-ghost use Rattle.x10_workers.specs.Workings.{GoesOn, IsKeptOf, IsTrailOf};
+ghost use Rattle.x10_workers.specs.Workings.{WorksOn, IsKeptOf, IsTrailOf};
 
 use crate::gate::Gate;
 use crate::halt::Halt;
@@ -21,7 +21,8 @@ fn attend(
     gate: &impl Gate,
 ) -> Result<(), Halt>
     requires { worker.old.place.stopped ≢ true }
-    ensures { IfOk result (λ _. GoesOn worker.old.place worker.old.kept.items worker.new.place worker.new.kept.items) }
+    ensures { IfOk result (λ _. WorksOn worker.old.place worker.old.kept.items worker.new.place
+        worker.new.kept.items) }
 {
     for _ in rt.forever() {
         let went = worker.turn(port, gate)?;

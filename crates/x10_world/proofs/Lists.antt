@@ -17,7 +17,8 @@ pub set_here : {X : Type 0} (xs : List X) (i : ℕ) (x y : X) → slice_get xs i
 set_here xs i x y e = set_within xs i x (slice_get_within xs i y e)
 
 -- what holds of the item that was set, or of one that was there before
-pub set_either : {X : Type 0} (xs : List X) (i j : ℕ) (x y z : X) → slice_get xs i ≡ Some z → slice_get (slice_set xs i x) j ≡ Some y → ((j ≡ i) × (x ≡ y)) ⊎ ((j ≢ i) × (slice_get xs j ≡ Some y))
+pub set_either : {X : Type 0} (xs : List X) (i j : ℕ) (x y z : X) → slice_get xs i ≡ Some z → slice_get (slice_set xs i x) j ≡ Some y
+    → ((j ≡ i) × (x ≡ y)) ⊎ ((j ≢ i) × (slice_get xs j ≡ Some y))
 set_either xs i j x y z is e = elim (cases_eq j i) [
   | inl same ↦ inl (same, same_Some x y (sym (set_here xs i x z is) ∙ ap (λ k. slice_get (slice_set xs i x) k) (sym same) ∙ e))
   | inr ne ↦ inr (ne, sym (set_off xs i j x ne) ∙ e)

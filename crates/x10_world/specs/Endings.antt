@@ -38,26 +38,31 @@ pub record IsImageOf (bytes : List ℕ) (c : Certified) : Type 0 where
 
 -- for each place of the machine, the lines that it has printed
 abbrev pub AreLinesOf : List (List machine.Line) → World → Type 0
-AreLinesOf outputs w = (id : ℕ) (m : machine.Place) → w.net.places id ≡ Some m → slice_get outputs id ≡ Some m.lines
+AreLinesOf outputs w = (id : ℕ) (m : machine.Place) → w.net.places id ≡ Some m
+    → slice_get outputs id ≡ Some m.lines
 
 -- why an event of a list, the one with a number, is refused
 abbrev pub IsHinderedNext : WorldState → List Event → ℕ → Stop → Type 0
-IsHinderedNext x events n why = (next : Event) × (slice_get events n ≡ Some next) × IsHinderedAt x next why
+IsHinderedNext x events n why = (next : Event) × (slice_get events n ≡ Some next)
+    × IsHinderedAt x next why
 
 -- A run of the machine, from its opening, under the events that were made: none goes wrong, and no activity takes more
 -- steps than its bound; and where no frame is in flight, none waits at the end of a finish that may end (`course`). The
 -- world is opened at so many places, which is a permitted number, and each event leads from one of its states to the next.
 -- All events were made, or a Stop is told of the one after them, and why it was refused; the lines, and whether the run has
 -- ended, are those of the last state.
-pub record IsEndingOf (c : Certified) (count : ℕ) (events : List Event) (outputs : List (List machine.Line)) (e : Ending) : Type 0 where
+pub record IsEndingOf (c : Certified) (count : ℕ) (events : List Event)
+    (outputs : List (List machine.Line)) (e : Ending) : Type 0 where
   pub key : ℕ
   pub last : World
-  pub run : Run Ideal (record { program = c.program; places = count }) (WithinBounds c.bounds) (opening (record { program = c.program; places = count }) key)
+  pub run : Run Ideal (record { program = c.program; places = count }) (WithinBounds c.bounds)
+      (opening (record { program = c.program; places = count }) key)
       (take e.done events) last
   pub first : WorldState
   pub opened : IsOpenedWorld c count first
   pub final : WorldState
-  pub course : Course (record { program = c.program; places = count }) c.bounds first (opening (record { program = c.program; places = count }) key)
+  pub course : Course (record { program = c.program; places = count }) c.bounds first
+      (opening (record { program = c.program; places = count }) key)
       (take e.done events) final last
   pub stands : StandsForWorld final last
   pub permitted : IsForbidden c count → ⊥
@@ -74,7 +79,9 @@ pub record IsEndingOf (c : Certified) (count : ℕ) (events : List Event) (outpu
 -- where memory ran out, nothing is said
 abbrev pub Explains : List ℕ → ℕ → RunFault → Type 0
 Explains bytes count (fault.Image f) = IsFaultOrMemory (named f) (module_at bytes)
-Explains bytes count (fault.Verify f) = (m : Module) × FitsImage m × (bytes ≡ spelling m) × Refutes m f
-Explains bytes count (fault.Open opened.Places) = (c : Certified) × IsImageOf bytes c × IsForbidden c count
+Explains bytes count (fault.Verify f) = (m : Module) × FitsImage m × (bytes ≡ spelling m)
+    × Refutes m f
+Explains bytes count (fault.Open opened.Places) = (c : Certified) × IsImageOf bytes c
+    × IsForbidden c count
 Explains bytes count (fault.Open opened.Memory) = Unit {0}
 Explains bytes count fault.Memory = Unit {0}

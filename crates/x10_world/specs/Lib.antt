@@ -9,4 +9,4 @@ pub mod Endings
 pub mod Rounds
 pub mod Happenings
 pub mod Runs
-pub mod Handling
+pub mod EventAnswers

@@ -43,11 +43,14 @@ pub record WaitsAt (program : Module) (stays : Stays) (p key to function : ℕ) 
 -- arguments fit its function there; and where something comes back, the stay that it comes back to waits for it, and the
 -- result fits the function that was waited for
 abbrev pub FitsReceiver : Setting → Stays → Message → Type 0
-FitsReceiver setting stays (Spawn from to under function graph) = (callee : Function) × FitsFunctionAt setting to function graph callee × (callee.result ≡ None)
+FitsReceiver setting stays (Spawn from to under function graph) = (callee : Function)
+    × FitsFunctionAt setting to function graph callee × (callee.result ≡ None)
     × IsWhole graph
-FitsReceiver setting stays (Shift from to waiting under function graph) = (callee : Function) × FitsFunctionAt setting to function graph callee
+FitsReceiver setting stays (Shift from to waiting under function graph) = (callee : Function)
+    × FitsFunctionAt setting to function graph callee
     × WaitsAt setting.program stays from waiting to function × IsWhole graph
-FitsReceiver setting stays (Back from to waiting graph) = (function : ℕ) × (callee : Function) × WaitsAt setting.program stays to waiting from function
+FitsReceiver setting stays (Back from to waiting graph) = (function : ℕ) × (callee : Function)
+    × WaitsAt setting.program stays to waiting from function
     × (function_at setting.program function ≡ Some callee)
     × FitsResultAt graph from callee.result graph.roots × IsWhole graph
 
@@ -56,7 +59,8 @@ FitsReceiver setting stays (Back from to waiting graph) = (function : ℕ) × (c
 pub record AreAnswered (setting : Setting) (net : Net) : Type 0 where
   pub stays : (p key : ℕ) (s : Stay) (o : Origin) → stays_of net p key ≡ Some s → s.back ≡ Some o
       → WaitsAt setting.program (stays_of net) o.place o.key p (first_function s)
-  pub posts : (number : ℕ) (message : Message) → net.posts number ≡ Flying message → FitsReceiver setting (stays_of net) message
+  pub posts : (number : ℕ) (message : Message) → net.posts number ≡ Flying message
+      → FitsReceiver setting (stays_of net) message
 
 -- ---- laws
 
@@ -65,29 +69,36 @@ AnsweredAtOpening = (setting : Setting) (key : ℕ) → AreAnswered setting (ope
 
 -- a stay that moves isn't away, so that nothing waits there; what it sends fits its receiver
 abbrev pub AnsweredAfterMove : Type 0
-AnsweredAfterMove = (setting : Setting) (net : Net) (here key number : ℕ) (old new : places.Place) (effect : Effect) → AreAnswered setting net
+AnsweredAfterMove = (setting : Setting) (net : Net) (here key number : ℕ) (old new : places.Place)
+    (effect : Effect) → AreAnswered setting net
     → net.places here ≡ Some old → Moves setting here old key new effect
     → AreAnswered setting (net_after net here new effect number)
 
 -- a result that comes is the only one for which its stay waited
 abbrev pub AnsweredAfterDelivery : Type 0
-AnsweredAfterDelivery = (setting : Setting) (w v : World) (number : ℕ) → IsSound w.net w.book → AreAnswered setting w.net → Delivers setting w number v
+AnsweredAfterDelivery = (setting : Setting) (w v : World) (number : ℕ) → IsSound w.net w.book
+    → AreAnswered setting w.net → Delivers setting w number v
     → AreAnswered setting v.net
 
 -- so what happens at any event keeps all answered, whenever finishes may close
 abbrev pub AnsweredAfterEvent : Type 0
-AnsweredAfterEvent = (rule : Rule) (setting : Setting) (w v : World) (event : Event) → IsSound w.net w.book → AreAnswered setting w.net
+AnsweredAfterEvent = (rule : Rule) (setting : Setting) (w v : World) (event : Event)
+    → IsSound w.net w.book → AreAnswered setting w.net
     → Happens rule setting w event v → AreAnswered setting v.net
 
 -- a message that fits its receiver is no misfit there, where its graph fits the place
 abbrev pub FittingIsNoMisfit : Type 0
-FittingIsNoMisfit = (setting : Setting) (net : Net) (message : Message) (place : places.Place) → net.places (receiver message) ≡ Some place
+FittingIsNoMisfit = (setting : Setting) (net : Net) (message : Message) (place : places.Place)
+    → net.places (receiver message) ≡ Some place
     → FitsReceiver setting (stays_of net) message
-    → FitsPlace setting (receiver message) place (graph_of message) → IsMisfit setting (receiver message) place message → ⊥
+    → FitsPlace setting (receiver message) place (graph_of message)
+    → IsMisfit setting (receiver message) place message → ⊥
 
 -- and where it brings a result, a stay at the place waits for it, whose function the result fits
 abbrev pub FittingResultIsAwaited : Type 0
-FittingResultIsAwaited = (setting : Setting) (net : Net) (from to waiting : ℕ) (graph : Snapshot) (place : places.Place) → net.places to ≡ Some place
+FittingResultIsAwaited = (setting : Setting) (net : Net) (from to waiting : ℕ) (graph : Snapshot)
+    (place : places.Place) → net.places to ≡ Some place
     → FitsReceiver setting (stays_of net) (Back from to waiting graph)
-    → (stay : Stay) × (call : Instr) × (callee : Function) × WaitsFor setting place waiting from stay call callee
+    → (stay : Stay) × (call : Instr) × (callee : Function)
+    × WaitsFor setting place waiting from stay call callee
     × FitsResultAt graph from callee.result graph.roots

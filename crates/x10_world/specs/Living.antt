@@ -18,12 +18,12 @@ abbrev pub lives_at : List PlaceState → ℕ → Bool
 lives_at places id = lives_in (slice_get places id)
 
 -- the keys in use there, by rising number
-abbrev pub keys_in : Option PlaceState → List ℕ
-keys_in None = []
-keys_in (Some p) = keys_of p.stays
+abbrev pub keys_of_any : Option PlaceState → List ℕ
+keys_of_any None = []
+keys_of_any (Some p) = keys_of p.stays
 
 abbrev pub keys_at : List PlaceState → ℕ → List ℕ
-keys_at places id = keys_in (slice_get places id)
+keys_at places id = keys_of_any (slice_get places id)
 
 -- how many activities are there
 abbrev pub live_in : Option PlaceState → ℕ

@@ -20,7 +20,9 @@ pub record WorksIn (w : World) (here key number : ℕ) : Type 0 where
   pub innermost_is : stay.finishes ≡ number ∷ outer
 
 -- a step waits at the end of a finish only where the finish may not end
-abbrev pub IsPrompt : (rule : Rule) (setting : Setting) (w : World) (event : Event) (v : World) → Happens rule setting w event v → Type 0
-IsPrompt rule setting w event v (steps here key u s) = (number : ℕ) → s.effect ≡ Waits number → MayEnd w (record { home = here; number = number }) → ⊥
+abbrev pub IsPrompt : (rule : Rule) (setting : Setting) (w : World) (event : Event) (v : World)
+    → Happens rule setting w event v → Type 0
+IsPrompt rule setting w event v (steps here key u s) = (number : ℕ) → s.effect ≡ Waits number
+    → MayEnd w (record { home = here; number = number }) → ⊥
 IsPrompt rule setting w event v (delivers number u d) = Unit {0}
 IsPrompt rule setting w event v (idle e i) = Unit {0}

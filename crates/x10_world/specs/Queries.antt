@@ -8,8 +8,8 @@ use Rattle.x10_place.specs.Stays.{IsDoneHere}
 use Rattle.x10_place.specs.StandsFor.{PlaceState, store_of}
 
 -- no place has the number
-abbrev pub IsNoPlace : List PlaceState → ℕ → Type 0
-IsNoPlace places id = slice_get places id ≡ None
+abbrev pub HasNoPlace : List PlaceState → ℕ → Type 0
+HasNoPlace places id = slice_get places id ≡ None
 
 -- a place with the number
 abbrev pub HasPlace : List PlaceState → ℕ → (PlaceState → Type 0) → Type 0
@@ -17,7 +17,8 @@ HasPlace places id P = (p : PlaceState) × (slice_get places id ≡ Some p) × P
 
 -- no place with the number has a key in use, from a number on
 abbrev pub HasNoKey : List PlaceState → ℕ → ℕ → Type 0
-HasNoKey places id from = (p : PlaceState) → slice_get places id ≡ Some p → (key : ℕ) → from ≤ key → get p.stays key ≡ None
+HasNoKey places id from = (p : PlaceState) → slice_get places id ≡ Some p → (key : ℕ) → from ≤ key
+    → get p.stays key ≡ None
 
 -- the message with a number is not in flight
 abbrev pub IsNotFlying : World → ℕ → Type 0
@@ -25,11 +26,13 @@ IsNotFlying w number = (message : Message) → w.net.posts number ≢ Flying mes
 
 -- the message with a number is in flight, for a place
 abbrev pub IsFlyingTo : World → ℕ → ℕ → Type 0
-IsFlyingTo w number place = (message : Message) × (w.net.posts number ≡ Flying message) × (receiver message ≡ place)
+IsFlyingTo w number place = (message : Message) × (w.net.posts number ≡ Flying message)
+    × (receiver message ≡ place)
 
 -- a report is in flight, for a place: no message has its number
 abbrev pub IsReportTo : World → ℕ → ℕ → Type 0
-IsReportTo w number place = (w.net.posts number ≡ Unused) × ((p : places.Place) × (w.net.places place ≡ Some p))
+IsReportTo w number place = (w.net.posts number ≡ Unused)
+    × ((p : places.Place) × (w.net.places place ≡ Some p))
 
 -- the numbers that messages have had are below it
 abbrev pub IsPosted : World → ℕ → Type 0

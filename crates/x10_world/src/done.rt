@@ -26,11 +26,3 @@ pub enum Done {
         to: u16,
     },
 }
-
-/// What an event did to the parts of a world.
-#[derive(Clone, Copy)]
-pub(crate) enum Happening {
-    Idle,
-    Moved,
-    Taken(u16),
-}

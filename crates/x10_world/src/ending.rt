@@ -1,18 +1,17 @@
-ghost use Rattle.std.specs.Prelude.{◌≡◌, List, IfOk, IfErr, IfSome, map};
-ghost use Rattle.x10_place.specs.StandsFor.{line_as};
+ghost use Rattle.std.specs.Prelude.{IfOk, IfErr, IfSome};
 ghost use Rattle.x10_verify.specs.Certified.{Certified};
 ghost use Rattle.x10_world.specs.declared.ending.RunFault.TheVariants as fault;
 ghost use Rattle.x10_world.specs.StandsForWorld.{IsStepStop};
-ghost use Rattle.x10_world.specs.Endings.{IsImageOf, IsEndingOf, Explains, lines_in, lines_at};
+ghost use Rattle.x10_world.specs.Endings.{IsImageOf, IsEndingOf, Explains, lines_in};
 
 use crate::fault::OpenFault;
 use crate::world::World;
-use std::alloc::{AllocError, Global};
+use std::alloc::Global;
 use thiserror::Error;
 use x10_image::{ImageFault, ImageView};
 use x10_kinds::Stop;
 use x10_model::Event;
-use x10_place::{Line, Place};
+use x10_place::Line;
 use x10_verify::{VerifyFault, verify};
 
 /// What is left of a run.
@@ -45,40 +44,6 @@ pub enum RunFault {
     Memory,
 }
 
-/// A copy of a line.
-fn copied(alloc: Global, line: &Line) -> Result<Line, AllocError>
-    ensures { IfOk result (λ copy. line_as copy ≡ line_as line.now) }
-{
-    match line {
-        Line::Int(number) => Ok(Line::Int(*number)),
-        Line::Text(text) => Ok(Line::Text(String::from_str(alloc, text)?)),
-    }
-}
-
-/// A copy of lines.
-fn copied_lines(alloc: Global, lines: &[Line]) -> Result<Vec<Line>, AllocError>
-    ensures { IfOk result (λ copy. map line_as copy.items ≡ map line_as lines.now) }
-{
-    let mut copy = Vec::with_capacity(alloc, lines.len())?;
-    for line in lines {
-        let line = copied(alloc, line)?;
-        copy.push(line)?;
-    }
-    Ok(copy)
-}
-
-/// A copy of the lines of each place.
-pub(crate) fn copied_outputs(alloc: Global, places: &[Place]) -> Result<Vec<Vec<Line>>, AllocError>
-    ensures { IfOk result (λ outputs. lines_in outputs.items ≡ lines_at places.now) }
-{
-    let mut outputs = Vec::with_capacity(alloc, places.len())?;
-    for place in places {
-        let lines = copied_lines(alloc, place.output())?;
-        outputs.push(lines)?;
-    }
-    Ok(outputs)
-}
-
 /// Reads an image, verifies its module, and runs it at `places` places with these events, up to the first that is refused.
 /// The lines of each place are copied, since a world that callers keep has the same calls; to take a world apart would save
 /// the copy, but be a second way to end a run.
@@ -88,7 +53,8 @@ pub fn run_image(
     places: u16,
     events: &[Event],
 ) -> Result<Ending, RunFault>
-    ensures ending { IfOk result (λ e. (c : Certified) × IsImageOf bytes.now c × IsEndingOf c places events.now (lines_in e.outputs.items) e) }
+    ensures ending { IfOk result (λ e. (c : Certified) × IsImageOf bytes.now c
+        × IsEndingOf c places events.now (lines_in e.outputs.items) e) }
     ensures stop { IfOk result (λ e. IfSome e.stop IsStepStop) }
     ensures fault { IfErr result (Explains bytes.now places) }
 {

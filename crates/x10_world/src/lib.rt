@@ -3,18 +3,20 @@
 
 mod done;
 mod ending;
-mod events;
 mod fault;
-mod keys;
 pub mod laws;
+mod lines;
 mod lull;
 mod opening;
 mod places;
+mod round_keys;
 mod rounds;
 mod world;
 
 pub use done::Done;
 pub use ending::{Ending, RunFault, run_image};
 pub use fault::OpenFault;
-pub use rounds::{Halt, Rounds, run_rounds};
+pub use lines::{copied_lines, push_lines};
+pub use round_keys::RoundKeys;
+pub use rounds::{Rounds, Unfinished, run_rounds};
 pub use world::World;

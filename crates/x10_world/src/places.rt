@@ -1,22 +1,19 @@
 //! The places of a world, and which of them have activities.
-ghost use Rattle.std.specs.Prelude.{◌≡◌, ◌≢◌, ◌<◌, ◌≤◌, ℕ, MatchOption, IfOk, List, length, slice_get};
+ghost use Rattle.std.specs.Prelude.{◌≡◌, ◌≢◌, ◌<◌, ◌≤◌, ℕ, IfOk, length};
 ghost use Rattle.x10_flights.specs.PlaceSets.{has_place};
 ghost use Rattle.x10_world.specs.Living.{has_activity, lives_at, keys_at, live_at};
 ghost use Rattle.x10_world.specs.Opening.{AreOpened};
-ghost use Rattle.x10_world.specs.StandsForWorld.{StepsOne, RunsOne, ReceivesOne};
 
 use crate::opening::places_of;
 use std::alloc::{AllocError, Global};
 use std::marker::Model;
-use x10_copy::Refusal;
 use x10_flights::PlaceSet;
-use x10_kinds::Stop;
-use x10_place::{Place, Sent, Stepped};
+use x10_place::Place;
 use x10_verify::Verified;
 
 /// A set of places, with what is so now of one of them: whether it has an activity.
 #[inline(always)]
-fn noted(living: PlaceSet, id: u16, place: &Place) -> PlaceSet
+pub(crate) fn noted(living: PlaceSet, id: u16, place: &Place) -> PlaceSet
     requires { id < 64 }
     ensures here { has_place result id ≡ has_activity place.now }
     ensures others { (other : ℕ) → other ≢ id → has_place result other ≡ has_place living other }
@@ -33,8 +30,8 @@ fn noted(living: PlaceSet, id: u16, place: &Place) -> PlaceSet
 /// The places of a world by number. It is always known which of them have activities.
 #[derive(Drop)]
 pub(crate) struct Places<'a> {
-    list: Vec<Place<'a>>,
-    living: PlaceSet,
+    pub(crate) list: Vec<Place<'a>>,
+    pub(crate) living: PlaceSet,
 }
 
 impl<'a> Model for Places<'a> {
@@ -79,45 +76,6 @@ impl<'a> Places<'a> {
         ensures { (id : ℕ) → has_place result id ≡ lives_at self.now id }
     {
         self.living
-    }
-
-    /// One step of the activity with a key at a place, if they are there.
-    #[inline(always)]
-    pub(crate) fn step(&mut self, id: u16, key: usize) -> Result<Stepped, Stop>
-        ensures { StepsOne self.old self.new id key result }
-    {
-        if usize::from(id) >= self.list.len() {
-            return Ok(Stepped::Idle);
-        }
-        let did = self.list[usize::from(id)].step(key);
-        self.living = noted(self.living, id, &self.list[usize::from(id)]);
-        did
-    }
-
-    /// Up to `most` steps of the activity with a key at a place, if they are there, and what the last one put out.
-    pub(crate) fn run(&mut self, id: u16, key: usize, most: u64) -> (u64, Result<Sent, Stop>)
-        ensures { RunsOne self.old self.new id key most result.0 result.1 }
-    {
-        if usize::from(id) >= self.list.len() {
-            let nothing = Sent {
-                message: None,
-                report: None,
-            };
-            return (0, Ok(nothing));
-        }
-        let did = self.list[usize::from(id)].run(key, most);
-        self.living = noted(self.living, id, &self.list[usize::from(id)]);
-        did
-    }
-
-    /// A place takes in a frame.
-    pub(crate) fn receive(&mut self, id: u16, bytes: &[u8]) -> Result<(), Refusal>
-        requires { id < length self.old }
-        ensures { ReceivesOne self.old self.new id bytes.now result }
-    {
-        let did = self.list[usize::from(id)].receive(bytes);
-        self.living = noted(self.living, id, &self.list[usize::from(id)]);
-        did
     }
 }
 

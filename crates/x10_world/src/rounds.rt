@@ -1,11 +1,11 @@
 //! The order in which a program makes events: round after round, place after place, key after key.
 ghost use Rattle.std.specs.Prelude.{◌≡◌, ℕ, IsTrue, IfOk, IfErr, IfSome, Some, None, List};
-ghost use Rattle.x10_world.specs.declared.rounds.Halt.TheVariants as halt;
+ghost use Rattle.x10_world.specs.declared.rounds.Unfinished.TheVariants as halt;
 ghost use Rattle.x10_world.specs.Living.{keys_at};
-ghost use Rattle.x10_world.specs.Rounds.{Turn, Names, IsTurnOver, Passes, IsNextEvent, IsStepOf, IsFirstInUse, IsQuiet};
+ghost use Rattle.x10_world.specs.Rounds.{RoundsState, NamesNext, IsTurnOver, TurnsTo, IsNextEvent, IsStepOf, IsFirstInUse, IsEmptyWorld};
 
-use crate::keys::Keys;
 use crate::lull::Lull;
+use crate::round_keys::RoundKeys;
 use crate::world::World;
 use std::alloc::{AllocError, Global};
 use std::marker::Model;
@@ -20,7 +20,7 @@ pub use drive::run_rounds;
 
 /// Why no more rounds were made before the run had ended.
 #[derive(Clone, Copy, Debug, PartialEq, Eq, Error)]
-pub enum Halt {
+pub enum Unfinished {
     /// The world stopped.
     #[error("Stop")]
     Stop(Stop),
@@ -32,19 +32,19 @@ pub enum Halt {
     Memory,
 }
 
-impl From<Stop> for Halt {
+impl From<Stop> for Unfinished {
     ghost from_gives = { λ stop made. made ≡ halt.Stop stop };
 
-    fn from(stop: Stop) -> Halt {
-        Halt::Stop(stop)
+    fn from(stop: Stop) -> Unfinished {
+        Unfinished::Stop(stop)
     }
 }
 
-impl From<AllocError> for Halt {
+impl From<AllocError> for Unfinished {
     ghost from_gives = { λ _ made. made ≡ halt.Memory };
 
-    fn from(_error: AllocError) -> Halt {
-        Halt::Memory
+    fn from(_error: AllocError) -> Unfinished {
+        Unfinished::Memory
     }
 }
 
@@ -68,7 +68,7 @@ enum Phase {
 pub struct Rounds {
     alloc: Global,
     /// The keys that each place may have in use.
-    lists: Vec<Keys>,
+    lists: Vec<RoundKeys>,
     /// A place, and the key that an activity has that the last event may have begun there.
     next_key: Option<(u16, usize)>,
     /// The place whose turn it is.
@@ -80,9 +80,9 @@ pub struct Rounds {
 }
 
 impl Model for Rounds {
-    ghost use Rattle.x10_world.specs.Rounds.{Turn, keys_left};
+    ghost use Rattle.x10_world.specs.Rounds.{RoundsState, keys_left};
 
-    ghost Value = { Turn };
+    ghost Value = { RoundsState };
 
     ghost view = { λ a. record { place = a.place; left = keys_left a.phase a.keys.items } };
 }
@@ -126,7 +126,7 @@ impl Rounds {
     {
         let mut lists = Vec::with_capacity(alloc, usize::from(world.count()))?;
         for place in 0..world.count() {
-            let keys = Keys::new(alloc, world.keys(alloc, place)?);
+            let keys = RoundKeys::new(alloc, world.keys(alloc, place)?);
             lists.push(keys)?;
         }
         Ok(Rounds {
@@ -143,9 +143,10 @@ impl Rounds {
     /// The event that comes next in the rounds, and no other one; none only where no frame is in flight and no activity is
     /// anywhere. Takes memory for keys; where that is refused, the turn has not gone on.
     pub fn next(&mut self, world: &World) -> Result<Option<Event>, AllocError>
-        ensures next { IfOk result (λ event. IfSome event (λ e. IsNextEvent world.now self.old e self.new)) }
-        ensures none { IfOk result (λ event. event ≡ None → IsQuiet world.now) }
-        ensures refused { IfErr result (λ _. Passes world.now self.old self.new) }
+        ensures next { IfOk result (λ event. IfSome event
+            (λ e. IsNextEvent world.now self.old e self.new)) }
+        ensures none { IfOk result (λ event. event ≡ None → IsEmptyWorld world.now) }
+        ensures refused { IfErr result (λ _. TurnsTo world.now self.old self.new) }
     {
         self.look(world)?;
         let event = self.find(world)?;
@@ -156,9 +157,10 @@ impl Rounds {
     /// The event that comes next: of this turn, or of the next one where it is over.
     #[inline(always)]
     fn find(&mut self, world: &World) -> Result<Option<Event>, AllocError>
-        ensures next { IfOk result (λ event. IfSome event (λ e. IsNextEvent world.now self.old e self.new)) }
-        ensures none { IfOk result (λ event. event ≡ None → IsQuiet world.now) }
-        ensures refused { IfErr result (λ _. Passes world.now self.old self.new) }
+        ensures next { IfOk result (λ event. IfSome event
+            (λ e. IsNextEvent world.now self.old e self.new)) }
+        ensures none { IfOk result (λ event. event ≡ None → IsEmptyWorld world.now) }
+        ensures refused { IfErr result (λ _. TurnsTo world.now self.old self.new) }
     {
         if let Some(event) = self.in_turn(world)? {
             return Ok(Some(event));
@@ -173,8 +175,10 @@ impl Rounds {
     /// The next event of the turn, if it isn't over.
     #[inline(always)]
     fn in_turn(&mut self, world: &World) -> Result<Option<Event>, AllocError>
-        ensures some { IfOk result (λ event. IfSome event (λ e. Names world.now self.old e self.new)) }
-        ensures none { IfOk result (λ event. event ≡ None → IsTurnOver world.now self.old × (self.new.place ≡ self.old.place)) }
+        ensures some { IfOk result (λ event. IfSome event
+            (λ e. NamesNext world.now self.old e self.new)) }
+        ensures none { IfOk result (λ event. event ≡ None
+            → IsTurnOver world.now self.old × (self.new.place ≡ self.old.place)) }
         ensures refused { IfErr result (λ _. self.new ≡ self.old) }
     {
         match self.phase {
@@ -188,8 +192,10 @@ impl Rounds {
     #[inline(always)]
     fn first_in_turn(&mut self, world: &World) -> Result<Option<Event>, AllocError>
         requires { self.old.left ≡ None }
-        ensures some { IfOk result (λ event. IfSome event (λ e. Names world.now self.old e self.new)) }
-        ensures none { IfOk result (λ event. event ≡ None → IsTurnOver world.now self.old × (self.new.place ≡ self.old.place)) }
+        ensures some { IfOk result (λ event. IfSome event
+            (λ e. NamesNext world.now self.old e self.new)) }
+        ensures none { IfOk result (λ event. event ≡ None
+            → IsTurnOver world.now self.old × (self.new.place ≡ self.old.place)) }
         ensures refused { IfErr result (λ _. self.new ≡ self.old) }
     {
         if let Some(number) = world.first_frame(self.place) {
@@ -203,7 +209,10 @@ impl Rounds {
     #[inline(always)]
     fn begin_steps(&mut self, world: &World) -> Result<(), AllocError>
         requires { self.old.left ≡ None }
-        ensures ok { IfOk result (λ _. self.new ≡ record { place = self.old.place; left = Some (keys_at world.now.places self.old.place) }) }
+        ensures ok { IfOk result (λ _. self.new ≡ record {
+          place = self.old.place;
+          left = Some (keys_at world.now.places self.old.place);
+        }) }
         ensures refused { IfErr result (λ _. self.new ≡ self.old) }
     {
         self.recall(world)?;
@@ -220,8 +229,11 @@ impl Rounds {
         requires { self.old.left ≡ None }
         ensures { self.new ≡ self.old }
     {
-        if let Some(list) = self.lists.get_mut(usize::from(self.place)) {
-            list.refresh(world, self.place)?;
+        if let (Some(list), Some(place)) = (
+            self.lists.get_mut(usize::from(self.place)),
+            world.place(self.place),
+        ) {
+            list.refresh(place)?;
             mem::swap(&mut self.keys, &mut list.known);
         }
         Ok(())
@@ -230,7 +242,8 @@ impl Rounds {
     /// The step of the first activity whose step is left, if there is one.
     #[inline(always)]
     fn step(&mut self, world: &World) -> Option<Event>
-        ensures { (keys : List ℕ) → self.old.left ≡ Some keys → IsStepOf world.now self.old.place keys result self.new }
+        ensures { (keys : List ℕ) → self.old.left ≡ Some keys
+            → IsStepOf world.now self.old.place keys result self.new }
     {
         let Phase::Steps(from) = self.phase else {
             return None;

@@ -1,7 +1,7 @@
 //! What a drawing notes of a delivery: where an arrow ends, and the stay that begins or goes on there.
 use crate::column::State;
 use crate::frame_kind::FrameKind;
-use crate::parts::{Arrow, Spot};
+use crate::parts::{Arrow, Point};
 use crate::sketch::Sketch;
 use crate::telling::{delivery_label, taken_text};
 use std::alloc::AllocError;
@@ -31,16 +31,16 @@ impl Sketch {
         };
         let row = column.next_row(arrow.from.row);
         let lane = self.land(world, arrow, to, row)?;
-        let spot = Spot {
+        let point = Point {
             place: to,
             lane,
             row,
         };
         if let Some(arrow) = self.arrows.get_mut(at) {
-            arrow.head = Some(spot);
+            arrow.head = Some(point);
         }
         let text = taken_text(self.alloc, arrow)?;
-        self.label(delivery_label(spot, text))
+        self.label(delivery_label(point, text))
     }
 
     /// A place took in a frame that wasn't seen to be put out.
@@ -48,13 +48,13 @@ impl Sketch {
         let Some(column) = self.columns.get_mut(usize::from(to)) else {
             return Ok(());
         };
-        let spot = Spot {
+        let point = Point {
             place: to,
             lane: None,
             row: column.next_row(0),
         };
         let text = format!(in self.alloc; "frame {number}")?;
-        self.label(delivery_label(spot, text))
+        self.label(delivery_label(point, text))
     }
 
     /// What a frame does where it is taken in: the lane of the stay that begins or goes on by it.

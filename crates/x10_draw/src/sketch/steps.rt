@@ -1,7 +1,7 @@
 //! What a drawing notes of a step: the stay that it begins, the finish that it opens or closes, the frame that it puts out.
 use crate::column::State;
 use crate::frame_kind::{FrameKind, facts_of, head_of};
-use crate::parts::{Arrow, Bracket, Fork, Spot};
+use crate::parts::{Arrow, Bracket, Fork, Point};
 use crate::sketch::Sketch;
 use crate::telling::{Move, print};
 use std::alloc::AllocError;
@@ -97,7 +97,7 @@ impl Sketch {
             return Ok(());
         };
         let (kind, waiting, function) = facts_of(head);
-        let from = Spot {
+        let from = Point {
             place: step.place,
             lane: Some(step.key),
             row,

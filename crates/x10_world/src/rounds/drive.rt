@@ -1,12 +1,12 @@
 //! Makes the events of rounds, and doesn't try steps that are known to be idle.
 ghost use Rattle.std.specs.Prelude.{◌≡◌, ◌≢◌, ◌<◌, ◌≤◌, ℕ, true, false, IfOk, IfErr, Err};
 ghost use Rattle.x10_kinds.specs.declared.stop.Stop.TheVariants as stop;
-ghost use Rattle.x10_world.specs.declared.rounds.Halt.TheVariants as halt;
+ghost use Rattle.x10_world.specs.declared.rounds.Unfinished.TheVariants as halt;
 ghost use Rattle.x10_world.specs.Queries.{IsClosed};
-ghost use Rattle.x10_world.specs.Rounds.{HasEnded, RunsTo, IsCut, IsHalted, GoesOn, Advances, AdvancesOrEnds};
-ghost use Rattle.x10_world.specs.Runs.{IsSame};
+ghost use Rattle.x10_world.specs.Rounds.{NoneIsLeft, RunsTo, IsCut, IsHalted, HasMade, Advances, AdvancesOrEnds};
+ghost use Rattle.x10_world.specs.Runs.{IsSameWorld};
 
-use crate::rounds::{Halt, Phase, Rounds};
+use crate::rounds::{Phase, Rounds, Unfinished};
 use crate::world::World;
 use std::alloc::Global;
 use x10_model::Event;
@@ -23,10 +23,10 @@ impl Rounds {
         }
     }
 
-    /// The one activity that there is, by its place and key, where the place's turn has nothing to take in; none where there
-    /// are others, or where a frame is in flight.
+    /// The key of the one activity that there is, where the place's turn has nothing to take in; none where there are others,
+    /// or where a frame is in flight.
     #[inline(always)]
-    fn lone(&self, world: &World) -> Option<(u16, usize)> {
+    fn lone(&self, world: &World) -> Option<usize> {
         let Phase::TakesIn = self.phase else {
             return None;
         };
@@ -34,65 +34,55 @@ impl Rounds {
             return None;
         }
         let list = self.lists.get(usize::from(self.place))?;
-        let key = list.first(world, self.place)?;
-        Some((self.place, key))
+        list.first(world.place(self.place)?)
     }
 
-    /// Makes the next events, and answers how many; none only where nothing is in flight and no activity is anywhere. Where
-    /// one activity is alone, its steps are made in one stretch, each a round of its own; otherwise the steps of a turn are
-    /// made one after another.
-    fn advance(&mut self, world: &mut World, left: u64) -> Result<u64, Halt>
+    /// Goes on with a turn, or where it is over with that of the next busy place, and answers how many events were made; none
+    /// only where nothing is in flight and no activity is anywhere. The steps of a turn are made one after another. Where one
+    /// activity is alone, its steps are made in one stretch, each a round of its own, up to one that begins an activity or
+    /// puts out a frame.
+    fn run_turn(&mut self, world: &mut World, left: u64) -> Result<u64, Unfinished>
         requires going { world.old.stopped ≢ true }
         requires some { 1 ≤ left }
         ensures made { AdvancesOrEnds world.old left result world.new }
     {
         self.look(world)?;
-        match self.phase {
-            Phase::Steps(from) if from < self.keys.len() => self.steps_or_more(world, from, left),
-            _ => self.go_on(world, left),
-        }
-    }
-
-    /// Makes the steps of a turn from a position on, and where there is none what comes after the turn.
-    #[inline(always)]
-    fn steps_or_more(&mut self, world: &mut World, position: usize, left: u64) -> Result<u64, Halt>
-        requires going { world.old.stopped ≢ true }
-        requires some { 1 ≤ left }
-        ensures made { AdvancesOrEnds world.old left result world.new }
-    {
-        let made = self.steps(world, position, left)?;
+        let made = self.make_steps(world, left)?;
         if made > 0 {
             return Ok(made);
         }
-        self.go_on(world, left)
-    }
-
-    /// Makes what comes next where a turn begins or is over, and answers how many events.
-    fn go_on(&mut self, world: &mut World, left: u64) -> Result<u64, Halt>
-        requires going { world.old.stopped ≢ true }
-        requires some { 1 ≤ left }
-        ensures made { AdvancesOrEnds world.old left result world.new }
-    {
         self.pass(world);
-        match self.lone(world) {
-            Some((place, key)) => self.stretch(world, place, key, left),
-            None => self.event(world, left),
+        let Some(key) = self.lone(world) else {
+            return self.make_next(world, left);
+        };
+        self.watch(world, self.place);
+        self.lull.forget();
+        let made = world.run_activity(self.place, key, left)?;
+        self.look(world)?;
+        if made == 0 {
+            return self.make_next(world, left);
         }
+        self.phase = Phase::Over;
+        Ok(made)
     }
 
-    /// Makes the steps of a turn from a position on, up to one that leaves place 0 empty, and answers how many events.
-    fn steps(&mut self, world: &mut World, from: usize, left: u64) -> Result<u64, Halt>
+    /// Makes the steps that are left of a turn, up to one that leaves place 0 empty, and answers how many events.
+    #[inline(always)]
+    fn make_steps(&mut self, world: &mut World, left: u64) -> Result<u64, Unfinished>
         requires going { world.old.stopped ≢ true }
         requires some { 1 ≤ left }
         ensures made { Advances world.old left result world.new }
     {
+        let Phase::Steps(from) = self.phase else {
+            return Ok(0);
+        };
         let mut made = 0;
         for _ in from..self.keys.len() {
             let Some(event) = self.step(world) else {
                 return Ok(made);
             };
             self.watch(world, self.place);
-            made += self.event_or_more(world, event, left - made)?;
+            made += self.make_event(world, event, left - made)?;
             self.look(world)?;
             if made == left || (self.place == 0 && world.home_is_empty()) {
                 return Ok(made);
@@ -101,41 +91,24 @@ impl Rounds {
         Ok(made)
     }
 
-    /// Steps of the one activity that there is, up to one that begins an activity or puts out a frame.
-    fn stretch(&mut self, world: &mut World, place: u16, key: usize, left: u64) -> Result<u64, Halt>
-        requires going { world.old.stopped ≢ true }
-        requires some { 1 ≤ left }
-        ensures made { AdvancesOrEnds world.old left result world.new }
-    {
-        self.watch(world, place);
-        self.lull.forget();
-        let made = world.run_activity(place, key, left)?;
-        self.look(world)?;
-        if made == 0 {
-            return self.event(world, left);
-        }
-        self.phase = Phase::Over;
-        Ok(made)
-    }
-
-    /// The next event, or more.
+    /// Makes the next event, or more.
     #[inline(always)]
-    fn event(&mut self, world: &mut World, left: u64) -> Result<u64, Halt>
+    fn make_next(&mut self, world: &mut World, left: u64) -> Result<u64, Unfinished>
         requires going { world.old.stopped ≢ true }
         requires some { 1 ≤ left }
         ensures made { AdvancesOrEnds world.old left result world.new }
     {
         match self.next(world)? {
-            Some(event) => self.event_or_more(world, event, left),
+            Some(event) => self.make_event(world, event, left),
             None => Ok(0),
         }
     }
 
-    /// An event, and answers how many were made. Where it is a step of the activity that alone can move, its steps are
+    /// Makes an event, and answers how many were made. Where it is a step of the activity that alone can move, its steps are
     /// made in one stretch, with the idle steps of the others between them, up to one that begins an activity or puts out a
     /// frame.
     #[inline(always)]
-    fn event_or_more(&mut self, world: &mut World, event: Event, left: u64) -> Result<u64, Halt>
+    fn make_event(&mut self, world: &mut World, event: Event, left: u64) -> Result<u64, Unfinished>
         requires going { world.old.stopped ≢ true }
         requires some { 1 ≤ left }
         ensures made { Advances world.old left result world.new }
@@ -161,10 +134,10 @@ impl Rounds {
 
 /// Makes one event, and answers whether it did anything.
 #[inline(always)]
-fn make(world: &mut World, event: Event) -> Result<bool, Halt>
+fn make(world: &mut World, event: Event) -> Result<bool, Unfinished>
     requires going { world.old.stopped ≢ true }
-    ensures made { IfOk result (λ _. GoesOn world.old 1 1 world.new) }
-    ensures idle { IfOk result (λ moved. moved ≡ false → IsSame world.old world.new) }
+    ensures made { IfOk result (λ _. HasMade world.old 1 1 world.new) }
+    ensures idle { IfOk result (λ moved. moved ≡ false → IsSameWorld world.old world.new) }
     ensures cut { IfErr result (λ why. (limit : ℕ) → IsCut world.old limit world.new why) }
 {
     let moved = world.make_one(event)?;
@@ -173,10 +146,10 @@ fn make(world: &mut World, event: Event) -> Result<bool, Halt>
 
 /// A step of an activity, by its place and key, where it is rarely made.
 #[inline(never)]
-fn try_step(world: &mut World, activity: (u16, usize)) -> Result<bool, Halt>
+fn try_step(world: &mut World, activity: (u16, usize)) -> Result<bool, Unfinished>
     requires going { world.old.stopped ≢ true }
-    ensures made { IfOk result (λ _. GoesOn world.old 1 1 world.new) }
-    ensures idle { IfOk result (λ moved. moved ≡ false → IsSame world.old world.new) }
+    ensures made { IfOk result (λ _. HasMade world.old 1 1 world.new) }
+    ensures idle { IfOk result (λ moved. moved ≡ false → IsSameWorld world.old world.new) }
     ensures cut { IfErr result (λ why. (limit : ℕ) → IsCut world.old limit world.new why) }
 {
     make(world, Event::Step(activity.0, activity.1))
@@ -192,7 +165,7 @@ fn beside(
     waiter: (u16, usize),
     round: u64,
     left: u64,
-) -> Result<u64, Halt>
+) -> Result<u64, Unfinished>
     requires going { world.old.stopped ≢ true }
     requires some { 1 ≤ left }
     requires others { 1 < round }
@@ -214,20 +187,22 @@ fn beside(
 /// after another. Whether the run has ended is checked after each event, before whether there may be another one: only events
 /// at place 0 can end it. The answer is Limit exactly where `limit` events were made and the last one didn't end it. A world
 /// that has stopped answers so, and stays as it is.
-pub fn run_rounds(alloc: Global, world: &mut World, limit: u64) -> Result<(), Halt>
+pub fn run_rounds(alloc: Global, world: &mut World, limit: u64) -> Result<(), Unfinished>
     ensures runs { RunsTo world.old world.new }
-    ensures made { world.old.stopped ≢ true → IfOk result (λ _. (n : ℕ) × GoesOn world.old limit n world.new) }
-    ensures ended { IfOk result (λ _. HasEnded world.new) }
+    ensures made { world.old.stopped ≢ true → IfOk result
+        (λ _. (n : ℕ) × HasMade world.old limit n world.new) }
+    ensures ended { IfOk result (λ _. NoneIsLeft world.new) }
     ensures closed { IfOk result (λ _. IsClosed world.new.places) }
     ensures halted { world.old.stopped ≢ true → IfErr result (IsHalted world.old limit world.new) }
-    ensures stopped { world.old.stopped ≡ true → (result ≡ Err (halt.Stop stop.Stopped)) × (world.new ≡ world.old) }
+    ensures stopped { world.old.stopped ≡ true → (result ≡ Err (halt.Stop stop.Stopped))
+        × (world.new ≡ world.old) }
 {
     world.going()?;
     let mut rounds = Rounds::new(alloc, world)?;
     let mut left = limit;
     for _ in 0..limit {
         let is_first = left == limit;
-        let made = rounds.advance(world, left)?;
+        let made = rounds.run_turn(world, left)?;
         if made == 0 {
             return Ok(());
         }
@@ -236,8 +211,8 @@ pub fn run_rounds(alloc: Global, world: &mut World, limit: u64) -> Result<(), Ha
         }
         left -= made;
         if left == 0 {
-            return Err(Halt::Limit);
+            return Err(Unfinished::Limit);
         }
     }
-    Err(Halt::Limit)
+    Err(Unfinished::Limit)
 }

@@ -1,43 +1,19 @@
-//! What the order of a program's events asks of a world, and how it makes one.
-ghost use Rattle.std.specs.Prelude.{◌≡◌, ◌≢◌, ◌↔◌, ℕ, true, false, IsTrue, IfOk, IfErr, IfSome, MatchOption, None, [], ◌∷◌};
-ghost use Rattle.x10_model.specs.Worlds as machine;
-ghost use Rattle.x10_world.specs.Queries.{IsNoPlace, HasPlace};
-ghost use Rattle.x10_world.specs.StandsForWorld.{StandsForWorld, KeepsSetting};
+//! What the order of a program's events asks of a world.
+ghost use Rattle.std.specs.Prelude.{◌≡◌, ◌↔◌, ℕ, true, IsTrue, IfOk, IfSome, MatchOption, Some, None, slice_get};
+ghost use Rattle.x10_world.specs.Queries.{HasNoPlace, HasPlace};
 ghost use Rattle.x10_model.specs.declared.event.Event.TheVariants.{Step};
 ghost use Rattle.x10_place.specs.StandsFor.{inside_at};
 ghost use Rattle.x10_world.specs.Happenings.{CanHappen, AllIdle, NoneFlies, NothingCanHappen};
-ghost use Rattle.x10_world.specs.Runs.{IsSame, RunsThrough, StopsAt};
 ghost use Rattle.x10_flights.specs.PlaceSets.{has_place};
 ghost use Rattle.x10_flights.specs.Flights.{flies_to, IsNext};
 ghost use Rattle.x10_world.specs.Living.{keys_at, live_at};
-ghost use Rattle.x10_world.specs.Rounds.{IsBusy, IsTurnAfter, IsQuiet};
+ghost use Rattle.x10_world.specs.Rounds.{IsBusy, IsTurnAfter, IsEmptyWorld};
 
-use crate::done::Happening;
 use crate::world::World;
 use std::alloc::{AllocError, Global};
 use x10_flights::PlaceSet;
-use x10_kinds::Stop;
 use x10_model::Event;
-
-impl<'a> World<'a> {
-    /// One event, as `run` makes it, and answers whether it did anything.
-    #[inline(always)]
-    pub fn make_one(&mut self, event: Event) -> Result<bool, Stop>
-        requires { self.old.stopped ≢ true }
-        ensures made { IfOk result (λ _. (w : machine.World) → StandsForWorld self.old w → RunsThrough self.old w (event ∷ []) self.new) }
-        ensures acts { IfOk result (λ moved. IsTrue moved ↔ CanHappen self.old event) }
-        ensures idle { IfOk result (λ moved. moved ≡ false → IsSame self.old self.new) }
-        ensures goes { IfOk result (λ _. self.new.stopped ≢ true) }
-        ensures stops { IfErr result (λ why. StopsAt self.old event why self.new) }
-        ensures kept { KeepsSetting self.old self.new }
-    {
-        match self.happen(event)? {
-            Happening::Idle => Ok(false),
-            Happening::Moved => Ok(true),
-            Happening::Taken(_) => Ok(true),
-        }
-    }
-}
+use x10_place::Place;
 
 impl<'a> World<'a> {
     /// Whether no activity is at place 0, as is so where the run has ended. Constant time.
@@ -49,10 +25,20 @@ impl<'a> World<'a> {
         }
     }
 
+    /// The place with a number; none where there is no such place. Constant time.
+    #[inline(always)]
+    pub(crate) fn place(&self, place: u16) -> Option<&Place<'a>>
+        ensures { MatchOption result (HasNoPlace self.now.places place)
+            (λ p. slice_get self.now.places place ≡ Some p.now) }
+    {
+        self.places.list().get(usize::from(place))
+    }
+
     /// The key that the next activity that begins at a place gets; none where there is no such place. Constant time.
     #[inline(always)]
     pub fn vacant_key(&self, place: u16) -> Option<usize>
-        ensures { MatchOption result (IsNoPlace self.now.places place) (λ key. HasPlace self.now.places place (λ p. key ≡ p.stays.vacant_key)) }
+        ensures { MatchOption result (HasNoPlace self.now.places place)
+            (λ key. HasPlace self.now.places place (λ p. key ≡ p.stays.vacant_key)) }
     {
         let place = self.places.list().get(usize::from(place))?;
         Some(place.vacant_key())
@@ -100,7 +86,7 @@ impl<'a> World<'a> {
     #[inline(always)]
     pub(crate) fn busy_after(&self, place: u16) -> Option<u16>
         ensures some { IfSome result (IsTurnAfter self.now place) }
-        ensures none { result ≡ None → IsQuiet self.now }
+        ensures none { result ≡ None → IsEmptyWorld self.now }
     {
         let _ = &self.verified;
         let busy = self.busy();
@@ -136,7 +122,8 @@ impl<'a> World<'a> {
 
     /// The least key of an activity of a place that can move; none where none can.
     fn able_key(&self, place: u16) -> Option<usize>
-        ensures { MatchOption result (AllIdle self.now place) (λ key. CanHappen self.now (Step place key)) }
+        ensures { MatchOption result (AllIdle self.now place)
+            (λ key. CanHappen self.now (Step place key)) }
     {
         let place = self.places.list().get(usize::from(place))?;
         place.first_able()
@@ -186,7 +173,8 @@ impl<'a> World<'a> {
     /// Whether an activity of a place is inside an atomic region. Constant time.
     #[inline(always)]
     pub fn is_entered(&self, place: u16) -> bool
-        ensures { IsTrue result ↔ HasPlace self.now.places place (λ p. (key : ℕ) × (inside_at p.stays key ≡ true)) }
+        ensures { IsTrue result ↔ HasPlace self.now.places place
+            (λ p. (key : ℕ) × (inside_at p.stays key ≡ true)) }
     {
         match self.places.list().get(usize::from(place)) {
             Some(place) => place.inside().is_some(),

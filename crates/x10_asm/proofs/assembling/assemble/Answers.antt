@@ -8,4 +8,5 @@ pub returns-clause-only : goal.returns-clause-only
 returns-clause-only c = λ m e. only_spelled (λ v. v.items) c.image_in.result (module_of c.args.text.now) m c.image_in.ensures.exact e
 
 pub returns-clause-listed : goal.returns-clause-listed
-returns-clause-listed c = λ m f e. only_spelled (λ v. v.items) c.image_in.result (module_of c.args.text.now) m c.image_in.ensures.exact (ap module_of e ∙ read_again m f)
+returns-clause-listed c = λ m f e. only_spelled (λ v. v.items) c.image_in.result (module_of c.args.text.now) m c.image_in.ensures.exact
+    (ap module_of e ∙ read_again m f)

@@ -2,7 +2,7 @@ use Rattle.std.proofs.Common.{◌+◌, ◌≤◌, length}
 use Rattle.std.specs.Str.{IsUtf8}
 use Rattle.x10_asm.specs.Lines.{lines}
 use Rattle.x10_asm.specs.Reading.{module_of}
-use Rattle.x10_asm.proofs.Passing.{IsPassed}
+use Rattle.x10_asm.proofs.TextLines.{IsPassed}
 use Rattle.x10_asm.proofs.assembling.module_in.Given as goal
 
 abbrev pub invariant-loop-line : goal.invariant-loop-line

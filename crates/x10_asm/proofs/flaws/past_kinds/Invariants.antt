@@ -10,7 +10,8 @@ abbrev pub invariant-loop-word : goal.invariant-loop-word
 invariant-loop-word l = record {
   utf8 : IsUtf8 l.rest;
   left : (c : AsmCause) → each (field_of l.classes) (words l.rest) ≡ Err c → each (field_of l.classes) (words l.line) ≡ Err c;
-  passed : (xs : List Kind) → each (field_of l.classes) (words l.rest) ≡ Ok xs → (all : List Kind) × (each (field_of l.classes) (words l.line) ≡ Ok all);
+  passed : (xs : List Kind) → each (field_of l.classes) (words l.rest) ≡ Ok xs
+      → (all : List Kind) × (each (field_of l.classes) (words l.line) ≡ Ok all);
 }
 
 abbrev pub decreases-loop-word : goal.decreases-loop-word

@@ -10,4 +10,5 @@ returns-clause-passed c =
     let b = rw c.form-form.ensures.value at c.in_ok-line-2.ensures.passed.1 in
     let third = rw c.form-form.ensures.value at c.in_ok-line-3.ensures.passed.1 in
     let x = rw c.form-form.ensures.value at c.in_ok-line-4.ensures.passed.1 in
-    IfOk-weaker c.past_all.result _ _ (λ u n. operands_are c.args.op _ _ _ _ _ a b third x (ap no_more c.in_ok-line-4.ensures.passed.2 ∙ n)) c.past_all.ensures.passed
+    IfOk-weaker c.past_all.result _ _ (λ u n. operands_are c.args.op _ _ _ _ _ a b third x (ap no_more c.in_ok-line-4.ensures.passed.2 ∙ n))
+    c.past_all.ensures.passed

@@ -10,7 +10,8 @@ abbrev pub invariant-loop-word : goal.invariant-loop-word
 invariant-loop-word l = record {
   utf8 : IsUtf8 l.rest;
   left : (c : AsmCause) → each (slot_of l.classes) (words l.rest) ≡ Err c → each (slot_of l.classes) (words l.line) ≡ Err c;
-  passed : (xs : List Slot) → each (slot_of l.classes) (words l.rest) ≡ Ok xs → (all : List Slot) × (each (slot_of l.classes) (words l.line) ≡ Ok all);
+  passed : (xs : List Slot) → each (slot_of l.classes) (words l.rest) ≡ Ok xs
+      → (all : List Slot) × (each (slot_of l.classes) (words l.line) ≡ Ok all);
 }
 
 abbrev pub decreases-loop-word : goal.decreases-loop-word

@@ -8,7 +8,9 @@ pub loop-c-init : goal.loop-c-init
 loop-c-init c = none_listed class_line c.args.image.now.classes (string_bytes c.args.out.now)
 
 pub loop-c-preserved : goal.loop-c-preserved
-loop-c-preserved c = one_more_listed class_line c.args.image.now.classes c.loop-c.c c.class.result (string_bytes c.args.out.now) (string_bytes c.loop-c.out) (string_bytes c.push_class.new.out) c.loop-c.invariant c.class.ensures.value c.in_ok-push_class.ensures
+loop-c-preserved c = one_more_listed class_line c.args.image.now.classes c.loop-c.c c.class.result (string_bytes c.args.out.now)
+    (string_bytes c.loop-c.out) (string_bytes c.push_class.new.out) c.loop-c.invariant c.class.ensures.value c.in_ok-push_class.ensures
 
 pub returns : goal.returns
-returns c = all_listed class_line c.args.image.now.classes c.loop-c.c (string_bytes c.args.out.now) (string_bytes c.loop-c.out) c.loop-c.invariant (omega arith)
+returns c = all_listed class_line c.args.image.now.classes c.loop-c.c (string_bytes c.args.out.now) (string_bytes c.loop-c.out) c.loop-c.invariant
+    (omega arith)

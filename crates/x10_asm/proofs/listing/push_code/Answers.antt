@@ -11,7 +11,10 @@ pub loop-pc-init : goal.loop-pc-init
 loop-pc-init c = none_listed instruction_line (code_at c.args.image.now c.args.f) (string_bytes c.args.out.now)
 
 pub loop-pc-preserved : goal.loop-pc-preserved
-loop-pc-preserved c = one_more_listed instruction_line (code_at c.args.image.now c.args.f) c.loop-pc.pc c.instr.result (string_bytes c.args.out.now) (string_bytes c.loop-pc.out) (string_bytes c.push_instruction.new.out) c.loop-pc.invariant (instr_reached (function_at c.args.image.now c.args.f) c.loop-pc.pc c.instr.result c.instr.ensures.value) c.in_ok-push_instruction.ensures
+loop-pc-preserved c = one_more_listed instruction_line (code_at c.args.image.now c.args.f) c.loop-pc.pc c.instr.result (string_bytes c.args.out.now)
+    (string_bytes c.loop-pc.out) (string_bytes c.push_instruction.new.out) c.loop-pc.invariant
+    (instr_reached (function_at c.args.image.now c.args.f) c.loop-pc.pc c.instr.result c.instr.ensures.value) c.in_ok-push_instruction.ensures
 
 pub returns : goal.returns
-returns c = all_listed instruction_line (code_at c.args.image.now c.args.f) c.loop-pc.pc (string_bytes c.args.out.now) (string_bytes c.loop-pc.out) c.loop-pc.invariant (omega (arith, c.code_len-pc-end.ensures.value))
+returns c = all_listed instruction_line (code_at c.args.image.now c.args.f) c.loop-pc.pc (string_bytes c.args.out.now)
+    (string_bytes c.loop-pc.out) c.loop-pc.invariant (omega (arith, c.code_len-pc-end.ensures.value))

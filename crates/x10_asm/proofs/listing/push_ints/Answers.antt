@@ -8,7 +8,9 @@ pub loop-i-init : goal.loop-i-init
 loop-i-init c = none_listed int_line c.args.image.now.ints (string_bytes c.args.out.now)
 
 pub loop-i-preserved : goal.loop-i-preserved
-loop-i-preserved c = one_more_listed int_line c.args.image.now.ints c.loop-i.i c.in_ok-push_int_at.ensures.0 (string_bytes c.args.out.now) (string_bytes c.loop-i.out) (string_bytes c.push_int_at.new.out) c.loop-i.invariant c.in_ok-push_int_at.ensures.1 c.in_ok-push_int_at.ensures.2
+loop-i-preserved c = one_more_listed int_line c.args.image.now.ints c.loop-i.i c.in_ok-push_int_at.ensures.0 (string_bytes c.args.out.now)
+    (string_bytes c.loop-i.out) (string_bytes c.push_int_at.new.out) c.loop-i.invariant c.in_ok-push_int_at.ensures.1 c.in_ok-push_int_at.ensures.2
 
 pub returns : goal.returns
-returns c = all_listed int_line c.args.image.now.ints c.loop-i.i (string_bytes c.args.out.now) (string_bytes c.loop-i.out) c.loop-i.invariant (omega arith)
+returns c = all_listed int_line c.args.image.now.ints c.loop-i.i (string_bytes c.args.out.now) (string_bytes c.loop-i.out) c.loop-i.invariant
+    (omega arith)

@@ -10,7 +10,10 @@ pub loop-i-init : goal.loop-i-init
 loop-i-init c = none_listed spaced (map kind_word c.args.class.now) (string_bytes c.args.out.now)
 
 pub loop-i-preserved : goal.loop-i-preserved
-loop-i-preserved c = one_more_listed spaced (map kind_word c.args.class.now) c.loop-i.i (kind_word c.field.result) (string_bytes c.args.out.now) (string_bytes c.loop-i.out) (string_bytes c.push_kind.new.out) c.loop-i.invariant (word_at kind_word c.args.class.now c.loop-i.i c.field.result c.field.ensures.value) c.in_ok-push_kind.ensures
+loop-i-preserved c = one_more_listed spaced (map kind_word c.args.class.now) c.loop-i.i (kind_word c.field.result) (string_bytes c.args.out.now)
+    (string_bytes c.loop-i.out) (string_bytes c.push_kind.new.out) c.loop-i.invariant
+    (word_at kind_word c.args.class.now c.loop-i.i c.field.result c.field.ensures.value) c.in_ok-push_kind.ensures
 
 pub returns : goal.returns
-returns c = all_listed spaced (map kind_word c.args.class.now) c.loop-i.i (string_bytes c.args.out.now) (string_bytes c.loop-i.out) c.loop-i.invariant (simp length-map (omega arith))
+returns c = all_listed spaced (map kind_word c.args.class.now) c.loop-i.i (string_bytes c.args.out.now) (string_bytes c.loop-i.out) c.loop-i.invariant
+    (simp length-map (omega arith))

@@ -10,7 +10,10 @@ pub loop-i-init : goal.loop-i-init
 loop-i-init c = none_listed spaced (map slot_word c.args.signature.now.parameters) (string_bytes c.args.out.now)
 
 pub loop-i-preserved : goal.loop-i-preserved
-loop-i-preserved c = one_more_listed spaced (map slot_word c.args.signature.now.parameters) c.loop-i.i (slot_word c.parameter.result) (string_bytes c.args.out.now) (string_bytes c.loop-i.out) (string_bytes c.push_slot.new.out) c.loop-i.invariant (word_at slot_word c.args.signature.now.parameters c.loop-i.i c.parameter.result c.parameter.ensures.value) c.in_ok-push_slot.ensures
+loop-i-preserved c = one_more_listed spaced (map slot_word c.args.signature.now.parameters) c.loop-i.i (slot_word c.parameter.result)
+    (string_bytes c.args.out.now) (string_bytes c.loop-i.out) (string_bytes c.push_slot.new.out) c.loop-i.invariant
+    (word_at slot_word c.args.signature.now.parameters c.loop-i.i c.parameter.result c.parameter.ensures.value) c.in_ok-push_slot.ensures
 
 pub returns : goal.returns
-returns c = all_listed spaced (map slot_word c.args.signature.now.parameters) c.loop-i.i (string_bytes c.args.out.now) (string_bytes c.loop-i.out) c.loop-i.invariant (simp length-map (omega arith))
+returns c = all_listed spaced (map slot_word c.args.signature.now.parameters) c.loop-i.i (string_bytes c.args.out.now)
+    (string_bytes c.loop-i.out) c.loop-i.invariant (simp length-map (omega arith))

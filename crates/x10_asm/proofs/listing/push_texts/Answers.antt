@@ -8,7 +8,9 @@ pub loop-i-init : goal.loop-i-init
 loop-i-init c = none_listed text_line c.args.image.now.texts (string_bytes c.args.out.now)
 
 pub loop-i-preserved : goal.loop-i-preserved
-loop-i-preserved c = one_more_listed text_line c.args.image.now.texts c.loop-i.i c.text.result.now (string_bytes c.args.out.now) (string_bytes c.loop-i.out) (string_bytes c.push_text_line.new.out) c.loop-i.invariant c.text.ensures.value c.in_ok-push_text_line.ensures
+loop-i-preserved c = one_more_listed text_line c.args.image.now.texts c.loop-i.i c.text.result.now (string_bytes c.args.out.now)
+    (string_bytes c.loop-i.out) (string_bytes c.push_text_line.new.out) c.loop-i.invariant c.text.ensures.value c.in_ok-push_text_line.ensures
 
 pub returns : goal.returns
-returns c = all_listed text_line c.args.image.now.texts c.loop-i.i (string_bytes c.args.out.now) (string_bytes c.loop-i.out) c.loop-i.invariant (omega arith)
+returns c = all_listed text_line c.args.image.now.texts c.loop-i.i (string_bytes c.args.out.now) (string_bytes c.loop-i.out) c.loop-i.invariant
+    (omega arith)

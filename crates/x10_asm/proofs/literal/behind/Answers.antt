@@ -1,6 +1,6 @@
 use Rattle.std.proofs.Common.{sym, ◌∙◌, arith}
 use Rattle.std.proofs.lemmas.Str.{IsCharBoundary-after_ascii}
-use Rattle.x10_asm.proofs.Scanning.{escape_within, bad_within, quote_within, backslash_within, other_within, none_within}
+use Rattle.x10_asm.proofs.QuotedBytes.{escape_within, bad_within, quote_within, backslash_within, other_within, none_within}
 use Rattle.x10_asm.proofs.literal.behind.Goals as goal
 use Rattle.x10_asm.proofs.literal.behind.Goals.{then-after_backslash+in-Some, else-after_backslash+else-byte-eq34+then-byte-eq92, else-after_backslash+else-byte-eq34+else-byte-eq92}
 
@@ -13,7 +13,8 @@ returns-in_default c =
 
 pub range_from-requires : goal.range_from-requires
 range_from-requires c = λ _.
-    IsCharBoundary-after_ascii c.args.quoted.now c.loop-at.at c.utf8.quoted (rw c.as_bytes-bytes.ensures.value at c.loop-at-test.true) (omega (arith, rw c.as_bytes-bytes.ensures.value at c.if-byte-eq34.true))
+    IsCharBoundary-after_ascii c.args.quoted.now c.loop-at.at c.utf8.quoted (rw c.as_bytes-bytes.ensures.value at c.loop-at-test.true)
+    (omega (arith, rw c.as_bytes-bytes.ensures.value at c.if-byte-eq34.true))
 
 pub returns-then-byte-eq34 : goal.returns-then-byte-eq34
 returns-then-byte-eq34 c =
@@ -42,4 +43,5 @@ loop-at-preserved c =
     ]
 
 pub returns : goal.returns
-returns c = none_within c.args.quoted.now c.loop-at.after_backslash c.loop-at.at c.loop-at.invariant (rw c.as_bytes-bytes.ensures.value at c.loop-at-test.false)
+returns c = none_within c.args.quoted.now c.loop-at.after_backslash c.loop-at.at c.loop-at.invariant
+    (rw c.as_bytes-bytes.ensures.value at c.loop-at-test.false)

@@ -1,5 +1,5 @@
 use Rattle.std.proofs.Common.{drop}
-use Rattle.x10_asm.proofs.Scanning.{IsWithin}
+use Rattle.x10_asm.proofs.QuotedBytes.{IsWithin}
 use Rattle.x10_asm.proofs.literal.behind.Given as goal
 
 abbrev pub invariant-loop-at : goal.invariant-loop-at

@@ -3,7 +3,7 @@ use Rattle.std.specs.String.{string_bytes}
 use Rattle.std.specs.Str.{IsUtf8}
 use Rattle.std.proofs.lemmas.Str.{IsUtf8-string_bytes}
 use Rattle.std.proofs.lemmas.Bool.{false≢true}
-use Rattle.x10_asm.proofs.Scanning.{fitting_gives, no_text}
+use Rattle.x10_asm.proofs.QuotedBytes.{fitting_gives, no_text}
 use Rattle.x10_asm.proofs.literal.fitting.Goals as goal
 
 pub returns-in-Ok : goal.returns-in-Ok

@@ -1,5 +1,5 @@
 use Rattle.std.proofs.Common.{drop}
-use Rattle.x10_asm.proofs.Scanning.{IsScanned}
+use Rattle.x10_asm.proofs.QuotedBytes.{IsScanned}
 use Rattle.x10_asm.proofs.literal.scan.Given as goal
 
 abbrev pub invariant-loop-at : goal.invariant-loop-at

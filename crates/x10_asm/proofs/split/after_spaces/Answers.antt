@@ -1,6 +1,6 @@
 use Rattle.std.proofs.Common.{◌∙◌, arith, refl}
 use Rattle.std.proofs.lemmas.Str.{IsCharBoundary-start, IsCharBoundary-after_ascii}
-use Rattle.x10_asm.proofs.Splitting.{space_passed}
+use Rattle.x10_asm.proofs.LinesAndWords.{space_passed}
 use Rattle.x10_asm.proofs.split.after_spaces.Goals as goal
 
 pub loop-at-init : goal.loop-at-init

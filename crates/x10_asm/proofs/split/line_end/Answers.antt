@@ -1,4 +1,4 @@
-use Rattle.x10_asm.proofs.Splitting.{count_found, count_missed}
+use Rattle.x10_asm.proofs.LinesAndWords.{count_found, count_missed}
 use Rattle.x10_asm.proofs.split.line_end.Goals as goal
 
 pub returns-in-Some-clause-at : goal.returns-in-Some-clause-at

@@ -4,4 +4,5 @@ use Rattle.x10_bounds.proofs.InOrder.{take-at}
 use Rattle.x10_bounds.proofs.functions.code_of.Goals as goal
 
 pub loop-pc-preserved : goal.loop-pc-preserved
-loop-pc-preserved c = c.in_ok-push.ensures.items ∙ ap (λ (xs : List Instr). xs ++ c.instr.result ∷ []) c.loop-pc.invariant ∙ sym (take-at c.args.image.now c.args.f c.loop-pc.pc c.instr.result c.instr.ensures.value)
+loop-pc-preserved c = c.in_ok-push.ensures.items ∙ ap (λ (xs : List Instr). xs ++ c.instr.result ∷ []) c.loop-pc.invariant
+    ∙ sym (take-at c.args.image.now c.args.f c.loop-pc.pc c.instr.result c.instr.ensures.value)

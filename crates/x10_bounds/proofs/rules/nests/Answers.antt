@@ -9,4 +9,5 @@ use Rattle.x10_bounds.proofs.rules.nests.Goals as goal
 pub returns-in-Return : goal.returns-in-Return
 returns-in-Return c i e =
     let same = same_Some i c.instr_at.result (sym e ∙ c.instr_at.ensures) in
-    c.is_in_loops.ensures ∙ return_nests i.op (around c.args.code.now c.args.pc) c.spot_at-spot.result (ap (λ (j : Instr). shape_of j.op) same ∙ sym c.classify.ensures ∙ c.in-Return.is) c.spot_at-spot.ensures
+    c.is_in_loops.ensures ∙ return_nests i.op (around c.args.code.now c.args.pc) c.spot_at-spot.result
+    (ap (λ (j : Instr). shape_of j.op) same ∙ sym c.classify.ensures ∙ c.in-Return.is) c.spot_at-spot.ensures

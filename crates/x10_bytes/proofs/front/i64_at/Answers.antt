@@ -8,4 +8,7 @@ returns-then-bytes-lt8 g c = record { exact = fault_is _ _ _ c.too_short.ensures
 pub returns : goal.returns
 returns g c =
     rw c.split_at.ensures.back
-    (record { exact = int_is _ c.args.bytes.now c.read_u64.result _ (omega arith) (omega (arith, rw c.split_at.ensures.front at c.read_u64.ensures)) (signed_is c.read_u64.result c.cast_signed.result (search (rules, arith)) c.cast_signed.ensures) })
+    (record {
+      exact = int_is _ c.args.bytes.now c.read_u64.result _ (omega arith) (omega (arith, rw c.split_at.ensures.front at c.read_u64.ensures))
+          (signed_is c.read_u64.result c.cast_signed.result (search (rules, arith)) c.cast_signed.ensures);
+    })

@@ -10,4 +10,7 @@ returns-then-bytes-lt2 g c = record { exact = fault_is _ _ _ c.too_short.ensures
 pub returns : goal.returns
 returns g c =
     rw c.split_at.ensures.back
-    (record { exact = number_is _ w16 c.args.bytes.now c.read_u16.result (omega arith) (omega (arith, rw c.split_at.ensures.front at c.read_u16.ensures)) })
+    (record {
+      exact = number_is _ w16 c.args.bytes.now c.read_u16.result (omega arith)
+          (omega (arith, rw c.split_at.ensures.front at c.read_u16.ensures));
+    })

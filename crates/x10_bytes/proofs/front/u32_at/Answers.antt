@@ -10,4 +10,7 @@ returns-then-bytes-lt4 g c = record { exact = fault_is _ _ _ c.too_short.ensures
 pub returns : goal.returns
 returns g c =
     rw c.split_at.ensures.back
-    (record { exact = number_is _ w32 c.args.bytes.now c.read_u32.result (omega arith) (omega (arith, rw c.split_at.ensures.front at c.read_u32.ensures)) })
+    (record {
+      exact = number_is _ w32 c.args.bytes.now c.read_u32.result (omega arith)
+          (omega (arith, rw c.split_at.ensures.front at c.read_u32.ensures));
+    })

@@ -1,8 +1,8 @@
-use Rattle.x10_cli.proofs.Leaving.{same_status, stopped_kept}
+use Rattle.x10_cli.proofs.UndoneLemmas.{same_status, stopped_kept}
 use Rattle.std.proofs.Common.{arith}
 use Rattle.x10_cli.specs.declared.fault.Fault.TheVariants as told
 use Rattle.x10_cli.proofs.Answered.{status_told}
-use Rattle.x10_cli.proofs.Printing.{prints_kept}
+use Rattle.x10_cli.proofs.LinesPrinted.{prints_kept}
 use Rattle.x10_cli.proofs.commands.execute.Goals as goal
 
 pub returns-then-is_err-clause-status : goal.returns-then-is_err-clause-status
@@ -12,9 +12,13 @@ pub returns-in-Err-clause-status : goal.returns-in-Err-clause-status
 returns-in-Err-clause-status w = λ c. status_told _ c.in-Err.fault c.refuse.ensures.status
 
 pub returns-in-Ok-clause-printed : goal.returns-in-Ok-clause-printed
-returns-in-Ok-clause-printed w = λ c. λ e. prints_kept c.args.task.now.verb c.args.task.now.json c.args.task.now.places c.args.bytes.now (w.O.Write.contents c.args.out.now) (w.O.Write.contents c.perform-done.new.out) (w.O.Write.contents c.flush.new.self) c.in-Ok.ensures.printed c.flush.ensures.bytes
+returns-in-Ok-clause-printed w = λ c. λ e. prints_kept c.args.task.now.verb c.args.task.now.json c.args.task.now.places c.args.bytes.now
+    (w.O.Write.contents c.args.out.now) (w.O.Write.contents c.perform-done.new.out)
+    (w.O.Write.contents c.flush.new.self) c.in-Ok.ensures.printed c.flush.ensures.bytes
 
 pub returns-in-Err-clause-left_stopped : goal.returns-in-Err-clause-left_stopped
 returns-in-Err-clause-left_stopped w = λ c. λ s.
-    stopped_kept c.args.task.now.verb c.args.task.now.json c.args.task.now.threads c.args.task.now.places c.args.bytes.now (w.O.Write.contents c.args.out.now) (w.O.Write.contents c.perform-done.new.out) (w.O.Write.contents c.flush.new.self)
-    (c.in-Err.ensures.left_stopped (same_status c.refuse.result 2 c.in-Err.fault c.refuse.ensures.status s (λ x. omega (arith, x)))) c.flush.ensures.bytes
+    stopped_kept c.args.task.now.verb c.args.task.now.json c.args.task.now.threads c.args.task.now.places c.args.bytes.now
+    (w.O.Write.contents c.args.out.now) (w.O.Write.contents c.perform-done.new.out) (w.O.Write.contents c.flush.new.self)
+    (c.in-Err.ensures.left_stopped (same_status c.refuse.result 2 c.in-Err.fault c.refuse.ensures.status s (λ x. omega (arith, x))))
+    c.flush.ensures.bytes

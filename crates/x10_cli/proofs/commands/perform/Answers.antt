@@ -1,4 +1,4 @@
-use Rattle.x10_cli.proofs.Leaving.{run_stopped}
+use Rattle.x10_cli.proofs.UndoneLemmas.{run_stopped}
 use Rattle.x10_task.specs.declared.task.Verb.TheVariants as verb
 use Rattle.std.proofs.Common.{refl, true, false}
 use Rattle.x10_cli.proofs.commands.perform.Goals as goal
@@ -22,16 +22,24 @@ pub returns-in-Bounds-clause-due : goal.returns-in-Bounds-clause-due
 returns-in-Bounds-clause-due w = λ c. c.print_bounds.ensures.due c.args.task.now.places
 
 pub returns-in-Trace-clause-left_stopped : goal.returns-in-Trace-clause-left_stopped
-returns-in-Trace-clause-left_stopped w = λ c. run_stopped c.print_trace.result c.args.task.now.verb verb.Trace c.args.task.now.json c.args.task.now.threads c.args.task.now.threads c.args.task.now.places c.args.bytes.now (w.O.Write.contents c.args.out.now) (w.O.Write.contents c.print_trace.new.out) c.in-Trace.is refl c.print_trace.ensures.stopped
+returns-in-Trace-clause-left_stopped w = λ c. run_stopped c.print_trace.result c.args.task.now.verb verb.Trace c.args.task.now.json
+    c.args.task.now.threads c.args.task.now.threads c.args.task.now.places c.args.bytes.now (w.O.Write.contents c.args.out.now)
+    (w.O.Write.contents c.print_trace.new.out) c.in-Trace.is refl c.print_trace.ensures.stopped
 
 pub returns-in-Draw-clause-left_stopped : goal.returns-in-Draw-clause-left_stopped
-returns-in-Draw-clause-left_stopped w = λ c. run_stopped c.print_picture.result c.args.task.now.verb verb.Draw c.args.task.now.json c.args.task.now.threads c.args.task.now.threads c.args.task.now.places c.args.bytes.now (w.O.Write.contents c.args.out.now) (w.O.Write.contents c.print_picture.new.out) c.in-Draw.is refl c.print_picture.ensures.stopped
+returns-in-Draw-clause-left_stopped w = λ c. run_stopped c.print_picture.result c.args.task.now.verb verb.Draw c.args.task.now.json
+    c.args.task.now.threads c.args.task.now.threads c.args.task.now.places c.args.bytes.now (w.O.Write.contents c.args.out.now)
+    (w.O.Write.contents c.print_picture.new.out) c.in-Draw.is refl c.print_picture.ensures.stopped
 
 pub returns-in-Run-clause-left_stopped : goal.returns-in-Run-clause-left_stopped
-returns-in-Run-clause-left_stopped w = λ c. run_stopped c.print_threaded.result c.args.task.now.verb verb.Run c.args.task.now.json c.args.task.now.threads true c.args.task.now.places c.args.bytes.now (w.O.Write.contents c.args.out.now) (w.O.Write.contents c.print_threaded.new.out) c.in-Run.is c.if-task.true c.print_threaded.ensures.stopped
+returns-in-Run-clause-left_stopped w = λ c. run_stopped c.print_threaded.result c.args.task.now.verb verb.Run c.args.task.now.json
+    c.args.task.now.threads true c.args.task.now.places c.args.bytes.now (w.O.Write.contents c.args.out.now)
+    (w.O.Write.contents c.print_threaded.new.out) c.in-Run.is c.if-task.true c.print_threaded.ensures.stopped
 
 pub returns-in-Run-2-clause-left_stopped : goal.returns-in-Run-2-clause-left_stopped
-returns-in-Run-2-clause-left_stopped w = λ c. run_stopped c.print_run.result c.args.task.now.verb verb.Run c.args.task.now.json c.args.task.now.threads false c.args.task.now.places c.args.bytes.now (w.O.Write.contents c.args.out.now) (w.O.Write.contents c.print_run.new.out) c.in-Run.is c.if-task.false c.print_run.ensures.stopped
+returns-in-Run-2-clause-left_stopped w = λ c. run_stopped c.print_run.result c.args.task.now.verb verb.Run c.args.task.now.json
+    c.args.task.now.threads false c.args.task.now.places c.args.bytes.now (w.O.Write.contents c.args.out.now)
+    (w.O.Write.contents c.print_run.new.out) c.in-Run.is c.if-task.false c.print_run.ensures.stopped
 
 pub returns-in-Explain-clause-due : goal.returns-in-Explain-clause-due
 returns-in-Explain-clause-due w = λ c. c.print_section.ensures.due c.args.task.now.places

@@ -1,4 +1,4 @@
-use Rattle.x10_world.proofs.Rounding.{runs_event, runs_still}
+use Rattle.x10_world.proofs.RunCounts.{runs_event, runs_still}
 use Rattle.x10_cli.proofs.commands.print_event.Goals as goal
 
 pub returns-in_err-done-clause-runs : goal.returns-in_err-done-clause-runs

@@ -1,7 +1,7 @@
 use Rattle.std.proofs.lemmas.Result.{err_from_is_err_and}
 use Rattle.std.proofs.Common.{inl}
-use Rattle.x10_cli.proofs.Leaving.{kept_self}
-use Rattle.x10_cli.proofs.Running.{done_by, due_unless, run_printed, run_left}
+use Rattle.x10_cli.proofs.UndoneLemmas.{kept_self}
+use Rattle.x10_cli.proofs.RunLemmas.{done_by, due_unless, run_printed, run_left}
 use Rattle.x10_task.specs.declared.task.Verb.TheVariants as verb
 use Rattle.x10_cli.specs.Answers.{CanBeDone}
 use Rattle.x10_cli.proofs.commands.print_run.Goals as goal
@@ -36,11 +36,18 @@ returns-clause-due w = λ c. due_unless c.print_scheduled.result c.args.task.now
 
 pub returns-clause-printed : goal.returns-clause-printed
 returns-clause-printed w = λ c.
-    run_printed c.args.task.now.json c.print_scheduled.result c.args.bytes.now c.in_ok-verified.verified c.args.task.now.places c.in_ok-world.world c.print_scheduled.new.world (w.O.Write.contents c.args.out.now) (w.O.Write.contents c.print_scheduled.new.out) c.in_ok-verified.ensures.found c.in_ok-world.ensures.opened c.print_scheduled.ensures.runs c.print_scheduled.ensures.ended c.print_scheduled.ensures.printed
+    run_printed c.args.task.now.json c.print_scheduled.result c.args.bytes.now c.in_ok-verified.verified c.args.task.now.places c.in_ok-world.world
+    c.print_scheduled.new.world (w.O.Write.contents c.args.out.now)
+    (w.O.Write.contents c.print_scheduled.new.out) c.in_ok-verified.ensures.found c.in_ok-world.ensures.opened c.print_scheduled.ensures.runs
+    c.print_scheduled.ensures.ended c.print_scheduled.ensures.printed
 
 pub returns-clause-stopped : goal.returns-clause-stopped
 returns-clause-stopped w = λ c.
-    run_left c.args.task.now.json c.print_scheduled.result c.args.bytes.now c.in_ok-verified.verified c.args.task.now.places c.in_ok-world.world c.print_scheduled.new.world (w.O.Write.contents c.args.out.now) (w.O.Write.contents c.print_scheduled.new.out) c.in_ok-verified.ensures.found c.in_ok-world.ensures.opened c.print_scheduled.ensures.runs c.print_scheduled.ensures.stopped
+    run_left c.args.task.now.json c.print_scheduled.result c.args.bytes.now c.in_ok-verified.verified c.args.task.now.places c.in_ok-world.world
+    c.print_scheduled.new.world (w.O.Write.contents c.args.out.now)
+    (w.O.Write.contents c.print_scheduled.new.out) c.in_ok-verified.ensures.found c.in_ok-world.ensures.opened c.print_scheduled.ensures.runs
+    c.print_scheduled.ensures.stopped
 
 pub returns-clause-done : goal.returns-clause-done
-returns-clause-done w = λ c. done_by c.print_scheduled.result (CanBeDone verb.Run c.args.task.now.places c.args.bytes.now) (c.in_ok-verified.verified, c.in_ok-verified.ensures.found, c.in_ok-world.ensures.permitted)
+returns-clause-done w = λ c. done_by c.print_scheduled.result (CanBeDone verb.Run c.args.task.now.places c.args.bytes.now)
+    (c.in_ok-verified.verified, c.in_ok-verified.ensures.found, c.in_ok-world.ensures.permitted)

@@ -1,7 +1,7 @@
 use Rattle.std.proofs.lemmas.Result.{err_from_is_err_and}
 use Rattle.std.proofs.Common.{inl}
-use Rattle.x10_cli.proofs.Leaving.{kept_self}
-use Rattle.x10_cli.proofs.Running.{done_by, due_unless, trace_printed, trace_left}
+use Rattle.x10_cli.proofs.UndoneLemmas.{kept_self}
+use Rattle.x10_cli.proofs.RunLemmas.{done_by, due_unless, trace_printed, trace_left}
 use Rattle.x10_task.specs.declared.task.Verb.TheVariants as verb
 use Rattle.x10_cli.specs.Answers.{CanBeDone}
 use Rattle.x10_cli.proofs.commands.print_trace.Goals as goal
@@ -36,11 +36,16 @@ returns-clause-due w = λ c. due_unless c.trace.result c.args.task.now.places c.
 
 pub returns-clause-printed : goal.returns-clause-printed
 returns-clause-printed w = λ c.
-    trace_printed c.trace.result c.args.bytes.now c.in_ok-verified.verified c.args.task.now.places c.in_ok-world.world c.trace.new.world (w.O.Write.contents c.args.out.now) (w.O.Write.contents c.trace.new.out) c.in_ok-verified.ensures.found c.in_ok-world.ensures.opened c.trace.ensures.runs c.trace.ensures.ended c.trace.ensures.traced
+    trace_printed c.trace.result c.args.bytes.now c.in_ok-verified.verified c.args.task.now.places c.in_ok-world.world c.trace.new.world
+    (w.O.Write.contents c.args.out.now) (w.O.Write.contents c.trace.new.out) c.in_ok-verified.ensures.found c.in_ok-world.ensures.opened
+    c.trace.ensures.runs c.trace.ensures.ended c.trace.ensures.traced
 
 pub returns-clause-stopped : goal.returns-clause-stopped
 returns-clause-stopped w = λ c.
-    trace_left c.trace.result c.args.bytes.now c.in_ok-verified.verified c.args.task.now.places c.in_ok-world.world (w.O.Write.contents c.args.out.now) (w.O.Write.contents c.trace.new.out) c.in_ok-verified.ensures.found c.in_ok-world.ensures.opened c.trace.ensures.some
+    trace_left c.trace.result c.args.bytes.now c.in_ok-verified.verified c.args.task.now.places c.in_ok-world.world
+    (w.O.Write.contents c.args.out.now) (w.O.Write.contents c.trace.new.out) c.in_ok-verified.ensures.found c.in_ok-world.ensures.opened
+    c.trace.ensures.some
 
 pub returns-clause-done : goal.returns-clause-done
-returns-clause-done w = λ c. done_by c.trace.result (CanBeDone verb.Trace c.args.task.now.places c.args.bytes.now) (c.in_ok-verified.verified, c.in_ok-verified.ensures.found, c.in_ok-world.ensures.permitted)
+returns-clause-done w = λ c. done_by c.trace.result (CanBeDone verb.Trace c.args.task.now.places c.args.bytes.now)
+    (c.in_ok-verified.verified, c.in_ok-verified.ensures.found, c.in_ok-world.ensures.permitted)

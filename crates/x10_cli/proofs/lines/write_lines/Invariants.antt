@@ -5,4 +5,5 @@ use Rattle.x10_cli.specs.Lines.{place_lines}
 use Rattle.x10_cli.proofs.lines.write_lines.Given as goal
 
 abbrev pub invariant-loop-line : goal.invariant-loop-line
-invariant-loop-line g l = Appends (g.O.Write.contents l.initial.out) (g.O.Write.contents l.out) (place_lines l.json l.place (map line_as (take l.line-index l.lines)))
+invariant-loop-line g l = Appends (g.O.Write.contents l.initial.out) (g.O.Write.contents l.out)
+    (place_lines l.json l.place (map line_as (take l.line-index l.lines)))

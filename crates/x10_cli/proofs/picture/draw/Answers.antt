@@ -1,4 +1,4 @@
-use Rattle.x10_world.proofs.Rounding.{runs_self, runs_on}
+use Rattle.x10_world.proofs.RunCounts.{runs_self, runs_on}
 use Rattle.x10_cli.proofs.picture.draw.Goals as goal
 
 pub returns-in_err-scheduler-clause-runs : goal.returns-in_err-scheduler-clause-runs

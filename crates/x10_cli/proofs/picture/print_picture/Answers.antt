@@ -1,7 +1,7 @@
 use Rattle.std.proofs.lemmas.Result.{err_from_is_err_and}
 use Rattle.std.proofs.Common.{inl}
-use Rattle.x10_cli.proofs.Leaving.{kept_self}
-use Rattle.x10_cli.proofs.Running.{done_by, due_unless, picture_printed, picture_left}
+use Rattle.x10_cli.proofs.UndoneLemmas.{kept_self}
+use Rattle.x10_cli.proofs.RunLemmas.{done_by, due_unless, picture_printed, picture_left}
 use Rattle.x10_task.specs.declared.task.Verb.TheVariants as verb
 use Rattle.x10_cli.specs.Answers.{CanBeDone}
 use Rattle.x10_cli.proofs.picture.print_picture.Goals as goal
@@ -36,11 +36,16 @@ returns-clause-due w = λ c. due_unless c.print_drawn.result c.args.task.now.pla
 
 pub returns-clause-printed : goal.returns-clause-printed
 returns-clause-printed w = λ c.
-    picture_printed c.print_drawn.result c.args.bytes.now c.in_ok-verified.verified c.args.task.now.places c.in_ok-world.world c.print_drawn.new.world (w.O.Write.contents c.args.out.now) (w.O.Write.contents c.print_drawn.new.out) c.in_ok-verified.ensures.found c.in_ok-world.ensures.opened c.print_drawn.ensures.runs c.print_drawn.ensures.ended c.print_drawn.ensures.printed
+    picture_printed c.print_drawn.result c.args.bytes.now c.in_ok-verified.verified c.args.task.now.places c.in_ok-world.world c.print_drawn.new.world
+    (w.O.Write.contents c.args.out.now) (w.O.Write.contents c.print_drawn.new.out) c.in_ok-verified.ensures.found c.in_ok-world.ensures.opened
+    c.print_drawn.ensures.runs c.print_drawn.ensures.ended c.print_drawn.ensures.printed
 
 pub returns-clause-stopped : goal.returns-clause-stopped
 returns-clause-stopped w = λ c.
-    picture_left c.print_drawn.result c.args.bytes.now c.in_ok-verified.verified c.args.task.now.places c.in_ok-world.world c.print_drawn.new.world (w.O.Write.contents c.args.out.now) (w.O.Write.contents c.print_drawn.new.out) c.in_ok-verified.ensures.found c.in_ok-world.ensures.opened c.print_drawn.ensures.runs c.print_drawn.ensures.stopped
+    picture_left c.print_drawn.result c.args.bytes.now c.in_ok-verified.verified c.args.task.now.places c.in_ok-world.world c.print_drawn.new.world
+    (w.O.Write.contents c.args.out.now) (w.O.Write.contents c.print_drawn.new.out) c.in_ok-verified.ensures.found c.in_ok-world.ensures.opened
+    c.print_drawn.ensures.runs c.print_drawn.ensures.stopped
 
 pub returns-clause-done : goal.returns-clause-done
-returns-clause-done w = λ c. done_by c.print_drawn.result (CanBeDone verb.Draw c.args.task.now.places c.args.bytes.now) (c.in_ok-verified.verified, c.in_ok-verified.ensures.found, c.in_ok-world.ensures.permitted)
+returns-clause-done w = λ c. done_by c.print_drawn.result (CanBeDone verb.Draw c.args.task.now.places c.args.bytes.now)
+    (c.in_ok-verified.verified, c.in_ok-verified.ensures.found, c.in_ok-world.ensures.permitted)

@@ -16,7 +16,8 @@ returns-in_err-opened-clause-refused c = λ bytes is.
     rw (told.1, told.2) (c.in_err-opened.ensures.refused bytes is)
 
 pub loop-before-init : goal.loop-before-init
-loop-before-init c = subst (λ s. FoundIn c.args.verified.now (places_for c.args.task.now.places c.args.verified.now) 0 s) (sym c.new-findings.ensures) none
+loop-before-init c = subst (λ s. FoundIn c.args.verified.now (places_for c.args.task.now.places c.args.verified.now) c.args.task.now.limit 0 s)
+    (sym c.new-findings.ensures) none
 
 pub returns-in_err-world-clause-due : goal.returns-in_err-world-clause-due
 returns-in_err-world-clause-due c = λ bytes is.
@@ -30,4 +31,5 @@ returns-in_err-world-clause-refused c = λ bytes is.
 
 pub loop-before-preserved : goal.loop-before-preserved
 loop-before-preserved c =
-    one_more c.loop-before.before c.loop-before.findings c.add.new.self c.in_ok-world.world c.in_ok-output.output c.in_ok-output.ended c.loop-before.invariant c.in_ok-world.ensures.opened c.in_ok-output.ensures.run c.in_ok-add.ensures.added
+    one_more c.loop-before.before c.loop-before.findings c.add.new.self c.in_ok-world.world c.in_ok-output.output c.in_ok-output.ended
+    c.loop-before.invariant c.in_ok-world.ensures.opened c.in_ok-output.ensures.run c.in_ok-add.ensures.added

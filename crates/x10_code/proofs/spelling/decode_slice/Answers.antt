@@ -1,5 +1,5 @@
 use Rattle.std.proofs.Common.{arith}
-use Rattle.x10_code.proofs.Decoding.{is_found, is_only, is_unknown}
+use Rattle.x10_code.proofs.CodecLemmas.{is_found, is_only, is_unknown}
 use Rattle.x10_code.proofs.spelling.decode_slice.Goals as goal
 
 pub returns-clause-found : goal.returns-clause-found

@@ -1,4 +1,4 @@
-use Rattle.x10_code.proofs.Decoding.{encoded}
+use Rattle.x10_code.proofs.CodecLemmas.{encoded}
 use Rattle.x10_code.proofs.spelling.encode.Goals as goal
 
 pub returns : goal.returns

@@ -10,5 +10,6 @@ ok_then P Q (Err e) f h = tt
 
 pub returns-clause-taken : goal.returns-clause-taken
 returns-clause-taken c =
-    ok_then _ (λ roots. IsTakenIn c.args.image.now c.args.here c.args.heap.now c.args.slots.now c.args.view.now roots.items c.bring.new.heap) c.bring.result
+    ok_then _ (λ roots. IsTakenIn c.args.image.now c.args.here c.args.heap.now c.args.slots.now c.args.view.now roots.items c.bring.new.heap)
+    c.bring.result
     (λ roots h. h c.args.image.now c.args.here c.args.home c.args.slots.now c.in_ok-check.ensures.ok) c.bring.ensures.taken

@@ -1,7 +1,7 @@
 use Rattle.std.proofs.Common.{◌≡◌, true, false, rules}
 use Rattle.x10_frame.specs.Heads.{graph_of}
 use Rattle.x10_copy.specs.Fitting.{have_homes}
-use Rattle.x10_copy.proofs.Telling.{homes_tell}
+use Rattle.x10_copy.proofs.TestLemmas.{homes_tell}
 use Rattle.x10_copy.proofs.arriving.check.Goals as goal
 
 pub returns-then-not-have_homes-clause-err : goal.returns-then-not-have_homes-clause-err

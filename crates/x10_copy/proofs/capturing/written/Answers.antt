@@ -6,7 +6,8 @@ use Rattle.std.proofs.Common.{refl}
 
 pub returns-clause-value : goal.returns-clause-value
 returns-clause-value c =
-    c.finish.ensures.spelled c.args.head.now (graph_of c.args.image.now.classes c.args.heap.now c.args.marks.now (kinds_of c.args.slots.now) c.args.words.now)
+    c.finish.ensures.spelled c.args.head.now (graph_of c.args.image.now.classes c.args.heap.now c.args.marks.now
+    (kinds_of c.args.slots.now) c.args.words.now)
     c.requires.graph
     (drafted c.args.head.now c.args.image.now.classes c.args.heap.now c.args.marks.now (kinds_of c.args.slots.now) c.args.words.now _ _ _ _
     c.in_ok-writer.writer c.in_ok-writer-2.writer c.in_ok-writer-3.writer c.in_ok-writer-4.writer c.in_ok-writer-5.writer

@@ -2,7 +2,7 @@ use Rattle.std.proofs.Common.{◌≡◌, ℕ, ◌<◌, length, get_or, subst, ar
 use Rattle.std.proofs.lemmas.Result.{err_from_is_err_and}
 use Rattle.x10_copy.specs.Captured.{kinds_of}
 use Rattle.x10_copy.specs.Walks.{Walked}
-use Rattle.x10_copy.proofs.Walking.{words_of, wordy, start, start_over, next, next_over, next_long}
+use Rattle.x10_copy.proofs.TurnsOfObjects.{words_of, wordy, start, start_over, next, next_over, next_long}
 use Rattle.x10_copy.proofs.mark.mark.Goals as goal
 
 pub note_roots-requires : goal.note_roots-requires
@@ -18,14 +18,16 @@ pub loop-k-init : goal.loop-k-init
 loop-k-init c = record {
   within = omega arith;
   walked = rw (c.in_ok-note_roots.ensures.ok, c.clear.ensures)
-      (start c.args.image.now.classes c.args.heap.now (kinds_of c.args.slots.now) c.args.words.now c.args.places c.requires.words c.note_roots.ensures.small);
+      (start c.args.image.now.classes c.args.heap.now (kinds_of c.args.slots.now) c.args.words.now c.args.places c.requires.words
+      c.note_roots.ensures.small);
 }
 
 pub note_object-requires : goal.note_object-requires
 note_object-requires c =
     let lt : c.loop-k.k < length c.loop-k.marks.objects = omega (arith, c.loop-k-test.true, c.objects.ensures.value) in
     let there = (c.loop-k.invariant.walked.there.objects c.loop-k.k lt).below in
-    rw (c.object-object.ensures, c.look_ahead-seen.ensures) (wordy c.args.image.now.classes c.args.places c.args.heap.now (get_or c.loop-k.marks.objects c.loop-k.k 0) (omega arith) there
+    rw (c.object-object.ensures, c.look_ahead-seen.ensures) (wordy c.args.image.now.classes c.args.places c.args.heap.now
+    (get_or c.loop-k.marks.objects c.loop-k.k 0) (omega arith) there
     (c.requires.heap (get_or c.loop-k.marks.objects c.loop-k.k 0) there))
 
 pub returns-in_err-note_object-clause-err : goal.returns-in_err-note_object-clause-err
@@ -33,20 +35,24 @@ returns-in_err-note_object-clause-err c =
     let lt : c.loop-k.k < length c.loop-k.marks.objects = omega (arith, c.loop-k-test.true, c.objects.ensures.value) in
     let there = (c.loop-k.invariant.walked.there.objects c.loop-k.k lt).below in
     let p = err_from_is_err_and c.from_residual-in_err-note_object.result c.from_residual-in_err-note_object.ensures.1 in
-    rw (p.1, p.2) (next_over c.args.image.now.classes c.args.heap.now (kinds_of c.args.slots.now) c.args.words.now c.args.places c.loop-k.k c.loop-k.marks
+    rw (p.1, p.2) (next_over c.args.image.now.classes c.args.heap.now
+    (kinds_of c.args.slots.now) c.args.words.now c.args.places c.loop-k.k c.loop-k.marks
     c.in_err-note_object.field-0.0 c.loop-k.invariant.walked lt
-    (c.requires.heap (get_or c.loop-k.marks.objects c.loop-k.k 0) there) (rw (c.object-object.ensures, c.look_ahead-seen.ensures) at c.in_err-note_object.ensures.err))
+    (c.requires.heap (get_or c.loop-k.marks.objects c.loop-k.k 0) there)
+    (rw (c.object-object.ensures, c.look_ahead-seen.ensures) at c.in_err-note_object.ensures.err))
 
 pub loop-k-preserved : goal.loop-k-preserved
 loop-k-preserved c =
     let lt : c.loop-k.k < length c.loop-k.marks.objects = omega (arith, c.loop-k-test.true, c.objects.ensures.value) in
     let there = (c.loop-k.invariant.walked.there.objects c.loop-k.k lt).below in
     record {
-      within = rw (c.in_ok-note_object.ensures.ok, c.object-object.ensures, c.look_ahead-seen.ensures) (next_long c.args.image.now.classes c.args.heap.now c.loop-k.k c.loop-k.marks lt);
+      within = rw (c.in_ok-note_object.ensures.ok, c.object-object.ensures, c.look_ahead-seen.ensures)
+          (next_long c.args.image.now.classes c.args.heap.now c.loop-k.k c.loop-k.marks lt);
       walked = rw (c.in_ok-note_object.ensures.ok, c.object-object.ensures, c.look_ahead-seen.ensures)
           (next c.args.image.now.classes c.args.heap.now (kinds_of c.args.slots.now) c.args.words.now c.args.places c.loop-k.k c.loop-k.marks
           c.loop-k.invariant.walked lt
-          (c.requires.heap (get_or c.loop-k.marks.objects c.loop-k.k 0) there) (rw (c.object-object.ensures, c.look_ahead-seen.ensures) at c.note_object.ensures.small));
+          (c.requires.heap (get_or c.loop-k.marks.objects c.loop-k.k 0) there)
+          (rw (c.object-object.ensures, c.look_ahead-seen.ensures) at c.note_object.ensures.small));
     }
 
 pub returns-clause-ok : goal.returns-clause-ok

@@ -1,7 +1,7 @@
 use Rattle.std.proofs.Common.{sym, ◌∙◌, arith}
 use Rattle.std.proofs.lemmas.Result.{err_from_is_err_and}
 use Rattle.std.proofs.lemmas.Option.{slice_get-get_or}
-use Rattle.x10_copy.proofs.Noting.{same_count, word_at, noted_kept, noted_end, over_all}
+use Rattle.x10_copy.proofs.NotedWords.{same_count, word_at, noted_kept, noted_end, over_all}
 use Rattle.x10_copy.proofs.note.note_fields.Goals as goal
 
 pub field-requires : goal.field-requires
@@ -14,7 +14,8 @@ note-requires c = word_at c.args.class.now c.args.words.now c.loop-j.j _ _ c.req
 pub returns-in_err-note-clause-err : goal.returns-in_err-note-clause-err
 returns-in_err-note-clause-err c =
     let p = err_from_is_err_and c.from_residual.result c.from_residual.ensures.1 in
-    rw (p.1, p.2) (over_all c.args.marks.now c.loop-j.marks c.args.class.now c.args.words.now c.loop-j.j _ _ c.in_err-note.field-0.0 c.loop-j.invariant
+    rw (p.1, p.2) (over_all c.args.marks.now c.loop-j.marks c.args.class.now c.args.words.now c.loop-j.j _ _ c.in_err-note.field-0.0
+    c.loop-j.invariant
     c.field.ensures.value
     (slice_get-get_or c.args.words.now c.loop-j.j 0 c.loop-j-test.true) c.in_err-note.ensures.err)
 

@@ -2,7 +2,7 @@ use Rattle.std.proofs.Common.{sym, ◌∙◌}
 use Rattle.std.proofs.lemmas.Result.{err_from_is_err_and}
 use Rattle.std.proofs.lemmas.Option.{slice_get-get_or}
 use Rattle.x10_copy.specs.Captured.{kinds_of}
-use Rattle.x10_copy.proofs.Noting.{word_at, kind_at, slot_there, noted_kept, noted_end, over_all}
+use Rattle.x10_copy.proofs.NotedWords.{word_at, kind_at, slot_there, noted_kept, noted_end, over_all}
 use Rattle.x10_copy.proofs.note.note_roots.Goals as goal
 
 pub bounds-slots-i : goal.bounds-slots-i
@@ -22,7 +22,8 @@ returns-in_err-note-clause-err c =
     (slice_get-get_or c.args.words.now c.loop-i.i 0 c.loop-i-test.true) c.in_err-note.ensures.err)
 
 pub loop-i-preserved : goal.loop-i-preserved
-loop-i-preserved c = noted_kept c.args.marks.now c.loop-i.marks c.note.new.self (kinds_of c.args.slots.now) c.args.words.now c.loop-i.i _ _ c.loop-i.invariant
+loop-i-preserved c = noted_kept c.args.marks.now c.loop-i.marks c.note.new.self
+    (kinds_of c.args.slots.now) c.args.words.now c.loop-i.i _ _ c.loop-i.invariant
     (kind_at c.args.slots.now c.loop-i.i _ (slot_there c.args.slots.now c.args.words.now c.loop-i.i c.requires c.loop-i-test.true))
     (slice_get-get_or c.args.words.now c.loop-i.i 0 c.loop-i-test.true) c.in_ok-note.ensures.ok
 

@@ -3,8 +3,8 @@ use Rattle.std.proofs.lemmas.Option.{slice_get-get_or}
 use Rattle.x10_model.specs.declared.version.FrameVersion.TheVariants.{Wide}
 use Rattle.x10_model.specs.Frames.{item_bytes}
 use Rattle.x10_copy.specs.Names.{items_of}
-use Rattle.x10_copy.proofs.Noting.{same_count, word_at}
-use Rattle.x10_copy.proofs.Putting.{found_at, one_item, left_end, items_end}
+use Rattle.x10_copy.proofs.NotedWords.{same_count, word_at}
+use Rattle.x10_copy.proofs.WrittenLemmas.{found_at, one_item, left_end, items_end}
 use Rattle.x10_copy.proofs.put.put_fields.Goals as goal
 
 pub field-requires : goal.field-requires
@@ -24,5 +24,6 @@ loop-j-preserved c = one_item c.args.marks.now c.args.class.now c.args.words.now
     (slice_get-get_or c.args.words.now c.loop-j.j 0 c.loop-j-test.true) c.item.ensures c.in_ok-writer.ensures.value
 
 pub returns : goal.returns
-returns c = left_end (item_bytes Wide) c.args.writer (items_of c.args.marks.now c.args.class.now c.args.words.now) c.loop-j.writer _ c.loop-j.invariant
+returns c = left_end (item_bytes Wide) c.args.writer (items_of c.args.marks.now c.args.class.now c.args.words.now) c.loop-j.writer _
+    c.loop-j.invariant
     (items_end c.args.marks.now c.args.class.now c.args.words.now c.loop-j.j c.loop-j-test.false)

@@ -1,8 +1,8 @@
 use Rattle.std.proofs.Common.{◌≡◌, ℕ, [], length, sym, ◌∙◌, ap, arith}
 use Rattle.std.proofs.lemmas.Option.{slice_get-get_or, get_or_from_slice_get}
 use Rattle.x10_copy.specs.Graphs.{kinds_at, no_object, object_at}
-use Rattle.x10_copy.proofs.Noting.{same_count}
-use Rattle.x10_copy.proofs.Putting.{if_ok, node_written}
+use Rattle.x10_copy.proofs.NotedWords.{same_count}
+use Rattle.x10_copy.proofs.WrittenLemmas.{if_ok, node_written}
 use Rattle.x10_copy.proofs.put.put_object.Goals as goal
 
 pub overflow_cast-words : goal.overflow_cast-words

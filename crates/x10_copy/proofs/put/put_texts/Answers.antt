@@ -3,14 +3,15 @@ use Rattle.std.proofs.lemmas.Option.{get_or_from_slice_get}
 use Rattle.x10_model.specs.Modules.{FitsText}
 use Rattle.x10_model.specs.Frames.{blob_bytes}
 use Rattle.x10_copy.specs.Graphs.{text_at}
-use Rattle.x10_copy.proofs.Putting.{part_next, part_end, all_at}
+use Rattle.x10_copy.proofs.WrittenLemmas.{part_next, part_end, all_at}
 use Rattle.x10_copy.proofs.put.put_texts.Goals as goal
 
 pub loop-i-preserved : goal.loop-i-preserved
 loop-i-preserved c =
     let lt : c.loop-i.i < length c.args.marks.now.texts = omega (arith, c.loop-i-test.true, c.texts-i-end.ensures.value) in
     let is = sym (get_or_from_slice_get c.args.heap.now.texts c.text.result c.text-in-loop-i.result.now [] c.text-in-loop-i.ensures.value) in
-    let here : FitsText (text_at c.args.heap.now (get_or c.args.marks.now.texts c.loop-i.i 0)) = rw (← c.text.ensures, ← is) c.text-in-loop-i.ensures.fits in
+    let here : FitsText (text_at c.args.heap.now (get_or c.args.marks.now.texts c.loop-i.i 0)) =
+    rw (← c.text.ensures, ← is) c.text-in-loop-i.ensures.fits in
     record {
       left = part_next blob_bytes (text_at c.args.heap.now) c.args.marks.now.texts c.loop-i.i c.text.result c.args.writer c.loop-i.writer
           c.in_ok-writer.writer c.text-in-loop-i.result.now
@@ -19,7 +20,8 @@ loop-i-preserved c =
     }
 
 pub returns-clause-value : goal.returns-clause-value
-returns-clause-value c = part_end blob_bytes (text_at c.args.heap.now) c.args.marks.now.texts c.loop-i.i c.args.writer c.loop-i.writer c.loop-i.invariant.left
+returns-clause-value c = part_end blob_bytes (text_at c.args.heap.now) c.args.marks.now.texts c.loop-i.i c.args.writer c.loop-i.writer
+    c.loop-i.invariant.left
     (omega (arith, c.loop-i-test.false, c.texts-i-end.ensures.value))
 
 pub returns-clause-fits : goal.returns-clause-fits

@@ -2,7 +2,7 @@ use Rattle.std.proofs.Common.{ℕ, ◌<◌, drop, get_or, map}
 use Rattle.x10_model.specs.Modules.{FitsText}
 use Rattle.x10_model.specs.Frames.{blob_bytes}
 use Rattle.x10_copy.specs.Graphs.{text_at}
-use Rattle.x10_copy.proofs.Putting.{IsLeft}
+use Rattle.x10_copy.proofs.WrittenLemmas.{IsLeft}
 use Rattle.x10_copy.proofs.put.put_texts.Given as goal
 
 abbrev pub invariant-loop-i : goal.invariant-loop-i

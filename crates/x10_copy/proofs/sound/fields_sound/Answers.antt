@@ -5,7 +5,8 @@ use Rattle.x10_copy.proofs.Tests.{pairs_next, pairs_fail}
 use Rattle.x10_copy.proofs.sound.fields_sound.Goals as goal
 
 pub returns-then-not-word_sound : goal.returns-then-not-word_sound
-returns-then-not-word_sound c = pairs_fail (word_sound c.args.places c.args.heap.now) _ c.args.class.now c.args.words.now c.loop-j.j _ _ c.loop-j.invariant
+returns-then-not-word_sound c = pairs_fail (word_sound c.args.places c.args.heap.now) _ c.args.class.now c.args.words.now c.loop-j.j _ _
+    c.loop-j.invariant
     c.field.ensures.value (slice_get-get_or c.args.words.now c.loop-j.j 0 c.loop-j-test.true) (search rules)
 
 pub loop-j-preserved : goal.loop-j-preserved

@@ -4,4 +4,5 @@ use Rattle.x10_copy.specs.Soundness.{word_sound}
 use Rattle.x10_copy.proofs.sound.fields_sound.Given as goal
 
 abbrev pub invariant-loop-j : goal.invariant-loop-j
-invariant-loop-j l = pairs_pass (word_sound l.places l.heap) l.class l.words ≡ pairs_pass (word_sound l.places l.heap) (drop l.j l.class) (drop l.j l.words)
+invariant-loop-j l = pairs_pass (word_sound l.places l.heap) l.class l.words
+    ≡ pairs_pass (word_sound l.places l.heap) (drop l.j l.class) (drop l.j l.words)

@@ -1,5 +1,5 @@
 use Rattle.std.proofs.Common.{sym, ◌∙◌}
-use Rattle.x10_copy.proofs.Sounding.{heap_to, heap_from}
+use Rattle.x10_copy.proofs.SoundWords.{heap_to, heap_from}
 use Rattle.x10_copy.proofs.sound.heap_is_sound.Goals as goal
 
 pub returns : goal.returns

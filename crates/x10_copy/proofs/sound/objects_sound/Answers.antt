@@ -9,12 +9,14 @@ pub returns-then-not-object_sound : goal.returns-then-not-object_sound
 returns-then-not-object_sound c =
     let lt : c.loop-object.object < length c.args.heap.now.objects = omega (arith, c.loop-object-test.true, c.objects-object-end.ensures.value) in
     each_fail (object_sound c.args.image.now.classes c.args.places c.args.heap.now) _ c.args.heap.now.objects c.loop-object.object
-    (object_at c.args.heap.now c.loop-object.object) c.loop-object.invariant (slice_get-get_or c.args.heap.now.objects c.loop-object.object no_object lt)
+    (object_at c.args.heap.now c.loop-object.object) c.loop-object.invariant
+    (slice_get-get_or c.args.heap.now.objects c.loop-object.object no_object lt)
     (search rules)
 
 pub loop-object-preserved : goal.loop-object-preserved
 loop-object-preserved c =
     let lt : c.loop-object.object < length c.args.heap.now.objects = omega (arith, c.loop-object-test.true, c.objects-object-end.ensures.value) in
     each_next (object_sound c.args.image.now.classes c.args.places c.args.heap.now) _ c.args.heap.now.objects c.loop-object.object
-    (object_at c.args.heap.now c.loop-object.object) c.loop-object.invariant (slice_get-get_or c.args.heap.now.objects c.loop-object.object no_object lt)
+    (object_at c.args.heap.now c.loop-object.object) c.loop-object.invariant
+    (slice_get-get_or c.args.heap.now.objects c.loop-object.object no_object lt)
     (search rules)

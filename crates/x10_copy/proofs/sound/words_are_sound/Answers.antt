@@ -1,6 +1,6 @@
 use Rattle.std.proofs.Common.{sym, ◌∙◌}
 use Rattle.x10_copy.specs.Captured.{kinds_of}
-use Rattle.x10_copy.proofs.Sounding.{words_to, words_from}
+use Rattle.x10_copy.proofs.SoundWords.{words_to, words_from}
 use Rattle.x10_copy.proofs.sound.words_are_sound.Goals as goal
 
 pub returns : goal.returns

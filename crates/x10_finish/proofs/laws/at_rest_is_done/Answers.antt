@@ -1,4 +1,4 @@
-use Rattle.x10_finish.proofs.Resting.{at_rest_is_done}
+use Rattle.x10_finish.proofs.HomeConcludes.{at_rest_is_done}
 use Rattle.x10_finish.proofs.laws.at_rest_is_done.Goals as goal
 
 pub returns : goal.returns

@@ -1,4 +1,4 @@
-use Rattle.x10_finish.proofs.Resting.{done_is_at_rest}
+use Rattle.x10_finish.proofs.HomeConcludes.{done_is_at_rest}
 use Rattle.x10_finish.proofs.laws.done_is_at_rest.Goals as goal
 
 pub returns : goal.returns

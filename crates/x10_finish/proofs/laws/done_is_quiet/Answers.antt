@@ -1,4 +1,4 @@
-use Rattle.x10_finish.proofs.Telling.{done_is_quiet}
+use Rattle.x10_finish.proofs.CountLemmas.{done_is_quiet}
 use Rattle.x10_finish.proofs.laws.done_is_quiet.Goals as goal
 
 pub returns : goal.returns

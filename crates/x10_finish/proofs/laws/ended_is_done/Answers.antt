@@ -1,4 +1,4 @@
-use Rattle.x10_finish.proofs.Watching.{ended_is_done}
+use Rattle.x10_finish.proofs.WorldLemmas.{ended_is_done}
 use Rattle.x10_finish.proofs.laws.ended_is_done.Goals as goal
 
 pub returns : goal.returns

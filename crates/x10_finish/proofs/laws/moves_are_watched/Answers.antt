@@ -1,4 +1,4 @@
-use Rattle.x10_finish.proofs.Watching.{moves_are_watched}
+use Rattle.x10_finish.proofs.WorldLemmas.{moves_are_watched}
 use Rattle.x10_finish.proofs.laws.moves_are_watched.Goals as goal
 
 pub returns : goal.returns

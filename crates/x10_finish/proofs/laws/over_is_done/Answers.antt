@@ -1,4 +1,4 @@
-use Rattle.x10_finish.proofs.Watching.{over_is_done}
+use Rattle.x10_finish.proofs.WorldLemmas.{over_is_done}
 use Rattle.x10_finish.proofs.laws.over_is_done.Goals as goal
 
 pub returns : goal.returns

@@ -1,4 +1,4 @@
-use Rattle.x10_finish.proofs.Telling.{quiet_is_done}
+use Rattle.x10_finish.proofs.CountLemmas.{quiet_is_done}
 use Rattle.x10_finish.proofs.laws.quiet_is_done.Goals as goal
 
 pub returns : goal.returns

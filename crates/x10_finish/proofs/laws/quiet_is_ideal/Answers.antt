@@ -1,4 +1,4 @@
-use Rattle.x10_finish.proofs.Closing.{quiet_is_ideal}
+use Rattle.x10_finish.proofs.QuietClosings.{quiet_is_ideal}
 use Rattle.x10_finish.proofs.laws.quiet_is_ideal.Goals as goal
 
 pub returns : goal.returns

@@ -1,4 +1,4 @@
-use Rattle.x10_finish.proofs.Watching.{stays_are_counted}
+use Rattle.x10_finish.proofs.WorldLemmas.{stays_are_counted}
 use Rattle.x10_finish.proofs.laws.stays_are_counted.Goals as goal
 
 pub returns : goal.returns

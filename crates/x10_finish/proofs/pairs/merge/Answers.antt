@@ -1,14 +1,16 @@
 use Rattle.std.proofs.Common.{◌≡◌, ℕ, length, refl, subst, arith}
 use Rattle.x10_finish.specs.Pairs.{pair_at, merged_to}
-use Rattle.x10_finish.proofs.Merging.{merged_more}
+use Rattle.x10_finish.proofs.MergedReports.{merged_more}
 use Rattle.x10_finish.proofs.pairs.merge.Goals as goal
 
 pub loop-q-preserved : goal.loop-q-preserved
 loop-q-preserved c = record {
   whole = c.raise-unequal-in-loop-q.ensures.whole;
   unequal = c.raise-unequal-in-loop-q.ensures.unequal;
-  pairs = merged_more c.args.place c.args.sent.now c.args.received.now c.loop-q.q (pair_at (length c.args.sent.now) c.args.pairs.now.items) (pair_at (length c.args.sent.now) c.loop-q.pairs.items)
-      (pair_at (length c.args.sent.now) c.raise-unequal.new.pairs.items) (pair_at (length c.args.sent.now) c.raise-unequal-in-loop-q.new.pairs.items) _ _
+  pairs = merged_more c.args.place c.args.sent.now c.args.received.now c.loop-q.q (pair_at (length c.args.sent.now) c.args.pairs.now.items)
+      (pair_at (length c.args.sent.now) c.loop-q.pairs.items)
+      (pair_at (length c.args.sent.now) c.raise-unequal.new.pairs.items)
+      (pair_at (length c.args.sent.now) c.raise-unequal-in-loop-q.new.pairs.items) _ _
       c.loop-q.invariant.pairs refl refl
       c.raise-unequal.ensures.pairs
       c.raise-unequal-in-loop-q.ensures.pairs;
@@ -17,4 +19,6 @@ loop-q-preserved c = record {
 pub returns-clause-pairs : goal.returns-clause-pairs
 returns-clause-pairs c =
     let last : c.loop-q.q ≡ length c.args.sent.now = omega arith in
-    subst (λ (q : ℕ). (a b : ℕ) → pair_at (length c.args.sent.now) c.loop-q.pairs.items a b ≡ merged_to c.args.place c.args.sent.now c.args.received.now q (pair_at (length c.args.sent.now) c.args.pairs.now.items) a b) last c.loop-q.invariant.pairs
+    subst (λ (q : ℕ). (a b : ℕ) → pair_at (length c.args.sent.now) c.loop-q.pairs.items a b
+    ≡ merged_to c.args.place c.args.sent.now c.args.received.now q (pair_at (length c.args.sent.now) c.args.pairs.now.items) a b) last
+    c.loop-q.invariant.pairs

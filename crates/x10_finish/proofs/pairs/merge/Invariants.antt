@@ -6,5 +6,6 @@ abbrev pub invariant-loop-q : goal.invariant-loop-q
 invariant-loop-q l = record {
   whole : length l.pairs.items ≡ length l.sent * length l.sent;
   unequal : l.unequal ≡ unequal_in l.home (length l.sent) l.pairs.items;
-  pairs : (a b : ℕ) → pair_at (length l.sent) l.pairs.items a b ≡ merged_to l.place l.sent l.received l.q (pair_at (length l.sent) l.initial.pairs.items) a b;
+  pairs : (a b : ℕ) → pair_at (length l.sent) l.pairs.items a b
+      ≡ merged_to l.place l.sent l.received l.q (pair_at (length l.sent) l.initial.pairs.items) a b;
 }

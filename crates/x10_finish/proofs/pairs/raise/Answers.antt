@@ -11,10 +11,14 @@ overflow_add-result c =
     omega arith
 
 -- how many differ before and after
-counts : (c : goal.After-differs-2) → unequal_in c.args.home c.args.places (slice_set c.args.pairs.now.items (c.args.from * c.args.places + c.args.to) (record { sent = c.max.result; received = c.max-2.result })) + c.differs-2.result ≡ c.args.unequal + c.differs.result
+counts : (c : goal.After-differs-2) → unequal_in c.args.home c.args.places
+    (slice_set c.args.pairs.now.items (c.args.from * c.args.places + c.args.to)
+    (record { sent = c.max.result; received = c.max-2.result })) + c.differs-2.result ≡ c.args.unequal + c.differs.result
 counts c =
-    let old = read_at c.args.places c.args.pairs.now.items c.args.from c.args.to c.index-old.result.now c.requires.from c.requires.to c.requires.whole c.index-old.ensures in
-    let whole = unequal_written c.args.home c.args.places c.args.pairs.now.items c.args.from c.args.to (record { sent = c.max.result; received = c.max-2.result }) c.requires.from c.requires.to c.requires.whole in
+    let old = read_at c.args.places c.args.pairs.now.items c.args.from c.args.to c.index-old.result.now c.requires.from c.requires.to c.requires.whole
+    c.index-old.ensures in
+    let whole = unequal_written c.args.home c.args.places c.args.pairs.now.items c.args.from c.args.to
+    (record { sent = c.max.result; received = c.max-2.result }) c.requires.from c.requires.to c.requires.whole in
     let before = c.differs-2.ensures.value ∙ ap (difference c.args.home c.args.from c.args.to) old in
     let after = c.differs.ensures.value in
     let all = c.requires.unequal in
@@ -28,6 +32,11 @@ returns-clause-unequal c = let e = counts c in omega arith
 
 pub returns-clause-pairs : goal.returns-clause-pairs
 returns-clause-pairs c =
-    let old = read_at c.args.places c.args.pairs.now.items c.args.from c.args.to c.index-old.result.now c.requires.from c.requires.to c.requires.whole c.index-old.ensures in
-    raised_written c.args.places c.args.pairs.now.items c.args.from c.args.to c.args.by (record { sent = c.max.result; received = c.max-2.result }) c.requires.from c.requires.to c.requires.whole
-    (λ i. record { sent = (c.max.ensures ∙ ap (λ (p : Pair). max p.sent c.args.by.sent) old) i; received = (c.max-2.ensures ∙ ap (λ (p : Pair). max p.received c.args.by.received) old) i })
+    let old = read_at c.args.places c.args.pairs.now.items c.args.from c.args.to c.index-old.result.now c.requires.from c.requires.to c.requires.whole
+    c.index-old.ensures in
+    raised_written c.args.places c.args.pairs.now.items c.args.from c.args.to c.args.by
+    (record { sent = c.max.result; received = c.max-2.result }) c.requires.from c.requires.to c.requires.whole
+    (λ i. record {
+      sent = (c.max.ensures ∙ ap (λ (p : Pair). max p.sent c.args.by.sent) old) i;
+      received = (c.max-2.ensures ∙ ap (λ (p : Pair). max p.received c.args.by.received) old) i;
+    })

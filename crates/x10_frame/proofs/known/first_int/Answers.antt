@@ -7,4 +7,5 @@ use Rattle.x10_frame.proofs.known.first_int.Goals as goal
 pub returns-clause-item : goal.returns-clause-item
 returns-clause-item c =
     let e : c.read_u64.result ≡ from_be_bytes w64 (take 8 c.args.bytes.now) = omega (arith, rw c.split_at.ensures.front at c.read_u64.ensures) in
-    ap IntItem (sym (signed_is c.read_u64.result c.cast_signed-number.result (search (rules, arith)) c.cast_signed-number.ensures) ∙ ap (λ n. cast_signed w64 n) e)
+    ap IntItem (sym (signed_is c.read_u64.result c.cast_signed-number.result (search (rules, arith)) c.cast_signed-number.ensures)
+    ∙ ap (λ n. cast_signed w64 n) e)

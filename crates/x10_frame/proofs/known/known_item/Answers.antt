@@ -6,19 +6,24 @@ pub first_byte-tag-requires : goal.first_byte-tag-requires
 first_byte-tag-requires c = some_bytes c.args.version c.requires.0 c.args.bytes.now c.requires.1
 
 pub first_int-requires : goal.first_int-requires
-first_int-requires c = rw c.first_byte-tag.ensures.after (int_again c.args.version c.requires.0 c.args.bytes.now c.requires.1 (sym c.first_byte-tag.ensures.number ∙ c.in-1.is)).room
+first_int-requires c = rw c.first_byte-tag.ensures.after (int_again c.args.version c.requires.0 c.args.bytes.now c.requires.1
+    (sym c.first_byte-tag.ensures.number ∙ c.in-1.is)).room
 
 pub first_u16-place-requires : goal.first_u16-place-requires
-first_u16-place-requires c = rw c.first_byte-tag.ensures.after (place_again c.args.version c.requires.0 c.args.bytes.now c.requires.1 (sym c.first_byte-tag.ensures.number ∙ c.in-2.is)).room
+first_u16-place-requires c = rw c.first_byte-tag.ensures.after
+    (place_again c.args.version c.requires.0 c.args.bytes.now c.requires.1 (sym c.first_byte-tag.ensures.number ∙ c.in-2.is)).room
 
 pub first_number-index-requires : goal.first_number-index-requires
-first_number-index-requires c = rw c.first_byte-tag.ensures.after (text_again c.args.version c.requires.0 c.args.bytes.now c.requires.1 (sym c.first_byte-tag.ensures.number ∙ c.in-3.is)).room
+first_number-index-requires c = rw c.first_byte-tag.ensures.after
+    (text_again c.args.version c.requires.0 c.args.bytes.now c.requires.1 (sym c.first_byte-tag.ensures.number ∙ c.in-3.is)).room
 
 pub first_number-index-requires-in-4 : goal.first_number-index-requires-in-4
-first_number-index-requires-in-4 c = rw c.first_byte-tag.ensures.after (rail_again c.args.version c.requires.0 c.args.bytes.now c.requires.1 (sym c.first_byte-tag.ensures.number ∙ c.in-4.is)).room
+first_number-index-requires-in-4 c = rw c.first_byte-tag.ensures.after
+    (rail_again c.args.version c.requires.0 c.args.bytes.now c.requires.1 (sym c.first_byte-tag.ensures.number ∙ c.in-4.is)).room
 
 pub first_number-index-requires-in-5 : goal.first_number-index-requires-in-5
-first_number-index-requires-in-5 c = rw c.first_byte-tag.ensures.after (object_again c.args.version c.requires.0 c.args.bytes.now c.requires.1 (sym c.first_byte-tag.ensures.number ∙ c.in-5.is)).room
+first_number-index-requires-in-5 c = rw c.first_byte-tag.ensures.after
+    (object_again c.args.version c.requires.0 c.args.bytes.now c.requires.1 (sym c.first_byte-tag.ensures.number ∙ c.in-5.is)).room
 
 pub returns-in-1 : goal.returns-in-1
 returns-in-1 c = λ places there.
@@ -59,7 +64,8 @@ first_ref-requires c =
     let not_4 : c.first_byte-tag.result.0 ≡ 4 → ⊥ = search rules in
     let not_5 : c.first_byte-tag.result.0 ≡ 5 → ⊥ = search rules in
     let not_6 : c.first_byte-tag.result.0 ≡ 6 → ⊥ = search rules in
-    let last = ref_again c.args.version c.requires.0 c.args.bytes.now c.requires.1 (λ h. not_1 (sym e ∙ h)) (λ h. not_2 (sym e ∙ h)) (λ h. not_3 (sym e ∙ h)) (λ h. not_4 (sym e ∙ h)) (λ h. not_5 (sym e ∙ h)) (λ h. not_6 (sym e ∙ h)) in
+    let last = ref_again c.args.version c.requires.0 c.args.bytes.now c.requires.1 (λ h. not_1 (sym e ∙ h)) (λ h. not_2 (sym e ∙ h))
+    (λ h. not_3 (sym e ∙ h)) (λ h. not_4 (sym e ∙ h)) (λ h. not_5 (sym e ∙ h)) (λ h. not_6 (sym e ∙ h)) in
     rw c.first_byte-tag.ensures.after last.room
 
 pub returns-in_default : goal.returns-in_default
@@ -71,5 +77,6 @@ returns-in_default c = λ places there.
     let not_4 : c.first_byte-tag.result.0 ≡ 4 → ⊥ = search rules in
     let not_5 : c.first_byte-tag.result.0 ≡ 5 → ⊥ = search rules in
     let not_6 : c.first_byte-tag.result.0 ≡ 6 → ⊥ = search rules in
-    let last = ref_again c.args.version places c.args.bytes.now there (λ h. not_1 (sym e ∙ h)) (λ h. not_2 (sym e ∙ h)) (λ h. not_3 (sym e ∙ h)) (λ h. not_4 (sym e ∙ h)) (λ h. not_5 (sym e ∙ h)) (λ h. not_6 (sym e ∙ h)) in
+    let last = ref_again c.args.version places c.args.bytes.now there (λ h. not_1 (sym e ∙ h)) (λ h. not_2 (sym e ∙ h)) (λ h. not_3 (sym e ∙ h))
+    (λ h. not_4 (sym e ∙ h)) (λ h. not_5 (sym e ∙ h)) (λ h. not_6 (sym e ∙ h)) in
     rw (c.first_ref.ensures.item, c.first_ref.ensures.after, c.first_byte-tag.ensures.after) last.reads

@@ -6,4 +6,7 @@ use Rattle.x10_frame.specs.Faults.{named}
 use Rattle.x10_frame.proofs.parts.past_counts.Goals as goal
 
 pub returns : goal.returns
-returns c = record { exact = run_passes named (λ x. x.now) c.past.result (number w32 Short) Short 4 (number_length Short w32) c.args.count c.args.bytes.now (rw c.from.ensures at c.past.ensures.exact) }
+returns c = record {
+  exact = run_passes named (λ x. x.now) c.past.result (number w32 Short) Short 4
+      (number_length Short w32) c.args.count c.args.bytes.now (rw c.from.ensures at c.past.ensures.exact);
+}

@@ -6,4 +6,5 @@ use Rattle.x10_bytes.proofs.TableLoops.{Placed}
 use Rattle.x10_frame.proofs.tables.rail_table.Given as goal
 
 abbrev pub invariant-loop : goal.invariant-loop
-invariant-loop l = Placed (λ (_ : ℕ). rail_at) (λ s _. s) blob_bytes l.frame (l.count - l.counter) 0 0 l.rest l.table.items (times l.count rail_at l.bytes)
+invariant-loop l = Placed (λ (_ : ℕ). rail_at) (λ s _. s) blob_bytes l.frame (l.count - l.counter) 0 0 l.rest l.table.items
+    (times l.count rail_at l.bytes)

@@ -1,6 +1,6 @@
 use Rattle.std.proofs.Common.{get_or, sym, ap, arith}
 use Rattle.std.proofs.Math.Nat.{mod-eq_of_lt}
-use Rattle.x10_hall.proofs.Rounds.{recurs_next}
+use Rattle.x10_hall.proofs.KeyRounds.{recurs_next}
 use Rattle.x10_hall.proofs.keys.recurs.Goals as goal
 
 pub loop-at-init : goal.loop-at-init

@@ -1,5 +1,5 @@
 use Rattle.std.proofs.Common.{◌<◌, refl, arith}
-use Rattle.x10_hall.proofs.Rounds.{whole, again}
+use Rattle.x10_hall.proofs.KeyRounds.{whole, again}
 use Rattle.x10_hall.proofs.keys.round_of.Goals as goal
 
 pub returns-then-period-eq0 : goal.returns-then-period-eq0

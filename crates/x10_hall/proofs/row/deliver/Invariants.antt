@@ -12,7 +12,8 @@ invariant-loop-frame l = record {
   taken : (p : ℕ) → (row_at l.rows.items p).taken ≡ (row_at l.initial.rows.items p).taken;
   left : (p : ℕ) → p < length l.rows.items → (row_at l.rows.items p).left ++ row_from p l.number (map frame_of (into_iter_items l.frame-iterator))
       ≡ (row_at l.initial.rows.items p).left ++ row_from p l.first (map frame_of (into_iter_items l.initial.frame-iterator));
-  room : (p : ℕ) → p < length l.rows.items → length (row_from p l.number (map frame_of (into_iter_items l.frame-iterator))) ≤ (row_at l.rows.items p).room;
+  room : (p : ℕ) → p < length l.rows.items → length (row_from p l.number (map frame_of (into_iter_items l.frame-iterator)))
+      ≤ (row_at l.rows.items p).room;
   steps : into_iter_len l.frame-iterator ≡ length (into_iter_items l.frame-iterator);
   few : l.number + length (into_iter_items l.frame-iterator) < 2 ^ 64;
 }

@@ -6,4 +6,5 @@ pub unwrap-requires : goal.unwrap-requires
 unwrap-requires c = op_known c.args.bytes.now c.requires.known.0 c.op_with_code.result c.op_with_code.ensures.value c.requires.known.1
 
 pub returns : goal.returns
-returns c = instr_is c.args.bytes.now c.requires.known.0 c.unwrap.result c.read_u32.result (sym c.op_with_code.ensures.value ∙ c.unwrap.ensures) c.read_u32.ensures c.requires.known.1
+returns c = instr_is c.args.bytes.now c.requires.known.0 c.unwrap.result c.read_u32.result
+    (sym c.op_with_code.ensures.value ∙ c.unwrap.ensures) c.read_u32.ensures c.requires.known.1

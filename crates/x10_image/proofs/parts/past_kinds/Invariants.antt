@@ -4,5 +4,5 @@ use Rattle.x10_model.specs.ReadingImages.{kind_at}
 use Rattle.x10_bytes.proofs.Loops.{Along}
 use Rattle.x10_image.proofs.parts.past_kinds.Given as goal
 
-abbrev pub invariant-loop : goal.invariant-loop
-invariant-loop l = Along (λ (_ : ℕ). kind_at l.classes) (λ s _. s) (l.count - l.counter) 0 0 l.rest (times l.count (kind_at l.classes) l.bytes)
+abbrev pub invariant-loop-field : goal.invariant-loop-field
+invariant-loop-field l = Along (λ (_ : ℕ). kind_at l.classes) (λ s _. s) (l.count - l.field) 0 0 l.rest (times l.count (kind_at l.classes) l.bytes)

@@ -12,21 +12,26 @@ unfolding spelling header_bytes class_bytes text_bytes function_bytes result_byt
 returns-clause-spelled c = (refl, refl)
 
 pub returns-clause-read : goal.returns-clause-read
-unfolding module_at all_of parts_at header_at version_at class_at text_at function_at instruction_at result_at slot_at kind_at bind done check such_that expect given need part byte number int many decoded is_utf8
+unfolding module_at all_of parts_at header_at version_at class_at text_at function_at instruction_at result_at slot_at kind_at bind done check
+    such_that expect given need part byte number int many decoded is_utf8
 returns-clause-read c = (refl, refl)
 
 pub returns-clause-version : goal.returns-clause-version
-unfolding module_at all_of parts_at header_at version_at class_at text_at function_at instruction_at result_at slot_at kind_at bind done check such_that expect given need part byte number int many decoded is_utf8
+unfolding module_at all_of parts_at header_at version_at class_at text_at function_at instruction_at result_at slot_at kind_at bind done check
+    such_that expect given need part byte number int many decoded is_utf8
 returns-clause-version c = (refl, refl)
 
 pub returns-clause-short : goal.returns-clause-short
-unfolding module_at all_of parts_at header_at version_at class_at text_at function_at instruction_at result_at slot_at kind_at bind done check such_that expect given need part byte number int many decoded is_utf8
+unfolding module_at all_of parts_at header_at version_at class_at text_at function_at instruction_at result_at slot_at kind_at bind done check
+    such_that expect given need part byte number int many decoded is_utf8
 returns-clause-short c = refl
 
 pub returns-clause-trailing : goal.returns-clause-trailing
-unfolding module_at all_of parts_at header_at version_at class_at text_at function_at instruction_at result_at slot_at kind_at bind done check such_that expect given need part byte number int many decoded is_utf8
+unfolding module_at all_of parts_at header_at version_at class_at text_at function_at instruction_at result_at slot_at kind_at bind done check
+    such_that expect given need part byte number int many decoded is_utf8
 returns-clause-trailing c = refl
 
 pub returns-clause-operand : goal.returns-clause-operand
-unfolding module_at all_of parts_at header_at version_at class_at text_at function_at instruction_at result_at slot_at kind_at bind done check such_that expect given need part byte number int many decoded is_utf8
+unfolding module_at all_of parts_at header_at version_at class_at text_at function_at instruction_at result_at slot_at kind_at bind done check
+    such_that expect given need part byte number int many decoded is_utf8
 returns-clause-operand c = refl

@@ -1,4 +1,4 @@
-use Rattle.x10_verify.proofs.Deciding.{if_err}
+use Rattle.x10_verify.proofs.RuleDecided.{if_err}
 use Rattle.x10_verify.proofs.decide.settled.Goals as goal
 
 pub returns-in-Copies-clause-decides : goal.returns-in-Copies-clause-decides
@@ -44,7 +44,8 @@ pub returns-in-Prints-clause-decides : goal.returns-in-Prints-clause-decides
 returns-in-Prints-clause-decides c = λ function pc same. rw c.in-Prints.is (c.printed.ensures.decides c.args.image.now function pc)
 
 pub returns-in-Copies-clause-cause : goal.returns-in-Copies-clause-cause
-returns-in-Copies-clause-cause c = rw c.in-Copies.is (if_err c.copied.result c.copied.ensures.cause (λ why h function pc same. h c.args.image.now function pc))
+returns-in-Copies-clause-cause c = rw c.in-Copies.is (if_err c.copied.result c.copied.ensures.cause
+    (λ why h function pc same. h c.args.image.now function pc))
 
 pub returns-in-Calls-clause-cause : goal.returns-in-Calls-clause-cause
 returns-in-Calls-clause-cause c = rw c.in-Calls.is (if_err c.called.result c.called.ensures.cause (λ why h function pc same. h function pc))
@@ -53,25 +54,32 @@ pub returns-in-Makes-clause-cause : goal.returns-in-Makes-clause-cause
 returns-in-Makes-clause-cause c = rw c.in-Makes.is (if_err c.made.result c.made.ensures.cause (λ why h function pc same. h function pc))
 
 pub returns-in-Unwraps-clause-cause : goal.returns-in-Unwraps-clause-cause
-returns-in-Unwraps-clause-cause c = rw c.in-Unwraps.is (if_err c.unwrapped.result c.unwrapped.ensures.cause (λ why h function pc same. h c.args.image.now function pc))
+returns-in-Unwraps-clause-cause c = rw c.in-Unwraps.is (if_err c.unwrapped.result c.unwrapped.ensures.cause
+    (λ why h function pc same. h c.args.image.now function pc))
 
 pub returns-in-Locates-clause-cause : goal.returns-in-Locates-clause-cause
-returns-in-Locates-clause-cause c = rw c.in-Locates.is (if_err c.located.result c.located.ensures.cause (λ why h function pc same. h c.args.image.now function pc))
+returns-in-Locates-clause-cause c = rw c.in-Locates.is (if_err c.located.result c.located.ensures.cause
+    (λ why h function pc same. h c.args.image.now function pc))
 
 pub returns-in-Exports-clause-cause : goal.returns-in-Exports-clause-cause
-returns-in-Exports-clause-cause c = rw c.in-Exports.is (if_err c.exported.result c.exported.ensures.cause (λ why h function pc same. h c.args.image.now function pc))
+returns-in-Exports-clause-cause c = rw c.in-Exports.is (if_err c.exported.result c.exported.ensures.cause
+    (λ why h function pc same. h c.args.image.now function pc))
 
 pub returns-in-Opens-clause-cause : goal.returns-in-Opens-clause-cause
-returns-in-Opens-clause-cause c = rw c.in-Opens.is (if_err c.opened.result c.opened.ensures.cause (λ why h function pc same. h c.args.image.now function pc))
+returns-in-Opens-clause-cause c = rw c.in-Opens.is (if_err c.opened.result c.opened.ensures.cause
+    (λ why h function pc same. h c.args.image.now function pc))
 
 pub returns-in-FindsHere-clause-cause : goal.returns-in-FindsHere-clause-cause
-returns-in-FindsHere-clause-cause c = rw c.in-FindsHere.is (if_err c.found_here.result c.found_here.ensures.cause (λ why h function pc same. h c.args.image.now function pc))
+returns-in-FindsHere-clause-cause c = rw c.in-FindsHere.is (if_err c.found_here.result c.found_here.ensures.cause
+    (λ why h function pc same. h c.args.image.now function pc))
 
 pub returns-in-FindsSame-clause-cause : goal.returns-in-FindsSame-clause-cause
-returns-in-FindsSame-clause-cause c = rw c.in-FindsSame.is (if_err c.found_same.result c.found_same.ensures.cause (λ why h function pc same. h c.args.image.now function pc))
+returns-in-FindsSame-clause-cause c = rw c.in-FindsSame.is (if_err c.found_same.result c.found_same.ensures.cause
+    (λ why h function pc same. h c.args.image.now function pc))
 
 pub returns-in-Starts-clause-cause : goal.returns-in-Starts-clause-cause
 returns-in-Starts-clause-cause c = rw c.in-Starts.is (if_err c.started.result c.started.ensures.cause (λ why h function pc same. h function pc))
 
 pub returns-in-Prints-clause-cause : goal.returns-in-Prints-clause-cause
-returns-in-Prints-clause-cause c = rw c.in-Prints.is (if_err c.printed.result c.printed.ensures.cause (λ why h function pc same. h c.args.image.now function pc))
+returns-in-Prints-clause-cause c = rw c.in-Prints.is (if_err c.printed.result c.printed.ensures.cause
+    (λ why h function pc same. h c.args.image.now function pc))

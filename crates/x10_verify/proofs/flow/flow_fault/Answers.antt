@@ -11,7 +11,10 @@ pub solve-requires-clause-names : goal.solve-requires-clause-names
 solve-requires-clause-names c = names_in c.args.image.now c.args.f c.fits.ensures c.in_default.ensures.first
 
 pub returns-in-Ok : goal.returns-in-Ok
-returns-in-Ok c = λ function there. (c.in_default.ensures.first function there, solved_least c.args.image.now function c.solve.new.table.items (c.in-Ok.ensures.solved function there))
+returns-in-Ok c = λ function there. (
+  c.in_default.ensures.first function there,
+  solved_least c.args.image.now function c.solve.new.table.items (c.in-Ok.ensures.solved function there),
+)
 
 pub returns-in-Err : goal.returns-in-Err
 returns-in-Err c = rw c.named.ensures (λ function there. (

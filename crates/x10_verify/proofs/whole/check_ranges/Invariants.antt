@@ -5,4 +5,5 @@ use Rattle.x10_verify.specs.Verdict.{AreInRangeTo}
 use Rattle.x10_verify.proofs.whole.check_ranges.Given as goal
 
 abbrev pub invariant-loop-function : goal.invariant-loop-function
-invariant-loop-function l = (g : ℕ) (function : Function) → g < l.function → function_at l.image g ≡ Some function → AreInRangeTo l.image function (length function.code)
+invariant-loop-function l = (g : ℕ) (function : Function) → g < l.function → function_at l.image g ≡ Some function
+    → AreInRangeTo l.image function (length function.code)

@@ -3,7 +3,7 @@ use Rattle.std.specs.Prelude.{take, length}
 use Rattle.std.proofs.lemmas.List.{take_more}
 use Rattle.std.proofs.lemmas.Option.{slice_get_read}
 use Rattle.x10_workers.specs.Plays.{plays_none}
-use Rattle.x10_workers.proofs.Playing.{plays_next}
+use Rattle.x10_workers.proofs.PlayLemmas.{plays_next}
 use Rattle.x10_workers.proofs.auditing.replay_all.Goals as goal
 
 pub loop-at-init : goal.loop-at-init
@@ -11,8 +11,10 @@ loop-at-init c = (plays_none, c.requires)
 
 pub loop-at-preserved : goal.loop-at-preserved
 loop-at-preserved c =
-    let more = take_more c.args.log.now c.loop-at.at c.index-log-at.result c.loop-at-test.true ∙ ap (λ t. take c.loop-at.at c.args.log.now ++ t ∷ []) (sym c.index-log-at.is) in (
-      plays_next c.args.world.now c.loop-at.world c.replay_turn.new.world c.args.log.now c.loop-at.at c.index-log-at.result more c.loop-at.invariant.0 (c.in-Ok-true.ensures.plays c.in-Ok-true.field-0-test),
+    let more = take_more c.args.log.now c.loop-at.at c.index-log-at.result c.loop-at-test.true
+    ∙ ap (λ t. take c.loop-at.at c.args.log.now ++ t ∷ []) (sym c.index-log-at.is) in (
+      plays_next c.args.world.now c.loop-at.world c.replay_turn.new.world c.args.log.now c.loop-at.at c.index-log-at.result more c.loop-at.invariant.0
+          (c.in-Ok-true.ensures.plays c.in-Ok-true.field-0-test),
       c.in-Ok-true.ensures.goes,
     )
 

@@ -1,6 +1,6 @@
 use Rattle.std.specs.Prelude.{◌≡◌, length, vec_items}
 use Rattle.std.specs.Vec.Iter.{into_iter_items, into_iter_len}
-use Rattle.x10_workers.proofs.Gathering.{MadeSoFar}
+use Rattle.x10_workers.proofs.KeptTurns.{MadeSoFar}
 use Rattle.x10_workers.proofs.threads.trails_from.Given as goal
 
 abbrev pub invariant-loop-kept : goal.invariant-loop-kept

@@ -9,7 +9,8 @@ use Rattle.x10_workers.proofs.weaving.assure.Goals as goal
 
 pub loop-at-preserved : goal.loop-at-preserved
 loop-at-preserved c id t lt is =
-    let there = slice_get_read c.args.trails.now (length c.args.trails.now) c.loop-at.at c.index-trails-at.result refl c.loop-at-test.true c.index-trails-at.is in
+    let there = slice_get_read c.args.trails.now (length c.args.trails.now) c.loop-at.at c.index-trails-at.result refl c.loop-at-test.true
+    c.index-trails-at.is in
     elim (cases_lt id c.loop-at.at) [
       | inl before ↦ c.loop-at.invariant id t before is
       | inr past ↦ (let same : c.loop-at.at ≡ id = omega (arith, lt, past) in
@@ -18,4 +19,5 @@ loop-at-preserved c id t lt is =
     ]
 
 pub returns : goal.returns
-returns c id t is = c.loop-at.invariant id t (let lt = slice_get_within c.args.trails.now id t is in let end = c.loop-at-test.false in omega (arith, lt, end)) is
+returns c id t is = c.loop-at.invariant id t (let lt = slice_get_within c.args.trails.now id t is in let end = c.loop-at-test.false in
+    omega (arith, lt, end)) is

@@ -1,4 +1,4 @@
-use Rattle.x10_world.proofs.LinkingDeliveries.{answered_after_delivery}
+use Rattle.x10_world.proofs.LinkDeliveries.{answered_after_delivery}
 use Rattle.x10_world.proofs.laws.answered_after_delivery.Goals as goal
 
 pub returns : goal.returns

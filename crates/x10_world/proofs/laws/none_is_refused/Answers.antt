@@ -1,4 +1,4 @@
-use Rattle.x10_world.proofs.Refusing.{none_is_refused}
+use Rattle.x10_world.proofs.RefusalLemmas.{none_is_refused}
 use Rattle.x10_world.proofs.laws.none_is_refused.Goals as goal
 
 pub returns : goal.returns

@@ -1,6 +1,6 @@
 use Rattle.std.specs.Prelude.{take}
 use Rattle.x10_flights.specs.Flights.{RisingBy}
-use Rattle.x10_world.proofs.Living.{Lives, Every}
+use Rattle.x10_world.proofs.LivingLemmas.{Lives, Every}
 use Rattle.x10_world.proofs.rounds.is_exact.Given as goal
 
 -- the keys so far rise, and are in use

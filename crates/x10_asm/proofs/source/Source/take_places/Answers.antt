@@ -1,5 +1,5 @@
 use Rattle.std.proofs.Common.{refl}
-use Rattle.x10_asm.proofs.Taking.{took_places}
+use Rattle.x10_asm.proofs.LinesTakenIn.{took_places}
 use Rattle.x10_asm.specs.Lines.{words}
 use Rattle.x10_asm.proofs.source.Source.take_places.Goals as goal
 

@@ -27,4 +27,5 @@ loop-at-preserved c = λ k f less there is. elim (cases_lt k c.loop-at.at) [
 pub returns : goal.returns
 returns c = λ at f there is.
     let there = subst (λ (s : FindingsState). slice_get s.found at ≡ Some f) (sym c.self.view_is) there in
-    c.loop-at.invariant at f (omega (arith, slice_get_within c.self.inside.list.items at f there, c.loop-at-test.false, c.loop-at.auto.at-end)) (subst (λ (s : FindingsState). slice_get s.found at ≡ Some f) c.self.view_is there) is
+    c.loop-at.invariant at f (omega (arith, slice_get_within c.self.inside.list.items at f there, c.loop-at-test.false, c.loop-at.auto.at-end))
+    (subst (λ (s : FindingsState). slice_get s.found at ≡ Some f) c.self.view_is there) is

@@ -9,6 +9,18 @@ returns c = record {
   number = c.merge_counts.ensures.number;
   places = c.merge_counts.ensures.places;
   kept =
-      subst (λ (sent : List ℕ). kept_of c.merge_counts.new.self ≡ merged (kept_of c.args.self.now) (record { place = c.args.report.now.place; number = c.args.report.now.number; sent = sent; received = c.args.report.now.received.items })) c.deref.ensures.value
-      (subst (λ (received : List ℕ). kept_of c.merge_counts.new.self ≡ merged (kept_of c.args.self.now) (record { place = c.args.report.now.place; number = c.args.report.now.number; sent = c.deref.result.now; received = received })) c.deref-2.ensures.value c.merge_counts.ensures.kept);
+      subst (λ (sent : List ℕ). kept_of c.merge_counts.new.self
+      ≡ merged (kept_of c.args.self.now) (record {
+        place = c.args.report.now.place;
+        number = c.args.report.now.number;
+        sent = sent;
+        received = c.args.report.now.received.items;
+      })) c.deref.ensures.value
+      (subst (λ (received : List ℕ). kept_of c.merge_counts.new.self
+      ≡ merged (kept_of c.args.self.now) (record {
+        place = c.args.report.now.place;
+        number = c.args.report.now.number;
+        sent = c.deref.result.now;
+        received = received;
+      })) c.deref-2.ensures.value c.merge_counts.ensures.kept);
 }

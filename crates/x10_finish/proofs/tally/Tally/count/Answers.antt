@@ -30,8 +30,10 @@ invariant_of-self c =
 pub returns-in-Some-clause-ok : goal.returns-in-Some-clause-ok
 returns-in-Some-clause-ok c =
     on_ok c.apply.result c.apply.ensures.ok (λ e.
-    subst (λ l. Counts l (named c.args.finish) (changed c.args.change) (the_view (record c.self.inside { counts = c.get_mut.follows.lender c.apply.new.count }))) c.self.view_is
-    (Counts-by (the_view c.self.inside) (the_view (record c.self.inside { counts = c.get_mut.follows.lender c.apply.new.count })) c.args.finish c.apply.new.count (changed c.args.change) refl refl
+    subst (λ l. Counts l (named c.args.finish) (changed c.args.change)
+    (the_view (record c.self.inside { counts = c.get_mut.follows.lender c.apply.new.count }))) c.self.view_is
+    (Counts-by (the_view c.self.inside) (the_view (record c.self.inside { counts = c.get_mut.follows.lender c.apply.new.count })) c.args.finish
+    c.apply.new.count (changed c.args.change) refl refl
     ((c.get_mut.follows.holds c.apply.new.count).3 (subst IsSome c.in-Some.ensures.value refl)).0
     (e ∙ ap (λ o. changed c.args.change (counted_or_nothing o)) c.in-Some.ensures.value)))
 
@@ -54,8 +56,10 @@ pub returns-clause-err : goal.returns-clause-err
 returns-clause-err c =
     let same = ap (λ (m : HashMap Finish Count _). m.entries) c.get_mut.follows.holds-at-none in
     if_both c.put.result c.put.ensures.err c.put.ensures.absent (λ why e a. (
-      ap (λ es. let l : Ledger = record { place = c.self.inside.place; places = c.self.inside.places; counts = es } in l) (e.1 ∙ same) ∙ c.self.view_is,
+      ap (λ es. let l : Ledger = record { place = c.self.inside.place; places = c.self.inside.places; counts = es } in l) (e.1 ∙ same)
+          ∙ c.self.view_is,
       subst (λ l. Refuses (is_met l (named c.args.finish)) (IsFull c.args.change (totals_of l (named c.args.finish))) why) c.self.view_is
-          (Refuses-memory (is_met (the_view c.self.inside) (named c.args.finish)) (IsFull c.args.change (totals_of (the_view c.self.inside) (named c.args.finish))) why e.0
+          (Refuses-memory (is_met (the_view c.self.inside) (named c.args.finish))
+          (IsFull c.args.change (totals_of (the_view c.self.inside) (named c.args.finish))) why e.0
           (ap (λ es. is_some (count_of es c.args.finish)) (sym same) ∙ ap is_some a)),
     ))

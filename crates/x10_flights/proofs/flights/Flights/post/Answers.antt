@@ -1,7 +1,7 @@
 use Rattle.std.proofs.Common.{ℕ, ◌<◌, [], ◌∷◌, ◌++◌, length, get_or, ap, ◌∙◌, arith}
 use Rattle.std.proofs.lemmas.List.{get_or_read}
 use Rattle.x10_flights.specs.Flights.{FlightsState, Queued, nothing, numbers_at}
-use Rattle.x10_flights.proofs.FlightsFiling.{filed_post}
+use Rattle.x10_flights.proofs.FiledFrames.{filed_post}
 use Rattle.x10_flights.proofs.flights.Flights.post.Goals as goal
 
 pub invariant_of-self : goal.invariant_of-self
@@ -10,7 +10,8 @@ invariant_of-self c =
     let here : c.from.result < length c.self.inside.queues.items = omega (arith, there, c.from.ensures) in
     let queue = get_or_read c.self.inside.queues.items c.from.result c.index_mut-queue.result.now here c.index_mut-queue.ensures.value nothing
     ∙ ap (λ (k : ℕ). get_or c.self.inside.queues.items k nothing) c.from.ensures in
-    rw c.from.ensures (filed_post c.self.inside.queues.items c.self.inside.table c.post.new.self c.self.inside.room c.self.inside.first c.self.inside.second c.self.inside.awaited c.insert.new.self c.args.to c.args.bytes.items
+    rw c.from.ensures (filed_post c.self.inside.queues.items c.self.inside.table c.post.new.self c.self.inside.room c.self.inside.first
+    c.self.inside.second c.self.inside.awaited c.insert.new.self c.args.to c.args.bytes.items
     c.push.new.self c.self.invariant (omega (arith, ap (λ (s : FlightsState). s.room) c.self.view_is, c.requires.room)) there
     (c.push.ensures.numbers ∙ ap (λ (x : Queued). x.numbers ++ c.posted-number.result ∷ []) queue
     ∙ ap (λ (n : ℕ). numbers_at c.self.inside.queues.items c.args.to ++ n ∷ []) c.posted-number.ensures)

@@ -12,12 +12,14 @@ returns-in_err-rest-clause-next c =
 
 pub returns-then-rest-eq0-clause-next : goal.returns-then-rest-eq0-clause-next
 returns-then-rest-eq0-clause-next c =
-    let left : c.in_ok-rest.rest ≡ c.self.inside.bits / 2 ^ c.args.from = c.in_ok-rest.ensures.1 ∙ ap (λ k. c.self.inside.bits / 2 ^ k) c.from.ensures in
+    let left : c.in_ok-rest.rest ≡ c.self.inside.bits / 2 ^ c.args.from =
+    c.in_ok-rest.ensures.1 ∙ ap (λ k. c.self.inside.bits / 2 ^ k) c.from.ensures in
     rw (← c.self.view_is) (λ m a. none_left c.self.inside.bits c.args.from m (sym left ∙ c.if-rest-eq0.true) a)
 
 least : (c : goal.Else-rest-eq0) → IsLeast (has_place c.self.inside.bits) c.args.from (c.args.from + trailing_zeros w64 c.in_ok-rest.rest)
 least c =
-    least_left c.self.inside.bits c.args.from c.in_ok-rest.rest (c.in_ok-rest.ensures.1 ∙ ap (λ k. c.self.inside.bits / 2 ^ k) c.from.ensures) (omega arith) (omega arith)
+    least_left c.self.inside.bits c.args.from c.in_ok-rest.rest (c.in_ok-rest.ensures.1 ∙ ap (λ k. c.self.inside.bits / 2 ^ k) c.from.ensures)
+    (omega arith) (omega arith)
 
 pub returns-clause-next : goal.returns-clause-next
 returns-clause-next c = rw (← c.self.view_is) (least c)

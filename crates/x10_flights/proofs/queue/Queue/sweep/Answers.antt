@@ -1,7 +1,7 @@
 use Rattle.std.proofs.Common.{ℕ, List, sym, subst, inl, inr}
 use Rattle.x10_flights.specs.Flights.{Queued, flies_to, RisingBy, Has}
 use Rattle.x10_flights.proofs.FlightsQueues.{Has-filter}
-use Rattle.x10_flights.proofs.FlightsRising.{rising_filter}
+use Rattle.x10_flights.proofs.RisingKeys.{rising_filter}
 use Rattle.x10_flights.proofs.queue.Queue.sweep.Goals as goal
 
 pub returns-then-self-all-clause-kept : goal.returns-then-self-all-clause-kept
@@ -17,5 +17,6 @@ returns-then-self-all-clause-rising c top r =
     let passed = c.pass.ensures.rising top (subst (λ (q : Queued). RisingBy (λ n. n) 0 q.numbers top) (sym c.self.view_is) r) in
     elim c.cut.ensures.numbers [
       | inl e ↦ subst (λ (ns : List ℕ). RisingBy (λ n. n) 0 ns top) (sym e) passed
-      | inr e ↦ subst (λ (ns : List ℕ). RisingBy (λ n. n) 0 ns top) (sym e) (rising_filter (λ (n : ℕ). n) (flies_to c.args.table.now.flying c.args.place) 0 _ top passed)
+      | inr e ↦ subst (λ (ns : List ℕ). RisingBy (λ n. n) 0 ns top) (sym e)
+          (rising_filter (λ (n : ℕ). n) (flies_to c.args.table.now.flying c.args.place) 0 _ top passed)
     ]

@@ -3,7 +3,7 @@ use Rattle.std.proofs.lemmas.Bool.{cond-true}
 use Rattle.std.proofs.lemmas.List.Elements.{filter_map-append}
 use Rattle.x10_flights.specs.declared.table.Slot.{Slot}
 use Rattle.x10_flights.specs.Flights.{RisingBy, Tabled, held}
-use Rattle.x10_flights.proofs.FlightsRising.{rising_push}
+use Rattle.x10_flights.proofs.RisingKeys.{rising_push}
 use Rattle.x10_flights.proofs.FlightsSlots.{flights_in}
 use Rattle.x10_flights.proofs.table.Table.post.Goals as goal
 

@@ -2,7 +2,7 @@ use Rattle.std.proofs.Common.{List, is_some, ap, subst, ◌∙◌, sym, rules}
 use Rattle.std.proofs.lemmas.Fn.{filter_same}
 use Rattle.x10_flights.specs.declared.table.Slot.{Slot}
 use Rattle.x10_flights.specs.Flights.{RisingBy, Tabled}
-use Rattle.x10_flights.proofs.FlightsRising.{rising_filter}
+use Rattle.x10_flights.proofs.RisingKeys.{rising_filter}
 use Rattle.x10_flights.proofs.FlightsSlots.{swept, flights_in}
 use Rattle.x10_flights.proofs.table.Table.sweep.Goals as goal
 

@@ -12,4 +12,11 @@ returns-clause-value c =
 pub returns-clause-few : goal.returns-clause-few
 returns-clause-few c =
     let v = shows _ _ _ _ _ _ _ _ _ _ c.self.invariant c.self.view_is in
-    omega (arith, c.len.ensures, c.self.inside.body.rails.ok, same_length _ _ _ v.has.graph_at.rails_at, (graph_fits _ _ _ v.fits).rails.0, most_wide c.self.inside.version)
+    omega (
+      arith,
+      c.len.ensures,
+      c.self.inside.body.rails.ok,
+      same_length _ _ _ v.has.graph_at.rails_at,
+      (graph_fits _ _ _ v.fits).rails.0,
+      most_wide c.self.inside.version,
+    )

@@ -6,12 +6,14 @@ use Rattle.x10_frame.proofs.view.FrameView.received.Goals as goal
 pub count_in-requires : goal.count_in-requires
 count_in-requires c =
     let v = shows _ _ _ _ _ _ _ _ _ _ c.self.invariant c.self.view_is in
-    (received_at _ _ _ (c.self.inside.body.start + 4 * (c.from.result + c.args.place)) c.args.place _ _ v.has.counts_at v.fits c.requires (rw c.from.ensures refl)).2.room
+    (received_at _ _ _ (c.self.inside.body.start + 4 * (c.from.result + c.args.place)) c.args.place _ _ v.has.counts_at v.fits c.requires
+    (rw c.from.ensures refl)).2.room
 
 pub returns-clause-value : goal.returns-clause-value
 returns-clause-value c =
     let v = shows _ _ _ _ _ _ _ _ _ _ c.self.invariant c.self.view_is in
-    let n = received_at _ _ _ (c.self.inside.body.start + 4 * (c.from.result + c.args.place)) c.args.place _ _ v.has.counts_at v.fits c.requires (rw c.from.ensures refl) in
+    let n = received_at _ _ _ (c.self.inside.body.start + 4 * (c.from.result + c.args.place)) c.args.place _ _ v.has.counts_at v.fits c.requires
+    (rw c.from.ensures refl) in
     rw (c.count_in.ensures, n.2.value) n.1
 
 pub returns-clause-part : goal.returns-clause-part

@@ -1,4 +1,4 @@
-use Rattle.x10_hall.proofs.Standing.{fresh}
+use Rattle.x10_hall.proofs.RowLogs.{fresh}
 use Rattle.x10_hall.proofs.hall.Hall.new.Goals as goal
 
 pub returns : goal.returns

@@ -17,13 +17,15 @@ pub class_in-requires : goal.class_in-requires
 class_in-requires c =
     let v = shows _ _ _ _ _ _ _ c.self.invariant c.self.view_is in
     let found = item_in class_bytes _ _ _ c.args.c c.index.result.now v.classes_at c.requires c.index.ensures in
-    (class_at (length c.args.self.now.classes) _ _ found.0 v.fits.classes (all_at (FitsClass (length c.args.self.now.classes)) _ c.args.c found.0 v.fits.fields found.1) found.2).room
+    (class_at (length c.args.self.now.classes) _ _ found.0 v.fits.classes
+    (all_at (FitsClass (length c.args.self.now.classes)) _ c.args.c found.0 v.fits.fields found.1) found.2).room
 
 pub returns-clause-value : goal.returns-clause-value
 returns-clause-value c =
     let v = shows _ _ _ _ _ _ _ c.self.invariant c.self.view_is in
     let found = item_in class_bytes _ _ _ c.args.c c.index.result.now v.classes_at c.requires c.index.ensures in
-    let is = (class_at (length c.args.self.now.classes) _ _ found.0 v.fits.classes (all_at (FitsClass (length c.args.self.now.classes)) _ c.args.c found.0 v.fits.fields found.1) found.2).value in
+    let is = (class_at (length c.args.self.now.classes) _ _ found.0 v.fits.classes
+    (all_at (FitsClass (length c.args.self.now.classes)) _ c.args.c found.0 v.fits.fields found.1) found.2).value in
     rw (c.class_in.ensures, is) found.1
 
 pub returns-clause-fits : goal.returns-clause-fits

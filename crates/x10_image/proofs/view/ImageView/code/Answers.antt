@@ -50,5 +50,6 @@ pub returns-clause-part : goal.returns-clause-part
 returns-clause-part c =
     let v = shows _ _ _ _ _ _ _ c.self.invariant c.self.view_is in
     let h = function_here _ _ _ _ _ _ _ c.args.f c.index-at.result.now v c.requires c.index-at.ensures in
-    let is = code_range _ _ _ _ _ (c.code_place-start.result + 8 * c.code_len_in.result) h c.code_place-start.ensures (omega (arith, c.code_len_in.ensures ∙ count_is _ _ _ _ h)) in
+    let is = code_range _ _ _ _ _ (c.code_place-start.result + 8 * c.code_len_in.result) h c.code_place-start.ensures
+    (omega (arith, c.code_len_in.ensures ∙ count_is _ _ _ _ h)) in
     rw is (code_part _ c.args.f h.function h.is h.fits.length.0)

@@ -11,8 +11,10 @@ returns-clause-value c =
 
 pub returns-clause-range : goal.returns-clause-range
 returns-clause-range c =
-    let v = shows _ _ _ _ _ _ _ c.self.invariant c.self.view_is in
-    (omega (arith, c.len.ensures, c.self.inside.functions.ok, same_length _ _ _ v.functions_at, v.fits.functions.0), omega (arith, c.len.ensures, c.self.inside.functions.ok, same_length _ _ _ v.functions_at, v.fits.functions.1))
+    let v = shows _ _ _ _ _ _ _ c.self.invariant c.self.view_is in (
+      omega (arith, c.len.ensures, c.self.inside.functions.ok, same_length _ _ _ v.functions_at, v.fits.functions.0),
+      omega (arith, c.len.ensures, c.self.inside.functions.ok, same_length _ _ _ v.functions_at, v.fits.functions.1),
+    )
 
 pub returns-clause-part : goal.returns-clause-part
 returns-clause-part c = functions_part _ _ (returns-clause-value c)

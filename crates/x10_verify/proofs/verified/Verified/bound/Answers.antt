@@ -15,4 +15,5 @@ pub returns : goal.returns
 returns c =
     let lt = subst (λ (v : Certified). c.args.f < length v.program.functions) (sym c.self.view_is) c.requires in
     let h = bound_below c.self.inside.image c.self.inside.bounds.items c.args.f c.self.invariant.certified.verified.bounds_are lt in
-    subst (λ (v : Certified). slice_get v.bounds c.args.f ≡ Some c.index.result.now) c.self.view_is (slice_get_read c.self.inside.bounds.items _ c.args.f c.index.result.now refl h c.index.ensures)
+    subst (λ (v : Certified). slice_get v.bounds c.args.f ≡ Some c.index.result.now) c.self.view_is
+    (slice_get_read c.self.inside.bounds.items _ c.args.f c.index.result.now refl h c.index.ensures)

@@ -12,4 +12,5 @@ returns-clause-text c = λ yes function there.
 pub returns-clause-number : goal.returns-clause-number
 returns-clause-number c = λ no function there.
     let known = subst (λ (v : Certified). IsKnownWell v c.self.inside.rows.items) c.self.view_is c.self.invariant in
-    prints_number c.args.self.now.program c.args.f function there (known.least c.args.f function there) c.args.pc (λ h. absurd (let bit = c.noted.ensures ∙ (known.noted c.args.f c.args.pc).1 h in cc))
+    prints_number c.args.self.now.program c.args.f function there (known.least c.args.f function there) c.args.pc
+    (λ h. absurd (let bit = c.noted.ensures ∙ (known.noted c.args.f c.args.pc).1 h in cc))

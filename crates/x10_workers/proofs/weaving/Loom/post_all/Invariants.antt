@@ -5,4 +5,5 @@ use Rattle.x10_workers.specs.Weaves.{all_flying}
 use Rattle.x10_workers.proofs.weaving.Loom.post_all.Given as goal
 
 abbrev pub invariant-loop-at : goal.invariant-loop-at
-invariant-loop-at l = (l.self.cursors ≡ l.fn.self.cursors) × ((woven l.self).flying ≡ (woven l.fn.self).flying ++ all_flying (map frame_of (take l.at l.frames)))
+invariant-loop-at l = (l.self.cursors ≡ l.fn.self.cursors) × ((woven l.self).flying
+    ≡ (woven l.fn.self).flying ++ all_flying (map frame_of (take l.at l.frames)))

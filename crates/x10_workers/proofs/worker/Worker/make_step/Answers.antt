@@ -1,16 +1,18 @@
 use Rattle.std.proofs.Common.{Ok, [], ◌∷◌, ◌++◌, map, refl, sym, ap, ◌∙◌, append-nil}
 use Rattle.x10_hall.specs.Halls.{frame_of}
 use Rattle.x10_place.specs.declared.place.Stepped.TheVariants as stepped
-use Rattle.x10_workers.specs.Trails.{frames_in}
-use Rattle.x10_workers.proofs.Leading.{steps_by}
+use Rattle.x10_workers.specs.Trails.{frames_sent}
+use Rattle.x10_workers.proofs.WorkLemmas.{steps_by}
 use Rattle.x10_workers.proofs.worker.Worker.make_step.Goals as goal
 
 pub returns-in_ok-put_sent-in-Moved-clause-adds : goal.returns-in_ok-put_sent-in-Moved-clause-adds
 returns-in_ok-put_sent-in-Moved-clause-adds c =
-    let by = steps_by c.args.self.now.place c.step.new.self c.args.key c.step.result (stepped.Moved c.in-Moved.sent) (c.in_ok-step.was ∙ ap (λ s. Ok s) c.in-Moved.is) (c.step.ensures.idle c.requires) (c.step.ensures.only c.requires) c.step.ensures.some c.step.ensures.goes c.step.ensures.kept in
+    let by = steps_by c.args.self.now.place c.step.new.self c.args.key c.step.result (stepped.Moved c.in-Moved.sent)
+    (c.in_ok-step.was ∙ ap (λ s. Ok s) c.in-Moved.is) (c.step.ensures.idle c.requires)
+    (c.step.ensures.only c.requires) c.step.ensures.some c.step.ensures.goes c.step.ensures.kept in
     record {
       more = c.args.key ∷ [];
-      out = frames_in c.in-Moved.sent;
+      out = frames_sent c.in-Moved.sent;
       steps = by.steps;
       goes = by.goes;
       keys = c.push_reserved.ensures.items ∙ ap (λ ks. ks ++ c.args.key ∷ []) c.in_ok-reserve.ensures.items;
@@ -20,7 +22,8 @@ returns-in_ok-put_sent-in-Moved-clause-adds c =
 
 pub returns-in_ok-waits-in-Idle-clause-adds : goal.returns-in_ok-waits-in-Idle-clause-adds
 returns-in_ok-waits-in-Idle-clause-adds c =
-    let by = steps_by c.args.self.now.place c.step.new.self c.args.key c.step.result stepped.Idle (c.in_ok-step.was ∙ ap (λ s. Ok s) c.in-Idle.is) (c.step.ensures.idle c.requires) (c.step.ensures.only c.requires) c.step.ensures.some c.step.ensures.goes c.step.ensures.kept in
+    let by = steps_by c.args.self.now.place c.step.new.self c.args.key c.step.result stepped.Idle (c.in_ok-step.was ∙ ap (λ s. Ok s) c.in-Idle.is)
+    (c.step.ensures.idle c.requires) (c.step.ensures.only c.requires) c.step.ensures.some c.step.ensures.goes c.step.ensures.kept in
     record {
       more = c.args.key ∷ [];
       out = [];

@@ -1,7 +1,7 @@
 use Rattle.std.proofs.Common.{◌++◌, map, sym, subst, ◌∙◌}
 use Rattle.x10_hall.specs.Halls.{frame_of}
 use Rattle.x10_workers.specs.Trails.{StepsEach}
-use Rattle.x10_workers.proofs.Leading.{steps_more}
+use Rattle.x10_workers.proofs.WorkLemmas.{steps_more}
 use Rattle.x10_workers.proofs.worker.Worker.make_steps.Goals as goal
 
 pub loop-preserved : goal.loop-preserved
@@ -9,9 +9,11 @@ loop-preserved c =
     let adds = c.in_ok-make_some.ensures.adds in
     let old = c.loop.invariant in
     record {
-      steps = subst (λ ks. StepsEach c.args.self.now.place ks (map frame_of c.make_some.new.steps.frames.items) c.make_some.new.self.place) (sym adds.keys)
+      steps = subst (λ ks. StepsEach c.args.self.now.place ks (map frame_of c.make_some.new.steps.frames.items) c.make_some.new.self.place)
+          (sym adds.keys)
           (subst (λ fs. StepsEach c.args.self.now.place (c.loop.steps.keys.items ++ adds.more) fs c.make_some.new.self.place) (sym adds.frames)
-          (steps_more c.args.self.now.place c.loop.self.place c.make_some.new.self.place c.loop.steps.keys.items adds.more (map frame_of c.loop.steps.frames.items) adds.out old.steps adds.steps));
+          (steps_more c.args.self.now.place c.loop.self.place c.make_some.new.self.place c.loop.steps.keys.items adds.more
+          (map frame_of c.loop.steps.frames.items) adds.out old.steps adds.steps));
       goes = adds.goes;
       still = λ e. let s = adds.still e in s.1 ∙ old.still s.0;
       kept = c.in_ok-make_some.ensures.kept ∙ old.kept;

@@ -1,4 +1,4 @@
-use Rattle.x10_world.proofs.Asking.{frames_are}
+use Rattle.x10_world.proofs.QueryLemmas.{frames_are}
 use Rattle.x10_world.proofs.world.World.frame.Goals as goal
 
 pub returns-clause-some : goal.returns-clause-some

@@ -1,43 +1,13 @@
-use Rattle.std.proofs.Common.{refl, subst}
-use Rattle.x10_world.specs.Happenings.{Happened}
-use Rattle.x10_world.proofs.Making.{idle_same, idle_not, moved_can, taken_can, runs_one}
+use Rattle.std.proofs.Common.{sym, subst}
+use Rattle.x10_world.specs.EventAnswers.{AnswersEvent}
 use Rattle.x10_world.proofs.world.World.make_one.Goals as goal
 
-pub returns-in-Idle-clause-made : goal.returns-in-Idle-clause-made
-returns-in-Idle-clause-made c = runs_one c.args.self.now c.happen.new.self c.args.event (record { did = c.in_ok-happen.field-0; happened = c.in_ok-happen.ensures.told; kept = c.in_ok-happen.ensures.kept; goes = c.in_ok-happen.ensures.goes }) c.in_ok-happen.ensures.ok
+pub returns-in-Step : goal.returns-in-Step
+returns-in-Step c =
+    let a = subst (λ e. AnswersEvent c.args.self.now e c.step.result c.step.new.self) (sym c.in-Step.is) c.step.ensures in
+    record { told = a.told; ok = a.ok; made = a.made; acts = a.acts; idle = a.idle; goes = a.goes; stops = a.stops; kept = a.kept }
 
-pub returns-in-Idle-clause-acts : goal.returns-in-Idle-clause-acts
-returns-in-Idle-clause-acts c = (
-  (λ t. absurd cc),
-  (λ can. absurd (idle_not c.args.self.now c.happen.new.self c.args.event (subst (λ did. Happened c.args.self.now.places c.args.self.now.flights c.args.event did c.happen.new.self.places c.happen.new.self.flights) c.in-Idle.is c.in_ok-happen.ensures.told) can)),
-)
-
-pub returns-in-Idle-clause-idle : goal.returns-in-Idle-clause-idle
-returns-in-Idle-clause-idle c = λ e.
-    idle_same c.args.self.now c.happen.new.self c.args.event (subst (λ did. Happened c.args.self.now.places c.args.self.now.flights c.args.event did c.happen.new.self.places c.happen.new.self.flights) c.in-Idle.is c.in_ok-happen.ensures.told) c.in_ok-happen.ensures.kept c.requires c.in_ok-happen.ensures.goes
-
-pub returns-in-Moved : goal.returns-in-Moved
-returns-in-Moved c = record {
-  made = runs_one c.args.self.now c.happen.new.self c.args.event (record { did = c.in_ok-happen.field-0; happened = c.in_ok-happen.ensures.told; kept = c.in_ok-happen.ensures.kept; goes = c.in_ok-happen.ensures.goes }) c.in_ok-happen.ensures.ok;
-  acts = (
-    (λ t. moved_can c.args.self.now c.happen.new.self c.args.event (subst (λ did. Happened c.args.self.now.places c.args.self.now.flights c.args.event did c.happen.new.self.places c.happen.new.self.flights) c.in-Moved.is c.in_ok-happen.ensures.told)),
-    (λ can. refl),
-  );
-  idle = λ e. absurd cc;
-  goes = c.in_ok-happen.ensures.goes;
-  stops = tt;
-  kept = c.in_ok-happen.ensures.kept;
-}
-
-pub returns-in-Taken : goal.returns-in-Taken
-returns-in-Taken c = record {
-  made = runs_one c.args.self.now c.happen.new.self c.args.event (record { did = c.in_ok-happen.field-0; happened = c.in_ok-happen.ensures.told; kept = c.in_ok-happen.ensures.kept; goes = c.in_ok-happen.ensures.goes }) c.in_ok-happen.ensures.ok;
-  acts = (
-    (λ t. taken_can c.args.self.now c.happen.new.self c.args.event c.in-Taken.field-0 (subst (λ did. Happened c.args.self.now.places c.args.self.now.flights c.args.event did c.happen.new.self.places c.happen.new.self.flights) c.in-Taken.is c.in_ok-happen.ensures.told)),
-    (λ can. refl),
-  );
-  idle = λ e. absurd cc;
-  goes = c.in_ok-happen.ensures.goes;
-  stops = tt;
-  kept = c.in_ok-happen.ensures.kept;
-}
+pub returns-in-Deliver : goal.returns-in-Deliver
+returns-in-Deliver c =
+    let a = subst (λ e. AnswersEvent c.args.self.now e c.deliver.result c.deliver.new.self) (sym c.in-Deliver.is) c.deliver.ensures in
+    record { told = a.told; ok = a.ok; made = a.made; acts = a.acts; idle = a.idle; goes = a.goes; stops = a.stops; kept = a.kept }

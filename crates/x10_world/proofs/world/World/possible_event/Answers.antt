@@ -1,4 +1,4 @@
-use Rattle.x10_world.proofs.Asking.{event_is}
+use Rattle.x10_world.proofs.QueryLemmas.{event_is}
 use Rattle.x10_world.proofs.world.World.possible_event.Goals as goal
 
 pub returns-in-None : goal.returns-in-None

@@ -11,4 +11,6 @@ loop-place-preserved c = λ id less. elim (cases_lt id c.loop-place.place) [
 ]
 
 pub returns : goal.returns
-returns c = λ id p there key. c.loop-place.invariant id (omega (arith, slice_get_within c.args.self.now.places id p there, c.loop-place-test.false, c.loop-place.auto.place-end, c.count-place-end.ensures)) p there key
+returns c = λ id p there key. c.loop-place.invariant id (omega
+    (arith, slice_get_within c.args.self.now.places id p there, c.loop-place-test.false, c.loop-place.auto.place-end, c.count-place-end.ensures)) p
+    there key

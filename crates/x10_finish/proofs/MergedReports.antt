@@ -1,0 +1,64 @@
+-- Taking in a report, place by place.
+use Rattle.std.proofs.Common.{◌≡◌, ℕ, ◌+◌, ◌==◌, ◌&&◌, nat_lt, max, Bool, true, false, if◌then◌else◌, List, slice_index, refl, sym, ◌∙◌, ap, arith}
+use Rattle.std.proofs.lemmas.Bool.Decides.{nat_tests}
+use Rattle.x10_finish.specs.declared.pairs.Pair.{Pair}
+use Rattle.x10_finish.specs.Pairs.{raised_at, merged_to}
+
+-- each number of a pair that is raised
+raised_sent : (t : Bool) (p by : Pair) → (let r : Pair = if t then record { sent = max p.sent by.sent; received = max p.received by.received } else
+    p in r.sent) ≡ (if t then max p.sent by.sent else p.sent)
+raised_sent true p by = refl
+raised_sent false p by = refl
+
+raised_received : (t : Bool) (p by : Pair) → (let r : Pair = if t then record { sent = max p.sent by.sent; received = max p.received by.received }
+    else p in r.received) ≡ (if t then max p.received by.received else p.received)
+raised_received true p by = refl
+raised_received false p by = refl
+
+nothing_more : (t : Bool) (n : ℕ) → (if t then max n 0 else n) ≡ n
+nothing_more true n = omega arith
+nothing_more false n = refl
+
+-- one number more
+one_more : (here b q m o n : ℕ) (t : Bool) → m ≡ (if t && nat_lt b q then max o n else o) → (b ≡ q → here ≡ n)
+    → (if t && (b == q) then max m here else m) ≡ (if t && nat_lt b (q + 1) then max o n else o)
+one_more here b q m o n true e f = grind (arith, nat_tests)
+one_more here b q m o n false e f = e
+
+swapped : (s t : Bool) (x y : ℕ) → (if s && t then x else y) ≡ (if t && s then x else y)
+swapped true true x y = refl
+swapped true false x y = refl
+swapped false true x y = refl
+swapped false false x y = refl
+
+-- a record's two numbers
+same_pair : (p q : Pair) → p.sent ≡ q.sent → p.received ≡ q.received → p ≡ q
+same_pair p q e f = λ i. record { sent = e i; received = f i }
+
+pub merged_more : (place : ℕ) (sent received : List ℕ) (q : ℕ) (old before mid after : ℕ → ℕ → Pair) (s r : ℕ)
+    → ((a b : ℕ) → before a b ≡ merged_to place sent received q old a b)
+    → s ≡ slice_index sent q → r ≡ slice_index received q
+    → ((a b : ℕ) → mid a b ≡ raised_at place q (record { sent = s; received = 0 }) before a b)
+    → ((a b : ℕ) → after a b ≡ raised_at q place (record { sent = 0; received = r }) mid a b)
+    → (a b : ℕ) → after a b ≡ merged_to place sent received (q + 1) old a b
+merged_more place sent received q old before mid after s r h es er hs hr a b = same_pair (after a b) (merged_to place sent received (q + 1) old a b)
+    (ap (λ (p : Pair). p.sent) (hr a b) ∙ raised_sent (a == q && b == place) (mid a b) (record { sent = 0; received = r })
+    ∙ nothing_more (a == q && b == place) (mid a b).sent
+    ∙ ap (λ (p : Pair). p.sent) (hs a b) ∙ raised_sent (a == place && b == q) (before a b) (record { sent = s; received = 0 })
+    ∙ one_more s b q (before a b).sent (old a b).sent (slice_index sent b) (a == place) (ap (λ (p : Pair). p.sent) (h a b))
+    (λ e. es ∙ ap (slice_index sent) (sym e)))
+    (ap (λ (p : Pair). p.received) (hr a b) ∙ raised_received (a == q && b == place) (mid a b) (record { sent = 0; received = r })
+    ∙ swapped (a == q) (b == place) _ _
+    ∙ one_more r a q (mid a b).received (old a b).received (slice_index received a) (b == place)
+    (ap (λ (p : Pair). p.received) (hs a b) ∙ raised_received (a == place && b == q) (before a b) (record { sent = s; received = 0 })
+    ∙ nothing_more (a == place && b == q) (before a b).received ∙ ap (λ (p : Pair). p.received) (h a b))
+    (λ e. er ∙ ap (slice_index received) (sym e)))
+
+-- nothing was taken in yet
+none_if : (t : Bool) (b x y : ℕ) → (if t && nat_lt b 0 then x else y) ≡ y
+none_if true b x y = grind (arith, nat_tests)
+none_if false b x y = refl
+
+pub merged_none : (place : ℕ) (sent received : List ℕ) (old : ℕ → ℕ → Pair) (a b : ℕ) → old a b ≡ merged_to place sent received 0 old a b
+merged_none place sent received old a b = same_pair (old a b) (merged_to place sent received 0 old a b)
+    (sym (none_if (a == place) b _ (old a b).sent)) (sym (none_if (b == place) a _ (old a b).received))
