@@ -93,6 +93,7 @@ ClosesDone places here c (Closes number) = let f : Finish =
     record { home = here; number = number } in IsDoneAt places here (c.totals here f) (c.kept f)
 ClosesDone places here c _ = Unit {0}
 
+-- the world after a move
 abbrev pub world_after : World → ℕ → ℕ → machine.Place → Effect → ℕ → World
 world_after w here key new effect number = record {
   net = net_after w.net here new effect number;

@@ -1,6 +1,6 @@
 ghost use Rattle.std.specs.Prelude.{◌≡◌, ◌↔◌, ◌<◌, ◌*◌, ◌^◌, ◌≤◌, ℕ, IsTrue, IfOk, IfErr, length, slice_index};
 ghost use Rattle.x10_kinds.specs.declared.stop.Stop.TheVariants as stop;
-ghost use Rattle.x10_model.specs.Totals.{IsBalanced, IsDoneAt, entry_of, seen_from};
+ghost use Rattle.x10_model.specs.Totals.{Totals, IsBalanced, IsDoneAt, entry_of, seen_from};
 ghost use Rattle.x10_finish.specs.Ledgers.{named, totals_of};
 ghost use Rattle.x10_finish.specs.Books.{Kept, finish_of, kept_of, IsOpened, MergesCounts, Merges};
 
@@ -102,19 +102,18 @@ impl Book {
         self.merge_counts(report.place, &report.sent, &report.received);
     }
 
-    /// Whether what each place sent to another is what the other received from it: by the home's own totals as they are now,
-    /// and by what was reported of the other places. Apart from finding the totals, it takes constant time where the answer is
-    /// no and neither the totals nor the book has changed since it was last no; otherwise it is linear in the number of places.
-    pub fn balanced(&self, tally: &Tally) -> bool
-        ensures { IsTrue result ↔ IsBalanced self.now.places
-            (seen_from self.now.home (entry_of (totals_of tally.now (finish_of self.now)))
-            (kept_of self.now)) }
+    /// Whether what each place sent to another is what the other received from it: by these numbers of the home, and by what was
+    /// reported of the other places.
+    fn balances(&self, sent: &[u32], received: &[u32]) -> bool
+        ensures { (own : Totals) → ((p : ℕ) → slice_index sent.now p ≡ own.sent p)
+            → ((p : ℕ) → slice_index received.now p ≡ own.received p)
+            → IsTrue result ↔ IsBalanced self.now.places
+            (seen_from self.now.home (entry_of own) (kept_of self.now)) }
     {
         if self.unequal != 0 {
             return false;
         }
         let (home, places) = (usize::from(self.finish.home), usize::from(self.places));
-        let (sent, received) = (tally.sent(self.finish), tally.received(self.finish));
         let hint = usize::from(self.hint.get());
         if hint < places && !agrees(&self.pairs, home, places, sent, received, hint) {
             return false;
@@ -128,13 +127,26 @@ impl Book {
         }
     }
 
+    /// Whether what each place sent to another is what the other received from it: by the home's own totals as they are now,
+    /// and by what was reported of the other places. Apart from finding the totals, it takes constant time where the answer is
+    /// no and neither the totals nor the book has changed since it was last no; otherwise it is linear in the number of places.
+    pub fn balanced(&self, tally: &Tally) -> bool
+        ensures { IsTrue result ↔ IsBalanced self.now.places
+            (seen_from self.now.home (entry_of (totals_of tally.now (finish_of self.now)))
+            (kept_of self.now)) }
+    {
+        let (_, sent, received) = tally.totals(self.finish);
+        self.balances(sent, received)
+    }
+
     /// Whether the finish may end: none of its activities lives at its home, and the book is balanced. Takes the time of
     /// `balanced`.
     pub fn done(&self, tally: &Tally) -> bool
         ensures { IsTrue result ↔ IsDoneAt self.now.places self.now.home
             (totals_of tally.now (finish_of self.now)) (kept_of self.now) }
     {
-        tally.live(self.finish) == 0 && self.balanced(tally)
+        let (live, sent, received) = tally.totals(self.finish);
+        live == 0 && self.balances(sent, received)
     }
 
     /// The finish has ended: gives the book's memory back, and says whose book it was. Constant time.

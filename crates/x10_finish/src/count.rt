@@ -29,7 +29,7 @@ pub enum Change {
 }
 
 /// Nothing counted yet, for `places` places.
-pub fn no_count(alloc: Global, places: u16) -> Result<Count, AllocError>
+fn no_count(alloc: Global, places: u16) -> Result<Count, AllocError>
     ensures nothing { IfOk result (λ c. counted c ≡ nothing) }
     ensures whole { IfOk result (IsWhole places) }
 {
@@ -41,6 +41,43 @@ pub fn no_count(alloc: Global, places: u16) -> Result<Count, AllocError>
         sent,
         received,
     })
+}
+
+/// A count of nothing in the memory of another one. Asks for memory only where that was of fewer places.
+fn cleared(mut count: Count, places: u16) -> Result<Count, AllocError>
+    ensures nothing { IfOk result (λ c. counted c ≡ nothing) }
+    ensures whole { IfOk result (IsWhole places) }
+{
+    let places = usize::from(places);
+    count.live = 0;
+    count.sent.clear();
+    count.sent.resize(places, 0)?;
+    count.received.clear();
+    count.received.resize(places, 0)?;
+    Ok(count)
+}
+
+/// A count of nothing for `places` places: one of those to spare, where there is one. Else there is room for one afterwards.
+pub fn fresh_count(
+    alloc: Global,
+    spare: &mut Vec<Count>,
+    places: u16,
+) -> Result<Count, AllocError>
+    ensures nothing { IfOk result (λ c. counted c ≡ nothing) }
+    ensures whole { IfOk result (IsWhole places) }
+{
+    let Some(count) = spare.pop() else {
+        spare.reserve(1)?;
+        return no_count(alloc, places);
+    };
+    cleared(count, places)
+}
+
+/// Takes a count of a finish that ended. Asks for no memory: where there is no room for it, it is dropped.
+pub fn keep_count(spare: &mut Vec<Count>, count: Count) {
+    if spare.len() < spare.capacity() {
+        spare.push_reserved(count);
+    }
 }
 
 fn raised(count: u32) -> Result<u32, Stop>

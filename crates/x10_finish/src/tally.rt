@@ -8,7 +8,7 @@ ghost use Rattle.x10_finish.specs.Counts.{Fits, IsFull, IsLargest, changed};
 ghost use Rattle.x10_finish.specs.declared.count.Change.TheVariants as change;
 ghost use Rattle.x10_finish.specs.Ledgers.{Ledger, finish_eq, count_of, totals_of, is_met, named, Counts, Forgets, Refuses, gives_report, AreDue, IsAnswer};
 
-use crate::count::{Change, Count, apply, no_count};
+use crate::count::{Change, Count, apply, fresh_count, keep_count};
 use crate::finish::Finish;
 use std::alloc::Global;
 use std::collections::HashMap;
@@ -27,6 +27,8 @@ pub struct Tally {
     place: u16,
     places: u16,
     counts: HashMap<Finish, Count>,
+    /// Counts of finishes that ended: one that is met takes one of these, so that finishes in a loop ask for no more memory.
+    spare: Vec<Count>,
 }
 
 impl Model for Tally {
@@ -64,6 +66,7 @@ impl Tally {
             place,
             places,
             counts: HashMap::new(alloc),
+            spare: Vec::new(alloc),
         }
     }
 
@@ -93,7 +96,7 @@ impl Tally {
         if let Some(count) = self.counts.get_mut(&finish) {
             return apply(count, change);
         }
-        let Ok(mut count) = no_count(self.alloc, self.places) else {
+        let Ok(mut count) = fresh_count(self.alloc, &mut self.spare, self.places) else {
             return Err(Stop::Memory);
         };
         apply(&mut count, change)?;
@@ -109,7 +112,7 @@ impl Tally {
         if self.counts.contains_key(&finish) {
             return Ok(());
         }
-        let Ok(count) = no_count(self.alloc, self.places) else {
+        let Ok(count) = fresh_count(self.alloc, &mut self.spare, self.places) else {
             return Err(Stop::Memory);
         };
         put(&mut self.counts, finish, count)
@@ -218,11 +221,29 @@ impl Tally {
         Ok(report)
     }
 
-    /// A finish has ended at its home: what was counted of it is dropped, and its memory is given back.
+    /// A finish has ended at its home: what was counted of it is dropped. Its memory is kept for the next one that is met, or
+    /// given back where some is kept.
     pub fn forget(&mut self, finish: Finish)
         ensures { Forgets self.old (named finish) self.new }
     {
-        let _ = self.counts.remove(&finish);
+        if let Some(count) = self.counts.remove(&finish) {
+            keep_count(&mut self.spare, count);
+        }
+    }
+
+    /// What was counted of a finish, by one look: how many of its activities live here, how many were sent to each place, and how
+    /// many came from each; no numbers where the finish was not met yet.
+    pub fn totals(&self, finish: Finish) -> (u32, &[u32], &[u32])
+        ensures live { result.0 ≡ (totals_of self.now (named finish)).live }
+        ensures sent { (p : ℕ) → slice_index result.1.now p
+            ≡ (totals_of self.now (named finish)).sent p }
+        ensures received { (p : ℕ) → slice_index result.2.now p
+            ≡ (totals_of self.now (named finish)).received p }
+    {
+        match self.counts.get(&finish) {
+            Some(count) => (count.live, &count.sent, &count.received),
+            None => (0, &[], &[]),
+        }
     }
 
     /// How many activities under a finish live here.

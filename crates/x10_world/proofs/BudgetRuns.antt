@@ -16,7 +16,8 @@ use Rattle.x10_finish.specs.Closing.{IsSound}
 use Rattle.x10_finish.proofs.QuietClosings.{sound_opening, sound_happens}
 use Rattle.x10_image.specs.Parts.{code_in, code_at}
 use Rattle.x10_bounds.specs.Potential.{potential}
-use Rattle.x10_world.specs.Budget.{left_of, left_of_any, IsWithinBudget, world_after, BudgetAtOpening, BudgetAfterEvent, BudgetBounds, RunsAreWithinBounds}
+use Rattle.x10_finish.specs.Watching.{world_after}
+use Rattle.x10_world.specs.Budget.{left_of, left_of_any, IsWithinBudget, BudgetAtOpening, BudgetAfterEvent, BudgetBounds, RunsAreWithinBounds}
 use Rattle.x10_world.proofs.Budgets.{IsWithinOf, within_index}
 use Rattle.x10_world.proofs.BudgetMoves.{budget_after_move}
 use Rattle.x10_world.proofs.BudgetDeliveries.{new_left, budget_after_delivery}

@@ -7,9 +7,10 @@ use Rattle.x10_model.specs.Structure.{bounds_of}
 use Rattle.x10_model.specs.Places as places
 use Rattle.x10_model.specs.Places.{Setting, CallFrame, Stay, Message, Spawn, Shift, Back, Effect}
 use Rattle.x10_model.specs.Moves.{Moves}
-use Rattle.x10_model.specs.Worlds.{Flying, World, net_after, book_after, Rule, Quiet, Delivers, Happens, Run, WithinBounds, opening}
+use Rattle.x10_model.specs.Worlds.{Flying, World, Rule, Quiet, Delivers, Happens, Run, WithinBounds, opening}
 use Rattle.x10_image.specs.Parts.{code_at}
 use Rattle.x10_bounds.specs.Potential.{potential}
+use Rattle.x10_finish.specs.Watching.{world_after}
 use Rattle.x10_finish.specs.Nesting.{Stays, stays_of}
 use Rattle.x10_finish.specs.Chains.{Name}
 use Rattle.x10_finish.specs.Closing.{chains_of, IsSound}
@@ -76,13 +77,6 @@ abbrev pub BudgetAtOpening : Type 0
 BudgetAtOpening = (setting : Setting) (key : ℕ) (bounds : List ℕ)
     → bounds_of setting.program ≡ Ok bounds
     → IsWithinBudget setting.program bounds (opening setting key)
-
--- the world after a move
-abbrev pub world_after : World → ℕ → ℕ → places.Place → Effect → ℕ → World
-world_after w here key new effect number = record {
-  net = net_after w.net here new effect number;
-  book = book_after w.book (w.book.belongs here key) here effect number;
-}
 
 abbrev pub BudgetAfterMove : Type 0
 BudgetAfterMove = (setting : Setting) (bounds : List ℕ) (w : World) (here key number : ℕ)

@@ -8,8 +8,8 @@ pub invariant_of-self : goal.invariant_of-self
 invariant_of-self c = AreWhole-left c.self.inside.places c.self.inside.counts.entries c.remove.new.self.entries c.args.finish
     c.remove.ensures.updates.0 c.self.invariant
 
-pub returns : goal.returns
-returns c =
+pub returns-in-Some : goal.returns-in-Some
+returns-in-Some c =
     subst (λ l. Forgets l (named c.args.finish) (the_view (record c.self.inside { counts = c.remove.new.self }))) c.self.view_is
     (Forgets-by (the_view c.self.inside) (the_view (record c.self.inside { counts = c.remove.new.self })) c.args.finish refl refl
     c.remove.ensures.updates.0)
