@@ -42,14 +42,34 @@ impl Book {
         ensures ok { IfOk result (IsOpened finish places) }
         ensures err { IfErr result (λ why. why ≡ stop.Memory) }
     {
+        Book::blank(Vec::new(alloc), finish, places)
+    }
+
+    /// The same in the memory of the book of a finish that has ended. Asks for more only where that was one of fewer places.
+    pub fn reopen(self, finish: Finish, places: u16) -> Result<Book, Stop>
+        requires { finish.home < places }
+        ensures ok { IfOk result (IsOpened finish places) }
+        ensures err { IfErr result (λ why. why ≡ stop.Memory) }
+    {
+        let Book { pairs, .. } = self;
+        Book::blank(pairs, finish, places)
+    }
+
+    /// A book in which nothing was reported yet, in the memory of a list.
+    fn blank(mut pairs: Vec<Pair>, finish: Finish, places: u16) -> Result<Book, Stop>
+        requires { finish.home < places }
+        ensures ok { IfOk result (IsOpened finish places) }
+        ensures err { IfErr result (λ why. why ≡ stop.Memory) }
+    {
         let size = usize::from(places) * usize::from(places);
         let none = Pair {
             sent: 0,
             received: 0,
         };
-        let Ok(pairs) = vec![in alloc; none; size] else {
+        pairs.clear();
+        if pairs.resize(size, none).is_err() {
             return Err(Stop::Memory);
-        };
+        }
         Ok(Book {
             finish,
             places,

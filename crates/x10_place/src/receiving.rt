@@ -13,7 +13,6 @@ use crate::reports::take_report;
 use crate::stay::Origin;
 use std::alloc::Global;
 use x10_copy::Refusal;
-use x10_finish::Finish;
 use x10_frame::{FrameFault, FrameView, Head};
 
 /// The frame that bytes spell, in either version.
@@ -69,16 +68,7 @@ impl<'a> Ground<'a> {
                 number,
                 function,
                 ..
-            } => {
-                let under = Finish { home, number };
-                let new = Launch {
-                    from,
-                    function,
-                    under,
-                    back: None,
-                };
-                self.launch(view, new)
-            }
+            } => { self.launch(view, Launch::new(from, function, home, number, None)) }
             Head::Shift {
                 from,
                 waiting,
@@ -87,18 +77,9 @@ impl<'a> Ground<'a> {
                 function,
                 ..
             } => {
-                let under = Finish { home, number };
-                let back = Some(Origin {
-                    place: from,
-                    key: waiting,
-                });
-                let new = Launch {
-                    from,
-                    function,
-                    under,
-                    back,
-                };
-                self.launch(view, new)
+                let (place, key) = (from, waiting);
+                let back = Some(Origin { place, key });
+                self.launch(view, Launch::new(from, function, home, number, back))
             }
             Head::Back { from, waiting, .. } => { self.resume(view, from, waiting) }
             Head::Report { from, number, .. } => take_report(&mut self.store, view, from, number),

@@ -1,7 +1,10 @@
 //! What a place keeps for all its stays.
 ghost use Rattle.std.specs.Prelude.{◌≡◌, ◌≤◌, ◌<◌, ◌^◌, ◌++◌, ◌∷◌, [], ◌⊎◌, ◌↔◌, ◌+◌, true, false, None, Err, IfErr, IfOk, IfNone, IfSome, IsTrue, OnErr, OnOk, Some, length};
+ghost use Rattle.std.specs.Ordering.{nat_cmp};
+ghost use Rattle.std.specs.BTreeMap.{Updates};
 ghost use Rattle.x10_heap.specs.Heaps.{IsFull};
 ghost use Rattle.x10_finish.specs.Counts.{IsLargest};
+ghost use Rattle.x10_finish.specs.Books.{IsOpened};
 ghost use Rattle.x10_finish.specs.Ledgers.{gives_report, AreDue};
 ghost use Rattle.x10_kinds.specs.declared.limit.Limit.TheVariants as limits;
 ghost use Rattle.x10_kinds.specs.declared.stop.Stop.TheVariants as stop;
@@ -25,7 +28,7 @@ use x10_kinds::{Limit, Stop};
 
 /// What a place keeps for all its stays: the heap, the lines of output, and how many finishes it opened; what it has
 /// counted of each finish, and a book of each that it opened and that is open; which parts of the heap the last message took
-/// along; and the call frames of functions that ended, for those to come.
+/// along; and the books of finishes and the call frames of functions that ended, for those to come.
 #[derive(Drop)]
 pub(crate) struct Store {
     alloc: Global,
@@ -34,9 +37,44 @@ pub(crate) struct Store {
     opened: u32,
     tally: Tally,
     books: BTreeMap<u32, Book>,
+    /// Books of finishes that ended: one that opens takes one of these, so that finishes in a loop ask for no more memory.
+    ended: Vec<Book>,
     pub(crate) marks: Marks,
     /// A call or an activity that begins takes one of these, so that calls in a loop ask for no more memory.
     spare: Vec<Box<CallFrame>>,
+}
+
+/// The book of a finish that opens: one of those that ended, where there is one. Else there is room for one afterwards.
+fn opened(
+    alloc: Global,
+    ended: &mut Vec<Book>,
+    finish: Finish,
+    places: u16,
+) -> Result<Book, Stop>
+    requires { finish.home < places }
+    ensures ok { IfOk result (IsOpened finish places) }
+    ensures err { IfErr result (λ why. why ≡ stop.Memory) }
+{
+    if let Some(book) = ended.pop() {
+        return book.reopen(finish, places);
+    }
+    if ended.reserve(1).is_err() {
+        return Err(Stop::Memory);
+    }
+    Book::open(alloc, finish, places)
+}
+
+/// Takes the book of a finish from those of open ones to those of ended ones. Asks for no memory: where there is no room for it,
+/// it is dropped.
+fn shut(books: &mut BTreeMap<u32, Book>, ended: &mut Vec<Book>, number: u32)
+    ensures { Updates nat_cmp books.old books.new number None }
+{
+    let Some(book) = books.remove(&number) else {
+        return;
+    };
+    if ended.len() < ended.capacity() {
+        ended.push_reserved(book);
+    }
 }
 
 impl Model for Store {
@@ -63,6 +101,7 @@ impl Store {
             opened: 0,
             tally: Tally::new(alloc, locality.here, locality.places),
             books: BTreeMap::new(alloc),
+            ended: Vec::new(alloc),
             marks: Marks::new(alloc),
             spare: Vec::new(alloc),
         };
@@ -167,9 +206,10 @@ impl Store {
         requires received { length received.now ≡ self.old.places }
         ensures { Merges self.old (report_of from number sent.now received.now) self.new }
     {
-        if let Some(book) = self.books.get_mut(&number) {
-            book.merge_counts(from, sent, received);
-        }
+        let Some(book) = self.books.get_mut(&number) else {
+            return;
+        };
+        book.merge_counts(from, sent, received);
     }
 }
 
@@ -207,7 +247,8 @@ impl Store {
             (Some (λ p. zeros)))) }
         ensures err { IfErr result (λ why. (self.new ≡ self.old) × (why ≡ stop.Memory)) }
     {
-        let book = Book::open(self.alloc, self.finish(number), self.tally.places())?;
+        let (finish, places) = (self.finish(number), self.tally.places());
+        let book = opened(self.alloc, &mut self.ended, finish, places)?;
         if self.books.insert(number, book).is_err() {
             return Err(Stop::Memory);
         }
@@ -230,7 +271,7 @@ impl Store {
             (with_entry (books_in self.old) number None) }
     {
         let finish = self.finish(number);
-        self.books.remove(&number);
+        shut(&mut self.books, &mut self.ended, number);
         self.tally.forget(finish);
     }
 

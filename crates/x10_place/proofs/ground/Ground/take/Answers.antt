@@ -1,4 +1,5 @@
-use Rattle.std.proofs.Common.{◌≡◌, sym, ◌∙◌, rules}
+use Rattle.std.proofs.Common.{◌≡◌, sym, ◌∙◌, subst, OnOk, IfErr, rules}
+use Rattle.x10_place.specs.Arrivals.{Launches, IsLaunchRefused}
 use Rattle.x10_place.proofs.Delivered.{ok_then, err_then, spawn_is, shift_is, back_is, spawn_taken, spawn_refused, shift_taken, shift_refused, back_taken, back_refused_so}
 use Rattle.x10_place.proofs.StandingStays.{checked}
 use Rattle.x10_place.proofs.ground.Ground.take.Goals as goal
@@ -11,7 +12,9 @@ returns-in-Spawn-clause-ok c =
     c.in-Spawn.home c.in-Spawn.number c.in-Spawn.function here c.args.view.now
     (spawn_is c.args.view.now c.in-Spawn.from c.in-Spawn.to c.in-Spawn.home c.in-Spawn.number c.in-Spawn.function
     (sym c.head-head.ensures.value ∙ c.in-Spawn.is))
-    c.launch.new.self.stays c.launch.new.self.store c.certificate.ensures.fits c.requires.fits) c.launch.ensures.ok
+    c.launch.new.self.stays c.launch.new.self.store c.certificate.ensures.fits c.requires.fits)
+    (subst (λ l. OnOk c.launch.result (Launches c.args.self.now.verified.now.program c.args.self.now.stays c.args.self.now.store c.args.view.now l
+    c.launch.new.self.stays c.launch.new.self.store)) c.new.ensures c.launch.ensures.ok)
 
 pub returns-in-Spawn-clause-refused : goal.returns-in-Spawn-clause-refused
 returns-in-Spawn-clause-refused c =
@@ -20,7 +23,8 @@ returns-in-Spawn-clause-refused c =
     c.in-Spawn.home c.in-Spawn.number c.in-Spawn.function here c.args.view.now
     (spawn_is c.args.view.now c.in-Spawn.from c.in-Spawn.to c.in-Spawn.home c.in-Spawn.number c.in-Spawn.function
     (sym c.head-head.ensures.value ∙ c.in-Spawn.is)))
-    c.launch.ensures.refused
+    (subst (λ l. IfErr c.launch.result (IsLaunchRefused c.args.self.now.verified.now.program c.args.self.now.stays
+    c.args.self.now.store c.args.view.now l)) c.new.ensures c.launch.ensures.refused)
 
 pub returns-in-Shift-clause-ok : goal.returns-in-Shift-clause-ok
 returns-in-Shift-clause-ok c =
@@ -29,7 +33,9 @@ returns-in-Shift-clause-ok c =
     c.in-Shift.to c.in-Shift.home c.in-Shift.number c.in-Shift.function here c.in-Shift.waiting c.args.view.now
     (shift_is c.args.view.now c.in-Shift.from c.in-Shift.to c.in-Shift.waiting c.in-Shift.home c.in-Shift.number c.in-Shift.function
     (sym c.head-head.ensures.value ∙ c.in-Shift.is))
-    c.launch-in-Shift.new.self.stays c.launch-in-Shift.new.self.store c.certificate.ensures.fits c.requires.fits) c.launch-in-Shift.ensures.ok
+    c.launch-in-Shift.new.self.stays c.launch-in-Shift.new.self.store c.certificate.ensures.fits c.requires.fits)
+    (subst (λ l. OnOk c.launch-in-Shift.result (Launches c.args.self.now.verified.now.program c.args.self.now.stays c.args.self.now.store c.args.view.now l
+    c.launch-in-Shift.new.self.stays c.launch-in-Shift.new.self.store)) c.new-in-Shift.ensures c.launch-in-Shift.ensures.ok)
 
 pub returns-in-Shift-clause-refused : goal.returns-in-Shift-clause-refused
 returns-in-Shift-clause-refused c =
@@ -38,7 +44,8 @@ returns-in-Shift-clause-refused c =
     c.in-Shift.to c.in-Shift.home c.in-Shift.number c.in-Shift.function here c.in-Shift.waiting c.args.view.now
     (shift_is c.args.view.now c.in-Shift.from c.in-Shift.to c.in-Shift.waiting c.in-Shift.home c.in-Shift.number c.in-Shift.function
     (sym c.head-head.ensures.value ∙ c.in-Shift.is)))
-    c.launch-in-Shift.ensures.refused
+    (subst (λ l. IfErr c.launch-in-Shift.result (IsLaunchRefused c.args.self.now.verified.now.program c.args.self.now.stays
+    c.args.self.now.store c.args.view.now l)) c.new-in-Shift.ensures c.launch-in-Shift.ensures.refused)
 
 pub returns-in-Back-clause-ok : goal.returns-in-Back-clause-ok
 returns-in-Back-clause-ok c =

@@ -10,9 +10,9 @@ invariant_of-self-2 c =
     c.in_ok-book.book
     (when_ok c.insert.result (sym c.is_err.ensures.value ∙ c.if-is_err.false) c.insert.ensures.updates).0
     (record {
-      home = c.in_ok-book.ensures.ok.home ∙ ap (λ (f : Finish). f.home) c.finish.ensures
+      home = c.in_ok-book.ensures.ok.home ∙ ap (λ (f : Finish). f.home) c.finish-finish.ensures
           ∙ ap (λ (s : StoreState). s.here) (sym c.self.view_is);
       number =
-          c.in_ok-book.ensures.ok.number ∙ ap (λ (f : Finish). f.number) c.finish.ensures;
-      places_are = c.in_ok-book.ensures.ok.places_is ∙ c.places.ensures;
+          c.in_ok-book.ensures.ok.number ∙ ap (λ (f : Finish). f.number) c.finish-finish.ensures;
+      places_are = c.in_ok-book.ensures.ok.places_is ∙ c.places-places.ensures;
     }) c.self.invariant
