@@ -58,11 +58,7 @@ fn cleared(mut count: Count, places: u16) -> Result<Count, AllocError>
 }
 
 /// A count of nothing for `places` places: one of those to spare, where there is one. Else there is room for one afterwards.
-pub fn fresh_count(
-    alloc: Global,
-    spare: &mut Vec<Count>,
-    places: u16,
-) -> Result<Count, AllocError>
+pub fn fresh_count(alloc: Global, spare: &mut Vec<Count>, places: u16) -> Result<Count, AllocError>
     ensures nothing { IfOk result (λ c. counted c ≡ nothing) }
     ensures whole { IfOk result (IsWhole places) }
 {

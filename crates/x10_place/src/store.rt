@@ -45,12 +45,7 @@ pub(crate) struct Store {
 }
 
 /// The book of a finish that opens: one of those that ended, where there is one. Else there is room for one afterwards.
-fn opened(
-    alloc: Global,
-    ended: &mut Vec<Book>,
-    finish: Finish,
-    places: u16,
-) -> Result<Book, Stop>
+fn opened(alloc: Global, ended: &mut Vec<Book>, finish: Finish, places: u16) -> Result<Book, Stop>
     requires { finish.home < places }
     ensures ok { IfOk result (IsOpened finish places) }
     ensures err { IfErr result (λ why. why ≡ stop.Memory) }

@@ -293,6 +293,31 @@ fn opens(alloc: Global) -> bool {
     }
 }
 
+/// A finish that ended leaves nothing behind in the memory that the next one takes: neither counts nor reports. Nor where that is
+/// a finish of fewer or more places.
+#[test]
+fn memory_is_used_again(rt: HostRuntime) -> Result<(), Fail> {
+    let alloc = rt.alloc();
+    let next = Finish { home: 0, number: 2 };
+    let mut tally = sender(alloc)?;
+    tally.began(FINISH)?;
+    tally.came(FINISH, 2)?;
+    tally.forget(FINISH);
+    tally.meet(next)?;
+    assert!(rt; tally.totals(next).0 == 0 && tally.totals(FINISH).1.is_empty());
+    assert!(rt; tally.sent(next) == [0, 0, 0].as_slice());
+    assert!(rt; tally.received(next) == [0, 0, 0].as_slice());
+    for places in [1, 3, 5] {
+        let mut book = Book::open(alloc, FINISH, 3)?;
+        take(&rt, &mut book, &report(alloc, 1, [0, 0, 1], [0, 0, 0])?);
+        assert!(rt; !book.balanced(&Tally::new(alloc, 0, 3)));
+        let book = book.reopen(next, places)?;
+        assert!(rt; book.finish() == next && book.places() == places);
+        assert!(rt; answers(&book, &Tally::new(alloc, 0, places)) == (true, true));
+    }
+    Ok(())
+}
+
 /// Every answer is right, or it is that a growth was refused and nothing has changed: to be run with each allocation
 /// failing in turn.
 #[test]

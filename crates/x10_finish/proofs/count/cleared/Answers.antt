@@ -20,5 +20,5 @@ pub returns-clause-nothing : goal.returns-clause-nothing
 returns-clause-nothing c =
     let sent = zeros c.from-places.result _ c.clear.new.self.items c.resize.new.self.items c.clear.ensures.items c.in_ok-resize.ensures.items in
     let received = zeros c.from-places.result _ c.clear-2.new.self.items c.resize-2.new.self.items c.clear-2.ensures.items
-        c.in_ok-resize-2.ensures.items in
+    c.in_ok-resize-2.ensures.items in
     λ i. record { live = 0; sent = sent i; received = received i }

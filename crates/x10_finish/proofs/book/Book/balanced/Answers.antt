@@ -7,6 +7,6 @@ pub returns : goal.returns
 returns c =
     c.balances.ensures (totals_of c.args.tally.now (finish_of c.args.self.now))
     (subst (λ b. (p : ℕ) → slice_index c.totals.result.1.now p ≡ (totals_of c.args.tally.now (finish_of b)).sent p) c.self.view_is
-        c.totals.ensures.sent)
+    c.totals.ensures.sent)
     (subst (λ b. (p : ℕ) → slice_index c.totals.result.2.now p ≡ (totals_of c.args.tally.now (finish_of b)).received p) c.self.view_is
-        c.totals.ensures.received)
+    c.totals.ensures.received)
