@@ -1,6 +1,6 @@
 -- What a place keeps: the books of its finishes by number, and its totals.
-use Rattle.std.proofs.Common.{◌≡◌, ◌↔◌, ℕ, ◌==◌, ◌&&◌, ◌+◌, Bool, true, false, cond, if◌then◌else◌, List, [], Option, Some, None, IsTrue, Result, Ok, Err, OnOk, refl, sym, ◌∙◌, ap, subst, arith}
-use Rattle.std.proofs.lemmas.Bool.{eqb-true}
+use Rattle.std.proofs.Common.{◌≡◌, ◌↔◌, ℕ, ◌==◌, ◌&&◌, ◌+◌, Bool, true, false, cond, if◌then◌else◌, List, [], Option, Some, None, is_some, MatchOption, IsTrue, Result, Ok, Err, OnOk, refl, sym, ◌∙◌, ap, subst, arith}
+use Rattle.std.proofs.lemmas.Bool.{eqb-true, ne_eqb}
 use Rattle.std.specs.Ordering.{nat_cmp}
 use Rattle.std.specs.Result.{is_err}
 use Rattle.std.specs.BTreeMap.{is_at}
@@ -13,6 +13,8 @@ use Rattle.x10_model.proofs.Lists.{none_some}
 use Rattle.x10_model.proofs.Maps.{at_key, off_key}
 use Rattle.x10_finish.specs.Books.{Kept, finish_of, kept_of}
 use Rattle.x10_heap.specs.Heaps.{empty}
+use Rattle.x10_place.specs.OpenBooks.{Writes, IsMergedAt}
+use Rattle.x10_place.specs.Receiving.{merged_in, report_of}
 use Rattle.x10_place.specs.StandsFor.{first_number}
 use Rattle.x10_place.specs.Opening.{IsNewStore}
 use Rattle.x10_place.specs.Stays.{StoreState, book_at, books_of, cut_of, books_in, totals_in, kept_in, finish_at, changed_at, IsBookOf, AreBooks, IsDoneHere, Recounts}
@@ -20,10 +22,6 @@ use Rattle.x10_place.specs.Stays.{StoreState, book_at, books_of, cut_of, books_i
 -- a book is found under its own number alone
 at_is_same : (k n : ℕ) → is_at (nat_cmp k) n ≡ (n == k)
 at_is_same k n = grind arith
-
--- one book is entered, or goes
-abbrev pub Writes : List (ℕ × Kept) → ℕ → Option Kept → List (ℕ × Kept) → Type 0
-Writes old k o new = (n : ℕ) → book_at new n ≡ cond (is_at (nat_cmp k) n) o (book_at old n)
 
 -- a book is entered
 entered_then : (here places n : ℕ) (t : Bool) (w b : Kept) (o : Option Kept) → (t ≡ true → IsBookOf here places n w)
@@ -45,6 +43,50 @@ gone_then here places n false b o g e = g e
 
 pub gone_book : (here places k : ℕ) (old new : List (ℕ × Kept)) → Writes old k None new → AreBooks here places old → AreBooks here places new
 gone_book here places k old new h all n b e = gone_then here places n (is_at (nat_cmp k) n) b (book_at old n) (all n b) (sym (h n) ∙ e)
+
+at_itself : (n : ℕ) → is_at (nat_cmp n) n ≡ true
+at_itself n = grind arith
+
+-- a book takes a report in
+module _ (here places number from : ℕ) (sent received : List ℕ) (old new : List (ℕ × Kept)) (m : IsMergedAt old number from sent received new)
+    (all : AreBooks here places old) where
+  are_books : (o : Option Kept) → book_at old number ≡ o → AreBooks here places new
+  are_books None e = subst (AreBooks here places) (sym (m.none e)) all
+  are_books (Some b) e = (let w = m.some b e in
+      let is = all number b e in
+      entered_book here places number old new w.book w.writes (record {
+        home = w.merges.home ∙ is.home;
+        number = w.merges.number ∙ is.number;
+        places_are = w.merges.places ∙ is.places_are;
+      }) all)
+
+  pub merged_books : AreBooks here places new
+  merged_books = are_books (book_at old number) refl
+
+  this_book : (o : Option Kept) → book_at old number ≡ o
+      → books_of new number ≡ merged_in (report_of from number sent received) (books_of old number)
+  this_book None e = ap (λ xs. books_of xs number) (m.none e)
+      ∙ subst (λ o. cut_of o ≡ merged_in (report_of from number sent received) (cut_of o)) (sym e) refl
+  this_book (Some b) e = (let w = m.some b e in
+      ap cut_of (w.writes number ∙ ap (λ t. cond t (Some w.book) (book_at old number)) (at_itself number))
+      ∙ ap Some w.merges.kept ∙ ap (λ o. merged_in (report_of from number sent received) (cut_of o)) (sym e))
+
+  pub merged_this : books_of new number ≡ merged_in (report_of from number sent received) (books_of old number)
+  merged_this = this_book (book_at old number) refl
+
+  other_book : (o : Option Kept) → book_at old number ≡ o → (n : ℕ) → (n ≡ number → ⊥) → book_at new n ≡ book_at old n
+  other_book None e n apart = ap (λ xs. book_at xs n) (m.none e)
+  other_book (Some b) e n apart = (let w = m.some b e in
+      w.writes n ∙ ap (λ t. cond t (Some w.book) (book_at old n)) (at_is_same number n ∙ ne_eqb n number apart))
+
+  pub merged_others : (n : ℕ) → (n ≡ number → ⊥) → books_of new n ≡ books_of old n
+  merged_others n apart = ap cut_of (other_book (book_at old number) refl n apart)
+
+-- a book is found where there is one
+pub is_found : {Z : Type 0} (r : Option Z) (now : Z → Kept) (o : Option Kept) → MatchOption r (o ≡ None) (λ b. o ≡ Some (now b))
+    → is_some r ≡ is_some o
+is_found None now o e = ap is_some (sym e)
+is_found (Some b) now o e = ap is_some (sym e)
 
 -- the home lets a finish end exactly where its book says so
 pub done_here : (t : Bool) (s : StoreState) (n : ℕ) (b : Kept) → book_at s.books n ≡ Some b → IsBookOf s.here s.places n b

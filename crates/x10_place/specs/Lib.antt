@@ -3,6 +3,7 @@ pub mod Homes
 pub mod Frames
 pub mod Texts
 pub mod Stays
+pub mod OpenBooks
 pub mod Messages
 pub mod Sending
 pub mod StandsFor

@@ -1,6 +1,7 @@
 //! One place of the machine: its activities, and their steps.
 #![tactic(auto)]
 
+mod books;
 mod call_frame;
 mod departing;
 mod ground;

@@ -1,10 +1,7 @@
 //! What a place keeps for all its stays.
 ghost use Rattle.std.specs.Prelude.{◌≡◌, ◌≤◌, ◌<◌, ◌^◌, ◌++◌, ◌∷◌, [], ◌⊎◌, ◌↔◌, ◌+◌, true, false, None, Err, IfErr, IfOk, IfNone, IfSome, IsTrue, OnErr, OnOk, Some, length};
-ghost use Rattle.std.specs.Ordering.{nat_cmp};
-ghost use Rattle.std.specs.BTreeMap.{Updates};
 ghost use Rattle.x10_heap.specs.Heaps.{IsFull};
 ghost use Rattle.x10_finish.specs.Counts.{IsLargest};
-ghost use Rattle.x10_finish.specs.Books.{IsOpened};
 ghost use Rattle.x10_finish.specs.Ledgers.{gives_report, AreDue};
 ghost use Rattle.x10_kinds.specs.declared.limit.Limit.TheVariants as limits;
 ghost use Rattle.x10_kinds.specs.declared.stop.Stop.TheVariants as stop;
@@ -15,20 +12,20 @@ ghost use Rattle.x10_place.specs.Stays.{finish_as, finish_at, totals_in, books_i
 ghost use Rattle.x10_place.specs.Receiving.{report_of};
 ghost use Rattle.x10_place.specs.Arrivals.{Merges, IsOpenHere, Comes, IsKeptOut};
 
+use crate::books::Books;
 use crate::call_frame::{CallFrame, first_frame};
 use crate::line::Line;
 use crate::stay::Locality;
 use std::alloc::{AllocError, Global};
-use std::collections::BTreeMap;
 use std::marker::Model;
 use x10_copy::Marks;
-use x10_finish::{Book, Finish, Tally};
+use x10_finish::{Finish, Tally};
 use x10_heap::Heap;
 use x10_kinds::{Limit, Stop};
 
 /// What a place keeps for all its stays: the heap, the lines of output, and how many finishes it opened; what it has
 /// counted of each finish, and a book of each that it opened and that is open; which parts of the heap the last message took
-/// along; and the books of finishes and the call frames of functions that ended, for those to come.
+/// along; and the call frames of functions that ended, for those to come.
 #[derive(Drop)]
 pub(crate) struct Store {
     alloc: Global,
@@ -36,40 +33,10 @@ pub(crate) struct Store {
     pub(crate) lines: Vec<Line>,
     opened: u32,
     tally: Tally,
-    books: BTreeMap<u32, Book>,
-    /// Books of finishes that ended: one that opens takes one of these, so that finishes in a loop ask for no more memory.
-    ended: Vec<Book>,
+    books: Books,
     pub(crate) marks: Marks,
     /// A call or an activity that begins takes one of these, so that calls in a loop ask for no more memory.
     spare: Vec<Box<CallFrame>>,
-}
-
-/// The book of a finish that opens: one of those that ended, where there is one. Else there is room for one afterwards.
-fn opened(alloc: Global, ended: &mut Vec<Book>, finish: Finish, places: u16) -> Result<Book, Stop>
-    requires { finish.home < places }
-    ensures ok { IfOk result (IsOpened finish places) }
-    ensures err { IfErr result (λ why. why ≡ stop.Memory) }
-{
-    if let Some(book) = ended.pop() {
-        return book.reopen(finish, places);
-    }
-    if ended.reserve(1).is_err() {
-        return Err(Stop::Memory);
-    }
-    Book::open(alloc, finish, places)
-}
-
-/// Takes the book of a finish from those of open ones to those of ended ones. Asks for no memory: where there is no room for it,
-/// it is dropped.
-fn shut(books: &mut BTreeMap<u32, Book>, ended: &mut Vec<Book>, number: u32)
-    ensures { Updates nat_cmp books.old books.new number None }
-{
-    let Some(book) = books.remove(&number) else {
-        return;
-    };
-    if ended.len() < ended.capacity() {
-        ended.push_reserved(book);
-    }
 }
 
 impl Model for Store {
@@ -77,9 +44,9 @@ impl Model for Store {
 
     ghost Value = { StoreState };
 
-    ghost view = { λ s. record { heap = s.heap; lines = s.lines.items; opened = s.opened; here = s.tally.place; places = s.tally.places; ledger = s.tally; books = s.books.entries } };
+    ghost view = { λ s. record { heap = s.heap; lines = s.lines.items; opened = s.opened; here = s.tally.place; places = s.tally.places; ledger = s.tally; books = s.books } };
 
-    ghost invariant = { λ s. AreBooks s.tally.place s.tally.places s.books.entries };
+    ghost invariant = { λ s. AreBooks s.tally.place s.tally.places s.books };
 }
 
 impl Store {
@@ -95,8 +62,7 @@ impl Store {
             lines: Vec::new(alloc),
             opened: 0,
             tally: Tally::new(alloc, locality.here, locality.places),
-            books: BTreeMap::new(alloc),
-            ended: Vec::new(alloc),
+            books: Books::new(alloc),
             marks: Marks::new(alloc),
             spare: Vec::new(alloc),
         };
@@ -173,7 +139,7 @@ impl Store {
     pub(crate) fn has_book(&self, number: u32) -> bool
         ensures { IsTrue result ↔ HasBook (books_in self.now) number }
     {
-        self.books.contains_key(&number)
+        self.books.get(number).is_some()
     }
 
     /// Whether a finish is open, if it is one of this place.
@@ -201,10 +167,7 @@ impl Store {
         requires received { length received.now ≡ self.old.places }
         ensures { Merges self.old (report_of from number sent.now received.now) self.new }
     {
-        let Some(book) = self.books.get_mut(&number) else {
-            return;
-        };
-        book.merge_counts(from, sent, received);
+        self.books.merge(number, from, sent, received);
     }
 }
 
@@ -243,10 +206,7 @@ impl Store {
         ensures err { IfErr result (λ why. (self.new ≡ self.old) × (why ≡ stop.Memory)) }
     {
         let (finish, places) = (self.finish(number), self.tally.places());
-        let book = opened(self.alloc, &mut self.ended, finish, places)?;
-        if self.books.insert(number, book).is_err() {
-            return Err(Stop::Memory);
-        }
+        self.books.open(finish, places)?;
         self.opened = number + 1;
         Ok(())
     }
@@ -256,7 +216,10 @@ impl Store {
         requires { HasBook (books_in self.now) number }
         ensures { IsTrue result ↔ IsDoneHere self.now number }
     {
-        self.books[&number].done(&self.tally)
+        match self.books.get(number) {
+            Some(book) => book.done(&self.tally),
+            None => false,
+        }
     }
 
     /// Closes a finish that is open here: its book is dropped, and what was counted of it. Takes no memory.
@@ -266,7 +229,7 @@ impl Store {
             (with_entry (books_in self.old) number None) }
     {
         let finish = self.finish(number);
-        shut(&mut self.books, &mut self.ended, number);
+        self.books.close(number);
         self.tally.forget(finish);
     }
 

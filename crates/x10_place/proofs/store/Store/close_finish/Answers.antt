@@ -5,7 +5,7 @@ use Rattle.x10_place.proofs.store.Store.close_finish.Goals as goal
 
 pub invariant_of-self : goal.invariant_of-self
 invariant_of-self c =
-    subst (λ p. AreBooks p c.forget.new.self.places c.shut.new.books.entries) (sym c.forget.ensures.place)
-    (subst (λ n. AreBooks c.self.inside.tally.place n c.shut.new.books.entries) (sym c.forget.ensures.places)
-    (gone_book c.self.inside.tally.place c.self.inside.tally.places c.args.number c.self.inside.books.entries c.shut.new.books.entries
-    c.shut.ensures.0 c.self.invariant))
+    subst (λ p. AreBooks p c.forget.new.self.places c.close.new.self) (sym c.forget.ensures.place)
+    (subst (λ n. AreBooks c.self.inside.tally.place n c.close.new.self) (sym c.forget.ensures.places)
+    (gone_book c.self.inside.tally.place c.self.inside.tally.places c.args.number c.self.inside.books c.close.new.self
+    c.close.ensures c.self.invariant))

@@ -14,7 +14,7 @@ first c = record {
   here = c.new-3.result.place;
   places = c.new-3.result.places;
   ledger = c.new-3.result;
-  books = c.new-4.result.entries;
+  books = c.new-4.result;
 }
 
 blank : (c : goal.Joined-locality-eq0) → IsBlank c.args.locality.here c.args.locality.places (first c)
@@ -25,7 +25,7 @@ blank c = record {
   here = c.new-3.ensures.place;
   places_are = c.new-3.ensures.places;
   totals = c.new-3.ensures.totals;
-  books = c.new-4.ensures.empty;
+  books = c.new-4.ensures;
 }
 
 pub returns-clause-ok : goal.returns-clause-ok
