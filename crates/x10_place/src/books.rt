@@ -40,12 +40,7 @@ impl Model for Books {
 }
 
 /// The book of a finish that opens: one of those that ended, where there is one. Else there is room for one afterwards.
-fn opened(
-    alloc: Global,
-    ended: &mut Vec<Book>,
-    finish: Finish,
-    places: u16,
-) -> Result<Book, Stop>
+fn opened(alloc: Global, ended: &mut Vec<Book>, finish: Finish, places: u16) -> Result<Book, Stop>
     requires { finish.home < places }
     ensures ok { IfOk result (IsOpened finish places) }
     ensures err { IfErr result (λ why. why ≡ stop.Memory) }
@@ -60,10 +55,7 @@ fn opened(
 }
 
 /// Puts the latest book among the others. Where memory is refused, nothing has changed.
-fn set_aside(
-    latest: &mut Option<Numbered>,
-    others: &mut BTreeMap<u32, Book>,
-) -> Result<(), Stop>
+fn set_aside(latest: &mut Option<Numbered>, others: &mut BTreeMap<u32, Book>) -> Result<(), Stop>
     ensures ok { OnOk result ((n : ℕ) → book_at others.new.entries n
         ≡ book_at (listed latest.old others.old.entries) n) }
     ensures err { IfErr result (λ why. (why ≡ stop.Memory) × (latest.new ≡ latest.old)

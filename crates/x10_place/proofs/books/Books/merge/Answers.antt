@@ -24,14 +24,14 @@ latest_in now others o latest n is number view =
 pub merge_counts-requires-clause-place : goal.merge_counts-requires-clause-place
 merge_counts-requires-clause-place c =
     (c.requires c.in-Some.latest.book (latest_in c.args.self.now c.self.inside.others.entries c.self.inside.latest c.in-Some.latest c.args.number
-        c.in-Some.is c.if-latest-number.true c.self.view_is)).0
+    c.in-Some.is c.if-latest-number.true c.self.view_is)).0
 
 pub merge_counts-requires-clause-sent : goal.merge_counts-requires-clause-sent
 merge_counts-requires-clause-sent c =
     (c.requires c.in-Some.latest.book (latest_in c.args.self.now c.self.inside.others.entries c.self.inside.latest c.in-Some.latest c.args.number
-        c.in-Some.is c.if-latest-number.true c.self.view_is)).1
+    c.in-Some.is c.if-latest-number.true c.self.view_is)).1
 
 pub merge_counts-requires-clause-received : goal.merge_counts-requires-clause-received
 merge_counts-requires-clause-received c =
     (c.requires c.in-Some.latest.book (latest_in c.args.self.now c.self.inside.others.entries c.self.inside.latest c.in-Some.latest c.args.number
-        c.in-Some.is c.if-latest-number.true c.self.view_is)).2
+    c.in-Some.is c.if-latest-number.true c.self.view_is)).2

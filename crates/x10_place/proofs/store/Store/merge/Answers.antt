@@ -14,9 +14,9 @@ returns c =
     let here = c.self.inside.tally.place in
     let places = c.self.inside.tally.places in
     let this = merged_this here places c.args.number c.args.from c.args.sent.now c.args.received.now c.self.inside.books c.merge.new.self
-        c.merge.ensures c.self.invariant in
+    c.merge.ensures c.self.invariant in
     let others = merged_others here places c.args.number c.args.from c.args.sent.now c.args.received.now c.self.inside.books c.merge.new.self
-        c.merge.ensures c.self.invariant in
+    c.merge.ensures c.self.invariant in
     subst (λ s. Merges s (report_of c.args.from c.args.number c.args.sent.now c.args.received.now)
-        (the_view (record c.self.inside { books = c.merge.new.self }))) c.self.view_is
+    (the_view (record c.self.inside { books = c.merge.new.self }))) c.self.view_is
     (record { rest = refl; this = this; others = others })
