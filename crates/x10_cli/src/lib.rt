@@ -11,6 +11,7 @@ mod picture;
 mod runs;
 mod schedule;
 mod threads;
+mod trace;
 
 pub use checking::is_image;
 pub use commands::{execute, tell};

@@ -4,7 +4,7 @@ use Rattle.x10_cli.proofs.UndoneLemmas.{kept_self}
 use Rattle.x10_cli.proofs.RunLemmas.{done_by, due_unless, trace_printed, trace_left}
 use Rattle.x10_task.specs.declared.task.Verb.TheVariants as verb
 use Rattle.x10_cli.specs.Answers.{CanBeDone}
-use Rattle.x10_cli.proofs.commands.print_trace.Goals as goal
+use Rattle.x10_cli.proofs.trace.print_trace.Goals as goal
 
 pub returns-in_err-verified-clause-due : goal.returns-in_err-verified-clause-due
 returns-in_err-verified-clause-due w = λ c.

@@ -1,5 +1,5 @@
 use Rattle.x10_world.proofs.RunCounts.{runs_event, runs_still}
-use Rattle.x10_cli.proofs.commands.print_event.Goals as goal
+use Rattle.x10_cli.proofs.trace.print_event.Goals as goal
 
 pub returns-in_err-done-clause-runs : goal.returns-in_err-done-clause-runs
 returns-in_err-done-clause-runs g = λ c. runs_still c.args.world.now c.event.new.self c.event.ensures.kept c.in_err-done.ensures.left
