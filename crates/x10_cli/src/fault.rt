@@ -1,4 +1,4 @@
-ghost use Rattle.std.specs.Prelude.{◌≡◌, Some};
+ghost use Rattle.std.specs.Prelude.{true, false, ◌≡◌, Some};
 ghost use Rattle.std.specs.Fmt.{DisplaysOnOk};
 ghost use Rattle.x10_cli.specs.Telling.{fault_text};
 ghost use Rattle.x10_cli.specs.declared.fault.Fault.TheVariants as fault;
@@ -61,6 +61,14 @@ impl Fault {
             Fault::Turns | Fault::Refused(_) | Fault::Differs(_) | Fault::Thread => 2,
             Fault::File => 4,
         }
+    }
+
+    /// This fault, or that memory was refused.
+    fn unless(self, is_memory: bool) -> Fault
+        ensures memory { is_memory ≡ true → result ≡ fault.Memory }
+        ensures other { is_memory ≡ false → result ≡ self }
+    {
+        if is_memory { Fault::Memory } else { self }
     }
 }
 
@@ -134,10 +142,7 @@ impl From<AsmFault> for Fault {
     ghost from_gives = { λ f told. told ≡ of_asm f.cause f };
 
     fn from(fault: AsmFault) -> Fault {
-        match fault.cause {
-            AsmCause::Memory => Fault::Memory,
-            _ => Fault::Asm(fault),
-        }
+        Fault::Asm(fault).unless(fault.cause == AsmCause::Memory)
     }
 }
 
@@ -145,10 +150,7 @@ impl From<ImageFault> for Fault {
     ghost from_gives = { λ f told. told ≡ of_image f };
 
     fn from(fault: ImageFault) -> Fault {
-        match fault {
-            ImageFault::Memory => Fault::Memory,
-            fault => Fault::Image(fault),
-        }
+        Fault::Image(fault).unless(fault == ImageFault::Memory)
     }
 }
 
@@ -156,10 +158,7 @@ impl From<VerifyFault> for Fault {
     ghost from_gives = { λ f told. told ≡ of_verify f.cause f };
 
     fn from(fault: VerifyFault) -> Fault {
-        match fault.cause {
-            VerifyCause::Memory => Fault::Memory,
-            _ => Fault::Verify(fault),
-        }
+        Fault::Verify(fault).unless(fault.cause == VerifyCause::Memory)
     }
 }
 
@@ -167,10 +166,7 @@ impl From<BoundFault> for Fault {
     ghost from_gives = { λ f told. told ≡ of_bounds f.cause f };
 
     fn from(fault: BoundFault) -> Fault {
-        match fault.cause {
-            BoundCause::Memory => Fault::Memory,
-            _ => Fault::Bounds(fault),
-        }
+        Fault::Bounds(fault).unless(fault.cause == BoundCause::Memory)
     }
 }
 
