@@ -4,10 +4,12 @@
 ghost use Rattle.std.specs.Prelude.{◌≡◌, IsTrue};
 
 mod input;
+mod making;
 mod terminal;
 mod text;
 mod trouble;
 
+use crate::making::make;
 use crate::terminal::{say, show_report, shows_report};
 use crate::text::{Given, as_told, is_input, is_text, read, read_input};
 use crate::trouble::Trouble;
@@ -122,18 +124,9 @@ fn print<R: Threads + Wait + Sync>(
     let Ok(mut out) = BufWriter::new(rt.alloc(), Output::new(rt.stdout())) else {
         return Err(Trouble::Memory);
     };
-    let Ok(mut told) = Told::new(rt.alloc()) else {
-        return Err(Trouble::Memory);
-    };
-    let status = execute(
-        threads,
-        rt.alloc(),
-        task,
-        bytes,
-        source,
-        &mut out,
-        &mut told,
-    );
+    let mut told = Told::new(rt.alloc())?;
+    let alloc = rt.alloc();
+    let status = execute(threads, alloc, task, bytes, source, &mut out, &mut told);
     Ok(speak(rt, task, out.get_ref().failure(), told.bytes(), status))
 }
 
@@ -145,21 +138,8 @@ fn show<R: Threads + Wait + Sync>(
     bytes: &[u8],
 ) -> Result<u8, Trouble> {
     let mut report = Output::new(Vec::new(rt.alloc()));
-    let Ok(mut told) = Told::new(rt.alloc()) else {
-        return Err(Trouble::Memory);
-    };
-    let status = execute(
-        threads,
-        rt.alloc(),
-        task,
-        bytes,
-        None,
-        &mut report,
-        &mut told,
-    );
-    if report.wants_memory() {
-        return Err(Trouble::Memory);
-    }
+    let mut told = Told::new(rt.alloc())?;
+    let status = make(rt, threads, task, bytes, None, &mut report, &mut told)?;
     match show_report(rt, task, status == 0, report.writer()) {
         Ok(()) => Ok(speak(rt, task, None, told.bytes(), status)),
         Err(error) => Err(Trouble::writing(error)),
@@ -198,21 +178,8 @@ fn write<R: Threads + Wait + Sync>(
     output: &str,
 ) -> Result<u8, Trouble> {
     let mut made = Output::new(Vec::new(rt.alloc()));
-    let Ok(mut told) = Told::new(rt.alloc()) else {
-        return Err(Trouble::Memory);
-    };
-    let status = execute(
-        threads,
-        rt.alloc(),
-        task,
-        bytes,
-        source,
-        &mut made,
-        &mut told,
-    );
-    if made.wants_memory() {
-        return Err(Trouble::Memory);
-    }
+    let mut told = Told::new(rt.alloc())?;
+    let status = make(rt, threads, task, bytes, source, &mut made, &mut told)?;
     let made = made.writer();
     if is_written(task.verb, status)
         && !made.is_empty()

@@ -1,10 +1,11 @@
 //! Texts in place of images, and standard input in place of files.
 use crate::input;
+use crate::making::make;
 use crate::trouble::Trouble;
 use std::fs::File;
 use std::sync::Wait;
 use std::thread::Threads;
-use x10_cli::{execute, is_image};
+use x10_cli::is_image;
 use x10_files::{Output, Told};
 use x10_task::{Task, Verb};
 
@@ -89,21 +90,8 @@ fn assembled<R: Threads + Wait + Sync>(
     let mut asm = *task;
     asm.verb = Verb::Asm;
     let mut image = Output::new(Vec::new(rt.alloc()));
-    let Ok(mut told) = Told::new(rt.alloc()) else {
-        return Err(Trouble::Memory);
-    };
-    let status = execute(
-        threads,
-        rt.alloc(),
-        &asm,
-        &text,
-        None,
-        &mut image,
-        &mut told,
-    );
-    if image.wants_memory() {
-        return Err(Trouble::Memory);
-    }
+    let mut told = Told::new(rt.alloc())?;
+    let status = make(rt, threads, &asm, &text, None, &mut image, &mut told)?;
     if status != 0 {
         return Ok(Given::Refused(told, status));
     }

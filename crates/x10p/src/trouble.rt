@@ -1,5 +1,6 @@
 //! What goes wrong with files and streams, before a command is at work or after it.
 use crate::text::as_told;
+use std::alloc::AllocError;
 use std::io::{self, ErrorKind, Write};
 use x10_cli::{Fault, tell};
 use x10_task::Task;
@@ -80,5 +81,11 @@ impl Trouble {
                 )
             }
         }
+    }
+}
+
+impl From<AllocError> for Trouble {
+    fn from(_error: AllocError) -> Trouble {
+        Trouble::Memory
     }
 }
