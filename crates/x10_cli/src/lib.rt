@@ -7,6 +7,8 @@ mod commands;
 mod explain;
 mod fault;
 mod lines;
+mod numbered;
+mod outputs;
 mod picture;
 mod runs;
 mod schedule;

@@ -3,7 +3,7 @@ use Rattle.std.proofs.Common.{inr}
 use Rattle.std.proofs.lemmas.Result.{err_from_is_err_and}
 use Rattle.x10_world.proofs.RunCounts.{runs_self, runs_on}
 use Rattle.x10_cli.proofs.LinesPrinted.{traces_none, traces_more}
-use Rattle.x10_cli.proofs.trace.trace.Goals as goal
+use Rattle.x10_cli.proofs.trace.print_traced.Goals as goal
 
 pub returns-in_err-scheduler-clause-runs : goal.returns-in_err-scheduler-clause-runs
 returns-in_err-scheduler-clause-runs g = λ c. runs_self c.args.world.now

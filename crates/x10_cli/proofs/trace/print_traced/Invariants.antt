@@ -1,6 +1,6 @@
 use Rattle.x10_world.specs.Rounds.{RunsTo}
 use Rattle.x10_cli.specs.Answers.{Traces}
-use Rattle.x10_cli.proofs.trace.trace.Given as goal
+use Rattle.x10_cli.proofs.trace.print_traced.Given as goal
 
 abbrev pub invariant-loop : goal.invariant-loop
 invariant-loop g l = record {
