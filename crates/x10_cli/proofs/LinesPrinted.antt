@@ -71,8 +71,14 @@ bound_more a b c n m bounds bound e is before one =
     (subst (λ bs. Appends a c bs) (sym (bounds_more 0 n bounds bound is ∙ ap (λ k. bound_lines 0 (take n bounds) ++ bound_line k bound) at))
     (Appends-trans a b c _ _ before one))
 
+lines_there : (places : List PlaceState) (n : ℕ) (p : PlaceState) → slice_get places n ≡ Some p
+    → slice_get (lines_at places) n ≡ Some (map line_as p.lines)
+lines_there [] n p e = absurd cc
+lines_there (q ∷ qs) zero p e = ap (λ (x : PlaceState). Some (map line_as x.lines)) (same_Some q p e)
+lines_there (q ∷ qs) (suc n) p e = lines_there qs n p e
+
 -- the lines of one place more
-pub outputs_on : (json : Bool) (a b c : Option (List ℕ)) (n m : ℕ) (outputs : List (List machine.Line)) (lines : List machine.Line) → m ≡ suc n
+outputs_on : (json : Bool) (a b c : Option (List ℕ)) (n m : ℕ) (outputs : List (List machine.Line)) (lines : List machine.Line) → m ≡ suc n
     → slice_get outputs n ≡ Some lines → Appends a b (all_lines json 0 (take n outputs)) → Appends b c (place_lines json n lines)
     → Appends a c (all_lines json 0 (take m outputs))
 outputs_on json a b c n m outputs lines e is before one =
@@ -80,6 +86,29 @@ outputs_on json a b c n m outputs lines e is before one =
     let more = outputs_more json 0 n outputs lines is ∙ ap (λ k. all_lines json 0 (take n outputs) ++ place_lines json k lines) at in
     subst (λ k. Appends a c (all_lines json 0 (take k outputs))) (sym e)
     (subst (λ bs. Appends a c bs) (sym more) (Appends-trans a b c _ _ before one))
+
+pub output_more : (json : Bool) (a b c : Option (List ℕ)) (n m : ℕ) (places : List PlaceState) (p : PlaceState) (lines : List Line) → m ≡ suc n
+    → slice_get places n ≡ Some p → lines ≡ p.lines → Appends a b (all_lines json 0 (take n (lines_at places)))
+    → Appends b c (place_lines json n (map line_as lines)) → Appends a c (all_lines json 0 (take m (lines_at places)))
+output_more json a b c n m places p lines e is same before one =
+    outputs_on json a b c n m (lines_at places) (map line_as p.lines) e (lines_there places n p is) before
+    (subst (λ ls. Appends b c (place_lines json n (map line_as ls))) same one)
+
+lines_read : (outputs : List (Vec Line Global)) (n : ℕ) (row : Vec Line Global) → slice_get outputs n ≡ Some row
+    → slice_get (lines_in outputs) n ≡ Some (map line_as row.items)
+lines_read [] n row e = absurd cc
+lines_read (o ∷ os) zero row e = ap (λ (x : Vec Line Global). Some (map line_as x.items)) (same_Some o row e)
+lines_read (o ∷ os) (suc n) row e = lines_read os n row e
+
+pub report_more : (json : Bool) (a b c : Option (List ℕ)) (n m : ℕ) (outputs : List (Vec Line Global)) (row : Vec Line Global) (lines : List Line)
+    → m ≡ suc n → slice_get outputs n ≡ Some row → lines ≡ row.items → Appends a b (all_lines json 0 (take n (lines_in outputs)))
+    → Appends b c (place_lines json n (map line_as lines)) → Appends a c (all_lines json 0 (take m (lines_in outputs)))
+report_more json a b c n m outputs row lines e is same before one =
+    outputs_on json a b c n m (lines_in outputs) (map line_as row.items) e (lines_read outputs n row is) before
+    (subst (λ ls. Appends b c (place_lines json n (map line_as ls))) same one)
+
+pub nothing_printed : (a : Option (List ℕ)) → Appends a a []
+nothing_printed a = Appends-nil a
 
 -- ---- a run
 
@@ -173,6 +202,13 @@ prints_kept verb.Trace json asked bytes a b c p k =
         ended = h.ended;
       },
     )
+
+-- ---- a place that is there
+
+pub no_place : (places : List PlaceState) (n : ℕ) → n < length places → slice_get places n ≡ None → ⊥
+no_place [] n lt e = omega (arith, lt)
+no_place (p ∷ ps) zero lt e = cc
+no_place (p ∷ ps) (suc n) lt e = no_place ps n (omega (arith, lt)) e
 
 -- what was read at an index is there
 pub read_there : (xs : List ℕ) (n r : ℕ) → n < length xs → r ≡ get_or xs n r → slice_get xs n ≡ Some r

@@ -8,14 +8,12 @@ use Rattle.x10_world.specs.Endings.{IsImageOf, lines_at}
 use Rattle.x10_world.specs.Opening.{IsOpenedWorld}
 use Rattle.x10_world.specs.Rounds.{NoneIsLeft, RunsTo}
 use Rattle.x10_world.specs.StandsForWorld.{WorldState}
-use Rattle.x10_task.specs.declared.task.Verb.{Verb}
 use Rattle.x10_task.specs.declared.task.Verb.TheVariants as verb
 use Rattle.x10_cli.specs.Lines.{all_lines}
 use Rattle.x10_cli.specs.declared.fault.Fault.{Fault}
 use Rattle.x10_cli.specs.declared.fault.Fault.TheVariants as fault
-use Rattle.x10_cli.specs.Answers.{CanBeDone, IsDue, IsRunning, Prints, LeavesStopped, Traces, TracesSome, places_for, status_of}
+use Rattle.x10_cli.specs.Answers.{IsDue, Prints, LeavesStopped, Traces, TracesSome, places_for, status_of}
 use Rattle.x10_cli.proofs.LinesPrinted.{has_run, has_begun}
-use Rattle.x10_cli.proofs.UndoneLemmas.{kept_self}
 
 -- ---- faults of another status than 1
 
@@ -44,23 +42,6 @@ no_file : (e : Fault) → e ≡ fault.File → status_of e ≡ 2 → ⊥
 no_file e f s =
     let h : 4 ≡ 2 = sym (ap status_of f) ∙ s in
     omega (arith, h)
-
--- ---- the commands that run a module once
-
--- what can be done is a run
-pub run_of : (v : Verb) (asked : Option ℕ) (bytes : List ℕ) → IsRunning v → CanBeDone v asked bytes → CanBeDone verb.Run asked bytes
-run_of verb.Run asked bytes is p = p
-run_of verb.Trace asked bytes is p = p
-run_of verb.Draw asked bytes is p = p
-run_of _ asked bytes is p = absurd is
-
--- a run that didn't begin leaves nothing
-pub none_left : (v : Verb) (json : Bool) (asked : Option ℕ) (bytes : List ℕ) (a : Option (List ℕ)) → IsRunning v
-    → LeavesStopped v json false asked bytes a a
-none_left verb.Run json asked bytes a is = inl (kept_self a)
-none_left verb.Trace json asked bytes a is = inl (kept_self a)
-none_left verb.Draw json asked bytes a is = inl (kept_self a)
-none_left _ json asked bytes a is = absurd is
 
 -- ---- what is printed, and what is left where a run stops
 

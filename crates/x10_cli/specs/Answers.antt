@@ -269,13 +269,6 @@ IsVerifying verb.Trace = Unit {0}
 IsVerifying verb.Draw = Unit {0}
 IsVerifying _ = ⊥
 
--- the commands that run a module once
-abbrev pub IsRunning : Verb → Type 0
-IsRunning verb.Run = Unit {0}
-IsRunning verb.Trace = Unit {0}
-IsRunning verb.Draw = Unit {0}
-IsRunning _ = ⊥
-
 -- the exit status of a fault
 abbrev pub status_of : Fault → ℕ
 status_of (fault.Asm f) = 1

@@ -5,9 +5,6 @@ use Rattle.std.specs.List.{flat_map}
 use Rattle.std.specs.Fmt.{signed_decimal}
 use Rattle.x10_model.specs.Places as machine
 use Rattle.x10_model.specs.Places.{Number, Words}
-use Rattle.x10_world.specs.Endings.{lines_at, lines_in}
-use Rattle.x10_cli.specs.declared.outputs.Outputs.{Outputs}
-use Rattle.x10_cli.specs.declared.outputs.Outputs.TheVariants as outputs
 
 -- a number in decimal, or a text as it is
 abbrev pub shown : machine.Line → List ℕ
@@ -38,11 +35,6 @@ abbrev pub all_lines : Bool → ℕ → List (List machine.Line) → List ℕ
 all_lines json place [] = []
 all_lines json place (lines ∷ rest) = place_lines json place lines
     ++ all_lines json (place + 1) rest
-
--- the lines of each place of a world, or of a report
-abbrev pub lines_by : Outputs → List (List machine.Line)
-lines_by (outputs.World w) = lines_at w.now.places
-lines_by (outputs.Report rows) = lines_in rows.now
 
 -- a function's number and its bound
 abbrev pub bound_line : ℕ → ℕ → List ℕ

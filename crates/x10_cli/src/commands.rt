@@ -9,7 +9,7 @@ ghost use Rattle.x10_world.specs.Rounds.{NoneIsLeft, RunsTo};
 ghost use Rattle.x10_cli.specs.Lines.{all_lines};
 ghost use Rattle.x10_task.specs.declared.task.Verb.TheVariants as verb;
 ghost use Rattle.x10_cli.specs.declared.fault.Fault.TheVariants as fault;
-ghost use Rattle.x10_cli.specs.Answers.{IsImage, IsListing, IsRunning, IsVerifiedImage, IsVerifying, CanBeDone, IsStatus, IsDue, Prints, PrintsRuns, LeavesRefused, LeavesStopped, places_for, status_of};
+ghost use Rattle.x10_cli.specs.Answers.{IsImage, IsListing, IsVerifiedImage, IsVerifying, CanBeDone, IsStatus, IsDue, Prints, PrintsRuns, LeavesRefused, LeavesStopped, places_for, status_of};
 ghost use Rattle.x10_cli.specs.Telling.{SaysFault, Tells, fault_line};
 
 use crate::cause::print_section;
@@ -17,12 +17,11 @@ use crate::checking::print_check;
 use crate::explain::explanation;
 use crate::fault::Fault;
 use crate::lines::print_outputs;
-use crate::outputs::Outputs;
-use crate::picture::print_drawn;
+use crate::picture::print_picture;
 use crate::runs::print_runs;
 use crate::schedule::schedule_of;
 use crate::threads::print_threaded;
-use crate::trace::print_traced;
+use crate::trace::print_trace;
 use std::alloc::{AllocError, Global};
 use std::io::Write;
 use std::sync::Wait;
@@ -150,8 +149,10 @@ fn perform<R: Threads + Wait + Sync, O: Write>(
         Verb::Verify => print_verdict(alloc, bytes, out),
         Verb::Bounds => print_bounds(alloc, bytes, out),
         Verb::Run if task.threads => print_threaded(rt, alloc, task, bytes, out),
-        Verb::Run | Verb::Trace | Verb::Draw => print_run(alloc, task, bytes, out),
+        Verb::Run => print_run(alloc, task, bytes, out),
         Verb::Runs => print_runs(alloc, task, bytes, out),
+        Verb::Trace => print_trace(alloc, task, bytes, out),
+        Verb::Draw => print_picture(alloc, task, bytes, out),
         Verb::Explain => print_section(bytes, out),
     }
 }
@@ -280,30 +281,24 @@ fn print_bounds<O: Write>(alloc: Global, bytes: &[u8], out: &mut O) -> Result<()
     Ok(())
 }
 
-/// Runs a module, and prints what its places printed, the lines of each event when it has happened, or the picture of what
-/// happened: as the task asks, and even where the run stops before its end.
+/// Runs a module, and prints what its places printed, even where the run stops before its end.
 fn print_run<O: Write>(alloc: Global, task: &Task, bytes: &[u8], out: &mut O) -> Result<(), Fault>
-    requires { IsRunning task.now.verb }
-    ensures done { IfOk result (λ _. CanBeDone task.now.verb task.now.places bytes.now) }
-    ensures printed { OnOk result (Prints task.now.verb task.now.json task.now.places bytes.now
+    ensures done { IfOk result (λ _. CanBeDone verb.Run task.now.places bytes.now) }
+    ensures printed { OnOk result (Prints verb.Run task.now.json task.now.places bytes.now
         (O.contents out.old) (O.contents out.new)) }
     ensures refused { IfErr result (λ e. status_of e ≡ 1
-        → CanBeDone task.now.verb task.now.places bytes.now → ⊥) }
+        → CanBeDone verb.Run task.now.places bytes.now → ⊥) }
     ensures due { IfErr result (IsDue task.now.places bytes.now) }
     ensures refused_early { IfErr result (λ e. status_of e ≡ 1
         → Keeps (O.contents out.old) (O.contents out.new)) }
     ensures stopped { IfErr result (λ e. status_of e ≡ 2
-        → LeavesStopped task.now.verb task.now.json false task.now.places bytes.now
+        → LeavesStopped verb.Run task.now.json false task.now.places bytes.now
         (O.contents out.old) (O.contents out.new)) }
 {
     let verified = verified_in(alloc, bytes)?;
     let mut world = opened(alloc, task.places, &verified)?;
     let schedule = schedule_of(task);
-    match task.verb {
-        Verb::Trace => print_traced(alloc, &mut world, schedule, task.limit, out),
-        Verb::Draw => print_drawn(alloc, &mut world, schedule, task.limit, out),
-        _ => print_scheduled(alloc, &mut world, schedule, task.limit, task.json, out),
-    }
+    print_scheduled(alloc, &mut world, schedule, task.limit, task.json, out)
 }
 
 /// The world in which a run begins, at as many places as were asked for.
@@ -345,7 +340,7 @@ fn print_scheduled<O: Write>(
     ensures status { IfErr result (λ e. status_of e ≢ 1) }
 {
     let ended = run_by(alloc, world, schedule, limit);
-    print_outputs(alloc, &Outputs::World(world), json, out)?;
+    print_outputs(alloc, world, json, out)?;
     Ok(ended?)
 }
 

@@ -8,7 +8,6 @@ mod explain;
 mod fault;
 mod lines;
 mod numbered;
-mod outputs;
 mod picture;
 mod runs;
 mod schedule;

@@ -4,54 +4,99 @@ ghost use Rattle.std.specs.Io.KnownBytes.{Appends, Keeps};
 ghost use Rattle.std.specs.String.{string_bytes};
 ghost use Rattle.json.specs.Print.{quoted};
 ghost use Rattle.x10_place.specs.StandsFor.{line_as};
-ghost use Rattle.x10_cli.specs.Lines.{all_lines, line_in, lines_by, numbered, object_line, place_lines};
+ghost use Rattle.x10_world.specs.Endings.{lines_at, lines_in};
+ghost use Rattle.x10_cli.specs.Lines.{all_lines, line_in, numbered, object_line, place_lines};
 ghost use Rattle.x10_cli.specs.declared.fault.Fault.TheVariants as fault;
 ghost use Rattle.x10_cli.specs.Answers.{status_of};
 
 use crate::fault::Fault;
 use crate::numbered::{write_int, write_text};
-use crate::outputs::Outputs;
 use std::alloc::{AllocError, Global};
 use std::io::Write;
 use x10_place::Line;
+use x10_world::World;
 
-/// Prints the lines of each place. As JSON all of them or, where memory lacks, none.
+/// Prints the lines of each place of a world. As JSON all of them or, where memory lacks, none.
 pub(crate) fn print_outputs<O: Write>(
     alloc: Global,
-    outputs: &Outputs,
+    world: &World,
     json: bool,
     out: &mut O,
 ) -> Result<(), Fault>
     ensures ok { OnOk result (Appends (O.contents out.old) (O.contents out.new)
-        (all_lines json 0 (lines_by outputs.now))) }
+        (all_lines json 0 (lines_at world.now.places))) }
     ensures err { IfErr result (λ e. (e ≡ fault.File)
         ⊎ Keeps (O.contents out.old) (O.contents out.new)) }
     ensures status { IfErr result (λ e. status_of e ≢ 1) }
 {
     if !json {
-        return write_outputs(alloc, outputs, json, out);
+        return write_outputs(alloc, world, json, out);
     }
     let mut text = Vec::new(alloc);
-    if write_outputs(alloc, outputs, json, &mut text).is_err() {
+    if write_outputs(alloc, world, json, &mut text).is_err() {
         return Err(Fault::Memory);
     }
     out.write_all(&text)?;
     Ok(())
 }
 
-/// Writes the lines of each place. Where not as JSON, it fails for want of a file alone.
-fn write_outputs<O: Write>(
+/// Prints the lines of each place of a report, in the same way.
+pub(crate) fn print_report<O: Write>(
     alloc: Global,
-    outputs: &Outputs,
+    outputs: &[Vec<Line>],
     json: bool,
     out: &mut O,
 ) -> Result<(), Fault>
     ensures ok { OnOk result (Appends (O.contents out.old) (O.contents out.new)
-        (all_lines json 0 (lines_by outputs.now))) }
+        (all_lines json 0 (lines_in outputs.now))) }
+    ensures err { IfErr result (λ e. (e ≡ fault.File)
+        ⊎ Keeps (O.contents out.old) (O.contents out.new)) }
+    ensures status { IfErr result (λ e. status_of e ≢ 1) }
+{
+    if !json {
+        return write_report(alloc, outputs, json, out);
+    }
+    let mut text = Vec::new(alloc);
+    if write_report(alloc, outputs, json, &mut text).is_err() {
+        return Err(Fault::Memory);
+    }
+    out.write_all(&text)?;
+    Ok(())
+}
+
+/// Writes the lines of each place of a world. Where not as JSON, it fails for want of a file alone.
+fn write_outputs<O: Write>(
+    alloc: Global,
+    world: &World,
+    json: bool,
+    out: &mut O,
+) -> Result<(), Fault>
+    ensures ok { OnOk result (Appends (O.contents out.old) (O.contents out.new)
+        (all_lines json 0 (lines_at world.now.places))) }
     ensures err { json ≡ false → IfErr result (λ e. e ≡ fault.File) }
 {
-    for place in 0..outputs.count() {
-        write_lines(alloc, place, outputs.of(place), json, out)?;
+    for place in 0..world.count() {
+        match world.output(place) {
+            Some(lines) => write_lines(alloc, usize::from(place), lines, json, out)?,
+            None => {}
+        }
+    }
+    Ok(())
+}
+
+/// Writes the lines of each place of a report, from place 0 on.
+fn write_report<O: Write>(
+    alloc: Global,
+    outputs: &[Vec<Line>],
+    json: bool,
+    out: &mut O,
+) -> Result<(), Fault>
+    ensures ok { OnOk result (Appends (O.contents out.old) (O.contents out.new)
+        (all_lines json 0 (lines_in outputs.now))) }
+    ensures err { json ≡ false → IfErr result (λ e. e ≡ fault.File) }
+{
+    for place in 0..outputs.len() {
+        write_lines(alloc, place, &outputs[place], json, out)?;
     }
     Ok(())
 }

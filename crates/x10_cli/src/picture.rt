@@ -1,22 +1,50 @@
 //! The command `draw`: a run's picture.
-ghost use Rattle.std.specs.Prelude.{◌≡◌, ◌≢◌, ◌⊎◌, ℕ, List, IfErr, OnOk};
+ghost use Rattle.std.specs.Prelude.{false, ◌≡◌, ◌≢◌, ◌⊎◌, ℕ, List, IfOk, IfErr, OnOk};
 ghost use Rattle.std.specs.Io.KnownBytes.{Appends, Keeps};
 ghost use Rattle.x10_draw.specs.Pages.{IsPage};
 ghost use Rattle.x10_world.specs.Rounds.{NoneIsLeft, RunsTo};
 ghost use Rattle.x10_world.specs.StandsForWorld.{KeepsSetting};
+ghost use Rattle.x10_task.specs.declared.task.Verb.TheVariants as verb;
 ghost use Rattle.x10_cli.specs.declared.fault.Fault.TheVariants as fault;
-ghost use Rattle.x10_cli.specs.Answers.{status_of};
+ghost use Rattle.x10_cli.specs.Answers.{CanBeDone, IsDue, LeavesStopped, Prints, status_of};
 
+use crate::commands::{opened, verified_in};
 use crate::fault::Fault;
+use crate::schedule::schedule_of;
 use std::alloc::Global;
 use std::io::Write;
 use x10_draw::Drawing;
 use x10_model::Event;
 use x10_schedule::{Schedule, Scheduler};
+use x10_task::Task;
 use x10_world::World;
 
+/// Runs a module, and prints the picture of what happened, even where the run stops before its end.
+pub(crate) fn print_picture<O: Write>(
+    alloc: Global,
+    task: &Task,
+    bytes: &[u8],
+    out: &mut O,
+) -> Result<(), Fault>
+    ensures done { IfOk result (λ _. CanBeDone verb.Draw task.now.places bytes.now) }
+    ensures printed { OnOk result (Prints verb.Draw false task.now.places bytes.now
+        (O.contents out.old) (O.contents out.new)) }
+    ensures refused { IfErr result (λ e. status_of e ≡ 1
+        → CanBeDone verb.Draw task.now.places bytes.now → ⊥) }
+    ensures due { IfErr result (IsDue task.now.places bytes.now) }
+    ensures refused_early { IfErr result (λ e. status_of e ≡ 1
+        → Keeps (O.contents out.old) (O.contents out.new)) }
+    ensures stopped { IfErr result (λ e. status_of e ≡ 2
+        → LeavesStopped verb.Draw false false task.now.places bytes.now (O.contents out.old)
+        (O.contents out.new)) }
+{
+    let verified = verified_in(alloc, bytes)?;
+    let mut world = opened(alloc, task.places, &verified)?;
+    print_drawn(alloc, &mut world, schedule_of(task), task.limit, out)
+}
+
 /// Makes the events of a program until the run has ended, at most `limit`, and prints the picture of what happened.
-pub(crate) fn print_drawn<O: Write>(
+fn print_drawn<O: Write>(
     alloc: Global,
     world: &mut World,
     schedule: Schedule,

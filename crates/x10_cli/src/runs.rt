@@ -11,7 +11,6 @@ ghost use Rattle.x10_cli.specs.Runs.{FoundIn, IsOutput, end_text, findings_text,
 use crate::commands::{opened, verified_in};
 use crate::fault::Fault;
 use crate::lines::print_outputs;
-use crate::outputs::Outputs;
 use std::alloc::Global;
 use std::io::Write;
 use x10_findings::{Finding, Findings};
@@ -85,7 +84,7 @@ fn output_by(
         Err(why) => return Err(why.into()),
     };
     let mut output = Vec::new(alloc);
-    match print_outputs(alloc, &Outputs::World(world), false, &mut output) {
+    match print_outputs(alloc, world, false, &mut output) {
         Ok(()) => Ok((output, ended)),
         Err(_) => Err(Fault::Memory),
     }

@@ -8,8 +8,7 @@ ghost use Rattle.x10_cli.specs.Answers.{CanBeDone, IsDue, LeavesStopped, Prints,
 
 use crate::commands::{places_of, verified_in};
 use crate::fault::Fault;
-use crate::lines::print_outputs;
-use crate::outputs::Outputs;
+use crate::lines::print_report;
 use std::alloc::Global;
 use std::io::Write;
 use std::sync::Wait;
@@ -41,7 +40,7 @@ pub(crate) fn print_threaded<R: Threads + Wait + Sync, O: Write>(
     let verified = verified_in(alloc, bytes)?;
     let places = places_of(task.places, &verified);
     match run_threads(rt, alloc, &verified, places, task.limit, &Open) {
-        Ok(report) => print_outputs(alloc, &Outputs::Report(&report.outputs), task.json, out),
+        Ok(report) => print_report(alloc, &report.outputs, task.json, out),
         Err(why) => {
             print_told(alloc, &why, task.json, out)?;
             Err(Fault::from(why))
@@ -64,7 +63,7 @@ fn print_told<O: Write>(
 {
     match why {
         WorkFault::Stop(_, _, report) | WorkFault::Turns(report) => {
-            print_outputs(alloc, &Outputs::Report(&report.outputs), json, out)
+            print_report(alloc, &report.outputs, json, out)
         }
         _ => Ok(()),
     }

@@ -1,5 +1,5 @@
 //! The command `trace`: the lines of a run's events.
-ghost use Rattle.std.specs.Prelude.{◌≡◌, ◌≢◌, ◌⊎◌, IfErr, OnOk};
+ghost use Rattle.std.specs.Prelude.{false, ◌≡◌, ◌≢◌, ◌⊎◌, IfOk, IfErr, OnOk};
 ghost use Rattle.std.specs.Io.KnownBytes.{Appends, Keeps};
 ghost use Rattle.x10_model.specs.Worlds as machine;
 ghost use Rattle.x10_world.specs.declared.done.Done.{Done};
@@ -7,19 +7,47 @@ ghost use Rattle.x10_world.specs.Happenings.{HasDone};
 ghost use Rattle.x10_world.specs.Rounds.{NoneIsLeft, RunsTo};
 ghost use Rattle.x10_world.specs.StandsForWorld.{StandsForWorld, KeepsSetting, MakesEvent};
 ghost use Rattle.x10_trace.specs.Trace.{trace_lines};
+ghost use Rattle.x10_task.specs.declared.task.Verb.TheVariants as verb;
 ghost use Rattle.x10_cli.specs.declared.fault.Fault.TheVariants as fault;
-ghost use Rattle.x10_cli.specs.Answers.{Traces, TracesSome, status_of};
+ghost use Rattle.x10_cli.specs.Answers.{CanBeDone, IsDue, LeavesStopped, Prints, Traces, TracesSome, status_of};
 
+use crate::commands::{opened, verified_in};
 use crate::fault::Fault;
+use crate::schedule::schedule_of;
 use std::alloc::Global;
 use std::io::Write;
 use x10_model::Event;
 use x10_schedule::{Schedule, Scheduler};
+use x10_task::Task;
 use x10_trace::trace_line;
 use x10_world::World;
 
+/// Runs a module, and prints the lines of each event when it has happened.
+pub(crate) fn print_trace<O: Write>(
+    alloc: Global,
+    task: &Task,
+    bytes: &[u8],
+    out: &mut O,
+) -> Result<(), Fault>
+    ensures done { IfOk result (λ _. CanBeDone verb.Trace task.now.places bytes.now) }
+    ensures printed { OnOk result (Prints verb.Trace false task.now.places bytes.now
+        (O.contents out.old) (O.contents out.new)) }
+    ensures refused { IfErr result (λ e. status_of e ≡ 1
+        → CanBeDone verb.Trace task.now.places bytes.now → ⊥) }
+    ensures due { IfErr result (IsDue task.now.places bytes.now) }
+    ensures refused_early { IfErr result (λ e. status_of e ≡ 1
+        → Keeps (O.contents out.old) (O.contents out.new)) }
+    ensures stopped { IfErr result (λ e. status_of e ≡ 2
+        → LeavesStopped verb.Trace false false task.now.places bytes.now (O.contents out.old)
+        (O.contents out.new)) }
+{
+    let verified = verified_in(alloc, bytes)?;
+    let mut world = opened(alloc, task.places, &verified)?;
+    print_traced(alloc, &mut world, schedule_of(task), task.limit, out)
+}
+
 /// Makes the events of a program until the run has ended, at most `limit`, and prints the lines of each.
-pub(crate) fn print_traced<O: Write>(
+fn print_traced<O: Write>(
     alloc: Global,
     world: &mut World,
     schedule: Schedule,

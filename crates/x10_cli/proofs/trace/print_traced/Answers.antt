@@ -17,7 +17,7 @@ returns-in_err-print_event-clause-runs g = λ c. runs_on c.args.world.now c.loop
 
 pub returns-then-closed-clause-traced : goal.returns-then-closed-clause-traced
 returns-then-closed-clause-traced g = λ c. traces_more c.args.world.now c.loop.world c.print_event.new.world (g.O.Write.contents c.args.out.now)
-    (g.O.Write.contents c.loop.out) (g.O.Write.contents c.print_event.new.out) c.in-Some.event c.loop.invariant.traced
+    (g.O.Write.contents c.loop.out) (g.O.Write.contents c.print_event.new.out) c.in_ok-event.event c.loop.invariant.traced
     c.in_ok-print_event.ensures.traced c.in_ok-print_event.ensures.made
 
 pub returns-then-closed-clause-runs : goal.returns-then-closed-clause-runs
@@ -31,7 +31,7 @@ pub loop-preserved : goal.loop-preserved
 loop-preserved g = λ c. record {
   runs = runs_on c.args.world.now c.loop.world c.print_event.new.world c.loop.invariant.runs c.print_event.ensures.runs;
   traced = traces_more c.args.world.now c.loop.world c.print_event.new.world (g.O.Write.contents c.args.out.now) (g.O.Write.contents c.loop.out)
-      (g.O.Write.contents c.print_event.new.out) c.in-Some.event c.loop.invariant.traced c.in_ok-print_event.ensures.traced
+      (g.O.Write.contents c.print_event.new.out) c.in_ok-event.event c.loop.invariant.traced c.in_ok-print_event.ensures.traced
       c.in_ok-print_event.ensures.made;
 }
 
