@@ -1,0 +1,7 @@
+use Rattle.x10_log.specs.declared.fault.LogCause.TheVariants as cause
+use Rattle.x10_log.proofs.Digits.{int_read}
+use Rattle.x10_log.proofs.item.int_of.Goals as goal
+
+pub returns : goal.returns
+returns c = λ z fits e. int_read z cause.Printed c.args.digits.now c.parse.result c.ok.result c.ok_or.result c.ok_or.ensures.value c.ok.ensures.value
+    c.parse.ensures.value.0 fits e
