@@ -3,8 +3,9 @@ use Rattle.std.proofs.Common.{◌≡◌, ℕ, List, Bool, true, false, Result, O
 use Rattle.std.specs.Prelude.{is_ok, IsErr, IsErrAnd, MatchResult}
 use Rattle.std.proofs.lemmas.Bool.{false≢true}
 use Rattle.x10_log.specs.declared.fault.LogCause.{LogCause}
+use Rattle.x10_log.specs.declared.fault.LogFault.{LogFault}
 use Rattle.x10_log.specs.declared.fault.LogCause.TheVariants.{Memory}
-use Rattle.x10_log.specs.Reading.{Shows, ShowsBoth}
+use Rattle.x10_log.specs.Reading.{Shows, ShowsBoth, ShowsLog}
 
 -- what is read is no fault
 pub no_fault : {X E : Type 0} (e : E) (x : X) → Err e ≡ Ok x → ⊥
@@ -33,3 +34,14 @@ pub done_handed_on : {X : Type 0} (r : Result X LogCause) (G : LogCause → Type
     → MatchResult r P (λ c. c ≡ Memory)
 done_handed_on (Ok x) G P h memory = absurd h
 done_handed_on (Err e) G P h memory = memory e h
+
+-- the same of a fault with its line
+pub fault_handed_on : {X : Type 0} (r : Result X LogFault) (G : LogFault → Type 0) (P : X → Type 0) → IsErrAnd r G → ((f : LogFault) → G f → f.cause ≡ Memory)
+    → MatchResult r P (λ f. f.cause ≡ Memory)
+fault_handed_on (Ok x) G P h memory = absurd h
+fault_handed_on (Err e) G P h memory = memory e h
+
+pub log_handed_on : {X Y : Type 0} (view : X → Y) (r : Result X LogFault) (G : LogFault → Type 0) (y : Y) → IsErrAnd r G
+    → ((f : LogFault) → G f → f.cause ≡ Memory) → ShowsLog view r y
+log_handed_on view (Ok x) G y h memory = absurd h
+log_handed_on view (Err e) G y h memory = memory e h

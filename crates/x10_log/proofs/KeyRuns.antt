@@ -25,10 +25,10 @@ one_counted out key (k ∷ ks) some e = record {
   few = omega arith;
 }
 
-same_run : (key count k : ℕ) (ks : List ℕ) → k ≡ key → runs_from key count (k ∷ ks) ≡ runs_from key (count + 1) ks
+pub same_run : (key count k : ℕ) (ks : List ℕ) → k ≡ key → runs_from key count (k ∷ ks) ≡ runs_from key (count + 1) ks
 same_run key count k ks e = rw (eq-eqb k key e) refl
 
-next_run : (key count k : ℕ) (ks : List ℕ) → k ≢ key → runs_from key count (k ∷ ks) ≡ (record { key = key; count = count }) ∷ runs_from k 1 ks
+pub next_run : (key count k : ℕ) (ks : List ℕ) → k ≢ key → runs_from key count (k ∷ ks) ≡ (record { key = key; count = count }) ∷ runs_from k 1 ks
 next_run key count k ks e = rw (ne_eqb k key e) refl
 
 pub same_counted : (whole out : List ℕ) (key count : ℕ) (keys : List ℕ) (at : ℕ) → AreCounted whole out key count keys at → at < length keys

@@ -6,3 +6,5 @@ pub mod Repeats
 pub mod Words
 pub mod Faults
 pub mod Quotes
+pub mod TurnWords
+pub mod LogLines

@@ -6,7 +6,7 @@ use Rattle.std.proofs.lemmas.List.{length-replicate}
 pub record AreRepeated (before now : List ℕ) (key count : ℕ) : Type 0 where
   pub is : now ≡ before ++ replicate count key
 
-replicate_last : (count key : ℕ) → replicate count key ++ key ∷ [] ≡ replicate (suc count) key
+pub replicate_last : (count key : ℕ) → replicate count key ++ key ∷ [] ≡ replicate (suc count) key
 replicate_last zero key = refl
 replicate_last (suc n) key = ap (λ (l : List ℕ). key ∷ l) (replicate_last n key)
 

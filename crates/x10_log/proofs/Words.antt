@@ -165,7 +165,7 @@ plain_from (Sent f) rest text e none = tt
 plain_from (Printed (Number z)) rest text e none = tt
 plain_from (Printed (Words t)) rest text e none = none ((flat_map escape t ++ 34 ∷ []) ++ rest) e
 
-times_lack : (c count : ℕ) → (c < 42) → count < 2 ^ 64 → Lacks c (times count)
+pub times_lack : (c count : ℕ) → (c < 42) → count < 2 ^ 64 → Lacks c (times count)
 times_lack c count lt few = elim (cases_eq count 1) [
   | inl one ↦ rw (eq-eqb count 1 one) refl
   | inr more ↦ rw (ne_eqb count 1 more) (lacks_cons c 42 (decimal count) (λ e. omega (arith, e)) (decimal_lacks c count (inl (omega arith)) few))

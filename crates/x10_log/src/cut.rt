@@ -1,6 +1,6 @@
 //! A text cut in two.
 
-ghost use Rattle.std.specs.Prelude.{◌≡◌, ◌<◌, ◌≤◌, ◌++◌, ◌∷◌, ℕ, List, IfSome, IfNone, IfOk, length};
+ghost use Rattle.std.specs.Prelude.{◌≡◌, ◌<◌, ◌≤◌, ◌++◌, ◌∷◌, ℕ, List, IfSome, IfNone, IfOk, IsUtf8, length};
 ghost use Rattle.x10_log.specs.Reading.{Lacks, IsEnd, Shows, tail_bytes};
 
 use crate::fault::LogCause;
@@ -19,6 +19,7 @@ pub fn cut(text: &str, at: char) -> Option<(&str, &str)>
     ensures some { IfSome result (λ x. Lacks at x.0.now × (text.now ≡ x.0.now ++ at ∷ x.1.now)) }
     ensures none { IfNone result (Lacks at text.now) }
     ensures shorter { IfSome result (λ x. length x.1.now < length text.now) }
+    ensures utf8 { IfSome result (λ x. IsUtf8 x.1.now) }
 {
     text.split_once(at)
 }

@@ -34,7 +34,7 @@ fn line_of(text: &str, line: usize) -> Result<(&str, &str), LogFault>
         → MatchResult result (λ x. (x.0.now ≡ first) × (x.1.now ≡ rest)) (λ _. ⊥) }
 {
     match cut(text, '\n') {
-        Some(parts) => Ok(parts),
+        Some((first, rest)) => Ok((first, rest)),
         None => Err(fault_on(line, LogCause::Ending)),
     }
 }
@@ -112,10 +112,9 @@ fn head_in(alloc: Global, text: &str) -> Result<(Head, &str), LogFault>
         → MatchResult result (λ x. (x.0.digest ≡ bytes) × (x.0.places ≡ n) × (x.1.now ≡ rest))
         (λ fault. fault.cause ≡ Memory) }
 {
-    let (first, rest) = line_of(text, 1)?;
-    if first != "x10 log 1" {
+    let Some(rest) = stripped(text, "x10 log 1\n") else {
         return Err(fault_on(1, LogCause::Head));
-    }
+    };
     let (second, rest) = line_of(rest, 2)?;
     let digest = match image_in(alloc, second) {
         Ok(digest) => digest,
@@ -181,10 +180,12 @@ pub fn read_log(alloc: Global, text: &str) -> Result<Log, LogFault>
         → ShowsLog log_value result l }
 {
     let (head, rest) = head_in(alloc, text)?;
-    let turns = turns_in(alloc, head.places, rest)?;
+    let digest = head.digest;
+    let places = head.places;
+    let turns = turns_in(alloc, places, rest)?;
     Ok(Log {
-        digest: head.digest,
-        places: head.places,
+        digest,
+        places,
         turns,
     })
 }

@@ -1,16 +1,17 @@
-use Rattle.std.proofs.Common.{rules, ◌≡◌, ◌<◌, ◌≤◌, ◌↔◌, IsTrue, ◌++◌, ◌∷◌, [], ℕ, List, IfOk, length, map, codes, decimal, OnOk, MatchResult, ◌+◌, ◌-◌, ◌*◌, ◌/◌, ◌%◌, Bool, true, false, nat_eq, nat_lt, slice_index_or, slice_set, bit_and, bit_or, Fits, w8, w32, w64, Bor, MutBor}
-use Rattle.std.specs.List.{flat_map, AllByRecursion}
-use Rattle.hex.specs.Hex.{encode_lower, IsBytes}
-use Rattle.x10_log.specs.declared.fault.LogCause.TheVariants.{Memory}
-use Rattle.x10_log.specs.Logs.{TurnValue, LogValue, turn_value, log_value, turn_line, ended_line, head_lines, spelled}
-use Rattle.x10_log.specs.Limits.{IsWithin, IsLimited, FitsTurn, FitsLog}
-use Rattle.x10_log.specs.Reading.{Lacks, Shows, ShowsLog}
+use Rattle.std.proofs.Common.{◌≡◌, List, ℕ, Ok, ap, ◌∙◌}
+use Rattle.hex.specs.Hex.{decode_sized}
+use Rattle.hex.proofs.HexLemmas.{decode_sized-encode_lower}
+use Rattle.x10_log.proofs.Faults.{no_fault}
 use Rattle.x10_log.proofs.reading.digest_of.Goals as goal
 
--- src/reading.rt:43:1
 pub returns-in-Ok : goal.returns-in-Ok
-returns-in-Ok c = ?
+returns-in-Ok c = λ bytes fits len e.
+    let read : decode_sized c.as_bytes.result.now 32 ≡ Ok bytes =
+    ap (λ (l : List ℕ). decode_sized l 32) (c.as_bytes.ensures.value ∙ e) ∙ decode_sized-encode_lower bytes 32 len fits in
+    (rw read at c.in-Ok.ensures.value).1
 
--- src/reading.rt:43:1
 pub returns-in-Err : goal.returns-in-Err
-returns-in-Err c = ?
+returns-in-Err c = λ bytes fits len e.
+    let read : decode_sized c.as_bytes.result.now 32 ≡ Ok bytes =
+    ap (λ (l : List ℕ). decode_sized l 32) (c.as_bytes.ensures.value ∙ e) ∙ decode_sized-encode_lower bytes 32 len fits in
+    absurd (no_fault c.in-Err.field-0 tt (rw read at c.in-Err.ensures.value).0)

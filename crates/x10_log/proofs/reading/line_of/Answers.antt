@@ -1,12 +1,7 @@
-use Rattle.std.proofs.Common.{rules, ◌≡◌, ◌<◌, ◌≤◌, ◌↔◌, IsTrue, ◌++◌, ◌∷◌, [], ℕ, List, IfOk, length, map, codes, decimal, OnOk, MatchResult, ◌+◌, ◌-◌, ◌*◌, ◌/◌, ◌%◌, Bool, true, false, nat_eq, nat_lt, slice_index_or, slice_set, bit_and, bit_or, Fits, w8, w32, w64, Bor, MutBor}
-use Rattle.std.specs.List.{flat_map, AllByRecursion}
-use Rattle.hex.specs.Hex.{encode_lower, IsBytes}
-use Rattle.x10_log.specs.declared.fault.LogCause.TheVariants.{Memory}
-use Rattle.x10_log.specs.Logs.{TurnValue, LogValue, turn_value, log_value, turn_line, ended_line, head_lines, spelled}
-use Rattle.x10_log.specs.Limits.{IsWithin, IsLimited, FitsTurn, FitsLog}
-use Rattle.x10_log.specs.Reading.{Lacks, Shows, ShowsLog}
+use Rattle.std.proofs.Common.{◌∙◌, sym}
+use Rattle.x10_log.proofs.Cuts.{same_cut}
 use Rattle.x10_log.proofs.reading.line_of.Goals as goal
 
--- src/reading.rt:31:1
 pub returns-in-Some-clause-found : goal.returns-in-Some-clause-found
-returns-in-Some-clause-found c = ?
+returns-in-Some-clause-found c = λ first rest lacks e.
+    same_cut 10 c.in-Some.first.now first c.in-Some.rest.now rest c.in-Some.ensures.some.0 lacks (sym c.in-Some.ensures.some.1 ∙ e)
