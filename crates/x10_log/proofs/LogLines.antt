@@ -92,7 +92,7 @@ first_line places [] rest line after few w f e lacks is =
     absurd (omega (arith, ap length (sym e ∙ is), length-append line (10 ∷ after)))
 first_line places (u ∷ us) rest line after few w f e lacks is =
     let same = same_cut 10 line (turn_line u) after (flat_map ended_line us) lacks (line_lacks_feed places u few w.0 f.0)
-        (sym is ∙ e ∙ append_assoc (turn_line u) (10 ∷ []) (flat_map ended_line us)) in
+    (sym is ∙ e ∙ append_assoc (turn_line u) (10 ∷ []) (flat_map ended_line us)) in
     record {
       first = u;
       others = us;

@@ -49,7 +49,7 @@ line_is_words t =
     ∙ ap (λ (l : List ℕ). l ++ flat_map said_text (map Printed t.lines)) (texts_sent t.frames)
     ∙ ap (λ (l : List ℕ). flat_map frame_word t.frames ++ l) (texts_printed t.lines) in
     let middle : flat_map said_text (map steps_of (runs t.keys) ++ rest)
-        ≡ flat_map run_word (runs t.keys) ++ (flat_map frame_word t.frames ++ flat_map line_word t.lines) =
+    ≡ flat_map run_word (runs t.keys) ++ (flat_map frame_word t.frames ++ flat_map line_word t.lines) =
     flat_map-append said_text (map steps_of (runs t.keys)) rest
     ∙ ap (λ (l : List ℕ). l ++ flat_map said_text rest) (texts_steps (runs t.keys))
     ∙ ap (λ (l : List ℕ). flat_map run_word (runs t.keys) ++ l) behind in

@@ -37,6 +37,7 @@ run_parts key count first second word small e h f = elim (cases_eq count 1) [
   where
     once : count ≡ 1 → times count ≡ []
     once e = rw (eq-eqb count 1 e) refl
+
     often : count ≢ 1 → times count ≡ 42 ∷ decimal count
     often e = rw (ne_eqb count 1 e) refl
 
@@ -49,6 +50,7 @@ run_alone key count word e h = elim (cases_eq count 1) [
   where
     once : count ≡ 1 → times count ≡ []
     once e = rw (eq-eqb count 1 e) refl
+
     often : count ≢ 1 → times count ≡ 42 ∷ decimal count
     often e = rw (ne_eqb count 1 e) refl
 

@@ -9,6 +9,8 @@ mod log;
 mod pieces;
 mod quoted;
 mod reading;
+#[cfg(test)]
+mod tests;
 mod turn_line;
 mod writing;
 

@@ -16,9 +16,7 @@ use crate::turn_line::read_turn;
 use std::alloc::{AllocError, Global};
 use std::fmt::Write;
 use x10_hall::Turn;
-
-/// The most places that a run may have.
-const MOST_PLACES: u16 = 64;
+use x10_model::limits::MOST_PLACES;
 
 /// A fault on a line.
 fn fault_on(line: usize, cause: LogCause) -> LogFault
@@ -129,12 +127,7 @@ fn head_in(alloc: Global, text: &str) -> Result<(Head, &str), LogFault>
 }
 
 /// Reads a turn's line and appends what it says.
-fn push_read(
-    alloc: Global,
-    places: u16,
-    turns: &mut Vec<Turn>,
-    line: &str,
-) -> Result<(), LogCause>
+fn push_read(alloc: Global, places: u16, turns: &mut Vec<Turn>, line: &str) -> Result<(), LogCause>
     ensures only { OnOk result ((t : TurnValue) × (line.now ≡ turn_line t) × IsWithin places t
         × (map turn_value turns.new.items ≡ map turn_value turns.old.items ++ t ∷ [])) }
     ensures found { (t : TurnValue) → IsWithin places t → FitsTurn t → line.now ≡ turn_line t

@@ -21,7 +21,7 @@ loop-line-preserved c = (
 pub returns-then-not-is_empty-clause-found : goal.returns-then-not-is_empty-clause-found
 returns-then-not-is_empty-clause-found c = λ ts within fits e.
     let end = end_read c.args.places c.args.text.now c.loop-line.rest.now (map turn_value c.loop-line.turns.items) ts c.loop-line.invariant.1
-        c.in_default.ensures.none within fits e in
+    c.in_default.ensures.none within fits e in
     absurd (eqb-false (length c.loop-line.rest.now) 0 (sym c.is_empty.ensures ∙ c.if-not-is_empty.true) (ap length end.1))
 
 pub returns-clause-found : goal.returns-clause-found
