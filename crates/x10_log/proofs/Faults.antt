@@ -1,6 +1,6 @@
 -- Faults that are handed on.
-use Rattle.std.proofs.Common.{◌≡◌, ℕ, List, Bool, true, false, Result, Ok, Err, sym, ap, ◌∙◌}
-use Rattle.std.specs.Prelude.{is_ok, IsErr, IsErrAnd, MatchResult}
+use Rattle.std.proofs.Common.{◌≡◌, ℕ, List, Result, Ok, Err, ap}
+use Rattle.std.specs.Prelude.{is_ok, IsErrAnd, MatchResult}
 use Rattle.std.proofs.lemmas.Bool.{false≢true}
 use Rattle.x10_log.specs.declared.fault.LogCause.{LogCause}
 use Rattle.x10_log.specs.declared.fault.LogFault.{LogFault}

@@ -1,10 +1,10 @@
 -- The words of a turn, read one by one.
-use Rattle.std.proofs.Common.{◌≡◌, ◌≢◌, ℕ, ℤ, pos, negsuc, zero, suc, ◌+◌, ◌≤◌, ◌<◌, ◌⊎◌, ◌^◌, inl, inr, Bool, true, false, not, List, [], ◌∷◌, ◌++◌, length, replicate, get_or, Option, Some, None, Result, Ok, Err, Vec, Global, refl, sym, ap, subst, ◌∙◌, append_assoc, append-nil, arith, length-append}
-use Rattle.std.specs.Prelude.{decimal, FitsSigned, ◌==◌, MatchResult}
+use Rattle.std.proofs.Common.{◌≡◌, ◌≢◌, ℕ, ℤ, ◌<◌, ◌⊎◌, ◌^◌, inl, inr, List, [], ◌∷◌, ◌++◌, length, replicate, get_or, Vec, Global, refl, sym, ap, subst, ◌∙◌, append_assoc, append-nil, arith, length-append}
+use Rattle.std.specs.Prelude.{decimal, FitsSigned}
 use Rattle.std.specs.Int.{w64}
 use Rattle.std.specs.Fmt.{signed_decimal}
 use Rattle.std.specs.List.{AllByRecursion, flat_map}
-use Rattle.std.proofs.lemmas.Bool.{cases_eq, eq-eqb, ne_eqb, eqb-true, false≢true}
+use Rattle.std.proofs.lemmas.Bool.{cases_eq, eq-eqb, ne_eqb}
 use Rattle.std.proofs.lemmas.Fmt.{decimal_nonempty}
 use Rattle.hex.specs.Hex.{encode_lower}
 use Rattle.x10_model.specs.Places.{Number, Words}
@@ -14,13 +14,12 @@ use Rattle.x10_hall.specs.Halls.{PostedFrame, frame_of}
 use Rattle.x10_hall.specs.declared.turn.Posted.{Posted}
 use Rattle.std.specs.Str.{IsUtf8}
 use Rattle.x10_asm.specs.Listing.{escape}
-use Rattle.x10_asm.specs.Lines.{is_word_end}
 use Rattle.x10_log.specs.declared.fault.LogCause.{LogCause}
 use Rattle.x10_log.specs.declared.fault.LogCause.TheVariants.{Memory}
 use Rattle.x10_log.specs.Logs.{TurnValue, times}
-use Rattle.x10_log.specs.Limits.{FitsFrame, FitsLine}
+use Rattle.x10_log.specs.Limits.{FitsFrame}
 use Rattle.x10_log.specs.Reading.{Lacks, IsEnd, Said, Taken, Steps, Sent, Printed, said_word, said_text, FitsSaid, IsPlain, with_said, with_all, AreFew, IsKept}
-use Rattle.x10_log.proofs.Cuts.{tails, begins_not, lacks_cons, lacks_append, lacks_head, same_cut, not_lacking}
+use Rattle.x10_log.proofs.Cuts.{tails, begins_not, lacks_cons, lacks_append, same_cut, not_lacking}
 use Rattle.x10_log.proofs.Digits.{decimal_lacks, signed_lacks, hex_lacks}
 
 -- ---- runs

@@ -1,24 +1,26 @@
 -- Which logs a text may say.
-use Rattle.std.specs.Prelude.{ℕ, ◌≡◌, ◌<◌, ◌≤◌, ◌^◌, List, length, FitsSigned}
+use Rattle.std.specs.Prelude.{ℕ, ◌≡◌, ◌<◌, ◌≤◌, ◌^◌, length, FitsSigned}
 use Rattle.std.specs.Int.{w64}
 use Rattle.std.specs.List.{AllByRecursion}
 use Rattle.std.specs.Str.{IsUtf8}
 use Rattle.hex.specs.Hex.{IsBytes}
 use Rattle.x10_model.specs.Places as machine
 use Rattle.x10_model.specs.Places.{Number, Words}
+use Rattle.x10_model.specs.declared.limits.TheConstants.{MOST_PLACES}
 use Rattle.x10_hall.specs.Halls.{PostedFrame}
+use Rattle.x10_log.specs.declared.limits.TheConstants.{MOST_TAKEN, MOST_STEPS}
 use Rattle.x10_log.specs.Logs.{TurnValue, LogValue}
 
 -- the turn is one of a run with so many places: at most 16 frames taken and 64 steps
 pub record IsWithin (places : ℕ) (t : TurnValue) : Type 0 where
   pub place : t.place < places
-  pub taken : length t.taken ≤ 16
-  pub keys : length t.keys ≤ 64
+  pub taken : length t.taken ≤ MOST_TAKEN
+  pub keys : length t.keys ≤ MOST_STEPS
 
 -- there are 1 to 64 places, and each turn is one of theirs
 pub record IsLimited (l : LogValue) : Type 0 where
   pub some : 0 < l.places
-  pub few : l.places ≤ 64
+  pub few : l.places ≤ MOST_PLACES
   pub turns : AllByRecursion (IsWithin l.places) l.turns
 
 -- the frame's place and bytes fit their types

@@ -1,5 +1,5 @@
 -- What the words of a turn's line say, one by one.
-use Rattle.std.specs.Prelude.{ℕ, ◌≡◌, ◌<◌, ◌≤◌, ◌^◌, ◌==◌, Bool, true, not, List, [], ◌∷◌, ◌++◌, length, map, replicate, Option, Some, None, Result, Ok, Err, ⊤, decimal}
+use Rattle.std.specs.Prelude.{ℕ, ◌≡◌, ◌<◌, ◌≤◌, ◌^◌, ◌==◌, true, not, List, [], ◌∷◌, ◌++◌, length, map, replicate, Option, Some, None, Result, Ok, Err, ⊤, decimal}
 use Rattle.std.specs.Borrow.{Bor}
 use Rattle.std.specs.Fmt.{signed_decimal}
 use Rattle.std.specs.List.{list_all}
@@ -13,6 +13,7 @@ use Rattle.x10_hall.specs.Halls.{PostedFrame, frame_of}
 use Rattle.x10_log.specs.declared.fault.LogCause.{LogCause}
 use Rattle.x10_log.specs.declared.fault.LogFault.{LogFault}
 use Rattle.x10_log.specs.declared.fault.LogCause.TheVariants.{Memory}
+use Rattle.x10_log.specs.declared.limits.TheConstants.{MOST_TAKEN, MOST_STEPS}
 use Rattle.x10_log.specs.declared.item.Item.{Item}
 use Rattle.x10_log.specs.declared.item.Item.TheVariants as item
 use Rattle.x10_log.specs.declared.draft.Draft.{Draft}
@@ -109,8 +110,8 @@ with_all t (s ∷ ss) = with_all (with_said t s) ss
 
 -- no more frames are taken, and no more steps made, than in a turn
 pub record AreFew (t : TurnValue) : Type 0 where
-  pub taken : length t.taken ≤ 16
-  pub keys : length t.keys ≤ 64
+  pub taken : length t.taken ≤ MOST_TAKEN
+  pub keys : length t.keys ≤ MOST_STEPS
 
 -- a turn that is read further: of the same place, and with no more than a turn has if it had no more
 pub record IsKept (old new : TurnValue) : Type 0 where

@@ -2,21 +2,17 @@
 
 ghost use Rattle.std.specs.Prelude.{◌≡◌, ◌≤◌, ◌++◌, IfOk, IfErr, OnOk, length, replicate, MatchResult, List};
 ghost use Rattle.std.specs.List.{flat_map, AllByRecursion};
+ghost use Rattle.x10_log.specs.declared.limits.TheConstants.{MOST_STEPS};
 ghost use Rattle.x10_log.specs.declared.fault.LogCause.TheVariants.{Memory};
 ghost use Rattle.x10_log.specs.Logs.{turn_value};
 ghost use Rattle.x10_log.specs.Reading.{Said, said, said_text, FitsSaid, tail_bytes, draft_value, nothing_said, with_said, with_all, AreFew, IsKept};
 
 use crate::fault::LogCause;
 use crate::item::{Item, item_at};
+use crate::limits::{MOST_STEPS, MOST_TAKEN};
 use std::alloc::{AllocError, Global};
 use x10_hall::{Keys, Posted, Turn};
 use x10_place::Line;
-
-/// How many frames a turn takes in at most.
-const MOST_TAKEN: usize = 16;
-
-/// How many steps a turn makes at most.
-const MOST_STEPS: usize = 64;
 
 /// What the words of a turn said so far.
 #[derive(Drop)]
@@ -31,11 +27,12 @@ pub struct Draft {
 /// Appends a key, so often; refused where there would be too many.
 fn push_steps(keys: &mut Vec<usize>, key: usize, count: usize) -> Result<(), LogCause>
     ensures ok { OnOk result (keys.new.items ≡ keys.old.items ++ replicate count key) }
-    ensures few { OnOk result (length keys.new.items ≤ 64) }
-    ensures err { IfErr result (λ cause. length (keys.old.items ++ replicate count key) ≤ 64
+    ensures few { OnOk result (length keys.new.items ≤ MOST_STEPS) }
+    ensures err { IfErr result (λ cause. length (keys.old.items ++ replicate count key) ≤ MOST_STEPS
         → cause ≡ Memory) }
 {
-    if keys.len() > MOST_STEPS || count > MOST_STEPS - keys.len() {
+    let most = usize::from(MOST_STEPS);
+    if keys.len() > most || count > most - keys.len() {
         return Err(LogCause::Count);
     }
     for _ in 0..count {
@@ -67,7 +64,9 @@ impl Draft {
             AreFew (with_said (draft_value self.old) (said item)) → cause ≡ Memory) }
     {
         match item {
-            Item::Taken(_) if self.taken.len() >= MOST_TAKEN => return Err(LogCause::Count),
+            Item::Taken(_) if self.taken.len() >= usize::from(MOST_TAKEN) => return Err(
+                LogCause::Count,
+            ),
             Item::Taken(number) => self.taken.push(number)?,
             Item::Steps(key, count) => push_steps(&mut self.keys, key, count)?,
             Item::Sent(frame) => self.frames.push(frame)?,

@@ -5,6 +5,7 @@ mod cut;
 mod draft;
 mod fault;
 mod item;
+mod limits;
 mod log;
 mod pieces;
 mod quoted;

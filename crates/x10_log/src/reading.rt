@@ -3,6 +3,7 @@
 ghost use Rattle.std.specs.Prelude.{◌≡◌, ◌<◌, ◌≤◌, ◌↔◌, IsTrue, ◌++◌, ◌∷◌, [], ℕ, List, IfOk, length, map, codes, decimal, OnOk, MatchResult};
 ghost use Rattle.std.specs.List.{flat_map, AllByRecursion};
 ghost use Rattle.hex.specs.Hex.{encode_lower, IsBytes};
+ghost use Rattle.x10_model.specs.declared.limits.TheConstants.{MOST_PLACES};
 ghost use Rattle.x10_log.specs.declared.fault.LogCause.TheVariants.{Memory};
 ghost use Rattle.x10_log.specs.Logs.{TurnValue, LogValue, turn_value, log_value, turn_line, ended_line, head_lines, spelled};
 ghost use Rattle.x10_log.specs.Limits.{IsWithin, IsLimited, FitsTurn, FitsLog};
@@ -77,8 +78,8 @@ fn is_decimal(alloc: Global, digits: &str, number: u16) -> Result<bool, AllocErr
 /// How many places the third line says there are.
 fn places_in(alloc: Global, line: &str) -> Result<u16, LogCause>
     ensures only { IfOk result (λ places. line.now ≡ codes "places " ++ decimal places) }
-    ensures few { IfOk result (λ places. (0 < places) × (places ≤ 64)) }
-    ensures found { (n : ℕ) → 0 < n → n ≤ 64 → line.now ≡ codes "places " ++ decimal n
+    ensures few { IfOk result (λ places. (0 < places) × (places ≤ MOST_PLACES)) }
+    ensures found { (n : ℕ) → 0 < n → n ≤ MOST_PLACES → line.now ≡ codes "places " ++ decimal n
         → Shows (λ places. places) result n }
 {
     let Some(digits) = stripped(line, "places ") else {
@@ -104,9 +105,9 @@ struct Head {
 /// What the first three lines of a text say, and the text after them.
 fn head_in(alloc: Global, text: &str) -> Result<(Head, &str), LogFault>
     ensures only { IfOk result (λ x. text.now ≡ head_lines x.0.digest x.0.places ++ x.1.now) }
-    ensures few { IfOk result (λ x. (0 < x.0.places) × (x.0.places ≤ 64)) }
+    ensures few { IfOk result (λ x. (0 < x.0.places) × (x.0.places ≤ MOST_PLACES)) }
     ensures found { (bytes : List ℕ) (n : ℕ) (rest : List ℕ) → IsBytes bytes → length bytes ≡ 32
-        → 0 < n → n ≤ 64 → text.now ≡ head_lines bytes n ++ rest
+        → 0 < n → n ≤ MOST_PLACES → text.now ≡ head_lines bytes n ++ rest
         → MatchResult result (λ x. (x.0.digest ≡ bytes) × (x.0.places ≡ n) × (x.1.now ≡ rest))
         (λ fault. fault.cause ≡ Memory) }
 {

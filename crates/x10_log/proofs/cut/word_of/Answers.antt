@@ -1,4 +1,4 @@
-use Rattle.x10_log.proofs.Cuts.{word_before, word_alone}
+use Rattle.x10_log.proofs.Cuts.{word_before}
 use Rattle.x10_log.proofs.cut.word_of.Goals as goal
 
 pub returns-in-Some-clause-found : goal.returns-in-Some-clause-found

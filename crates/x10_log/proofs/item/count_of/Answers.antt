@@ -1,4 +1,3 @@
-use Rattle.std.proofs.Common.{arith}
 use Rattle.x10_log.specs.declared.fault.LogCause.TheVariants as cause
 use Rattle.x10_log.proofs.Digits.{number_read}
 use Rattle.x10_log.proofs.item.count_of.Goals as goal

@@ -1,5 +1,4 @@
-use Rattle.std.proofs.Common.{ap, ap₂, ◌∙◌}
-use Rattle.x10_hall.specs.Halls.{PostedFrame}
+use Rattle.std.proofs.Common.{◌∙◌}
 use Rattle.x10_log.specs.Reading.{said, Sent}
 use Rattle.x10_log.proofs.Faults.{no_fault, handed_on, value_is}
 use Rattle.x10_log.proofs.Words.{frame_parts, sent_is}

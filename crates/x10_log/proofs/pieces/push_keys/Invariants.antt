@@ -1,4 +1,4 @@
-use Rattle.std.proofs.Common.{◌++◌, length}
+use Rattle.std.proofs.Common.{◌++◌}
 use Rattle.std.specs.String.{string_bytes}
 use Rattle.x10_log.specs.Logs.{runs}
 use Rattle.x10_log.proofs.KeyRuns.{run_words, AreCounted}

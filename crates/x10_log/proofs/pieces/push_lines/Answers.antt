@@ -1,4 +1,4 @@
-use Rattle.std.proofs.Common.{◌++◌, map, refl, arith}
+use Rattle.std.proofs.Common.{◌++◌, map, refl}
 use Rattle.std.specs.List.{flat_map}
 use Rattle.std.specs.String.{string_bytes}
 use Rattle.x10_place.specs.StandsFor.{line_as}

@@ -1,4 +1,4 @@
-use Rattle.std.proofs.Common.{◌++◌, get_or, refl, arith}
+use Rattle.std.proofs.Common.{◌++◌, get_or, refl}
 use Rattle.std.specs.List.{flat_map}
 use Rattle.std.specs.String.{string_bytes}
 use Rattle.x10_log.specs.Logs.{taken_word}

@@ -1,6 +1,5 @@
 use Rattle.std.proofs.Common.{false, ◌∙◌, sym, arith}
 use Rattle.std.proofs.lemmas.Str.{IsCharBoundary-after_ascii}
-use Rattle.x10_asm.specs.Literals as literals
 use Rattle.x10_asm.specs.Literals.{scan}
 use Rattle.x10_asm.proofs.QuotedBytes.{escape_scanned, bad_escape, quote_scanned, backslash_scanned, other_scanned, not_closed}
 use Rattle.x10_log.proofs.Quotes.{same_pair, not_scanned}

@@ -1,6 +1,5 @@
 use Rattle.std.proofs.Common.{◌++◌, ◌∷◌, ◌∙◌}
-use Rattle.x10_log.proofs.Faults.{fault_handed_on}
-use Rattle.x10_log.proofs.LogLines.{image_words, places_words, second_on, image_lacks, places_lack, after_first_line, head_join}
+use Rattle.x10_log.proofs.LogLines.{image_words, places_words, image_lacks, places_lack, after_first_line}
 use Rattle.x10_log.proofs.reading.head_in.Goals as goal
 
 pub returns-in_err-second-clause-found : goal.returns-in_err-second-clause-found

@@ -1,4 +1,4 @@
-use Rattle.std.proofs.Common.{ℕ, length}
+use Rattle.std.proofs.Common.{length}
 use Rattle.x10_log.specs.Reading.{tail_bytes, draft_value}
 use Rattle.x10_log.proofs.Words.{IsLeading}
 use Rattle.x10_log.proofs.draft.Draft.add_all.Given as goal
