@@ -35,7 +35,8 @@ lacks_front : (c : ℕ) (bs : List ℕ) → Lacks c (before_first (λ b. b == c)
 lacks_front c [] = refl
 lacks_front c (b ∷ bs) = elim (cases_eq b c) [
   | inl e ↦ rw (eq-eqb b c e) refl
-  | inr n ↦ rw (ne_eqb b c n, front_more b (position_or_len (λ x. x == c) bs) bs) (lacks_cons c b (before_first (λ x. x == c) bs) n (lacks_front c bs))
+  | inr n ↦ rw (ne_eqb b c n, front_more b (position_or_len (λ x. x == c) bs) bs) (lacks_cons c b (before_first (λ x. x == c) bs) n
+      (lacks_front c bs))
 ]
 
 lacks_all : (c : ℕ) (bs : List ℕ) → position_or_len (λ b. b == c) bs ≡ length bs → Lacks c bs

@@ -82,5 +82,6 @@ item_lacks c (x ∷ xs) (suc i) n h e = item_lacks c xs i n (lacks_rest c x xs h
 pub hex_lacks : (c : ℕ) (bytes : List ℕ) → c ≢ 0 → Lacks c lower_digits → Lacks c (encode_lower bytes)
 unfolding encode_with
 hex_lacks c [] n h = refl
-hex_lacks c (b ∷ bs) n h = lacks_cons c (slice_index lower_digits (b / 16)) (slice_index lower_digits (b % 16) ∷ encode_lower bs) (item_lacks c lower_digits (b / 16) n h)
+hex_lacks c (b ∷ bs) n h = lacks_cons c (slice_index lower_digits (b / 16)) (slice_index lower_digits (b % 16) ∷ encode_lower bs)
+    (item_lacks c lower_digits (b / 16) n h)
     (lacks_cons c (slice_index lower_digits (b % 16)) (encode_lower bs) (item_lacks c lower_digits (b % 16) n h) (hex_lacks c bs n h))

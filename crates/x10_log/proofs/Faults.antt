@@ -30,13 +30,15 @@ pub both_handed_on : {A B Y : Type 0} (view : A → Y) (tail : B → List ℕ) (
 both_handed_on view tail (Ok x) G y rest h memory = absurd h
 both_handed_on view tail (Err e) G y rest h memory = memory e h
 
-pub done_handed_on : {X : Type 0} (r : Result X LogCause) (G : LogCause → Type 0) (P : X → Type 0) → IsErrAnd r G → ((c : LogCause) → G c → c ≡ Memory)
+pub done_handed_on : {X : Type 0} (r : Result X LogCause) (G : LogCause → Type 0) (P : X → Type 0) → IsErrAnd r G → ((c : LogCause) → G c
+    → c ≡ Memory)
     → MatchResult r P (λ c. c ≡ Memory)
 done_handed_on (Ok x) G P h memory = absurd h
 done_handed_on (Err e) G P h memory = memory e h
 
 -- the same of a fault with its line
-pub fault_handed_on : {X : Type 0} (r : Result X LogFault) (G : LogFault → Type 0) (P : X → Type 0) → IsErrAnd r G → ((f : LogFault) → G f → f.cause ≡ Memory)
+pub fault_handed_on : {X : Type 0} (r : Result X LogFault) (G : LogFault → Type 0) (P : X → Type 0) → IsErrAnd r G → ((f : LogFault) → G f
+    → f.cause ≡ Memory)
     → MatchResult r P (λ f. f.cause ≡ Memory)
 fault_handed_on (Ok x) G P h memory = absurd h
 fault_handed_on (Err e) G P h memory = memory e h

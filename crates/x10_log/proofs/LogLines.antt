@@ -65,7 +65,8 @@ pub record AreRead (places : ℕ) (text rest : List ℕ) (turns : List TurnValue
   pub is : text ≡ flat_map ended_line turns ++ rest
   pub within : AllByRecursion (IsWithin places) turns
   pub leads : (ts : List TurnValue) → AllByRecursion (IsWithin places) ts → AllByRecursion FitsTurn ts → text ≡ flat_map ended_line ts
-      → (us : List TurnValue) × AllByRecursion (IsWithin places) us × AllByRecursion FitsTurn us × (rest ≡ flat_map ended_line us) × (turns ++ us ≡ ts)
+      → (us : List TurnValue) × AllByRecursion (IsWithin places) us × AllByRecursion FitsTurn us × (rest ≡ flat_map ended_line us) ×
+      (turns ++ us ≡ ts)
 
 pub none_read : (places : ℕ) (text : List ℕ) → AreRead places text text []
 none_read places text = record { is = refl; within = tt; leads = λ ts w f e. (ts, w, f, e, refl) }
@@ -129,7 +130,8 @@ one_read places text rest line after turns new few a lacks cut only found = reco
       );
 }
 
-pub line_fault : (places : ℕ) (text rest line after : List ℕ) (turns ts : List TurnValue) (cause : LogCause) → places < 2 ^ 16 → AreRead places text rest turns
+pub line_fault : (places : ℕ) (text rest line after : List ℕ) (turns ts : List TurnValue) (cause : LogCause) → places < 2 ^ 16
+    → AreRead places text rest turns
     → Lacks 10 line → rest ≡ line ++ 10 ∷ after
     → ((t : TurnValue) → IsWithin places t → FitsTurn t → line ≡ turn_line t → cause ≡ Memory)
     → AllByRecursion (IsWithin places) ts → AllByRecursion FitsTurn ts → text ≡ flat_map ended_line ts → cause ≡ Memory
@@ -151,7 +153,8 @@ end_read places text rest turns ts a lacks w f e =
     let none = no_lines l.0 rest l.3 lacks in
     (sym (append-nil turns) ∙ ap (λ x. turns ++ x) (sym none) ∙ l.4, l.3 ∙ ap (flat_map ended_line) none)
 
-pub all_read : (places : ℕ) (text rest : List ℕ) (turns : List TurnValue) → AreRead places text rest turns → length rest ≡ 0 → text ≡ flat_map ended_line turns
+pub all_read : (places : ℕ) (text rest : List ℕ) (turns : List TurnValue) → AreRead places text rest turns → length rest ≡ 0
+    → text ≡ flat_map ended_line turns
 all_read places text [] turns a e = a.is ∙ append-nil (flat_map ended_line turns)
 all_read places text (c ∷ cs) turns a e = absurd (omega arith)
 
@@ -185,9 +188,11 @@ pub places_lack : (n : ℕ) → n ≤ 64 → Lacks 10 (places_words n)
 places_lack n few = lacks_append 10 (codes "places ") (decimal n) refl (decimal_lacks 10 n (inl (omega arith)) (omega arith))
 
 -- after the same front comes the same
-pub after_first_line : (one : List ℕ) (bytes : List ℕ) (n : ℕ) (rest text : List ℕ) → text ≡ codes "x10 log 1\n" ++ one → text ≡ head_lines bytes n ++ rest
+pub after_first_line : (one : List ℕ) (bytes : List ℕ) (n : ℕ) (rest text : List ℕ) → text ≡ codes "x10 log 1\n" ++ one
+    → text ≡ head_lines bytes n ++ rest
     → one ≡ second_on bytes n rest
-after_first_line one bytes n rest text a e = append_cancel_left (codes "x10 log 1\n") one (second_on bytes n rest) (sym a ∙ e ∙ head_split bytes n rest)
+after_first_line one bytes n rest text a e = append_cancel_left (codes "x10 log 1\n") one (second_on bytes n rest) (sym a ∙ e
+    ∙ head_split bytes n rest)
 
 -- ---- the whole
 

@@ -88,7 +88,8 @@ printed_fit [] h = tt
 printed_fit (l ∷ ls) h = (h.0, printed_fit ls h.1)
 
 pub saids_fit : (places : ℕ) (t : TurnValue) → IsWithin places t → FitsTurn t → AllByRecursion FitsSaid (saids t)
-saids_fit places t w f = all_append FitsSaid (map Taken t.taken) (map steps_of (runs t.keys) ++ (map Sent t.frames ++ map Printed t.lines)) (taken_fit t.taken f.taken)
+saids_fit places t w f = all_append FitsSaid (map Taken t.taken) (map steps_of (runs t.keys) ++ (map Sent t.frames ++ map Printed t.lines))
+    (taken_fit t.taken f.taken)
     (all_append FitsSaid (map steps_of (runs t.keys)) (map Sent t.frames ++ map Printed t.lines) (steps_fit t.keys w.keys f.keys)
     (all_append FitsSaid (map Sent t.frames) (map Printed t.lines) (sent_fit t.frames f.frames) (printed_fit t.lines f.lines)))
 

@@ -11,8 +11,8 @@ use Rattle.x10_hall.specs.Halls.{PostedFrame, frame_of}
 use Rattle.x10_hall.specs.declared.turn.Turn.{Turn}
 use Rattle.x10_log.specs.declared.log.Log.{Log}
 
--- what a turn says: its place, the numbers of the frames that were taken in, the key of each step, the frames that were put
--- out, and the lines that were printed
+-- what a turn says: its place, the numbers of the frames that were taken in, the key of each
+-- step, the frames that were put out, and the lines that were printed
 pub record TurnValue : Type 0 where
   pub place : ℕ
   pub taken : List ℕ

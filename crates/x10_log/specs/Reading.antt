@@ -113,7 +113,7 @@ pub record AreFew (t : TurnValue) : Type 0 where
   pub taken : length t.taken ≤ MOST_TAKEN
   pub keys : length t.keys ≤ MOST_STEPS
 
--- a turn that is read further: of the same place, and with no more than a turn has if it had no more
+-- a turn that is read further: the same place, and no more than a turn has where it had no more
 pub record IsKept (old new : TurnValue) : Type 0 where
   pub place : new.place ≡ old.place
   pub few : AreFew old → AreFew new

@@ -1,8 +1,8 @@
 //! A turn of which words are read one by one.
 
-ghost use Rattle.std.specs.Prelude.{◌≡◌, ◌≤◌, ◌++◌, IfOk, IfErr, OnOk, length, replicate, MatchResult, List};
+ghost use Rattle.std.specs.Prelude.{◌≡◌, ◌≤◌, ◌++◌, ◌∷◌, [], IfOk, IfErr, OnOk, length, replicate, MatchResult, List};
 ghost use Rattle.std.specs.List.{flat_map, AllByRecursion};
-ghost use Rattle.x10_log.specs.declared.limits.TheConstants.{MOST_STEPS};
+ghost use Rattle.x10_log.specs.declared.limits.TheConstants.{MOST_TAKEN, MOST_STEPS};
 ghost use Rattle.x10_log.specs.declared.fault.LogCause.TheVariants.{Memory};
 ghost use Rattle.x10_log.specs.Logs.{turn_value};
 ghost use Rattle.x10_log.specs.Reading.{Said, said, said_text, FitsSaid, tail_bytes, draft_value, nothing_said, with_said, with_all, AreFew, IsKept};
@@ -22,6 +22,20 @@ pub struct Draft {
     keys: Vec<usize>,
     frames: Vec<Posted>,
     lines: Vec<Line>,
+}
+
+/// Appends the number of a frame that was taken in; refused where there would be too many.
+fn push_number(taken: &mut Vec<u64>, number: u64) -> Result<(), LogCause>
+    ensures ok { OnOk result (taken.new.items ≡ taken.old.items ++ number ∷ []) }
+    ensures few { OnOk result (length taken.new.items ≤ MOST_TAKEN) }
+    ensures err { IfErr result (λ cause. length (taken.old.items ++ number ∷ []) ≤ MOST_TAKEN
+        → cause ≡ Memory) }
+{
+    if taken.len() >= usize::from(MOST_TAKEN) {
+        return Err(LogCause::Count);
+    }
+    taken.push(number)?;
+    Ok(())
 }
 
 /// Appends a key, so often; refused where there would be too many.
@@ -64,10 +78,7 @@ impl Draft {
             AreFew (with_said (draft_value self.old) (said item)) → cause ≡ Memory) }
     {
         match item {
-            Item::Taken(_) if self.taken.len() >= usize::from(MOST_TAKEN) => return Err(
-                LogCause::Count,
-            ),
-            Item::Taken(number) => self.taken.push(number)?,
+            Item::Taken(number) => push_number(&mut self.taken, number)?,
             Item::Steps(key, count) => push_steps(&mut self.keys, key, count)?,
             Item::Sent(frame) => self.frames.push(frame)?,
             Item::Printed(line) => self.lines.push(line)?,
@@ -79,7 +90,8 @@ impl Draft {
     pub fn add_all(&mut self, alloc: Global, text: Option<&str>) -> Result<(), LogCause>
         ensures kept { OnOk result (IsKept (draft_value self.old) (draft_value self.new)) }
         ensures found { (ss : List Said) → AllByRecursion FitsSaid ss
-            → tail_bytes text.entry ≡ flat_map said_text ss → AreFew (with_all (draft_value self.old) ss)
+            → tail_bytes text.entry ≡ flat_map said_text ss
+            → AreFew (with_all (draft_value self.old) ss)
             → MatchResult result (λ _. draft_value self.new ≡ with_all (draft_value self.old) ss)
             (λ cause. cause ≡ Memory) }
     {

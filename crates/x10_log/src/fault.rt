@@ -8,7 +8,8 @@ use thiserror::Error;
 /// What is wrong with a line of a log.
 #[derive(Clone, Copy, Debug, PartialEq, Eq, Error)]
 pub enum LogCause {
-    /// One of the first three lines isn't `x10 log 1`, `image` with 64 lowercase hexadecimal digits, or `places` with a number.
+    /// One of the first three lines isn't `x10 log 1`, `image` with 64 lowercase hexadecimal digits, or `places` with a
+    /// number.
     #[error("Head")]
     Head,
     /// The number of places isn't 1 to 64, or a turn's place isn't one of them.
@@ -60,7 +61,7 @@ impl<T: Drop> From<AllocFailed<T>> for LogCause {
 #[derive(Clone, Copy, Debug, PartialEq, Eq, Error)]
 #[error("line {line} {cause}")]
 pub struct LogFault {
-    /// The line, from 1; 0 where memory was refused.
+    /// The line, from 1. Where memory was refused, the one that was read then.
     pub line: usize,
     /// What is wrong with it.
     pub cause: LogCause,

@@ -91,7 +91,8 @@ fn frame_bytes(alloc: Global, digits: &str) -> Result<Vec<u8>, LogCause>
 /// A frame that was put out.
 fn sent(alloc: Global, text: &str) -> Result<Item, LogCause>
     ensures { (f : PostedFrame) → FitsFrame f
-        → text.now ≡ decimal f.to ++ 58 ∷ encode_lower f.bytes → Shows said result (reading.Sent f) }
+        → text.now ≡ decimal f.to ++ 58 ∷ encode_lower f.bytes
+        → Shows said result (reading.Sent f) }
 {
     let Some((to, digits)) = cut(text, ':') else {
         return Err(LogCause::Frame);

@@ -31,10 +31,12 @@ returns-in_err-int_of c = λ s fits plain e.
 pub returns-in-Some-stripped-2 : goal.returns-in-Some-stripped-2
 returns-in-Some-stripped-2 c = λ s fits plain e.
     let t = is_printed s c.in-Some-stripped-2.digits.now fits plain (sym c.in-Some-stripped-2.ensures.some ∙ e) in
-    let number : c.in_ok-int_of.field-0 ≡ t.number = value_is c.in_ok-int_of.field-0 t.number (pos 0) (c.in_ok-int_of.ensures t.number t.fits t.word) in
+    let number : c.in_ok-int_of.field-0 ≡ t.number = value_is c.in_ok-int_of.field-0 t.number (pos 0)
+    (c.in_ok-int_of.ensures t.number t.fits t.word) in
     ap (λ (z : ℤ). Printed (Number z)) (to_z-of_z w64 c.in_ok-int_of.field-0 (subst (FitsSigned w64) (sym number) t.fits) ∙ number) ∙ sym t.is
 
 pub returns : goal.returns
 returns c = λ s fits plain e.
-    let t = is_steps s c.args.word.now fits plain e c.in_default.ensures.none c.in_default-stripped.ensures.none c.in_default-stripped-2.ensures.none in
+    let t = is_steps s c.args.word.now fits plain e c.in_default.ensures.none c.in_default-stripped.ensures.none
+    c.in_default-stripped-2.ensures.none in
     subst (Shows said c.steps.result) (sym t.is) (c.steps.ensures t.key t.count t.small t.few t.word)

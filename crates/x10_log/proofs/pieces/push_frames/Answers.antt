@@ -8,9 +8,11 @@ use Rattle.x10_log.proofs.pieces.push_frames.Goals as goal
 
 pub loop-at-preserved : goal.loop-at-preserved
 loop-at-preserved c = one_pushed (λ xs. flat_map frame_word (map frame_of xs)) (λ x. frame_word (frame_of x)) (λ x xs. refl)
-    (string_bytes c.args.text.now ++ flat_map frame_word (map frame_of c.args.frames.now)) (string_bytes c.loop-at.text) (string_bytes c.push_frame.new.text)
+    (string_bytes c.args.text.now ++ flat_map frame_word (map frame_of c.args.frames.now)) (string_bytes c.loop-at.text) (string_bytes
+    c.push_frame.new.text)
     c.args.frames.now c.loop-at.at c.index-frames-at.result c.loop-at.invariant c.loop-at-test.true c.index-frames-at.is c.in_ok-push_frame.ensures
 
 pub returns : goal.returns
-returns c = all_pushed (λ xs. flat_map frame_word (map frame_of xs)) refl (string_bytes c.args.text.now ++ flat_map frame_word (map frame_of c.args.frames.now))
+returns c = all_pushed (λ xs. flat_map frame_word (map frame_of xs)) refl (string_bytes c.args.text.now ++ flat_map frame_word (map frame_of
+    c.args.frames.now))
     (string_bytes c.loop-at.text) c.args.frames.now c.loop-at.at c.loop-at.invariant c.loop-at-test.false

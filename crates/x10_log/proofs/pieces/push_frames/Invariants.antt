@@ -7,5 +7,6 @@ use Rattle.x10_log.proofs.Pushed.{ArePushed}
 use Rattle.x10_log.proofs.pieces.push_frames.Given as goal
 
 abbrev pub invariant-loop-at : goal.invariant-loop-at
-invariant-loop-at l = ArePushed (λ xs. flat_map frame_word (map frame_of xs)) (string_bytes l.initial.text ++ flat_map frame_word (map frame_of l.frames))
+invariant-loop-at l = ArePushed (λ xs. flat_map frame_word (map frame_of xs)) (string_bytes l.initial.text ++ flat_map frame_word
+    (map frame_of l.frames))
     (string_bytes l.text) l.frames l.at

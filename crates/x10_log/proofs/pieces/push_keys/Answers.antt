@@ -23,7 +23,8 @@ loop-at-preserved c =
           (same_counted whole (string_bytes c.loop-at.text) c.loop-at.key c.loop-at.count c.args.keys.now c.loop-at.at c.loop-at.invariant lt
           (sym c.at-next.ensures ∙ w.if-next-key.true))
       | else-next-key+in_ok-push_run w ↦ rw (w.text-is, w.key-is, w.count-is)
-          (next_counted whole (string_bytes c.loop-at.text) (string_bytes w.push_run.new.text) c.loop-at.key c.loop-at.count c.args.keys.now c.loop-at.at
+          (next_counted whole (string_bytes c.loop-at.text) (string_bytes w.push_run.new.text) c.loop-at.key c.loop-at.count c.args.keys.now
+          c.loop-at.at
           c.at-next.result c.loop-at.invariant lt c.at-next.ensures w.if-next-key.false c.loop-at.auto.at w.in_ok-push_run.ensures)
     ]
 
@@ -31,4 +32,5 @@ pub returns : goal.returns
 returns c =
     let whole = string_bytes c.args.text.now ++ run_words (runs c.args.keys.now) in
     on_ok_weaker c.push_run-2.result (λ d. last_counted whole (string_bytes c.loop-at.text) (string_bytes c.push_run-2.new.text) c.loop-at.key
-    c.loop-at.count c.args.keys.now c.loop-at.at c.loop-at.invariant (omega (arith, c.loop-at-test.false, c.len-at-end.ensures)) d) c.push_run-2.ensures
+    c.loop-at.count c.args.keys.now c.loop-at.at c.loop-at.invariant (omega (arith, c.loop-at-test.false, c.len-at-end.ensures)) d)
+    c.push_run-2.ensures

@@ -8,9 +8,11 @@ use Rattle.x10_log.proofs.pieces.push_lines.Goals as goal
 
 pub loop-at-preserved : goal.loop-at-preserved
 loop-at-preserved c = one_pushed (λ xs. flat_map line_word (map line_as xs)) (λ x. line_word (line_as x)) (λ x xs. refl)
-    (string_bytes c.args.text.now ++ flat_map line_word (map line_as c.args.lines.now)) (string_bytes c.loop-at.text) (string_bytes c.push_line.new.text)
+    (string_bytes c.args.text.now ++ flat_map line_word (map line_as c.args.lines.now)) (string_bytes c.loop-at.text) (string_bytes
+    c.push_line.new.text)
     c.args.lines.now c.loop-at.at c.index-lines-at.result c.loop-at.invariant c.loop-at-test.true c.index-lines-at.is c.in_ok-push_line.ensures
 
 pub returns : goal.returns
-returns c = all_pushed (λ xs. flat_map line_word (map line_as xs)) refl (string_bytes c.args.text.now ++ flat_map line_word (map line_as c.args.lines.now))
+returns c = all_pushed (λ xs. flat_map line_word (map line_as xs)) refl (string_bytes c.args.text.now ++ flat_map line_word (map line_as
+    c.args.lines.now))
     (string_bytes c.loop-at.text) c.args.lines.now c.loop-at.at c.loop-at.invariant c.loop-at-test.false

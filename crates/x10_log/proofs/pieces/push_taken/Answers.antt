@@ -6,9 +6,11 @@ use Rattle.x10_log.proofs.Pushed.{get_or_default, one_pushed, all_pushed}
 use Rattle.x10_log.proofs.pieces.push_taken.Goals as goal
 
 pub loop-at-preserved : goal.loop-at-preserved
-loop-at-preserved c = one_pushed (flat_map taken_word) taken_word (λ x xs. refl) (string_bytes c.args.text.now ++ flat_map taken_word c.args.taken.now)
+loop-at-preserved c = one_pushed (flat_map taken_word) taken_word (λ x xs. refl) (string_bytes c.args.text.now ++ flat_map taken_word
+    c.args.taken.now)
     (string_bytes c.loop-at.text) (string_bytes c.write.new.self) c.args.taken.now c.loop-at.at (get_or c.args.taken.now c.loop-at.at 0)
-    c.loop-at.invariant c.loop-at-test.true (get_or_default c.args.taken.now c.loop-at.at 0 (get_or c.args.taken.now c.loop-at.at 0) c.loop-at-test.true) c.in_ok-write.ensures.bytes
+    c.loop-at.invariant c.loop-at-test.true (get_or_default c.args.taken.now c.loop-at.at 0 (get_or c.args.taken.now c.loop-at.at 0)
+    c.loop-at-test.true) c.in_ok-write.ensures.bytes
 
 pub returns : goal.returns
 returns c = all_pushed (flat_map taken_word) refl (string_bytes c.args.text.now ++ flat_map taken_word c.args.taken.now) (string_bytes c.loop-at.text)

@@ -16,7 +16,8 @@ pub returns-in_err-turns-clause-found : goal.returns-in_err-turns-clause-found
 returns-in_err-turns-clause-found c = λ l limited fits e.
     let head = c.in_ok-head.ensures.found l.digest l.places (flat_map ended_line l.turns) fits.digest fits.length limited.some limited.few
     (e ∙ spelled_is l) in
-    log_handed_on log_value c.from_residual-in_err-turns.result _ l c.from_residual-in_err-turns.ensures.1 (λ fault is. ap (λ (f : LogFault). f.cause) is
+    log_handed_on log_value c.from_residual-in_err-turns.result _ l c.from_residual-in_err-turns.ensures.1 (λ fault is. ap (λ
+    (f : LogFault). f.cause) is
     ∙ c.in_err-turns.ensures.found l.turns (subst (λ (n : ℕ). AllByRecursion (IsWithin n) l.turns) (sym head.1) limited.turns) fits.turns head.2)
 
 pub returns-clause-found : goal.returns-clause-found

@@ -18,7 +18,13 @@ pub returns-then-place-places-clause-found : goal.returns-then-place-places-clau
 returns-then-place-places-clause-found c = λ t w f e.
     let begins = line_begins c.args.places t c.args.line.now (omega (arith, c.ranges.places.fits)) w e in
     let parts = c.word_of.ensures.found (decimal t.place) (flat_map said_text (saids t)) begins.lacks (words_end (saids t)) begins.split in
-    absurd (omega (arith, c.if-place-places.true, w.place, value_is c.in_ok-place.place t.place 0 (c.in_ok-place.ensures t.place begins.small parts.0)))
+    absurd (omega (
+      arith,
+      c.if-place-places.true,
+      w.place,
+      value_is c.in_ok-place.place t.place 0
+          (c.in_ok-place.ensures t.place begins.small parts.0),
+    ))
 
 pub returns-in_err-add_all-clause-found : goal.returns-in_err-add_all-clause-found
 returns-in_err-add_all-clause-found c = λ t w f e.

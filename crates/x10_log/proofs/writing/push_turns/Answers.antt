@@ -7,12 +7,14 @@ use Rattle.x10_log.proofs.writing.push_turns.Goals as goal
 
 pub loop-at-preserved : goal.loop-at-preserved
 loop-at-preserved c = one_pushed (λ ts. flat_map ended_line (map turn_value ts)) (λ t. ended_line (turn_value t)) (λ t ts. refl)
-    (string_bytes c.args.text.now ++ flat_map ended_line (map turn_value c.args.turns.now)) (string_bytes c.loop-at.text) (string_bytes c.push_str.new.self)
+    (string_bytes c.args.text.now ++ flat_map ended_line (map turn_value c.args.turns.now)) (string_bytes c.loop-at.text) (string_bytes
+    c.push_str.new.self)
     c.args.turns.now c.loop-at.at c.index-turns-at.result c.loop-at.invariant c.loop-at-test.true c.index-turns-at.is
     (c.in_ok-push_str.ensures.bytes ∙ ap (λ (t : List ℕ). t ++ 10 ∷ []) c.in_ok-push_turn.ensures
     ∙ append_assoc (string_bytes c.loop-at.text) (turn_line (turn_value c.index-turns-at.result)) (10 ∷ []))
 
 pub returns : goal.returns
 returns c = all_pushed (λ ts. flat_map ended_line (map turn_value ts)) refl
-    (string_bytes c.args.text.now ++ flat_map ended_line (map turn_value c.args.turns.now)) (string_bytes c.loop-at.text) c.args.turns.now c.loop-at.at
+    (string_bytes c.args.text.now ++ flat_map ended_line (map turn_value c.args.turns.now)) (string_bytes c.loop-at.text) c.args.turns.now
+    c.loop-at.at
     c.loop-at.invariant c.loop-at-test.false

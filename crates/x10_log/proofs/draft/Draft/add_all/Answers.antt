@@ -16,7 +16,8 @@ returns-in_err-add-clause-found c = λ ss fits e few.
     let leads = rw c.in-Some.is at c.loop-rest.invariant in
     done_handed_on c.from_residual-in_err-add.result _ _ c.from_residual-in_err-add.ensures.1
     (λ cause is. is ∙ count_fault (draft_value c.args.self.now) (draft_value c.loop-rest.self) (tail_bytes c.args.text) c.in-Some.here.now
-    (tail_bytes c.in_ok-item.after) (said c.in_ok-item.item) ss c.in_err-add.field-0.0 leads c.in_ok-item.ensures.found c.in_err-add.ensures.err fits e few)
+    (tail_bytes c.in_ok-item.after) (said c.in_ok-item.item) ss c.in_err-add.field-0.0 leads c.in_ok-item.ensures.found
+    c.in_err-add.ensures.err fits e few)
 
 pub loop-rest-preserved : goal.loop-rest-preserved
 loop-rest-preserved c =
