@@ -8,3 +8,4 @@ pub mod Faults
 pub mod Quotes
 pub mod TurnWords
 pub mod LogLines
+pub mod Fitting

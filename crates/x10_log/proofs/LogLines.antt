@@ -71,7 +71,7 @@ pub record AreRead (places : ℕ) (text rest : List ℕ) (turns : List TurnValue
 pub none_read : (places : ℕ) (text : List ℕ) → AreRead places text text []
 none_read places text = record { is = refl; within = tt; leads = λ ts w f e. (ts, w, f, e, refl) }
 
-all_and_one : {X : Type 0} (P : X → Type 0) (xs : List X) (x : X) → AllByRecursion P xs → P x → AllByRecursion P (xs ++ x ∷ [])
+pub all_and_one : {X : Type 0} (P : X → Type 0) (xs : List X) (x : X) → AllByRecursion P xs → P x → AllByRecursion P (xs ++ x ∷ [])
 all_and_one P [] x h p = (p, tt)
 all_and_one P (y ∷ ys) x h p = (h.0, all_and_one P ys x h.1 p)
 

@@ -1,8 +1,10 @@
 //! A log's text, written.
 
-ghost use Rattle.std.specs.Prelude.{◌≡◌, ◌++◌, IfOk, OnOk, map};
-ghost use Rattle.std.specs.List.{flat_map};
+ghost use Rattle.std.specs.Prelude.{◌≡◌, ◌++◌, IfOk, OnOk, length, map};
+ghost use Rattle.std.specs.List.{flat_map, AllByRecursion};
 ghost use Rattle.std.specs.String.{string_bytes};
+ghost use Rattle.hex.specs.Hex.{IsBytes};
+ghost use Rattle.x10_log.specs.Limits.{FitsTurn, FitsLog};
 ghost use Rattle.x10_log.specs.Logs.{turn_value, value_of, turn_line, head_lines, ended_line, spelled};
 
 use crate::pieces::{push_frames, push_keys, push_lines, push_taken};
@@ -13,8 +15,9 @@ use x10_hall::Turn;
 /// A turn's line, without the line feed.
 #[tactic(auto, unfolding(crate::specs::Logs::turn_line))]
 pub fn push_turn(alloc: Global, text: &mut String, turn: &Turn) -> Result<(), AllocError>
-    ensures { OnOk result (string_bytes text.new
+    ensures text { OnOk result (string_bytes text.new
         ≡ string_bytes text.old ++ turn_line (turn_value turn.now)) }
+    ensures fits { OnOk result (FitsTurn (turn_value turn.now)) }
 {
     let place = turn.place;
     write!(text, "{place}")?;
@@ -31,8 +34,9 @@ pub fn push_head(
     digest: &[u8; 32],
     places: u16,
 ) -> Result<(), AllocError>
-    ensures { OnOk result (string_bytes text.new
+    ensures text { OnOk result (string_bytes text.new
         ≡ string_bytes text.old ++ head_lines digest.now places) }
+    ensures fits { IsBytes digest.now × (length digest.now ≡ 32) }
 {
     let image = hex::encode(alloc, digest.as_slice())?;
     write!(text, "x10 log 1\nimage {image}\nplaces {places}\n")
@@ -40,8 +44,9 @@ pub fn push_head(
 
 /// The lines of turns.
 fn push_turns(alloc: Global, text: &mut String, turns: &[Turn]) -> Result<(), AllocError>
-    ensures { OnOk result (string_bytes text.new
+    ensures text { OnOk result (string_bytes text.new
         ≡ string_bytes text.old ++ flat_map ended_line (map turn_value turns.now)) }
+    ensures fits { OnOk result (AllByRecursion FitsTurn (map turn_value turns.now)) }
 {
     for at in 0..turns.len() {
         push_turn(alloc, text, &turns[at])?;
@@ -58,8 +63,9 @@ pub fn write_log(
     places: u16,
     turns: &[Turn],
 ) -> Result<String, AllocError>
-    ensures { IfOk result (λ text. string_bytes text
+    ensures text { IfOk result (λ text. string_bytes text
         ≡ spelled (value_of digest.now places turns.now)) }
+    ensures fits { OnOk result (FitsLog (value_of digest.now places turns.now)) }
 {
     let mut text = String::new(alloc);
     push_head(alloc, &mut text, digest, places)?;

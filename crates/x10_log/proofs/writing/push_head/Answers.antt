@@ -1,4 +1,4 @@
 use Rattle.x10_log.proofs.writing.push_head.Goals as goal
 
-pub returns : goal.returns
-returns c = rw (c.in_ok-image.ensures, c.as_slice.ensures) at c.write.ensures.bytes
+pub returns-clause-text : goal.returns-clause-text
+returns-clause-text c = rw (c.in_ok-image.ensures, c.as_slice.ensures) at c.write.ensures.bytes

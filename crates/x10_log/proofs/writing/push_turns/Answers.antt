@@ -2,19 +2,27 @@ use Rattle.std.proofs.Common.{List, ℕ, [], ◌∷◌, ◌++◌, map, refl, ap,
 use Rattle.std.specs.List.{flat_map}
 use Rattle.std.specs.String.{string_bytes}
 use Rattle.x10_log.specs.Logs.{turn_value, turn_line, ended_line}
+use Rattle.x10_log.specs.Limits.{FitsTurn}
+use Rattle.x10_log.proofs.Fitting.{one_fits, all_fit, mapped_fit}
 use Rattle.x10_log.proofs.Pushed.{one_pushed, all_pushed}
 use Rattle.x10_log.proofs.writing.push_turns.Goals as goal
 
 pub loop-at-preserved : goal.loop-at-preserved
-loop-at-preserved c = one_pushed (λ ts. flat_map ended_line (map turn_value ts)) (λ t. ended_line (turn_value t)) (λ t ts. refl)
-    (string_bytes c.args.text.now ++ flat_map ended_line (map turn_value c.args.turns.now)) (string_bytes c.loop-at.text) (string_bytes
-    c.push_str.new.self)
-    c.args.turns.now c.loop-at.at c.index-turns-at.result c.loop-at.invariant c.loop-at-test.true c.index-turns-at.is
-    (c.in_ok-push_str.ensures.bytes ∙ ap (λ (t : List ℕ). t ++ 10 ∷ []) c.in_ok-push_turn.ensures
-    ∙ append_assoc (string_bytes c.loop-at.text) (turn_line (turn_value c.index-turns-at.result)) (10 ∷ []))
+loop-at-preserved c = (
+  one_pushed (λ ts. flat_map ended_line (map turn_value ts)) (λ t. ended_line (turn_value t)) (λ t ts. refl)
+      (string_bytes c.args.text.now ++ flat_map ended_line (map turn_value c.args.turns.now)) (string_bytes c.loop-at.text)
+      (string_bytes c.push_str.new.self) c.args.turns.now c.loop-at.at c.index-turns-at.result c.loop-at.invariant.0 c.loop-at-test.true
+      c.index-turns-at.is (c.in_ok-push_str.ensures.bytes ∙ ap (λ (t : List ℕ). t ++ 10 ∷ []) c.in_ok-push_turn.ensures.text
+      ∙ append_assoc (string_bytes c.loop-at.text) (turn_line (turn_value c.index-turns-at.result)) (10 ∷ [])),
+  one_fits (λ t. FitsTurn (turn_value t)) c.args.turns.now c.loop-at.at c.index-turns-at.result c.loop-at.invariant.1 c.loop-at-test.true
+      c.index-turns-at.is c.in_ok-push_turn.ensures.fits,
+)
 
-pub returns : goal.returns
-returns c = all_pushed (λ ts. flat_map ended_line (map turn_value ts)) refl
+pub returns-clause-text : goal.returns-clause-text
+returns-clause-text c = all_pushed (λ ts. flat_map ended_line (map turn_value ts)) refl
     (string_bytes c.args.text.now ++ flat_map ended_line (map turn_value c.args.turns.now)) (string_bytes c.loop-at.text) c.args.turns.now
-    c.loop-at.at
-    c.loop-at.invariant c.loop-at-test.false
+    c.loop-at.at c.loop-at.invariant.0 c.loop-at-test.false
+
+pub returns-clause-fits : goal.returns-clause-fits
+returns-clause-fits c = mapped_fit FitsTurn turn_value c.args.turns.now
+    (all_fit (λ t. FitsTurn (turn_value t)) c.args.turns.now c.loop-at.at c.loop-at.invariant.1 c.loop-at-test.false)
