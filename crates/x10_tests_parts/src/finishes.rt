@@ -301,6 +301,7 @@ fn memory_is_used_again(rt: HostRuntime) -> Result<(), Fail> {
     let next = Finish { home: 0, number: 2 };
     let mut tally = sender(alloc)?;
     tally.began(FINISH)?;
+    assert!(rt; 2 < tally.places());
     tally.came(FINISH, 2)?;
     tally.forget(FINISH);
     tally.meet(next)?;
@@ -311,6 +312,7 @@ fn memory_is_used_again(rt: HostRuntime) -> Result<(), Fail> {
         let mut book = Book::open(alloc, FINISH, 3)?;
         take(&rt, &mut book, &report(alloc, 1, [0, 0, 1], [0, 0, 0])?);
         assert!(rt; !book.balanced(&Tally::new(alloc, 0, 3)));
+        assert!(rt; next.home < places);
         let book = book.reopen(next, places)?;
         assert!(rt; book.finish() == next && book.places() == places);
         assert!(rt; answers(&book, &Tally::new(alloc, 0, places)) == (true, true));
