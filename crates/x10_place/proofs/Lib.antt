@@ -50,5 +50,6 @@ pub mod Supplies
 pub mod StaySteps
 pub mod StretchesOfPlace
 pub mod StepAnswers
+pub mod SweepLemmas
 pub mod Openings
 pub mod NeverIdle

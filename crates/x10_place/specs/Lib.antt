@@ -10,6 +10,7 @@ pub mod StandsFor
 pub mod Receiving
 pub mod Parting
 pub mod Stretches
+pub mod Sweeps
 pub mod Opening
 pub mod Arrivals
 pub mod Laws

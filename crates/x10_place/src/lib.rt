@@ -25,9 +25,11 @@ mod starting;
 mod stay;
 mod step;
 mod store;
+mod sweep;
 
 pub use call_frame::CallFrame;
 pub use line::Line;
 pub use place::{Place, Stepped};
 pub use sent::{Outgoing, Sent};
 pub use stay::{Origin, Stay};
+pub use sweep::Sweep;

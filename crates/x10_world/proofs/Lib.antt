@@ -31,6 +31,7 @@ pub mod EventLemmas
 pub mod StretchLemmas
 pub mod CallAnswers
 pub mod WorldParts
+pub mod SweepRuns
 pub mod QueryLemmas
 pub mod EmptyWorlds
 pub mod TurnLemmas

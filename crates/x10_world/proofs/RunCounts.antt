@@ -1,10 +1,11 @@
 -- Runs one after another.
-use Rattle.std.proofs.Common.{◌≡◌, ◌≢◌, ◌⊎◌, ℕ, ◌+◌, ◌-◌, ◌*◌, ◌/◌, ◌%◌, ◌<◌, ◌≤◌, add-mul, min, inl, inr, zero, suc, [], ◌∷◌, ◌++◌, refl, sym, ap, subst, ◌∙◌, arith, length, replicate}
-use Rattle.std.specs.Prelude.{Result, Ok, Err, IfErr, MatchResult}
+use Rattle.std.proofs.Common.{◌≡◌, ◌≢◌, ◌⊎◌, ℕ, ◌+◌, ◌-◌, ◌*◌, ◌/◌, ◌%◌, ◌<◌, ◌≤◌, add-mul, min, inl, inr, zero, suc, [], ◌∷◌, ◌++◌, refl, sym, ap, subst, ◌∙◌, arith, length, map, replicate, List}
+use Rattle.std.specs.Prelude.{Result, Ok, Err, IfErr, MatchResult, true, take}
 use Rattle.std.specs.Result.{IsErrAnd}
 use Rattle.std.proofs.lemmas.Grind.{div_ceil_times}
-use Rattle.std.proofs.lemmas.List.{length-append, length-replicate}
+use Rattle.std.proofs.lemmas.List.{length-append, length-map, length-replicate, length-take-le}
 use Rattle.std.proofs.lemmas.Nat.{mul-le}
+use Rattle.std.proofs.lemmas.Option.{slice_get_within}
 use Rattle.x10_kinds.specs.declared.stop.Stop.{Stop}
 use Rattle.x10_model.specs.declared.event.Event.{Event}
 use Rattle.x10_model.specs.declared.event.Event.TheVariants.{Step}
@@ -12,8 +13,8 @@ use Rattle.x10_model.specs.Worlds.{World, Ideal, Run, done, WithinBounds}
 use Rattle.x10_world.specs.declared.rounds.Unfinished.{Unfinished}
 use Rattle.x10_world.specs.declared.rounds.Unfinished.TheVariants as halt
 use Rattle.x10_world.specs.StandsForWorld.{WorldState, KeepsSetting, setting_of_world, StandsForWorld, MakesEvent}
-use Rattle.x10_world.specs.Runs.{IsSameWorld, StopsAt, RunsThrough, IsHaltedStretch, RepeatsThrough}
-use Rattle.x10_world.specs.Rounds.{RunsTo, RunsIn, IsHaltedIn, IsCut, IsHalted, AdvancesOrEnds}
+use Rattle.x10_world.specs.Runs.{IsSameWorld, StopsAt, Runs, RunsThrough, IsHaltedRun, IsHaltedStretch, RepeatsThrough, steps_at}
+use Rattle.x10_world.specs.Rounds.{RunsTo, RunsIn, HasMade, IsHaltedIn, IsCut, IsHalted, Advances, AdvancesOrEnds}
 use Rattle.x10_world.proofs.RunLemmas.{within, keeps_more, keeps_self, setting_kept, run_more, run_on}
 use Rattle.x10_world.proofs.Courses.{stop_stands}
 use Rattle.x10_world.proofs.EventRuns.{through_none, through_on, through_same}
@@ -231,3 +232,54 @@ pub ends_after : (x y z : WorldState) (limit : ℕ) (result : Result ℕ Unfinis
     → AdvancesOrEnds x limit result z
 ends_after x y z limit (Ok n) first h = (record { few = h.0.few; runs = in_after x y z n first h.0.runs; goes = h.0.goes }, h.1)
 ends_after x y z limit (Err why) first h = cut_after x y z limit why first h
+
+-- ---- a step of each of several activities
+
+-- none were made
+pub has_none : (x : WorldState) (limit : ℕ) → x.stopped ≢ true → HasMade x limit 0 x
+has_none x limit goes = record { few = omega arith; runs = in_none x; goes = goes }
+
+-- the first of a list of events
+pub in_taken : (x y : WorldState) (n : ℕ) (events : List Event) → n ≤ length events → KeepsSetting x y
+    → ((w : World) → StandsForWorld x w → Runs x w n events y) → RunsIn x n y
+in_taken x y n events few kept runs = record {
+  kept = kept;
+  runs = λ w stand. (take n events, length-take-le n events few, runs w stand);
+}
+
+-- a list that was cut to what is left is no longer than that
+pub cut_few : (keys : List ℕ) (most left : ℕ) → most ≡ min (length keys) left → length (take most keys) ≤ left
+cut_few keys most left e = let all = length-take-le most keys (omega (arith, e)) in
+    omega (arith, e, all)
+
+-- so many of these steps were made
+pub has_swept : (x y : WorldState) (here limit n : ℕ) (keys : List ℕ) → length keys ≤ limit → n ≤ length keys → KeepsSetting x y → y.stopped ≢ true
+    → ((w : World) → StandsForWorld x w → Runs x w n (steps_at here keys) y) → HasMade x limit n y
+has_swept x y here limit n keys all few kept goes runs =
+    let same = length-map keys (λ (key : ℕ). Step here key) in
+    record {
+      few = omega (arith, all, few);
+      runs = in_taken x y n (steps_at here keys) (omega (arith, few, same)) kept runs;
+      goes = goes;
+    }
+
+-- one of them was refused
+pub cut_swept : (x y : WorldState) (here limit : ℕ) (keys : List ℕ) (why : Stop) → length keys ≤ limit → KeepsSetting x y
+    → IsHaltedRun x (steps_at here keys) y why → IsHaltedIn x limit y why
+cut_swept x y here limit keys why few kept h =
+    let within = slice_get_within (steps_at here keys) h.0 h.1.event h.1.is_next in
+    let all = length-map keys (λ (key : ℕ). Step here key) in
+    record {
+      done = h.0;
+      few = omega (arith, within, all, few);
+      state = h.1.state;
+      runs = in_taken x h.1.state h.0 (steps_at here keys) (omega (arith, within)) (keeps_back x h.1.state y kept h.1.stops.kept) h.1.runs;
+      event = h.1.event;
+      stops = h.1.stops;
+    }
+
+-- and so after none
+pub advances_after : (x y z : WorldState) (limit : ℕ) (result : Result ℕ Unfinished) → RunsIn x 0 y → Advances y limit result z
+    → Advances x limit result z
+advances_after x y z limit (Ok n) first h = record { few = h.few; runs = in_after x y z n first h.runs; goes = h.goes }
+advances_after x y z limit (Err why) first h = cut_after x y z limit why first h

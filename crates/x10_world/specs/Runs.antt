@@ -1,5 +1,5 @@
 -- Runs of a world of the program: events in their turn, each of which leads from one state to the next.
-use Rattle.std.specs.Prelude.{◌≡◌, ◌≢◌, ◌⊎◌, ℕ, ◌+◌, ◌≤◌, Bool, List, [], ◌∷◌, Some, true, replicate, slice_get, slice_set, take}
+use Rattle.std.specs.Prelude.{◌≡◌, ◌≢◌, ◌⊎◌, ℕ, ◌+◌, ◌≤◌, Bool, List, [], ◌∷◌, Some, true, map, replicate, slice_get, slice_set, take}
 use Rattle.x10_kinds.specs.declared.stop.Stop.{Stop}
 use Rattle.x10_model.specs.declared.event.Event.{Event}
 use Rattle.x10_model.specs.declared.event.Event.TheVariants.{Step}
@@ -85,6 +85,10 @@ pub record IsHaltedAt (x : WorldState) (events : List Event) (n : ℕ) (y : Worl
 
 abbrev pub IsHaltedRun : WorldState → List Event → WorldState → Stop → Type 0
 IsHaltedRun x events y why = (n : ℕ) × IsHaltedAt x events n y why
+
+-- a step of each of some activities of a place
+abbrev pub steps_at : ℕ → List ℕ → List Event
+steps_at here keys = map (λ key. Step here key) keys
 
 -- ---- steps of one activity
 

@@ -10,6 +10,8 @@ pub(crate) struct Lull {
     waiter: Option<(u16, usize)>,
     /// How many steps were found idle since.
     idle: u64,
+    /// Whether several activities move, as far as is known: the one that moved last isn't the one that moved before it.
+    several: bool,
 }
 
 impl Lull {
@@ -19,7 +21,21 @@ impl Lull {
             mover: None,
             waiter: None,
             idle: 0,
+            several: false,
         }
+    }
+
+    /// Whether several activities move, as far as is known.
+    #[inline(always)]
+    pub fn has_several(&self) -> bool {
+        self.several
+    }
+
+    /// Steps of several activities were made, of which so many moved.
+    #[inline(always)]
+    pub fn swept(&mut self, moved: usize) {
+        self.forget();
+        self.several = moved > 1;
     }
 
     /// Something other than a step happened, so that any activity may be able to move.
@@ -32,6 +48,9 @@ impl Lull {
     #[inline(always)]
     pub fn note(&mut self, activity: (u16, usize), moved: bool) {
         if moved {
+            if let Some(mover) = self.mover {
+                self.several = mover != activity;
+            }
             self.mover = Some(activity);
             self.waiter = None;
             self.idle = 0;

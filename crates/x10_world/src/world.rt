@@ -25,6 +25,9 @@ use x10_verify::Verified;
 
 mod events;
 mod order;
+mod sweep;
+
+pub(crate) use sweep::Swept;
 
 /// A world: the places of a run, and the frames between them that are in flight.
 #[derive(Drop)]

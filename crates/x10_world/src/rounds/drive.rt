@@ -1,5 +1,5 @@
 //! Makes the events of rounds, and doesn't try steps that are known to be idle.
-ghost use Rattle.std.specs.Prelude.{◌≡◌, ◌≢◌, ◌<◌, ◌≤◌, ℕ, true, false, IfOk, IfErr, Err};
+ghost use Rattle.std.specs.Prelude.{◌≡◌, ◌≢◌, ◌<◌, ◌≤◌, ℕ, true, false, IfOk, IfErr, MatchResult, Err, length};
 ghost use Rattle.x10_kinds.specs.declared.stop.Stop.TheVariants as stop;
 ghost use Rattle.x10_world.specs.declared.rounds.Unfinished.TheVariants as halt;
 ghost use Rattle.x10_world.specs.Queries.{IsClosed};
@@ -7,8 +7,8 @@ ghost use Rattle.x10_world.specs.Rounds.{NoneIsLeft, RunsTo, IsCut, IsHalted, Ha
 ghost use Rattle.x10_world.specs.Runs.{IsSameWorld};
 
 use crate::rounds::{Phase, Rounds, Unfinished};
-use crate::world::World;
-use std::alloc::Global;
+use crate::world::{Swept, World};
+use std::alloc::{AllocError, Global};
 use x10_model::Event;
 
 impl Rounds {
@@ -47,11 +47,10 @@ impl Rounds {
         ensures made { AdvancesOrEnds world.old left result world.new }
     {
         self.look(world)?;
-        let made = self.make_steps(world, left)?;
+        let made = self.go_on(world, left)?;
         if made > 0 {
             return Ok(made);
         }
-        self.pass(world);
         let Some(key) = self.lone(world) else {
             return self.make_next(world, left);
         };
@@ -64,6 +63,75 @@ impl Rounds {
         }
         self.phase = Phase::Over;
         Ok(made)
+    }
+
+    /// Makes the steps that are left of a turn. Where it is over, the turn of the next busy place begins, and its steps are made
+    /// if several activities move. Answers how many events these are.
+    #[inline(always)]
+    fn go_on(&mut self, world: &mut World, left: u64) -> Result<u64, Unfinished>
+        requires going { world.old.stopped ≢ true }
+        requires some { 1 ≤ left }
+        ensures made { Advances world.old left result world.new }
+    {
+        let made = self.make_rest(world, left)?;
+        if made > 0 {
+            return Ok(made);
+        }
+        self.pass(world);
+        self.begin_sweep(world)?;
+        self.sweep(world, left)
+    }
+
+    /// Makes the steps that are left of a turn, or some of them, and answers how many events these are.
+    #[inline(always)]
+    fn make_rest(&mut self, world: &mut World, left: u64) -> Result<u64, Unfinished>
+        requires going { world.old.stopped ≢ true }
+        requires some { 1 ≤ left }
+        ensures made { Advances world.old left result world.new }
+    {
+        if self.lull.has_several() {
+            return self.sweep(world, left);
+        }
+        self.make_steps(world, left)
+    }
+
+    /// Begins the steps of a turn that has nothing to take in, where several activities move.
+    #[inline(always)]
+    fn begin_sweep(&mut self, world: &World) -> Result<(), AllocError> {
+        let Phase::TakesIn = self.phase else {
+            return Ok(());
+        };
+        if !self.lull.has_several() || world.first_frame(self.place).is_some() {
+            return Ok(());
+        }
+        self.recall(world)?;
+        self.phase = Phase::Steps(0);
+        Ok(())
+    }
+
+    /// Where several activities move, makes the steps that are left of a turn, up to one that begins an activity or puts out a
+    /// frame. Answers how many events these are.
+    #[inline(never)]
+    fn sweep(&mut self, world: &mut World, left: u64) -> Result<u64, Unfinished>
+        requires going { world.old.stopped ≢ true }
+        requires some { 1 ≤ left }
+        ensures made { Advances world.old left result world.new }
+    {
+        let Phase::Steps(from) = self.phase else {
+            return Ok(0);
+        };
+        if !self.lull.has_several() {
+            return Ok(0);
+        }
+        self.watch(world, self.place);
+        if from >= self.keys.len() {
+            return Ok(0);
+        }
+        let swept = sweep_first(world, self.place, &self.keys[from..], left)?;
+        self.look(world)?;
+        self.lull.swept(swept.moved);
+        self.phase = Phase::Steps(from + swept.made);
+        Ok(swept.made as u64)
     }
 
     /// Makes the steps that are left of a turn, up to one that leaves place 0 empty, and answers how many events.
@@ -153,6 +221,28 @@ fn try_step(world: &mut World, activity: (u16, usize)) -> Result<bool, Unfinishe
     ensures cut { IfErr result (λ why. (limit : ℕ) → IsCut world.old limit world.new why) }
 {
     make(world, Event::Step(activity.0, activity.1))
+}
+
+/// A step of each of the activities of a place with the first of some keys, at most `left`, up to one that begins an activity
+/// or puts out a frame.
+#[inline(always)]
+fn sweep_first(
+    world: &mut World,
+    place: u16,
+    keys: &[usize],
+    left: u64,
+) -> Result<Swept, Unfinished>
+    requires going { world.old.stopped ≢ true }
+    ensures made { MatchResult result (λ swept. HasMade world.old left swept.made world.new)
+        (IsCut world.old left world.new) }
+    ensures few { IfOk result (λ swept. swept.made ≤ length keys.now) }
+{
+    let most = keys.len().min(left as usize);
+    if most == 0 {
+        return Ok(Swept { made: 0, moved: 0 });
+    }
+    let swept = world.sweep(place, &keys[..most])?;
+    Ok(swept)
 }
 
 /// Steps of an activity in one stretch, with the idle steps of the others between them, and answers how many events these

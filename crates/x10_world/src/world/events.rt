@@ -36,7 +36,7 @@ fn post(flights: &mut Flights, frame: Option<Outgoing>)
 
 /// Puts out what a step did.
 #[inline(always)]
-fn post_all(flights: &mut Flights, sent: Sent)
+pub(super) fn post_all(flights: &mut Flights, sent: Sent)
     requires room { flights.old.room ≡ 2 }
     requires there { GoesBelow flights.old.places sent }
     ensures { flights.new ≡ with_sent flights.old sent }

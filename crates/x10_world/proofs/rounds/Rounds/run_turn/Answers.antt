@@ -12,17 +12,17 @@ returns-in_err-look c = record {
 
 pub returns-in_default : goal.returns-in_default
 returns-in_default c = record {
-  made = ends_after c.args.world.now c.make_steps.new.world c.make_next.new.world c.args.left c.make_next.result
-      (subst (λ n. RunsIn c.args.world.now n c.make_steps.new.world) (omega (arith, c.if-made-gt0.false)) c.in_ok-made.ensures.made.runs)
+  made = ends_after c.args.world.now c.go_on.new.world c.make_next.new.world c.args.left c.make_next.result
+      (subst (λ n. RunsIn c.args.world.now n c.go_on.new.world) (omega (arith, c.if-made-gt0.false)) c.in_ok-made.ensures.made.runs)
       c.make_next.ensures.made;
 }
 
 pub returns-in_err-made-2 : goal.returns-in_err-made-2
 returns-in_err-made-2 c = record {
   made = err_is c.from_residual-in_err-made-2.result (halt.Stop c.in_err-made-2.field-0.0) _ _ c.from_residual-in_err-made-2.ensures.1
-      (cut_after c.args.world.now c.make_steps.new.world c.run_activity.new.self c.args.left (halt.Stop c.in_err-made-2.field-0.0)
-      (subst (λ n. RunsIn c.args.world.now n c.make_steps.new.world) (omega (arith, c.if-made-gt0.false)) c.in_ok-made.ensures.made.runs)
-      (cut_stretch c.make_steps.new.world c.run_activity.new.self _ c.in-Some.key c.args.left c.in_err-made-2.field-0.0 c.in_err-made-2.ensures.kept
+      (cut_after c.args.world.now c.go_on.new.world c.run_activity.new.self c.args.left (halt.Stop c.in_err-made-2.field-0.0)
+      (subst (λ n. RunsIn c.args.world.now n c.go_on.new.world) (omega (arith, c.if-made-gt0.false)) c.in_ok-made.ensures.made.runs)
+      (cut_stretch c.go_on.new.world c.run_activity.new.self _ c.in-Some.key c.args.left c.in_err-made-2.field-0.0 c.in_err-made-2.ensures.kept
       (c.in_err-made-2.ensures.hindered c.in_ok-made.ensures.made.goes)));
 }
 
@@ -31,9 +31,9 @@ returns-in_err-look-2 c = record {
   made = err_is c.from_residual-in_err-look-2.result halt.Memory _ _ c.from_residual-in_err-look-2.ensures.1 (
     c.in_ok-made-2.made,
     c.in_ok-made-2.ensures.few,
-    in_after c.args.world.now c.make_steps.new.world c.run_activity.new.self c.in_ok-made-2.made
-        (subst (λ n. RunsIn c.args.world.now n c.make_steps.new.world) (omega (arith, c.if-made-gt0.false)) c.in_ok-made.ensures.made.runs)
-        (in_repeats c.make_steps.new.world c.run_activity.new.self c.in_ok-made-2.made _ c.in-Some.key c.in_ok-made-2.ensures.kept
+    in_after c.args.world.now c.go_on.new.world c.run_activity.new.self c.in_ok-made-2.made
+        (subst (λ n. RunsIn c.args.world.now n c.go_on.new.world) (omega (arith, c.if-made-gt0.false)) c.in_ok-made.ensures.made.runs)
+        (in_repeats c.go_on.new.world c.run_activity.new.self c.in_ok-made-2.made _ c.in-Some.key c.in_ok-made-2.ensures.kept
         c.in_ok-made-2.ensures.ok),
     c.in_ok-made-2.ensures.goes,
   );
@@ -43,9 +43,9 @@ pub returns-then-made-eq0 : goal.returns-then-made-eq0
 returns-then-made-eq0 c = record {
   made = ends_after c.args.world.now c.run_activity.new.self c.make_next-then-made-eq0.new.world c.args.left c.make_next-then-made-eq0.result
       (subst (λ n. RunsIn c.args.world.now n c.run_activity.new.self) c.if-made-eq0.true
-      (in_after c.args.world.now c.make_steps.new.world c.run_activity.new.self c.in_ok-made-2.made
-      (subst (λ n. RunsIn c.args.world.now n c.make_steps.new.world) (omega (arith, c.if-made-gt0.false)) c.in_ok-made.ensures.made.runs)
-      (in_repeats c.make_steps.new.world c.run_activity.new.self c.in_ok-made-2.made _ c.in-Some.key c.in_ok-made-2.ensures.kept
+      (in_after c.args.world.now c.go_on.new.world c.run_activity.new.self c.in_ok-made-2.made
+      (subst (λ n. RunsIn c.args.world.now n c.go_on.new.world) (omega (arith, c.if-made-gt0.false)) c.in_ok-made.ensures.made.runs)
+      (in_repeats c.go_on.new.world c.run_activity.new.self c.in_ok-made-2.made _ c.in-Some.key c.in_ok-made-2.ensures.kept
       c.in_ok-made-2.ensures.ok)))
       c.make_next-then-made-eq0.ensures.made;
 }
@@ -55,9 +55,9 @@ returns c = record {
   made = (
     record {
       few = c.in_ok-made-2.ensures.few;
-      runs = in_after c.args.world.now c.make_steps.new.world c.run_activity.new.self c.in_ok-made-2.made
-          (subst (λ n. RunsIn c.args.world.now n c.make_steps.new.world) (omega (arith, c.if-made-gt0.false)) c.in_ok-made.ensures.made.runs)
-          (in_repeats c.make_steps.new.world c.run_activity.new.self c.in_ok-made-2.made _ c.in-Some.key c.in_ok-made-2.ensures.kept
+      runs = in_after c.args.world.now c.go_on.new.world c.run_activity.new.self c.in_ok-made-2.made
+          (subst (λ n. RunsIn c.args.world.now n c.go_on.new.world) (omega (arith, c.if-made-gt0.false)) c.in_ok-made.ensures.made.runs)
+          (in_repeats c.go_on.new.world c.run_activity.new.self c.in_ok-made-2.made _ c.in-Some.key c.in_ok-made-2.ensures.kept
           c.in_ok-made-2.ensures.ok);
       goes = c.in_ok-made-2.ensures.goes;
     },
