@@ -258,6 +258,7 @@ impl CallFrame {
     }
 
     /// One operation of this call frame alone.
+    #[inline(always)]
     pub(crate) fn act(&mut self, heap: &mut Heap, verified: &Verified, local: Local, instr: Instr)
         requires asks { Asks local verified.now.program (length self.old.registers.items) instr }
         requires reads { Reads local heap.old self.old.registers.items instr }
