@@ -1,11 +1,30 @@
 //! The lines of a text and the words of a line, each with what follows it. One pass over the bytes.
 
-ghost use Rattle.std.specs.Prelude.{◌≡◌, ◌<◌, ◌≤◌, ◌∷◌, [], MatchOption, IfSome, IsUtf8, length, slice_index};
+ghost use Rattle.std.specs.Prelude.{◌≡◌, ◌+◌, ◌<◌, ◌≤◌, ◌∷◌, [], MatchOption, IfSome, IsUtf8, drop, length, slice_index};
 ghost use Rattle.std.specs.Option.{option_copied};
 ghost use Rattle.x10_asm.specs.Lines as spec;
 ghost use Rattle.x10_asm.specs.Lines.{lines, words, count_before, from_space};
 
 use memchr::memchr;
+
+/// How many bytes are looked at one by one: words are short, and a search by `memchr` takes longer to begin.
+const NEAR: usize = 16;
+
+/// How many of the first bytes come before the first one with a value.
+fn near_position(bytes: &[u8], byte: u8) -> usize
+    ensures at { count_before byte bytes.now ≡ result + count_before byte (drop result bytes.now) }
+    ensures within { result ≤ length bytes.now }
+    ensures near { result < 16 → result ≡ count_before byte bytes.now }
+    ensures there { result < 16 → result < length bytes.now → slice_index bytes.now result ≡ byte }
+{
+    let near = bytes.len().min(NEAR);
+    for at in 0..near {
+        if bytes[at] == byte {
+            return at;
+        }
+    }
+    near
+}
 
 /// How many bytes come before the first one with a value.
 fn position_of(bytes: &[u8], byte: u8) -> usize
@@ -13,12 +32,14 @@ fn position_of(bytes: &[u8], byte: u8) -> usize
     ensures within { result ≤ length bytes.now }
     ensures there { result < length bytes.now → slice_index bytes.now result ≡ byte }
 {
-    for at in 0..bytes.len() {
-        if bytes[at] == byte {
-            return at;
-        }
+    let near = near_position(bytes, byte);
+    if near < NEAR {
+        return near;
     }
-    bytes.len()
+    match memchr(byte, &bytes[near..]) {
+        Some(at) => near + at,
+        None => bytes.len(),
+    }
 }
 
 /// How many bytes come before the first line feed.

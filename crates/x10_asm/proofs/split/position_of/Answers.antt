@@ -1,20 +1,10 @@
-use Rattle.std.proofs.Common.{arith}
-use Rattle.x10_asm.proofs.LinesAndWords.{count_other, count_here, count_end}
+use Rattle.x10_asm.proofs.LinesAndWords.{found_behind, missed_behind}
 use Rattle.x10_asm.proofs.split.position_of.Goals as goal
 
-pub loop-at-preserved : goal.loop-at-preserved
-loop-at-preserved c = omega (
-  arith,
-  count_other c.args.byte c.args.bytes.now c.loop-at.at c.loop-at-test.true c.if-bytes-at.false,
-  c.loop-at.invariant,
-)
+pub returns-in-Some-clause-at : goal.returns-in-Some-clause-at
+returns-in-Some-clause-at c = found_behind c.args.byte c.args.bytes.now c.near_position-near.result c.in-Some.at c.near_position-near.ensures.at
+    c.in-Some.ensures
 
-pub returns-then-bytes-at-clause-at : goal.returns-then-bytes-at-clause-at
-returns-then-bytes-at-clause-at c = omega (
-  arith,
-  c.loop-at.invariant,
-  count_here c.args.byte c.args.bytes.now c.loop-at.at c.loop-at-test.true c.if-bytes-at.true,
-)
-
-pub returns-clause-at : goal.returns-clause-at
-returns-clause-at c = omega (arith, c.loop-at.invariant, count_end c.args.byte c.args.bytes.now c.loop-at.at c.loop-at-test.false)
+pub returns-in-None-clause-at : goal.returns-in-None-clause-at
+returns-in-None-clause-at c = missed_behind c.args.byte c.args.bytes.now c.near_position-near.result c.near_position-near.ensures.within
+    c.near_position-near.ensures.at c.in-None.ensures
