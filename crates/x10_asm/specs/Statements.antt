@@ -1,11 +1,11 @@
 -- What a line says, by its first word.
-use Rattle.std.specs.Prelude.{ℕ, Bool, false, nat_lt, List, [], ◌∷◌, Option, Some, None, if◌then◌else◌, codes}
+use Rattle.std.specs.Prelude.{◌≡◌, ℕ, Bool, false, nat_lt, List, [], ◌∷◌, Option, Some, None, if◌then◌else◌, codes}
 use Rattle.std.specs.Str.{bytes_eq}
 use Rattle.x10_code.specs.declared.op.Op.{Op}
 use Rattle.x10_code.specs.Table.{op_of_name}
 use Rattle.x10_asm.specs.declared.statement.Statement.{Statement}
 use Rattle.x10_asm.specs.declared.statement.Statement.TheVariants.{Silent, Version, Places, Class, Int, Text, Func, End, Entry, Label, Instruction, Unknown}
-use Rattle.x10_asm.specs.Lines.{begins}
+use Rattle.x10_asm.specs.Lines.{begins, words, after_spaces, after_word}
 use Rattle.x10_asm.specs.Labels.{ends_in_colon}
 
 abbrev pub instruction_or_unknown : Option Op → Statement
@@ -48,3 +48,9 @@ first_word (first ∷ others) = first
 abbrev pub other_words : List (List ℕ) → List (List ℕ)
 other_words [] = []
 other_words (first ∷ others) = others
+
+-- a line says this, and such bytes follow its first word
+pub record IsTakenApart (line : List ℕ) (said : Statement) (rest : List ℕ) : Type 0 where
+  pub is_said : said ≡ statement_in (words line)
+  pub are_others : words rest ≡ other_words (words line)
+  pub is_after : after_spaces rest ≡ after_word line

@@ -12,6 +12,7 @@ ghost use Rattle.x10_asm.specs.Labels as labels;
 ghost use Rattle.x10_asm.specs.Operands as operands;
 ghost use Rattle.x10_asm.specs.Reading as reading;
 ghost use Rattle.x10_asm.specs.Literals as literals;
+ghost use Rattle.x10_asm.specs.Statements.{IsTakenApart};
 ghost use Rattle.x10_asm.specs.Flaws.{IsFaultOf, HasNoFault, HasOperands};
 ghost use Rattle.x10_kinds.specs.declared.kind.Kind.{Kind as KindOf};
 ghost use Rattle.x10_model.specs.declared.slot.Slot.{Slot as SlotOf};
@@ -49,6 +50,17 @@ fn at_next(line: &str, cause: AsmCause) -> Flaw<'_>
             word: "",
             rest: "",
         },
+    }
+}
+
+/// The first word of a line.
+fn at_first(parts: Line<'_>, cause: AsmCause) -> Flaw<'_>
+    ensures { result.cause ≡ cause }
+{
+    Flaw {
+        cause,
+        word: parts.first,
+        rest: parts.rest,
     }
 }
 
@@ -157,21 +169,16 @@ fn past_operands(line: &str, op: Op) -> Result<(), Flaw<'_>>
 }
 
 /// An operation that the version knows, and its operands alone; they are what follows the first word of the line.
-fn past_instruction<'a>(
-    line: &'a str,
-    rest: &'a str,
-    version: ImageVersion,
-    op: Op,
-) -> Result<(), Flaw<'a>>
+fn past_instruction(parts: Line<'_>, version: ImageVersion, op: Op) -> Result<(), Flaw<'_>>
     ensures known { IfOk result (λ _. is_known version op ≡ true) }
-    ensures passed { IfOk result (λ _. HasOperands op (words rest.now)) }
+    ensures passed { IfOk result (λ _. HasOperands op (words parts.entry.rest.now)) }
     ensures flawed { IfErr result (λ flaw. (s : reading.Source) → s.so_far.version ≡ version
-        → reading.instruction_line_of s op (words rest.now) ≡ Err flaw.cause) }
+        → reading.instruction_line_of s op (words parts.entry.rest.now) ≡ Err flaw.cause) }
 {
     if !is_known(version, op) {
-        return Err(at_next(line, AsmCause::Word));
+        return Err(at_first(parts, AsmCause::Word));
     }
-    past_operands(rest, op)
+    past_operands(parts.rest, op)
 }
 
 /// The first word that is no kind of a field, its class aside.
@@ -338,11 +345,14 @@ fn past_text(line: &str) -> Result<(), Flaw<'_>>
 }
 
 /// A line whose words are those that may be there.
-fn past_line(line: &str, classes: usize, version: ImageVersion) -> Result<(), Flaw<'_>>
-    ensures passed { IfOk result (λ _. HasNoFault version classes line.now) }
-    ensures flawed { IfErr result (λ flaw. IsFaultOf version classes line.now flaw.cause) }
+fn past_line(parts: Line<'_>, classes: usize, version: ImageVersion) -> Result<(), Flaw<'_>>
+    ensures passed { (text : List ℕ)
+        → IsTakenApart text parts.entry.statement parts.entry.rest.now
+        → IfOk result (λ _. HasNoFault version classes text) }
+    ensures flawed { (text : List ℕ)
+        → IsTakenApart text parts.entry.statement parts.entry.rest.now
+        → IfErr result (λ flaw. IsFaultOf version classes text flaw.cause) }
 {
-    let parts = line_of(line);
     match parts.statement {
         Statement::Silent => Ok(()),
         Statement::Version => past_version(parts.rest),
@@ -354,8 +364,8 @@ fn past_line(line: &str, classes: usize, version: ImageVersion) -> Result<(), Fl
         Statement::End => past_all(parts.rest),
         Statement::Entry => past_one_number(parts.rest, 65535),
         Statement::Label => past_all(parts.rest),
-        Statement::Instruction(op) => past_instruction(line, parts.rest, version, op),
-        Statement::Unknown => Err(at_next(line, AsmCause::Word)),
+        Statement::Instruction(op) => past_instruction(parts, version, op),
+        Statement::Unknown => Err(at_first(parts, AsmCause::Word)),
     }
 }
 
@@ -369,5 +379,14 @@ pub fn flaw_of(line: &str, classes: usize, version: ImageVersion) -> Option<Flaw
     ensures { MatchOption result (HasNoFault version classes line.now)
         (λ flaw. IsFaultOf version classes line.now flaw.cause) }
 {
-    past_line(line, classes, version).err()
+    flaw_in(line_of(line), classes, version)
+}
+
+/// The same of a line that is taken apart already (`line_of`). Its first word isn't looked for again.
+pub fn flaw_in(parts: Line<'_>, classes: usize, version: ImageVersion) -> Option<Flaw<'_>>
+    ensures { (text : List ℕ) → IsTakenApart text parts.entry.statement parts.entry.rest.now
+        → MatchOption result (HasNoFault version classes text)
+        (λ flaw. IsFaultOf version classes text flaw.cause) }
+{
+    past_line(parts, classes, version).err()
 }

@@ -22,7 +22,7 @@ mod words;
 pub use assembling::{assemble, classes_in, version_in};
 pub use escape::push_quoted;
 pub use fault::{AsmCause, AsmFault};
-pub use flaws::{Flaw, flaw_of};
+pub use flaws::{Flaw, flaw_in, flaw_of};
 pub use listing::{
     list, push_class, push_end, push_entry, push_func, push_instruction, push_int_line,
     push_places, push_text_line, push_version,
