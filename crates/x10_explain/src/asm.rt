@@ -3,17 +3,18 @@ ghost use Rattle.std.specs.Prelude.{◌≡◌, ◌++◌, List, ℕ, IfOk, OnOk, 
 ghost use Rattle.std.specs.String.{string_bytes};
 ghost use Rattle.x10_explain.specs.Heads.{asm_head, placed_asm_head};
 
-use crate::caret::{Span, column_in, push_marks, quoted};
+use crate::caret::{column_in, push_marks};
+use crate::faulty::{Faulty, faulty_at, names_class};
 use crate::flaws::push_flaw;
 use crate::labels::{push_definition, push_use};
 use crate::limits::{push_entry, push_limit};
 use crate::names::asm_name;
 use crate::order::{push_missing, push_order};
-use crate::quotes::{Misquoted, push_quotes};
+use crate::quotes::push_quotes;
 use crate::text::push_shown;
 use std::alloc::{AllocError, Global};
 use std::fmt::Write;
-use x10_asm::{AsmCause, AsmFault, Line, Statement, classes_in, flaw_of, line_of, version_in};
+use x10_asm::{AsmCause, AsmFault, Statement, classes_in, flaw_in, line_of, version_in};
 
 /// Why a text spells no module, in at most 5 lines: the cause and the number of the line, with the line itself and marks
 /// beneath the word at fault; which case of the cause it is, and where it helps what such a line has to be. Linear in the text
@@ -21,9 +22,21 @@ use x10_asm::{AsmCause, AsmFault, Line, Statement, classes_in, flaw_of, line_of,
 pub fn explain_asm(alloc: Global, text: &str, fault: AsmFault) -> Result<String, AllocError>
     ensures { IfOk result (λ s. (rest : List ℕ) × (string_bytes s ≡ asm_head fault ++ rest)) }
 {
+    explained(alloc, text, fault, faulty_at(text, fault).as_ref())
+}
+
+/// The same, given the refused line, if the text has it.
+pub(crate) fn explained(
+    alloc: Global,
+    text: &str,
+    fault: AsmFault,
+    faulty: Option<&Faulty>,
+) -> Result<String, AllocError>
+    ensures { IfOk result (λ s. (rest : List ℕ) × (string_bytes s ≡ asm_head fault ++ rest)) }
+{
     let mut out = String::new(alloc);
     push_head(&mut out, fault)?;
-    let rest = reasons(alloc, text, fault, out.len())?;
+    let rest = reasons(alloc, text, fault, faulty, out.len())?;
     out.push_str(&rest)?;
     Ok(out)
 }
@@ -39,9 +52,11 @@ pub fn explain_asm_in(
     ensures { IfOk result (λ s. (column : ℕ) × (rest : List ℕ)
         × (string_bytes s ≡ placed_asm_head name.now column fault ++ rest)) }
 {
+    let faulty = faulty_at(text, fault);
     let mut out = String::new(alloc);
-    push_placed_head(&mut out, name, column_of(text, fault), fault)?;
-    let rest = reasons(alloc, text, fault, out.chars().count())?;
+    push_placed_head(&mut out, name, column_of(faulty.as_ref()), fault)?;
+    let before = out.chars().count();
+    let rest = reasons(alloc, text, fault, faulty.as_ref(), before)?;
     out.push_str(&rest)?;
     Ok(out)
 }
@@ -61,12 +76,11 @@ fn push_placed_head(
 }
 
 /// The column of the word at fault, in characters, from 1 on.
-pub(crate) fn column_of(text: &str, fault: AsmFault) -> usize {
-    let Some(line) = line_at(text, fault.line) else {
-        return 1;
-    };
-    let flaw = flaw_of(line, classes_for(text, line), version_in(text));
-    column_in(line, fault.cause, flaw, quotes_in(line, fault.cause))
+pub(crate) fn column_of(faulty: Option<&Faulty>) -> usize {
+    match faulty {
+        Some(faulty) => column_in(faulty.line, faulty.mark),
+        None => 1,
+    }
 }
 
 // The cause and the line's number.
@@ -83,47 +97,19 @@ fn reasons(
     alloc: Global,
     text: &str,
     fault: AsmFault,
+    faulty: Option<&Faulty>,
     before: usize,
 ) -> Result<String, AllocError> {
     let mut out = String::new(alloc);
-    let Some(line) = line_at(text, fault.line) else {
+    let Some(faulty) = faulty else {
         out.push_str("the text ends before it.\n")?;
         if fault.cause == AsmCause::Order {
             push_missing(&mut out, text)?;
         }
         return Ok(out);
     };
-    let classes = classes_for(text, line);
-    push_line(alloc, &mut out, before, text, line, fault, classes)?;
+    push_line(alloc, &mut out, before, text, faulty)?;
     Ok(out)
-}
-
-// The line with a number, from 1 on.
-fn line_at(text: &str, number: usize) -> Option<&str> {
-    text.lines().nth(number.checked_sub(1)?)
-}
-
-// Whether a line may name a class.
-fn names_class(line: &str) -> bool {
-    matches!(line_of(line).statement, Statement::Class | Statement::Func)
-}
-
-// How many classes a text has, if a line may name one.
-fn classes_for(text: &str, line: &str) -> usize {
-    if names_class(line) {
-        classes_in(text)
-    } else {
-        0
-    }
-}
-
-// What is wrong with the quotes of a line that is refused for them.
-fn quotes_in(line: &str, cause: AsmCause) -> Option<(Misquoted, Span)> {
-    if cause == AsmCause::Text {
-        quoted(line)
-    } else {
-        None
-    }
 }
 
 // A line of a text, to the right of `before` bytes that stand there already, with marks beneath the word at fault, and what
@@ -133,18 +119,14 @@ fn push_line(
     out: &mut String,
     before: usize,
     text: &str,
-    line: &str,
-    fault: AsmFault,
-    classes: usize,
+    faulty: &Faulty,
 ) -> Result<(), AllocError> {
-    push_shown(out, line)?;
-    let flaw = flaw_of(line, classes, version_in(text));
-    let quotes = quotes_in(line, fault.cause);
-    push_marks(out, before, line, fault.cause, flaw, quotes)?;
-    match flaw {
-        Some(flaw) if flaw.cause == fault.cause => push_flaw(alloc, out, line, flaw, classes),
+    push_shown(out, faulty.line)?;
+    push_marks(out, before, faulty.line, faulty.mark)?;
+    match faulty.flaw {
+        Some(flaw) if flaw.cause == faulty.fault.cause => push_flaw(alloc, out, faulty, flaw),
         Some(_) => push_no_fault(out),
-        None => push_case(alloc, out, text, line, fault, quotes),
+        None => push_case(alloc, out, text, faulty),
     }
 }
 
@@ -158,18 +140,15 @@ fn push_case(
     alloc: Global,
     out: &mut String,
     text: &str,
-    line: &str,
-    fault: AsmFault,
-    quotes: Option<(Misquoted, Span)>,
+    faulty: &Faulty,
 ) -> Result<(), AllocError> {
-    let said = line_of(line);
-    let statement = said.statement;
-    match fault.cause {
-        AsmCause::Order => push_order(out, text, fault.line, statement, said.first),
-        AsmCause::Label => push_label(alloc, out, text, said, fault.line),
-        AsmCause::Text => push_quotes(out, line, quotes),
-        AsmCause::Limit => push_limit(out, text, fault.line, line, statement),
-        AsmCause::Entry => push_entry(out, text, fault.line, line),
+    let (number, line, said) = (faulty.fault.line, faulty.line, faulty.said);
+    match faulty.fault.cause {
+        AsmCause::Order => push_order(out, text, number, said.statement, said.first),
+        AsmCause::Label => push_label(alloc, out, text, faulty),
+        AsmCause::Text => push_quotes(out, line, faulty.quotes),
+        AsmCause::Limit => push_limit(out, text, number, line, said.statement),
+        AsmCause::Entry => push_entry(out, text, number, line),
         AsmCause::Word | AsmCause::Number | AsmCause::Count | AsmCause::Memory => {
             push_no_fault(out)
         }
@@ -181,34 +160,20 @@ fn push_label(
     alloc: Global,
     out: &mut String,
     text: &str,
-    said: Line,
-    number: usize,
+    faulty: &Faulty,
 ) -> Result<(), AllocError> {
+    let (number, said) = (faulty.fault.line, faulty.said);
     if said.statement == Statement::Label {
         return push_definition(out, text, number, said.first);
     }
-    match said.rest.split(' ').find(|word| word.starts_with('@')) {
-        Some(word) => push_use(
-            alloc,
-            out,
-            text,
-            number,
-            word.strip_prefix('@').unwrap_or(word),
-        ),
+    match faulty.word().strip_prefix('@') {
+        Some(name) => push_use(alloc, out, text, number, name),
         None => push_no_fault(out),
     }
 }
 
 /// The greatest number of faulty lines that are explained after the first: each has 4 lines at most.
 const MOST_LINES: usize = 6;
-
-/// A line that is faulty by itself, in a text that has so many classes as far as the line may name one.
-#[derive(Clone, Copy)]
-pub(crate) struct Faulty<'a> {
-    pub(crate) fault: AsmFault,
-    line: &'a str,
-    classes: usize,
-}
 
 /// The lines after a faulty one that are faulty by themselves, each explained.
 pub(crate) fn push_others(
@@ -222,7 +187,7 @@ pub(crate) fn push_others(
         if told >= MOST_LINES {
             return out.push_str("and there are more faulty lines\n");
         }
-        push_other(alloc, out, text, *other)?;
+        push_other(alloc, out, text, other)?;
     }
     Ok(())
 }
@@ -237,22 +202,19 @@ pub(crate) fn others_in<'a>(
     let mut others = Vec::new(alloc);
     let mut known: Option<usize> = None;
     for (index, line) in text.lines().enumerate().skip(first) {
-        if names_class(line) && known.is_none() {
+        let said = line_of(line);
+        if names_class(said) && known.is_none() {
             known = Some(classes_in(text));
         }
         let classes = known.unwrap_or(0);
-        let Some(flaw) = flaw_of(line, classes, version) else {
+        let Some(flaw) = flaw_in(said, classes, version) else {
             continue;
         };
         let fault = AsmFault {
             line: index.saturating_add(1),
             cause: flaw.cause,
         };
-        others.push(Faulty {
-            fault,
-            line,
-            classes,
-        })?;
+        others.push(Faulty::new(fault, line, said, classes, Some(flaw)))?;
         if others.len() > MOST_LINES {
             break;
         }
@@ -265,18 +227,10 @@ fn push_other(
     alloc: Global,
     out: &mut String,
     text: &str,
-    other: Faulty,
+    other: &Faulty,
 ) -> Result<(), AllocError> {
     let before = out.len();
     push_head(out, other.fault)?;
     let wide = out.len().saturating_sub(before);
-    push_line(
-        alloc,
-        out,
-        wide,
-        text,
-        other.line,
-        other.fault,
-        other.classes,
-    )
+    push_line(alloc, out, wide, text, other)
 }

@@ -1,10 +1,10 @@
 //! Marks beneath the word of a line that is at fault.
 
-use crate::flaws::name_of_function;
-use crate::quotes::{Misquoted, in_quotes};
+use crate::flaws::names_function;
+use crate::quotes::Misquoted;
 use crate::text::MOST_SHOWN;
 use std::alloc::AllocError;
-use x10_asm::{AsmCause, Flaw, Line, Statement, line_of, next_word, number_of};
+use x10_asm::{AsmCause, Flaw, Line, Statement, next_word, number_of};
 
 /// Bytes of a line, from one on up to another. They may be after its end.
 #[derive(Clone, Copy, Debug, PartialEq, Eq)]
@@ -13,19 +13,16 @@ pub(crate) struct Span {
     pub(crate) to: usize,
 }
 
-/// A line with marks beneath the word at which a line is refused for a cause, by the flaw that it has whatever the other
-/// lines say, and by what is wrong with its quotes: one for each character of the word, with its tabs as they are, and one
-/// where a word is missing. The refused line stands to the right of `before` bytes that take one column each. Nothing where
+/// A line with marks beneath the word at which it is refused: one for each character of the word, with its tabs as they are, and
+/// one where a word is missing. The refused line stands to the right of `before` bytes that take one column each. Nothing where
 /// no such word is found.
 pub(crate) fn push_marks(
     out: &mut String,
     before: usize,
     line: &str,
-    cause: AsmCause,
-    flaw: Option<Flaw>,
-    quotes: Option<(Misquoted, Span)>,
+    mark: Option<Span>,
 ) -> Result<(), AllocError> {
-    match marked(line, cause, flaw, quotes) {
+    match mark {
         Some(span) if span.to <= MOST_SHOWN && span.from < span.to => {
             push_span(out, before, line, span)
         }
@@ -35,13 +32,8 @@ pub(crate) fn push_marks(
 
 /// The column of the word at which a line is refused, in characters, from 1 on; where no such word is found, that of its first
 /// word.
-pub(crate) fn column_in(
-    line: &str,
-    cause: AsmCause,
-    flaw: Option<Flaw>,
-    quotes: Option<(Misquoted, Span)>,
-) -> usize {
-    match marked(line, cause, flaw, quotes) {
+pub(crate) fn column_in(line: &str, mark: Option<Span>) -> usize {
+    match mark {
         Some(span) => column_at(line, span.from),
         None => first_column(line),
     }
@@ -59,11 +51,14 @@ pub(crate) fn first_column(line: &str) -> usize {
 fn column_at(line: &str, at: usize) -> usize {
     let before = line.get(..at).unwrap_or(line);
     let behind = at.saturating_sub(before.len());
-    before
-        .chars()
+    characters(before).saturating_add(behind).saturating_add(1)
+}
+
+// How many characters a text has: each byte but the later ones of a character begins one.
+fn characters(text: &str) -> usize {
+    text.bytes()
+        .filter(|byte| !matches!(byte, 128..=191))
         .count()
-        .saturating_add(behind)
-        .saturating_add(1)
 }
 
 // What is put in place of a byte before the marks: a tab stays one, and the later bytes of a character have no column.
@@ -103,39 +98,30 @@ fn span_of_flaw(line: &str, flaw: Flaw) -> Span {
     if !flaw.word.is_empty() {
         return span_of(line, flaw.word, flaw.rest);
     }
-    let from = end_of_words(line.as_bytes()).saturating_add(1);
+    let from = line.trim_end_matches(' ').len().saturating_add(1);
     Span {
         from,
         to: from.saturating_add(1),
     }
 }
 
-// How many bytes there are without the spaces at their end.
-fn end_of_words(bytes: &[u8]) -> usize {
-    let mut end = 0;
-    for at in 0..bytes.len() {
-        if bytes[at] != b' ' {
-            end = at + 1;
-        }
-    }
-    end
-}
-
-// The word of a line at which a cause holds.
-fn marked(
+/// The word at which a line is refused for a cause, by the flaw that it has whatever the other lines say, and by what is wrong with
+/// its quotes.
+pub(crate) fn marked(
     line: &str,
+    said: Line,
     cause: AsmCause,
     flaw: Option<Flaw>,
     quotes: Option<(Misquoted, Span)>,
 ) -> Option<Span> {
-    let said = line_of(line);
     if let Some(flaw) = flaw {
         if flaw.cause != cause {
             return None;
         }
-        return match name_of_function(said, flaw) {
-            Some(_) => nth_word(line, 1),
-            None => Some(span_of_flaw(line, flaw)),
+        return if names_function(said, flaw) {
+            nth_word(line, 1)
+        } else {
+            Some(span_of_flaw(line, flaw))
         };
     }
     match cause {
@@ -148,22 +134,20 @@ fn marked(
     }
 }
 
-/// What is wrong with the quotes of a text line, and the bytes that show it.
-pub(crate) fn quoted(line: &str) -> Option<(Misquoted, Span)> {
-    let said = line_of(line);
-    if said.statement != Statement::Text {
-        return None;
-    }
-    in_quotes(line, line.len().saturating_sub(said.rest.len()))
-}
-
 // The label that a line defines, or the one to which it jumps: the one word with an at sign in front.
 fn label_word(line: &str, said: Line) -> Option<Span> {
     if said.statement == Statement::Label {
         return Some(span_of(line, said.first, said.rest));
     }
-    let mut words = line.split(' ').filter(|word| !word.is_empty());
-    nth_word(line, words.position(|word| word.starts_with('@'))?)
+    let mut rest = said.rest;
+    for _ in 0..said.rest.len() {
+        let (word, after) = next_word(rest)?;
+        if word.starts_with('@') {
+            return Some(span_of(line, word, after));
+        }
+        rest = after;
+    }
+    None
 }
 
 // The word with a number, from 0 on.

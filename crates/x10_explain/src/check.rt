@@ -5,6 +5,7 @@ ghost use Rattle.x10_explain.specs.Verdicts.{IsVerifiedImage, IsVerifiedText, Re
 
 use crate::asm::{explain_asm, others_in, push_others};
 use crate::faults::find;
+use crate::faulty::faulty_at;
 use crate::head::head;
 use crate::image::explain_image;
 use crate::json::{CheckJson, FaultJson, json_line, of_asm, of_image, of_verify};
@@ -97,10 +98,11 @@ fn faults_of_text(
         return Ok(out);
     };
     let mut faults = Vec::new(alloc);
-    faults.push(of_asm(alloc, file, text, fault)?)?;
+    let first = faulty_at(text, fault);
+    faults.push(of_asm(alloc, file, text, fault, first.as_ref())?)?;
     let others = others_in(alloc, text, fault.line)?;
     for other in &others {
-        faults.push(of_asm(alloc, file, text, other.fault)?)?;
+        faults.push(of_asm(alloc, file, text, other.fault, Some(other))?)?;
     }
     refused_json(alloc, file, faults)
 }

@@ -1,6 +1,7 @@
 //! Which word of a line is wrong by itself, and why.
 
 use crate::expected::push_expected;
+use crate::faulty::Faulty;
 use crate::numbers::push_number;
 use crate::part::{Part, part_at};
 use crate::signs::{push_sign, sign_of};
@@ -8,19 +9,18 @@ use crate::text::{push_said, words_in};
 use crate::words::push_word;
 use std::alloc::{AllocError, Global};
 use std::fmt::Write;
-use x10_asm::{AsmCause, Flaw, Line, Statement, line_of};
+use x10_asm::{AsmCause, Flaw, Line, Statement};
 
-/// Lines on the word at which a line is faulty, in a text with `classes` classes.
+/// Lines on the word at which a line is faulty.
 pub(crate) fn push_flaw(
     alloc: Global,
     out: &mut String,
-    line: &str,
+    faulty: &Faulty,
     flaw: Flaw,
-    classes: usize,
 ) -> Result<(), AllocError> {
-    let said = line_of(line);
-    if let Some(name) = name_of_function(said, flaw) {
-        return push_named(out, name);
+    let (line, said) = (faulty.line, faulty.said);
+    if names_function(said, flaw) {
+        return push_named(out, faulty.word());
     }
     if let Some(sign) = sign_of(flaw.word) {
         return push_sign(out, sign);
@@ -28,7 +28,7 @@ pub(crate) fn push_flaw(
     let part = part_at(said.statement, number_of_word(line, flaw));
     match flaw.cause {
         AsmCause::Word => push_word(alloc, out, line, flaw.word, part),
-        AsmCause::Number => push_number(out, said.statement, flaw.word, part, classes),
+        AsmCause::Number => push_number(out, said.statement, flaw.word, part, faulty.classes),
         _ => push_count(out, said.statement, flaw, part),
     }
 }
@@ -42,17 +42,13 @@ fn number_of_word(line: &str, flaw: Flaw) -> usize {
     words_in(front).saturating_sub(1)
 }
 
-/// The word that stands like a name where a function's number of registers belongs, if that is what is wrong with a line.
-pub(crate) fn name_of_function<'a>(said: Line<'a>, flaw: Flaw) -> Option<&'a str> {
+/// Whether what is wrong with a line is a word that stands like a name where a function's number of registers belongs.
+pub(crate) fn names_function(said: Line, flaw: Flaw) -> bool {
     if said.statement != Statement::Func || flaw.word.is_empty() {
-        return None;
+        return false;
     }
-    let word = said.rest.split(' ').find(|word| !word.is_empty())?;
-    if word.starts_with(|c: char| c.is_alphabetic() || c == '_') {
-        Some(word)
-    } else {
-        None
-    }
+    let words = said.rest.trim_start_matches(' ');
+    words.starts_with(|c: char| c.is_alphabetic() || c == '_')
 }
 
 fn push_named(out: &mut String, name: &str) -> Result<(), AllocError> {

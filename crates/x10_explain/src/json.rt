@@ -1,7 +1,9 @@
 //! Faults as JSON, for other programs. docs/json.schema.json says what there is.
 
-use crate::asm::{column_of, explain_asm};
+use crate::asm;
+use crate::asm::column_of;
 use crate::faults::Finding;
+use crate::faulty::Faulty;
 use crate::image::explain_image;
 use crate::names::{asm_name, image_name, verify_name};
 use crate::parts::parts_of;
@@ -83,17 +85,18 @@ fn below(alloc: Global, text: &str) -> Result<String, AllocError> {
     }
 }
 
-/// A fault of a text.
+/// A fault of a text, given the refused line, if the text has it.
 pub(crate) fn of_asm<'a>(
     alloc: Global,
     file: &'a str,
     text: &str,
     fault: AsmFault,
+    faulty: Option<&Faulty>,
 ) -> Result<FaultJson<'a>, AllocError> {
     let mut found = FaultJson::new(alloc, file, "asm", asm_name(fault.cause));
     found.line = Some(fault.line);
-    found.column = Some(column_of(text, fault));
-    let told = explain_asm(alloc, text, fault)?;
+    found.column = Some(column_of(faulty));
+    let told = asm::explained(alloc, text, fault, faulty)?;
     found.told = below(alloc, &told)?;
     Ok(found)
 }

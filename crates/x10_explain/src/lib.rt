@@ -8,6 +8,7 @@ mod check;
 mod commented;
 mod expected;
 mod faults;
+mod faulty;
 mod flaws;
 mod function_labels;
 mod head;

@@ -88,10 +88,17 @@ fn look_of(word: &str, part: Part) -> Look {
 }
 
 fn are_digits(word: &str) -> bool {
-    !word.is_empty() && word.bytes().all(|byte| byte.is_ascii_digit())
+    // without an end at the first other byte, many are looked at at once
+    !word.is_empty()
+        && word
+            .bytes()
+            .fold(true, |all, byte| all & byte.is_ascii_digit())
 }
 
 fn is_fraction(word: &str) -> bool {
+    if !word.starts_with(|c: char| c.is_ascii_digit()) {
+        return false;
+    }
     match word.split_once('.') {
         Some((whole, part)) => are_digits(whole) && are_digits(part),
         None => false,

@@ -2,7 +2,7 @@
 
 use std::alloc::AllocError;
 use std::fmt::Write;
-use x10_asm::{Statement, line_of};
+use x10_asm::{Statement, line_of, next_line};
 
 /// What the lines before a line have begun and ended, with the numbers of these lines.
 #[derive(Clone, Copy)]
@@ -26,8 +26,13 @@ pub(crate) fn said_before(text: &str, count: usize) -> Before {
         ended: None,
         entry: None,
     };
-    for (index, line) in text.lines().enumerate().take(count) {
+    let mut rest = text;
+    for index in 0..count {
+        let Some((line, after)) = next_line(rest) else {
+            return before;
+        };
         before = after_line(before, line_of(line).statement, index.saturating_add(1));
+        rest = after;
     }
     before
 }

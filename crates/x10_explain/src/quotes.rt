@@ -4,6 +4,7 @@ ghost use Rattle.std.specs.Prelude.{◌<◌, length};
 
 use crate::caret::Span;
 use crate::text::push_said;
+use memchr::{memchr, memchr2};
 use std::alloc::AllocError;
 use std::fmt::Write;
 use x10_model::limits::MOST_BYTES;
@@ -50,14 +51,35 @@ fn past_spaces(bytes: &[u8], from: usize) -> usize {
 
 // The bytes from `from` on up to a space.
 fn word_from(bytes: &[u8], from: usize) -> Span {
-    for at in from..bytes.len() {
-        if bytes[at] == b' ' {
-            return Span { from, to: at };
+    let end = match bytes.get(from..) {
+        Some(rest) => memchr(b' ', rest),
+        None => None,
+    };
+    let to = match end {
+        Some(at) => from.saturating_add(at),
+        None => bytes.len(),
+    };
+    Span { from, to }
+}
+
+/// How many bytes are looked at one by one before a search by `memchr2`, which takes longer to begin.
+const NEAR: usize = 16;
+
+// Where the first quote or backslash is from `from` on; the end where there is none.
+fn next_sign(bytes: &[u8], from: usize) -> usize {
+    let near = bytes.len().min(from.saturating_add(NEAR));
+    for at in from..near {
+        if matches!(bytes[at], b'"' | b'\\') {
+            return at;
         }
     }
-    Span {
-        from,
-        to: bytes.len(),
+    let far = match bytes.get(near..) {
+        Some(rest) => memchr2(b'"', b'\\', rest),
+        None => None,
+    };
+    match far {
+        Some(at) => near.saturating_add(at),
+        None => bytes.len(),
     }
 }
 
@@ -65,18 +87,20 @@ fn word_from(bytes: &[u8], from: usize) -> Span {
 fn closing(bytes: &[u8], quote: usize) -> Result<usize, (Misquoted, Span)>
     requires { quote < length bytes.now }
 {
-    let mut is_escape = false;
-    for at in quote + 1..bytes.len() {
-        if is_escape {
-            if !matches!(bytes[at], b'"' | b'\\' | b'n') {
-                let (from, to) = (at - 1, at + 1);
-                return Err((Misquoted::Escape, Span { from, to }));
-            }
-            is_escape = false;
-        } else if bytes[at] == b'"' {
+    let mut from = quote + 1;
+    for _ in quote..bytes.len() {
+        let at = next_sign(bytes, from);
+        if bytes.get(at) == Some(&b'"') {
             return Ok(at);
-        } else {
-            is_escape = bytes[at] == b'\\';
+        }
+        let behind = at.saturating_add(1);
+        let Some(escaped) = bytes.get(behind) else {
+            break;
+        };
+        from = behind.saturating_add(1);
+        if !matches!(*escaped, b'"' | b'\\' | b'n') {
+            let (from, to) = (at, from);
+            return Err((Misquoted::Escape, Span { from, to }));
         }
     }
     let (from, to) = (quote, quote + 1);

@@ -4,7 +4,7 @@ ghost use Rattle.std.specs.Prelude.{IfSome, IsUtf8};
 use crate::signs::{Sign, sign_of};
 use std::alloc::AllocError;
 use std::fmt::Write;
-use x10_asm::{Statement, line_of};
+use x10_asm::{Statement, line_of, next_word};
 
 /// At most this many bytes of a line are shown: no screen is as wide.
 pub(crate) const MOST_SHOWN: usize = 1000;
@@ -62,10 +62,14 @@ pub(crate) fn word_at(line: &str, number: usize) -> Option<&str> {
 
 /// How many words a line has, counted up to 32.
 pub(crate) fn words_in(line: &str) -> usize {
-    line.split(' ')
-        .filter(|word| !word.is_empty())
-        .take(32)
-        .count()
+    let mut rest = line;
+    for count in 0..32 {
+        let Some((_, after)) = next_word(rest) else {
+            return count;
+        };
+        rest = after;
+    }
+    32
 }
 
 /// The line with which a function begins, by the function's number, and the number of the line.

@@ -1,0 +1,103 @@
+//! A faulty line of a text, taken apart once.
+
+use crate::caret::{Span, marked};
+use crate::quotes::{Misquoted, in_quotes};
+use x10_asm::{
+    AsmCause, AsmFault, Flaw, Line, Statement, classes_in, flaw_in, line_of, next_line, version_in,
+};
+use x10_model::ImageVersion;
+
+/// A line that is refused, and what is found in it.
+#[derive(Clone, Copy)]
+pub(crate) struct Faulty<'a> {
+    pub(crate) fault: AsmFault,
+    pub(crate) line: &'a str,
+    pub(crate) said: Line<'a>,
+    /// How many classes the text has, as far as the line may name one.
+    pub(crate) classes: usize,
+    /// The word at which the line is faulty whatever the other lines say.
+    pub(crate) flaw: Option<Flaw<'a>>,
+    /// What is wrong with its quotes, where nothing else is and it is refused for them.
+    pub(crate) quotes: Option<(Misquoted, Span)>,
+    /// The word at which it is refused.
+    pub(crate) mark: Option<Span>,
+}
+
+impl<'a> Faulty<'a> {
+    /// A line with what it says and its flaw, in a text that has so many classes as far as the line may name one.
+    pub(crate) fn new(
+        fault: AsmFault,
+        line: &'a str,
+        said: Line<'a>,
+        classes: usize,
+        flaw: Option<Flaw<'a>>,
+    ) -> Faulty<'a> {
+        let quotes = match flaw {
+            None if fault.cause == AsmCause::Text => quoted(line, said),
+            _ => None,
+        };
+        Faulty {
+            fault,
+            line,
+            said,
+            classes,
+            flaw,
+            quotes,
+            mark: marked(line, said, fault.cause, flaw, quotes),
+        }
+    }
+
+    /// The word at which it is refused; the empty one where none is found.
+    pub(crate) fn word(&self) -> &'a str {
+        let line = self.line;
+        match self.mark {
+            Some(span) => line.get(span.from..span.to).unwrap_or(""),
+            None => "",
+        }
+    }
+}
+
+/// The line of a text that is refused, if the text has it.
+pub(crate) fn faulty_at<'a>(text: &'a str, fault: AsmFault) -> Option<Faulty<'a>> {
+    let line = line_at(text, fault.line)?;
+    let said = line_of(line);
+    let classes = if names_class(said) {
+        classes_in(text)
+    } else {
+        0
+    };
+    let flaw = flaw_in(said, classes, version_for(text, said));
+    Some(Faulty::new(fault, line, said, classes, flaw))
+}
+
+// The line with a number, from 1 on.
+fn line_at(text: &str, number: usize) -> Option<&str> {
+    let mut rest = text;
+    for _ in 0..number.checked_sub(1)? {
+        let (_, after) = next_line(rest)?;
+        rest = after;
+    }
+    let (line, _) = next_line(rest)?;
+    Some(line)
+}
+
+/// Whether a line may name a class.
+pub(crate) fn names_class(said: Line) -> bool {
+    matches!(said.statement, Statement::Class | Statement::Func)
+}
+
+// The version of a text, if it matters to a line.
+fn version_for(text: &str, said: Line) -> ImageVersion {
+    match said.statement {
+        Statement::Instruction(_) => version_in(text),
+        _ => ImageVersion::One,
+    }
+}
+
+// What is wrong with the quotes of a text line, and the bytes that show it.
+fn quoted(line: &str, said: Line) -> Option<(Misquoted, Span)> {
+    if said.statement != Statement::Text {
+        return None;
+    }
+    in_quotes(line, line.len().saturating_sub(said.rest.len()))
+}
