@@ -2,4 +2,5 @@ pub mod Alike
 pub mod FrameNumbers
 pub mod PostedTurns
 pub mod KeyRounds
+pub mod MailPosts
 pub mod RowLogs

@@ -1,5 +1,5 @@
 -- A hall that takes a given number of turns at most, and what a worker asks of it.
-use Rattle.std.specs.Prelude.{◌≡◌, ℕ, ◌+◌, ◌^◌, Bool, true, false, Option, Some, None, is_some, nat_le, length, if◌then◌else◌}
+use Rattle.std.specs.Prelude.{◌≡◌, ◌⊎◌, ℕ, ◌+◌, ◌^◌, Bool, true, false, List, ◌∷◌, ◌++◌, Option, Some, None, is_some, nat_le, length, if◌then◌else◌}
 use Rattle.x10_kinds.specs.declared.limit.Limit.TheVariants as limits
 use Rattle.x10_kinds.specs.declared.stop.Stop.TheVariants as stop
 use Rattle.x10_hall.specs.declared.port.End.{End}
@@ -35,6 +35,26 @@ refusal most h turn =
     (if nat_le most (length h.log) then Some fault.Turns else
     (if nat_le (2 ^ 64) (posted_in h.log + length turn.frames.items) then Some
     (fault.Stop (stop.Limit limits.Frames)) else None))
+
+-- turns stand at the end of the log
+abbrev pub with_turns : HallValue → List Turn → HallValue
+with_turns h turns = record {
+  places = h.places;
+  log = h.log ++ turns;
+  cursors = h.cursors;
+  state = h.state;
+}
+
+-- a hall that takes so many turns gets some turns, before one that it refuses, and why
+pub record PostsUpTo (most : ℕ) (h : HallValue) (turns : List Turn) (after : HallValue)
+    (why : PostFault) : Type 0 where
+  pub posted : List Turn
+  pub turn : Turn
+  pub behind : List Turn
+  pub turns_are : turns ≡ posted ++ turn ∷ behind
+  pub after_is : after ≡ with_turns h posted
+  pub refused : (refusal most after turn ≡ Some why)
+      ⊎ ((refusal most after turn ≡ None) × (why ≡ fault.Stop stop.Memory))
 
 -- the state of a run once it is ended in a way
 abbrev pub ended : End → HallState → HallState

@@ -1,16 +1,17 @@
 //! The hall that the workers of a run share: one lock for all of it, and for each place a signal of its own.
 
-ghost use Rattle.std.specs.Prelude.{◌≡◌, ◌⊎◌, IfOk, IfErr, Some, None};
+ghost use Rattle.std.specs.Prelude.{◌≡◌, ◌≢◌, ◌↔◌, ◌⊎◌, IsTrue, IfOk, IfErr, Some, None};
 ghost use Rattle.x10_kinds.specs.declared.stop.Stop.TheVariants as stop;
 ghost use Rattle.x10_hall.specs.declared.port.PostFault.TheVariants as fault;
 ghost use Rattle.x10_hall.specs.Halls.{empty_hall, with_turn, with_state};
-ghost use Rattle.x10_hall.specs.Mails.{refusal, ended, Takes, signal_of};
+ghost use Rattle.x10_hall.specs.Mails.{refusal, ended, Takes, signal_of, with_turns, PostsUpTo};
 
 use crate::hall::Hall;
 use crate::port::{End, Port, PostFault, Signal, Take};
 use crate::state::HallState;
 use crate::turn::{Posted, Turn};
 use std::alloc::{AllocError, Global};
+use std::sync::atomic::{AtomicBool, Ordering};
 use std::sync::{Condvar, Mutex, Wait};
 use std::thread;
 
@@ -56,15 +57,31 @@ impl Limited {
         }
     }
 
-    /// Ends the run. A run that was stopped stays stopped.
-    fn end(&mut self, how: End)
+    /// Appends turns, one after another, up to the first that is refused.
+    fn post_all(&mut self, turns: Vec<Turn>) -> Result<(), PostFault>
+        ensures most { self.new.most ≡ self.old.most }
+        ensures ok { IfOk result (λ _. self.new.hall ≡ with_turns self.old.hall turns.items) }
+        ensures err { IfErr result (PostsUpTo self.old.most self.old.hall turns.items
+            self.new.hall) }
+    {
+        for turn in turns {
+            self.post(turn)?;
+        }
+        Ok(())
+    }
+
+    /// Ends the run, and answers whether that changes something. A run that was stopped stays stopped.
+    fn end(&mut self, how: End) -> bool
         ensures most { self.new.most ≡ self.old.most }
         ensures hall { self.new.hall ≡ with_state self.old.hall (ended how self.old.hall.state) }
+        ensures changed { IsTrue result ↔ (self.new.hall.state ≢ self.old.hall.state) }
     {
+        let before = self.hall.state();
         match how {
             End::Finished => self.hall.finish(),
             End::Stopped => self.hall.stop(),
         }
+        self.hall.state() != before
     }
 
     /// The next frame for a place, unless the run was stopped.
@@ -99,10 +116,45 @@ impl Limited {
     }
 }
 
-/// A hall behind a lock, with a signal for each place, so that a turn wakes only the receivers of its frames.
+/// The places that frames go to, as a set of their numbers' remainders by 64: a bit for each place of a run, which has 64 at most.
+#[derive(Clone, Copy)]
+struct Receivers {
+    bits: u64,
+}
+
+impl Receivers {
+    /// Those of the frames of some turns.
+    fn of(turns: &[Turn]) -> Receivers {
+        let mut receivers = Receivers { bits: 0 };
+        for turn in turns {
+            receivers.add(&turn.frames);
+        }
+        receivers
+    }
+
+    fn add(&mut self, frames: &[Posted]) {
+        for frame in frames {
+            self.bits |= 1 << (frame.to % 64);
+        }
+    }
+
+    fn is_empty(self) -> bool {
+        self.bits == 0
+    }
+
+    /// Whether a frame goes to a place; also where one goes to another place with the same remainder.
+    fn has(self, place: usize) -> bool {
+        self.bits & (1 << (place % 64)) != 0
+    }
+}
+
+/// A hall behind a lock, with a signal for each place, so that a turn wakes only the receivers of its frames. Workers are woken
+/// after the lock was given back, so that they don't wait for it again.
 #[derive(Drop)]
 pub struct Mail {
     shared: Mutex<Limited>,
+    /// Whether a worker has stopped the run, for those that look without the lock.
+    stopped: AtomicBool,
     calls: Vec<Condvar>,
     /// For places that have no row.
     others: Condvar,
@@ -118,6 +170,7 @@ impl Mail {
         }
         Ok(Mail {
             shared: Mutex::new(limited),
+            stopped: AtomicBool::new(false),
             calls,
             others: Condvar::new(),
         })
@@ -138,10 +191,15 @@ impl Mail {
         }
     }
 
-    /// Wakes the receivers of some frames.
-    fn wake(&self, frames: &[Posted]) {
-        for frame in frames {
-            self.call(frame.to).notify_all();
+    /// Wakes the receivers of frames.
+    fn wake(&self, receivers: Receivers) {
+        if receivers.is_empty() {
+            return;
+        }
+        for (place, call) in self.calls.iter().enumerate() {
+            if receivers.has(place) {
+                call.notify_all();
+            }
         }
     }
 
@@ -174,14 +232,10 @@ impl<R: Wait> Port for Desk<'_, R> {
     }
 
     fn post(&self, turns: Vec<Turn>) -> Result<(), PostFault> {
-        let mut shared = self.mail.shared.lock(self.rt);
-        for turn in turns {
-            shared.post(turn)?;
-            if let Some(turn) = shared.hall.log().last() {
-                self.mail.wake(&turn.frames);
-            }
-        }
-        Ok(())
+        let receivers = Receivers::of(&turns);
+        let posted = self.mail.shared.lock(self.rt).post_all(turns);
+        self.mail.wake(receivers);
+        posted
     }
 
     fn wait(&self, place: u16) -> Signal {
@@ -202,8 +256,17 @@ impl<R: Wait> Port for Desk<'_, R> {
         unreachable!()
     }
 
+    fn is_stopped(&self) -> bool {
+        self.mail.stopped.load(Ordering::SeqCst)
+    }
+
     fn end(&self, how: End) {
-        self.mail.shared.lock(self.rt).end(how);
-        self.mail.wake_all();
+        let changed = self.mail.shared.lock(self.rt).end(how);
+        if how == End::Stopped {
+            self.mail.stopped.store(true, Ordering::SeqCst);
+        }
+        if changed {
+            self.mail.wake_all();
+        }
     }
 }

@@ -61,6 +61,9 @@ pub trait Port {
     /// Waits until there is a frame for a place, or the run has ended or was stopped.
     fn wait(&self, place: u16) -> Signal;
 
-    /// Ends the run for all workers.
+    /// Whether a worker has stopped the run. Waits for nobody, and costs next to nothing, so that it can be asked at each turn.
+    fn is_stopped(&self) -> bool;
+
+    /// Ends the run for all workers. Those that wait are woken, but not again where the run had ended in this way before.
     fn end(&self, how: End);
 }

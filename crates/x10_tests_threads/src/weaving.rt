@@ -48,6 +48,10 @@ impl Port for Full {
         Signal::Finished
     }
 
+    fn is_stopped(&self) -> bool {
+        false
+    }
+
     fn end(&self, _how: End) {}
 }
 
@@ -68,13 +72,23 @@ impl Port for Closed {
         Signal::Stopped
     }
 
+    fn is_stopped(&self) -> bool {
+        true
+    }
+
     fn end(&self, _how: End) {}
 }
 
 /// A port at which nobody waits: where there is nothing to take, the run has ended.
 #[derive(Drop)]
-struct Brief<'a, R: Wait> {
+pub(crate) struct Brief<'a, R: Wait> {
     desk: Desk<'a, R>,
+}
+
+impl<'a, R: Wait> Brief<'a, R> {
+    pub(crate) fn new(desk: Desk<'a, R>) -> Brief<'a, R> {
+        Brief { desk }
+    }
 }
 
 impl<R: Wait> Port for Brief<'_, R> {
@@ -88,6 +102,10 @@ impl<R: Wait> Port for Brief<'_, R> {
 
     fn wait(&self, _place: u16) -> Signal {
         Signal::Finished
+    }
+
+    fn is_stopped(&self) -> bool {
+        self.desk.is_stopped()
     }
 
     fn end(&self, _how: End) {}
@@ -134,7 +152,7 @@ fn run_in_turn<'a, R: Wait>(
     }
     let mail = Mail::new(alloc, 2, 1_000)?;
     let desk = Desk::new(rt, &mail);
-    let brief = Brief { desk };
+    let brief = Brief::new(desk);
     let mut trails = Vec::new(alloc);
     for id in 0..2u16 {
         match work(rt, alloc, verified, id, 2, &brief, &Open) {
