@@ -6,6 +6,7 @@ mod fault;
 mod gate;
 mod halt;
 mod jobs;
+mod key_set;
 mod lines;
 mod report;
 mod step_order;

@@ -1,124 +1,117 @@
 //! The order of a place's steps.
+use crate::key_set::KeySet;
 use std::alloc::{AllocError, Global};
+use std::mem;
 use x10_place::Place;
-use x10_world::RoundKeys;
 
-/// Stands in a round for a key that was set aside. No activity has it.
-const SET_ASIDE: usize = usize::MAX;
-
-/// Which activity of a place makes the next step: the keys are stepped by rising number, round after round, and an activity
-/// that begins waits for the next round. An activity that finds nothing to do, since it is away, waits for a finish or is kept
-/// out by one in an atomic region, is set aside. It takes part again once a frame has come in, an activity has ended here or
-/// left an atomic region, or none of the others can move.
+/// Which activity of a place makes the next step: that with the least key above the last one stepped, or with the least of all
+/// where there is none above. So an activity that begins, or comes back, is stepped at its place in this order at once. One
+/// that finds nothing to do, since it is away, waits for a finish or is kept out by one in an atomic region, is set aside. It
+/// comes back once a frame has come in, an activity has ended here or left an atomic region, or no other one can move.
 #[derive(Drop)]
 pub(crate) struct StepOrder {
-    /// The keys of this round, some of them perhaps given up, and those that join the next one.
-    keys: RoundKeys,
+    /// The keys in use that aren't set aside.
+    ready: KeySet,
     /// The keys that were set aside.
     aside: Vec<usize>,
-    /// How many of the known keys this round has passed.
-    at: usize,
-    /// Whether something moved in this round, or came before it.
-    moved: bool,
-    /// Whether no key was set aside when this round began.
-    is_full: bool,
+    /// How many of them were set aside since something moved or came in.
+    tried: usize,
+    /// Where the search for the next key begins.
+    next: usize,
     /// Whether an activity was inside an atomic region after the last step that moved.
     inside: bool,
+    /// Whether a key was set aside while one was.
+    is_kept_out: bool,
 }
 
 impl StepOrder {
     /// The order of a place's steps at its beginning.
     pub fn new(alloc: Global, place: &Place) -> Result<StepOrder, AllocError> {
-        let mut keys = RoundKeys::new(alloc, Vec::new(alloc));
+        let mut ready = KeySet::new(alloc);
         if let Some(main) = place.next_key(0) {
-            keys.fresh.push(main)?;
+            ready.insert(main)?;
         }
         Ok(StepOrder {
-            keys,
+            ready,
             aside: Vec::new(alloc),
-            at: 0,
-            moved: true,
-            is_full: true,
+            tried: 0,
+            next: 0,
             inside: false,
+            is_kept_out: false,
         })
     }
 
     /// A frame came in; an activity that it began has the key `vacant`, which was free before.
     pub fn came(&mut self, place: &Place, vacant: usize) -> Result<(), AllocError> {
         self.note(place, vacant)?;
-        self.keys.fresh.append(&mut self.aside)
+        self.come_back()
     }
 
     /// The activity with a key moved; an activity that it began has the key `vacant`, which was free before.
     pub fn stepped(&mut self, place: &Place, key: usize, vacant: usize) -> Result<(), AllocError> {
         self.note(place, vacant)?;
-        let was_inside = std::mem::replace(&mut self.inside, place.inside().is_some());
-        let has_left = was_inside && !self.inside;
-        if place.contains(key) && !has_left {
-            return Ok(());
+        let was_inside = mem::replace(&mut self.inside, place.inside().is_some());
+        let has_ended = !place.contains(key);
+        if has_ended {
+            self.ready.remove(key);
         }
-        self.keys.fresh.append(&mut self.aside)
+        if has_ended || (was_inside && !self.inside) {
+            self.come_back()?;
+        }
+        Ok(())
     }
 
     /// The activity with this key, whose step it was, found nothing to do.
     pub fn waits(&mut self, key: usize) -> Result<(), AllocError> {
         self.aside.push(key)?;
-        if let Some(slot) = self.keys.known.get_mut(self.at.saturating_sub(1)) {
-            *slot = SET_ASIDE;
-        }
+        self.ready.remove(key);
+        self.tried = self.tried.saturating_add(1);
+        self.is_kept_out |= self.inside;
         Ok(())
     }
 
-    /// Whether this round has one key, and no other joins the next one: then no other activity can move.
+    /// Whether no other activity can move, nor will be able to before the one that can has put something out, begun or ended
+    /// an activity.
     pub fn is_single(&self) -> bool {
-        self.keys.known.len() == 1 && self.keys.fresh.is_empty()
+        self.ready.len() == 1 && !self.is_kept_out
     }
 
-    /// The next key in use. Where a round has passed all its keys, a new one begins; but none after a round of all keys in
-    /// which nothing moved.
-    pub fn next_key(&mut self, place: &Place) -> Result<Option<usize>, AllocError> {
-        if let Some(key) = self.next_known(place) {
-            return Ok(Some(key));
-        }
-        if !self.moved {
-            if self.is_full {
+    /// The next key; none where all keys in use were tried since something moved. In the steps that the set of keys takes for
+    /// a search; where those that were set aside come back, for each of them.
+    pub fn next_key(&mut self) -> Result<Option<usize>, AllocError> {
+        if self.ready.is_empty() {
+            if self.tried == self.aside.len() {
                 return Ok(None);
             }
-            self.keys.fresh.append(&mut self.aside)?;
+            self.come_back()?;
         }
-        self.begin(place)?;
-        Ok(self.next_known(place))
+        let key = match self.ready.first_from(self.next) {
+            Some(key) => Some(key),
+            None => self.ready.first_from(0),
+        };
+        if let Some(key) = key {
+            self.next = key.saturating_add(1);
+        }
+        Ok(key)
     }
 
     /// Something moved or came in.
     fn note(&mut self, place: &Place, vacant: usize) -> Result<(), AllocError> {
-        self.moved = true;
+        self.tried = 0;
         if place.contains(vacant) {
-            self.keys.fresh.push(vacant)?;
+            self.ready.insert(vacant)?;
         }
         Ok(())
     }
 
-    /// The next key of this round that is in use.
-    fn next_known(&mut self, place: &Place) -> Option<usize> {
-        let known = self.keys.known.as_slice();
-        for at in self.at..known.len() {
-            let key = known[at];
-            if place.contains(key) {
-                self.at = at + 1;
-                return Some(key);
-            }
+    /// The keys that were set aside take part again.
+    fn come_back(&mut self) -> Result<(), AllocError> {
+        for key in &self.aside {
+            self.ready.insert(*key)?;
         }
-        self.at = known.len();
-        None
-    }
-
-    /// Begins a round of the keys that are in use now and weren't set aside. Linear in the keys, except that those that join
-    /// are sorted.
-    fn begin(&mut self, place: &Place) -> Result<(), AllocError> {
-        self.at = 0;
-        self.moved = false;
-        self.is_full = self.aside.is_empty();
-        self.keys.renew(place)
+        self.aside.clear();
+        self.tried = 0;
+        self.is_kept_out = false;
+        Ok(())
     }
 }

@@ -56,6 +56,8 @@ pub(crate) struct Worker<'a> {
     kept: Vec<OwnTurn>,
     /// The last of them, in the form of the log, which are still to be posted.
     unposted: Vec<Turn>,
+    /// Whether it has ended the run.
+    has_ended: bool,
 }
 
 /// Puts out a frame, if there is one.
@@ -132,6 +134,7 @@ impl<'a> Worker<'a> {
             turns: 0,
             kept: Vec::new(alloc),
             unposted: Vec::new(alloc),
+            has_ended: false,
         })
     }
 
@@ -195,15 +198,17 @@ impl<'a> Worker<'a> {
         Ok(())
     }
 
-    /// Ends the run where no activity of it is left, which only place 0 knows; all turns are posted first.
+    /// Ends the run, once, where no activity of it is left, which only place 0 knows; all turns are posted first.
     pub fn end(&mut self, port: &impl Port) -> Result<(), Halt>
         ensures place { self.new.place ≡ self.old.place }
         ensures kept { self.new.kept ≡ self.old.kept }
     {
-        if self.place.closed() {
-            self.post(port)?;
-            port.end(End::Finished);
+        if self.has_ended || !self.place.closed() {
+            return Ok(());
         }
+        self.post(port)?;
+        port.end(End::Finished);
+        self.has_ended = true;
         Ok(())
     }
 
@@ -233,8 +238,8 @@ impl<'a> Worker<'a> {
         })
     }
 
-    /// Takes in the frames that are there, up to the most that a turn takes; none while turns are still to be posted, so that
-    /// the lock is taken once for several turns.
+    /// Takes in the frames that are there, up to the most that a turn takes. While turns are still to be posted it takes none, so
+    /// that the lock is taken once for several turns, and only looks whether the run was stopped.
     fn take_frames(&mut self, port: &impl Port) -> Result<Vec<Taken>, Halt>
         requires { self.old.place.stopped ≢ true }
         ensures takes { IfOk result (λ taken. TakesEach self.old.place
@@ -244,6 +249,9 @@ impl<'a> Worker<'a> {
     {
         let mut taken = Vec::new(self.alloc);
         if !self.unposted.is_empty() {
+            if port.is_stopped() {
+                return Err(Halt::Ended);
+            }
             return Ok(taken);
         }
         for _ in 0..MOST_FRAMES {
@@ -292,7 +300,7 @@ impl<'a> Worker<'a> {
             if steps.keys.len() >= MOST_STEPS {
                 return Ok(steps);
             }
-            let Some(key) = self.order.next_key(&self.place)? else {
+            let Some(key) = self.order.next_key()? else {
                 steps.went = Went::Idle;
                 return Ok(steps);
             };
