@@ -10,6 +10,10 @@ mod halls;
 #[cfg(test)]
 mod meeting;
 #[cfg(test)]
+mod ports;
+#[cfg(test)]
 mod runs;
+#[cfg(test)]
+mod turns;
 #[cfg(test)]
 mod weaving;

@@ -10,7 +10,7 @@ use x10_verify::Verified;
 use x10_workers::{Gate, RunReport, WorkFault, run_threads};
 
 /// Main starts an activity at place 1 and one at place 2.
-const TWO: &str = "places 3
+pub(crate) const TWO: &str = "places 3
 int 1
 func 1 0 none
 INTK 0 0

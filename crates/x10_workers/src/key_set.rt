@@ -122,7 +122,11 @@ impl KeySet {
             return 0;
         };
         let before = *word;
-        *word = if on { before | bit(position) } else { before & !bit(position) };
+        *word = if on {
+            before | bit(position)
+        } else {
+            before & !bit(position)
+        };
         before
     }
 
@@ -158,5 +162,7 @@ impl KeySet {
 
 /// The position of the first bit of a word with an index in its level.
 fn at_bit(index: usize, word: u64) -> usize {
-    index.saturating_mul(WORD).saturating_add(word.trailing_zeros() as usize)
+    index
+        .saturating_mul(WORD)
+        .saturating_add(word.trailing_zeros() as usize)
 }

@@ -1,13 +1,12 @@
 //! The order of a place's steps.
 use crate::key_set::KeySet;
 use std::alloc::{AllocError, Global};
-use std::mem;
 use x10_place::Place;
 
 /// Which activity of a place makes the next step: that with the least key above the last one stepped, or with the least of all
-/// where there is none above. So an activity that begins, or comes back, is stepped at its place in this order at once. One
-/// that finds nothing to do, since it is away, waits for a finish or is kept out by one in an atomic region, is set aside. It
-/// comes back once a frame has come in, an activity has ended here or left an atomic region, or no other one can move.
+/// where there is none above. So an activity that begins, or comes back, is stepped at its place in this order at once. While
+/// one is inside an atomic region, the others are passed over. One that finds nothing to do, since it is away or waits for a
+/// finish, is set aside. It comes back once a frame has come in, an activity has ended here, or no other one can move.
 #[derive(Drop)]
 pub(crate) struct StepOrder {
     /// The keys in use that aren't set aside.
@@ -18,10 +17,6 @@ pub(crate) struct StepOrder {
     tried: usize,
     /// Where the search for the next key begins.
     next: usize,
-    /// Whether an activity was inside an atomic region after the last step that moved.
-    inside: bool,
-    /// Whether a key was set aside while one was.
-    is_kept_out: bool,
 }
 
 impl StepOrder {
@@ -36,8 +31,6 @@ impl StepOrder {
             aside: Vec::new(alloc),
             tried: 0,
             next: 0,
-            inside: false,
-            is_kept_out: false,
         })
     }
 
@@ -50,15 +43,11 @@ impl StepOrder {
     /// The activity with a key moved; an activity that it began has the key `vacant`, which was free before.
     pub fn stepped(&mut self, place: &Place, key: usize, vacant: usize) -> Result<(), AllocError> {
         self.note(place, vacant)?;
-        let was_inside = mem::replace(&mut self.inside, place.inside().is_some());
-        let has_ended = !place.contains(key);
-        if has_ended {
-            self.ready.remove(key);
+        if place.contains(key) {
+            return Ok(());
         }
-        if has_ended || (was_inside && !self.inside) {
-            self.come_back()?;
-        }
-        Ok(())
+        self.ready.remove(key);
+        self.come_back()
     }
 
     /// The activity with this key, whose step it was, found nothing to do.
@@ -66,33 +55,39 @@ impl StepOrder {
         self.aside.push(key)?;
         self.ready.remove(key);
         self.tried = self.tried.saturating_add(1);
-        self.is_kept_out |= self.inside;
         Ok(())
     }
 
-    /// Whether no other activity can move, nor will be able to before the one that can has put something out, begun or ended
-    /// an activity.
+    /// Whether no other activity can move, until the one that can puts something out, or one begins or ends.
     pub fn is_single(&self) -> bool {
-        self.ready.len() == 1 && !self.is_kept_out
+        self.ready.len() == 1
     }
 
-    /// The next key; none where all keys in use were tried since something moved. In the steps that the set of keys takes for
-    /// a search; where those that were set aside come back, for each of them.
-    pub fn next_key(&mut self) -> Result<Option<usize>, AllocError> {
+    /// The next key; none where all keys in use were tried since something moved. Takes the steps of a search in the set of keys;
+    /// where those that were set aside come back, also some for each of them.
+    pub fn next_key(&mut self, place: &Place) -> Result<Option<usize>, AllocError> {
         if self.ready.is_empty() {
             if self.tried == self.aside.len() {
                 return Ok(None);
             }
             self.come_back()?;
         }
-        let key = match self.ready.first_from(self.next) {
-            Some(key) => Some(key),
-            None => self.ready.first_from(0),
-        };
+        let key = self.next_ready(place);
         if let Some(key) = key {
             self.next = key.saturating_add(1);
         }
         Ok(key)
+    }
+
+    /// The next key that isn't set aside and that nobody keeps out.
+    fn next_ready(&self, place: &Place) -> Option<usize> {
+        if let Some(insider) = place.inside() {
+            return Some(insider);
+        }
+        match self.ready.first_from(self.next) {
+            Some(key) => Some(key),
+            None => self.ready.first_from(0),
+        }
     }
 
     /// Something moved or came in.
@@ -111,7 +106,6 @@ impl StepOrder {
         }
         self.aside.clear();
         self.tried = 0;
-        self.is_kept_out = false;
         Ok(())
     }
 }

@@ -300,7 +300,7 @@ impl<'a> Worker<'a> {
             if steps.keys.len() >= MOST_STEPS {
                 return Ok(steps);
             }
-            let Some(key) = self.order.next_key()? else {
+            let Some(key) = self.order.next_key(&self.place)? else {
                 steps.went = Went::Idle;
                 return Ok(steps);
             };

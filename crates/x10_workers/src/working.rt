@@ -89,11 +89,11 @@ pub(crate) fn kept_of(
 /// The work of one place, from its beginning to the end of the run: it takes frames, makes steps and posts its turns through a
 /// port, and answers what the place did. A turn takes at most 16 frames and then makes at most 64 steps, of the keys in use by
 /// rising number, from the last one used on and round, also of those that begin or come back in it. Activities that find
-/// nothing to do are passed over until a frame comes in, an activity ends here or leaves an atomic region, or no other one can
-/// move. A turn that did nothing isn't posted, and turns that send nothing are posted several at a time, up to 16. Where all
-/// keys were tried since something moved, the worker waits. The gate is notified of each turn while no lock is held. Where the
-/// worker can't go on, it posts what it did before and stops the run for all; where another one has stopped the run, it ends at
-/// the next turn, and turns that it has still to post are lost. No matter what the port answers, the turns of the trail,
+/// nothing to do are passed over until a frame comes in, an activity ends here, or no other one can move; those that an atomic
+/// region keeps out, until it is left. A turn that did nothing isn't posted, and turns that send nothing are posted several at
+/// a time, up to 16. Where all keys were tried since something moved, the worker waits. The gate is notified of each turn while
+/// no lock is held. Where the worker can't go on, it posts what it did before and stops the run for all; where another one has
+/// stopped the run, it ends at the next turn, and turns that it has still to post are lost. No matter what the port answers, the turns of the trail,
 /// with the frames that they took, lead from the place's beginning to its end, as they do in any trail.
 pub fn work<'a>(
     rt: &impl Wait,
