@@ -1,8 +1,5 @@
-use Rattle.std.proofs.Common.{◌++◌, sym, ap, ◌∙◌}
 use Rattle.std.proofs.lemmas.Result.{err_from_is_err_and}
-use Rattle.std.specs.Prelude.{IfErr}
 use Rattle.std.specs.Vec.Iter.{into_iter_items}
-use Rattle.x10_hall.specs.Mails.{PostsUpTo}
 use Rattle.x10_hall.proofs.MailPosts.{posts_up_to}
 use Rattle.x10_hall.proofs.mail.Limited.post_all.Goals as goal
 
