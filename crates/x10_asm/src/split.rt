@@ -11,6 +11,7 @@ use memchr::memchr;
 const NEAR: usize = 16;
 
 /// How many of the first bytes come before the first one with a value.
+#[inline(always)]
 fn near_position(bytes: &[u8], byte: u8) -> usize
     ensures at { count_before byte bytes.now ≡ result + count_before byte (drop result bytes.now) }
     ensures within { result ≤ length bytes.now }
@@ -26,7 +27,23 @@ fn near_position(bytes: &[u8], byte: u8) -> usize
     near
 }
 
+/// How many bytes come before the first one with a value, where so many were looked at already.
+#[inline(never)]
+fn far_position(bytes: &[u8], near: usize, byte: u8) -> usize
+    requires within { near ≤ length bytes.now }
+    requires passed { count_before byte bytes.now ≡ near + count_before byte (drop near bytes.now) }
+    ensures at { result ≡ count_before byte bytes.now }
+    ensures within { result ≤ length bytes.now }
+    ensures there { result < length bytes.now → slice_index bytes.now result ≡ byte }
+{
+    match memchr(byte, &bytes[near..]) {
+        Some(at) => near + at,
+        None => bytes.len(),
+    }
+}
+
 /// How many bytes come before the first one with a value.
+#[inline(always)]
 fn position_of(bytes: &[u8], byte: u8) -> usize
     ensures at { result ≡ count_before byte bytes.now }
     ensures within { result ≤ length bytes.now }
@@ -36,10 +53,7 @@ fn position_of(bytes: &[u8], byte: u8) -> usize
     if near < NEAR {
         return near;
     }
-    match memchr(byte, &bytes[near..]) {
-        Some(at) => near + at,
-        None => bytes.len(),
-    }
+    far_position(bytes, near, byte)
 }
 
 /// How many bytes come before the first line feed.

@@ -2,6 +2,7 @@
 
 use crate::label_name::{push_misnamed, why_no_name};
 use crate::nearest::{FAR, edits};
+use memchr::memchr;
 use std::alloc::{AllocError, Global};
 use std::fmt::Write;
 use x10_asm::{Statement, line_of};
@@ -89,7 +90,7 @@ pub(crate) fn push_use(
 fn elsewhere(text: &str, name: &str) -> Option<(usize, usize)> {
     let mut functions: usize = 0;
     for (index, line) in text.lines().enumerate().take(MOST_LOOKED) {
-        if line_of(line).statement == Statement::Func {
+        if bound_in(line) == Some(Bound::Begins) {
             functions = functions.saturating_add(1);
         }
         if label_in(line) == Some(name) {
@@ -99,18 +100,36 @@ fn elsewhere(text: &str, name: &str) -> Option<(usize, usize)> {
     None
 }
 
+/// What a line does to a function.
+#[derive(Clone, Copy, PartialEq, Eq)]
+enum Bound {
+    Begins,
+    Ends,
+}
+
+// Whether a line begins or ends a function. Only a line with the first letter of such a word is taken apart.
+fn bound_in(line: &str) -> Option<Bound> {
+    if !line.trim_start_matches(' ').starts_with(['f', 'e']) {
+        return None;
+    }
+    match line_of(line).statement {
+        Statement::Func => Some(Bound::Begins),
+        Statement::End => Some(Bound::Ends),
+        _ => None,
+    }
+}
+
 // The lines of the function that a line is in.
 fn scope_of(text: &str, number: usize) -> Scope {
     let mut functions: usize = 0;
     let mut from: usize = 0;
     let mut count: usize = 0;
     for (index, line) in text.lines().enumerate() {
-        let statement = line_of(line).statement;
-        let ends = matches!(statement, Statement::Func | Statement::End);
-        if ends && index >= number {
+        let bound = bound_in(line);
+        if bound.is_some() && index >= number {
             break;
         }
-        if statement == Statement::Func {
+        if bound == Some(Bound::Begins) {
             functions = functions.saturating_add(1);
             from = index;
         }
@@ -123,8 +142,9 @@ fn scope_of(text: &str, number: usize) -> Scope {
     }
 }
 
-/// The name of the label that a line defines, if it defines one.
+/// The name of the label that a line defines, if it defines one. Only a line with a colon is taken apart.
 pub(crate) fn label_in(line: &str) -> Option<&str> {
+    memchr(b':', line.as_bytes())?;
     let said = line_of(line);
     if said.statement == Statement::Label {
         said.first.strip_suffix(':')
