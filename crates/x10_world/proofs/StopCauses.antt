@@ -1,5 +1,5 @@
 -- Why a world stops.
-use Rattle.std.proofs.Common.{ℕ, ◌≤◌, List, Option, Some, None, ap, ◌∙◌, inl, inr, arith}
+use Rattle.std.proofs.Common.{ℕ, List, Option, Some, None, ap, ◌∙◌, inl, inr}
 use Rattle.std.specs.Prelude.{IfSome}
 use Rattle.x10_kinds.specs.declared.limit.Limit.TheVariants as limits
 use Rattle.x10_kinds.specs.declared.stop.Stop.{Stop}

@@ -1,7 +1,7 @@
 -- A step of each of several activities of a place is a run of each world of the machine that the world stands for.
-use Rattle.std.proofs.Common.{◌≡◌, ◌≢◌, ℕ, ◌+◌, ◌<◌, ◌≤◌, Bool, true, false, List, length, map, ◌∷◌, [], ◌++◌, Some, None, Result, Ok, Err, refl, sym, ap, subst, ◌∙◌, inl, inr, arith}
+use Rattle.std.proofs.Common.{◌≡◌, ℕ, ◌+◌, ◌<◌, Bool, true, false, List, length, ◌∷◌, [], ◌++◌, Some, Result, Ok, Err, refl, sym, ap, subst, ◌∙◌, inl, inr, arith}
 use Rattle.std.specs.Prelude.{IfOk, MatchResult, slice_get, slice_set, take, get_or, option_map}
-use Rattle.std.proofs.lemmas.List.{length-set, set-set, length-map, take_more}
+use Rattle.std.proofs.lemmas.List.{length-set, set-set, take_more}
 use Rattle.std.proofs.lemmas.Option.{same_Some, slice_get-map, slice_get_within, slice_get-get_or}
 use Rattle.x10_kinds.specs.declared.stop.Stop.{Stop}
 use Rattle.x10_model.specs.Structure.{bounds_of}
@@ -13,12 +13,10 @@ use Rattle.x10_verify.specs.Certified.{Certified}
 use Rattle.x10_flights.specs.Flights.{FlightsState, with_room}
 use Rattle.x10_place.specs.declared.place.Stepped.{Stepped}
 use Rattle.x10_place.specs.declared.place.Stepped.TheVariants as stepped
-use Rattle.x10_place.specs.declared.sent.Outgoing.{Outgoing}
 use Rattle.x10_place.specs.declared.sent.Sent.{Sent}
-use Rattle.x10_place.specs.Messages.{no_sent}
 use Rattle.x10_place.specs.StandsFor.{PlaceState, Keeps}
 use Rattle.x10_place.specs.Sweeps.{IsPace, IsQuiet, Sweeps, unswept, swept, SweepsTo, quietly, loudly, HasEndedIn, IsHaltedSweep}
-use Rattle.x10_world.specs.StandsForWorld.{WorldState, world_of, IsWorld, KeepsSetting, StandsForWorld, IsStepped, StepsOne, after_step, with_sent, GoesBelow, IsRoomless}
+use Rattle.x10_world.specs.StandsForWorld.{WorldState, world_of, IsWorld, StandsForWorld, IsStepped, StepsOne, after_step, with_sent, GoesBelow, IsRoomless}
 use Rattle.x10_world.specs.EventAnswers.{Handles, AnswersEvent}
 use Rattle.x10_world.specs.Runs.{IsSameWorld, RunsThrough, Runs, StopsAt, IsHaltedAt, IsHaltedRun, steps_at}
 use Rattle.x10_world.proofs.CallAnswers.{answers_event}

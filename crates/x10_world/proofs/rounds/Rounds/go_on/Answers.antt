@@ -1,7 +1,6 @@
 use Rattle.std.proofs.Common.{subst, arith}
-use Rattle.x10_world.specs.declared.rounds.Unfinished.TheVariants as halt
 use Rattle.x10_world.specs.Rounds.{RunsIn}
-use Rattle.x10_world.proofs.RunCounts.{err_is, advances_after}
+use Rattle.x10_world.proofs.RunCounts.{advances_after}
 use Rattle.x10_world.proofs.rounds.Rounds.go_on.Goals as goal
 
 pub returns : goal.returns

@@ -1,4 +1,4 @@
-use Rattle.std.proofs.Common.{◌<◌, ◌≤◌, length, ap, ◌∙◌, arith}
+use Rattle.std.proofs.Common.{◌<◌, length, ap, ◌∙◌, arith}
 use Rattle.x10_world.specs.Runs.{steps_at}
 use Rattle.x10_world.specs.StandsForWorld.{with_sent}
 use Rattle.x10_world.proofs.StretchLemmas.{roomless_is}
