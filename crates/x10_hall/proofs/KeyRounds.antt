@@ -1,9 +1,9 @@
 -- Lists that go round.
-use Rattle.std.proofs.Common.{◌≡◌, ℕ, ◌+◌, ◌-◌, ◌%◌, ◌<◌, ◌≤◌, List, length, get_or, take, refl, sym, ap, subst, ◌∙◌, inl, inr, arith}
+use Rattle.std.proofs.Common.{◌≡◌, ℕ, ◌+◌, ◌-◌, ◌%◌, ◌<◌, ◌≤◌, List, [], ◌∷◌, ◌++◌, length, get_or, take, refl, sym, ap, subst, ◌∙◌, inl, inr, arith}
 use Rattle.std.proofs.lemmas.Bool.{cases_eq}
 use Rattle.std.proofs.Math.Nat.{mod-eq_of_lt, mod-lt, add-mod_right}
 use Rattle.std.proofs.lemmas.List.{places}
-use Rattle.std.proofs.lemmas.List.FromFn.{length-map-range_with_len, get_or-map-range_with_len, fill_by_all}
+use Rattle.std.proofs.lemmas.List.FromFn.{length-map-range_with_len, get_or-map-range_with_len, map-range_with_len_more, fill_by_all}
 use Rattle.x10_hall.specs.KeyLists.{in_rounds, Recurs}
 
 -- the item at a position
@@ -15,6 +15,10 @@ long round count = length-map-range_with_len (at_of round) 0 count
 
 pub item : (round : List ℕ) (count at d : ℕ) → at < count → get_or (in_rounds round count) at d ≡ get_or round (at % length round) 0
 item round count at d lt = get_or-map-range_with_len (at_of round) 0 count at at d lt (omega arith)
+
+-- one item more
+pub longer : (round : List ℕ) (count : ℕ) → in_rounds round (count + 1) ≡ in_rounds round count ++ get_or round (count % length round) 0 ∷ []
+longer round count = map-range_with_len_more (at_of round) 0 count count (omega arith)
 
 -- a list is its own round
 pub whole : (keys : List ℕ) → keys ≡ in_rounds keys (length keys)

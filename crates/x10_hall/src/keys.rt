@@ -1,9 +1,13 @@
 //! The keys of a turn's steps, kept short.
-ghost use Rattle.std.specs.Prelude.{◌≡◌, ◌↔◌, ◌<◌, ◌≤◌, ◌%◌, IsTrue, IfOk, IfSome, length, get_or, replicate, slice_index};
+ghost use Rattle.std.specs.Prelude.{◌≡◌, ◌↔◌, ◌+◌, ◌<◌, ◌≤◌, ◌%◌, ◌^◌, ◌++◌, [], IsTrue, IfOk, IfErr, IfSome, length, get_or, replicate, slice_index, vec_len};
 ghost use Rattle.x10_hall.specs.KeyLists.{in_rounds, keys_in, Recurs};
 
 use std::alloc::{AllocError, Global};
 use std::marker::Model;
+use std::mem;
+
+/// For how many keys room is made where a second one comes: those of a turn.
+const ROOM: usize = 64;
 
 /// How keys are kept.
 #[derive(Drop)]
@@ -106,7 +110,103 @@ fn round_of(keys: &[usize]) -> &[usize]
     &keys[..period]
 }
 
+/// The keys of a round up to so many, one after another.
+fn unrolled(alloc: Global, round: &[usize], count: usize) -> Result<Vec<usize>, AllocError>
+    ensures { IfOk result (λ keys. keys.items ≡ in_rounds round.now count) }
+{
+    let mut keys = Vec::with_capacity(alloc, count)?;
+    for at in 0..count {
+        keys.push(in_round(round, at))?;
+    }
+    Ok(keys)
+}
+
+/// Puts a key `count` times behind a list.
+fn extend(list: &mut Vec<usize>, key: usize, count: usize) -> Result<(), AllocError>
+    requires { vec_len list.old + count < 2 ^ 64 }
+    ensures { IfOk result (λ _. list.new.items ≡ list.old.items ++ replicate count key) }
+{
+    let all = list.len() + count;
+    list.resize(all, key)
+}
+
+/// A list of keys, with a key `count` times behind them.
+fn listed(mut list: Vec<usize>, key: usize, count: usize) -> Result<Form, AllocError>
+    requires { vec_len list + count < 2 ^ 64 }
+    ensures { IfOk result (λ form. keys_in form ≡ list.items ++ replicate count key) }
+{
+    extend(&mut list, key, count)?;
+    let all = list.len();
+    Ok(Form::Round(list, all))
+}
+
+/// Keys with a key `count` times behind them.
+fn with_key(alloc: Global, form: Form, key: usize, count: usize) -> Result<Form, AllocError>
+    requires { length (keys_in form) + count < 2 ^ 64 }
+    ensures { IfOk result (λ made. keys_in made ≡ keys_in form ++ replicate count key) }
+{
+    match form {
+        Form::Same(_, 0) => Ok(Form::Same(key, count)),
+        Form::Same(same, before) if same == key => Ok(Form::Same(key, before + count)),
+        Form::Same(same, before) => listed(repeated(alloc, same, before)?, key, count),
+        Form::Round(list, before) if before == list.len() => listed(list, key, count),
+        Form::Round(round, before) => listed(unrolled(alloc, &round, before)?, key, count),
+    }
+}
+
+/// The same keys, folded where they are a list that goes round.
+fn folded_form(alloc: Global, form: Form) -> Result<Form, AllocError>
+    ensures { IfOk result (λ made. keys_in made ≡ keys_in form) }
+{
+    match form {
+        Form::Round(list, count) if count == list.len() => {
+            let round = Vec::from_slice(alloc, round_of(&list))?;
+            Ok(Form::Round(round, count))
+        }
+        other => Ok(other),
+    }
+}
+
+/// One key so often.
+fn repeated(alloc: Global, key: usize, count: usize) -> Result<Vec<usize>, AllocError>
+    ensures { IfOk result (λ keys. keys.items ≡ replicate count key) }
+{
+    let mut keys = Vec::with_capacity(alloc, ROOM)?;
+    keys.resize(count, key)?;
+    Ok(keys)
+}
+
 impl Keys {
+    /// No key. Takes no memory.
+    pub fn none() -> Keys
+        ensures { result ≡ [] }
+    {
+        Keys {
+            form: Form::Same(0, 0),
+        }
+    }
+
+    /// Adds a key, `count` times, behind the others. Where it is the only one, this takes constant time and no memory; else the
+    /// keys take a word each from then on, until they are folded. Where memory is refused, none is left.
+    pub fn push(&mut self, alloc: Global, key: usize, count: usize) -> Result<(), AllocError>
+        requires { length self.old + count < 2 ^ 64 }
+        ensures ok { IfOk result (λ _. self.new ≡ self.old ++ replicate count key) }
+        ensures err { IfErr result (λ _. self.new ≡ []) }
+    {
+        let form = mem::replace(&mut self.form, Form::Same(0, 0));
+        self.form = with_key(alloc, form, key, count)?;
+        Ok(())
+    }
+
+    /// The same keys, folded where they go round. Linear in their number.
+    pub fn folded(self, alloc: Global) -> Result<Keys, AllocError>
+        ensures { IfOk result (λ folded. folded ≡ self) }
+    {
+        let Keys { form } = self;
+        let form = folded_form(alloc, form)?;
+        Ok(Keys { form })
+    }
+
     /// These keys. Linear in their number; takes memory only where they differ.
     pub fn new(alloc: Global, keys: &[usize]) -> Result<Keys, AllocError>
         ensures { IfOk result (λ made. made ≡ keys.now) }
