@@ -50,7 +50,7 @@ pub record AddsSteps (p : PlaceState) (old : Steps) (q : PlaceState) (new : Step
   pub out : List PostedFrame
   pub steps : StepsEach p more out q
   pub goes : q.stopped ≢ true
-  pub keys : new.keys.items ≡ old.keys.items ++ more
+  pub keys : new.keys ≡ old.keys ++ more
   pub frames : map frame_of new.frames.items ≡ map frame_of old.frames.items ++ out
   pub still : new.moved ≡ false → (old.moved ≡ false) × (q ≡ p)
 

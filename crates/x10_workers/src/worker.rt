@@ -1,5 +1,5 @@
 //! A worker: one place, and the turns that it makes.
-ghost use Rattle.std.specs.Prelude.{◌≡◌, ◌≢◌, ◌≤◌, ◌++◌, ◌∷◌, [], true, false, IfOk, map, replicate};
+ghost use Rattle.std.specs.Prelude.{◌≡◌, ◌≢◌, ◌<◌, ◌++◌, ◌∷◌, [], true, false, IfOk, length, map};
 ghost use Rattle.x10_hall.specs.Halls.{frame_of, told};
 ghost use Rattle.x10_workers.specs.Trails.{frame_sent, frames_sent, TakesFrame, TakesEach, StepsEach};
 ghost use Rattle.x10_workers.specs.Workings.{AddsSteps, WorksOn, IsKeptWhole};
@@ -37,7 +37,7 @@ pub(crate) enum Went {
 /// The steps of a turn.
 #[derive(Drop)]
 struct Steps {
-    keys: Vec<usize>,
+    keys: Keys,
     frames: Vec<Posted>,
     /// Whether one of them moved.
     moved: bool,
@@ -87,15 +87,6 @@ fn put_sent(alloc: Global, sent: Sent, frames: &mut Vec<Posted>) -> Result<(), A
 {
     put_frame(alloc, sent.message, frames)?;
     put_frame(alloc, sent.report, frames)
-}
-
-/// Notes `count` steps of one activity.
-fn push_steps(keys: &mut Vec<usize>, key: usize, count: usize) -> Result<(), AllocError>
-    requires { count ≤ 64 }
-    ensures { IfOk result (λ _. keys.new.items ≡ keys.old.items ++ replicate count key) }
-{
-    let all = keys.len() + count;
-    keys.resize(all, key)
 }
 
 /// The numbers of frames.
@@ -151,17 +142,21 @@ impl<'a> Worker<'a> {
         }
         gate.inside(self.id, self.turns);
         self.turns = self.turns.saturating_add(1);
-        let steps = self.make_steps()?;
-        let went = steps.went;
-        if taken.is_empty() && !steps.moved {
+        let Steps {
+            keys,
+            frames,
+            moved,
+            went,
+        } = self.make_steps()?;
+        if taken.is_empty() && !moved {
             return Ok(went);
         }
         let mut lines = Vec::new(self.alloc);
         push_copies(self.alloc, self.place.output(), printed, &mut lines)?;
         let own = OwnTurn {
             taken,
-            keys: Keys::new(self.alloc, &steps.keys)?,
-            frames: steps.frames,
+            keys: keys.folded(self.alloc)?,
+            frames,
             lines,
         };
         self.keep(own, port)?;
@@ -283,7 +278,7 @@ impl<'a> Worker<'a> {
     /// Makes the steps of a turn, up to the most that a turn makes, or until all keys were tried since something moved.
     fn make_steps(&mut self) -> Result<Steps, Halt>
         requires { self.old.place.stopped ≢ true }
-        ensures steps { IfOk result (λ steps. StepsEach self.old.place steps.keys.items
+        ensures steps { IfOk result (λ steps. StepsEach self.old.place steps.keys
             (map frame_of steps.frames.items) self.new.place) }
         ensures goes { IfOk result (λ _. self.new.place.stopped ≢ true) }
         ensures still { IfOk result (λ steps. steps.moved ≡ false
@@ -291,7 +286,7 @@ impl<'a> Worker<'a> {
         ensures kept { self.new.kept ≡ self.old.kept }
     {
         let mut steps = Steps {
-            keys: Vec::with_capacity(self.alloc, MOST_STEPS)?,
+            keys: Keys::none(),
             frames: Vec::new(self.alloc),
             moved: false,
             went: Went::On,
@@ -311,7 +306,8 @@ impl<'a> Worker<'a> {
 
     /// A step of the activity with a key; where no other activity can move, as many steps as the turn may still make.
     fn make_some(&mut self, key: usize, steps: &mut Steps) -> Result<(), Halt>
-        requires { self.old.place.stopped ≢ true }
+        requires goes { self.old.place.stopped ≢ true }
+        requires few { length steps.old.keys < 64 }
         ensures adds { IfOk result (λ _. AddsSteps self.old.place steps.old self.new.place
             steps.new) }
         ensures kept { self.new.kept ≡ self.old.kept }
@@ -325,7 +321,8 @@ impl<'a> Worker<'a> {
     /// Steps of the activity with a key, one after another, as many as the turn may still make: up to one that sends something
     /// or begins or ends an activity, or one that finds nothing to do.
     fn make_stretch(&mut self, key: usize, steps: &mut Steps) -> Result<(), Halt>
-        requires { self.old.place.stopped ≢ true }
+        requires goes { self.old.place.stopped ≢ true }
+        requires few { length steps.old.keys < 64 }
         ensures adds { IfOk result (λ _. AddsSteps self.old.place steps.old self.new.place
             steps.new) }
         ensures kept { self.new.kept ≡ self.old.kept }
@@ -337,7 +334,7 @@ impl<'a> Worker<'a> {
         if made == 0 {
             return self.make_step(key, steps);
         }
-        push_steps(&mut steps.keys, key, made as usize)?;
+        steps.keys.push(self.alloc, key, made as usize)?;
         steps.moved = true;
         self.order.stepped(&self.place, key, vacant)?;
         put_sent(self.alloc, sent, &mut steps.frames)?;
@@ -346,13 +343,13 @@ impl<'a> Worker<'a> {
 
     /// One step of the activity with a key.
     fn make_step(&mut self, key: usize, steps: &mut Steps) -> Result<(), Halt>
-        requires { self.old.place.stopped ≢ true }
+        requires goes { self.old.place.stopped ≢ true }
+        requires few { length steps.old.keys < 64 }
         ensures adds { IfOk result (λ _. AddsSteps self.old.place steps.old self.new.place
             steps.new) }
         ensures kept { self.new.kept ≡ self.old.kept }
     {
-        steps.keys.reserve(1)?;
-        steps.keys.push_reserved(key);
+        steps.keys.push(self.alloc, key, 1)?;
         let vacant = self.place.vacant_key();
         match self.place.step(key)? {
             Stepped::Idle => {

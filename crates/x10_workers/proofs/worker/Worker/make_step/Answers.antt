@@ -8,14 +8,14 @@ use Rattle.x10_workers.proofs.worker.Worker.make_step.Goals as goal
 pub returns-in_ok-put_sent-in-Moved-clause-adds : goal.returns-in_ok-put_sent-in-Moved-clause-adds
 returns-in_ok-put_sent-in-Moved-clause-adds c =
     let by = steps_by c.args.self.now.place c.step.new.self c.args.key c.step.result (stepped.Moved c.in-Moved.sent)
-    (c.in_ok-step.was ∙ ap (λ s. Ok s) c.in-Moved.is) (c.step.ensures.idle c.requires)
-    (c.step.ensures.only c.requires) c.step.ensures.some c.step.ensures.goes c.step.ensures.kept in
+    (c.in_ok-step.was ∙ ap (λ s. Ok s) c.in-Moved.is) (c.step.ensures.idle c.requires.goes)
+    (c.step.ensures.only c.requires.goes) c.step.ensures.some c.step.ensures.goes c.step.ensures.kept in
     record {
       more = c.args.key ∷ [];
       out = frames_sent c.in-Moved.sent;
       steps = by.steps;
       goes = by.goes;
-      keys = c.push_reserved.ensures.items ∙ ap (λ ks. ks ++ c.args.key ∷ []) c.in_ok-reserve.ensures.items;
+      keys = c.in_ok-push.ensures.ok;
       frames = c.in_ok-put_sent-in-Moved.ensures;
       still = λ e. absurd cc;
     }
@@ -23,13 +23,13 @@ returns-in_ok-put_sent-in-Moved-clause-adds c =
 pub returns-in_ok-waits-in-Idle-clause-adds : goal.returns-in_ok-waits-in-Idle-clause-adds
 returns-in_ok-waits-in-Idle-clause-adds c =
     let by = steps_by c.args.self.now.place c.step.new.self c.args.key c.step.result stepped.Idle (c.in_ok-step.was ∙ ap (λ s. Ok s) c.in-Idle.is)
-    (c.step.ensures.idle c.requires) (c.step.ensures.only c.requires) c.step.ensures.some c.step.ensures.goes c.step.ensures.kept in
+    (c.step.ensures.idle c.requires.goes) (c.step.ensures.only c.requires.goes) c.step.ensures.some c.step.ensures.goes c.step.ensures.kept in
     record {
       more = c.args.key ∷ [];
       out = [];
       steps = by.steps;
       goes = by.goes;
-      keys = c.push_reserved.ensures.items ∙ ap (λ ks. ks ++ c.args.key ∷ []) c.in_ok-reserve.ensures.items;
+      keys = c.in_ok-push.ensures.ok;
       frames = sym (append-nil (map frame_of c.args.steps.now.frames.items));
       still = λ e. (e, by.still refl);
     }

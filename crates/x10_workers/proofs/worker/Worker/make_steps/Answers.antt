@@ -11,8 +11,8 @@ loop-preserved c =
     record {
       steps = subst (λ ks. StepsEach c.args.self.now.place ks (map frame_of c.make_some.new.steps.frames.items) c.make_some.new.self.place)
           (sym adds.keys)
-          (subst (λ fs. StepsEach c.args.self.now.place (c.loop.steps.keys.items ++ adds.more) fs c.make_some.new.self.place) (sym adds.frames)
-          (steps_more c.args.self.now.place c.loop.self.place c.make_some.new.self.place c.loop.steps.keys.items adds.more
+          (subst (λ fs. StepsEach c.args.self.now.place (c.loop.steps.keys ++ adds.more) fs c.make_some.new.self.place) (sym adds.frames)
+          (steps_more c.args.self.now.place c.loop.self.place c.make_some.new.self.place c.loop.steps.keys adds.more
           (map frame_of c.loop.steps.frames.items) adds.out old.steps adds.steps));
       goes = adds.goes;
       still = λ e. let s = adds.still e in s.1 ∙ old.still s.0;

@@ -5,7 +5,7 @@ use Rattle.x10_workers.proofs.worker.Worker.make_steps.Given as goal
 
 abbrev pub invariant-loop : goal.invariant-loop
 invariant-loop l = record {
-  steps : StepsEach l.fn.self.place l.steps.keys.items (map frame_of l.steps.frames.items) l.self.place;
+  steps : StepsEach l.fn.self.place l.steps.keys (map frame_of l.steps.frames.items) l.self.place;
   goes : l.self.place.stopped ≢ true;
   still : l.steps.moved ≡ false → l.self.place ≡ l.fn.self.place;
   kept : l.self.kept ≡ l.fn.self.kept;

@@ -10,7 +10,7 @@ returns-clause-adds c = record {
   steps = strides_to_each c.args.key c.args.self.now.place c.run-made.result.0 c.in_ok-sent.sent c.run-made.new.self
       (if_ran c.run-made.result.1 c.in_ok-sent.sent _ _ c.in_ok-sent.was c.run-made.ensures.ran);
   goes = if_ok_at c.run-made.result.1 c.in_ok-sent.sent (λ s. c.run-made.new.self.stopped ≢ true) c.in_ok-sent.was c.run-made.ensures.goes;
-  keys = c.in_ok-push_steps.ensures;
+  keys = c.in_ok-push.ensures.ok;
   frames = c.in_ok-put_sent.ensures;
   still = λ e. absurd cc;
 }
