@@ -1,6 +1,7 @@
-use Rattle.std.proofs.Common.{◌≢◌, replicate, true}
+use Rattle.std.proofs.Common.{◌≢◌, replicate, true, refl}
 use Rattle.x10_workers.specs.Trails.{frames_sent}
 use Rattle.x10_workers.proofs.WorkLemmas.{if_ran, if_ok_at, strides_to_each}
+use Rattle.std.proofs.lemmas.Bool.{both_ways}
 use Rattle.x10_workers.proofs.worker.Worker.make_stretch.Goals as goal
 
 pub returns-clause-adds : goal.returns-clause-adds
@@ -12,5 +13,5 @@ returns-clause-adds c = record {
   goes = if_ok_at c.run-made.result.1 c.in_ok-sent.sent (λ s. c.run-made.new.self.stopped ≢ true) c.in_ok-sent.was c.run-made.ensures.goes;
   keys = c.in_ok-push.ensures.ok;
   frames = c.in_ok-put_sent.ensures;
-  still = λ e. absurd cc;
+  still = λ e. absurd (both_ways true e refl);
 }
