@@ -1,4 +1,4 @@
-use Rattle.std.proofs.Common.{Ok, [], ◌∷◌, ◌++◌, map, refl, sym, ap, ◌∙◌, append-nil}
+use Rattle.std.proofs.Common.{Ok, [], ◌∷◌, map, refl, sym, ap, ◌∙◌, append-nil}
 use Rattle.x10_hall.specs.Halls.{frame_of}
 use Rattle.x10_place.specs.declared.place.Stepped.TheVariants as stepped
 use Rattle.x10_workers.specs.Trails.{frames_sent}
