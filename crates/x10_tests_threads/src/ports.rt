@@ -145,23 +145,31 @@ fn worked<'a, R: Wait>(
     Some(work(rt, alloc, verified, id, places, port, &Open))
 }
 
+/// A port at a hall that hands out frames in some manner.
+fn port_at<'a, R: Wait>(rt: &'a R, alloc: Global, mail: &'a Mail, manner: Manner) -> Odd<'a, R> {
+    let desk = Desk::new(rt, mail);
+    let brief = Brief::new(desk);
+    let held = Mutex::new(Vec::new(alloc));
+    Odd {
+        rt,
+        brief,
+        manner,
+        held,
+    }
+}
+
 /// The workers of places 0 and 1, one after the other, of which the second gets its frames in some manner.
-fn run_oddly<R: Wait>(
+fn run_oddly<'a, R: Wait>(
     rt: &R,
     alloc: Global,
-    verified: &Verified,
+    verified: &'a Verified<'a>,
     manner: Manner,
 ) -> Result<Odds, Fail> {
     let mail = Mail::new(alloc, verified.image().least(), 1_000)?;
     let mut trails = Vec::new(alloc);
     let mut halt = None;
     for (id, manner) in [(0, Manner::Plain), (1, manner)] {
-        let port = Odd {
-            rt,
-            brief: Brief::new(Desk::new(rt, &mail)),
-            manner,
-            held: Mutex::new(Vec::new(alloc)),
-        };
+        let port = port_at(rt, alloc, &mail, manner);
         match worked(rt, alloc, verified, id, &port) {
             Some(Ok(trail)) => trails.push(trail)?,
             Some(Err(why)) => halt = Some(why),
@@ -184,7 +192,8 @@ fn ending<R: Wait>(rt: &R, alloc: Global, text: &str, manner: Manner) -> Result<
 fn took(log: &[Turn], turns: &[&[u64]]) -> bool {
     let mut next = turns.iter();
     for turn in log {
-        if turn.place == 1 && next.next().map(|taken| turn.taken.as_slice() == *taken) != Some(true)
+        if turn.place == 1
+            && next.next().map(|taken| turn.taken.as_slice() == *taken) != Some(true)
         {
             return false;
         }
@@ -193,8 +202,11 @@ fn took(log: &[Turn], turns: &[&[u64]]) -> bool {
 }
 
 const FIRST: [u64; 16] = [0, 1, 2, 3, 4, 5, 6, 7, 8, 9, 10, 11, 12, 13, 14, 15];
+
 const LAST: [u64; 16] = [15, 14, 13, 12, 11, 10, 9, 8, 7, 6, 5, 4, 3, 2, 1, 0];
+
 const TWICE: [u64; 16] = [0, 0, 1, 1, 2, 2, 3, 3, 4, 4, 5, 5, 6, 6, 7, 7];
+
 const TWICE_MORE: [u64; 16] = [8, 8, 9, 9, 10, 10, 11, 11, 12, 12, 13, 13, 14, 14, 15, 15];
 
 /// Of 17 frames a turn takes 16, and the next one the last. They may come in any order, but none twice: the first turn with such a
