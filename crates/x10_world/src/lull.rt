@@ -10,9 +10,12 @@ pub(crate) struct Lull {
     waiter: Option<(u16, usize)>,
     /// How many steps were found idle since.
     idle: u64,
-    /// Whether several activities move, as far as is known: the one that moved last isn't the one that moved before it.
-    several: bool,
+    /// How many moves in a row were of another activity than the move before.
+    changes: u8,
 }
+
+/// After so many moves in a row, each of another activity than the one before, several activities are taken to move.
+const SEVERAL: u8 = 4;
 
 impl Lull {
     /// Nothing was seen yet.
@@ -21,35 +24,38 @@ impl Lull {
             mover: None,
             waiter: None,
             idle: 0,
-            several: false,
+            changes: 0,
         }
     }
 
     /// Whether several activities move, as far as is known.
     #[inline(always)]
     pub fn has_several(&self) -> bool {
-        self.several
+        self.changes >= SEVERAL
     }
 
     /// Steps of several activities were made, of which so many moved.
     #[inline(always)]
     pub fn swept(&mut self, moved: usize) {
-        self.forget();
-        self.several = moved > 1;
+        self.mover = None;
+        self.changes = if moved > 1 { SEVERAL } else { 0 };
     }
 
     /// Something other than a step happened, so that any activity may be able to move.
     #[inline(always)]
     pub fn forget(&mut self) {
         self.mover = None;
+        self.changes = 0;
     }
 
     /// A step of an activity was made, or found idle.
     #[inline(always)]
     pub fn note(&mut self, activity: (u16, usize), moved: bool) {
         if moved {
-            if let Some(mover) = self.mover {
-                self.several = mover != activity;
+            if self.mover == Some(activity) {
+                self.changes = 0;
+            } else if self.mover.is_some() {
+                self.changes = self.changes.saturating_add(1);
             }
             self.mover = Some(activity);
             self.waiter = None;
