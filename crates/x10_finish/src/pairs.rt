@@ -23,7 +23,7 @@ fn differs(home: usize, from: usize, to: usize, pair: Pair) -> usize
 
 /// The larger of each number for one pair. Takes how many pairs differ, and answers how many do afterwards. Constant time.
 #[inline(always)]
-pub fn raise(
+fn raise_pair(
     pairs: &mut Vec<Pair>,
     unequal: usize,
     home: usize,
@@ -53,6 +53,34 @@ pub fn raise(
     };
     pairs[i] = new;
     unequal + differs(home, from, to, new) - differs(home, from, to, old)
+}
+
+/// The larger of each number for one pair. Takes how many pairs differ, and answers how many do afterwards. Constant time; where
+/// both are 0, as most of a report are, the pair isn't looked at.
+#[inline(always)]
+pub fn raise(
+    pairs: &mut Vec<Pair>,
+    unequal: usize,
+    home: usize,
+    places: usize,
+    from: usize,
+    to: usize,
+    by: Pair,
+) -> usize
+    requires few { places < 2 ^ 16 }
+    requires from { from < places }
+    requires to { to < places }
+    requires whole { length pairs.old.items ≡ places * places }
+    requires unequal { unequal ≡ unequal_in home places pairs.old.items }
+    ensures whole { length pairs.new.items ≡ places * places }
+    ensures unequal { result ≡ unequal_in home places pairs.new.items }
+    ensures pairs { (a b : ℕ) → pair_at places pairs.new.items a b
+        ≡ raised_at from to by (pair_at places pairs.old.items) a b }
+{
+    if by.sent == 0 && by.received == 0 {
+        return unequal;
+    }
+    raise_pair(pairs, unequal, home, places, from, to, by)
 }
 
 /// Takes in how many activities a place sent to each other and received from each, the larger of each number. Takes how many
