@@ -35,6 +35,11 @@ swapped false false x y = refl
 same_pair : (p q : Pair) → p.sent ≡ q.sent → p.received ≡ q.received → p ≡ q
 same_pair p q e f = λ i. record { sent = e i; received = f i }
 
+-- the same pair is raised to the same
+pub raised_same : (from to : ℕ) (by : Pair) (f g : ℕ → ℕ → Pair) (a b : ℕ) → f a b ≡ g a b → raised_at from to by f a b ≡ raised_at from to by g a b
+raised_same from to by f g a b e = ap (λ (p : Pair). if a == from && b == to then
+    (record { sent = max p.sent by.sent; received = max p.received by.received }) else p) e
+
 pub merged_more : (place : ℕ) (sent received : List ℕ) (q : ℕ) (old before mid after : ℕ → ℕ → Pair) (s r : ℕ)
     → ((a b : ℕ) → before a b ≡ merged_to place sent received q old a b)
     → s ≡ slice_index sent q → r ≡ slice_index received q

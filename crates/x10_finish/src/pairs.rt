@@ -23,7 +23,7 @@ fn differs(home: usize, from: usize, to: usize, pair: Pair) -> usize
 
 /// The larger of each number for one pair. Takes how many pairs differ, and answers how many do afterwards. Constant time.
 #[inline(always)]
-fn raise_pair(
+pub fn raise(
     pairs: &mut Vec<Pair>,
     unequal: usize,
     home: usize,
@@ -55,32 +55,38 @@ fn raise_pair(
     unequal + differs(home, from, to, new) - differs(home, from, to, old)
 }
 
-/// The larger of each number for one pair. Takes how many pairs differ, and answers how many do afterwards. Constant time; where
-/// both are 0, as most of a report are, the pair isn't looked at.
+/// Takes in how many activities a place sent to another one and received from it, the larger of each number. Takes how many pairs
+/// differ, and answers how many do afterwards. Constant time; where both are 0, as most of a report are, no pair is looked at.
 #[inline(always)]
-pub fn raise(
+fn raise_both(
     pairs: &mut Vec<Pair>,
     unequal: usize,
     home: usize,
     places: usize,
-    from: usize,
-    to: usize,
-    by: Pair,
+    place: usize,
+    other: usize,
+    sent: u32,
+    received: u32,
 ) -> usize
     requires few { places < 2 ^ 16 }
-    requires from { from < places }
-    requires to { to < places }
+    requires place { place < places }
+    requires other { other < places }
     requires whole { length pairs.old.items ≡ places * places }
     requires unequal { unequal ≡ unequal_in home places pairs.old.items }
     ensures whole { length pairs.new.items ≡ places * places }
     ensures unequal { result ≡ unequal_in home places pairs.new.items }
     ensures pairs { (a b : ℕ) → pair_at places pairs.new.items a b
-        ≡ raised_at from to by (pair_at places pairs.old.items) a b }
+        ≡ raised_at other place (record { sent = 0; received = received })
+        (raised_at place other (record { sent = sent; received = 0 })
+        (pair_at places pairs.old.items)) a b }
 {
-    if by.sent == 0 && by.received == 0 {
+    if sent == 0 && received == 0 {
         return unequal;
     }
-    raise_pair(pairs, unequal, home, places, from, to, by)
+    let went = Pair { sent, received: 0 };
+    let unequal = raise(pairs, unequal, home, places, place, other, went);
+    let came = Pair { sent: 0, received };
+    raise(pairs, unequal, home, places, other, place, came)
 }
 
 /// Takes in how many activities a place sent to each other and received from each, the larger of each number. Takes how many
@@ -106,16 +112,7 @@ pub fn merge(
 {
     let places = sent.len();
     for q in 0..places {
-        let went = Pair {
-            sent: sent[q],
-            received: 0,
-        };
-        unequal = raise(pairs, unequal, home, places, place, q, went);
-        let came = Pair {
-            sent: 0,
-            received: received[q],
-        };
-        unequal = raise(pairs, unequal, home, places, q, place, came);
+        unequal = raise_both(pairs, unequal, home, places, place, q, sent[q], received[q]);
     }
     unequal
 }

@@ -52,7 +52,7 @@ impl Rounds {
             return Ok(made);
         }
         let Some(key) = self.lone(world) else {
-            return self.make_next(world, left);
+            return self.make_all(world, left);
         };
         self.watch(world, self.place);
         self.lull.forget();
@@ -65,8 +65,8 @@ impl Rounds {
         Ok(made)
     }
 
-    /// Makes the steps that are left of a turn. Where it is over, the turn of the next busy place begins, and its steps are made
-    /// if several activities move. Answers how many events these are.
+    /// Makes the steps that are left of a turn. Where it is over, the turn of the next busy place begins: it takes in its frames,
+    /// or where there is none and several activities move, their steps are made. Answers how many events these are.
     #[inline(always)]
     fn go_on(&mut self, world: &mut World, left: u64) -> Result<u64, Unfinished>
         requires going { world.old.stopped ≢ true }
@@ -78,8 +78,72 @@ impl Rounds {
             return Ok(made);
         }
         self.pass(world);
+        self.begin(world, left)
+    }
+
+    /// Takes in the frames of a turn; where there is none and several activities move, makes their steps. Answers how many
+    /// events these are.
+    #[inline(always)]
+    fn begin(&mut self, world: &mut World, left: u64) -> Result<u64, Unfinished>
+        requires going { world.old.stopped ≢ true }
+        requires some { 1 ≤ left }
+        ensures made { Advances world.old left result world.new }
+    {
+        let made = self.take_in(world, left)?;
+        if made > 0 {
+            return Ok(made);
+        }
+        self.sweep_all(world, left)
+    }
+
+    /// Where a turn has nothing to take in and several activities move, makes their steps. Answers how many events these are.
+    #[inline(always)]
+    fn sweep_all(&mut self, world: &mut World, left: u64) -> Result<u64, Unfinished>
+        requires going { world.old.stopped ≢ true }
+        requires some { 1 ≤ left }
+        ensures made { Advances world.old left result world.new }
+    {
         self.begin_sweep(world)?;
         self.sweep(world, left)
+    }
+
+    /// Takes in the frames that are in flight to the place whose turn it is, up to one that leaves place 0 empty, and answers
+    /// how many.
+    #[inline(always)]
+    fn take_in(&mut self, world: &mut World, left: u64) -> Result<u64, Unfinished>
+        requires going { world.old.stopped ≢ true }
+        requires some { 1 ≤ left }
+        ensures made { Advances world.old left result world.new }
+    {
+        let Phase::TakesIn = self.phase else {
+            return Ok(0);
+        };
+        let mut made = 0;
+        for _ in 0..left {
+            let Some(number) = world.first_frame(self.place) else {
+                return Ok(made);
+            };
+            self.watch(world, self.place);
+            made += self.deliver(world, number, left - made)?;
+            self.look(world)?;
+            if made == left || (self.place == 0 && world.home_is_empty()) {
+                return Ok(made);
+            }
+        }
+        Ok(made)
+    }
+
+    /// Takes a frame in, and answers that this was one event.
+    #[inline(always)]
+    fn deliver(&mut self, world: &mut World, number: u64, left: u64) -> Result<u64, Unfinished>
+        requires going { world.old.stopped ≢ true }
+        requires some { 1 ≤ left }
+        ensures made { Advances world.old left result world.new }
+        ensures some { IfOk result (λ made. 1 ≤ made) }
+    {
+        make(world, Event::Deliver(number))?;
+        self.lull.forget();
+        Ok(1)
     }
 
     /// Makes the steps that are left of a turn, or some of them, and answers how many events these are.
@@ -157,6 +221,37 @@ impl Rounds {
             }
         }
         Ok(made)
+    }
+
+    /// Makes the steps of a turn that has taken in all frames. Where there is none to make, the next event, wherever it is.
+    #[inline(always)]
+    fn make_all(&mut self, world: &mut World, left: u64) -> Result<u64, Unfinished>
+        requires going { world.old.stopped ≢ true }
+        requires some { 1 ≤ left }
+        ensures made { AdvancesOrEnds world.old left result world.new }
+    {
+        let made = self.begin_all(world, left)?;
+        if made > 0 {
+            return Ok(made);
+        }
+        self.make_next(world, left)
+    }
+
+    /// Where a turn has nothing to take in, makes its steps, and answers how many events these are.
+    #[inline(always)]
+    fn begin_all(&mut self, world: &mut World, left: u64) -> Result<u64, Unfinished>
+        requires going { world.old.stopped ≢ true }
+        requires some { 1 ≤ left }
+        ensures made { Advances world.old left result world.new }
+    {
+        let Phase::TakesIn = self.phase else {
+            return Ok(0);
+        };
+        if world.first_frame(self.place).is_some() {
+            return Ok(0);
+        }
+        self.begin_steps(world)?;
+        self.make_steps(world, left)
     }
 
     /// Makes the next event, or more.

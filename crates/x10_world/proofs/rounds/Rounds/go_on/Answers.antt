@@ -5,7 +5,7 @@ use Rattle.x10_world.proofs.rounds.Rounds.go_on.Goals as goal
 
 pub returns : goal.returns
 returns c = record {
-  made = advances_after c.args.world.now c.make_rest.new.world c.sweep.new.world c.args.left c.sweep.result
+  made = advances_after c.args.world.now c.make_rest.new.world c.begin.new.world c.args.left c.begin.result
       (subst (λ n. RunsIn c.args.world.now n c.make_rest.new.world) (omega (arith, c.if-made-gt0.false)) c.in_ok-made.ensures.made.runs)
-      c.sweep.ensures.made;
+      c.begin.ensures.made;
 }

@@ -12,9 +12,9 @@ returns-in_err-look c = record {
 
 pub returns-in_default : goal.returns-in_default
 returns-in_default c = record {
-  made = ends_after c.args.world.now c.go_on.new.world c.make_next.new.world c.args.left c.make_next.result
+  made = ends_after c.args.world.now c.go_on.new.world c.make_all.new.world c.args.left c.make_all.result
       (subst (λ n. RunsIn c.args.world.now n c.go_on.new.world) (omega (arith, c.if-made-gt0.false)) c.in_ok-made.ensures.made.runs)
-      c.make_next.ensures.made;
+      c.make_all.ensures.made;
 }
 
 pub returns-in_err-made-2 : goal.returns-in_err-made-2
@@ -41,13 +41,13 @@ returns-in_err-look-2 c = record {
 
 pub returns-then-made-eq0 : goal.returns-then-made-eq0
 returns-then-made-eq0 c = record {
-  made = ends_after c.args.world.now c.run_activity.new.self c.make_next-then-made-eq0.new.world c.args.left c.make_next-then-made-eq0.result
+  made = ends_after c.args.world.now c.run_activity.new.self c.make_next.new.world c.args.left c.make_next.result
       (subst (λ n. RunsIn c.args.world.now n c.run_activity.new.self) c.if-made-eq0.true
       (in_after c.args.world.now c.go_on.new.world c.run_activity.new.self c.in_ok-made-2.made
       (subst (λ n. RunsIn c.args.world.now n c.go_on.new.world) (omega (arith, c.if-made-gt0.false)) c.in_ok-made.ensures.made.runs)
       (in_repeats c.go_on.new.world c.run_activity.new.self c.in_ok-made-2.made _ c.in-Some.key c.in_ok-made-2.ensures.kept
       c.in_ok-made-2.ensures.ok)))
-      c.make_next-then-made-eq0.ensures.made;
+      c.make_next.ensures.made;
 }
 
 pub returns : goal.returns

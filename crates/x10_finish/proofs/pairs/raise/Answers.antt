@@ -2,7 +2,7 @@ use Rattle.std.proofs.Common.{◌≡◌, ◌+◌, ◌*◌, max, ◌∙◌, ap, a
 use Rattle.x10_finish.specs.declared.pairs.Pair.{Pair}
 use Rattle.x10_finish.specs.Pairs.{difference, unequal_in}
 use Rattle.x10_finish.proofs.Squares.{read_at, unequal_written, unequal_small, raised_written}
-use Rattle.x10_finish.proofs.pairs.raise_pair.Goals as goal
+use Rattle.x10_finish.proofs.pairs.raise.Goals as goal
 
 pub overflow_add-result : goal.overflow_add-result
 overflow_add-result c =
