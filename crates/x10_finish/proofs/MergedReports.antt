@@ -1,5 +1,5 @@
 -- Taking in a report, place by place.
-use Rattle.std.proofs.Common.{◌≡◌, ℕ, ◌+◌, ◌==◌, ◌&&◌, nat_lt, max, Bool, true, false, if◌then◌else◌, List, slice_index, refl, sym, ◌∙◌, ap, arith}
+use Rattle.std.proofs.Common.{◌≡◌, ◌≤◌, ◌<◌, ℕ, ◌+◌, ◌==◌, ◌&&◌, nat_lt, max, Bool, true, false, if◌then◌else◌, List, slice_index, refl, sym, ◌∙◌, ap, arith}
 use Rattle.std.proofs.lemmas.Bool.Decides.{nat_tests}
 use Rattle.x10_finish.specs.declared.pairs.Pair.{Pair}
 use Rattle.x10_finish.specs.Pairs.{raised_at, merged_to}
@@ -58,6 +58,28 @@ merged_more place sent received q old before mid after s r h es er hs hr a b = s
     (ap (λ (p : Pair). p.received) (hs a b) ∙ raised_received (a == place && b == q) (before a b) (record { sent = s; received = 0 })
     ∙ nothing_more (a == place && b == q) (before a b).received ∙ ap (λ (p : Pair). p.received) (h a b))
     (λ e. er ∙ ap (slice_index received) (sym e)))
+
+-- counts that are 0 change nothing
+past_cases : (u v : Bool) (o m : ℕ) → (u ≡ false → v ≡ true → m ≡ 0) → (u ≡ true → v ≡ true) → (if u then max o m else o) ≡ (if v then max o m else o)
+past_cases true true o m f g = refl
+past_cases true false o m f g = let h : false ≡ true = g refl in absurd cc
+past_cases false true o m f g = let h : m ≡ 0 = f refl refl in omega (arith, h)
+past_cases false false o m f g = refl
+
+past_if : (t : Bool) (b p q m o : ℕ) → p ≤ q → (p ≤ b → b < q → m ≡ 0)
+    → (if t && nat_lt b p then max o m else o) ≡ (if t && nat_lt b q then max o m else o)
+past_if true b p q m o le f = past_cases (nat_lt b p) (nat_lt b q) o m
+    (λ e h. let low : p ≤ b = grind (arith, nat_tests, e) in let high : b < q = grind (arith, nat_tests, h) in f low high)
+    (λ e. let low : b < p = grind (arith, nat_tests, e) in grind (arith, nat_tests, low, le))
+past_if false b p q m o le f = refl
+
+pub merged_past : (place : ℕ) (sent received : List ℕ) (p q : ℕ) (old : ℕ → ℕ → Pair) → p ≤ q
+    → ((k : ℕ) → p ≤ k → k < q → slice_index sent k ≡ 0)
+    → ((k : ℕ) → p ≤ k → k < q → slice_index received k ≡ 0)
+    → (a b : ℕ) → merged_to place sent received p old a b ≡ merged_to place sent received q old a b
+merged_past place sent received p q old le s r a b = same_pair (merged_to place sent received p old a b) (merged_to place sent received q old a b)
+    (past_if (a == place) b p q (slice_index sent b) (old a b).sent le (s b))
+    (past_if (b == place) a p q (slice_index received a) (old a b).received le (r a))
 
 -- nothing was taken in yet
 none_if : (t : Bool) (b x y : ℕ) → (if t && nat_lt b 0 then x else y) ≡ y

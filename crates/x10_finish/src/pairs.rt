@@ -56,7 +56,7 @@ pub fn raise(
 }
 
 /// Takes in how many activities a place sent to another one and received from it, the larger of each number. Takes how many pairs
-/// differ, and answers how many do afterwards. Constant time; where both are 0, as most of a report are, no pair is looked at.
+/// differ, and answers how many do afterwards. Constant time.
 #[inline(always)]
 fn raise_both(
     pairs: &mut Vec<Pair>,
@@ -80,17 +80,33 @@ fn raise_both(
         (raised_at place other (record { sent = sent; received = 0 })
         (pair_at places pairs.old.items)) a b }
 {
-    if sent == 0 && received == 0 {
-        return unequal;
-    }
     let went = Pair { sent, received: 0 };
     let unequal = raise(pairs, unequal, home, places, place, other, went);
     let came = Pair { sent: 0, received };
     raise(pairs, unequal, home, places, other, place, came)
 }
 
+/// The first place, from one on, of which one of two counts isn't 0; the number of places where there is none.
+#[inline(always)]
+fn next_counted(sent: &[u32], received: &[u32], from: usize) -> usize
+    requires from { from ≤ length sent.now }
+    requires received { length received.now ≡ length sent.now }
+    ensures past { from ≤ result }
+    ensures within { result ≤ length sent.now }
+    ensures sent { (q : ℕ) → from ≤ q → q < result → slice_index sent.now q ≡ 0 }
+    ensures received { (q : ℕ) → from ≤ q → q < result → slice_index received.now q ≡ 0 }
+{
+    for q in from..sent.len() {
+        if sent[q] != 0 || received[q] != 0 {
+            return q;
+        }
+    }
+    sent.len()
+}
+
 /// Takes in how many activities a place sent to each other and received from each, the larger of each number. Takes how many
-/// pairs differ, and answers how many do afterwards. Linear in the number of places.
+/// pairs differ, and answers how many do afterwards. Linear in the number of places; where both counts are 0, as most of a report
+/// are, no pair is looked at.
 pub fn merge(
     pairs: &mut Vec<Pair>,
     mut unequal: usize,
@@ -111,8 +127,14 @@ pub fn merge(
         (pair_at (length sent.now) pairs.old.items) a b }
 {
     let places = sent.len();
-    for q in 0..places {
+    let mut at = 0;
+    for _done in 0..places {
+        let q = next_counted(sent, received, at);
+        if q >= places {
+            return unequal;
+        }
         unequal = raise_both(pairs, unequal, home, places, place, q, sent[q], received[q]);
+        at = q + 1;
     }
     unequal
 }

@@ -193,12 +193,13 @@ impl<'a> Worker<'a> {
         Ok(())
     }
 
-    /// Ends the run, once, where no activity of it is left, which only place 0 knows; all turns are posted first.
+    /// Ends the run, once, where no activity of it is left, which only place 0 knows; all turns are posted first. Where an activity
+    /// is here, this takes no look at the counts of the root finish.
     pub fn end(&mut self, port: &impl Port) -> Result<(), Halt>
         ensures place { self.new.place ≡ self.old.place }
         ensures kept { self.new.kept ≡ self.old.kept }
     {
-        if self.has_ended || !self.place.closed() {
+        if self.has_ended || !self.place.is_empty() || !self.place.closed() {
             return Ok(());
         }
         self.post(port)?;

@@ -1,11 +1,13 @@
-use Rattle.std.proofs.Common.{◌≡◌, ◌*◌, ℕ, length}
+use Rattle.std.proofs.Common.{◌≡◌, ◌≤◌, ◌*◌, ℕ, length}
 use Rattle.x10_finish.specs.Pairs.{pair_at, unequal_in, merged_to}
 use Rattle.x10_finish.proofs.pairs.merge.Given as goal
 
-abbrev pub invariant-loop-q : goal.invariant-loop-q
-invariant-loop-q l = record {
+abbrev pub invariant-loop-done : goal.invariant-loop-done
+invariant-loop-done l = record {
+  far : l._done ≤ l.at;
+  within : l.at ≤ length l.sent;
   whole : length l.pairs.items ≡ length l.sent * length l.sent;
   unequal : l.unequal ≡ unequal_in l.home (length l.sent) l.pairs.items;
   pairs : (a b : ℕ) → pair_at (length l.sent) l.pairs.items a b
-      ≡ merged_to l.place l.sent l.received l.q (pair_at (length l.sent) l.initial.pairs.items) a b;
+      ≡ merged_to l.place l.sent l.received l.at (pair_at (length l.sent) l.initial.pairs.items) a b;
 }
