@@ -57,18 +57,21 @@ pub fn behind(quoted: &str) -> Option<&str>
         (λ rest. (text : List ℕ) × (literals.scan false quoted.now ≡ Some (text, rest.now))) }
 {
     let bytes = quoted.as_bytes();
-    let mut after_backslash = false;
-    for at in 0..bytes.len() {
+    let mut at = 0;
+    while at < bytes.len() {
         let byte = bytes[at];
-        if after_backslash {
-            let Some(_) = unescaped(byte) else {
+        at += 1;
+        if byte == b'"' {
+            return Some(&quoted[at..]);
+        }
+        if byte == b'\\' {
+            if at >= bytes.len() {
+                return None;
+            }
+            let Some(_) = unescaped(bytes[at]) else {
                 return None;
             };
-            after_backslash = false;
-        } else if byte == b'"' {
-            return Some(&quoted[at + 1..]);
-        } else if byte == b'\\' {
-            after_backslash = true;
+            at += 1;
         }
     }
     None
