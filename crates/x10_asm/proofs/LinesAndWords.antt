@@ -2,7 +2,7 @@
 use Rattle.std.proofs.Common.{◌≡◌, ◌≢◌, ℕ, zero, suc, ◌+◌, ◌-◌, ◌≤◌, ◌<◌, Bool, true, false, ◌&&◌, List, [], ◌∷◌, length, take, drop, get_or, refl, sym, ap, subst, ◌∙◌, arith, add-one, inl, inr, Some, None}
 use Rattle.std.specs.Prelude.{◌==◌, if◌then◌else◌, slice_range}
 use Rattle.std.proofs.Math.Seq.{drop-cons}
-use Rattle.std.proofs.lemmas.List.{drop_all, take_all, length-drop}
+use Rattle.std.proofs.lemmas.List.{drop_all}
 use Rattle.std.proofs.lemmas.Bool.{eqb-true, eqb-false, ne_eqb, eq-eqb, cases_Bool, cases_eq, cases_lt, and_from, and_left, and_right}
 use Rattle.memchr.specs.Find.{IsFirstByte, is_byte}
 use Rattle.x10_asm.specs.Lines.{grown, begins, lines, is_word_end, words, after_spaces, from_space, count_before, without_return}
@@ -63,31 +63,6 @@ count_missed c bs f = elim (cases_lt (count_before c bs) (length bs)) [
   | inl lt ↦ absurd (f (count_before c bs) (omega arith) lt (eq-eqb (get_or bs (count_before c bs) 0) c (count_there c bs lt)))
   | inr ge ↦ omega (arith, count-within c bs)
 ]
-
--- the rest of the bytes
-rest_whole : (bs : List ℕ) (n : ℕ) → slice_range bs n (length bs) ≡ drop n bs
-rest_whole bs n = take_all (length bs - n) (drop n bs) (omega (arith, length-drop n bs))
-
--- the same, behind bytes that were passed
-pub found_behind : (c : ℕ) (bs : List ℕ) (n at : ℕ) → count_before c bs ≡ n + count_before c (drop n bs)
-    → IsFirstByte (is_byte c) (slice_range bs n (length bs)) (Some at) → n + at ≡ count_before c bs
-found_behind c bs n at e f = omega (
-  arith,
-  e,
-  count_found c (drop n bs) at
-      (subst (λ (xs : List ℕ). IsFirstByte (is_byte c) xs (Some at)) (rest_whole bs n) f),
-)
-
-pub missed_behind : (c : ℕ) (bs : List ℕ) (n : ℕ) → n ≤ length bs → count_before c bs ≡ n + count_before c (drop n bs)
-    → IsFirstByte (is_byte c) (slice_range bs n (length bs)) None → length bs ≡ count_before c bs
-missed_behind c bs n le e f = omega (
-  arith,
-  e,
-  le,
-  length-drop n bs,
-  count_missed c (drop n bs)
-      (subst (λ (xs : List ℕ). IsFirstByte (is_byte c) xs None) (rest_whole bs n) f),
-)
 
 -- ---- spaces
 

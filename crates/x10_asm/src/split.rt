@@ -1,59 +1,24 @@
 //! The lines of a text and the words of a line, each with what follows it. One pass over the bytes.
 
-ghost use Rattle.std.specs.Prelude.{◌≡◌, ◌+◌, ◌<◌, ◌≤◌, ◌∷◌, [], MatchOption, IfSome, IsUtf8, drop, length, slice_index};
+ghost use Rattle.std.specs.Prelude.{◌≡◌, ◌<◌, ◌≤◌, ◌∷◌, [], MatchOption, IfSome, IsUtf8, length, slice_index};
 ghost use Rattle.std.specs.Option.{option_copied};
 ghost use Rattle.x10_asm.specs.Lines as spec;
 ghost use Rattle.x10_asm.specs.Lines.{lines, words, count_before, from_space};
 
 use memchr::memchr;
 
-/// How many bytes are looked at one by one: words are short, and a search by `memchr` takes longer to begin.
-const NEAR: usize = 16;
-
-/// How many of the first bytes come before the first one with a value.
-#[inline(always)]
-fn near_position(bytes: &[u8], byte: u8) -> usize
-    ensures at { count_before byte bytes.now ≡ result + count_before byte (drop result bytes.now) }
-    ensures within { result ≤ length bytes.now }
-    ensures near { result < 16 → result ≡ count_before byte bytes.now }
-    ensures there { result < 16 → result < length bytes.now → slice_index bytes.now result ≡ byte }
-{
-    let near = bytes.len().min(NEAR);
-    for at in 0..near {
-        if bytes[at] == byte {
-            return at;
-        }
-    }
-    near
-}
-
-/// How many bytes come before the first one with a value, where so many were looked at already.
-#[inline(never)]
-fn far_position(bytes: &[u8], near: usize, byte: u8) -> usize
-    requires within { near ≤ length bytes.now }
-    requires passed { count_before byte bytes.now ≡ near + count_before byte (drop near bytes.now) }
-    ensures at { result ≡ count_before byte bytes.now }
-    ensures within { result ≤ length bytes.now }
-    ensures there { result < length bytes.now → slice_index bytes.now result ≡ byte }
-{
-    match memchr(byte, &bytes[near..]) {
-        Some(at) => near + at,
-        None => bytes.len(),
-    }
-}
-
 /// How many bytes come before the first one with a value.
-#[inline(always)]
 fn position_of(bytes: &[u8], byte: u8) -> usize
     ensures at { result ≡ count_before byte bytes.now }
     ensures within { result ≤ length bytes.now }
     ensures there { result < length bytes.now → slice_index bytes.now result ≡ byte }
 {
-    let near = near_position(bytes, byte);
-    if near < NEAR {
-        return near;
+    for at in 0..bytes.len() {
+        if bytes[at] == byte {
+            return at;
+        }
     }
-    far_position(bytes, near, byte)
+    bytes.len()
 }
 
 /// How many bytes come before the first line feed.

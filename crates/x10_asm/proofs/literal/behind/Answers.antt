@@ -19,8 +19,8 @@ returns-then-at-bytes c =
     let lt = rw c.as_bytes-bytes.ensures.value at c.loop-at-test.true in
     let here = rw c.as_bytes-bytes.ensures.value at c.if-byte-eq92.true in
     none_within c.args.quoted.now true (c.loop-at.at + 1)
-        (backslash_within c.args.quoted.now c.loop-at.at c.loop-at.invariant lt here)
-        (rw c.as_bytes-bytes.ensures.value at c.if-at-bytes.true)
+    (backslash_within c.args.quoted.now c.loop-at.at c.loop-at.invariant lt here)
+    (rw c.as_bytes-bytes.ensures.value at c.if-at-bytes.true)
 
 pub returns-in_default : goal.returns-in_default
 returns-in_default c =
@@ -29,8 +29,8 @@ returns-in_default c =
     let e = rw c.as_bytes-bytes.ensures.value at c.unescaped.ensures in
     let next = rw c.as_bytes-bytes.ensures.value at c.if-at-bytes.false in
     bad_within c.args.quoted.now (c.loop-at.at + 1) (sym e ∙ c.in_default.is)
-        (backslash_within c.args.quoted.now c.loop-at.at c.loop-at.invariant lt here)
-        (omega (arith, next))
+    (backslash_within c.args.quoted.now c.loop-at.at c.loop-at.invariant lt here)
+    (omega (arith, next))
 
 pub loop-at-preserved-then-byte-eq92 : goal.loop-at-preserved-then-byte-eq92
 loop-at-preserved-then-byte-eq92 c =
@@ -39,8 +39,8 @@ loop-at-preserved-then-byte-eq92 c =
     let e = rw c.as_bytes-bytes.ensures.value at c.unescaped.ensures in
     let next = rw c.as_bytes-bytes.ensures.value at c.if-at-bytes.false in
     escape_within c.args.quoted.now (c.loop-at.at + 1) _ (sym e ∙ c.in-Some.is)
-        (backslash_within c.args.quoted.now c.loop-at.at c.loop-at.invariant lt here)
-        (omega (arith, next))
+    (backslash_within c.args.quoted.now c.loop-at.at c.loop-at.invariant lt here)
+    (omega (arith, next))
 
 pub loop-at-preserved : goal.loop-at-preserved
 loop-at-preserved c =
