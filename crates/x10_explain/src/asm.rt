@@ -146,7 +146,10 @@ fn push_case(
     match faulty.fault.cause {
         AsmCause::Order => push_order(out, text, number, said.statement, said.first),
         AsmCause::Label => push_label(alloc, out, text, faulty),
-        AsmCause::Text => push_quotes(out, line, faulty.quotes),
+        AsmCause::Text => match faulty.quotes {
+            Some(wrong) => push_quotes(out, line, wrong, faulty.word()),
+            None => push_no_fault(out),
+        },
         AsmCause::Limit => push_limit(out, text, number, line, said.statement),
         AsmCause::Entry => push_entry(out, text, number, line),
         AsmCause::Word | AsmCause::Number | AsmCause::Count | AsmCause::Memory => {

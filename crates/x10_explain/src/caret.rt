@@ -1,7 +1,6 @@
 //! Marks beneath the word of a line that is at fault.
 
 use crate::flaws::names_function;
-use crate::quotes::Misquoted;
 use crate::text::MOST_SHOWN;
 use std::alloc::AllocError;
 use x10_asm::{AsmCause, Flaw, Line, Statement, next_word, number_of};
@@ -105,15 +104,9 @@ fn span_of_flaw(line: &str, flaw: Flaw) -> Span {
     }
 }
 
-/// The word at which a line is refused for a cause, by the flaw that it has whatever the other lines say, and by what is wrong with
-/// its quotes.
-pub(crate) fn marked(
-    line: &str,
-    said: Line,
-    cause: AsmCause,
-    flaw: Option<Flaw>,
-    quotes: Option<(Misquoted, Span)>,
-) -> Option<Span> {
+/// The word at which a line is refused for a cause, by the flaw that it has whatever the other lines say. Where that is its text in
+/// quotes, `in_quotes` finds the bytes.
+pub(crate) fn marked(line: &str, said: Line, cause: AsmCause, flaw: Option<Flaw>) -> Option<Span> {
     if let Some(flaw) = flaw {
         if flaw.cause != cause {
             return None;
@@ -127,10 +120,10 @@ pub(crate) fn marked(
     match cause {
         AsmCause::Order => Some(span_of(line, said.first, said.rest)),
         AsmCause::Label => label_word(line, said),
-        AsmCause::Text => quotes.map(|(_, span)| span),
         AsmCause::Limit => Some(limit_word(line, said)),
         AsmCause::Entry => nth_word(line, 1),
-        AsmCause::Word | AsmCause::Number | AsmCause::Count | AsmCause::Memory => None,
+        AsmCause::Word | AsmCause::Number | AsmCause::Count | AsmCause::Text | AsmCause::Memory =>
+            None,
     }
 }
 

@@ -17,8 +17,8 @@ pub(crate) struct Faulty<'a> {
     pub(crate) classes: usize,
     /// The word at which the line is faulty whatever the other lines say.
     pub(crate) flaw: Option<Flaw<'a>>,
-    /// What is wrong with its quotes, where nothing else is and it is refused for them.
-    pub(crate) quotes: Option<(Misquoted, Span)>,
+    /// What is wrong with its text in quotes, where nothing else is and it is refused for that.
+    pub(crate) quotes: Option<Misquoted>,
     /// The word at which it is refused.
     pub(crate) mark: Option<Span>,
 }
@@ -32,18 +32,33 @@ impl<'a> Faulty<'a> {
         classes: usize,
         flaw: Option<Flaw<'a>>,
     ) -> Faulty<'a> {
-        let quotes = match flaw {
-            None if fault.cause == AsmCause::Text => quoted(line, said),
-            _ => None,
-        };
         Faulty {
             fault,
             line,
             said,
             classes,
             flaw,
-            quotes,
-            mark: marked(line, said, fault.cause, flaw, quotes),
+            quotes: None,
+            mark: marked(line, said, fault.cause, flaw),
+        }
+    }
+
+    /// A line that is refused for its text in quotes and has no flaw.
+    fn misquoted(
+        fault: AsmFault,
+        line: &'a str,
+        said: Line<'a>,
+        wrong: Misquoted,
+        mark: Option<Span>,
+    ) -> Faulty<'a> {
+        Faulty {
+            fault,
+            line,
+            said,
+            classes: 0,
+            flaw: None,
+            quotes: Some(wrong),
+            mark,
         }
     }
 
@@ -61,6 +76,9 @@ impl<'a> Faulty<'a> {
 pub(crate) fn faulty_at<'a>(text: &'a str, fault: AsmFault) -> Option<Faulty<'a>> {
     let line = line_at(text, fault.line)?;
     let said = line_of(line);
+    if let Some((wrong, mark)) = quoted(fault, line, said) {
+        return Some(Faulty::misquoted(fault, line, said, wrong, mark));
+    }
     let classes = if names_class(said) {
         classes_in(text)
     } else {
@@ -94,9 +112,9 @@ fn version_for(text: &str, said: Line) -> ImageVersion {
     }
 }
 
-// What is wrong with the quotes of a text line, and the bytes that show it.
-fn quoted(line: &str, said: Line) -> Option<(Misquoted, Span)> {
-    if said.statement != Statement::Text {
+// What is wrong with the text in quotes of a line that is refused for it, and the bytes that show it.
+fn quoted(fault: AsmFault, line: &str, said: Line) -> Option<(Misquoted, Option<Span>)> {
+    if fault.cause != AsmCause::Text || said.statement != Statement::Text {
         return None;
     }
     in_quotes(line, line.len().saturating_sub(said.rest.len()))

@@ -4,7 +4,7 @@ ghost use Rattle.std.specs.Prelude.{◌<◌, length};
 
 use crate::caret::Span;
 use crate::text::push_said;
-use memchr::{memchr, memchr2};
+use memchr::memchr;
 use std::alloc::AllocError;
 use std::fmt::Write;
 use x10_model::limits::MOST_BYTES;
@@ -20,23 +20,30 @@ pub(crate) enum Misquoted {
     Closing,
     /// Something comes right after its second quote.
     Behind,
+    /// Nothing: it is too long.
+    Long,
 }
 
-/// What is wrong with a text in quotes that begins after `from` bytes of a line, and the bytes that show it. Nothing where it
-/// is closed well.
-pub(crate) fn in_quotes(line: &str, from: usize) -> Option<(Misquoted, Span)> {
+/// What is wrong with a text in quotes that begins after `from` bytes of a line and is refused as a text, and the bytes that show
+/// it. Nothing where that is another fault: no text is there, or a word comes after it.
+pub(crate) fn in_quotes(line: &str, from: usize) -> Option<(Misquoted, Option<Span>)> {
     let bytes = line.as_bytes();
     let quote = past_spaces(bytes, from);
     if quote >= bytes.len() {
         return None;
     }
     if bytes[quote] != b'"' {
-        return Some((Misquoted::Opening, word_from(bytes, quote)));
+        return Some((Misquoted::Opening, Some(word_from(bytes, quote))));
     }
-    match closing(bytes, quote) {
-        Ok(close) => Some((Misquoted::Behind, behind(bytes, close)?)),
-        Err(wrong) => Some(wrong),
+    let close = match closing(bytes, quote) {
+        Ok(close) => close,
+        Err((wrong, span)) => return Some((wrong, Some(span))),
+    };
+    if let Some(span) = behind(bytes, close) {
+        return Some((Misquoted::Behind, Some(span)));
     }
+    let is_alone = past_spaces(bytes, close.saturating_add(1)) >= bytes.len();
+    is_alone.then_some((Misquoted::Long, None))
 }
 
 // The first byte from `from` on that is not a space.
@@ -62,45 +69,28 @@ fn word_from(bytes: &[u8], from: usize) -> Span {
     Span { from, to }
 }
 
-/// How many bytes are looked at one by one before a search by `memchr2`, which takes longer to begin.
-const NEAR: usize = 16;
-
-// Where the first quote or backslash is from `from` on; the end where there is none.
-fn next_sign(bytes: &[u8], from: usize) -> usize {
-    let near = bytes.len().min(from.saturating_add(NEAR));
-    for at in from..near {
-        if matches!(bytes[at], b'"' | b'\\') {
-            return at;
-        }
-    }
-    let far = match bytes.get(near..) {
-        Some(rest) => memchr2(b'"', b'\\', rest),
-        None => None,
-    };
-    match far {
-        Some(at) => near.saturating_add(at),
-        None => bytes.len(),
-    }
+// Whether a backslash goes with a byte.
+fn is_escaped(byte: u8) -> bool {
+    matches!(byte, b'"' | b'\\' | b'n')
 }
 
 // Where the quote that opens at a byte is closed; else the escape that isn't known, or the open quote.
 fn closing(bytes: &[u8], quote: usize) -> Result<usize, (Misquoted, Span)>
     requires { quote < length bytes.now }
 {
-    let mut from = quote + 1;
-    for _ in quote..bytes.len() {
-        let at = next_sign(bytes, from);
-        if bytes.get(at) == Some(&b'"') {
+    let mut at = quote + 1;
+    while at < bytes.len() {
+        let byte = bytes[at];
+        if byte == b'"' {
             return Ok(at);
         }
-        let behind = at.saturating_add(1);
-        let Some(escaped) = bytes.get(behind) else {
-            break;
-        };
-        from = behind.saturating_add(1);
-        if !matches!(*escaped, b'"' | b'\\' | b'n') {
-            let (from, to) = (at, from);
-            return Err((Misquoted::Escape, Span { from, to }));
+        at += 1;
+        if byte == b'\\' && at < bytes.len() {
+            if !is_escaped(bytes[at]) {
+                let (from, to) = (at.saturating_sub(1), at + 1);
+                return Err((Misquoted::Escape, Span { from, to }));
+            }
+            at += 1;
         }
     }
     let (from, to) = (quote, quote + 1);
@@ -120,15 +110,9 @@ fn behind(bytes: &[u8], close: usize) -> Option<Span> {
 pub(crate) fn push_quotes(
     out: &mut String,
     line: &str,
-    quotes: Option<(Misquoted, Span)>,
+    wrong: Misquoted,
+    word: &str,
 ) -> Result<(), AllocError> {
-    let Some((wrong, span)) = quotes else {
-        return writeln!(
-            out,
-            "A text has {MOST_BYTES} bytes at most; this one has more."
-        );
-    };
-    let word = line.get(span.from..span.to).unwrap_or("");
     match wrong {
         Misquoted::Opening => push_opening(out, word),
         Misquoted::Escape => out.push_str(
@@ -144,6 +128,10 @@ pub(crate) fn push_quotes(
                 " comes right after the second quote, which ends the text; a quote inside it has a backslash before it.\n",
             )
         }
+        Misquoted::Long => writeln!(
+            out,
+            "A text has {MOST_BYTES} bytes at most; this one has more."
+        ),
     }
 }
 
