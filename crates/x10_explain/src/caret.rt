@@ -55,9 +55,10 @@ fn column_at(line: &str, at: usize) -> usize {
 
 // How many characters a text has: each byte but the later ones of a character begins one.
 fn characters(text: &str) -> usize {
-    text.bytes()
-        .filter(|byte| !matches!(byte, 128..=191))
-        .count()
+    // with neither a branch nor an end at the greatest number, many are looked at at once
+    text.bytes().fold(0_usize, |count, byte| {
+        count.wrapping_add(usize::from(!matches!(byte, 128..=191)))
+    })
 }
 
 // What is put in place of a byte before the marks: a tab stays one, and the later bytes of a character have no column.

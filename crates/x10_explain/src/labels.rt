@@ -5,7 +5,7 @@ use crate::nearest::{FAR, edits};
 use memchr::memchr;
 use std::alloc::{AllocError, Global};
 use std::fmt::Write;
-use x10_asm::{Statement, line_of};
+use x10_asm::{Statement, line_of, next_line};
 
 /// The most labels of a function that are compared with a name.
 const MOST_COMPARED: usize = 200;
@@ -89,7 +89,10 @@ pub(crate) fn push_use(
 // The first label of a name among the first lines of a text: the number of its line, and that of its function.
 fn elsewhere(text: &str, name: &str) -> Option<(usize, usize)> {
     let mut functions: usize = 0;
-    for (index, line) in text.lines().enumerate().take(MOST_LOOKED) {
+    let mut rest = text;
+    for index in 0..MOST_LOOKED {
+        let (line, after) = next_line(rest)?;
+        rest = after;
         if bound_in(line) == Some(Bound::Begins) {
             functions = functions.saturating_add(1);
         }
@@ -109,7 +112,8 @@ enum Bound {
 
 // Whether a line begins or ends a function. Only a line with the first letter of such a word is taken apart.
 fn bound_in(line: &str) -> Option<Bound> {
-    if !line.trim_start_matches(' ').starts_with(['f', 'e']) {
+    let first = line.bytes().find(|byte| *byte != b' ')?;
+    if !matches!(first, b'f' | b'e') {
         return None;
     }
     match line_of(line).statement {
@@ -124,7 +128,12 @@ fn scope_of(text: &str, number: usize) -> Scope {
     let mut functions: usize = 0;
     let mut from: usize = 0;
     let mut count: usize = 0;
-    for (index, line) in text.lines().enumerate() {
+    let mut rest = text;
+    for index in 0..text.len() {
+        let Some((line, after)) = next_line(rest) else {
+            break;
+        };
+        rest = after;
         let bound = bound_in(line);
         if bound.is_some() && index >= number {
             break;
@@ -184,6 +193,10 @@ fn nearest_label<'a>(
         if edits < least {
             least = edits;
             best = Some(label);
+        }
+        // none is nearer, since no label has the name itself
+        if least <= 1 {
+            break;
         }
     }
     Ok(best.and_then(|found| label_named(text, scope, found)))

@@ -49,13 +49,25 @@ fn nearer<'a>(
     })
 }
 
+// How many bytes of whole characters two words have in common at the front. No edit is of these.
+fn alike_in(word: &str, name: &str) -> usize {
+    let pairs = word.bytes().zip(name.bytes());
+    let count = pairs.take_while(|pair| pair.0 == pair.1).count();
+    word.floor_char_boundary(count)
+}
+
 /// How many edits lead from a word to a name that is near to it: one, or two where the word has six bytes or more. `FAR` where
 /// it isn't near.
 pub(crate) fn edits(alloc: Global, word: &str, name: &str) -> Result<usize, AllocError> {
     if word.len() < 2 || word.len() > 40 || word.len().abs_diff(name.len()) > 2 {
         return Ok(FAR);
     }
-    let edits = osa_distance(alloc, word, name)?;
+    let alike = alike_in(word, name);
+    let edits = osa_distance(
+        alloc,
+        word.get(alike..).unwrap_or(word),
+        name.get(alike..).unwrap_or(name),
+    )?;
     if edits < 2 || word.len() > 5 {
         Ok(edits)
     } else {
