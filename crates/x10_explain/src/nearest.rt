@@ -49,6 +49,12 @@ fn nearer<'a>(
     })
 }
 
+// The characters of a word as a set of bits. Two may have one bit.
+fn letters(word: &str) -> u64 {
+    word.chars()
+        .fold(0, |all, c| all | 1_u64.wrapping_shl(u32::from(c)))
+}
+
 // How many bytes of whole characters two words have in common at the front. No edit is of these.
 fn alike_in(word: &str, name: &str) -> usize {
     let pairs = word.bytes().zip(name.bytes());
@@ -60,6 +66,10 @@ fn alike_in(word: &str, name: &str) -> usize {
 /// it isn't near.
 pub(crate) fn edits(alloc: Global, word: &str, name: &str) -> Result<usize, AllocError> {
     if word.len() < 2 || word.len() > 40 || word.len().abs_diff(name.len()) > 2 {
+        return Ok(FAR);
+    }
+    // an edit takes at most one character away and brings one
+    if (letters(word) ^ letters(name)).count_ones() > 4 {
         return Ok(FAR);
     }
     let alike = alike_in(word, name);
