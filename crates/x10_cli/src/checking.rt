@@ -13,7 +13,7 @@ use x10_explain::{CheckFault, Checked, Form, check_image, check_text};
 use x10_task::Task;
 
 /// Prints the bounds of the module that a file is, or what is wrong with it.
-pub(crate) fn print_check<O: Write>(
+pub fn print_check<O: Write>(
     alloc: Global,
     task: &Task,
     bytes: &[u8],

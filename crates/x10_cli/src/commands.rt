@@ -158,7 +158,7 @@ fn perform<R: Threads + Wait + Sync, O: Write>(
 }
 
 /// The view of an image.
-fn image_of<'a>(alloc: Global, bytes: &'a [u8]) -> Result<ImageView<'a>, Fault>
+pub fn image_of<'a>(alloc: Global, bytes: &'a [u8]) -> Result<ImageView<'a>, Fault>
     ensures found { IfOk result (IsImage bytes.now) }
     ensures due { (asked : Option ℕ) → IfErr result (IsDue asked bytes.now) }
     ensures refused { IfErr result (λ e. status_of e ≡ 1 → (m : Module) → IsImage bytes.now m → ⊥) }
@@ -167,7 +167,7 @@ fn image_of<'a>(alloc: Global, bytes: &'a [u8]) -> Result<ImageView<'a>, Fault>
 }
 
 /// The module of an image, verified.
-pub(crate) fn verified_in<'a>(alloc: Global, bytes: &'a [u8]) -> Result<Verified<'a>, Fault>
+pub fn verified_in<'a>(alloc: Global, bytes: &'a [u8]) -> Result<Verified<'a>, Fault>
     ensures found { IfOk result (IsImageOf bytes.now) }
     ensures due { (asked : Option ℕ) → IfErr result (IsDue asked bytes.now) }
     ensures refused { IfErr result (λ e. status_of e ≡ 1 → IsVerifiedImage bytes.now → ⊥) }
@@ -177,7 +177,7 @@ pub(crate) fn verified_in<'a>(alloc: Global, bytes: &'a [u8]) -> Result<Verified
 }
 
 /// The image that a text spells.
-fn print_image<O: Write>(alloc: Global, bytes: &[u8], out: &mut O) -> Result<(), Fault>
+pub fn print_image<O: Write>(alloc: Global, bytes: &[u8], out: &mut O) -> Result<(), Fault>
     ensures done { IfOk result (λ _. CanBeDone verb.Asm None bytes.now) }
     ensures printed { OnOk result (Prints verb.Asm false None bytes.now (O.contents out.old)
         (O.contents out.new)) }
@@ -194,7 +194,7 @@ fn print_image<O: Write>(alloc: Global, bytes: &[u8], out: &mut O) -> Result<(),
 }
 
 /// The canonical listing, or what JSON has of the module.
-fn print_listing<O: Write>(
+pub fn print_listing<O: Write>(
     alloc: Global,
     task: &Task,
     bytes: &[u8],
@@ -282,7 +282,12 @@ fn print_bounds<O: Write>(alloc: Global, bytes: &[u8], out: &mut O) -> Result<()
 }
 
 /// Runs a module, and prints what its places printed, even where the run stops before its end.
-fn print_run<O: Write>(alloc: Global, task: &Task, bytes: &[u8], out: &mut O) -> Result<(), Fault>
+pub fn print_run<O: Write>(
+    alloc: Global,
+    task: &Task,
+    bytes: &[u8],
+    out: &mut O,
+) -> Result<(), Fault>
     ensures done { IfOk result (λ _. CanBeDone verb.Run task.now.places bytes.now) }
     ensures printed { OnOk result (Prints verb.Run task.now.json task.now.places bytes.now
         (O.contents out.old) (O.contents out.new)) }

@@ -14,6 +14,6 @@ mod schedule;
 mod threads;
 mod trace;
 
-pub use checking::is_image;
-pub use commands::{execute, tell};
+pub use checking::{is_image, print_check};
+pub use commands::{execute, image_of, print_image, print_listing, print_run, tell, verified_in};
 pub use fault::Fault;
