@@ -105,18 +105,6 @@ static void nulls(void)
     SAYS(burjeeg_check(text.at, text.length, buffer, 9, &needed, NULL) == BURJEEG_NULL);
     SAYS(burjeeg_run(image.at, image.length, 0, 9, buffer, 9, NULL, &fault) == BURJEEG_NULL);
     SAYS(burjeeg_run(image.at, image.length, 0, 9, buffer, 9, &needed, NULL) == BURJEEG_NULL);
-    SAYS(burjeeg_verify(NULL, image.length, &fault) == BURJEEG_NULL);
-    SAYS(burjeeg_bounds(NULL, image.length, bounds, 64, &needed, &fault) == BURJEEG_NULL);
-    SAYS(burjeeg_bounds(image.at, image.length, NULL, 64, &needed, &fault) == BURJEEG_NULL);
-    SAYS(burjeeg_list(NULL, image.length, buffer, 9, &needed, &fault) == BURJEEG_NULL);
-    SAYS(burjeeg_list(image.at, image.length, NULL, 9, &needed, &fault) == BURJEEG_NULL);
-    SAYS(burjeeg_assemble(NULL, text.length, buffer, 9, &needed, &fault) == BURJEEG_NULL);
-    SAYS(burjeeg_assemble(text.at, text.length, NULL, 9, &needed, &fault) == BURJEEG_NULL);
-    SAYS(burjeeg_check(NULL, text.length, buffer, 9, &needed, &fault) == BURJEEG_NULL);
-    SAYS(burjeeg_check(text.at, text.length, NULL, 9, &needed, &fault) == BURJEEG_NULL);
-    SAYS(burjeeg_run(NULL, image.length, 0, 9, buffer, 9, &needed, &fault) == BURJEEG_NULL);
-    SAYS(burjeeg_run(image.at, image.length, 0, 9, NULL, 9, &needed, &fault) == BURJEEG_NULL);
-    SAYS(burjeeg_fault_line(&fault, NULL, 9, &needed) == BURJEEG_NULL);
     SAYS(burjeeg_fault_line(NULL, buffer, 9, &needed) == BURJEEG_NULL);
     SAYS(burjeeg_fault_line(&fault, buffer, 9, NULL) == BURJEEG_NULL);
     SAYS(needed == 77 && fault.kind == 77);

@@ -7,8 +7,8 @@
  * What is proved of them is proved of calls that keep to this page:
  * - A pointer with a length points to that many bytes, which nobody else writes during the call. What a call writes to
  *   overlaps with nothing else that is passed to it.
- * - No pointer is null. Where one is, a call answers BURJEEG_NULL and does nothing, which is tested and not proved; one that
- *   comes with a length or a room of 0 may be null.
+ * - No pointer is null, but one with a length or a room of 0 may be. Where the pointer to a fault, to `needed` or to `count` is, a
+ *   call answers BURJEEG_NULL and does nothing, which is tested and not proved.
  * - malloc, realloc and free are those of one allocator. A call isn't made from a signal handler, nor in a child that was forked
  *   from a process with several threads.
  *
@@ -30,7 +30,7 @@ enum burjeeg_status {
     BURJEEG_REFUSED = 1, /* it can't be done with these bytes; the fault says why */
     BURJEEG_STOPPED = 2, /* it was stopped, by want of memory, a limit or a full count; the fault says which */
     BURJEEG_NO_TEXT = 4, /* the text isn't UTF-8 */
-    BURJEEG_NULL = 5,    /* a pointer is null; nothing was done or written */
+    BURJEEG_NULL = 5,    /* a pointer is null that has no length; nothing was done or written */
     BURJEEG_SMALL = 6    /* the buffer is too small, and as it was; `needed` tells how much is needed */
 };
 

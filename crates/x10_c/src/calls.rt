@@ -8,7 +8,7 @@ ghost use Rattle.x10_c.specs.Numbers.{no_fault, numbers_of};
 ghost use Rattle.x10_c.specs.Calls.{Answers, HasRoom, IsAddress, IsBounded, IsMutAddress, IsTold, asked_of};
 
 use crate::answer::{NULL, SMALL, copy, give, tell};
-use crate::null::{is_null, is_null_slice};
+use crate::null::is_null;
 use crate::numbers::{FaultNumbers, fault};
 use crate::work::{assembled, bounded, checked, line_of, listed, ran, verified};
 use std::alloc::Global;
@@ -17,14 +17,13 @@ use std::alloc::Global;
 /// 2: memory was refused.
 #[unsafe(no_mangle)]
 pub extern "C" fn burjeeg_verify(alloc: Global, image: &[u8], told: &mut FaultNumbers) -> u32
-    requires image { IsAddress image }
     requires told { IsMutAddress told }
     ensures verified { result ≡ 0 → IsVerifiedImage image.now }
     ensures clear { result ≡ 0 → told.new ≡ no_fault }
     ensures refused { result ≡ 1 → IsVerifiedImage image.now → ⊥ }
     ensures due { result ≢ 0 → IsTold image.now None result told.new }
 {
-    if is_null_slice(image) || is_null(&*told) {
+    if is_null(&*told) {
         return NULL;
     }
     tell(verified(alloc, image), told)
@@ -39,8 +38,6 @@ pub extern "C" fn burjeeg_bounds(
     count: &mut usize,
     told: &mut FaultNumbers,
 ) -> u32
-    requires image { IsAddress image }
-    requires bounds { IsMutAddress bounds }
     requires count { IsMutAddress count }
     requires told { IsMutAddress told }
     ensures done { result ≡ 0 → IsBounded image.now (take count.new bounds.new) }
@@ -51,7 +48,7 @@ pub extern "C" fn burjeeg_bounds(
     ensures wanted { result ≡ 6 → (found : List ℕ) × IsBounded image.now found
         × (count.new ≡ length found) }
 {
-    if is_null_slice(image) || is_null_slice(&*bounds) || is_null(&*count) || is_null(&*told) {
+    if is_null(&*count) || is_null(&*told) {
         return NULL;
     }
     *count = 0;
@@ -77,13 +74,11 @@ pub extern "C" fn burjeeg_list(
     needed: &mut usize,
     told: &mut FaultNumbers,
 ) -> u32
-    requires image { IsAddress image }
-    requires buffer { IsMutAddress buffer }
     requires needed { IsMutAddress needed }
     requires told { IsMutAddress told }
     ensures { Answers verb.List None image.now result told.new needed.new buffer.old buffer.new }
 {
-    if is_null_slice(image) || is_null_slice(&*buffer) || is_null(&*needed) || is_null(&*told) {
+    if is_null(&*needed) || is_null(&*told) {
         return NULL;
     }
     let mut text = Vec::new(alloc);
@@ -100,13 +95,11 @@ pub extern "C" fn burjeeg_assemble(
     needed: &mut usize,
     told: &mut FaultNumbers,
 ) -> u32
-    requires text { IsAddress text }
-    requires buffer { IsMutAddress buffer }
     requires needed { IsMutAddress needed }
     requires told { IsMutAddress told }
     ensures { Answers verb.Asm None text.now result told.new needed.new buffer.old buffer.new }
 {
-    if is_null_slice(text) || is_null_slice(&*buffer) || is_null(&*needed) || is_null(&*told) {
+    if is_null(&*needed) || is_null(&*told) {
         return NULL;
     }
     let mut image = Vec::new(alloc);
@@ -123,13 +116,11 @@ pub extern "C" fn burjeeg_check(
     needed: &mut usize,
     told: &mut FaultNumbers,
 ) -> u32
-    requires bytes { IsAddress bytes }
-    requires buffer { IsMutAddress buffer }
     requires needed { IsMutAddress needed }
     requires told { IsMutAddress told }
     ensures { Answers verb.Check None bytes.now result told.new needed.new buffer.old buffer.new }
 {
-    if is_null_slice(bytes) || is_null_slice(&*buffer) || is_null(&*needed) || is_null(&*told) {
+    if is_null(&*needed) || is_null(&*told) {
         return NULL;
     }
     let mut text = Vec::new(alloc);
@@ -149,14 +140,12 @@ pub extern "C" fn burjeeg_run(
     needed: &mut usize,
     told: &mut FaultNumbers,
 ) -> u32
-    requires image { IsAddress image }
-    requires buffer { IsMutAddress buffer }
     requires needed { IsMutAddress needed }
     requires told { IsMutAddress told }
     ensures { Answers verb.Run (asked_of places) image.now result told.new needed.new buffer.old
         buffer.new }
 {
-    if is_null_slice(image) || is_null_slice(&*buffer) || is_null(&*needed) || is_null(&*told) {
+    if is_null(&*needed) || is_null(&*told) {
         return NULL;
     }
     let mut text = Vec::new(alloc);
@@ -173,7 +162,6 @@ pub extern "C" fn burjeeg_fault_line(
     needed: &mut usize,
 ) -> u32
     requires told { IsAddress told }
-    requires buffer { IsMutAddress buffer }
     requires needed { IsMutAddress needed }
     ensures line { (f : Fault) → numbers_of f ≡ told.now → result ≡ 0
         → take needed.new buffer.new ≡ fault_line f }
@@ -182,7 +170,7 @@ pub extern "C" fn burjeeg_fault_line(
     ensures refused { result ≡ 1 → (f : Fault) → numbers_of f ≡ told.now → ⊥ }
     ensures room { HasRoom result needed.new buffer.old buffer.new }
 {
-    if is_null(told) || is_null_slice(&*buffer) || is_null(&*needed) {
+    if is_null(told) || is_null(&*needed) {
         return NULL;
     }
     *needed = 0;

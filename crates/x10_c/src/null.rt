@@ -1,6 +1,5 @@
 //! Pointers from programs that aren't Rattle.
 ghost use Rattle.std.specs.Prelude.{◌≡◌, false};
-ghost use Rattle.std.specs.Ptr.{as_ptr};
 ghost use Rattle.x10_c.specs.Calls.{IsAddress};
 
 use std::ptr::{self, NonNull};
@@ -11,19 +10,4 @@ pub fn is_null<T>(at: &T) -> bool
     ensures { result ≡ false }
 {
     NonNull::new(ptr::from_ref(at).cast_mut()).is_none()
-}
-
-/// The same of a slice that has items.
-pub fn is_null_slice<T>(items: &[T]) -> bool
-    requires { IsAddress items }
-    ensures { result ≡ false }
-{
-    items.len() > 0 && NonNull::new(start(items).cast_mut()).is_none()
-}
-
-/// Where the items of a slice begin.
-fn start<T>(items: &[T]) -> *const T
-    ensures { result ≡ as_ptr items.entry }
-{
-    items.as_ptr()
 }
