@@ -9,7 +9,7 @@ _x10p_has() {
     case $1 in
     '')
         options=(-h --help -V --version)
-        arguments=('words asm list check verify bounds explain run runs trace draw help')
+        arguments=('words asm list check verify bounds explain run runs audit trace draw help')
         ;;
     asm)
         options=(--explain --color -h --help)
@@ -43,11 +43,11 @@ _x10p_has() {
         ;;
     explain)
         options=(-h --help)
-        arguments=('words Word Number Count Order Label Text Limit Entry Nesting Jump LoopSlot CallOrder Atomic TooLarge Index Unset Kind Home Result places turns file usage thread refused differs Memory Short Magic Version Reserved Code Trailing')
+        arguments=('words Word Number Count Order Label Text Limit Entry Nesting Jump LoopSlot CallOrder Atomic TooLarge Index Unset Kind Home Result places turns file usage thread refused differs open Memory Short Magic Version Reserved Code Trailing Head Image Place Taken Key Frame Printed Spelling Ending')
         ;;
     run)
-        options=(--places --limit --schedule --seed --explain --color --threads --json -h --help)
-        values=([--places]='nothing' [--limit]='nothing' [--schedule]='words rounds random oldest newest' [--seed]='nothing' [--explain]='words yes no' [--color]='words auto always never')
+        options=(--places --limit --schedule --seed --explain --color --threads --log --json -h --help)
+        values=([--places]='nothing' [--limit]='nothing' [--schedule]='words rounds random oldest newest' [--seed]='nothing' [--explain]='words yes no' [--color]='words auto always never' [--log]='files log')
         optional=(--explain)
         arguments=('files asm x10')
         ;;
@@ -56,6 +56,12 @@ _x10p_has() {
         values=([--seeds]='nothing' [--places]='nothing' [--limit]='nothing' [--explain]='words yes no' [--color]='words auto always never')
         optional=(--explain)
         arguments=('files asm x10')
+        ;;
+    audit)
+        options=(--json --explain --color -h --help)
+        values=([--explain]='words yes no' [--color]='words auto always never')
+        optional=(--explain)
+        arguments=('files asm x10' 'files log')
         ;;
     trace)
         options=(--places --limit --schedule --seed --explain --color -h --help)
@@ -70,7 +76,7 @@ _x10p_has() {
         arguments=('files asm x10' 'files svg')
         ;;
     help)
-        arguments=('words asm list check verify bounds explain run runs trace draw help')
+        arguments=('words asm list check verify bounds explain run runs audit trace draw help')
         ;;
     esac
 }

@@ -118,7 +118,7 @@ stopped_by (stop.Limit limit) is = omega (arith, is)
 stopped_by stop.Memory is = omega (arith, is)
 stopped_by stop.Stopped is = omega (arith, is)
 
-refused_by : (f : WorkFault) → status_of (of_work f) ≡ 1 → f ≡ work.Places
+pub refused_by : (f : WorkFault) → status_of (of_work f) ≡ 1 → f ≡ work.Places
 refused_by (work.Stop place why report) is = absurd (stopped_by why is)
 refused_by (work.Turns report) is = absurd (omega (arith, is))
 refused_by (work.Refused place why) is = absurd (omega (arith, is))

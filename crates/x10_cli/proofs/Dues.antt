@@ -35,7 +35,23 @@ use Rattle.x10_world.specs.declared.fault.OpenFault.TheVariants as opened
 use Rattle.x10_world.specs.declared.rounds.Unfinished.{Unfinished}
 use Rattle.x10_world.specs.declared.rounds.Unfinished.TheVariants as halt
 use Rattle.x10_cli.specs.declared.fault.Fault.{Fault}
-use Rattle.x10_cli.specs.Answers.{IsImage, IsDue, begins_as_image, places_for, of_asm, of_image, of_verify, of_bounds, of_open, of_stop, of_halt, of_work, of_refusal, RefusesFile}
+use Rattle.x10_cli.specs.Answers.{IsImage, IsDue, IsOfModule, begins_as_image, places_for, of_asm, of_image, of_verify, of_bounds, of_open, of_stop, of_halt, of_work, of_refusal, RefusesFile}
+
+kind_of_image : (f : ImageFault) → IsOfModule (of_image f)
+kind_of_image image.Memory = tt
+kind_of_image image.Short = tt
+kind_of_image _ = tt
+
+pub image_kind : (f : ImageFault) (told : Fault) → told ≡ of_image f → IsOfModule told
+image_kind f told e = subst IsOfModule (sym e) (kind_of_image f)
+
+kind_of_verify : (c : VerifyCause) (f : VerifyFault) → IsOfModule (of_verify c f)
+kind_of_verify verify.Memory f = tt
+kind_of_verify verify.Index f = tt
+kind_of_verify _ f = tt
+
+pub verify_kind : (f : VerifyFault) (told : Fault) → told ≡ of_verify f.cause f → IsOfModule told
+verify_kind f told e = subst IsOfModule (sym e) (kind_of_verify f.cause f)
 
 text_by : (asked : Option ℕ) (bytes : List ℕ) (c : AsmCause) (f : AsmFault) → (c ≢ asm.Memory → module_of bytes ≡ Err f)
     → IsDue asked bytes (of_asm c f)

@@ -4,3 +4,4 @@ pub mod UndoneLemmas
 pub mod Dues
 pub mod RunLemmas
 pub mod Found
+pub mod LogLemmas

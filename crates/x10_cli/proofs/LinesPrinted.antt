@@ -1,5 +1,5 @@
 -- What is printed line after line.
-use Rattle.std.proofs.Common.{◌≡◌, ℕ, zero, suc, ◌+◌, ◌<◌, List, [], ◌∷◌, ◌++◌, Bool, true, false, length, get_or, map, Option, Some, None, sym, ap, subst, ◌∙◌, arith, append_assoc}
+use Rattle.std.proofs.Common.{◌≡◌, ℕ, zero, suc, ◌+◌, ◌<◌, List, [], ◌∷◌, ◌++◌, Bool, length, get_or, map, Option, Some, None, sym, ap, subst, ◌∙◌, arith, append_assoc}
 use Rattle.std.specs.Prelude.{slice_get, take, Vec}
 use Rattle.std.specs.Global.{Global}
 use Rattle.std.proofs.lemmas.List.{append-nil}
@@ -187,6 +187,7 @@ prints_kept verb.Verify json asked bytes a b c p k = (p.0, p.1, p.2, p.3, Append
 prints_kept verb.Bounds json asked bytes a b c p k = (p.0, p.1, p.2, p.3, Appends-kept a b c _ p.4 k)
 prints_kept verb.Runs json asked bytes a b c p k = (p.0, p.1, (p.2.0, p.2.1, p.2.2, p.2.3, Appends-kept a b c _ p.2.4 k))
 prints_kept verb.Run json asked bytes a b c p k = (p.0, p.1, p.2, p.3, Appends-kept a b c _ p.4 k)
+prints_kept verb.Audit json asked bytes a b c p k = absurd p
 prints_kept verb.Explain json asked bytes a b c p k = (p.0, Appends-kept a b c _ p.1 k)
 prints_kept verb.Draw json asked bytes a b c p k = (p.0, p.1, p.2, p.3, Appends-kept a b c _ p.4 k)
 prints_kept verb.Trace json asked bytes a b c p k =

@@ -23,6 +23,10 @@ due_by asked bytes (fault.Image f) h = absurd (h refl)
 due_by asked bytes (fault.Verify f) h = absurd (h refl)
 due_by asked bytes (fault.Bounds f) h = absurd (h refl)
 due_by asked bytes fault.Places h = absurd (h refl)
+due_by asked bytes (fault.Log f) h = absurd (h refl)
+due_by asked bytes fault.LogImage h = absurd (h refl)
+due_by asked bytes (fault.LogDiffers turn) h = absurd (h refl)
+due_by asked bytes fault.LogOpen h = absurd (h refl)
 due_by asked bytes _ h = tt
 
 -- they are due whatever the file is

@@ -51,6 +51,7 @@ refused_kept verb.Verify a b c p k = Keeps-trans a b c p k
 refused_kept verb.Bounds a b c p k = Keeps-trans a b c p k
 refused_kept verb.Run a b c p k = Keeps-trans a b c p k
 refused_kept verb.Runs a b c p k = Keeps-trans a b c p k
+refused_kept verb.Audit a b c p k = Keeps-trans a b c p k
 refused_kept verb.Trace a b c p k = Keeps-trans a b c p k
 refused_kept verb.Draw a b c p k = Keeps-trans a b c p k
 refused_kept verb.Explain a b c p k = Keeps-trans a b c p k
@@ -79,6 +80,7 @@ stopped_kept verb.Trace json threads asked bytes a b c (inr p) k = inr (
 stopped_kept verb.Draw json threads asked bytes a b c (inl p) k = inl (Keeps-trans a b c p k)
 stopped_kept verb.Draw json threads asked bytes a b c (inr p) k = inr (p.0, p.1, p.2, p.3, Appends-kept a b c p.1 p.4 k)
 stopped_kept verb.Runs json threads asked bytes a b c p k = Keeps-trans a b c p k
+stopped_kept verb.Audit json threads asked bytes a b c p k = Keeps-trans a b c p k
 stopped_kept verb.Asm json threads asked bytes a b c p k = Keeps-trans a b c p k
 stopped_kept verb.List json threads asked bytes a b c p k = Keeps-trans a b c p k
 stopped_kept verb.ListVerbose json threads asked bytes a b c p k = Keeps-trans a b c p k
@@ -136,3 +138,17 @@ file_by e n f s other = other (sym (ap status_of f) ∙ s)
 pub same_status : (n k : ℕ) (f : Fault) → (n ≡ status_of f) ⊎ (n ≡ 4) → n ≡ k → (4 ≡ k → ⊥) → status_of f ≡ k
 same_status n k f (inl e) s other = sym e ∙ s
 same_status n k f (inr e) s other = absurd (other (sym e ∙ s))
+
+-- at status 1 and 2 no write failed
+pub told_status : (n : ℕ) (f : Fault) → (n ≡ status_of f) ⊎ (n ≡ 4) → (n ≡ 1) ⊎ (n ≡ 2) → n ≡ status_of f
+told_status n f (inl e) s = e
+told_status n f (inr e) (inl s) = absurd (let h : 4 ≡ 1 = sym e ∙ s in omega (arith, h))
+told_status n f (inr e) (inr s) = absurd (let h : 4 ≡ 2 = sym e ∙ s in omega (arith, h))
+
+pub no_failure : (n : ℕ) → (n ≡ 1) ⊎ (n ≡ 2) → n ≡ 4 → ⊥
+no_failure n (inl s) e =
+    let h : 4 ≡ 1 = sym e ∙ s in
+    omega (arith, h)
+no_failure n (inr s) e =
+    let h : 4 ≡ 2 = sym e ∙ s in
+    omega (arith, h)

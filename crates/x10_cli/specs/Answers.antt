@@ -51,6 +51,11 @@ use Rattle.x10_verify.specs.declared.fault.VerifyCause.TheVariants as verify
 use Rattle.x10_verify.specs.declared.fault.VerifyFault.{VerifyFault}
 use Rattle.x10_world.specs.declared.fault.OpenFault.{OpenFault}
 use Rattle.x10_world.specs.declared.fault.OpenFault.TheVariants as opened
+use Rattle.x10_workers.specs.declared.fault.AuditFault.{AuditFault}
+use Rattle.x10_workers.specs.declared.fault.AuditFault.TheVariants as audit
+use Rattle.x10_log.specs.declared.fault.LogCause.{LogCause}
+use Rattle.x10_log.specs.declared.fault.LogCause.TheVariants as log
+use Rattle.x10_log.specs.declared.fault.LogFault.{LogFault}
 use Rattle.x10_task.specs.declared.task.Verb.{Verb}
 use Rattle.x10_task.specs.declared.task.Verb.TheVariants as verb
 use Rattle.x10_cli.specs.declared.fault.Fault.{Fault}
@@ -87,7 +92,8 @@ is_good_file false bytes = verdict.IsVerifiedText bytes
 abbrev pub IsChecked : List ℕ → Type 0
 IsChecked bytes = is_good_file (begins_as_image bytes) bytes
 
--- the file's bytes, and of a run the number of places, are such that the command can be done
+-- The file's bytes, and of a run the number of places, are such that the command can be done. An audit can't with one file
+-- alone: it has a log too.
 abbrev pub CanBeDone : Verb → Option ℕ → List ℕ → Type 0
 CanBeDone verb.Asm places bytes = (m : Module) × (module_of bytes ≡ Ok m)
 CanBeDone verb.List places bytes = (m : Module) × IsImage bytes m
@@ -103,6 +109,7 @@ CanBeDone verb.Trace places bytes = (c : Certified) × IsImageOf bytes c
     × (IsForbidden c (places_for places c) → ⊥)
 CanBeDone verb.Draw places bytes = (c : Certified) × IsImageOf bytes c
     × (IsForbidden c (places_for places c) → ⊥)
+CanBeDone verb.Audit places bytes = ⊥
 CanBeDone verb.Explain places bytes = Unit {0}
 
 -- how many functions a verified module has, and the bound of its entry function
@@ -179,6 +186,7 @@ Prints verb.Trace json asked bytes old new = (c : Certified) × IsImageOf bytes 
 Prints verb.Draw json asked bytes old new = (c : Certified) × (picture : List ℕ) × IsImageOf bytes c
     × HasDrawn c (places_for asked c) picture
     × Appends old new picture
+Prints verb.Audit json asked bytes old new = ⊥
 Prints verb.Explain json asked bytes old new = (text : List ℕ) × Appends old new text
 Prints verb.Run json asked bytes old new = (c : Certified) × (outputs : List (List machine.Line))
     × IsImageOf bytes c × HasRun c (places_for asked c) outputs
@@ -249,7 +257,7 @@ abbrev pub IsModuleOf : List ℕ → Module → Type 0
 IsModuleOf bytes m = IsImage bytes m ⊎ ((begins_as_image bytes ≡ false) × (module_of bytes ≡ Ok m))
 
 -- a refusal is the one that is due: that of reading the text or the image, of the verifier, of the bounds, or of the number of
--- places that was asked for
+-- places that was asked for; never that of a log, which only an audit has
 abbrev pub IsDue : Option ℕ → List ℕ → Fault → Type 0
 IsDue asked bytes (fault.Asm f) = module_of bytes ≡ Err f
 IsDue asked bytes (fault.Image f) = IsFault (images.named f) (module_at bytes)
@@ -258,7 +266,18 @@ IsDue asked bytes (fault.Bounds f) = (m : Module) × IsImage bytes m
     × IsFaultOrMemory (bounds.named f.cause) f (bounds_of m)
 IsDue asked bytes fault.Places = (c : Certified) × IsImageOf bytes c
     × IsForbidden c (places_for asked c)
+IsDue asked bytes (fault.Log f) = ⊥
+IsDue asked bytes fault.LogImage = ⊥
+IsDue asked bytes (fault.LogDiffers turn) = ⊥
+IsDue asked bytes fault.LogOpen = ⊥
 IsDue asked bytes _ = Unit {0}
+
+-- a fault of reading an image or of its module
+abbrev pub IsOfModule : Fault → Type 0
+IsOfModule (fault.Image f) = Unit {0}
+IsOfModule (fault.Verify f) = Unit {0}
+IsOfModule fault.Memory = Unit {0}
+IsOfModule _ = ⊥
 
 -- the commands that ask the verifier
 abbrev pub IsVerifying : Verb → Type 0
@@ -276,6 +295,10 @@ status_of (fault.Image f) = 1
 status_of (fault.Verify f) = 1
 status_of (fault.Bounds f) = 1
 status_of fault.Places = 1
+status_of (fault.Log f) = 1
+status_of fault.LogImage = 1
+status_of (fault.LogDiffers turn) = 1
+status_of fault.LogOpen = 1
 status_of fault.Memory = 2
 status_of fault.StopMemory = 2
 status_of (fault.StopLimit limit) = 2
@@ -320,6 +343,15 @@ of_open opened.Memory = fault.Memory
 abbrev pub of_stop : Stop → Fault
 of_stop (stop.Limit limit) = fault.StopLimit limit
 of_stop _ = fault.StopMemory
+
+abbrev pub of_log : LogCause → LogFault → Fault
+of_log log.Memory f = fault.Memory
+of_log _ f = fault.Log f
+
+abbrev pub of_audit : AuditFault → Fault
+of_audit (audit.Differs turn) = fault.LogDiffers turn
+of_audit audit.Open = fault.LogOpen
+of_audit (audit.Stop why) = of_stop why
 
 abbrev pub of_halt : Unfinished → Fault
 of_halt (halt.Stop why) = of_stop why

@@ -3,3 +3,4 @@ pub mod Runs
 pub mod Answers
 pub mod Telling
 pub mod Schedules
+pub mod Logs

@@ -7,6 +7,8 @@ use Rattle.x10_image.specs.declared.fault.ImageFault.{ImageFault}
 use Rattle.x10_image.specs.declared.fault.ImageFault.TheVariants as image
 use Rattle.x10_verify.specs.declared.fault.VerifyCause.{VerifyCause}
 use Rattle.x10_verify.specs.declared.fault.VerifyCause.TheVariants as verify
+use Rattle.x10_log.specs.declared.fault.LogCause.{LogCause}
+use Rattle.x10_log.specs.declared.fault.LogCause.TheVariants as log
 use Rattle.x10_cli.specs.declared.fault.Fault.{Fault}
 use Rattle.x10_cli.specs.declared.fault.Fault.TheVariants as fault
 use Rattle.x10_cli.specs.Answers.{IsDue, status_of}
@@ -24,6 +26,19 @@ abbrev pub rule_text : VerifyCause → List ℕ
 rule_text (verify.Structure c) = codes "Structure " ++ word_of (verify.Structure c)
 rule_text c = word_of c
 
+-- the name of a cause for which a log is refused
+abbrev pub log_word : LogCause → List ℕ
+log_word log.Head = codes "Head"
+log_word log.Place = codes "Place"
+log_word log.Taken = codes "Taken"
+log_word log.Key = codes "Key"
+log_word log.Frame = codes "Frame"
+log_word log.Printed = codes "Printed"
+log_word log.Count = codes "Count"
+log_word log.Spelling = codes "Spelling"
+log_word log.Ending = codes "Ending"
+log_word log.Memory = codes "Memory"
+
 -- what is told of a fault
 abbrev pub fault_text : Fault → List ℕ
 fault_text (fault.Asm f) = codes "asm: line " ++ (decimal f.line ++ (codes " " ++ asm_word f.cause))
@@ -31,6 +46,10 @@ fault_text (fault.Image f) = codes "image: " ++ image_text f
 fault_text (fault.Verify f) = codes "verify: " ++ (rule_text f.cause ++ at f.function f.pc)
 fault_text (fault.Bounds f) = codes "verify: Structure "
     ++ (word_of (verify.Structure f.cause) ++ at f.function f.pc)
+fault_text (fault.Log f) = codes "log: line " ++ (decimal f.line ++ (codes " " ++ log_word f.cause))
+fault_text fault.LogImage = codes "log: line 2 Image"
+fault_text (fault.LogDiffers turn) = codes "differs: turn " ++ decimal turn
+fault_text fault.LogOpen = codes "open"
 fault_text fault.Places = codes "places"
 fault_text fault.Memory = codes "memory"
 fault_text fault.StopMemory = codes "stop: Memory"

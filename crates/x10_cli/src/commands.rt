@@ -9,7 +9,7 @@ ghost use Rattle.x10_world.specs.Rounds.{NoneIsLeft, RunsTo};
 ghost use Rattle.x10_cli.specs.Lines.{all_lines};
 ghost use Rattle.x10_task.specs.declared.task.Verb.TheVariants as verb;
 ghost use Rattle.x10_cli.specs.declared.fault.Fault.TheVariants as fault;
-ghost use Rattle.x10_cli.specs.Answers.{IsImage, IsListing, IsVerifiedImage, IsVerifying, CanBeDone, IsStatus, IsDue, Prints, PrintsRuns, LeavesRefused, LeavesStopped, places_for, status_of};
+ghost use Rattle.x10_cli.specs.Answers.{IsImage, IsListing, IsVerifiedImage, IsVerifying, IsOfModule, CanBeDone, IsStatus, IsDue, Prints, PrintsRuns, LeavesRefused, LeavesStopped, places_for, status_of};
 ghost use Rattle.x10_cli.specs.Telling.{SaysFault, Tells, fault_line};
 
 use crate::cause::print_section;
@@ -43,7 +43,7 @@ use x10_world::World;
 /// turns in its log, where the fault is `Turns` or a stop, and none where it is another. With threads it may wait: nothing is
 /// promised about when, or whether, it returns then. `source` is the text from which the bytes of an image were assembled, if
 /// they were: then explanations name its lines, and a listing for people its labels. For `explain` the bytes are the name of a
-/// cause.
+/// cause. An audit, which has a log beside its image, is `audit_logged`'s; here it is the fault `file`.
 pub fn execute<R: Threads + Wait + Sync, O: Write, E: Write>(
     rt: &R,
     alloc: Global,
@@ -75,16 +75,17 @@ pub fn execute<R: Threads + Wait + Sync, O: Write, E: Write>(
     }
     match done {
         Ok(()) => 0,
-        Err(fault) => refuse(alloc, task, bytes, source, fault, err),
+        Err(fault) => refuse(alloc, task, bytes, source, b"", fault, err),
     }
 }
 
 /// Reports a fault, and what is asked for besides its line. Where there is no memory for that, its line has to do.
-fn refuse<E: Write>(
+pub(crate) fn refuse<E: Write>(
     alloc: Global,
     task: &Task,
     bytes: &[u8],
     source: Option<&str>,
+    log: &[u8],
     fault: Fault,
     err: &mut E,
 ) -> u8
@@ -96,7 +97,7 @@ fn refuse<E: Write>(
     if !task.explain {
         return status;
     }
-    let Ok(text) = explanation(alloc, task, bytes, source, fault) else {
+    let Ok(text) = explanation(alloc, task, bytes, source, log, fault) else {
         return status;
     };
     match err.write_all(text.as_bytes()) {
@@ -151,6 +152,7 @@ fn perform<R: Threads + Wait + Sync, O: Write>(
         Verb::Run if task.threads => print_threaded(rt, alloc, task, bytes, out),
         Verb::Run => print_run(alloc, task, bytes, out),
         Verb::Runs => print_runs(alloc, task, bytes, out),
+        Verb::Audit => Err(Fault::File),
         Verb::Trace => print_trace(alloc, task, bytes, out),
         Verb::Draw => print_picture(alloc, task, bytes, out),
         Verb::Explain => print_section(bytes, out),
@@ -162,6 +164,7 @@ pub fn image_of<'a>(alloc: Global, bytes: &'a [u8]) -> Result<ImageView<'a>, Fau
     ensures found { IfOk result (IsImage bytes.now) }
     ensures due { (asked : Option ℕ) → IfErr result (IsDue asked bytes.now) }
     ensures refused { IfErr result (λ e. status_of e ≡ 1 → (m : Module) → IsImage bytes.now m → ⊥) }
+    ensures kind { IfErr result IsOfModule }
 {
     Ok(ImageView::read(alloc, bytes)?)
 }
@@ -171,6 +174,7 @@ pub fn verified_in<'a>(alloc: Global, bytes: &'a [u8]) -> Result<Verified<'a>, F
     ensures found { IfOk result (IsImageOf bytes.now) }
     ensures due { (asked : Option ℕ) → IfErr result (IsDue asked bytes.now) }
     ensures refused { IfErr result (λ e. status_of e ≡ 1 → IsVerifiedImage bytes.now → ⊥) }
+    ensures kind { IfErr result IsOfModule }
 {
     let image = image_of(alloc, bytes)?;
     Ok(verify(alloc, image)?)

@@ -1,5 +1,6 @@
 //! What is said about a fault besides its line, for people.
 
+use crate::explain_log::{log_of, of_log, of_open_log, of_other_image, of_turn};
 use crate::fault::Fault;
 use std::alloc::{AllocError, Global};
 use x10_asm::AsmFault;
@@ -12,12 +13,13 @@ use x10_task::{Task, Verb};
 use x10_verify::{VerifyCause, VerifyFault};
 
 /// Sentences on a fault of a task over the bytes of its file, a line each; none where there is nothing to add. Where they were
-/// assembled from a text, its lines are named.
+/// assembled from a text, its lines are named. The log is an audit's, else empty.
 pub(crate) fn explanation(
     alloc: Global,
     task: &Task,
     bytes: &[u8],
     source: Option<&str>,
+    log: &[u8],
     fault: Fault,
 ) -> Result<String, AllocError> {
     match fault {
@@ -27,6 +29,10 @@ pub(crate) fn explanation(
         Fault::Image(fault) => explain_image(alloc, bytes, fault),
         Fault::Verify(fault) => of_verify(alloc, task, bytes, source, fault),
         Fault::Bounds(fault) => of_verify(alloc, task, bytes, source, structure(fault)),
+        Fault::Log(fault) => of_log(alloc, task, fault),
+        Fault::LogImage => of_other_image(alloc, task),
+        Fault::LogDiffers(turn) => of_turn(alloc, task, log, turn),
+        Fault::LogOpen => of_open_log(alloc, task),
         Fault::Places => of_places(alloc, task, bytes),
         Fault::Memory => line(alloc, "The system gives no more memory to the program."),
         Fault::StopMemory => of_memory(alloc, task, bytes),
@@ -82,17 +88,22 @@ fn least_of(alloc: Global, bytes: &[u8]) -> Option<u16> {
     Some(image.least())
 }
 
-/// At how many places a task runs.
+/// At how many places a task runs, as far as it says so: for an audit the log does.
 fn places_in(alloc: Global, task: &Task, bytes: &[u8]) -> Option<u16> {
     match task.places {
         Some(places) => Some(places),
+        None if task.verb == Verb::Audit => None,
         None => least_of(alloc, bytes),
     }
 }
 
 fn of_places(alloc: Global, task: &Task, bytes: &[u8]) -> Result<String, AllocError> {
-    let (Some(asked), Some(least)) = (task.places, least_of(alloc, bytes)) else {
+    let Some(least) = least_of(alloc, bytes) else {
         return Ok(String::new(alloc));
+    };
+    let Some(asked) = task.places else {
+        let log = log_of(task);
+        return format!(in alloc; "The module asks for {least} places at least; {log} has fewer.\n");
     };
     format!(in alloc; "The module asks for {least} places at least; --places gave {asked}.\n")
 }

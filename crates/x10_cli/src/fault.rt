@@ -1,8 +1,8 @@
 ghost use Rattle.std.specs.Prelude.{true, false, ◌≡◌, Some};
 ghost use Rattle.std.specs.Fmt.{DisplaysOnOk};
-ghost use Rattle.x10_cli.specs.Telling.{fault_text};
+ghost use Rattle.x10_cli.specs.Telling.{fault_text, log_word};
 ghost use Rattle.x10_cli.specs.declared.fault.Fault.TheVariants as fault;
-ghost use Rattle.x10_cli.specs.Answers.{status_of, of_asm, of_image, of_verify, of_bounds, of_open, of_stop, of_halt, of_work};
+ghost use Rattle.x10_cli.specs.Answers.{status_of, of_asm, of_image, of_verify, of_bounds, of_open, of_stop, of_log, of_audit, of_halt, of_work};
 
 use std::alloc::{AllocError, AllocFailed};
 use std::{fmt, io};
@@ -11,8 +11,9 @@ use x10_bounds::{BoundCause, BoundFault};
 use x10_explain::{asm_name, image_name, verify_name};
 use x10_image::ImageFault;
 use x10_kinds::{Limit, Stop};
+use x10_log::{LogCause, LogFault};
 use x10_verify::{VerifyCause, VerifyFault};
-use x10_workers::WorkFault;
+use x10_workers::{AuditFault, WorkFault};
 use x10_world::{OpenFault, Unfinished};
 
 /// Why a command was not done. Its text is what the program prints for it, behind `x10p: `.
@@ -28,6 +29,14 @@ pub enum Fault {
     Bounds(BoundFault),
     /// The module does not run at the given number of places.
     Places,
+    /// The text of a log spells none.
+    Log(LogFault),
+    /// The log is one of another image.
+    LogImage,
+    /// This turn of a log that is audited, from 0, isn't what its place does then.
+    LogDiffers(usize),
+    /// After all turns of a log that is audited the run isn't over.
+    LogOpen,
     /// Memory was refused, outside a run.
     Memory,
     /// Memory was refused to a place that ran.
@@ -56,7 +65,8 @@ impl Fault {
     {
         match self {
             Fault::Asm(_) | Fault::Image(_) | Fault::Verify(_) | Fault::Bounds(_) => 1,
-            Fault::Places => 1,
+            Fault::Places | Fault::Log(_) | Fault::LogImage => 1,
+            Fault::LogDiffers(_) | Fault::LogOpen => 1,
             Fault::Memory | Fault::StopMemory | Fault::StopLimit(_) | Fault::Limit => 2,
             Fault::Turns | Fault::Refused(_) | Fault::Differs(_) | Fault::Thread => 2,
             Fault::File => 4,
@@ -81,6 +91,10 @@ impl fmt::Display for Fault {
             Fault::Image(fault) => write_image(*fault, f),
             Fault::Verify(fault) => write_verify(*fault, f),
             Fault::Bounds(fault) => write_bounds(*fault, f),
+            Fault::Log(fault) => write_log(*fault, f),
+            Fault::LogImage => f.write_str("log: line 2 Image"),
+            Fault::LogDiffers(turn) => write!(f, "differs: turn {turn}"),
+            Fault::LogOpen => f.write_str("open"),
             Fault::Places => f.write_str("places"),
             Fault::Memory => f.write_str("memory"),
             Fault::StopMemory => f.write_str("stop: Memory"),
@@ -138,6 +152,33 @@ fn write_bounds<W: fmt::Write>(told: BoundFault, f: &mut fmt::Formatter<W>) -> f
     write!(f, "verify: Structure {rule} {function} {pc}")
 }
 
+fn write_log<W: fmt::Write>(told: LogFault, f: &mut fmt::Formatter<W>) -> fmt::Result
+    ensures { DisplaysOnOk W.write_str_gives f.old result
+        (Some (fault_text (fault.Log told))) f.new }
+{
+    let cause = log_name(told.cause);
+    let line = told.line;
+    write!(f, "log: line {line} {cause}")
+}
+
+/// The name of a cause for which a log is refused.
+fn log_name(cause: LogCause) -> &'static str
+    ensures { result.now ≡ log_word cause }
+{
+    match cause {
+        LogCause::Head => "Head",
+        LogCause::Place => "Place",
+        LogCause::Taken => "Taken",
+        LogCause::Key => "Key",
+        LogCause::Frame => "Frame",
+        LogCause::Printed => "Printed",
+        LogCause::Count => "Count",
+        LogCause::Spelling => "Spelling",
+        LogCause::Ending => "Ending",
+        LogCause::Memory => "Memory",
+    }
+}
+
 impl From<AsmFault> for Fault {
     ghost from_gives = { λ f told. told ≡ of_asm f.cause f };
 
@@ -188,6 +229,26 @@ impl From<Stop> for Fault {
         match stop {
             Stop::Limit(limit) => Fault::StopLimit(limit),
             Stop::Memory | Stop::Stopped => Fault::StopMemory,
+        }
+    }
+}
+
+impl From<LogFault> for Fault {
+    ghost from_gives = { λ f told. told ≡ of_log f.cause f };
+
+    fn from(fault: LogFault) -> Fault {
+        Fault::Log(fault).unless(fault.cause == LogCause::Memory)
+    }
+}
+
+impl From<AuditFault> for Fault {
+    ghost from_gives = { λ why told. told ≡ of_audit why };
+
+    fn from(why: AuditFault) -> Fault {
+        match why {
+            AuditFault::Differs(turn) => Fault::LogDiffers(turn),
+            AuditFault::Open => Fault::LogOpen,
+            AuditFault::Stop(stop) => Fault::from(stop),
         }
     }
 }

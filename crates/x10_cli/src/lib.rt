@@ -1,12 +1,15 @@
 //! The program's commands: the work that a task asks for, over bytes and writers.
 #![tactic(auto)]
 
+mod audited;
 mod cause;
 mod checking;
 mod commands;
 mod explain;
+mod explain_log;
 mod fault;
 mod lines;
+mod logged;
 mod numbered;
 mod picture;
 mod runs;
@@ -14,6 +17,8 @@ mod schedule;
 mod threads;
 mod trace;
 
+pub use audited::audit_logged;
 pub use checking::{is_image, print_check};
 pub use commands::{execute, image_of, print_image, print_listing, print_run, tell, verified_in};
 pub use fault::Fault;
+pub use logged::run_logged;

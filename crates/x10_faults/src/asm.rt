@@ -73,6 +73,8 @@ image: Count. A number outside its range; here the least number of places is 0.
     ; $ x10p verify least.x10
     ; status 1: image: Count
     58313050 0001 0000 0000 0000 0000 0001 0000 0000
+
+log: Count: more than 16 frames taken in, or more than 64 steps.
 ";
 
 pub(crate) const ORDER: &str = "asm: Order: a line out of order, or one that is missing.

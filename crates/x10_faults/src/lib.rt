@@ -3,6 +3,7 @@
 
 mod asm;
 mod image;
+mod log;
 mod run;
 mod structure;
 mod table;

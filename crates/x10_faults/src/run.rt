@@ -73,6 +73,25 @@ place did. The mistake is in x10p, not in the module: report it with the image.
 No such program is known.
 ";
 
+pub(crate) const DIFFERS: &str =
+    "refused: place p, and differs: turn t: with `--threads`, place p didn't take a
+frame that was posted to it, or turn t of the log isn't what the worker of its
+place did. The mistake is in x10p, not in the module: report it with the image.
+No such program is known.
+
+differs: turn t, and open: from `audit`, turn t of the log isn't what its place
+does then, where the first turn is turn 0; or no turn differs, and the run isn't
+over after the last. The log isn't one of a run that has ended: it was changed,
+or the run was stopped.
+";
+
+pub(crate) const OPEN: &str =
+    "differs: turn t, and open: from `audit`, turn t of the log isn't what its place
+does then, where the first turn is turn 0; or no turn differs, and the run isn't
+over after the last. The log isn't one of a run that has ended: it was changed,
+or the run was stopped.
+";
+
 pub(crate) const MEMORY: &str =
     "stop: Memory, and memory: a run, or a command outside a run, got no memory. The
 program makes too much: nothing is removed during a run.

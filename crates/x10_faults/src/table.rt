@@ -1,8 +1,8 @@
 //! The causes. Written by `make` beside `src` from docs/FAULTS.md; change that, not this.
-use crate::{asm, image, run, structure, verify};
+use crate::{asm, image, log, run, structure, verify};
 
 /// The causes that the page of faults has, each as it is first written there.
-pub const CAUSES: [&str; 33] = [
+pub const CAUSES: [&str; 43] = [
     "Word",
     "Number",
     "Count",
@@ -29,6 +29,7 @@ pub const CAUSES: [&str; 33] = [
     "thread",
     "refused",
     "differs",
+    "open",
     "Memory",
     "Short",
     "Magic",
@@ -36,6 +37,15 @@ pub const CAUSES: [&str; 33] = [
     "Reserved",
     "Code",
     "Trailing",
+    "Head",
+    "Image",
+    "Place",
+    "Taken",
+    "Key",
+    "Frame",
+    "Printed",
+    "Spelling",
+    "Ending",
 ];
 
 /// What the page says of a cause, by its name in `CAUSES`.
@@ -64,7 +74,9 @@ pub(crate) fn text_of(cause: &str) -> Option<&'static str> {
         "turns" => Some(run::TURNS),
         "file" | "usage" => Some(run::FILE),
         "thread" => Some(run::THREAD),
-        "refused" | "differs" => Some(run::REFUSED),
+        "refused" => Some(run::REFUSED),
+        "differs" => Some(run::DIFFERS),
+        "open" => Some(run::OPEN),
         "Memory" => Some(run::MEMORY),
         "Short" => Some(image::SHORT),
         "Magic" => Some(image::MAGIC),
@@ -72,6 +84,15 @@ pub(crate) fn text_of(cause: &str) -> Option<&'static str> {
         "Reserved" => Some(image::RESERVED),
         "Code" => Some(image::CODE),
         "Trailing" => Some(image::TRAILING),
+        "Head" => Some(log::HEAD),
+        "Image" => Some(log::IMAGE),
+        "Place" => Some(log::PLACE),
+        "Taken" => Some(log::TAKEN),
+        "Key" => Some(log::KEY),
+        "Frame" => Some(log::FRAME),
+        "Printed" => Some(log::PRINTED),
+        "Spelling" => Some(log::SPELLING),
+        "Ending" => Some(log::ENDING),
         _ => None,
     }
 }

@@ -17,6 +17,8 @@ pub enum Verb {
     Run,
     /// Verify it, run it by many seeds, and print each different output once.
     Runs,
+    /// Verify it, make the turns of a log again, and print what the places print.
+    Audit,
     /// Verify it, run it, and print what happens, event by event.
     Trace,
     /// Verify it, run it, and draw what happens.
@@ -55,6 +57,8 @@ pub struct Task<'a> {
     pub input: &'a str,
     /// The name of the file to write, only for `asm` and `draw`.
     pub output: Option<&'a str>,
+    /// The name of the log: the file to write for `run` with threads, where there is one; the file to read for `audit`.
+    pub log: Option<&'a str>,
     /// How many places; left out, the module's least number.
     pub places: Option<u16>,
     /// How many events at most, including those in which nothing moves; with threads, how many turns of workers.
@@ -67,7 +71,7 @@ pub struct Task<'a> {
     pub seeds: u64,
     /// Whether a run has a thread for each place. No other verb looks at it.
     pub threads: bool,
-    /// Whether what is printed is JSON, for other programs. Only for `list`, `check` and `run`.
+    /// Whether what is printed is JSON, for other programs. Only for `list`, `check`, `run` and `audit`.
     pub json: bool,
     /// Whether more is said about a fault than its line.
     pub explain: bool,

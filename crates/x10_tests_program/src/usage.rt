@@ -20,6 +20,7 @@ fn words(rt: HostRuntime) -> Result<(), Fail> {
         verb: Verb::Run,
         input: "a",
         output: None,
+        log: None,
         places: Some(64),
         limit: 1_000_000,
         schedule: Schedule::Rounds,

@@ -39,9 +39,16 @@ abbrev pub has_json : Verb → Bool
 has_json verb.List = true
 has_json verb.Check = true
 has_json verb.Run = true
+has_json verb.Audit = true
 has_json _ = false
 
--- a task has what its command takes: a file to write, a number of places, threads, a schedule, a number of seeds; the numbers are in their ranges
+-- the commands that may have a log, with threads or without
+abbrev pub may_have_log : Verb → Bool → Bool
+may_have_log verb.Run threads = threads
+may_have_log verb.Audit threads = true
+may_have_log _ threads = false
+
+-- a task has what its command takes: a file to write, a log, a number of places, threads, a schedule, a number of seeds; the numbers are in their ranges
 pub record IsTask (t : Task) : Type 0 where
   pub output : is_some t.output ≡ has_output t.verb
   pub places : IfSome t.places (IsOneTo MOST_PLACES)
@@ -54,6 +61,8 @@ pub record IsTask (t : Task) : Type 0 where
   pub schedule : t.schedule ≢ order.Rounds → (is_run t.verb ≡ true) × (t.threads ≡ false)
   pub seed : is_some t.seed ≡ true → t.schedule ≡ order.Random
   pub json : t.json ≡ true → has_json t.verb ≡ true
+  pub log : is_some t.log ≡ true → may_have_log t.verb t.threads ≡ true
+  pub audit : t.verb ≡ verb.Audit → is_some t.log ≡ true
 
 -- ---- how a task is read
 
@@ -66,10 +75,11 @@ verb_named name is_verbose =
     else (if bytes_eq name (codes "verify") then verb.Verify
     else (if bytes_eq name (codes "bounds") then verb.Bounds
     else (if bytes_eq name (codes "runs") then verb.Runs
+    else (if bytes_eq name (codes "audit") then verb.Audit
     else (if bytes_eq name (codes "trace") then verb.Trace
     else (if bytes_eq name (codes "draw") then verb.Draw
     else (if bytes_eq name (codes "explain") then verb.Explain
-    else verb.Run))))))))
+    else verb.Run)))))))))
 
 -- the schedule of a name; where there is none, rounds, or a random one where there is a seed
 abbrev pub schedule_named : Option (List ℕ) → Bool → Schedule
@@ -117,6 +127,7 @@ pub record IsReadFrom (explain : Bool) (m : ArgMatches) (t : Task) : Type 0 wher
   pub verb_is : t.verb ≡ verb_named name is_verbose
   pub input_is : first_value found (codes "INPUT") ≡ Some t.input.now
   pub output_is : option_map (λ s. s.now) t.output ≡ first_value found (codes "OUTPUT")
+  pub log_is : option_map (λ s. s.now) t.log ≡ first_value found (codes "LOG")
   pub places_is : IsNumberIn 16 (one_text found (codes "places")) t.places
   pub asked : Option ℕ
   pub is_asked : IsNumberIn 64 (one_text found (codes "limit")) asked

@@ -65,6 +65,7 @@ pub const RUN: &str = "Example:
   x10p run examples/seven.x10 --places 4
   x10p run examples/seven.x10 --places 4 --seed 1
   x10p run examples/seven.x10 --places 4 --threads
+  x10p run examples/seven.x10 --threads --log seven.log
 
 Exit status:
   0  done
@@ -79,6 +80,17 @@ pub const RUNS: &str = "Example:
 Exit status:
   0  done; also where a run was at its limit
   1  refused: the text or image, its module, or the number of places
+  2  stopped: lack of memory, or a limit of the machine
+  3  the command line is wrong
+  4  a file can't be read, or the output can't be written";
+
+pub const AUDIT: &str = "Example:
+  x10p run examples/seven.x10 --threads --log seven.log
+  x10p audit examples/seven.x10 seven.log
+
+Exit status:
+  0  done
+  1  refused: the text or image, its module, the log, or its number of places
   2  stopped: lack of memory, or a limit of the machine
   3  the command line is wrong
   4  a file can't be read, or the output can't be written";

@@ -133,6 +133,9 @@ fn why_not(task: &Task) -> &'static str {
     if task.seed.is_some() && task.schedule != Schedule::Random {
         return "--seed is for a random schedule alone";
     }
+    if task.log.is_some() && !task.threads {
+        return "--log is for a run with --threads alone";
+    }
     "these options don't go together"
 }
 
@@ -145,6 +148,7 @@ fn task_in<'a>(matches: &ArgMatches<'a>, explain: bool) -> Option<Task<'a>>
         verb: verb_of(name, matches.get_flag("verbose")),
         input: matches.get_str("INPUT")?,
         output: matches.get_str("OUTPUT"),
+        log: matches.get_str("LOG"),
         places: matches.get_one("places"),
         limit: matches.get_one("limit").unwrap_or(EVENTS),
         schedule: schedule_of(matches.get_str("schedule"), seed.is_some()),
@@ -168,6 +172,7 @@ fn verb_of(name: &str, is_verbose: bool) -> Verb
         "verify" => Verb::Verify,
         "bounds" => Verb::Bounds,
         "runs" => Verb::Runs,
+        "audit" => Verb::Audit,
         "trace" => Verb::Trace,
         "draw" => Verb::Draw,
         "explain" => Verb::Explain,
@@ -223,6 +228,7 @@ fn is_task(task: &Task) -> bool
         && threads_are_for_run(task)
         && is_schedule(task)
         && json_is_for_few(task)
+        && has_log_as_asked(task)
 }
 
 fn writes_as_asked(task: &Task) -> bool
@@ -280,7 +286,24 @@ fn threads_are_for_run(task: &Task) -> bool
 fn json_is_for_few(task: &Task) -> bool
     ensures { IsTrue result → task.now.json ≡ true → tasks.has_json task.now.verb ≡ true }
 {
-    !task.json || matches!(task.verb, Verb::List | Verb::Check | Verb::Run)
+    !task.json
+        || matches!(
+            task.verb,
+            Verb::List | Verb::Check | Verb::Run | Verb::Audit
+        )
+}
+
+/// An audit reads a log, and a run with threads may write one.
+fn has_log_as_asked(task: &Task) -> bool
+    ensures log { IsTrue result → is_some task.now.log ≡ true
+        → tasks.may_have_log task.now.verb task.now.threads ≡ true }
+    ensures audit { IsTrue result → task.now.verb ≡ Verb.Audit → is_some task.now.log ≡ true }
+{
+    match task.verb {
+        Verb::Audit => task.log.is_some(),
+        Verb::Run => task.log.is_none() || task.threads,
+        _ => task.log.is_none(),
+    }
 }
 
 /// A schedule is for a run in this thread, and a seed for a random one.

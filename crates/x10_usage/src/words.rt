@@ -40,6 +40,7 @@ fn with_looks<'a>(alloc: Global, command: Command<'a>) -> Result<Command<'a>, Al
 fn with_runs<'a>(alloc: Global, command: Command<'a>) -> Result<Command<'a>, AllocError> {
     let command = with(command, run(alloc))?;
     let command = with(command, runs(alloc))?;
+    let command = with(command, audit(alloc))?;
     let command = with(command, trace(alloc))?;
     with(command, draw(alloc))
 }
@@ -130,6 +131,7 @@ fn run<'a>(alloc: Global) -> Result<Command<'a>, AllocError> {
     let about = "Verify a module, run it, and print each place's lines, `PLACE: LINE` each";
     run_words(alloc, "run", about, help::RUN)?
         .arg(threads(alloc)?)?
+        .arg(log(alloc)?)?
         .arg(json(alloc))
 }
 
@@ -143,6 +145,23 @@ fn runs<'a>(alloc: Global) -> Result<Command<'a>, AllocError> {
         .arg(seeds(alloc))?
         .arg(places(alloc))?
         .arg(limit(alloc))?
+        .arg(explain(alloc))?
+        .arg(color(alloc))
+}
+
+fn audit<'a>(alloc: Global) -> Result<Command<'a>, AllocError> {
+    let log = Arg::new(alloc, "LOG")
+        .value_name("LOG")
+        .help("The file of the log, as `run --threads --log LOG` writes it")
+        .required(true);
+    Command::new(alloc, "audit")
+        .about(
+            "Make the turns of a logged run again, and print each place's lines if it is a run of the module",
+        )
+        .after_help(help::AUDIT)
+        .arg(image_name(alloc))?
+        .arg(log)?
+        .arg(json(alloc))?
         .arg(explain(alloc))?
         .arg(color(alloc))
 }
@@ -223,6 +242,14 @@ fn threads<'a>(alloc: Global) -> Result<Arg<'a>, AllocError> {
         .action(ArgAction::SetTrue)
         .conflicts_with("schedule")?
         .conflicts_with("seed")
+}
+
+fn log<'a>(alloc: Global) -> Result<Arg<'a>, AllocError> {
+    Arg::new(alloc, "LOG")
+        .long("log")
+        .value_name("LOG")
+        .help("The file to write, the log of the run; only with --threads")
+        .requires_arg("threads")
 }
 
 fn schedule<'a>(alloc: Global) -> Arg<'a> {

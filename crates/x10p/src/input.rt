@@ -19,6 +19,9 @@ const BESIDE_TEXTS: u64 = 67_108_864;
 /// The most bytes of a `text` line: 65,535 bytes, each escaped, the word before them, two quotes and a line's end.
 const TEXT_LINE: u64 = 131_079;
 
+/// How a log begins.
+const LOG: &[u8] = b"x10 log 1\n";
+
 /// What is known about a file from those of its bytes that were read.
 enum Look {
     /// More of it may be of use, up to this many bytes in all.
@@ -44,6 +47,39 @@ pub fn read<F: Read>(rt: &HostRuntime, verb: Verb, file: &mut F) -> Result<Vec<u
         }
     }
     Err(Trouble::TooLong)
+}
+
+/// The bytes of a log. Of what begins otherwise only as much is read and left as begins so: it is refused by its first line,
+/// whatever follows.
+pub fn read_log<F: Read>(rt: &HostRuntime, file: &mut F) -> Result<Vec<u8>, Trouble> {
+    let mut bytes = Vec::new(rt.alloc());
+    let is_whole = match is_at_end(file, FIRST, &mut bytes) {
+        Ok(is_whole) => is_whole,
+        Err(trouble) => return Err(trouble.of_log()),
+    };
+    if !bytes.starts_with(LOG) {
+        bytes.truncate(alike(&bytes, LOG));
+        return Ok(bytes);
+    }
+    if is_whole {
+        return Ok(bytes);
+    }
+    match file.read_to_end(&mut bytes) {
+        Ok(_) => Ok(bytes),
+        Err(error) => Err(Trouble::reading_log(error)),
+    }
+}
+
+/// How many bytes at the front are the same.
+fn alike(bytes: &[u8], others: &[u8]) -> usize {
+    let mut count = 0;
+    for (byte, other) in bytes.iter().zip(others.iter()) {
+        if byte != other {
+            return count;
+        }
+        count = count.saturating_add(1);
+    }
+    count
 }
 
 /// Reads on until there are `goal` bytes, and answers whether the file has ended before that.

@@ -4,14 +4,15 @@
 ghost use Rattle.std.specs.Prelude.{◌≡◌, IsTrue};
 
 mod input;
+mod logs;
 mod making;
 mod terminal;
 mod text;
 mod trouble;
 
 use crate::making::make;
-use crate::terminal::{say, show_report, shows_report};
-use crate::text::{Given, as_told, is_input, is_text, read, read_input};
+use crate::terminal::{show_report, shows_report, speak};
+use crate::text::{Given, as_told, is_input, is_text, read, read_input, written};
 use crate::trouble::Trouble;
 use std::fs::{self, File};
 use std::io::{BufWriter, ErrorKind, IsTerminal, Write};
@@ -67,11 +68,29 @@ fn perform<R: Threads + Wait + Sync>(
         Some(text) => str::from_utf8(text).ok(),
         None => None,
     };
+    if let Some(log) = task.log {
+        return with_log(rt, threads, task, &bytes, source, log);
+    }
     match task.output {
         Some(output) => write(rt, threads, task, &bytes, source, output),
         None if shows_report(rt, task) => show(rt, threads, task, &bytes),
         None => print(rt, threads, task, &bytes, source),
     }
+}
+
+/// Does the work with a log: audits it, or runs and writes it.
+fn with_log<R: Threads + Wait + Sync>(
+    rt: &HostRuntime,
+    threads: &R,
+    task: &Task,
+    bytes: &[u8],
+    source: Option<&str>,
+    log: &str,
+) -> Result<u8, Trouble> {
+    if task.verb == Verb::Audit {
+        return logs::audit(rt, task, bytes, source, log);
+    }
+    logs::run(rt, threads, task, bytes, source, log)
 }
 
 /// Reads what the task names. A file that would be read and written is left as it is, and so is one with the name of a text.
@@ -95,7 +114,7 @@ fn read_named<R: Threads + Wait + Sync>(
 
 /// Whether the file to write is another one than the file to read.
 fn check_file(rt: &HostRuntime, task: &Task, file: &File) -> Result<(), Trouble> {
-    let Some(output) = task.output else {
+    let Some(output) = written(task) else {
         return Ok(());
     };
     match whole::is_one_file(rt, file, output) {
@@ -107,7 +126,7 @@ fn check_file(rt: &HostRuntime, task: &Task, file: &File) -> Result<(), Trouble>
 
 /// Whether the file to write has another name than a text.
 fn check_name(task: &Task) -> Result<(), Trouble> {
-    match task.output {
+    match written(task) {
         Some(output) if is_text(output) => Err(Trouble::OverText),
         _ => Ok(()),
     }
@@ -143,28 +162,6 @@ fn show<R: Threads + Wait + Sync>(
     match show_report(rt, task, status == 0, report.writer()) {
         Ok(()) => Ok(speak(rt, task, None, told.bytes(), status)),
         Err(error) => Err(Trouble::writing(error)),
-    }
-}
-
-/// Prints what was said about a fault, and answers the exit status. Where the reader of a pipe has gone, nothing is printed.
-fn speak(
-    rt: &HostRuntime,
-    task: &Task,
-    failure: Option<&io::Error>,
-    told: &[u8],
-    status: u8,
-) -> u8 {
-    let said = match failure {
-        Some(error) if error.kind() == ErrorKind::BrokenPipe => Ok(()),
-        Some(error) if task.explain => say(rt, task, told).and_then(|()| writeln!(
-            rt.stderr(),
-            "Standard output can't be written: {error}."
-        )),
-        _ => say(rt, task, told),
-    };
-    match said {
-        Ok(()) => status,
-        Err(_) => 4,
     }
 }
 

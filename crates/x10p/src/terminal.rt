@@ -2,18 +2,40 @@
 use std::alloc::{AllocError, Global};
 use std::env::{self, VarError};
 use std::fmt::Write as _;
-use std::io::{self, IsTerminal, Write};
+use std::io::{self, ErrorKind, IsTerminal, Write};
 use x10_files::colored;
 use x10_task::{Color, Task, Verb};
 
 /// Prints what was said about a fault on standard error, in colors where they are wanted. Where there is no memory for colors,
 /// there are none.
-pub fn say(rt: &HostRuntime, task: &Task, told: &[u8]) -> io::Result<()> {
+fn say(rt: &HostRuntime, task: &Task, told: &[u8]) -> io::Result<()> {
     let mut err = rt.stderr();
     let is_colored = has_colors(rt, task, err.is_terminal());
     match with_colors(rt.alloc(), told, is_colored) {
         Some(text) => err.write_all(text.as_bytes()),
         None => err.write_all(told),
+    }
+}
+
+/// Prints what was said about a fault, and answers the exit status. Where the reader of a pipe has gone, nothing is printed.
+pub fn speak(
+    rt: &HostRuntime,
+    task: &Task,
+    failure: Option<&io::Error>,
+    told: &[u8],
+    status: u8,
+) -> u8 {
+    let said = match failure {
+        Some(error) if error.kind() == ErrorKind::BrokenPipe => Ok(()),
+        Some(error) if task.explain => say(rt, task, told).and_then(|()| writeln!(
+            rt.stderr(),
+            "Standard output can't be written: {error}."
+        )),
+        _ => say(rt, task, told),
+    };
+    match said {
+        Ok(()) => status,
+        Err(_) => 4,
     }
 }
 

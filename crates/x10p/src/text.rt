@@ -29,6 +29,14 @@ pub fn is_input(task: &Task) -> bool {
     task.input == INPUT
 }
 
+/// The name of the file that a task writes: IMAGE, SVG, or the log of a run.
+pub fn written<'a>(task: &Task<'a>) -> Option<&'a str> {
+    match task.verb {
+        Verb::Run => task.log,
+        _ => task.output,
+    }
+}
+
 /// A task as it is told, where standard input isn't named by its sign.
 pub fn as_told<'a>(task: &Task<'a>) -> Task<'a> {
     let mut told = *task;

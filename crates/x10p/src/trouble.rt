@@ -1,5 +1,5 @@
 //! What goes wrong with files and streams, before a command is at work or after it.
-use crate::text::as_told;
+use crate::text::{as_told, written};
 use std::alloc::AllocError;
 use std::io::{self, ErrorKind, Write};
 use x10_cli::{Fault, tell};
@@ -12,7 +12,11 @@ pub enum Trouble {
     Memory,
     /// The file to read can't be opened or read.
     Read(io::Error),
-    /// The file to write, IMAGE or SVG, can't be written.
+    /// The log to read can't be opened or read.
+    ReadLog(io::Error),
+    /// The log to read isn't UTF-8.
+    NoText,
+    /// The file to write, IMAGE, SVG or a log, can't be written.
     Written(io::Error),
     /// TEXT has more bytes than a text can have.
     TooLong,
@@ -28,6 +32,19 @@ impl Trouble {
         match error.kind() {
             ErrorKind::OutOfMemory => Trouble::Memory,
             _ => Trouble::Read(error),
+        }
+    }
+
+    /// What reading a log failed for.
+    pub fn reading_log(error: io::Error) -> Trouble {
+        Trouble::reading(error).of_log()
+    }
+
+    /// The same, of the log.
+    pub fn of_log(self) -> Trouble {
+        match self {
+            Trouble::Read(error) => Trouble::ReadLog(error),
+            other => other,
         }
     }
 
@@ -64,17 +81,25 @@ impl Trouble {
         match self {
             Trouble::Memory => writeln!(err, "There is no memory for the bytes of {input}."),
             Trouble::Read(error) => writeln!(err, "{input} can't be read: {error}."),
+            Trouble::ReadLog(error) => {
+                let log = task.log.unwrap_or_default();
+                writeln!(err, "{log} can't be read: {error}.")
+            }
+            Trouble::NoText => {
+                let log = task.log.unwrap_or_default();
+                writeln!(err, "{log} isn't UTF-8.")
+            }
             Trouble::Written(error) => {
-                let output = task.output.unwrap_or("Standard output");
+                let output = written(task).unwrap_or("Standard output");
                 writeln!(err, "{output} can't be written: {error}.")
             }
             Trouble::TooLong => writeln!(err, "{input} is longer than a text can be."),
             Trouble::OneFile => {
-                let output = task.output.unwrap_or_default();
+                let output = written(task).unwrap_or_default();
                 writeln!(err, "{output} is the same file as {input}.")
             }
             Trouble::OverText => {
-                let output = task.output.unwrap_or_default();
+                let output = written(task).unwrap_or_default();
                 writeln!(
                     err,
                     "{output} has the name of a text, which nothing is written over."

@@ -1,4 +1,4 @@
-use Rattle.x10_cli.proofs.UndoneLemmas.{same_status, stopped_kept}
+use Rattle.x10_cli.proofs.UndoneLemmas.{no_failure, same_status, stopped_kept, told_status}
 use Rattle.std.proofs.Common.{arith}
 use Rattle.x10_cli.specs.declared.fault.Fault.TheVariants as told
 use Rattle.x10_cli.proofs.Answered.{status_told}
@@ -22,3 +22,11 @@ returns-in-Err-clause-left_stopped w = λ c. λ s.
     (w.O.Write.contents c.args.out.now) (w.O.Write.contents c.perform-done.new.out) (w.O.Write.contents c.flush.new.self)
     (c.in-Err.ensures.left_stopped (same_status c.refuse.result 2 c.in-Err.fault c.refuse.ensures.status s (λ x. omega (arith, x))))
     c.flush.ensures.bytes
+
+pub returns-in-Err-clause-told : goal.returns-in-Err-clause-told
+returns-in-Err-clause-told w = λ c. λ s. (
+  c.in-Err.fault,
+  told_status c.refuse.result c.in-Err.fault c.refuse.ensures.status s,
+  c.in-Err.ensures.due,
+  c.refuse.ensures.told (no_failure c.refuse.result s),
+)

@@ -1,4 +1,4 @@
-use Rattle.x10_cli.proofs.Dues.{due_module}
+use Rattle.x10_cli.proofs.Dues.{due_module, verify_kind}
 use Rattle.std.proofs.lemmas.Result.{err_from_is_err_and}
 use Rattle.x10_cli.proofs.Answered.{not_verified}
 use Rattle.x10_cli.proofs.commands.verified_in.Goals as goal
@@ -19,3 +19,8 @@ returns-in_err-verify-clause-due c = λ asked.
     let told = err_from_is_err_and c.from_residual-in_err-verify.result c.from_residual-in_err-verify.ensures.1 in
     rw told.1 (due_module asked c.args.bytes.now c.in_ok-image.image c.in_err-verify.field-0.0 told.0 c.in_ok-image.ensures.found
     c.in_err-verify.ensures.err told.2)
+
+pub returns-in_err-verify-clause-kind : goal.returns-in_err-verify-clause-kind
+returns-in_err-verify-clause-kind c =
+    let told = err_from_is_err_and c.from_residual-in_err-verify.result c.from_residual-in_err-verify.ensures.1 in
+    rw told.1 (verify_kind c.in_err-verify.field-0.0 told.0 told.2)

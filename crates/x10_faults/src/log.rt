@@ -1,0 +1,46 @@
+//! What the page of faults says of a cause. Written by `make` beside `src` from docs/FAULTS.md; change that, not this.
+
+pub(crate) const HEAD: &str =
+    "log: Head. One of the first three lines is another one: the file isn't a log.
+
+    ; $ x10p audit head.x10 head.asm
+    ; status 1: log: line 1 Head
+    places 1
+    func 1 0 none
+      RET 0
+    end
+    entry 0
+";
+
+pub(crate) const IMAGE: &str =
+    "log: Image: the log is that of another image. A change of the text, even of the
+order of its constants, makes another image.
+";
+
+pub(crate) const PLACE: &str =
+    "log: Place: the number of places isn't 1 to 64, or a turn's line doesn't begin
+with the number of a place.
+";
+
+pub(crate) const TAKEN: &str = "log: Taken: a frame that was taken in isn't `<` and a number.
+";
+
+pub(crate) const KEY: &str = "log: Key: a step isn't a key, or a key, a star and a number.
+";
+
+pub(crate) const FRAME: &str =
+    "log: Frame: a frame that was put out isn't `>`, a place, a colon and hexadecimal
+digits.
+";
+
+pub(crate) const PRINTED: &str =
+    "log: Printed: a printed line isn't `=` and a number, or a text in quotes.
+";
+
+pub(crate) const SPELLING: &str =
+    "log: Spelling: the line says a turn, but in other words than a log does.
+";
+
+pub(crate) const ENDING: &str =
+    "log: Ending: the last line doesn't end with a line feed. The log was cut off.
+";
