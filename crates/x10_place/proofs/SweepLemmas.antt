@@ -18,6 +18,9 @@ answer_is answer other e = cc
 refused_not : (answer : Stepped) (why : Stop) → ◌≡◌ {A = Result Stepped Stop} (Ok answer) (Err why) → ⊥
 refused_not answer why e = absurd cc
 
+idle_not : (sent : Sent) → stepped.Idle ≡ stepped.Moved sent → ⊥
+idle_not sent e = absurd cc
+
 some_of : {A : Type 0} (o : Option A) → IsSome o → (a : A) × (o ≡ Some a)
 some_of None h = absurd cc
 some_of (Some a) h = (a, refl)
@@ -56,16 +59,18 @@ module _ (key m : ℕ) (p q : PlaceState) (answer : Stepped)
         quiet = inl refl;
         pace = pace_as stepped.Idle e;
         none_begun = ap (λ (x : PlaceState). get x.stays p.stays.vacant_key) same ∙ subst (λ k. get p.stays k ≡ None) is free;
+        stays = λ sent moved. absurd (idle_not sent moved);
         count = omega arith;
       }
 
   pub moved_goes_on : (sent : Sent) (vacant : ℕ) → vacant ≡ p.stays.vacant_key → (ContainsKey q.stays vacant → ⊥) → answer ≡ stepped.Moved sent
-      → sent ≡ no_sent → GoesOn key m p (m + 1) q
-  moved_goes_on sent vacant is free e nothing = record {
+      → sent ≡ no_sent → ContainsKey q.stays key → GoesOn key m p (m + 1) q
+  moved_goes_on sent vacant is free e nothing there = record {
     answer = stepped.Moved no_sent;
     quiet = inr refl;
     pace = subst (λ s. IsPace key p (stepped.Moved s) q) nothing (pace_as (stepped.Moved sent) e);
     none_begun = subst (λ k. get q.stays k ≡ None) is (none_of (get q.stays vacant) free);
+    stays = λ other moved. there;
     count = refl;
   }
 
@@ -76,9 +81,12 @@ module _ (key m : ℕ) (p q : PlaceState) (answer : Stepped)
       → EndsSweep key m p sent (m + 1) q
   ends_by_begun sent e vacant free begun = record {
     pace = pace_as (stepped.Moved sent) e;
-    parts = inr (record { key = vacant; free = free; begun = some_of (get q.stays vacant) begun });
+    parts = inr (inl (record { key = vacant; free = free; begun = some_of (get q.stays vacant) begun }));
     count = refl;
   }
+
+  pub ends_by_end : (sent : Sent) → answer ≡ stepped.Moved sent → (ContainsKey q.stays key → ⊥) → EndsSweep key m p sent (m + 1) q
+  ends_by_end sent e gone = record { pace = pace_as (stepped.Moved sent) e; parts = inr (inr (none_of (get q.stays key) gone)); count = refl }
 
 -- ---- a sweep
 

@@ -49,7 +49,7 @@ impl<'a> Place<'a> {
             Stepped::Idle => Ok(None),
             Stepped::Moved(sent) => {
                 *moved += 1;
-                if is_nothing(&sent) && !self.contains(vacant) {
+                if is_nothing(&sent) && !self.contains(vacant) && self.contains(key) {
                     return Ok(None);
                 }
                 Ok(Some(sent))
@@ -58,8 +58,8 @@ impl<'a> Place<'a> {
     }
 
     /// A step of each of the activities with some keys, in this order, as `step` makes it: idle steps and moves alike, up to
-    /// the first move that puts something out or begins an activity, or up to a step that is refused. Takes a part of the time
-    /// of single steps.
+    /// the first move that puts something out, or after which one activity more or one less is here; or up to a step that is
+    /// refused. Takes a part of the time of single steps.
     pub fn sweep(&mut self, keys: &[usize]) -> Sweep
         ensures ran { MatchResult result.last
             (λ sent. SweepsTo keys.now self.old result.made result.moved sent self.new)

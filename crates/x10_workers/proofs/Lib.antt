@@ -1,5 +1,6 @@
 mod PlayLemmas
 mod FlightTables
+mod SweepTrails
 mod WorkLemmas
 mod StrideSteps
 mod Woven

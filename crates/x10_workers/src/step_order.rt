@@ -58,6 +58,58 @@ impl StepOrder {
         Ok(())
     }
 
+    /// The keys of the next steps, of which the first is `key`, each once, and at most so many.
+    pub fn fill_round(
+        &self,
+        key: usize,
+        most: usize,
+        round: &mut Vec<usize>,
+    ) -> Result<(), AllocError> {
+        round.clear();
+        let mut next = key;
+        for _ in 0..most.min(self.ready.len()) {
+            let Some(found) = self.first_ready(next) else {
+                return Ok(());
+            };
+            round.push(found)?;
+            next = found.saturating_add(1);
+        }
+        Ok(())
+    }
+
+    /// Steps of activities with these keys were made, of which so many moved; an activity that the last one began has the key
+    /// `vacant`, which was free before. Where the others found nothing to do for themselves, and not because of an atomic region,
+    /// they are set aside.
+    pub fn swept(
+        &mut self,
+        place: &Place,
+        keys: &[usize],
+        moved: usize,
+        vacant: usize,
+    ) -> Result<(), AllocError> {
+        let Some(last) = keys.last() else {
+            return Ok(());
+        };
+        self.next = last.saturating_add(1);
+        if moved < keys.len() && place.inside().is_none() {
+            self.set_aside(place, keys)?;
+        }
+        if moved == 0 {
+            return Ok(());
+        }
+        self.stepped(place, *last, vacant)
+    }
+
+    /// Those of the activities with these keys are set aside that now find nothing to do.
+    fn set_aside(&mut self, place: &Place, keys: &[usize]) -> Result<(), AllocError> {
+        for key in keys {
+            if place.contains(*key) && place.is_idle(*key) {
+                self.waits(*key)?;
+            }
+        }
+        Ok(())
+    }
+
     /// Whether no other activity can move, until the one that can puts something out, or one begins or ends.
     pub fn is_single(&self) -> bool {
         self.ready.len() == 1
@@ -84,7 +136,12 @@ impl StepOrder {
         if let Some(insider) = place.inside() {
             return Some(insider);
         }
-        match self.ready.first_from(self.next) {
+        self.first_ready(self.next)
+    }
+
+    /// The least key from a number on that isn't set aside, or the least of all where there is none.
+    fn first_ready(&self, from: usize) -> Option<usize> {
+        match self.ready.first_from(from) {
             Some(key) => Some(key),
             None => self.ready.first_from(0),
         }

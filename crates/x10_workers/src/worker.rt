@@ -1,5 +1,5 @@
 //! A worker: one place, and the turns that it makes.
-ghost use Rattle.std.specs.Prelude.{◌≡◌, ◌≢◌, ◌<◌, ◌++◌, ◌∷◌, [], true, false, IfOk, length, map};
+ghost use Rattle.std.specs.Prelude.{◌≡◌, ◌≢◌, ◌+◌, ◌<◌, ◌^◌, ◌++◌, ◌∷◌, [], true, false, IfOk, length, map};
 ghost use Rattle.x10_hall.specs.Halls.{frame_of, told};
 ghost use Rattle.x10_workers.specs.Trails.{frame_sent, frames_sent, TakesFrame, TakesEach, StepsEach};
 ghost use Rattle.x10_workers.specs.Workings.{AddsSteps, WorksOn, IsKeptWhole};
@@ -13,7 +13,7 @@ use std::alloc::{AllocError, Global};
 use std::mem;
 use std::sync::Arc;
 use x10_hall::{End, Keys, Port, Posted, Take, Taken, Turn};
-use x10_place::{Line, Outgoing, Place, Sent, Stepped};
+use x10_place::{Line, Outgoing, Place, Sent, Stepped, Sweep};
 use x10_world::copied_lines;
 
 /// The most frames that a turn takes.
@@ -51,6 +51,8 @@ pub(crate) struct Worker<'a> {
     id: u16,
     place: Place<'a>,
     order: StepOrder,
+    /// Room for the keys of a round.
+    round: Vec<usize>,
     /// How many turns the gate was notified of.
     turns: u64,
     kept: Vec<OwnTurn>,
@@ -111,6 +113,17 @@ fn shared(alloc: Global, frames: &[Posted]) -> Result<Vec<Posted>, AllocError> {
     Ok(copies)
 }
 
+/// Adds keys behind those of a turn.
+fn push_keys(alloc: Global, more: &[usize], keys: &mut Keys) -> Result<(), AllocError>
+    requires { length keys.old + length more.now < 2 ^ 64 }
+    ensures { IfOk result (λ _. keys.new ≡ keys.old ++ more.now) }
+{
+    for at in 0..more.len() {
+        keys.push(alloc, more[at], 1)?;
+    }
+    Ok(())
+}
+
 impl<'a> Worker<'a> {
     /// The worker of a place at its beginning.
     pub fn new(alloc: Global, id: u16, place: Place<'a>) -> Result<Worker<'a>, AllocError>
@@ -122,6 +135,7 @@ impl<'a> Worker<'a> {
             id,
             place,
             order,
+            round: Vec::new(alloc),
             turns: 0,
             kept: Vec::new(alloc),
             unposted: Vec::new(alloc),
@@ -305,7 +319,8 @@ impl<'a> Worker<'a> {
         Ok(steps)
     }
 
-    /// A step of the activity with a key; where no other activity can move, as many steps as the turn may still make.
+    /// A step of the activity with a key; where no other activity can move, as many steps as the turn may still make; and where
+    /// none is inside an atomic region, a step of each of the next ones too.
     fn make_some(&mut self, key: usize, steps: &mut Steps) -> Result<(), Halt>
         requires goes { self.old.place.stopped ≢ true }
         requires few { length steps.old.keys < 64 }
@@ -316,7 +331,32 @@ impl<'a> Worker<'a> {
         if self.order.is_single() {
             return self.make_stretch(key, steps);
         }
-        self.make_step(key, steps)
+        if self.place.inside().is_some() {
+            return self.make_step(key, steps);
+        }
+        self.make_round(key, steps)
+    }
+
+    /// A step of the activity with a key, and then of each of the next ones, as many as the turn may still make: up to one that
+    /// sends something, or begins or ends an activity.
+    fn make_round(&mut self, key: usize, steps: &mut Steps) -> Result<(), Halt>
+        requires goes { self.old.place.stopped ≢ true }
+        requires few { length steps.old.keys < 64 }
+        ensures adds { IfOk result (λ _. AddsSteps self.old.place steps.old self.new.place
+            steps.new) }
+        ensures kept { self.new.kept ≡ self.old.kept }
+    {
+        let most = MOST_STEPS.saturating_sub(steps.keys.len());
+        self.order.fill_round(key, most, &mut self.round)?;
+        let vacant = self.place.vacant_key();
+        let Sweep { made, moved, last } = self.place.sweep(&self.round);
+        let sent = last?;
+        push_keys(self.alloc, &self.round[..made], &mut steps.keys)?;
+        steps.moved |= moved > 0;
+        self.order
+            .swept(&self.place, &self.round[..made], moved, vacant)?;
+        put_sent(self.alloc, sent, &mut steps.frames)?;
+        Ok(())
     }
 
     /// Steps of the activity with a key, one after another, as many as the turn may still make: up to one that sends something

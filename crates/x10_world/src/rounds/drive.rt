@@ -159,13 +159,13 @@ impl Rounds {
         self.make_steps(world, left)
     }
 
-    /// Begins the steps of a turn that has nothing to take in, where several activities move.
+    /// Begins the steps of a turn that has taken in all frames, where several activities move.
     #[inline(always)]
     fn begin_sweep(&mut self, world: &World) -> Result<(), AllocError> {
         let Phase::TakesIn = self.phase else {
             return Ok(());
         };
-        if !self.lull.has_several() || world.first_frame(self.place).is_some() {
+        if !self.lull.has_several() {
             return Ok(());
         }
         self.recall(world)?;
@@ -173,8 +173,8 @@ impl Rounds {
         Ok(())
     }
 
-    /// Where several activities move, makes the steps that are left of a turn, up to one that begins an activity or puts out a
-    /// frame. Answers how many events these are.
+    /// Where several activities move, makes the steps that are left of a turn, up to one that begins or ends an activity or puts
+    /// out a frame. Answers how many events these are.
     #[inline(never)]
     fn sweep(&mut self, world: &mut World, left: u64) -> Result<u64, Unfinished>
         requires going { world.old.stopped ≢ true }
@@ -318,8 +318,8 @@ fn try_step(world: &mut World, activity: (u16, usize)) -> Result<bool, Unfinishe
     make(world, Event::Step(activity.0, activity.1))
 }
 
-/// A step of each of the activities of a place with the first of some keys, at most `left`, up to one that begins an activity
-/// or puts out a frame.
+/// A step of each of the activities of a place with the first of some keys, at most `left`, up to one that begins or ends an
+/// activity or puts out a frame.
 #[inline(always)]
 fn sweep_first(
     world: &mut World,

@@ -22,7 +22,7 @@ pub(crate) struct Swept {
 
 impl<'a> World<'a> {
     /// A step of each of the activities of a place with some keys, in this order, as `make_one` makes it, up to the first that
-    /// puts out a frame or begins an activity; none only where there is no such place. Room for two frames is made once.
+    /// puts out a frame, or begins or ends an activity; none only where there is no such place. Room for two frames is made once.
     pub(crate) fn sweep(&mut self, place: u16, keys: &[usize]) -> Result<Swept, Stop>
         requires going { self.old.stopped ≢ true }
         requires some { 0 < length keys.now }
