@@ -114,6 +114,7 @@ fn task(verb: Verb, places: Option<u16>, limit: u64) -> Task<'static>
         verb,
         input: "",
         output: None,
+        log: None,
         places,
         limit,
         schedule: Schedule::Rounds,
