@@ -59,6 +59,10 @@ module _ (v : Verb) (asked : Option ℕ) (bytes text : List ℕ) where
   failed (fault.Refused p) r new empty u s = same (fault.Refused p) r new (λ e. omega (arith, e)) u s
   failed (fault.Differs t) r new empty u s = same (fault.Differs t) r new (λ e. omega (arith, e)) u s
   failed fault.Thread r new empty u s = same fault.Thread r new (λ e. omega (arith, e)) u s
+  failed (fault.Log f) r new empty u s = same (fault.Log f) r new (λ e. omega (arith, e)) u s
+  failed fault.LogImage r new empty u s = same fault.LogImage r new (λ e. omega (arith, e)) u s
+  failed (fault.LogDiffers t) r new empty u s = same (fault.LogDiffers t) r new (λ e. omega (arith, e)) u s
+  failed fault.LogOpen r new empty u s = same fault.LogOpen r new (λ e. omega (arith, e)) u s
 
   came : (done r : Result Unit Fault) (new : List ℕ) → LeavesStopped v false false asked bytes (Some []) (Some [])
       → Facts v false asked bytes done [] text → Settles done text r new → Came v asked bytes r new

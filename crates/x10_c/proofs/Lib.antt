@@ -1,2 +1,3 @@
+mod Giving
 pub mod Coming
 pub mod Lines

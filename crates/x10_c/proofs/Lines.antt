@@ -11,6 +11,8 @@ use Rattle.x10_bounds.specs.declared.fault.BoundCause.{BoundCause}
 use Rattle.x10_bounds.specs.declared.fault.BoundCause.TheVariants as bound
 use Rattle.x10_verify.specs.declared.fault.VerifyCause.{VerifyCause}
 use Rattle.x10_verify.specs.declared.fault.VerifyCause.TheVariants as verify
+use Rattle.x10_log.specs.declared.fault.LogCause.{LogCause}
+use Rattle.x10_log.specs.declared.fault.LogCause.TheVariants as log
 use Rattle.x10_cli.specs.declared.fault.Fault.{Fault}
 use Rattle.x10_cli.specs.declared.fault.Fault.TheVariants as fault
 use Rattle.x10_cli.specs.Telling.{fault_line}
@@ -81,6 +83,18 @@ of_limit limits.FrameRails = (_, refl, refl)
 of_limit limits.Keys = (_, refl, refl)
 of_limit limits.Frames = (_, refl, refl)
 
+of_log : (line : ℕ) (c : LogCause) → Back (fault.Log (record { line = line; cause = c }))
+of_log line log.Head = (_, refl, refl)
+of_log line log.Place = (_, refl, refl)
+of_log line log.Taken = (_, refl, refl)
+of_log line log.Key = (_, refl, refl)
+of_log line log.Frame = (_, refl, refl)
+of_log line log.Printed = (_, refl, refl)
+of_log line log.Count = (_, refl, refl)
+of_log line log.Spelling = (_, refl, refl)
+of_log line log.Ending = (_, refl, refl)
+of_log line log.Memory = (_, refl, refl)
+
 back : (f : Fault) → Back f
 back (fault.Asm f) = of_asm f.line f.cause
 back (fault.Image f) = of_image f
@@ -96,6 +110,10 @@ back (fault.Refused p) = (_, refl, refl)
 back (fault.Differs t) = (_, refl, refl)
 back fault.Thread = (_, refl, refl)
 back fault.File = (_, refl, refl)
+back (fault.Log f) = of_log f.line f.cause
+back fault.LogImage = (_, refl, refl)
+back (fault.LogDiffers t) = (_, refl, refl)
+back fault.LogOpen = (_, refl, refl)
 
 -- the line of the fault that numbers stand for is that of each fault with these numbers
 pub same_line : (f g : Fault) (n : FaultNumbers) → numbers_of f ≡ n → fault_of n ≡ Some g → fault_line g ≡ fault_line f

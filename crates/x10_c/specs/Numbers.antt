@@ -1,5 +1,5 @@
 -- The numbers that stand for a fault.
-use Rattle.std.specs.Prelude.{◌==◌, ℕ, List, [], ◌∷◌, Option, Some, None, find, if◌then◌else◌}
+use Rattle.std.specs.Prelude.{◌==◌, ℕ, List, [], ◌∷◌, Option, Some, None, find, map, if◌then◌else◌}
 use Rattle.x10_kinds.specs.Limits.{number_of}
 use Rattle.x10_kinds.specs.declared.limit.Limit.{Limit}
 use Rattle.x10_kinds.specs.declared.limit.Limit.TheVariants as limits
@@ -11,6 +11,8 @@ use Rattle.x10_bounds.specs.declared.fault.BoundCause.{BoundCause}
 use Rattle.x10_bounds.specs.declared.fault.BoundCause.TheVariants as bound
 use Rattle.x10_verify.specs.declared.fault.VerifyCause.{VerifyCause}
 use Rattle.x10_verify.specs.declared.fault.VerifyCause.TheVariants as verify
+use Rattle.x10_log.specs.declared.fault.LogCause.{LogCause}
+use Rattle.x10_log.specs.declared.fault.LogCause.TheVariants as log
 use Rattle.x10_cli.specs.declared.fault.Fault.{Fault}
 use Rattle.x10_cli.specs.declared.fault.Fault.TheVariants as fault
 use Rattle.x10_c.specs.declared.numbers.FaultNumbers.{FaultNumbers}
@@ -59,6 +61,18 @@ verify_kind verify.Home = 404
 verify_kind verify.Result = 405
 verify_kind verify.Memory = 406
 
+abbrev pub log_kind : LogCause → ℕ
+log_kind log.Head = 801
+log_kind log.Place = 802
+log_kind log.Taken = 803
+log_kind log.Key = 804
+log_kind log.Frame = 805
+log_kind log.Printed = 806
+log_kind log.Count = 807
+log_kind log.Spelling = 808
+log_kind log.Ending = 809
+log_kind log.Memory = 810
+
 -- ---- the numbers of a fault
 
 abbrev pub plain : ℕ → FaultNumbers
@@ -92,6 +106,10 @@ numbers_of (fault.Refused place) = placed 606 place 0
 numbers_of (fault.Differs turn) = counted 607 turn
 numbers_of fault.Thread = plain 608
 numbers_of fault.File = plain 701
+numbers_of (fault.Log f) = counted (log_kind f.cause) f.line
+numbers_of fault.LogImage = plain 811
+numbers_of (fault.LogDiffers turn) = counted 812 turn
+numbers_of fault.LogOpen = plain 813
 
 -- ---- the fault that numbers stand for
 
@@ -132,10 +150,17 @@ abbrev pub if_limit : Option Limit → Option Fault
 if_limit None = None
 if_limit (Some limit) = Some (fault.StopLimit limit)
 
+-- those of a log, at a line of it
+abbrev pub logs : ℕ → List Fault
+logs line = map (λ c. fault.Log (record { line = line; cause = c }))
+    (log.Head ∷ log.Place ∷ log.Taken ∷ log.Key ∷ log.Frame ∷ log.Printed ∷ log.Count
+    ∷ log.Spelling ∷ log.Ending ∷ log.Memory ∷ [])
+
 -- those from 501 on
 abbrev pub others : FaultNumbers → List Fault
 others n = fault.Places ∷ fault.Memory ∷ fault.StopMemory ∷ fault.Limit ∷ fault.Turns
-    ∷ fault.Refused n.function ∷ fault.Differs n.at ∷ fault.Thread ∷ fault.File ∷ []
+    ∷ fault.Refused n.function ∷ fault.Differs n.at ∷ fault.Thread ∷ fault.File ∷ fault.LogImage
+    ∷ fault.LogDiffers n.at ∷ fault.LogOpen ∷ logs n.at
 
 abbrev pub kind_of : Fault → ℕ
 kind_of f = (numbers_of f).kind

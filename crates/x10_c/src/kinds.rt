@@ -1,11 +1,12 @@
 //! The numbers of causes, and the causes of numbers.
 ghost use Rattle.std.specs.Prelude.{◌≡◌};
-ghost use Rattle.x10_c.specs.Numbers.{asm_kind, asm_of, image_kind, image_of, limit_of, structure_kind, verify_kind, verify_of};
+ghost use Rattle.x10_c.specs.Numbers.{asm_kind, asm_of, image_kind, image_of, limit_of, log_kind, structure_kind, verify_kind, verify_of};
 
 use x10_asm::AsmCause;
 use x10_bounds::BoundCause;
 use x10_image::ImageFault;
 use x10_kinds::Limit;
+use x10_log::LogCause;
 use x10_verify::VerifyCause;
 
 pub fn kind_of_asm(cause: AsmCause) -> u32
@@ -125,6 +126,23 @@ pub fn verify_of_kind(kind: u32) -> Option<VerifyCause>
         405 => Some(VerifyCause::Result),
         406 => Some(VerifyCause::Memory),
         _ => None,
+    }
+}
+
+pub fn kind_of_log(cause: LogCause) -> u32
+    ensures { result ≡ log_kind cause }
+{
+    match cause {
+        LogCause::Head => 801,
+        LogCause::Place => 802,
+        LogCause::Taken => 803,
+        LogCause::Key => 804,
+        LogCause::Frame => 805,
+        LogCause::Printed => 806,
+        LogCause::Count => 807,
+        LogCause::Spelling => 808,
+        LogCause::Ending => 809,
+        LogCause::Memory => 810,
     }
 }
 

@@ -1,14 +1,16 @@
 //! Faults as plain numbers, for programs that aren't Rattle.
 ghost use Rattle.std.specs.Prelude.{◌≡◌};
+ghost use Rattle.x10_cli.specs.declared.fault.Fault.TheVariants as fault;
 ghost use Rattle.x10_c.specs.Numbers.{fault_of, no_fault, numbers_of, other_of};
 
 use crate::kinds::{
-    asm_of_kind, image_of_kind, kind_of_asm, kind_of_image, kind_of_structure, kind_of_verify,
-    limit_of_number, verify_of_kind,
+    asm_of_kind, image_of_kind, kind_of_asm, kind_of_image, kind_of_log, kind_of_structure,
+    kind_of_verify, limit_of_number, verify_of_kind,
 };
 use x10_asm::AsmFault;
 use x10_cli::Fault;
 use x10_image::ImageFault;
+use x10_log::{LogCause, LogFault};
 use x10_verify::VerifyFault;
 
 /// A fault as numbers, `burjeeg_fault` in C. Those that a kind doesn't have are 0.
@@ -16,13 +18,13 @@ use x10_verify::VerifyFault;
 #[derive(Clone, Copy, Debug, PartialEq, Eq, Drop)]
 pub struct FaultNumbers {
     /// Which fault, by its part in hundreds: 1 a text's, 2 an image's, 3 and 4 the verifier's, 5 a number of places, 6 what
-    /// stopped the work, 7 the bytes of a text. 0 is none.
+    /// stopped the work, 7 the bytes of a text, 8 a log's. 0 is none.
     pub kind: u32,
     /// The number of the function; for a frame that was refused, of the place.
     pub function: u16,
     /// The number of the instruction in it.
     pub pc: u16,
-    /// The line of a text, from 1; the number of the limit that would have been passed; or the turn of a log, from 0.
+    /// The line of a text or a log, from 1; the number of the limit that would have been passed; or the turn of a log, from 0.
     pub at: u64,
 }
 
@@ -86,6 +88,10 @@ pub fn numbers(fault: Fault) -> FaultNumbers
         Fault::Differs(turn) => counted(607, turn as u64),
         Fault::Thread => plain(608),
         Fault::File => plain(701),
+        Fault::Log(fault) => counted(kind_of_log(fault.cause), fault.line as u64),
+        Fault::LogImage => plain(811),
+        Fault::LogDiffers(turn) => counted(812, turn as u64),
+        Fault::LogOpen => plain(813),
     }
 }
 
@@ -111,6 +117,14 @@ pub fn fault(told: &FaultNumbers) -> Option<Fault>
     other(told)
 }
 
+/// A fault of the text of a log, at its line.
+fn in_log(told: &FaultNumbers, cause: LogCause) -> Fault
+    ensures { result ≡ fault.Log (record { line = told.now.at; cause = cause }) }
+{
+    let line = told.at as usize;
+    Fault::Log(LogFault { line, cause })
+}
+
 /// The same of the kinds from 501 on.
 fn other(told: &FaultNumbers) -> Option<Fault>
     ensures { result ≡ other_of told.now }
@@ -126,6 +140,19 @@ fn other(told: &FaultNumbers) -> Option<Fault>
         607 => Some(Fault::Differs(told.at as usize)),
         608 => Some(Fault::Thread),
         701 => Some(Fault::File),
+        811 => Some(Fault::LogImage),
+        812 => Some(Fault::LogDiffers(told.at as usize)),
+        813 => Some(Fault::LogOpen),
+        801 => Some(in_log(told, LogCause::Head)),
+        802 => Some(in_log(told, LogCause::Place)),
+        803 => Some(in_log(told, LogCause::Taken)),
+        804 => Some(in_log(told, LogCause::Key)),
+        805 => Some(in_log(told, LogCause::Frame)),
+        806 => Some(in_log(told, LogCause::Printed)),
+        807 => Some(in_log(told, LogCause::Count)),
+        808 => Some(in_log(told, LogCause::Spelling)),
+        809 => Some(in_log(told, LogCause::Ending)),
+        810 => Some(in_log(told, LogCause::Memory)),
         _ => None,
     }
 }
