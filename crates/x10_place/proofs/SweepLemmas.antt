@@ -1,7 +1,7 @@
 -- One step of a sweep.
 use Rattle.std.proofs.Common.{◌≡◌, ◌≢◌, ℕ, ◌+◌, ◌≤◌, true, false, List, Option, Some, None, Result, Ok, Err, refl, sym, ap, subst, ◌∙◌, inl, inr, arith}
 use Rattle.std.specs.Prelude.{IsSome, IfNone, IfSome}
-use Rattle.slab.specs.Slab.{get, ContainsKey}
+use Rattle.slab.specs.Slab.{get, slab_len, ContainsKey}
 use Rattle.x10_kinds.specs.declared.stop.Stop.{Stop}
 use Rattle.x10_kinds.specs.declared.stop.Stop.TheVariants as stop
 use Rattle.x10_place.specs.declared.place.Stepped.{Stepped}
@@ -17,9 +17,6 @@ answer_is answer other e = cc
 
 refused_not : (answer : Stepped) (why : Stop) → ◌≡◌ {A = Result Stepped Stop} (Ok answer) (Err why) → ⊥
 refused_not answer why e = absurd cc
-
-idle_not : (sent : Sent) → stepped.Idle ≡ stepped.Moved sent → ⊥
-idle_not sent e = absurd cc
 
 some_of : {A : Type 0} (o : Option A) → IsSome o → (a : A) × (o ≡ Some a)
 some_of None h = absurd cc
@@ -59,18 +56,18 @@ module _ (key m : ℕ) (p q : PlaceState) (answer : Stepped)
         quiet = inl refl;
         pace = pace_as stepped.Idle e;
         none_begun = ap (λ (x : PlaceState). get x.stays p.stays.vacant_key) same ∙ subst (λ k. get p.stays k ≡ None) is free;
-        stays = λ sent moved. absurd (idle_not sent moved);
+        none_ended = ap (λ (x : PlaceState). slab_len x.stays) same;
         count = omega arith;
       }
 
   pub moved_goes_on : (sent : Sent) (vacant : ℕ) → vacant ≡ p.stays.vacant_key → (ContainsKey q.stays vacant → ⊥) → answer ≡ stepped.Moved sent
-      → sent ≡ no_sent → ContainsKey q.stays key → GoesOn key m p (m + 1) q
-  moved_goes_on sent vacant is free e nothing there = record {
+      → sent ≡ no_sent → slab_len q.stays ≡ slab_len p.stays → GoesOn key m p (m + 1) q
+  moved_goes_on sent vacant is free e nothing same = record {
     answer = stepped.Moved no_sent;
     quiet = inr refl;
     pace = subst (λ s. IsPace key p (stepped.Moved s) q) nothing (pace_as (stepped.Moved sent) e);
     none_begun = subst (λ k. get q.stays k ≡ None) is (none_of (get q.stays vacant) free);
-    stays = λ other moved. there;
+    none_ended = same;
     count = refl;
   }
 
@@ -85,8 +82,8 @@ module _ (key m : ℕ) (p q : PlaceState) (answer : Stepped)
     count = refl;
   }
 
-  pub ends_by_end : (sent : Sent) → answer ≡ stepped.Moved sent → (ContainsKey q.stays key → ⊥) → EndsSweep key m p sent (m + 1) q
-  ends_by_end sent e gone = record { pace = pace_as (stepped.Moved sent) e; parts = inr (inr (none_of (get q.stays key) gone)); count = refl }
+  pub ends_by_end : (sent : Sent) → answer ≡ stepped.Moved sent → slab_len q.stays ≢ slab_len p.stays → EndsSweep key m p sent (m + 1) q
+  ends_by_end sent e other = record { pace = pace_as (stepped.Moved sent) e; parts = inr (inr other); count = refl }
 
 -- ---- a sweep
 

@@ -1,6 +1,6 @@
 -- Steps of several activities, one after another.
 use Rattle.std.specs.Prelude.{◌≡◌, ◌≢◌, ◌⊎◌, ℕ, ◌+◌, List, None, Some, slice_get, true, false}
-use Rattle.slab.specs.Slab.{get, ContainsKey}
+use Rattle.slab.specs.Slab.{get, slab_len}
 use Rattle.x10_kinds.specs.declared.stop.Stop.{Stop}
 use Rattle.x10_place.specs.declared.place.Stepped.{Stepped}
 use Rattle.x10_place.specs.declared.place.Stepped.TheVariants as stepped
@@ -30,19 +30,19 @@ moves_in stepped.Idle = 0
 moves_in (stepped.Moved sent) = 1
 
 -- One step of a sweep that goes on, and how many moves were counted before it and after: nothing is put out, the key that the
--- next activity gets is still free, and an activity that moved is still here.
+-- next activity gets is still free, and as many activities are here as were.
 pub record GoesOn (key m : ℕ) (p : PlaceState) (n : ℕ) (q : PlaceState) : Type 0 where
   pub answer : Stepped
   pub quiet : IsQuiet answer
   pub pace : IsPace key p answer q
   pub none_begun : get q.stays p.stays.vacant_key ≡ None
-  pub stays : (sent : Sent) → answer ≡ stepped.Moved sent → ContainsKey q.stays key
+  pub none_ended : slab_len q.stays ≡ slab_len p.stays
   pub count : n ≡ m + moves_in answer
 
 -- one that ends it: it moves, and puts something out, or begins or ends an activity
 pub record EndsSweep (key m : ℕ) (p : PlaceState) (sent : Sent) (n : ℕ) (q : PlaceState) : Type 0 where
   pub pace : IsPace key p (stepped.Moved sent) q
-  pub parts : (sent ≢ no_sent) ⊎ HasBegun p q ⊎ (get q.stays key ≡ None)
+  pub parts : (sent ≢ no_sent) ⊎ HasBegun p q ⊎ (slab_len q.stays ≢ slab_len p.stays)
   pub count : n ≡ m + 1
 
 -- one that is refused

@@ -44,12 +44,12 @@ impl<'a> Place<'a> {
         ensures goes { IfOk result (λ _. self.new.stopped ≢ true) }
         ensures kept { Keeps self.old self.new }
     {
-        let vacant = self.vacant_key();
+        let (vacant, live) = (self.vacant_key(), self.live());
         match self.step(key)? {
             Stepped::Idle => Ok(None),
             Stepped::Moved(sent) => {
                 *moved += 1;
-                if is_nothing(&sent) && !self.contains(vacant) && self.contains(key) {
+                if is_nothing(&sent) && !self.contains(vacant) && self.live() == live {
                     return Ok(None);
                 }
                 Ok(Some(sent))
