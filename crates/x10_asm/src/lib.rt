@@ -27,6 +27,7 @@ pub use listing::{
     list, push_class, push_end, push_entry, push_func, push_instruction, push_int_line,
     push_places, push_text_line, push_version,
 };
+pub use literal::scan_quoted;
 pub use number::number_of;
 pub use split::{next_line, next_word};
 pub use statement::{Line, Statement, line_of};

@@ -24,8 +24,8 @@ fn unescaped(byte: u8) -> Option<u8>
     }
 }
 
-/// The bytes up to the closing quote, and what follows that.
-fn scan(alloc: Global, quoted: &str) -> Result<(Vec<u8>, &str), AsmCause>
+/// The bytes up to the closing quote of a text, without escapes, and what follows that. `quoted` begins behind the first quote.
+pub fn scan_quoted(alloc: Global, quoted: &str) -> Result<(Vec<u8>, &str), AsmCause>
     ensures { Gives (λ x. (x.0.items, x.1.now)) result
         (given (literals.scan false quoted.now) Text) }
 {
@@ -112,6 +112,6 @@ pub fn literal(alloc: Global, rest: &str) -> Result<String, AsmCause>
     let Some(quoted) = stripped(rest, "\"") else {
         return Err(AsmCause::Text);
     };
-    let (text, after) = scan(alloc, quoted)?;
+    let (text, after) = scan_quoted(alloc, quoted)?;
     closed(text, after)
 }

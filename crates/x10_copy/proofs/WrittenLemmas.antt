@@ -1,5 +1,5 @@
 -- What was written, and what is still to be written.
-use Rattle.std.proofs.Common.{◌≡◌, ℕ, zero, suc, ◌+◌, ◌<◌, ◌≤◌, List, [], ◌∷◌, ◌++◌, length, get_or, drop, map, Some, slice_get, Result, Ok, Err, IfOk, refl, sym, ap, subst, ◌∙◌, arith, append_assoc, append-nil, add-one, flat_map}
+use Rattle.std.proofs.Common.{◌≡◌, ℕ, zero, suc, ◌+◌, ◌<◌, ◌≤◌, List, [], ◌∷◌, ◌++◌, length, get_or, drop, map, Some, slice_get, refl, sym, ap, subst, ◌∙◌, arith, append_assoc, append-nil, add-one, flat_map}
 use Rattle.std.specs.List.{AllByRecursion}
 use Rattle.std.specs.Int.{w16, to_be_bytes}
 use Rattle.std.proofs.lemmas.List.{drop_more, drop_all}
@@ -10,10 +10,6 @@ use Rattle.x10_model.specs.Frames.{Item, item_bytes, node_bytes}
 use Rattle.x10_copy.specs.Names.{Names, item_of, items_of, IsFound, AreFound, AreWords}
 use Rattle.x10_copy.specs.Graphs.{kinds_at, object_at, node_of}
 use Rattle.x10_copy.specs.Walks.{AllFound}
-
-pub if_ok : {X E : Type 0} (r : Result X E) (P Q : X → Type 0) → ((x : X) → P x → Q x) → IfOk r P → IfOk r Q
-if_ok (Ok x) P Q next p = next x p
-if_ok (Err e) P Q next p = tt
 
 -- ---- one more
 

@@ -1,5 +1,5 @@
 -- What arrives in a heap, and why a frame is refused.
-use Rattle.std.specs.Prelude.{◌≡◌, ◌↔◌, ℕ, ◌+◌, ◌*◌, ◌≤◌, ◌^◌, ◌⊎◌, Bool, IsTrue, Option, Some, None, List, ◌++◌, map, length}
+use Rattle.std.specs.Prelude.{◌≡◌, ◌↔◌, ℕ, ◌+◌, ◌≤◌, ◌^◌, ◌⊎◌, Bool, IsTrue, Option, Some, None, List, ◌++◌, map, length}
 use Rattle.std.specs.Int.{w64, cast_unsigned}
 use Rattle.x10_kinds.specs.declared.limit.Limit.{Limit}
 use Rattle.x10_kinds.specs.declared.limit.Limit.TheVariants as limits

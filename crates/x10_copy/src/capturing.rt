@@ -93,11 +93,11 @@ fn written(
         rails: marks.rails() as u32,
         nodes: marks.objects() as u32,
     };
-    let writer = FrameWriter::with_room(alloc, head, &sizes, room(marks, heap, words.len()))?;
-    let writer = put_roots(writer, marks, slots, words)?;
-    let writer = put_texts(writer, marks, heap)?;
-    let writer = put_rails(writer, marks, heap)?;
-    let writer = put_objects(writer, marks, heap, image)?;
+    let mut writer = FrameWriter::with_room(alloc, head, &sizes, room(marks, heap, words.len()))?;
+    put_roots(&mut writer, marks, slots, words)?;
+    put_texts(&mut writer, marks, heap)?;
+    put_rails(&mut writer, marks, heap)?;
+    put_objects(&mut writer, marks, heap, image)?;
     Ok(writer.finish())
 }
 

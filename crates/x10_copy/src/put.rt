@@ -1,6 +1,6 @@
 //! Writing what a message takes along.
 
-ghost use Rattle.std.specs.Prelude.{◌≡◌, ℕ, ◌<◌, ◌≤◌, ◌++◌, IfOk, length, map, slice_index};
+ghost use Rattle.std.specs.Prelude.{◌≡◌, ℕ, ◌<◌, ◌≤◌, ◌++◌, IfOk, OnOk, length, map, slice_index};
 ghost use Rattle.std.specs.List.{AllByRecursion, flat_map};
 ghost use Rattle.x10_model.specs.Modules.{FitsText};
 ghost use Rattle.x10_model.specs.declared.version.FrameVersion.TheVariants.{Wide};
@@ -20,93 +20,89 @@ use x10_model::Slot;
 
 /// The words that are passed.
 pub fn put_roots(
-    writer: FrameWriter,
+    writer: &mut FrameWriter,
     marks: &Marks,
     slots: &[Slot],
     words: &[u64],
-) -> Result<FrameWriter, AllocError>
+) -> Result<(), AllocError>
     requires words { AreWords (kinds_of slots.now) words.now }
     requires found { AreFound marks.now (kinds_of slots.now) words.now }
-    ensures { IfOk result (λ w. w ≡ writer ++ flat_map (item_bytes Wide)
+    ensures { OnOk result (writer.new ≡ writer.old ++ flat_map (item_bytes Wide)
         (items_of marks.now (kinds_of slots.now) words.now)) }
 {
-    let mut writer = writer;
     for i in 0..words.len() {
-        writer = writer.value(&marks.item(slots[i].kind, words[i]))?;
+        writer.value(&marks.item(slots[i].kind, words[i]))?;
     }
-    Ok(writer)
+    Ok(())
 }
 
 /// The texts, each copied once.
-pub fn put_texts(writer: FrameWriter, marks: &Marks, heap: &Heap) -> Result<FrameWriter, AllocError>
+pub fn put_texts(writer: &mut FrameWriter, marks: &Marks, heap: &Heap) -> Result<(), AllocError>
     requires there { AreThere heap.now marks.now }
-    ensures value { IfOk result (λ w. w ≡ writer ++ flat_map blob_bytes
+    ensures value { OnOk result (writer.new ≡ writer.old ++ flat_map blob_bytes
         (map (text_at heap.now) marks.now.texts)) }
     ensures fits { IfOk result (λ _. AllByRecursion FitsText
         (map (text_at heap.now) marks.now.texts)) }
 {
-    let mut writer = writer;
     for i in 0..marks.texts() {
-        writer = writer.text(heap.text(marks.text(i)))?;
+        writer.text(heap.text(marks.text(i)))?;
     }
-    Ok(writer)
+    Ok(())
 }
 
 /// The rails, each copied once.
-pub fn put_rails(writer: FrameWriter, marks: &Marks, heap: &Heap) -> Result<FrameWriter, AllocError>
+pub fn put_rails(writer: &mut FrameWriter, marks: &Marks, heap: &Heap) -> Result<(), AllocError>
     requires there { AreThere heap.now marks.now }
-    ensures value { IfOk result (λ w. w ≡ writer ++ flat_map blob_bytes
+    ensures value { OnOk result (writer.new ≡ writer.old ++ flat_map blob_bytes
         (map (rail_at heap.now) marks.now.rails)) }
     ensures fits { IfOk result (λ _. AllByRecursion FitsRail
         (map (rail_at heap.now) marks.now.rails)) }
 {
-    let mut writer = writer;
     for i in 0..marks.rails() {
-        writer = writer.rail(heap.rail(marks.rail(i)))?;
+        writer.rail(heap.rail(marks.rail(i)))?;
     }
-    Ok(writer)
+    Ok(())
 }
 
 /// The words in an object's fields.
 #[inline(always)]
 fn put_fields(
-    writer: FrameWriter,
+    writer: &mut FrameWriter,
     marks: &Marks,
     class: &ClassView,
     words: &[u64],
-) -> Result<FrameWriter, AllocError>
+) -> Result<(), AllocError>
     requires words { AreWords class.now words.now }
     requires found { AreFound marks.now class.now words.now }
-    ensures { IfOk result (λ w. w ≡ writer ++ flat_map (item_bytes Wide)
+    ensures { OnOk result (writer.new ≡ writer.old ++ flat_map (item_bytes Wide)
         (items_of marks.now class.now words.now)) }
 {
-    let mut writer = writer;
     for j in 0..words.len() {
-        writer = writer.value(&marks.item(class.field(j), words[j]))?;
+        writer.value(&marks.item(class.field(j), words[j]))?;
     }
-    Ok(writer)
+    Ok(())
 }
 
 /// An object.
 #[inline(always)]
 fn put_object(
-    writer: FrameWriter,
+    writer: &mut FrameWriter,
     marks: &Marks,
     heap: &Heap,
     image: &ImageView,
     object: u32,
-) -> Result<FrameWriter, AllocError>
+) -> Result<(), AllocError>
     requires words { IsWordy image.now.classes heap.now object }
     requires few { length (kinds_at image.now.classes (object_at heap.now object).class) ≤ 16 }
     requires found { AreFound marks.now (kinds_at image.now.classes
         (object_at heap.now object).class) (object_at heap.now object).fields }
-    ensures { IfOk result (λ w. w ≡ writer ++ node_bytes Wide
+    ensures { OnOk result (writer.new ≡ writer.old ++ node_bytes Wide
         (node_of image.now.classes marks.now (object_at heap.now object))) }
 {
     let number = heap.class(object);
     let class = image.class(usize::from(number));
     let words = heap.fields(object);
-    let writer = writer.begin_node(number, words.len() as u8)?;
+    writer.begin_node(number, words.len() as u8)?;
     put_fields(writer, marks, &class, words)
 }
 
@@ -114,18 +110,18 @@ fn put_object(
 /// and asks for their room.
 #[inline(always)]
 fn look_ahead(
-    writer: FrameWriter,
+    writer: &mut FrameWriter,
     marks: &Marks,
     heap: &Heap,
     turn: usize,
-) -> Result<FrameWriter, AllocError>
+) -> Result<(), AllocError>
     requires there { (k : ℕ) → k < length marks.now.objects
         → slice_index marks.now.objects k < length heap.now.objects }
     requires turn { turn < length marks.now.objects }
-    ensures { IfOk result (λ w. w ≡ writer) }
+    ensures { OnOk result (writer.new ≡ writer.old) }
 {
     if !turn.is_multiple_of(TOGETHER) {
-        return Ok(writer);
+        return Ok(());
     }
     let near = marks.objects().min(turn + TOGETHER);
     writer.reserve(size_of(marks, heap, turn, near))
@@ -133,20 +129,19 @@ fn look_ahead(
 
 /// The objects.
 pub fn put_objects(
-    writer: FrameWriter,
+    writer: &mut FrameWriter,
     marks: &Marks,
     heap: &Heap,
     image: &ImageView,
-) -> Result<FrameWriter, AllocError>
+) -> Result<(), AllocError>
     requires words { AreWordy image.now.classes heap.now marks.now }
     requires found { AllFound image.now.classes heap.now marks.now marks.now.objects }
-    ensures { IfOk result (λ w. w ≡ writer ++ flat_map (node_bytes Wide)
+    ensures { OnOk result (writer.new ≡ writer.old ++ flat_map (node_bytes Wide)
         (nodes_of image.now.classes heap.now marks.now marks.now.objects)) }
 {
-    let mut writer = writer;
     for k in 0..marks.objects() {
-        writer = look_ahead(writer, marks, heap, k)?;
-        writer = put_object(writer, marks, heap, image, marks.object(k))?;
+        look_ahead(writer, marks, heap, k)?;
+        put_object(writer, marks, heap, image, marks.object(k))?;
     }
-    Ok(writer)
+    Ok(())
 }

@@ -1,7 +1,8 @@
 -- What counts tell of a net.
 use Rattle.std.proofs.Common.{◌≡◌, ℕ, ◌<◌, Option, Some, None, refl, ◌∙◌, ap, arith}
 use Rattle.x10_model.specs.Places as places
-use Rattle.x10_model.specs.Places.{Finish, Stay, Message, Spawn, Shift, Back}
+use Rattle.x10_model.specs.declared.finish.Finish.{Finish}
+use Rattle.x10_model.specs.Places.{Stay, Message, Spawn, Shift, Back}
 use Rattle.x10_model.specs.Worlds.{Net, IsUnder, IsQuiet}
 use Rattle.x10_finish.specs.Detection.{Counting, IsAtRest}
 use Rattle.x10_finish.specs.Nesting.{stays_in, stays_of}

@@ -4,7 +4,8 @@ use Rattle.std.proofs.Math.Path.{fun_ext}
 use Rattle.std.proofs.lemmas.Bool.{eq-eqb, ne_eqb}
 use Rattle.x10_model.specs.Maps.{with_entry, with_pair}
 use Rattle.x10_model.specs.Places as machine
-use Rattle.x10_model.specs.Places.{Setting, Finish, root, Stay, Message, Spawn, Shift, Back, receiver, innermost, innermost_of, Effect, Waits, Works, Begins, Spawns, Shifts, Opens, Closes, Ends}
+use Rattle.x10_model.specs.declared.finish.Finish.{Finish}
+use Rattle.x10_model.specs.Places.{Setting, root, Stay, Message, Spawn, Shift, Back, receiver, innermost, innermost_of, Effect, Waits, Works, Begins, Spawns, Shifts, Opens, Closes, Ends}
 use Rattle.x10_model.specs.Moves.{resumed}
 use Rattle.x10_model.specs.Deliveries.{first_of}
 use Rattle.x10_model.specs.Totals.{Totals, Happening, Did, Took, totals_after, nothing, begins_one, ends_one, sends_to, receives_from}
@@ -16,7 +17,7 @@ use Rattle.x10_finish.specs.Stays.{IsWayBack, MovesStay}
 use Rattle.x10_finish.specs.Nesting.{stays_in, Stays, stays_of}
 use Rattle.x10_finish.specs.Telling.{HowMany, Inherits, IsBetween, FliesBetween, Tells, IsInRange, counted_as, GoesTo, FollowsOn, MovesAreCounted, DeliveriesAreCounted, OpeningIsCounted}
 use Rattle.x10_finish.proofs.Stays.{stays_change}
-use Rattle.x10_finish.proofs.Ledgers.{same_is}
+use Rattle.x10_model.proofs.SameFinishes.{same_is, same_self}
 use Rattle.x10_finish.proofs.DetectionLemmas.{at_entry, counted_at_start, counted_after}
 use Rattle.x10_finish.proofs.NestedFinishes.{no_stay}
 use Rattle.x10_finish.proofs.Sound.{map_entry, entry_self, overwritten, stays_after, there_in, free_after}
@@ -25,10 +26,6 @@ use Rattle.x10_finish.proofs.HowMany.{many_some, none_many}
 use Rattle.x10_finish.proofs.CountsOfNet.{Live, Fly, not_unused, live_same, live_new_other, live_gone_other, live_new, live_gone, fly_other, fly_new, fly_taken_other, fly_taken}
 
 -- ---- finishes
-
-same_self : (f g : Finish) → f ≡ g → same_finish f g ≡ true
-same_self f g e = (let h = eq-eqb f.home g.home (ap (λ (x : Finish). x.home) e) in
-    let n = eq-eqb f.number g.number (ap (λ (x : Finish). x.number) e) in rw (h, n) refl)
 
 pub apart_by : (f g : Finish) → same_finish f g ≡ false → f ≡ g → ⊥
 apart_by f g no_more e = absurd (let x = same_self f g e in cc)

@@ -3,7 +3,8 @@ use Rattle.std.proofs.Common.{◌≡◌, ℕ, ◌+◌, ◌-◌, Option, Some, No
 use Rattle.std.proofs.lemmas.Bool.{cases_eq}
 use Rattle.std.proofs.lemmas.Option.{same_Some}
 use Rattle.x10_model.specs.Maps.{with_entry, with_pair}
-use Rattle.x10_model.specs.Places.{Finish, Stay, Message}
+use Rattle.x10_model.specs.declared.finish.Finish.{Finish}
+use Rattle.x10_model.specs.Places.{Stay, Message}
 use Rattle.x10_model.specs.Worlds.{Post, Flying, Taken, Unused}
 use Rattle.x10_finish.specs.Nesting.{Stays}
 use Rattle.x10_finish.specs.Telling.{HowMany, Inherits, IsBetween, FliesBetween}

@@ -3,7 +3,8 @@ use Rattle.std.proofs.Common.{◌≡◌, ℕ, suc, ◌+◌, ◌<◌, ◌≤◌, 
 use Rattle.std.proofs.lemmas.Option.{same_Some}
 use Rattle.x10_model.specs.Maps.{with_entry}
 use Rattle.x10_model.specs.Places as machine
-use Rattle.x10_model.specs.Places.{Setting, Finish, root, Stay, Message, Spawn, Shift, Back, receiver, Effect, Waits, Works, Begins, Spawns, Shifts, Opens, Closes, Ends}
+use Rattle.x10_model.specs.declared.finish.Finish.{Finish}
+use Rattle.x10_model.specs.Places.{Setting, root, Stay, Message, Spawn, Shift, Back, receiver, Effect, Waits, Works, Begins, Spawns, Shifts, Opens, Closes, Ends}
 use Rattle.x10_model.specs.Deliveries.{Receives}
 use Rattle.x10_model.specs.Totals.{Totals, begins_one, ends_one, sends_to, receives_from, Did, Took, totals_after, is_last, is_reported}
 use Rattle.x10_model.specs.Worlds.{same_finish, Net, Book, net_after, Flying}
@@ -12,7 +13,7 @@ use Rattle.x10_finish.specs.Stays.{MovesStay}
 use Rattle.x10_finish.specs.Nesting.{stays_in, opened_in, stays_of, opened_of, nth, IsOpen, IsHeld}
 use Rattle.x10_finish.specs.Closing.{IsSound}
 use Rattle.x10_finish.specs.Watching.{IsCurrent, closes}
-use Rattle.x10_finish.proofs.Ledgers.{same_is}
+use Rattle.x10_model.proofs.SameFinishes.{same_is}
 use Rattle.x10_finish.proofs.NestedFinishes.{at_pair, no_stay, grown, innermost_held}
 use Rattle.x10_finish.proofs.Sound.{there_in, stays_after, opened_after, opened_same, entry_self, overwritten, net_with}
 use Rattle.x10_finish.proofs.Rooted.{HadOpen, open_back, had_same, had_rest, had_none, opened_or_new}

@@ -1,44 +1,18 @@
 -- Ledgers: what a change of one count does to the totals of all finishes.
-use Rattle.std.proofs.Common.{◌≡◌, ℕ, ◌==◌, ◌&&◌, Bool, true, false, cond, if◌then◌else◌, List, Option, Some, None, is_some, Result, Ok, Err, OnOk, OnErr, IfErr, inl, inr, refl, sym, ◌∙◌, ap, subst, arith}
-use Rattle.std.proofs.lemmas.Bool.{eqb-true}
+use Rattle.std.proofs.Common.{◌≡◌, ℕ, Bool, true, false, cond, if◌then◌else◌, List, Option, Some, None, is_some, Result, Ok, Err, OnOk, OnErr, IfErr, inl, inr, refl, sym, ◌∙◌, ap, subst, arith}
 use Rattle.x10_kinds.specs.declared.limit.Limit.TheVariants as limits
 use Rattle.x10_kinds.specs.declared.stop.Stop.{Stop}
 use Rattle.x10_kinds.specs.declared.stop.Stop.TheVariants as stop
-use Rattle.x10_model.specs.Places as machine
 use Rattle.x10_model.specs.Worlds.{same_finish}
+use Rattle.x10_model.proofs.SameFinishes.{same_either, same_is}
 use Rattle.x10_model.specs.Totals.{Totals, nothing, if_same}
-use Rattle.x10_finish.specs.declared.finish.Finish.{Finish}
+use Rattle.x10_model.specs.declared.finish.Finish.{Finish}
 use Rattle.x10_finish.specs.declared.count.Count.{Count}
 use Rattle.x10_finish.specs.declared.count.Change.{Change}
 use Rattle.x10_finish.specs.declared.count.Change.TheVariants.{Begins, Sends, Receives}
 use Rattle.x10_finish.specs.Counts.{counted, IsWhole, IsLargest, IsFull}
-use Rattle.x10_finish.specs.Ledgers.{named, key_of, finish_eq, count_of, counted_or_nothing, Ledger, totals_of, is_met, AreWhole, Counts, Forgets, Refuses}
-
-equal_numbers : (x y : ℕ) → (x == y) ≡ (y == x)
-equal_numbers x y = grind arith
-
-both_are : (a b : Bool) → (a && b) ≡ (if a then b else false)
-both_are true b = refl
-both_are false b = refl
-
--- a finish is found under its own key alone
-pub at_is_same : (k : Finish) (f : machine.Finish) → finish_eq k (key_of f) ≡ same_finish f (named k)
-at_is_same k f = rw (equal_numbers k.home f.home, equal_numbers k.number f.number) (both_are (f.home == k.home) (f.number == k.number))
-
-true_if : (a b : Bool) → (if a then b else false) ≡ true → (a ≡ true) × (b ≡ true)
-true_if true b e = (refl, e)
-true_if false b e = absurd cc
-
-pub same_is : (f g : machine.Finish) → same_finish f g ≡ true → f ≡ g
-same_is f g e =
-    let both = true_if (f.home == g.home) (f.number == g.number) e in
-    let p : f.home ≡ g.home = eqb-true f.home g.home both.0 in
-    let q : f.number ≡ g.number = eqb-true f.number g.number both.1 in
-    λ i. record { home = p i; number = q i }
-
--- one count is written or entered
-abbrev pub Writes : List (Finish × Count) → Finish → Count → List (Finish × Count) → Type 0
-Writes old k w new = (q : Finish) → count_of new q ≡ cond (finish_eq k q) (Some w) (count_of old q)
+use Rattle.x10_finish.specs.Met.{Writes, Removes}
+use Rattle.x10_finish.specs.Ledgers.{count_of, counted_or_nothing, Ledger, totals_of, is_met, AreWhole, Counts, Forgets, Refuses}
 
 picked : (b : Bool) (w : Count) (o : Option Count) (t : Totals) → (b ≡ true → counted w ≡ t)
     → counted_or_nothing (cond b (Some w) o) ≡ (if b then t else counted_or_nothing o)
@@ -51,17 +25,17 @@ met_then false w o = refl
 
 pub Counts-by : (old new : Ledger) (k : Finish) (w : Count) (change : Totals → Totals) → new.place ≡ old.place → new.places ≡ old.places
     → Writes old.counts k w new.counts
-    → counted w ≡ change (totals_of old (named k)) → Counts old (named k) change new
+    → counted w ≡ change (totals_of old k) → Counts old k change new
 Counts-by old new k w change e p h t = record {
   place = e;
   places = p;
-  totals = λ g. ap counted_or_nothing (h (key_of g)) ∙ subst (λ b. counted_or_nothing (cond b (Some w) (count_of old.counts (key_of g)))
-      ≡ if_same g (named k) (change (totals_of old g)) (totals_of old g)) (sym (at_is_same k g))
-      (picked (same_finish g (named k)) w (count_of old.counts (key_of g)) (change (totals_of old g))
-      (λ s. t ∙ ap (λ f. change (totals_of old f)) (sym (same_is g (named k) s))));
-  met = λ g. ap is_some (h (key_of g)) ∙ subst (λ b. is_some (cond b (Some w) (count_of old.counts (key_of g)))
-      ≡ (if same_finish g (named k) then true else is_met old g)) (sym (at_is_same k g))
-      (met_then (same_finish g (named k)) w (count_of old.counts (key_of g)));
+  totals = λ g. ap counted_or_nothing (h g) ∙ subst (λ b. counted_or_nothing (cond b (Some w) (count_of old.counts g))
+      ≡ if_same g k (change (totals_of old g)) (totals_of old g)) (sym (same_either k g))
+      (picked (same_finish g k) w (count_of old.counts g) (change (totals_of old g))
+      (λ s. t ∙ ap (λ f. change (totals_of old f)) (sym (same_is g k s))));
+  met = λ g. ap is_some (h g) ∙ subst (λ b. is_some (cond b (Some w) (count_of old.counts g))
+      ≡ (if same_finish g k then true else is_met old g)) (sym (same_either k g))
+      (met_then (same_finish g k) w (count_of old.counts g));
 }
 
 whole_then : (places : ℕ) (b : Bool) (w c : Count) (o : Option Count) → IsWhole places w → (o ≡ Some c → IsWhole places c)
@@ -71,11 +45,7 @@ whole_then places false w c o h g e = g e
 
 pub AreWhole-by : (places : ℕ) (old new : List (Finish × Count)) (k : Finish) (w : Count) → Writes old k w new → IsWhole places w
     → AreWhole places old → AreWhole places new
-AreWhole-by places old new k w h g all f c e = whole_then places (finish_eq k f) w c (count_of old f) g (all f c) (sym (h f) ∙ e)
-
--- one count goes
-abbrev pub Removes : List (Finish × Count) → Finish → List (Finish × Count) → Type 0
-Removes old k new = (q : Finish) → count_of new q ≡ cond (finish_eq k q) None (count_of old q)
+AreWhole-by places old new k w h g all f c e = whole_then places (same_finish k f) w c (count_of old f) g (all f c) (sym (h f) ∙ e)
 
 gone : (b : Bool) (o : Option Count) → counted_or_nothing (cond b None o) ≡ (if b then nothing else counted_or_nothing o)
 gone true o = refl
@@ -86,14 +56,14 @@ unmet true o = refl
 unmet false o = refl
 
 pub Forgets-by : (old new : Ledger) (k : Finish) → new.place ≡ old.place → new.places ≡ old.places → Removes old.counts k new.counts
-    → Forgets old (named k) new
+    → Forgets old k new
 Forgets-by old new k e p h = record {
   place = e;
   places = p;
-  totals = λ g. ap counted_or_nothing (h (key_of g)) ∙ gone (finish_eq k (key_of g)) (count_of old.counts (key_of g))
-      ∙ ap (λ b. if b then nothing else totals_of old g) (at_is_same k g);
-  met = λ g. ap is_some (h (key_of g)) ∙ unmet (finish_eq k (key_of g)) (count_of old.counts (key_of g))
-      ∙ ap (λ b. if b then false else is_met old g) (at_is_same k g);
+  totals = λ g. ap counted_or_nothing (h g) ∙ gone (same_finish k g) (count_of old.counts g)
+      ∙ ap (λ b. if b then nothing else totals_of old g) (same_either k g);
+  met = λ g. ap is_some (h g) ∙ unmet (same_finish k g) (count_of old.counts g)
+      ∙ ap (λ b. if b then false else is_met old g) (same_either k g);
 }
 
 whole_left : (places : ℕ) (b : Bool) (c : Count) (o : Option Count) → (o ≡ Some c → IsWhole places c) → cond b None o ≡ Some c → IsWhole places c
@@ -101,7 +71,7 @@ whole_left places true c o g e = absurd cc
 whole_left places false c o g e = g e
 
 pub AreWhole-left : (places : ℕ) (old new : List (Finish × Count)) (k : Finish) → Removes old k new → AreWhole places old → AreWhole places new
-AreWhole-left places old new k h all f c e = whole_left places (finish_eq k f) c (count_of old f) (all f c) (sym (h f) ∙ e)
+AreWhole-left places old new k h all f c e = whole_left places (same_finish k f) c (count_of old f) (all f c) (sym (h f) ∙ e)
 
 -- what was not counted yet is not full
 pub not_full : (change : Change) (t : Totals) → t ≡ nothing → IsFull change t → ⊥

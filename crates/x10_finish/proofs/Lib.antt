@@ -1,4 +1,5 @@
 pub mod Ledgers
+pub mod MetLemmas
 pub mod Sums
 pub mod Squares
 pub mod MergedReports

@@ -1,6 +1,7 @@
 -- What the book lists, and what is quiet once nobody lives.
 use Rattle.std.proofs.Common.{◌≡◌, ℕ, List, [], ◌∷◌, Some, inl, inr, refl, ◌∙◌, ap, subst}
-use Rattle.x10_model.specs.Places.{Finish, Stay}
+use Rattle.x10_model.specs.declared.finish.Finish.{Finish}
+use Rattle.x10_model.specs.Places.{Stay}
 use Rattle.x10_finish.specs.Nesting.{stays_in, Stays, stays_of}
 use Rattle.x10_finish.specs.Chains.{Name, IsAmong, IsChain}
 use Rattle.x10_finish.specs.Closing.{chains_of, unders_of, QuietEventIsIdeal, StaysAreListed, OverIsQuiet}

@@ -3,11 +3,12 @@ use Rattle.std.proofs.Common.{◌≡◌, ℕ, zero, suc, ◌+◌, ◌<◌, ◌�
 use Rattle.std.proofs.lemmas.Bool.{eq-eqb, cases_eq}
 use Rattle.std.proofs.lemmas.Option.{same_Some}
 use Rattle.x10_model.specs.Maps.{with_entry, with_pair}
-use Rattle.x10_model.specs.Places.{Finish, root, Stay, Message, innermost_of, innermost}
+use Rattle.x10_model.specs.declared.finish.Finish.{Finish}
+use Rattle.x10_model.specs.Places.{root, Stay, Message, innermost_of, innermost}
 use Rattle.x10_model.specs.Worlds.{same_finish, Post, Flying, Taken, with_enclosing, IsUnder, IsWithin, itself, enclosed}
 use Rattle.x10_model.proofs.Maps.{at_key}
 use Rattle.x10_finish.specs.Nesting.{Stays, nth, outside, IsOpen, IsHeld, IsUsed, by_stay, by_post, IsNested}
-use Rattle.x10_finish.proofs.Ledgers.{same_is}
+use Rattle.x10_model.proofs.SameFinishes.{same_is}
 use Rattle.x10_finish.proofs.DetectionLemmas.{at_entry}
 pub use Rattle.x10_finish.proofs.Entries.{at_pair}
 

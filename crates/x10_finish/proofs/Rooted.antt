@@ -5,7 +5,8 @@ use Rattle.std.proofs.lemmas.Option.{same_Some}
 use Rattle.x10_model.specs.declared.event.Event.{Event}
 use Rattle.x10_model.specs.Maps.{with_entry, with_pair}
 use Rattle.x10_model.specs.Places as places
-use Rattle.x10_model.specs.Places.{Setting, Finish, root, Stay, Message, Spawn, Shift, Back, innermost, Effect, Waits, Works, Begins, Spawns, Shifts, Opens, Closes, Ends}
+use Rattle.x10_model.specs.declared.finish.Finish.{Finish}
+use Rattle.x10_model.specs.Places.{Setting, root, Stay, Message, Spawn, Shift, Back, innermost, Effect, Waits, Works, Begins, Spawns, Shifts, Opens, Closes, Ends}
 use Rattle.x10_model.specs.Deliveries.{Receives}
 use Rattle.x10_model.specs.Worlds as worlds
 use Rattle.x10_model.specs.Worlds.{Post, Net, Book, World, net_after, same_finish, with_enclosing, IsWithin, itself, enclosed, IsQuiet, IsOver, Quiet, Steps, Delivers, Happens, steps, delivers, idle, Run, done, WithinBounds, opening}
@@ -14,7 +15,7 @@ use Rattle.x10_finish.specs.Stays.{Rewrites, MovesStay}
 use Rattle.x10_finish.specs.Nesting.{stays_in, opened_in, Stays, stays_of, opened_of, nth, IsOpen, IsHeld, IsUsed, IsNested}
 use Rattle.x10_finish.specs.Closing.{unders_of, IsSound, IsRooted, RootIsOver}
 use Rattle.x10_finish.proofs.Stays.{stays_change}
-use Rattle.x10_finish.proofs.Ledgers.{same_is}
+use Rattle.x10_model.proofs.SameFinishes.{same_is}
 use Rattle.x10_finish.proofs.NestedFinishes.{at_pair, no_stay, IsInside, enclosed_inside, used_held, grown, encloses_other, encloses_new, innermost_held}
 use Rattle.x10_finish.proofs.Sound.{there_in, stays_after, opened_after, opened_same, entry_self, net_with, unused_finish, overwritten}
 use Rattle.x10_finish.proofs.QuietClosings.{sound_happens, sound_opening, lives_used, main_is, opening_row}

@@ -4,7 +4,8 @@ use Rattle.std.proofs.Math.Path.{fun_ext}
 use Rattle.std.proofs.lemmas.Option.{same_Some}
 use Rattle.x10_model.specs.Maps.{with_entry, with_pair}
 use Rattle.x10_model.specs.Places as places
-use Rattle.x10_model.specs.Places.{Setting, Finish, Origin, Stay, Message, Spawn, Shift, Back, innermost, innermost_of, Effect, Waits, Works, Begins, Spawns, Shifts, Opens, Closes, Ends}
+use Rattle.x10_model.specs.declared.finish.Finish.{Finish}
+use Rattle.x10_model.specs.Places.{Setting, Origin, Stay, Message, Spawn, Shift, Back, innermost, innermost_of, Effect, Waits, Works, Begins, Spawns, Shifts, Opens, Closes, Ends}
 use Rattle.x10_model.specs.Copies.{Snapshot}
 use Rattle.x10_model.specs.Worlds.{Flying, Taken, Net, Activity, Book, net_after, book_after, counted, started, left, entered, rest_of, IsUnder, IsQuiet}
 use Rattle.x10_model.proofs.Maps.{at_key, off_key}

@@ -3,7 +3,8 @@ use Rattle.std.proofs.Common.{◌≡◌, ℕ, ◌+◌, ◌-◌, ◌<◌, Bool, t
 use Rattle.x10_model.specs.Maps.{with_entry}
 use Rattle.x10_model.specs.Copies.{Snapshot}
 use Rattle.x10_model.specs.Places as places
-use Rattle.x10_model.specs.Places.{Setting, Finish, Origin, Stay, Message, Spawn, Shift, Back, receiver, Effect, Waits, Works, Begins, Spawns, Shifts, Opens, Closes, Ends}
+use Rattle.x10_model.specs.declared.finish.Finish.{Finish}
+use Rattle.x10_model.specs.Places.{Setting, Origin, Stay, Message, Spawn, Shift, Back, receiver, Effect, Waits, Works, Begins, Spawns, Shifts, Opens, Closes, Ends}
 use Rattle.x10_model.specs.Deliveries as deliveries
 use Rattle.x10_model.specs.Deliveries.{Resumes, Receives}
 use Rattle.x10_model.specs.Totals.{Totals, Did, Took, totals_after, begins_one, ends_one, sends_to, receives_from}
@@ -11,7 +12,7 @@ use Rattle.x10_model.specs.Worlds.{same_finish}
 use Rattle.x10_finish.specs.Stays.{MovesStay}
 use Rattle.x10_finish.specs.Telling.{HowMany}
 use Rattle.x10_finish.specs.Watching.{closes, InheritsAt, IsTallied}
-use Rattle.x10_finish.proofs.Ledgers.{same_is}
+use Rattle.x10_model.proofs.SameFinishes.{same_is}
 use Rattle.x10_finish.proofs.NestedFinishes.{no_stay}
 use Rattle.x10_finish.proofs.Sound.{free_after}
 use Rattle.x10_finish.proofs.HowMany.{none_many, many_some}

@@ -5,7 +5,8 @@ use Rattle.std.proofs.lemmas.Bool.{cases_eq}
 use Rattle.x10_model.specs.declared.event.Event.TheVariants.{Step, Deliver}
 use Rattle.x10_model.specs.Maps.{with_entry}
 use Rattle.x10_model.specs.Places as machine
-use Rattle.x10_model.specs.Places.{Setting, Finish, root, Stay, Message, Spawn, Shift, Back, receiver, Effect, Waits, Works, Begins, Spawns, Shifts, Opens, Closes, Ends}
+use Rattle.x10_model.specs.declared.finish.Finish.{Finish}
+use Rattle.x10_model.specs.Places.{Setting, root, Stay, Message, Spawn, Shift, Back, receiver, Effect, Waits, Works, Begins, Spawns, Shifts, Opens, Closes, Ends}
 use Rattle.x10_model.specs.Moves.{Moves}
 use Rattle.x10_model.specs.Totals.{Totals, nothing, Did, Took, totals_after, is_last, is_reported, IsDoneAt, first_totals}
 use Rattle.x10_model.specs.Worlds.{same_finish, Unused, Net, World, sent, net_after, Quiet, Allows, Steps, Delivers, steps, delivers, opening}
@@ -16,7 +17,7 @@ use Rattle.x10_finish.specs.Nesting.{stays_in, stays_of, opened_of, nth, IsHeld}
 use Rattle.x10_finish.specs.Telling.{Inherits, Tells, IsInRange, GoesTo, counted_as, counted_in, counting_at_opening}
 use Rattle.x10_finish.specs.Watching.{IsCurrent, WorldCounts, counting_of, IsFollowed, IsWatched, AreFirst, OpeningIsWatched, IsMoved, ClosesDone, world_after, MovesAreWatched, IsDelivered, DeliveriesAreWatched, IsSame, IsTakenIn, CountsReport, ReportsAreWatched, DoneIsOver, OverIsDone, EndedIsDone, StaysAreCounted, IsUncounted}
 use Rattle.x10_finish.proofs.Stays.{stays_change}
-use Rattle.x10_finish.proofs.Ledgers.{same_is}
+use Rattle.x10_model.proofs.SameFinishes.{same_is}
 use Rattle.x10_finish.proofs.DetectionLemmas.{counted_after, counted_after_all}
 use Rattle.x10_finish.proofs.NestedFinishes.{no_stay}
 use Rattle.x10_finish.proofs.Sound.{there_in, net_with}

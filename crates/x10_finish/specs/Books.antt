@@ -1,22 +1,17 @@
 -- What callers see of a book: what it keeps of each place's reports.
 use Rattle.std.specs.Prelude.{◌≡◌, ℕ, ◌*◌, ◌<◌, ◌^◌, List, length}
-use Rattle.x10_model.specs.Places as machine
 use Rattle.x10_model.specs.Totals.{Cut, zeros, merged}
 use Rattle.x10_frame.specs.declared.report.Report.{Report}
-use Rattle.x10_finish.specs.declared.finish.Finish.{Finish}
+use Rattle.x10_model.specs.declared.finish.Finish.{Finish}
 use Rattle.x10_finish.specs.declared.pairs.Pair.{Pair}
 use Rattle.x10_finish.specs.Ledgers.{report_of}
 use Rattle.x10_finish.specs.Pairs.{pair_at, unequal_in}
 
 -- of which finish, of how many places, and the numbers pair by pair
 pub record Kept : Type 0 where
-  pub home : ℕ
-  pub number : ℕ
+  pub finish : Finish
   pub places : ℕ
   pub pairs : List Pair
-
-abbrev pub finish_of : Kept → machine.Finish
-finish_of b = record { home = b.home; number = b.number }
 
 -- what it keeps of each place: what that place sent to each, and received from each
 abbrev pub kept_of : Kept → Cut
@@ -34,23 +29,20 @@ pub record AreKept (home places unequal : ℕ) (pairs : List Pair) : Type 0 wher
 
 -- nothing was reported yet
 pub record IsOpened (f : Finish) (places : ℕ) (b : Kept) : Type 0 where
-  pub home : b.home ≡ f.home
-  pub number : b.number ≡ f.number
+  pub finish : b.finish ≡ f
   pub places_is : b.places ≡ places
   pub kept : kept_of b ≡ (λ p. zeros)
 
 -- the larger of each number is kept of a place that sent so many activities to each place, and received so many from each,
 -- and all else stays
 pub record MergesCounts (old : Kept) (from : ℕ) (sent received : List ℕ) (new : Kept) : Type 0 where
-  pub home : new.home ≡ old.home
-  pub number : new.number ≡ old.number
+  pub finish : new.finish ≡ old.finish
   pub places : new.places ≡ old.places
   pub kept : kept_of new ≡ merged (kept_of old)
-      (record { place = from; number = old.number; sent = sent; received = received })
+      (record { place = from; number = old.finish.number; sent = sent; received = received })
 
 -- the larger of each number is kept of the place that reports, and all else stays
 pub record Merges (old : Kept) (r : Report) (new : Kept) : Type 0 where
-  pub home : new.home ≡ old.home
-  pub number : new.number ≡ old.number
+  pub finish : new.finish ≡ old.finish
   pub places : new.places ≡ old.places
   pub kept : kept_of new ≡ merged (kept_of old) (report_of r)

@@ -1,6 +1,7 @@
 -- Which stays an activity has, and which messages carry it: what holds of every world of a run.
 use Rattle.std.specs.Prelude.{◌≡◌, ℕ, ◌<◌, ◌⊎◌, true, List, [], ◌∷◌, Some, None}
-use Rattle.x10_model.specs.Places.{Finish, Stay, Message, Spawn, Shift, Back, innermost}
+use Rattle.x10_model.specs.declared.finish.Finish.{Finish}
+use Rattle.x10_model.specs.Places.{Stay, Message, Spawn, Shift, Back, innermost}
 use Rattle.x10_model.specs.Worlds.{Post, Flying}
 use Rattle.x10_finish.specs.Nesting.{Stays}
 

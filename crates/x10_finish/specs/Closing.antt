@@ -3,7 +3,8 @@
 use Rattle.std.specs.Prelude.{◌≡◌, ◌↔◌, ℕ, ◌<◌, false, List, ◌∷◌, Option, Some}
 use Rattle.x10_model.specs.declared.event.Event.{Event}
 use Rattle.x10_model.specs.Places as places
-use Rattle.x10_model.specs.Places.{Setting, Finish, root, Stay, Message}
+use Rattle.x10_model.specs.declared.finish.Finish.{Finish}
+use Rattle.x10_model.specs.Places.{Setting, root, Stay, Message}
 use Rattle.x10_model.specs.Worlds.{World, Net, Book, Flying, IsQuiet, HasEnded, IsWithin, IsOver, Quiet, Ideal, Happens, Run, WithinBounds, opening}
 use Rattle.x10_finish.specs.Nesting.{Stays, stays_of, opened_of, IsHeld, IsNested}
 use Rattle.x10_finish.specs.Chains.{Name, IsAmong, AreLinked, AreCarried}

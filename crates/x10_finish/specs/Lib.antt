@@ -1,5 +1,6 @@
 pub mod Counts
 pub mod Ledgers
+pub mod Met
 pub mod Pairs
 pub mod Books
 pub mod Detection

@@ -2,7 +2,8 @@
 -- they are quiet.
 use Rattle.std.specs.Prelude.{◌≡◌, ℕ, zero, suc, ◌<◌, ◌⊎◌, List, [], ◌∷◌, Option, Some, None}
 use Rattle.x10_model.specs.Places as places
-use Rattle.x10_model.specs.Places.{Finish, root, Stay, Message, innermost_of}
+use Rattle.x10_model.specs.declared.finish.Finish.{Finish}
+use Rattle.x10_model.specs.Places.{root, Stay, Message, innermost_of}
 use Rattle.x10_model.specs.Worlds.{Post, Flying, Net, IsUnder}
 
 -- ---- stays by place and key

@@ -4,7 +4,8 @@ use Rattle.x10_model.specs.Maps.{with_entry}
 use Rattle.x10_model.specs.Copies.{Snapshot}
 use Rattle.x10_model.specs.Places as places
 use Rattle.x10_model.specs.Moves.{Moves}
-use Rattle.x10_model.specs.Places.{Setting, Finish, Origin, Stay, Message, Spawn, Shift, Back, innermost, Effect, Waits, Works, Begins, Spawns}
+use Rattle.x10_model.specs.declared.finish.Finish.{Finish}
+use Rattle.x10_model.specs.Places.{Setting, Origin, Stay, Message, Spawn, Shift, Back, innermost, Effect, Waits, Works, Begins, Spawns}
 use Rattle.x10_model.specs.Places.{Shifts, Opens, Closes, Ends}
 
 -- a stay goes on with such finishes, away or not; what it inherited and where its result goes stay

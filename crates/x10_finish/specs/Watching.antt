@@ -2,7 +2,8 @@
 use Rattle.std.specs.Prelude.{◌≡◌, ℕ, ◌<◌, ◌≤◌, ◌⊎◌, Bool, false, Option, Some, None, if◌then◌else◌}
 use Rattle.x10_model.specs.Maps.{with_entry}
 use Rattle.x10_model.specs.Places as machine
-use Rattle.x10_model.specs.Places.{Setting, Finish, root, Stay, Message, Effect, Closes}
+use Rattle.x10_model.specs.declared.finish.Finish.{Finish}
+use Rattle.x10_model.specs.Places.{Setting, root, Stay, Message, Effect, Closes}
 use Rattle.x10_model.specs.Moves.{Moves}
 use Rattle.x10_model.specs.Totals.{Totals, Cut, nothing, zeros, Did, Took, totals_after, first_totals, is_reported, IsDoneAt}
 use Rattle.x10_model.specs.Worlds.{same_finish, Unused, Flying, Net, World, sent, net_after, book_after, HasEnded, IsOver, Ideal, Steps, Delivers, opening}

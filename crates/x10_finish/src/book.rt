@@ -1,10 +1,9 @@
 ghost use Rattle.std.specs.Prelude.{◌≡◌, ◌↔◌, ◌<◌, ◌*◌, ◌^◌, ◌≤◌, ℕ, IsTrue, IfOk, IfErr, length, slice_index};
 ghost use Rattle.x10_kinds.specs.declared.stop.Stop.TheVariants as stop;
 ghost use Rattle.x10_model.specs.Totals.{Totals, IsBalanced, IsDoneAt, entry_of, seen_from};
-ghost use Rattle.x10_finish.specs.Ledgers.{named, totals_of};
-ghost use Rattle.x10_finish.specs.Books.{Kept, finish_of, kept_of, IsOpened, MergesCounts, Merges};
+ghost use Rattle.x10_finish.specs.Ledgers.{totals_of};
+ghost use Rattle.x10_finish.specs.Books.{Kept, kept_of, IsOpened, MergesCounts, Merges};
 
-use crate::finish::Finish;
 use crate::pairs::{Pair, agrees, first_apart, merge};
 use crate::tally::Tally;
 use std::alloc::Global;
@@ -12,6 +11,7 @@ use std::cell::Cell;
 use std::marker::Model;
 use x10_frame::Report;
 use x10_kinds::Stop;
+use x10_model::Finish;
 
 /// What the home of a finish keeps of the reports of other places. It is open from `open` to `close`.
 #[derive(Drop)]
@@ -29,7 +29,7 @@ impl Model for Book {
 
     ghost Value = { Kept };
 
-    ghost view = { λ b. record { home = b.finish.home; number = b.finish.number; places = b.places; pairs = b.pairs.items } };
+    ghost view = { λ b. record { finish = b.finish; places = b.places; pairs = b.pairs.items } };
 
     ghost invariant = { λ b. AreKept b.finish.home b.places b.unequal b.pairs.items };
 }
@@ -81,7 +81,7 @@ impl Book {
 
     /// The finish whose book it is. Constant time.
     pub fn finish(&self) -> Finish
-        ensures { named result ≡ finish_of self.now }
+        ensures { result ≡ self.now.finish }
     {
         self.finish
     }
@@ -128,7 +128,7 @@ impl Book {
         ensures { (own : Totals) → ((p : ℕ) → slice_index sent.now p ≡ own.sent p)
             → ((p : ℕ) → slice_index received.now p ≡ own.received p)
             → IsTrue result ↔ IsBalanced self.now.places
-            (seen_from self.now.home (entry_of own) (kept_of self.now)) }
+            (seen_from self.now.finish.home (entry_of own) (kept_of self.now)) }
     {
         if self.unequal != 0 {
             return false;
@@ -152,7 +152,7 @@ impl Book {
     /// no and neither the totals nor the book has changed since it was last no; otherwise it is linear in the number of places.
     pub fn balanced(&self, tally: &Tally) -> bool
         ensures { IsTrue result ↔ IsBalanced self.now.places
-            (seen_from self.now.home (entry_of (totals_of tally.now (finish_of self.now)))
+            (seen_from self.now.finish.home (entry_of (totals_of tally.now self.now.finish))
             (kept_of self.now)) }
     {
         let (_, sent, received) = tally.totals(self.finish);
@@ -162,8 +162,8 @@ impl Book {
     /// Whether the finish may end: none of its activities lives at its home, and the book is balanced. Takes the time of
     /// `balanced`.
     pub fn done(&self, tally: &Tally) -> bool
-        ensures { IsTrue result ↔ IsDoneAt self.now.places self.now.home
-            (totals_of tally.now (finish_of self.now)) (kept_of self.now) }
+        ensures { IsTrue result ↔ IsDoneAt self.now.places self.now.finish.home
+            (totals_of tally.now self.now.finish) (kept_of self.now) }
     {
         let (live, sent, received) = tally.totals(self.finish);
         live == 0 && self.balances(sent, received)
@@ -171,7 +171,7 @@ impl Book {
 
     /// The finish has ended: gives the book's memory back, and says whose book it was. Constant time.
     pub fn close(self) -> Finish
-        ensures { named result ≡ finish_of self }
+        ensures { result ≡ self.finish }
     {
         let Book { finish, .. } = self;
         finish

@@ -4,13 +4,12 @@
 
 mod book;
 mod count;
-mod finish;
 pub mod laws;
+mod met;
 mod pairs;
 mod tally;
 
 pub use book::Book;
-pub use finish::Finish;
 pub use tally::Tally;
 
 #[cfg(test)]

@@ -86,6 +86,42 @@ fn raise_both(
     raise(pairs, unequal, home, places, other, place, came)
 }
 
+/// Whether one of the two counts of four places, from one on, isn't 0.
+#[inline(always)]
+fn has_counted(sent: &[u32], received: &[u32], from: usize) -> bool
+    requires from { from + 4 ≤ length sent.now }
+    requires received { length received.now ≡ length sent.now }
+    ensures sent { result ≡ false → (q : ℕ) → from ≤ q → q < from + 4 → slice_index sent.now q ≡ 0 }
+    ensures received { result ≡ false → (q : ℕ) → from ≤ q → q < from + 4
+        → slice_index received.now q ≡ 0 }
+{
+    let mut all = 0;
+    for q in 0..4 {
+        all |= sent[from + q] | received[from + q];
+    }
+    all != 0
+}
+
+/// A place, from one on, before which both counts of each place are 0: these are looked at by fours, up to four of which one isn't.
+#[inline(always)]
+fn past_zeros(sent: &[u32], received: &[u32], from: usize) -> usize
+    requires from { from ≤ length sent.now }
+    requires received { length received.now ≡ length sent.now }
+    ensures past { from ≤ result }
+    ensures within { result ≤ length sent.now }
+    ensures sent { (q : ℕ) → from ≤ q → q < result → slice_index sent.now q ≡ 0 }
+    ensures received { (q : ℕ) → from ≤ q → q < result → slice_index received.now q ≡ 0 }
+{
+    let mut at = from;
+    for _ in from..sent.len() {
+        if sent.len() - at < 4 || has_counted(sent, received, at) {
+            return at;
+        }
+        at += 4;
+    }
+    at
+}
+
 /// The first place, from one on, of which one of two counts isn't 0; the number of places where there is none.
 // (inlined, its loop takes twice as many machine instructions)
 #[inline(never)]
@@ -97,7 +133,8 @@ fn next_counted(sent: &[u32], received: &[u32], from: usize) -> usize
     ensures sent { (q : ℕ) → from ≤ q → q < result → slice_index sent.now q ≡ 0 }
     ensures received { (q : ℕ) → from ≤ q → q < result → slice_index received.now q ≡ 0 }
 {
-    for q in from..sent.len() {
+    let first = past_zeros(sent, received, from);
+    for q in first..sent.len() {
         if sent[q] != 0 || received[q] != 0 {
             return q;
         }

@@ -1,32 +1,30 @@
 ghost use Rattle.std.specs.Prelude.{◌≡◌, ◌+◌, ◌^◌, ◌<◌, ◌⊎◌, ℕ, true, false, IfErr, IfOk, IfNone, IfSome, OnOk, OnErr, Err, None, Some, if◌then◌else◌, length, slice_index};
-ghost use Rattle.std.specs.HashMap.{Updates};
 ghost use Rattle.x10_kinds.specs.declared.limit.Limit.TheVariants as limits;
 ghost use Rattle.x10_kinds.specs.declared.stop.Stop.TheVariants as stop;
-ghost use Rattle.x10_model.specs.Places as machine;
 ghost use Rattle.x10_model.specs.Totals.{nothing, begins_one, ends_one, sends_to, receives_from};
 ghost use Rattle.x10_finish.specs.Counts.{Fits, IsFull, IsLargest, changed};
 ghost use Rattle.x10_finish.specs.declared.count.Change.TheVariants as change;
-ghost use Rattle.x10_finish.specs.Ledgers.{Ledger, finish_eq, count_of, totals_of, is_met, named, Counts, Forgets, Refuses, gives_report, AreDue, IsAnswer};
+ghost use Rattle.x10_finish.specs.Ledgers.{Ledger, count_of, totals_of, is_met, Counts, Forgets, Refuses, gives_report, AreDue, IsAnswer};
 
 use crate::count::{Change, Count, apply, fresh_count, keep_count};
-use crate::finish::Finish;
+use crate::met::Met;
 use std::alloc::Global;
-use std::collections::HashMap;
 use std::marker::Model;
 use x10_frame::Report;
 use x10_kinds::Stop;
+use x10_model::Finish;
 
-/// What one place counts of each finish that it met. Clauses see the totals of each finish. A finish is found by its hash,
-/// in constant time as a rule, and each call takes that time unless it says otherwise. The hash is the same in every run, so
-/// whoever may choose the numbers of finishes can choose ones whose hashes collide; a machine's own finishes are numbered
-/// one after another. A finish is met where it is counted for the first time, which takes memory for two numbers for each
-/// place, and now and then a larger table; afterwards counting takes none.
+/// What one place counts of each finish that it met. Clauses see the totals of each finish. The finish that was met last is found
+/// without a search, and another one by its hash, in constant time as a rule; each call takes that time unless it says otherwise.
+/// The hash is the same in every run, so whoever may choose the numbers of finishes can choose ones whose hashes collide; a
+/// machine's own finishes are numbered one after another. A finish is met where it is counted for the first time, which takes
+/// memory for two numbers for each place, and now and then a larger table; afterwards counting takes none.
 #[derive(Drop)]
 pub struct Tally {
     alloc: Global,
     place: u16,
     places: u16,
-    counts: HashMap<Finish, Count>,
+    counts: Met,
     /// Counts of finishes that ended: one that is met takes one of these, so that finishes in a loop ask for no more memory.
     spare: Vec<Count>,
 }
@@ -36,21 +34,9 @@ impl Model for Tally {
 
     ghost Value = { Ledger };
 
-    ghost view = { λ t. record { place = t.place; places = t.places; counts = t.counts.entries } };
+    ghost view = { λ t. record { place = t.place; places = t.places; counts = t.counts } };
 
-    ghost invariant = { λ t. AreWhole t.places t.counts.entries };
-}
-
-fn put(counts: &mut HashMap<Finish, Count>, finish: Finish, count: Count) -> Result<(), Stop>
-    ensures ok { OnOk result (Updates finish_eq counts.old counts.new finish (Some count)) }
-    ensures absent { OnErr result (count_of counts.old.entries finish ≡ None) }
-    ensures err { IfErr result (λ why. (why ≡ stop.Memory)
-        × (counts.new.entries ≡ counts.old.entries)) }
-{
-    match counts.insert(finish, count) {
-        Ok(_) => Ok(()),
-        Err(_) => Err(Stop::Memory),
-    }
+    ghost invariant = { λ t. AreWhole t.places t.counts };
 }
 
 impl Tally {
@@ -58,14 +44,14 @@ impl Tally {
     pub fn new(alloc: Global, place: u16, places: u16) -> Tally
         ensures place { result.place ≡ place }
         ensures places { result.places ≡ places }
-        ensures totals { (f : machine.Finish) → totals_of result f ≡ nothing }
-        ensures met { (f : machine.Finish) → is_met result f ≡ false }
+        ensures totals { (f : Finish) → totals_of result f ≡ nothing }
+        ensures met { (f : Finish) → is_met result f ≡ false }
     {
         Tally {
             alloc,
             place,
             places,
-            counts: HashMap::new(alloc),
+            counts: Met::new(alloc),
             spare: Vec::new(alloc),
         }
     }
@@ -86,47 +72,47 @@ impl Tally {
 
     fn count(&mut self, finish: Finish, change: Change) -> Result<(), Stop>
         requires { Fits change self.old.places }
-        ensures ok { OnOk result (Counts self.old (named finish) (changed change) self.new) }
-        ensures full { IsFull change (totals_of self.old (named finish))
+        ensures ok { OnOk result (Counts self.old finish (changed change) self.new) }
+        ensures full { IsFull change (totals_of self.old finish)
             → result ≡ Err (stop.Limit limits.Activities) }
         ensures err { IfErr result (λ why. (self.new ≡ self.old)
-            × Refuses (is_met self.old (named finish))
-            (IsFull change (totals_of self.old (named finish))) why) }
+            × Refuses (is_met self.old finish)
+            (IsFull change (totals_of self.old finish)) why) }
     {
-        if let Some(count) = self.counts.get_mut(&finish) {
-            return apply(count, change);
+        if let Some(counted) = self.counts.count(finish, change) {
+            return counted;
         }
         let Ok(mut count) = fresh_count(self.alloc, &mut self.spare, self.places) else {
             return Err(Stop::Memory);
         };
         apply(&mut count, change)?;
-        put(&mut self.counts, finish, count)
+        self.counts.enter(finish, count)
     }
 
     /// Makes room to count a finish: afterwards counting it is refused only by a limit. Nothing is counted.
     pub fn meet(&mut self, finish: Finish) -> Result<(), Stop>
-        ensures ok { OnOk result (Counts self.old (named finish) (λ t. t) self.new) }
+        ensures ok { OnOk result (Counts self.old finish (λ t. t) self.new) }
         ensures err { IfErr result (λ why. (self.new ≡ self.old) × (why ≡ stop.Memory)
-            × (is_met self.old (named finish) ≡ false)) }
+            × (is_met self.old finish ≡ false)) }
     {
-        if self.counts.contains_key(&finish) {
+        if self.counts.get(finish).is_some() {
             return Ok(());
         }
         let Ok(count) = fresh_count(self.alloc, &mut self.spare, self.places) else {
             return Err(Stop::Memory);
         };
-        put(&mut self.counts, finish, count)
+        self.counts.enter(finish, count)
     }
 
     /// An activity is put out to a place under a finish, or shifts there.
     pub fn spawned(&mut self, finish: Finish, to: u16) -> Result<(), Stop>
         requires { to < self.old.places }
-        ensures ok { OnOk result (Counts self.old (named finish) (λ t. sends_to t to) self.new) }
-        ensures full { IsLargest ((totals_of self.old (named finish)).sent to)
+        ensures ok { OnOk result (Counts self.old finish (λ t. sends_to t to) self.new) }
+        ensures full { IsLargest ((totals_of self.old finish).sent to)
             → result ≡ Err (stop.Limit limits.Activities) }
         ensures err { IfErr result (λ why. (self.new ≡ self.old)
-            × Refuses (is_met self.old (named finish))
-            (IsLargest ((totals_of self.old (named finish)).sent to)) why) }
+            × Refuses (is_met self.old finish)
+            (IsLargest ((totals_of self.old finish).sent to)) why) }
     {
         self.count(finish, Change::Sends(to))
     }
@@ -134,25 +120,25 @@ impl Tally {
     /// An activity that a place put out under a finish, or that shifted from there, arrives and begins.
     pub fn came(&mut self, finish: Finish, from: u16) -> Result<(), Stop>
         requires { from < self.old.places }
-        ensures ok { OnOk result (Counts self.old (named finish)
+        ensures ok { OnOk result (Counts self.old finish
             (λ t. receives_from t from) self.new) }
-        ensures full { IsFull (change.Receives from) (totals_of self.old (named finish))
+        ensures full { IsFull (change.Receives from) (totals_of self.old finish)
             → result ≡ Err (stop.Limit limits.Activities) }
         ensures err { IfErr result (λ why. (self.new ≡ self.old)
-            × Refuses (is_met self.old (named finish))
-            (IsFull (change.Receives from) (totals_of self.old (named finish))) why) }
+            × Refuses (is_met self.old finish)
+            (IsFull (change.Receives from) (totals_of self.old finish)) why) }
     {
         self.count(finish, Change::Receives(from))
     }
 
     /// An activity begins here under a finish, put out by this place.
     pub fn began(&mut self, finish: Finish) -> Result<(), Stop>
-        ensures ok { OnOk result (Counts self.old (named finish) begins_one self.new) }
-        ensures full { IsLargest (totals_of self.old (named finish)).live
+        ensures ok { OnOk result (Counts self.old finish begins_one self.new) }
+        ensures full { IsLargest (totals_of self.old finish).live
             → result ≡ Err (stop.Limit limits.Activities) }
         ensures err { IfErr result (λ why. (self.new ≡ self.old)
-            × Refuses (is_met self.old (named finish))
-            (IsLargest (totals_of self.old (named finish)).live) why) }
+            × Refuses (is_met self.old finish)
+            (IsLargest (totals_of self.old finish).live) why) }
     {
         self.count(finish, Change::Begins)
     }
@@ -160,12 +146,12 @@ impl Tally {
     /// What is reported to the home of a finish when one more activity ends here: how many were sent to each place and received
     /// from each, where that is the last one and the home is elsewhere. Nothing is counted yet.
     pub fn due(&self, finish: Finish) -> Option<(&[u32], &[u32])>
-        requires { 0 < (totals_of self.now (named finish)).live }
-        ensures none { IfNone result (gives_report self.now (named finish) ≡ false) }
-        ensures some { IfSome result (λ x. (gives_report self.now (named finish) ≡ true)
-            × AreDue self.now (named finish) x.0.now x.1.now) }
+        requires { 0 < (totals_of self.now finish).live }
+        ensures none { IfNone result (gives_report self.now finish ≡ false) }
+        ensures some { IfSome result (λ x. (gives_report self.now finish ≡ true)
+            × AreDue self.now finish x.0.now x.1.now) }
     {
-        let count = &self.counts[&finish];
+        let count = self.counts.get(finish)?;
         if finish.home == self.place || count.live != 1 {
             return None;
         }
@@ -175,10 +161,10 @@ impl Tally {
     /// The report that goes to the home of a finish when one more activity ends here, as `due` says. The report takes memory
     /// for two numbers for each place.
     pub fn leaving(&self, finish: Finish) -> Result<Option<Report>, Stop>
-        requires { 0 < (totals_of self.now (named finish)).live }
-        ensures ok { IfOk result (IsAnswer self.now (named finish)) }
+        requires { 0 < (totals_of self.now finish).live }
+        ensures ok { IfOk result (IsAnswer self.now finish) }
         ensures err { IfErr result (λ why. (why ≡ stop.Memory)
-            × (gives_report self.now (named finish) ≡ true)) }
+            × (gives_report self.now finish ≡ true)) }
     {
         let Some((sent, received)) = self.due(finish) else {
             return Ok(None);
@@ -199,22 +185,19 @@ impl Tally {
 
     /// An activity under a finish ends here. Takes no memory and sends nothing.
     pub fn left(&mut self, finish: Finish)
-        requires { 0 < (totals_of self.old (named finish)).live }
-        ensures { Counts self.old (named finish) ends_one self.new }
+        requires { 0 < (totals_of self.old finish).live }
+        ensures { Counts self.old finish ends_one self.new }
     {
-        let Some(count) = self.counts.get_mut(&finish) else {
-            return;
-        };
-        count.live -= 1;
+        self.counts.end(finish);
     }
 
     /// An activity under a finish ends here; the answer is what `leaving` answers.
     pub fn ended(&mut self, finish: Finish) -> Result<Option<Report>, Stop>
-        requires { 0 < (totals_of self.old (named finish)).live }
-        ensures counted { OnOk result (Counts self.old (named finish) ends_one self.new) }
-        ensures report { IfOk result (IsAnswer self.old (named finish)) }
+        requires { 0 < (totals_of self.old finish).live }
+        ensures counted { OnOk result (Counts self.old finish ends_one self.new) }
+        ensures report { IfOk result (IsAnswer self.old finish) }
         ensures err { IfErr result (λ why. (self.new ≡ self.old) × (why ≡ stop.Memory)
-            × (gives_report self.old (named finish) ≡ true)) }
+            × (gives_report self.old finish ≡ true)) }
     {
         let report = self.leaving(finish)?;
         self.left(finish);
@@ -224,9 +207,9 @@ impl Tally {
     /// A finish has ended at its home: what was counted of it is dropped. Its memory is kept for the next one that is met, or
     /// given back where some is kept.
     pub fn forget(&mut self, finish: Finish)
-        ensures { Forgets self.old (named finish) self.new }
+        ensures { Forgets self.old finish self.new }
     {
-        if let Some(count) = self.counts.remove(&finish) {
+        if let Some(count) = self.counts.remove(finish) {
             keep_count(&mut self.spare, count);
         }
     }
@@ -234,13 +217,13 @@ impl Tally {
     /// What was counted of a finish, by one look: how many of its activities live here, how many were sent to each place, and how
     /// many came from each; no numbers where the finish was not met yet.
     pub fn totals(&self, finish: Finish) -> (u32, &[u32], &[u32])
-        ensures live { result.0 ≡ (totals_of self.now (named finish)).live }
+        ensures live { result.0 ≡ (totals_of self.now finish).live }
         ensures sent { (p : ℕ) → slice_index result.1.now p
-            ≡ (totals_of self.now (named finish)).sent p }
+            ≡ (totals_of self.now finish).sent p }
         ensures received { (p : ℕ) → slice_index result.2.now p
-            ≡ (totals_of self.now (named finish)).received p }
+            ≡ (totals_of self.now finish).received p }
     {
-        match self.counts.get(&finish) {
+        match self.counts.get(finish) {
             Some(count) => (count.live, &count.sent, &count.received),
             None => (0, &[], &[]),
         }
@@ -248,9 +231,9 @@ impl Tally {
 
     /// How many activities under a finish live here.
     pub fn live(&self, finish: Finish) -> u32
-        ensures { result ≡ (totals_of self.now (named finish)).live }
+        ensures { result ≡ (totals_of self.now finish).live }
     {
-        match self.counts.get(&finish) {
+        match self.counts.get(finish) {
             Some(count) => count.live,
             None => 0,
         }
@@ -259,11 +242,11 @@ impl Tally {
     /// How many were sent to each place, or no numbers where the finish was not met yet.
     pub fn sent(&self, finish: Finish) -> &[u32]
         ensures numbers { (p : ℕ) → slice_index result.now p
-            ≡ (totals_of self.now (named finish)).sent p }
+            ≡ (totals_of self.now finish).sent p }
         ensures length { length result.now ≡ (if is_met self.now
-            (named finish) then self.now.places else 0) }
+            finish then self.now.places else 0) }
     {
-        match self.counts.get(&finish) {
+        match self.counts.get(finish) {
             Some(count) => &count.sent,
             None => &[],
         }
@@ -272,11 +255,11 @@ impl Tally {
     /// How many came from each place, or no numbers where the finish was not met yet.
     pub fn received(&self, finish: Finish) -> &[u32]
         ensures numbers { (p : ℕ) → slice_index result.now p
-            ≡ (totals_of self.now (named finish)).received p }
+            ≡ (totals_of self.now finish).received p }
         ensures length { length result.now ≡ (if is_met self.now
-            (named finish) then self.now.places else 0) }
+            finish then self.now.places else 0) }
     {
-        match self.counts.get(&finish) {
+        match self.counts.get(finish) {
             Some(count) => &count.received,
             None => &[],
         }

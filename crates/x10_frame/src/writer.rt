@@ -27,8 +27,7 @@ pub struct Sizes {
 }
 
 /// A frame that is being written: the head and the sizes, and then the roots, the texts, the rails and the objects, each in
-/// the order of their numbers. Clauses see the bytes so far. Each call takes the writer and gives it back, so lack of memory
-/// leaves none.
+/// the order of their numbers. Clauses see the bytes so far. Where a call is refused memory, the frame can't be finished.
 #[derive(Debug, Drop)]
 pub struct FrameWriter {
     bytes: Vec<u8>,
@@ -85,73 +84,61 @@ impl FrameWriter {
         Ok(FrameWriter { bytes })
     }
 
-    /// The same, with room for `bytes` more bytes.
+    /// Makes room for `bytes` more bytes.
     #[inline(always)]
-    pub fn reserve(self, bytes: usize) -> Result<FrameWriter, AllocError>
-        ensures value { IfOk result (λ w. w ≡ self) }
+    pub fn reserve(&mut self, bytes: usize) -> Result<(), AllocError>
+        ensures value { OnOk result (self.new ≡ self.old) }
     {
-        let mut written = self.bytes;
-        written.reserve(bytes)?;
-        Ok(FrameWriter { bytes: written })
+        self.bytes.reserve(bytes)
     }
 
     /// The next value: one that is passed, or the next field of an object that was begun.
     #[inline(always)]
-    pub fn value(self, value: &Item) -> Result<FrameWriter, AllocError>
-        ensures value { IfOk result (λ w. w ≡ self ++ item_bytes Wide (item_of value.now)) }
+    pub fn value(&mut self, value: &Item) -> Result<(), AllocError>
+        ensures value { OnOk result (self.new ≡ self.old ++ item_bytes Wide (item_of value.now)) }
     {
-        let mut bytes = self.bytes;
-        put_item(&mut bytes, value)?;
-        Ok(FrameWriter { bytes })
+        put_item(&mut self.bytes, value)
     }
 
     /// The next object's class, and how many fields it has. Its fields follow as values.
     #[inline(always)]
-    pub fn begin_node(self, class: u16, fields: u8) -> Result<FrameWriter, AllocError>
-        ensures value { IfOk result (λ w. w ≡ self ++ (to_be_bytes w16 class ++ fields ∷ [])) }
+    pub fn begin_node(&mut self, class: u16, fields: u8) -> Result<(), AllocError>
+        ensures value { OnOk result (self.new ≡ self.old
+            ++ (to_be_bytes w16 class ++ fields ∷ [])) }
     {
-        let mut bytes = self.bytes;
-        put_begin(&mut bytes, class, fields)?;
-        Ok(FrameWriter { bytes })
+        put_begin(&mut self.bytes, class, fields)
     }
 
     /// The values that are passed.
-    pub fn roots(self, roots: &[Item]) -> Result<FrameWriter, AllocError>
-        ensures value { IfOk result (λ w. w ≡ self ++ values_bytes roots.now) }
+    pub fn roots(&mut self, roots: &[Item]) -> Result<(), AllocError>
+        ensures value { OnOk result (self.new ≡ self.old ++ values_bytes roots.now) }
     {
-        let mut bytes = self.bytes;
-        put_items(&mut bytes, roots)?;
-        Ok(FrameWriter { bytes })
+        put_items(&mut self.bytes, roots)
     }
 
     /// The next text, copied once.
-    pub fn text(self, text: &str) -> Result<FrameWriter, AllocError>
+    pub fn text(&mut self, text: &str) -> Result<(), AllocError>
         requires { length text.now < 2 ^ 16 }
-        ensures value { IfOk result (λ w. w ≡ self ++ blob_bytes text.now) }
+        ensures value { OnOk result (self.new ≡ self.old ++ blob_bytes text.now) }
     {
-        let mut bytes = self.bytes;
-        put_blob(&mut bytes, text.as_bytes())?;
-        Ok(FrameWriter { bytes })
+        put_blob(&mut self.bytes, text.as_bytes())
     }
 
     /// The next rail, copied once.
-    pub fn rail(self, rail: &[u8]) -> Result<FrameWriter, AllocError>
+    pub fn rail(&mut self, rail: &[u8]) -> Result<(), AllocError>
         requires { length rail.now < 2 ^ 16 }
-        ensures value { IfOk result (λ w. w ≡ self ++ blob_bytes rail.now) }
+        ensures value { OnOk result (self.new ≡ self.old ++ blob_bytes rail.now) }
     {
-        let mut bytes = self.bytes;
-        put_blob(&mut bytes, rail)?;
-        Ok(FrameWriter { bytes })
+        put_blob(&mut self.bytes, rail)
     }
 
     /// The next object: the number of its class, and its fields.
-    pub fn node(self, class: u16, fields: &[Item]) -> Result<FrameWriter, AllocError>
+    pub fn node(&mut self, class: u16, fields: &[Item]) -> Result<(), AllocError>
         requires { length fields.now ≤ 16 }
-        ensures value { IfOk result (λ w. w ≡ self ++ node_bytes Wide (node_of class fields.now)) }
+        ensures value { OnOk result (self.new ≡ self.old
+            ++ node_bytes Wide (node_of class fields.now)) }
     {
-        let mut bytes = self.bytes;
-        put_node(&mut bytes, class, fields)?;
-        Ok(FrameWriter { bytes })
+        put_node(&mut self.bytes, class, fields)
     }
 
     /// The bytes. Where all of a graph was written they spell its frame.

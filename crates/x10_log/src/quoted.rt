@@ -10,18 +10,7 @@ ghost use Rattle.x10_log.specs.Reading.{IsEnd, Shows, ShowsBoth, tail_bytes};
 use crate::cut::tail_of;
 use crate::fault::LogCause;
 use std::alloc::Global;
-
-/// The byte that an escape stands for.
-fn unescaped(byte: u8) -> Option<u8>
-    ensures { result ≡ literals.unescaped byte }
-{
-    match byte {
-        b'"' => Some(b'"'),
-        b'\\' => Some(b'\\'),
-        b'n' => Some(b'\n'),
-        _ => None,
-    }
-}
+use x10_asm::{AsmCause, scan_quoted};
 
 /// The bytes up to the closing quote, and what follows that.
 fn scan(alloc: Global, quoted: &str) -> Result<(Vec<u8>, &str), LogCause>
@@ -29,26 +18,11 @@ fn scan(alloc: Global, quoted: &str) -> Result<(Vec<u8>, &str), LogCause>
         → ShowsBoth (λ v. v.items) (λ r. r.now) result text rest }
     ensures shorter { IfOk result (λ x. length x.1.now < length quoted.now) }
 {
-    let bytes = quoted.as_bytes();
-    let mut text = Vec::new(alloc);
-    let mut after_backslash = false;
-    for at in 0..bytes.len() {
-        let byte = bytes[at];
-        if after_backslash {
-            let Some(meant) = unescaped(byte) else {
-                return Err(LogCause::Printed);
-            };
-            text.push(meant)?;
-            after_backslash = false;
-        } else if byte == b'"' {
-            return Ok((text, &quoted[at + 1..]));
-        } else if byte == b'\\' {
-            after_backslash = true;
-        } else {
-            text.push(byte)?;
-        }
+    match scan_quoted(alloc, quoted) {
+        Ok(both) => Ok(both),
+        Err(AsmCause::Memory) => Err(LogCause::Memory),
+        Err(_) => Err(LogCause::Printed),
     }
-    Err(LogCause::Printed)
 }
 
 /// The text with these bytes.

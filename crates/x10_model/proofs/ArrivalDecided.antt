@@ -7,6 +7,7 @@ use Rattle.x10_kinds.specs.declared.kind.Kind.TheVariants as kind
 use Rattle.x10_code.specs.declared.op.Op.{Op}
 use Rattle.x10_code.specs.declared.op.Op.TheVariants as op
 use Rattle.x10_code.specs.declared.instr.Instr.{Instr}
+use Rattle.x10_model.specs.declared.finish.Finish.{Finish}
 use Rattle.x10_model.specs.Maps.{IsIn}
 use Rattle.x10_model.specs.declared.slot.Slot.{Slot}
 use Rattle.x10_model.specs.Modules.{Module, Function}
@@ -172,7 +173,7 @@ waits_or_not setting place waiting from s =
 abbrev IsTaken : Setting → ℕ → places.Place → Message → Type 0
 IsTaken setting here old message = (key : ℕ) × (new : places.Place) × Receives setting here old message key new
 
-begins : (setting : Setting) (here : ℕ) (old : places.Place) (function : ℕ) (g : Snapshot) (under : places.Finish) (origin : Option Origin)
+begins : (setting : Setting) (here : ℕ) (old : places.Place) (function : ℕ) (g : Snapshot) (under : Finish) (origin : Option Origin)
     (room : HasRoomFor old g) (callee : Function) → FitsFunctionAt setting here function g callee
     → (origin ≡ None → callee.result ≡ None) → FitsPlace setting here old g → (whole : IsWhole g)
     → Begins setting here old function g under origin room.key.0

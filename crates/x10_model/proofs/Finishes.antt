@@ -1,6 +1,6 @@
 -- Enclosing finishes.
 use Rattle.std.proofs.Common.{Option}
-use Rattle.x10_model.specs.Places.{Finish}
+use Rattle.x10_model.specs.declared.finish.Finish.{Finish}
 use Rattle.x10_model.specs.Worlds.{IsWithin, itself, enclosed}
 
 pub IsWithin-trans : (enclosing : Finish → Option Finish) (outer middle inner : Finish) → IsWithin enclosing outer middle

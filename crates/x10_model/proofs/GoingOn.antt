@@ -1,13 +1,12 @@
 -- What comes last changes what came before last; and whom a frame's message is for.
-use Rattle.std.proofs.Common.{◌≡◌, true, [], ◌∷◌, ◌++◌, refl, sym, ap, ◌∙◌, append_assoc, eq-eqb}
+use Rattle.std.proofs.Common.{[], ◌∷◌, ◌++◌, refl, sym, ap, ◌∙◌, append_assoc}
 use Rattle.std.proofs.lemmas.List.Concat.{flat_map-cons}
 use Rattle.x10_model.specs.Places as places
-use Rattle.x10_model.specs.Places.{Finish}
-use Rattle.x10_model.specs.Worlds.{same_finish}
 use Rattle.x10_model.specs.Frames as frames
 use Rattle.x10_model.specs.Frames.{Frame}
 use Rattle.x10_model.specs.Totals.{totals_after}
 use Rattle.x10_model.specs.Logs.{events_of_turn, events_of}
+use Rattle.x10_model.proofs.SameFinishes.{same_self}
 use Rattle.x10_model.specs.Laws.{TotalsGoOn, ReportsAreDue, LogsGoOn, FramesCarryTo}
 use Rattle.std.proofs.lemmas.Option.{same_Some}
 
@@ -15,11 +14,8 @@ pub totals_go_on : TotalsGoOn
 totals_go_on f t [] h = refl
 totals_go_on f t (g ∷ hs) h = totals_go_on f (totals_after f t g) hs h
 
-same_self : (f : Finish) → same_finish f f ≡ true
-same_self f = rw (eq-eqb f.home f.home refl, eq-eqb f.number f.number refl) refl
-
 pub reports_are_due : ReportsAreDue
-reports_are_due here f t back message = (rw same_self refl, refl)
+reports_are_due here f t back message = (rw (same_self f f refl) refl, refl)
 
 pub logs_go_on : LogsGoOn
 logs_go_on [] second = refl

@@ -32,3 +32,4 @@ pub mod Relayed
 pub mod Refusals
 pub mod Offsets
 pub mod Rules
+pub mod SameFinishes

@@ -3,7 +3,8 @@ use Rattle.std.proofs.Common.{ℕ, ◌+◌, pos, true, false, [], ◌∷◌, Opt
 use Rattle.x10_model.specs.Values.{Int, Place, Cells}
 use Rattle.x10_model.specs.Copies.{Snapshot, Names, IsWhole, IsCopy, Captures, Arrives}
 use Rattle.x10_model.specs.Places as places
-use Rattle.x10_model.specs.Places.{Setting, Finish, root, Origin, Stay, Message, Spawn, Shift, Back, Effect, Waits, Works, Spawns, Shifts, Opens, Closes, Ends, Number, with_stay, next, writes}
+use Rattle.x10_model.specs.declared.finish.Finish.{Finish}
+use Rattle.x10_model.specs.Places.{Setting, root, Origin, Stay, Message, Spawn, Shift, Back, Effect, Waits, Works, Spawns, Shifts, Opens, Closes, Ends, Number, with_stay, next, writes}
 use Rattle.x10_model.specs.Moves.{Moves, new_stay, with_line}
 use Rattle.x10_model.specs.Deliveries.{FitsPlace}
 use Rattle.x10_model.specs.Worlds.{first_place, empty_place}

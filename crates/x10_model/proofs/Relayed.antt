@@ -6,7 +6,8 @@ use Rattle.x10_model.specs.declared.event.Event.{Event}
 use Rattle.x10_model.specs.declared.event.Event.TheVariants.{Step, Deliver}
 use Rattle.x10_model.specs.Maps.{with_entry}
 use Rattle.x10_model.specs.Places as places
-use Rattle.x10_model.specs.Places.{Setting, Finish, root, Origin, Stay, Message, Spawn, Shift, Back, Effect, Waits, Works, Spawns, Shifts, Opens, Closes, Ends, Number, with_stay, next, writes}
+use Rattle.x10_model.specs.declared.finish.Finish.{Finish}
+use Rattle.x10_model.specs.Places.{Setting, root, Origin, Stay, Message, Spawn, Shift, Back, Effect, Waits, Works, Spawns, Shifts, Opens, Closes, Ends, Number, with_stay, next, writes}
 use Rattle.x10_model.specs.Worlds.{Post, Unused, Flying, Taken, World, IsWithin, itself, enclosed, stays, flies, HasEnded, Ideal, Steps, Delivers, steps, delivers, Run, done, then, WithinBounds, opening, net_after, book_after, book_with}
 use Rattle.x10_model.specs.Relay.{relaying, relay_bounds, RelayRuns}
 use Rattle.x10_model.specs.Modules.{Function}

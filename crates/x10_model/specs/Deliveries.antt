@@ -11,7 +11,8 @@ use Rattle.x10_model.specs.Values.{Value, Place, Ref, Cells}
 use Rattle.x10_model.specs.Signatures.{FitsSlotAt, FitSlots, AreOfKinds}
 use Rattle.x10_model.specs.Copies.{Node, Snapshot, IsOfKindIn, Arrives}
 use Rattle.x10_model.specs.Places as places
-use Rattle.x10_model.specs.Places.{Setting, Finish, Origin, Stay, Export, Message, Spawn, Shift, Back, with_stay}
+use Rattle.x10_model.specs.declared.finish.Finish.{Finish}
+use Rattle.x10_model.specs.Places.{Setting, Origin, Stay, Export, Message, Spawn, Shift, Back, with_stay}
 use Rattle.x10_model.specs.Moves.{new_stay, resumed}
 
 -- each object of the graph has the fields of its class

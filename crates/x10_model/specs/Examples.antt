@@ -11,7 +11,7 @@ use Rattle.x10_model.specs.Structure.{Jump, TooLarge, bounds_of}
 use Rattle.x10_model.specs.Values.{Value, Int, Place, Text, Rail, Object, Null, Fields, Bytes, Cells}
 use Rattle.x10_model.specs.Copies.{Snapshot, IsCopy}
 use Rattle.x10_model.specs.Places as places
-use Rattle.x10_model.specs.Places.{Setting, Finish, root, CallFrame, Stay, Line, Number, Words, Message, Effect, Works, Opens, with_stay, writes, next}
+use Rattle.x10_model.specs.Places.{Setting, root, CallFrame, Stay, Line, Number, Words, Message, Effect, Works, Opens, with_stay, writes, next}
 use Rattle.x10_model.specs.Moves.{Moves, with_cell, with_line}
 use Rattle.x10_model.specs.Worlds.{Ideal, World, Run, WithinBounds, opening}
 use Rattle.x10_model.specs.Totals.{Entry, Cut, Report, zeros, merged, seen_from, is_balanced}

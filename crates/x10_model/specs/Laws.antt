@@ -6,7 +6,8 @@ use Rattle.x10_code.specs.declared.instr.Instr.{Instr}
 use Rattle.x10_model.specs.Modules.{Function}
 use Rattle.x10_model.specs.Ranges.{function_at}
 use Rattle.x10_model.specs.Places as places
-use Rattle.x10_model.specs.Places.{Setting, Finish, Origin, Stay, IsFree, Effect, Ends, Message}
+use Rattle.x10_model.specs.declared.finish.Finish.{Finish}
+use Rattle.x10_model.specs.Places.{Setting, Origin, Stay, IsFree, Effect, Ends, Message}
 use Rattle.x10_model.specs.Moves.{Situation, Passes, GivesBack, as_list, Moves}
 use Rattle.x10_model.specs.Wrong.{IsWrong, IsMisfit, graph_of}
 use Rattle.x10_model.specs.Deliveries.{Receives}

@@ -17,7 +17,8 @@ use Rattle.x10_model.specs.Values.{Value, Int, Place, Text, Rail, Object, Null, 
 use Rattle.x10_model.specs.Signatures.{FitsSlotAt, FitSlots, AreOfKinds}
 use Rattle.x10_model.specs.Copies.{Snapshot, Captures}
 use Rattle.x10_model.specs.Places as places
-use Rattle.x10_model.specs.Places.{Setting, Finish, CallFrame, Origin, Stay, IsFree, Line, Number, Words, Export, Message, Spawn, Shift, Back, innermost}
+use Rattle.x10_model.specs.declared.finish.Finish.{Finish}
+use Rattle.x10_model.specs.Places.{Setting, CallFrame, Origin, Stay, IsFree, Line, Number, Words, Export, Message, Spawn, Shift, Back, innermost}
 use Rattle.x10_model.specs.Places.{Effect, Waits, Works, Begins, Spawns, Shifts, Opens, Closes, Ends, with_stay, goes, next, writes}
 
 -- where an instruction is executed: the run's setting, the place with its number, the activity's key there and its

@@ -1,5 +1,6 @@
 -- Places, the activities that work on them, finishes, and the messages between places.
 use Rattle.std.specs.Prelude.{◌≡◌, ℕ, ℤ, ◌+◌, List, [], ◌∷◌, Bool, true, Option, Some}
+use Rattle.x10_model.specs.declared.finish.Finish.{Finish}
 use Rattle.x10_model.specs.Maps.{with_entry}
 use Rattle.x10_model.specs.Modules.{Module}
 use Rattle.x10_model.specs.Values.{Value, Cells}
@@ -10,11 +11,7 @@ pub record Setting : Type 0 where
   pub program : Module
   pub places : ℕ
 
--- a finish: the place that opened it, and its number there; the root is the finish 0 of place 0
-pub record Finish : Type 0 where
-  pub home : ℕ
-  pub number : ℕ
-
+-- the finish 0 of place 0
 abbrev pub root : Finish
 root = record { home = 0; number = 0 }
 

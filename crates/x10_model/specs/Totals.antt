@@ -2,7 +2,8 @@
 -- termination detection (Mattern, 1987).
 use Rattle.std.specs.Prelude.{◌≡◌, ℕ, zero, suc, ◌+◌, ◌-◌, ◌<◌, max, Bool, true, false, ◌==◌, ◌&&◌, not, List, [], ◌∷◌, if◌then◌else◌, slice_index}
 use Rattle.x10_model.specs.Maps.{with_entry}
-use Rattle.x10_model.specs.Places.{Finish, root, Message, Spawn, Shift, Back, Effect, Begins, Spawns, Shifts, Ends, receiver}
+use Rattle.x10_model.specs.declared.finish.Finish.{Finish}
+use Rattle.x10_model.specs.Places.{root, Message, Spawn, Shift, Back, Effect, Begins, Spawns, Shifts, Ends, receiver}
 use Rattle.x10_model.specs.Worlds.{same_finish}
 
 -- what one place has counted for one finish: the stays that inherited it and live, what was sent to each place under it,

@@ -1,11 +1,12 @@
 -- The world: the net of places with the messages in flight, and the book of activities. Runs of it, event by event.
-use Rattle.std.specs.Prelude.{◌≡◌, ◌≢◌, ℕ, ◌+◌, ◌<◌, ◌≤◌, ◌==◌, Bool, true, false, List, [], ◌∷◌, Option, Some, None, if◌then◌else◌, nat_lt, slice_get}
+use Rattle.std.specs.Prelude.{◌≡◌, ◌≢◌, ℕ, ◌+◌, ◌<◌, ◌≤◌, ◌==◌, ◌&&◌, Bool, true, List, [], ◌∷◌, Option, Some, None, if◌then◌else◌, nat_lt, slice_get}
 use Rattle.x10_model.specs.declared.event.Event.{Event}
 use Rattle.x10_model.specs.declared.event.Event.TheVariants.{Step, Deliver}
 use Rattle.x10_model.specs.Maps.{with_entry, with_pair}
 use Rattle.x10_model.specs.Copies.{Snapshot}
 use Rattle.x10_model.specs.Places as places
-use Rattle.x10_model.specs.Places.{Setting, Finish, root, Stay, IsFree, Message, Spawn, Shift, Back, receiver, Effect, Waits, Works, Begins, Spawns, Shifts}
+use Rattle.x10_model.specs.declared.finish.Finish.{Finish}
+use Rattle.x10_model.specs.Places.{Setting, root, Stay, IsFree, Message, Spawn, Shift, Back, receiver, Effect, Waits, Works, Begins, Spawns, Shifts}
 use Rattle.x10_model.specs.Places.{Opens, Closes, Ends}
 use Rattle.x10_model.specs.Moves.{Moves, new_stay}
 use Rattle.x10_model.specs.Deliveries.{Receives}
@@ -45,7 +46,7 @@ pub record World : Type 0 where
 -- ---- the net after a move
 
 abbrev pub same_finish : Finish → Finish → Bool
-same_finish f g = if f.home == g.home then f.number == g.number else false
+same_finish f g = f.home == g.home && f.number == g.number
 
 abbrev pub with_enclosing : (Finish → Option Finish) → Finish → Finish → Finish → Option Finish
 with_enclosing enclosing f inside other =

@@ -4,6 +4,7 @@ use Rattle.x10_kinds.specs.declared.kind.Kind.{Kind}
 use Rattle.x10_code.specs.declared.op.Op.{Op}
 use Rattle.x10_code.specs.declared.op.Op.TheVariants as op
 use Rattle.x10_code.specs.declared.instr.Instr.{Instr}
+use Rattle.x10_model.specs.declared.finish.Finish.{Finish}
 use Rattle.x10_model.specs.Maps.{IsIn}
 use Rattle.x10_model.specs.Modules.{Function}
 use Rattle.x10_model.specs.declared.slot.Slot.{Slot}
@@ -182,11 +183,11 @@ pub data IsMisfit (setting : Setting) (here : ℕ) (place : places.Place) : Mess
   torn : (message : Message) → (IsWhole (graph_of message) → ⊥)
       → IsMisfit setting here place message
   -- its arguments don't fit its function, or there is none
-  spawn : (from to : ℕ) (under : places.Finish) (function : ℕ) (g : Snapshot)
+  spawn : (from to : ℕ) (under : Finish) (function : ℕ) (g : Snapshot)
       → ((callee : Function) → FitsFunctionAt setting here function g callee → callee.result ≡ None
       → ⊥)
       → IsMisfit setting here place (Spawn from to under function g)
-  shift : (from to waiting : ℕ) (under : places.Finish) (function : ℕ) (g : Snapshot)
+  shift : (from to waiting : ℕ) (under : Finish) (function : ℕ) (g : Snapshot)
       → ((callee : Function) → FitsFunctionAt setting here function g callee → ⊥)
       → IsMisfit setting here place (Shift from to waiting under function g)
   -- nobody waits for it, or its result doesn't fit the function that was waited for

@@ -4,6 +4,7 @@
 
 mod event;
 pub mod examples;
+mod finish;
 pub mod frames;
 pub mod images;
 pub mod laws;
@@ -12,5 +13,6 @@ mod slot;
 mod version;
 
 pub use event::Event;
+pub use finish::Finish;
 pub use slot::Slot;
 pub use version::{FrameVersion, ImageVersion};

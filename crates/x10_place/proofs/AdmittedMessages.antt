@@ -8,7 +8,8 @@ use Rattle.x10_heap.proofs.GrownHeaps.{Grows}
 use Rattle.x10_model.specs.Modules.{Module, Function, FitsImage}
 use Rattle.x10_model.specs.Moves.{new_stay}
 use Rattle.x10_model.specs.Places as machine
-use Rattle.x10_model.specs.Places.{Finish, Origin, Stay, Message, with_stay}
+use Rattle.x10_model.specs.declared.finish.Finish.{Finish}
+use Rattle.x10_model.specs.Places.{Origin, Stay, Message, with_stay}
 use Rattle.x10_model.specs.Ranges.{function_at}
 use Rattle.x10_model.specs.Signatures.{FitSlots}
 use Rattle.x10_model.specs.Values.{IsOfKind}
@@ -31,7 +32,7 @@ use Rattle.x10_verify.proofs.Wholes.{function_fits}
 use Rattle.x10_place.specs.declared.launching.Launch.{Launch}
 use Rattle.x10_place.specs.Arrivals.{IsLaunched, Launches}
 use Rattle.x10_place.specs.Receiving.{Admits, TakesFrame}
-use Rattle.x10_place.specs.Stays.{StayState, StoreState, IsPlaced, AreCalling, open_in, finish_as, origin_as, totals_in, books_of}
+use Rattle.x10_place.specs.Stays.{StayState, StoreState, IsPlaced, AreCalling, open_in, origin_as, totals_in, books_of}
 use Rattle.x10_place.specs.StandsFor.{Far, context_of, PlaceState, place_of, plain, store_of, with_stays, line_as, IsOfRun, StandsForStay, HoldsExports, StandsFor, setting_of}
 use Rattle.x10_place.proofs.BooksOfFinishes.{without, booked_as}
 use Rattle.x10_place.proofs.FittingValues.{arrived_grows, homes_named, values_fit, entered_stands}
@@ -80,7 +81,7 @@ launched_placed program l callee words c image is h =
 
 -- the finish is one of a place of the run, and so is the stay that waits
 pub record IsOfLaunch (places : ℕ) (l : Launch) : Type 0 where
-  pub under : ((finish_as l.under).home < places) × ((finish_as l.under).number < 2 ^ 32)
+  pub under : (l.under.home < places) × (l.under.number < 2 ^ 32)
   pub back : (o : Origin) → origin_as l.back ≡ Some o → (o.place < places) × (o.key < 2 ^ 32)
 
 module _ (far : Far) (p : PlaceState) (m : machine.Place) (stands : StandsFor far p m) (slab : Slab StayState) (t : StoreState) (f : Frame)
@@ -109,7 +110,7 @@ module _ (far : Far) (p : PlaceState) (m : machine.Place) (stands : StandsFor fa
   fit = values_fit y taken.cells taken.holds p.id h.callee.parameters h.roots taken.values taken.words homes
 
   abbrev child : Stay
-  child = new_stay l.function taken.values (finish_as l.under) (origin_as l.back)
+  child = new_stay l.function taken.values l.under (origin_as l.back)
 
   run_of : IsOfRun p.places h.child
   run_of = record {
@@ -134,7 +135,7 @@ module _ (far : Far) (p : PlaceState) (m : machine.Place) (stands : StandsFor fa
   abbrev next : machine.Place
   next = with_stay (record m { cells = taken.cells }) h.key (Some child)
 
-  pub begins : Begins (setting_of p) p.id m l.function brings (finish_as l.under) (origin_as l.back) h.key next
+  pub begins : Begins (setting_of p) p.id m l.function brings l.under (origin_as l.back) h.key next
   begins =
       let asked = (arrivals_fit (setting_of p) m p.id p.id p.heap h.callee.parameters brings stands.exports.exports_are).0 h.fits in
       record {

@@ -24,7 +24,8 @@ use Rattle.x10_model.specs.Marshalling.{snapshot_of}
 use Rattle.x10_model.specs.Modules.{Module, Function}
 use Rattle.x10_model.specs.Moves.{resumed}
 use Rattle.x10_model.specs.Places as machine
-use Rattle.x10_model.specs.Places.{Finish, Stay, Message, with_stay, next, writes}
+use Rattle.x10_model.specs.declared.finish.Finish.{Finish}
+use Rattle.x10_model.specs.Places.{Stay, Message, with_stay, next, writes}
 use Rattle.x10_model.specs.Ranges.{function_at, instr_at, instr_in, result_of, result_for, IsResultRegister, IsThere}
 use Rattle.x10_model.specs.Signatures.{FitSlots}
 use Rattle.x10_model.specs.Totals.{Took, totals_after}

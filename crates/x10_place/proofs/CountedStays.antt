@@ -1,15 +1,14 @@
 -- A stay that its place counts, with a book of each finish that it has open: steps keep that.
-use Rattle.std.proofs.Common.{◌≡◌, ℕ, zero, suc, ◌+◌, ◌<◌, Bool, true, false, Some, None, ◌∷◌, ◌==◌, refl, sym, ap, ap₂, subst, ◌∙◌, arith}
-use Rattle.std.specs.Prelude.{if◌then◌else◌}
-use Rattle.std.proofs.lemmas.Bool.{eqb-true}
+use Rattle.std.proofs.Common.{◌≡◌, ℕ, zero, suc, ◌+◌, ◌<◌, Bool, true, false, Some, None, ◌∷◌, refl, sym, ap, subst, ◌∙◌, arith}
 use Rattle.std.proofs.lemmas.Option.{same_Some}
 use Rattle.slab.specs.Slab.{get}
 use Rattle.x10_code.specs.declared.instr.Instr.{Instr}
 use Rattle.x10_model.specs.Maps.{with_entry}
 use Rattle.x10_model.specs.Places as machine
-use Rattle.x10_model.specs.Places.{Finish, Stay}
+use Rattle.x10_model.specs.Places.{Stay}
 use Rattle.x10_model.specs.Totals.{Totals, nothing, zeros}
 use Rattle.x10_model.specs.Worlds.{same_finish}
+use Rattle.x10_model.proofs.SameFinishes.{same_is}
 use Rattle.x10_model.proofs.Maps.{at_key, off_key}
 use Rattle.x10_finish.specs.Nesting.{nth}
 use Rattle.x10_finish.proofs.Tallied.{lives_tallied}
@@ -100,18 +99,10 @@ closed_registered at s t a b h made = record {
     other : same_finish b.inherited (finish_at s.here made.number) ≡ false
     other = apart (same_finish b.inherited (finish_at s.here made.number)) refl
       where
-        finish_is : same_finish b.inherited (finish_at s.here made.number) ≡ true → b.inherited ≡ finish_at s.here made.number
-        finish_is e = parts (b.inherited.home == s.here) refl e
-          where
-            parts : (c : Bool) → (b.inherited.home == s.here) ≡ c → (if c then b.inherited.number == made.number else false) ≡ true
-                → b.inherited ≡ finish_at s.here made.number
-            parts true is f = ap₂ (λ m n. finish_at m n) (eqb-true b.inherited.home s.here is) (eqb-true b.inherited.number made.number f)
-            parts false is f = absurd cc
-
         apart : (c : Bool) → same_finish b.inherited (finish_at s.here made.number) ≡ c → c ≡ false
         apart false e = refl
         apart true e = absurd (let none = made.done.0 in let some = h.live in
-            let same = ap (λ f. (totals_in s f).live) (sym inherited ∙ finish_is e) in omega (arith, none, some, same))
+            let same = ap (λ f. (totals_in s f).live) (sym inherited ∙ same_is b.inherited (finish_at s.here made.number) e) in omega (arith, none, some, same))
 
 -- the stay goes on
 registered_by : (r : Route) (at : Location) (a b : StayState) (s t : StoreState) (i : Instr) → IsRegistered at s a → Steps r at a s i outcome.Goes b t

@@ -1,12 +1,14 @@
 -- What moves change of what a place counts and keeps of finishes.
-use Rattle.std.proofs.Common.{◌≡◌, ℕ, ◌+◌, ◌≤◌, ◌==◌, Bool, true, false, Option, Some, None, refl, sym, ap, ap₂, subst, ◌∙◌, inl, inr, arith}
+use Rattle.std.proofs.Common.{◌≡◌, ℕ, ◌+◌, ◌≤◌, Bool, true, false, Option, Some, None, refl, sym, ap, subst, ◌∙◌, inl, inr, arith}
 use Rattle.std.specs.Prelude.{if◌then◌else◌}
-use Rattle.std.proofs.lemmas.Bool.{eqb-true, eq-eqb, cases_eq}
+use Rattle.std.proofs.lemmas.Bool.{cases_eq}
 use Rattle.x10_model.specs.Maps.{with_entry}
 use Rattle.x10_model.specs.Modules.{Module}
-use Rattle.x10_model.specs.Places.{Finish, Message, Effect, Waits, Works, Begins, Spawns, Shifts, Opens, Closes, Ends, receiver}
+use Rattle.x10_model.specs.declared.finish.Finish.{Finish}
+use Rattle.x10_model.specs.Places.{Message, Effect, Waits, Works, Begins, Spawns, Shifts, Opens, Closes, Ends, receiver}
 use Rattle.x10_model.specs.Totals.{Totals, nothing, zeros, begins_one, ends_one, sends_to, Did, is_reported}
 use Rattle.x10_model.specs.Worlds.{same_finish, sent}
+use Rattle.x10_model.proofs.SameFinishes.{same_is, same_self}
 use Rattle.x10_model.proofs.Maps.{at_key, off_key}
 use Rattle.x10_heap.specs.Words.{Context}
 use Rattle.x10_finish.specs.Watching.{closes}
@@ -47,9 +49,6 @@ works_count s t h = record {
 pub waits_count : (s : StoreState) (number : ℕ) → IsCountedBy s (Waits number) s
 waits_count s number = record { here = refl; places = refl; totals = λ f c. refl; kept = λ n c. refl; done = λ n e. absurd cc }
 
-same_self : (n : ℕ) → (n == n) ≡ true
-same_self n = eq-eqb n n refl
-
 pub opens_count : (s t : StoreState) (inside : Finish) → Unopened s
     → Recounts s t (s.opened + 1) (totals_in s) (with_entry (books_in s) s.opened (Some (λ p. zeros))) → IsCountedBy s (Opens s.opened inside) t
 opens_count s t inside unopened h = record {
@@ -74,11 +73,10 @@ if_true false x y e = absurd cc
 
 -- another finish of this place has another number
 other_number : (here n number : ℕ) → closes here (Closes number) (finish_at here n) ≡ false → (n ≡ number → ⊥)
-other_number here n number c e = absurd (let f : true ≡ false = sym (if_true (here == here) (n == number) false (same_self here) ∙ eq-eqb n number e)
-    ∙ c in cc)
+other_number here n number c e = absurd (let f : true ≡ false = sym (same_self (finish_at here n) (finish_at here number) (ap (finish_at here) e)) ∙ c in cc)
 
 pub itself_closed : (here number : ℕ) → closes here (Closes number) (finish_at here number) ≡ true
-itself_closed here number = if_true (here == here) (number == number) false (same_self here) ∙ same_self number
+itself_closed here number = same_self (finish_at here number) (finish_at here number) refl
 
 pub closes_count : (s t : StoreState) (number : ℕ) → IsDoneHere s number
     → Recounts s t s.opened (changed_at (totals_in s) (finish_at s.here number) (λ u. nothing)) (with_entry (books_in s) number None)
@@ -185,13 +183,9 @@ heap_alone s t e = record {
 pub closed_none : (s t : StoreState) (effect : Effect) → IsCountedBy s effect t → (f : Finish) → closes s.here effect f ≡ true
     → ((totals_in s f).live ≡ 0) × ((totals_in t f).live ≡ 0)
 closed_none s t (Closes number) h f e =
-    let same : f ≡ finish_at s.here number = finish_is (f.home == s.here) refl e in
+    let same : f ≡ finish_at s.here number = same_is f (finish_at s.here number) e in
     let done = h.done number refl in
     subst (λ g. ((totals_in s g).live ≡ 0) × ((totals_in t g).live ≡ 0)) (sym same) (done.0.0, ap (λ (u : Totals). u.live) done.1)
-  where
-    finish_is : (c : Bool) → (f.home == s.here) ≡ c → (if c then f.number == number else false) ≡ true → f ≡ finish_at s.here number
-    finish_is true is g = ap₂ (λ m n. finish_at m n) (eqb-true f.home s.here is) (eqb-true f.number number g)
-    finish_is false is g = absurd cc
 closed_none s t _ h f e = absurd cc
 
 -- the same, where place and number of places are written as they were

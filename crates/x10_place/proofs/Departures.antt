@@ -12,7 +12,8 @@ use Rattle.x10_model.specs.Modules.{Function}
 use Rattle.x10_model.specs.Ranges.{function_at, parameters_of, argument_count, AreArgumentRegisters, IsThere}
 use Rattle.x10_model.specs.Values.{Value, Place}
 use Rattle.x10_model.specs.Places as machine
-use Rattle.x10_model.specs.Places.{Finish, Stay, Message, Effect, Waits, Spawns, Shifts, innermost, innermost_of, receiver, with_stay, next}
+use Rattle.x10_model.specs.declared.finish.Finish.{Finish}
+use Rattle.x10_model.specs.Places.{Stay, Message, Effect, Waits, Spawns, Shifts, innermost, innermost_of, receiver, with_stay, next}
 use Rattle.x10_model.specs.Moves.{Does, Situation, Holds, Passes}
 use Rattle.x10_model.specs.Marshalling.{snapshot_of}
 use Rattle.x10_model.specs.Maps.{IsIn}

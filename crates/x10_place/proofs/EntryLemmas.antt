@@ -21,7 +21,7 @@ use Rattle.x10_place.specs.declared.call_frame.CallFrame.{CallFrame}
 use Rattle.x10_place.specs.declared.launching.Launch.{Launch}
 use Rattle.x10_place.specs.Arrivals.{IsOpenHere, Settles, IsUnsettled, IsEntrance, Launches, FitsLaunch, IsLaunchRefused}
 use Rattle.x10_place.specs.Frames.{IsEnteredWith}
-use Rattle.x10_place.specs.Stays.{StayState, StoreState, finish_as, origin_as}
+use Rattle.x10_place.specs.Stays.{StayState, StoreState, origin_as}
 
 -- ---- lists
 
@@ -71,7 +71,7 @@ module _ (program : Module) (s : StoreState) (f : Frame) (l : Launch) (fits : Fi
       let other : entrance.callee.registers ≡ fits.callee.registers = ap (λ (q : Function). q.registers) same_callee in
       omega (arith, same, other, e, le)
 
-  pub unsettled_refused : (old : Slab StayState) (why : Refusal) → IsOpenHere s (finish_as l.under) → IsUnsettled s (graph_of f) l why
+  pub unsettled_refused : (old : Slab StayState) (why : Refusal) → IsOpenHere s l.under → IsUnsettled s (graph_of f) l why
       → IsLaunchRefused program old s f l why
   unsettled_refused old refusal.Memory is_open h = tt
   unsettled_refused old (refusal.Limit limit) is_open (inl h) = (fits, is_open, inl h)
@@ -79,7 +79,7 @@ module _ (program : Module) (s : StoreState) (f : Frame) (l : Launch) (fits : Fi
   unsettled_refused old _ is_open h = absurd h
 
   pub launches : (old new : Slab StayState) (t : StoreState) (roots : List ℕ) (n key count : ℕ) (top : CallFrame) (callers : List CallFrame)
-      (numbers : List ℕ) → IsOpenHere s (finish_as l.under) → Settles s (graph_of f) l roots t
+      (numbers : List ℕ) → IsOpenHere s l.under → Settles s (graph_of f) l roots t
       → ((m : Module) (here home : ℕ) (slots : List Slot) → FitsArrival m here home s.heap slots (snapshot_of (graph_of f))
       → IsTakenIn m here s.heap slots f roots t.heap)
       → n ≡ sig.registers → n ≤ count → get old key ≡ None → key < 4294967296 → IsEnteredWith l.function count roots top → callers ≡ [] → numbers ≡ []
@@ -87,7 +87,7 @@ module _ (program : Module) (s : StoreState) (f : Frame) (l : Launch) (fits : Fi
         top = top;
         callers = callers;
         finishes = reverse numbers;
-        inherited = finish_as l.under;
+        inherited = l.under;
         away = false;
         inside = false;
         back = origin_as l.back;
@@ -107,7 +107,7 @@ module _ (program : Module) (s : StoreState) (f : Frame) (l : Launch) (fits : Fi
       top = top;
       callers = callers;
       finishes = reverse numbers;
-      inherited = finish_as l.under;
+      inherited = l.under;
       away = false;
       inside = false;
       back = origin_as l.back;

@@ -1,15 +1,15 @@
 -- The end of a stay: the place's step is the machine's.
-use Rattle.std.proofs.Common.{◌≡◌, ℕ, ◌<◌, ◌≤◌, ◌^◌, ◌==◌, Bool, true, false, suc, List, [], ◌∷◌, get_or, Vec, length, Option, Some, None, refl, sym, ap, ap₂, subst, ◌∙◌, arith}
+use Rattle.std.proofs.Common.{◌≡◌, ℕ, ◌<◌, ◌≤◌, ◌^◌, Bool, true, false, suc, List, [], ◌∷◌, get_or, Vec, length, Option, Some, None, refl, sym, ap, subst, ◌∙◌, arith}
 use Rattle.std.specs.Global.{Global}
-use Rattle.std.specs.Prelude.{map, ◌&&◌, if◌then◌else◌}
-use Rattle.std.proofs.lemmas.Bool.{eqb-true, eq-eqb}
+use Rattle.std.specs.Prelude.{map, ◌&&◌}
 use Rattle.slab.specs.Slab.{Slab}
 use Rattle.x10_code.specs.declared.op.Op.TheVariants as op
 use Rattle.x10_code.specs.declared.instr.Instr.{Instr}
 use Rattle.x10_model.specs.declared.slot.Slot.{Slot}
 use Rattle.x10_model.specs.Ranges.{result_of}
 use Rattle.x10_model.specs.Places as machine
-use Rattle.x10_model.specs.Places.{Finish, Origin, Stay, Message, Effect, Ends, with_stay}
+use Rattle.x10_model.specs.declared.finish.Finish.{Finish}
+use Rattle.x10_model.specs.Places.{Origin, Stay, Message, Effect, Ends, with_stay}
 use Rattle.x10_model.specs.Moves.{Does, Situation, SendsBack, as_list}
 use Rattle.x10_model.specs.Marshalling.{snapshot_of}
 use Rattle.x10_model.specs.Assignments.{Permits}
@@ -40,15 +40,8 @@ use Rattle.x10_place.proofs.StandingStays.{IsChecked, none_open}
 use Rattle.x10_place.proofs.CountsOfMoves.{counted_in, ends_count}
 use Rattle.x10_place.proofs.Texts.{adds_none}
 use Rattle.x10_place.proofs.Steps.{moves, rebuilt, keys_one, keyed_one}
+use Rattle.x10_model.proofs.SameFinishes.{same_is, same_self}
 use Rattle.x10_place.proofs.Insides.{free_of}
-
--- a finish is the same as itself, and no other one is
-same_as_itself : (f : Finish) → same_finish f f ≡ true
-same_as_itself f = both (f.home == f.home) (f.number == f.number) (eq-eqb f.home f.home refl) (eq-eqb f.number f.number refl)
-  where
-    both : (b c : Bool) → b ≡ true → c ≡ true → (if b then c else false) ≡ true
-    both true c e g = g
-    both false c e g = absurd cc
 
 -- ---- the report of a place
 
@@ -180,22 +173,14 @@ module _ (far : Far) (p : PlaceState) (m : machine.Place) (stands : StandsFor fa
       other : (f : Finish) (b : Bool) → same_finish f a.inherited ≡ b → is_last a.inherited.home p.id (totals_in (store_of p) a.inherited) ≡ false
           → (b && is_last f.home p.id (totals_in (store_of p) f)) ≡ false
       other f false e last = refl
-      other f true e last = subst (λ g. is_last g.home p.id (totals_in (store_of p) g) ≡ false) (sym (same f e)) last
-        where
-          same : (f : Finish) → same_finish f a.inherited ≡ true → f ≡ a.inherited
-          same f e = parts (f.home == a.inherited.home) refl e
-            where
-              parts : (c : Bool) → (f.home == a.inherited.home) ≡ c → (if c then f.number == a.inherited.number else false) ≡ true → f ≡ a.inherited
-              parts true is g = ap₂ (λ m n. let q : Finish = record { home = m; number = n } in q) (eqb-true f.home a.inherited.home is)
-                  (eqb-true f.number a.inherited.number g)
-              parts false is g = absurd cc
+      other f true e last = subst (λ g. is_last g.home p.id (totals_in (store_of p) g) ≡ false) (sym (same_is f a.inherited e)) last
 
       by : (q : Option Outgoing) → Reports (store_of p) a.inherited q → SendsReport (store_of p) (Ends a.inherited back) q
       by None last = λ f. other f (same_finish f a.inherited) refl last
       by (Some o) (last, sent) = (
         a.inherited,
         subst (λ b. (b && is_last a.inherited.home p.id (totals_in (store_of p) a.inherited)) ≡ true)
-            (sym (same_as_itself a.inherited)) last,
+            (sym (same_self a.inherited a.inherited refl)) last,
         sent,
       )
 

@@ -9,7 +9,8 @@ use Rattle.x10_model.specs.Modules.{Module, Function, FitsImage}
 use Rattle.x10_model.specs.declared.slot.Slot.{Slot}
 use Rattle.x10_model.specs.Values.{Value, Cells, IsOfKind}
 use Rattle.x10_model.specs.Signatures.{FitSlots}
-use Rattle.x10_model.specs.Places.{Finish, Stay, root}
+use Rattle.x10_model.specs.declared.finish.Finish.{Finish}
+use Rattle.x10_model.specs.Places.{Stay, root}
 use Rattle.x10_model.specs.Totals.{Totals, nothing, first_totals}
 use Rattle.x10_model.specs.Maps.{with_entry}
 use Rattle.x10_model.specs.Moves.{new_stay}

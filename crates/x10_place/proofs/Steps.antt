@@ -9,7 +9,7 @@ use Rattle.x10_model.specs.Maps.{with_entry}
 use Rattle.x10_model.specs.Modules.{Module}
 use Rattle.x10_model.specs.Ranges.{function_at}
 use Rattle.x10_model.specs.Places as machine
-use Rattle.x10_model.specs.Places.{Setting, Finish, Stay, IsFree, innermost, innermost_of, Effect, Waits, Begins, with_stay, next}
+use Rattle.x10_model.specs.Places.{Setting, Stay, IsFree, innermost, innermost_of, Effect, Waits, Begins, with_stay, next}
 use Rattle.x10_model.specs.Moves.{Does, Moves}
 use Rattle.x10_model.specs.Assignments.{Permits}
 use Rattle.x10_model.proofs.Rules.{leads}

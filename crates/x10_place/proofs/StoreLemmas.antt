@@ -6,12 +6,13 @@ use Rattle.std.specs.Result.{is_err}
 use Rattle.std.specs.BTreeMap.{is_at}
 use Rattle.std.proofs.lemmas.Option.{same_Some}
 use Rattle.x10_model.specs.Maps.{with_entry}
-use Rattle.x10_model.specs.Places.{Finish, root}
+use Rattle.x10_model.specs.declared.finish.Finish.{Finish}
+use Rattle.x10_model.specs.Places.{root}
 use Rattle.x10_model.specs.Worlds.{same_finish}
 use Rattle.x10_model.specs.Totals.{Totals, Cut, nothing, zeros, begins_one, first_totals, IsDoneAt}
 use Rattle.x10_model.proofs.Lists.{none_some}
 use Rattle.x10_model.proofs.Maps.{at_key, off_key}
-use Rattle.x10_finish.specs.Books.{Kept, finish_of, kept_of}
+use Rattle.x10_finish.specs.Books.{Kept, kept_of}
 use Rattle.x10_heap.specs.Heaps.{empty}
 use Rattle.x10_place.specs.OpenBooks.{Writes, IsMergedAt}
 use Rattle.x10_place.specs.Receiving.{merged_in, report_of}
@@ -55,8 +56,7 @@ module _ (here places number from : ℕ) (sent received : List ℕ) (old new : L
   are_books (Some b) e = (let w = m.some b e in
       let is = all number b e in
       entered_book here places number old new w.book w.writes (record {
-        home = w.merges.home ∙ is.home;
-        number = w.merges.number ∙ is.number;
+        finish = w.merges.finish ∙ is.finish;
         places_are = w.merges.places ∙ is.places_are;
       }) all)
 
@@ -90,12 +90,11 @@ is_found (Some b) now o e = ap is_some (sym e)
 
 -- the home lets a finish end exactly where its book says so
 pub done_here : (t : Bool) (s : StoreState) (n : ℕ) (b : Kept) → book_at s.books n ≡ Some b → IsBookOf s.here s.places n b
-    → (IsTrue t ↔ IsDoneAt b.places b.home (totals_in s (finish_of b)) (kept_of b)) → (IsTrue t ↔ IsDoneHere s n)
+    → (IsTrue t ↔ IsDoneAt b.places b.finish.home (totals_in s b.finish) (kept_of b)) → (IsTrue t ↔ IsDoneHere s n)
 done_here t s n b found is h =
     subst (λ o. IsTrue t ↔ IsDoneAt s.places s.here (totals_in s (finish_at s.here n)) (kept_in (cut_of o))) (sym found)
-    (subst (λ x. IsTrue t ↔ IsDoneAt s.places x (totals_in s (finish_at x n)) (kept_of b)) is.home
-    (subst (λ m. IsTrue t ↔ IsDoneAt s.places b.home (totals_in s (finish_at b.home m)) (kept_of b)) is.number
-    (subst (λ p. IsTrue t ↔ IsDoneAt p b.home (totals_in s (finish_of b)) (kept_of b)) is.places_are h)))
+    (subst (λ (f : Finish). IsTrue t ↔ IsDoneAt s.places f.home (totals_in s f) (kept_of b)) is.finish
+    (subst (λ p. IsTrue t ↔ IsDoneAt p b.finish.home (totals_in s b.finish) (kept_of b)) is.places_are h))
 
 -- ---- at the beginning
 

@@ -16,7 +16,8 @@ use Rattle.x10_model.specs.declared.slot.Slot.{Slot}
 use Rattle.x10_model.specs.Ranges.{function_at, parameters_of, result_of, argument_count, AreArgumentRegisters, IsThere}
 use Rattle.x10_model.specs.Values.{Place}
 use Rattle.x10_model.specs.Places as machine
-use Rattle.x10_model.specs.Places.{Finish, Origin, Stay}
+use Rattle.x10_model.specs.declared.finish.Finish.{Finish}
+use Rattle.x10_model.specs.Places.{Origin, Stay}
 use Rattle.x10_model.specs.Moves.{as_list}
 use Rattle.x10_model.specs.Assignments.{Permits, IsCalled}
 use Rattle.x10_verify.specs.Certified.{Certified}

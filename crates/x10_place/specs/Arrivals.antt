@@ -6,7 +6,7 @@ use Rattle.x10_code.specs.declared.instr.Instr.{Instr}
 use Rattle.x10_model.specs.declared.slot.Slot.{Slot}
 use Rattle.x10_model.specs.Modules.{Module, Function}
 use Rattle.x10_model.specs.Ranges.{function_at, instr_at}
-use Rattle.x10_model.specs.Places.{Finish}
+use Rattle.x10_model.specs.declared.finish.Finish.{Finish}
 use Rattle.x10_model.specs.Totals.{Report, receives_from}
 use Rattle.x10_model.specs.Frames.{Graph, Frame}
 use Rattle.x10_model.specs.Marshalling.{snapshot_of}
@@ -30,7 +30,7 @@ use Rattle.x10_copy.specs.Taken.{IsTakenIn}
 use Rattle.x10_place.specs.declared.call_frame.CallFrame.{CallFrame}
 use Rattle.x10_place.specs.declared.launching.Launch.{Launch}
 use Rattle.x10_place.specs.Frames.{word_at, IsFetchedFor, IsEnteredWith}
-use Rattle.x10_place.specs.Stays.{StayState, StoreState, GoesNext, GoesNextWith, Recounts, HasBook, totals_in, books_in, changed_at, finish_as, origin_as}
+use Rattle.x10_place.specs.Stays.{StayState, StoreState, GoesNext, GoesNextWith, Recounts, HasBook, totals_in, books_in, changed_at, origin_as}
 use Rattle.x10_place.specs.Receiving.{merged_in, TakesFrame, IsShut}
 use Rattle.x10_place.specs.Sending.{slots_of}
 use Rattle.x10_place.specs.StandsFor.{place_of}
@@ -81,14 +81,14 @@ IsKeptOut s from under why = (why ≡ stop.Memory)
 pub record Settles (s : StoreState) (g : Graph) (l : Launch) (roots : List ℕ)
     (t : StoreState) : Type 0 where
   pub brought : IsBrought s.heap g roots t.heap
-  pub counted : Comes (record s { heap = t.heap }) l.from (finish_as l.under) t
+  pub counted : Comes (record s { heap = t.heap }) l.from l.under t
 
 -- why nothing came in
 abbrev pub IsUnsettled : StoreState → Graph → Launch → Refusal → Type 0
 IsUnsettled s g l refusal.Memory = Unit {0}
 IsUnsettled s g l (refusal.Limit limit) = PassesLimit s.heap g limit
     ⊎ ((limit ≡ limits.Activities) × IsFull (change.Receives l.from)
-    (totals_in s (finish_as l.under)))
+    (totals_in s l.under))
 IsUnsettled s g l _ = ⊥
 
 -- the function may begin: a new activity's has no result
@@ -112,7 +112,7 @@ pub record IsLaunched (l : Launch) (callee : Function) (words : List ℕ)
   pub entered : IsEnteredWith l.function count words c.top
   pub callers : c.callers ≡ []
   pub finishes : c.finishes ≡ []
-  pub inherited : c.inherited ≡ finish_as l.under
+  pub inherited : c.inherited ≡ l.under
   pub away : c.away ≡ false
   pub inside : c.inside ≡ false
   pub back : c.back ≡ origin_as l.back
@@ -123,7 +123,7 @@ pub record Launches (program : Module) (old : Slab StayState) (s : StoreState) (
   pub callee : Function
   pub begins : MayBegin program l callee
   pub fits : FitsArrival program s.here s.here s.heap callee.parameters (snapshot_of (graph_of f))
-  pub is_open : IsOpenHere s (finish_as l.under)
+  pub is_open : IsOpenHere s l.under
   pub roots : List ℕ
   pub taken : IsTakenIn program s.here s.heap callee.parameters f roots t.heap
   pub settles : Settles s (graph_of f) l roots t
@@ -151,7 +151,7 @@ pub record MisfitsLaunch (program : Module) (s : StoreState) (f : Frame) (l : La
 abbrev pub IsCrowded : Slab StayState → StoreState → Launch → Limit → Type 0
 IsCrowded old s l limit = ((limit ≡ limits.Keys) × (2 ^ 32 ≤ old.vacant_key))
     ⊎ ((limit ≡ limits.Activities) × IsFull (change.Receives l.from)
-    (totals_in s (finish_as l.under)))
+    (totals_in s l.under))
 
 -- why it doesn't begin: the first fault
 abbrev pub IsLaunchRefused : Module → Slab StayState → StoreState → Frame → Launch → Refusal
@@ -162,9 +162,9 @@ IsLaunchRefused program old s f l refusal.Kind = MisfitsLaunch program s f l ref
 IsLaunchRefused program old s f l refusal.Home = MisfitsLaunch program s f l refusal.Home
 IsLaunchRefused program old s f l refusal.Ref = MisfitsLaunch program s f l refusal.Ref
 IsLaunchRefused program old s f l refusal.Finish = FitsLaunch program s f l
-    × IsShutHere s (finish_as l.under)
+    × IsShutHere s l.under
 IsLaunchRefused program old s f l (refusal.Limit limit) = FitsLaunch program s f l
-    × IsOpenHere s (finish_as l.under)
+    × IsOpenHere s l.under
     × (PassesLimit s.heap (graph_of f) limit ⊎ IsCrowded old s l limit)
 IsLaunchRefused program old s f l refusal.Memory = Unit {0}
 IsLaunchRefused program old s f l _ = ⊥

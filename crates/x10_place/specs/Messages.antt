@@ -1,7 +1,8 @@
 -- The frames between places: which messages and reports they carry.
 use Rattle.std.specs.Prelude.{◌≡◌, ℕ, List, Option, Some, None, true, false}
 use Rattle.x10_model.specs.Modules.{Module}
-use Rattle.x10_model.specs.Places.{Finish, Message, Effect, receiver}
+use Rattle.x10_model.specs.declared.finish.Finish.{Finish}
+use Rattle.x10_model.specs.Places.{Message, Effect, receiver}
 use Rattle.x10_model.specs.Deliveries.{FitsClasses}
 use Rattle.x10_model.specs.Wrong.{graph_of}
 use Rattle.x10_model.specs.Frames as frames

@@ -2,7 +2,7 @@
 use Rattle.std.specs.Prelude.{◌≡◌, ◌==◌, ℕ, List, ◌∷◌, Option, Some, None, cond, if◌then◌else◌}
 use Rattle.std.specs.Ordering.{nat_cmp}
 use Rattle.std.specs.BTreeMap.{is_at}
-use Rattle.x10_finish.specs.declared.finish.Finish.{Finish}
+use Rattle.x10_model.specs.declared.finish.Finish.{Finish}
 use Rattle.x10_finish.specs.Books.{Kept, IsOpened, MergesCounts}
 use Rattle.x10_place.specs.declared.books.Numbered.{Numbered}
 use Rattle.x10_place.specs.Stays.{book_at}

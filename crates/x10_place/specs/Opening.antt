@@ -4,7 +4,8 @@ use Rattle.slab.specs.Slab.{Slab, get, entries}
 use Rattle.x10_model.specs.Modules.{Module, Function, IsEntry}
 use Rattle.x10_model.specs.Ranges.{function_at}
 use Rattle.x10_model.specs.Places as machine
-use Rattle.x10_model.specs.Places.{Setting, Finish, root}
+use Rattle.x10_model.specs.declared.finish.Finish.{Finish}
+use Rattle.x10_model.specs.Places.{Setting, root}
 use Rattle.x10_model.specs.Totals.{zeros, first_totals}
 use Rattle.x10_model.specs.Worlds.{first_place, empty_place}
 use Rattle.x10_verify.specs.Certified.{Certified}

@@ -6,7 +6,8 @@ use Rattle.x10_code.specs.declared.op.Op.TheVariants as op
 use Rattle.x10_code.specs.declared.instr.Instr.{Instr}
 use Rattle.x10_model.specs.declared.slot.Slot.{Slot}
 use Rattle.x10_model.specs.Modules.{Module}
-use Rattle.x10_model.specs.Places.{Finish, Origin}
+use Rattle.x10_model.specs.declared.finish.Finish.{Finish}
+use Rattle.x10_model.specs.Places.{Origin}
 use Rattle.x10_model.specs.Totals.{ends_one, sends_to, is_last}
 use Rattle.x10_frame.specs.declared.head.Head.{Head}
 use Rattle.x10_frame.specs.declared.head.Head.TheVariants as head

@@ -16,7 +16,8 @@ use Rattle.x10_model.specs.Moves.{Moves}
 use Rattle.x10_model.specs.Ranges.{function_at, instr_at}
 use Rattle.x10_model.specs.Assignments.{State}
 use Rattle.x10_model.specs.Places as machine
-use Rattle.x10_model.specs.Places.{Setting, Finish, Origin, Effect, Waits, Closes, Stay, Number, Words}
+use Rattle.x10_model.specs.declared.finish.Finish.{Finish}
+use Rattle.x10_model.specs.Places.{Setting, Origin, Effect, Waits, Closes, Stay, Number, Words}
 use Rattle.x10_model.specs.Totals.{Cut, nothing, Did, totals_after}
 use Rattle.x10_model.specs.Values.{Value, Cells}
 use Rattle.x10_verify.specs.Certified.{Certified}

@@ -14,13 +14,13 @@ use Rattle.x10_model.specs.Modules.{Module, Function}
 use Rattle.x10_model.specs.declared.slot.Slot.{Slot}
 use Rattle.x10_model.specs.Assignments.{State, IsKind}
 use Rattle.x10_model.specs.Maps.{with_entry}
-use Rattle.x10_model.specs.Places.{Finish, Origin, innermost_of}
+use Rattle.x10_model.specs.declared.finish.Finish.{Finish}
+use Rattle.x10_model.specs.Places.{Origin, innermost_of}
 use Rattle.x10_model.specs.Totals.{Totals, Cut, nothing, zeros, if_same, IsDoneAt}
 use Rattle.x10_model.specs.Ranges.{function_at, instr_at, result_of}
 use Rattle.x10_image.specs.Parts.{code_at}
 use Rattle.x10_bounds.specs.OpenFinishes.{finishes_around}
 use Rattle.x10_bounds.specs.AtomicRegions.{is_inside}
-use Rattle.x10_finish.specs.declared.finish.Finish as finish
 use Rattle.x10_finish.specs.Books.{Kept, kept_of}
 use Rattle.x10_finish.specs.Ledgers.{Ledger, totals_of}
 use Rattle.x10_heap.specs.Heaps.{HeapState, IsFull}
@@ -86,19 +86,18 @@ books_of books n = cut_of (book_at books n)
 abbrev pub books_in : StoreState → ℕ → Option Cut
 books_in s = books_of s.books
 
+-- the finish with a number that a place opened
+abbrev pub finish_at : ℕ → ℕ → Finish
+finish_at here number = record { home = here; number = number }
+
 -- each book is that of a finish of this place, under its number
 pub record IsBookOf (here places n : ℕ) (b : Kept) : Type 0 where
-  pub home : b.home ≡ here
-  pub number : b.number ≡ n
+  pub finish : b.finish ≡ finish_at here n
   pub places_are : b.places ≡ places
 
 abbrev pub AreBooks : ℕ → ℕ → List (ℕ × Kept) → Type 0
 AreBooks here places books = (n : ℕ) (b : Kept) → book_at books n ≡ Some b
     → IsBookOf here places n b
-
--- the finish with a number that a place opened
-abbrev pub finish_at : ℕ → ℕ → Finish
-finish_at here number = record { home = here; number = number }
 
 -- what a home keeps of a finish: nothing was reported where it has no book
 abbrev pub kept_in : Option Cut → Cut
@@ -141,9 +140,6 @@ location program locality = record {
   here = locality.here;
   places = locality.places;
 }
-
-abbrev pub finish_as : finish.Finish → Finish
-finish_as f = record { home = f.home; number = f.number }
 
 abbrev pub origin_as : Option stay.Origin → Option Origin
 origin_as None = None

@@ -8,8 +8,9 @@ ghost use Rattle.x10_place.specs.Stays.{book_at};
 use std::alloc::Global;
 use std::collections::BTreeMap;
 use std::marker::Model;
-use x10_finish::{Book, Finish};
+use x10_finish::Book;
 use x10_kinds::Stop;
+use x10_model::Finish;
 
 /// A book under the number of its finish.
 #[derive(Drop)]

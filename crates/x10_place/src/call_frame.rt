@@ -350,14 +350,16 @@ impl CallFrame {
         verified.certificate();
         let signature = verified.image().signature(instr.x as usize);
         let mut frame = store.frame(alloc, usize::from(signature.registers()))?;
-        let callee = &mut *frame;
-        callee.begin(instr.x as u16);
+        frame.begin(instr.x as u16);
+        let words: &[u64] = &self.registers;
+        let registers: &mut [u64] = &mut frame.registers;
         let first = usize::from(instr.b);
         for i in 0..signature.parameters() {
-            callee.registers[i] = self.registers[first + i];
+            registers[i] = words[first + i];
         }
         Ok(frame)
     }
+
     /// Goes on after the call at which the call frame stands, with the result of the function that ended, if it gives one.
     #[inline(always)]
     pub(crate) fn resume(&mut self, verified: &Verified, ended: &CallFrame, instr: Instr)

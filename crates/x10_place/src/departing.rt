@@ -10,7 +10,7 @@ ghost use Rattle.x10_place.specs.Frames.{IsFetchedFor};
 ghost use Rattle.x10_place.specs.Parting.{IsGoing, TakesAlong, head_sent, DepartsBy, DepartsAt};
 ghost use Rattle.x10_place.specs.Sending.{StandForSome, slots_of_call, words_from};
 ghost use Rattle.x10_place.specs.StandsFor.{place_of, IsHindered, OverfillsSend};
-ghost use Rattle.x10_place.specs.Stays.{StayState, finish_as};
+ghost use Rattle.x10_place.specs.Stays.{StayState};
 ghost use Rattle.x10_place.specs.Stretches.{IsForPlace, IsUntouched};
 
 use crate::call_frame::CallFrame;
@@ -23,9 +23,9 @@ use crate::store::Store;
 use slab::Slab;
 use std::alloc::Global;
 use x10_code::Instr;
-use x10_finish::Finish;
 use x10_frame::Head;
 use x10_kinds::{Limit, Stop};
+use x10_model::Finish;
 use x10_verify::Verified;
 
 /// The head of the frame that an AT or ATA sends.
@@ -38,7 +38,7 @@ fn head_of(
     function: u16,
 ) -> Head
     requires key { key < 2 ^ 32 }
-    ensures value { result ≡ head_sent departure here to key (finish_as under) function }
+    ensures value { result ≡ head_sent departure here to key under function }
     ensures graph { IsGraphHead result }
     ensures roots { most_roots result ≡ 16 }
 {

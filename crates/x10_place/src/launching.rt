@@ -19,10 +19,10 @@ use crate::stay::{Origin, Stay};
 use crate::store::Store;
 use std::alloc::Global;
 use x10_copy::{Refusal, Roots, bring, check, refusal_of};
-use x10_finish::Finish;
 use x10_frame::FrameView;
 use x10_image::SigView;
 use x10_kinds::Limit;
+use x10_model::Finish;
 use x10_verify::Verified;
 
 /// What begins: from which place it comes, the function, the finish under which it counts, and the stay that waits for its

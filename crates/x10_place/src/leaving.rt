@@ -11,7 +11,7 @@ ghost use Rattle.x10_place.specs.declared.outcome.Deed.TheVariants as deed;
 ghost use Rattle.x10_place.specs.Parting.{TakesAlong, Reports, LeavesAt};
 ghost use Rattle.x10_place.specs.Sending.{StandForSome, slots_of_end, words_from};
 ghost use Rattle.x10_place.specs.StandsFor.{place_of, IsHindered};
-ghost use Rattle.x10_place.specs.Stays.{totals_in, finish_as};
+ghost use Rattle.x10_place.specs.Stays.{totals_in};
 ghost use Rattle.x10_place.specs.Stretches.{IsForPlace, IsUntouched};
 
 use crate::call_frame::CallFrame;
@@ -23,9 +23,9 @@ use crate::store::Store;
 use slab::Slab;
 use std::alloc::Global;
 use x10_code::Instr;
-use x10_finish::Finish;
 use x10_frame::{Head, write_counts};
 use x10_kinds::Stop;
+use x10_model::Finish;
 use x10_verify::Verified;
 
 /// Removes a stay, and keeps its call frame for another one.
@@ -96,11 +96,11 @@ fn counts_are_small(counts: &[u32])
 
 /// The report that is due at the home of a finish when one more activity under it ends here, if there is one.
 fn report(alloc: Global, store: &Store, finish: Finish) -> Result<Option<Outgoing>, Stop>
-    requires live { 0 < (totals_in store.now (finish_as finish)).live }
+    requires live { 0 < (totals_in store.now finish).live }
     requires within { store.now.here < store.now.places }
     requires home { finish.home < store.now.places }
     requires few { store.now.places ≤ 64 }
-    ensures ok { IfOk result (Reports store.now (finish_as finish)) }
+    ensures ok { IfOk result (Reports store.now finish) }
     ensures err { IfErr result (λ why. why ≡ stop.Memory) }
 {
     let Some((sent, received)) = store.due(finish) else {

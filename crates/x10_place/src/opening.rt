@@ -8,7 +8,7 @@ use crate::call_frame::first_frame;
 use crate::stay::Stay;
 use slab::Slab;
 use std::alloc::{AllocError, Global};
-use x10_finish::Finish;
+use x10_model::Finish;
 use x10_verify::Verified;
 
 /// Main: the entry function at its first instruction, with its registers 0, under the root finish.

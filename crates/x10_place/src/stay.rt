@@ -10,7 +10,7 @@ ghost use Rattle.x10_place.specs.Frames.{IsInside, IsFetchedFor, word_at};
 ghost use Rattle.x10_place.specs.Routes.{route_of};
 ghost use Rattle.x10_heap.specs.Heaps.{IsFull};
 ghost use Rattle.x10_place.specs.declared.stay.Locality.{Locality};
-ghost use Rattle.x10_place.specs.Stays.{location, finish_as, innermost_at, IsBegun, IsPlaced, Calls, Returns, IsPrinted, Prints, GoesOnInside, OpensFinish, LeavesFinish, HasFinish, WaitsAtFinish, ReadsStore, OverfillsBy, Refuses, Steps};
+ghost use Rattle.x10_place.specs.Stays.{location, innermost_at, IsBegun, IsPlaced, Calls, Returns, IsPrinted, Prints, GoesOnInside, OpensFinish, LeavesFinish, HasFinish, WaitsAtFinish, ReadsStore, OverfillsBy, Refuses, Steps};
 
 use crate::call_frame::CallFrame;
 use crate::line::Line;
@@ -20,9 +20,9 @@ use crate::store::Store;
 use std::alloc::{AllocError, Global};
 use std::marker::Model;
 use x10_code::{Instr, Op};
-use x10_finish::Finish;
 use x10_heap::Heap;
 use x10_kinds::Stop;
+use x10_model::Finish;
 use x10_verify::Verified;
 
 mod stretch;
@@ -58,11 +58,11 @@ pub struct Stay {
 
 impl Model for Stay {
     ghost use Rattle.std.specs.Prelude.{reverse};
-    ghost use Rattle.x10_place.specs.Stays.{StayState, finish_as, origin_as, frames_of};
+    ghost use Rattle.x10_place.specs.Stays.{StayState, origin_as, frames_of};
 
     ghost Value = { StayState };
 
-    ghost view = { λ a. record { top = a.top.value; callers = frames_of a.callers.items; finishes = reverse a.finishes.items; inherited = finish_as a.inherited; away = a.away; inside = a.inside; back = origin_as a.back } };
+    ghost view = { λ a. record { top = a.top.value; callers = frames_of a.callers.items; finishes = reverse a.finishes.items; inherited = a.inherited; away = a.away; inside = a.inside; back = origin_as a.back } };
 }
 
 impl Stay {
@@ -135,7 +135,7 @@ impl Stay {
     /// The innermost finish that is open here, or the one that the stay inherited.
     #[inline(always)]
     pub(crate) fn innermost(&self, here: u16) -> Finish
-        ensures { finish_as result ≡ innermost_at here self.now }
+        ensures { result ≡ innermost_at here self.now }
     {
         match self.finishes.last() {
             Some(number) => Finish {
@@ -158,7 +158,7 @@ impl Stay {
         requires fetched { IsFetchedFor verified.now.program self.now.top instr }
         requires op { instr.op ≡ op.Async }
         ensures begun { IfOk result (IsBegun verified.now.program self.now.top.registers.items
-            instr (finish_as under)) }
+            instr under) }
         ensures kept { store.new ≡ store.old }
     {
         Ok(Stay {

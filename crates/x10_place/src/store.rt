@@ -8,7 +8,7 @@ ghost use Rattle.x10_kinds.specs.declared.stop.Stop.TheVariants as stop;
 ghost use Rattle.x10_model.specs.Maps.{with_entry};
 ghost use Rattle.x10_model.specs.Totals.{zeros, nothing, begins_one, ends_one, sends_to};
 ghost use Rattle.x10_place.specs.Opening.{IsNewStore};
-ghost use Rattle.x10_place.specs.Stays.{finish_as, finish_at, totals_in, books_in, changed_at, Recounts, HasBook, IsDoneHere};
+ghost use Rattle.x10_place.specs.Stays.{finish_at, totals_in, books_in, changed_at, Recounts, HasBook, IsDoneHere};
 ghost use Rattle.x10_place.specs.Receiving.{report_of};
 ghost use Rattle.x10_place.specs.Arrivals.{Merges, IsOpenHere, Comes, IsKeptOut};
 
@@ -19,9 +19,10 @@ use crate::stay::Locality;
 use std::alloc::{AllocError, Global};
 use std::marker::Model;
 use x10_copy::Marks;
-use x10_finish::{Finish, Tally};
+use x10_finish::Tally;
 use x10_heap::Heap;
 use x10_kinds::{Limit, Stop};
+use x10_model::Finish;
 
 /// What a place keeps for all its stays: the heap, the lines of output, and how many finishes it opened; what it has
 /// counted of each finish, and a book of each that it opened and that is open; which parts of the heap the last message took
@@ -144,7 +145,7 @@ impl Store {
 
     /// Whether a finish is open, if it is one of this place.
     pub(crate) fn is_open(&self, finish: Finish) -> bool
-        ensures { IsTrue result ↔ IsOpenHere self.now (finish_as finish) }
+        ensures { IsTrue result ↔ IsOpenHere self.now finish }
     {
         finish.home != self.tally.place() || self.has_book(finish.number)
     }
@@ -152,9 +153,9 @@ impl Store {
     /// An activity that a place put out under a finish begins here. Where it is refused, nothing has changed.
     pub(crate) fn come(&mut self, finish: Finish, from: u16) -> Result<(), Stop>
         requires { from < self.old.places }
-        ensures ok { OnOk result (Comes self.old from (finish_as finish) self.new) }
+        ensures ok { OnOk result (Comes self.old from finish self.new) }
         ensures err { IfErr result (λ why. (self.new ≡ self.old)
-            × IsKeptOut self.old from (finish_as finish) why) }
+            × IsKeptOut self.old from finish why) }
     {
         self.tally.came(finish, from)
     }
@@ -174,7 +175,7 @@ impl Store {
 impl Store {
     /// The finish with a number that was opened here.
     fn finish(&self, number: u32) -> Finish
-        ensures { finish_as result ≡ finish_at self.now.here number }
+        ensures { result ≡ finish_at self.now.here number }
     {
         Finish {
             home: self.tally.place(),
@@ -235,7 +236,7 @@ impl Store {
 
     /// How many activities under a finish live here.
     pub(crate) fn live(&self, finish: Finish) -> u32
-        ensures { result ≡ (totals_in self.now (finish_as finish)).live }
+        ensures { result ≡ (totals_in self.now finish).live }
     {
         self.tally.live(finish)
     }
@@ -243,17 +244,17 @@ impl Store {
     /// An activity begins here under a finish. Where it is refused, nothing has changed.
     pub(crate) fn begin(&mut self, finish: Finish) -> Result<(), Stop>
         ensures ok { OnOk result (Recounts self.old self.new self.old.opened
-            (changed_at (totals_in self.old) (finish_as finish) begins_one) (books_in self.old)) }
+            (changed_at (totals_in self.old) finish begins_one) (books_in self.old)) }
         ensures err { IfErr result (λ why. (self.new ≡ self.old)
             × ((why ≡ stop.Memory) ⊎ ((why ≡ stop.Limit limits.Activities)
-            × IsLargest (totals_in self.old (finish_as finish)).live))) }
+            × IsLargest (totals_in self.old finish).live))) }
     {
         self.tally.began(finish)
     }
 
     /// How many activities were sent to a place under a finish.
     pub(crate) fn sent(&self, finish: Finish, to: u16) -> u32
-        ensures { result ≡ (totals_in self.now (finish_as finish)).sent to }
+        ensures { result ≡ (totals_in self.now finish).sent to }
     {
         match self.tally.sent(finish).get(usize::from(to)) {
             Some(count) => *count,
@@ -265,11 +266,11 @@ impl Store {
     pub(crate) fn spawned(&mut self, finish: Finish, to: u16) -> Result<(), Stop>
         requires { to < self.old.places }
         ensures ok { OnOk result (Recounts self.old self.new self.old.opened
-            (changed_at (totals_in self.old) (finish_as finish) (λ t. sends_to t to))
+            (changed_at (totals_in self.old) finish (λ t. sends_to t to))
             (books_in self.old)) }
         ensures err { IfErr result (λ why. (self.new ≡ self.old)
             × ((why ≡ stop.Memory) ⊎ ((why ≡ stop.Limit limits.Activities)
-            × IsLargest ((totals_in self.old (finish_as finish)).sent to)))) }
+            × IsLargest ((totals_in self.old finish).sent to)))) }
     {
         self.tally.spawned(finish, to)
     }
@@ -277,10 +278,10 @@ impl Store {
     /// What is reported to the home of a finish when one more activity under it ends here, if anything is: how many were sent
     /// to each place, and received from each.
     pub(crate) fn due(&self, finish: Finish) -> Option<(&[u32], &[u32])>
-        requires { 0 < (totals_in self.now (finish_as finish)).live }
-        ensures none { IfNone result (gives_report self.now.ledger (finish_as finish) ≡ false) }
-        ensures some { IfSome result (λ x. (gives_report self.now.ledger (finish_as finish)
-            ≡ true) × AreDue self.now.ledger (finish_as finish) x.0.now x.1.now) }
+        requires { 0 < (totals_in self.now finish).live }
+        ensures none { IfNone result (gives_report self.now.ledger finish ≡ false) }
+        ensures some { IfSome result (λ x. (gives_report self.now.ledger finish
+            ≡ true) × AreDue self.now.ledger finish x.0.now x.1.now) }
         ensures here { self.now.ledger.place ≡ self.now.here }
         ensures places { self.now.ledger.places ≡ self.now.places }
     {
@@ -289,9 +290,9 @@ impl Store {
 
     /// An activity under a finish ends here. Takes no memory.
     pub(crate) fn end(&mut self, finish: Finish)
-        requires { 0 < (totals_in self.old (finish_as finish)).live }
+        requires { 0 < (totals_in self.old finish).live }
         ensures { Recounts self.old self.new self.old.opened
-            (changed_at (totals_in self.old) (finish_as finish) ends_one) (books_in self.old) }
+            (changed_at (totals_in self.old) finish ends_one) (books_in self.old) }
     {
         self.tally.left(finish);
     }

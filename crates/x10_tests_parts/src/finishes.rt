@@ -1,9 +1,10 @@
 use std::alloc::{AllocError, Global};
 use std::process::Abort;
 use std::test::*;
-use x10_finish::{Book, Finish, Tally};
+use x10_finish::{Book, Tally};
 use x10_frame::Report;
 use x10_kinds::Stop;
+use x10_model::Finish;
 
 const FINISH: Finish = Finish { home: 0, number: 1 };
 

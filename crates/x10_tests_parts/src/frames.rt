@@ -52,9 +52,9 @@ fn fields_again(alloc: Global, rt: &impl Abort, node: &NodeView) -> Result<Vec<I
 fn node_again(
     alloc: Global,
     rt: &impl Abort,
-    writer: FrameWriter,
+    writer: &mut FrameWriter,
     node: &NodeView,
-) -> Result<FrameWriter, Fail> {
+) -> Result<(), Fail> {
     let fields = fields_again(alloc, rt, node)?;
     assert!(rt; fields.len() <= 16);
     Ok(writer.node(node.class(), &fields)?)
@@ -86,18 +86,18 @@ fn graph_again(
     for i in 0..view.roots() {
         roots.push(view.root(i))?;
     }
-    let mut writer = FrameWriter::new(alloc, head, &sizes)?
-        .reserve(100)?
-        .roots(&roots)?;
+    let mut writer = FrameWriter::new(alloc, head, &sizes)?;
+    writer.reserve(100)?;
+    writer.roots(&roots)?;
     for i in 0..view.texts() {
-        writer = writer.text(view.text(i))?;
+        writer.text(view.text(i))?;
     }
     for i in 0..view.rails() {
-        writer = writer.rail(view.rail(i))?;
+        writer.rail(view.rail(i))?;
     }
     let nodes = nodes_of(view);
     for i in 0..nodes.len() {
-        writer = node_again(alloc, rt, writer, &nodes.node(i))?;
+        node_again(alloc, rt, &mut writer, &nodes.node(i))?;
     }
     Ok(writer.finish())
 }

@@ -30,15 +30,14 @@ fn fields_of(alloc: Global, object: u32) -> Result<Vec<Item>, Fail> {
 }
 
 /// As many texts and as many rails as there can be, the last of each as long as it can be.
-fn texts_and_rails(rt: &impl Abort, writer: FrameWriter, long: &str) -> Result<FrameWriter, Fail> {
+fn texts_and_rails(rt: &impl Abort, writer: &mut FrameWriter, long: &str) -> Result<(), Fail> {
     assert!(rt; long.len() == 65_535);
-    let mut writer = writer;
     for _ in 1..MOST {
-        writer = writer.text("")?;
+        writer.text("")?;
     }
-    writer = writer.text(long)?;
+    writer.text(long)?;
     for _ in 1..MOST {
-        writer = writer.rail(&[])?;
+        writer.rail(&[])?;
     }
     Ok(writer.rail(long.as_bytes())?)
 }
@@ -56,12 +55,13 @@ fn greatest(alloc: Global, rt: &impl Abort) -> Result<Vec<u8>, Fail> {
         rails: MOST,
         nodes: 139_811,
     };
-    let writer = FrameWriter::new(alloc, &head, &sizes)?.roots(&[Item::Object(0)])?;
-    let mut writer = texts_and_rails(rt, writer, &long(alloc, 65_535)?)?;
+    let mut writer = FrameWriter::new(alloc, &head, &sizes)?;
+    writer.roots(&[Item::Object(0)])?;
+    texts_and_rails(rt, &mut writer, &long(alloc, 65_535)?)?;
     for object in 0..139_811u32 {
         let fields = fields_of(alloc, object)?;
         assert!(rt; fields.len() <= 16);
-        writer = writer.node((object % 65_536) as u16, &fields)?;
+        writer.node((object % 65_536) as u16, &fields)?;
     }
     Ok(writer.finish())
 }

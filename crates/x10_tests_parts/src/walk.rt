@@ -3,8 +3,9 @@
 use std::alloc::Global;
 use std::process::Abort;
 use std::test::*;
-use x10_finish::{Book, Finish, Tally};
+use x10_finish::{Book, Tally};
 use x10_frame::Report;
+use x10_model::Finish;
 use x10_samples::random;
 
 const FINISH: Finish = Finish { home: 2, number: 9 };

@@ -65,11 +65,11 @@ trace_lines x (Step place key) (done.Moved function pc op first count) =
 trace_lines x (Step place key) _ = idle_step_line place key
 trace_lines x (Deliver number) did = delivered_line number did
 
--- Events, one after another, from one state of a world to another, and the lines that tell them: each is an event of every
--- world of the machine that the state before it stands for.
-pub data Traced : WorldState → List ℕ → WorldState → Type 0 where
-  begins : (x : WorldState) → Traced x [] x
-  goes_on : (x y z : WorldState) (text : List ℕ) (event : Event) (did : Done) → Traced x text y
-      → HasDone y event did z
+-- These events, one after another, from one state of a world to another, and the lines that tell them: each is an event of
+-- every world of the machine that the state before it stands for.
+pub data Traced : WorldState → List Event → List ℕ → WorldState → Type 0 where
+  begins : (x : WorldState) → Traced x [] [] x
+  goes_on : (x y z : WorldState) (events : List Event) (text : List ℕ) (event : Event) (did : Done)
+      → Traced x events text y → HasDone y event did z
       → ((w : World) → StandsForWorld y w → MakesEvent y w event z)
-      → Traced x (text ++ trace_lines z event did) z
+      → Traced x (events ++ event ∷ []) (text ++ trace_lines z event did) z

@@ -3,6 +3,7 @@
 
 mod auditing;
 mod fault;
+mod frames;
 mod gate;
 mod halt;
 mod jobs;

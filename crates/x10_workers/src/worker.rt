@@ -1,9 +1,10 @@
 //! A worker: one place, and the turns that it makes.
 ghost use Rattle.std.specs.Prelude.{◌≡◌, ◌≢◌, ◌+◌, ◌<◌, ◌^◌, ◌++◌, ◌∷◌, [], true, false, IfOk, length, map};
 ghost use Rattle.x10_hall.specs.Halls.{frame_of, told};
-ghost use Rattle.x10_workers.specs.Trails.{frame_sent, frames_sent, TakesFrame, TakesEach, StepsEach};
+ghost use Rattle.x10_workers.specs.Trails.{TakesFrame, TakesEach, StepsEach};
 ghost use Rattle.x10_workers.specs.Workings.{AddsSteps, WorksOn, IsKeptWhole};
 
+use crate::frames::{numbers_of, put_sent, shared};
 use crate::gate::Gate;
 use crate::halt::Halt;
 use crate::lines::push_copies;
@@ -11,9 +12,8 @@ use crate::step_order::StepOrder;
 use crate::trail::{Kept, OwnTurn};
 use std::alloc::{AllocError, Global};
 use std::mem;
-use std::sync::Arc;
 use x10_hall::{End, Keys, Port, Posted, Take, Taken, Turn};
-use x10_place::{Line, Outgoing, Place, Sent, Stepped, Sweep};
+use x10_place::{Place, Stepped, Sweep};
 use x10_world::copied_lines;
 
 /// The most frames that a turn takes.
@@ -60,57 +60,6 @@ pub(crate) struct Worker<'a> {
     unposted: Vec<Turn>,
     /// Whether it has ended the run.
     has_ended: bool,
-}
-
-/// Puts out a frame, if there is one.
-fn put_frame(
-    alloc: Global,
-    frame: Option<Outgoing>,
-    frames: &mut Vec<Posted>,
-) -> Result<(), AllocError>
-    ensures { IfOk result (λ _. map frame_of frames.new.items
-        ≡ map frame_of frames.old.items ++ frame_sent frame) }
-{
-    let Some(frame) = frame else {
-        return Ok(());
-    };
-    let bytes = Arc::new(alloc, frame.bytes)?;
-    frames.push(Posted {
-        to: frame.to,
-        bytes,
-    })?;
-    Ok(())
-}
-
-/// Puts out what a step sent, the message first.
-fn put_sent(alloc: Global, sent: Sent, frames: &mut Vec<Posted>) -> Result<(), AllocError>
-    ensures { IfOk result (λ _. map frame_of frames.new.items
-        ≡ map frame_of frames.old.items ++ frames_sent sent) }
-{
-    put_frame(alloc, sent.message, frames)?;
-    put_frame(alloc, sent.report, frames)
-}
-
-/// The numbers of frames.
-fn numbers_of(alloc: Global, taken: &[Taken]) -> Result<Vec<u64>, AllocError> {
-    let mut numbers = Vec::with_capacity(alloc, taken.len())?;
-    for frame in taken {
-        numbers.push(frame.number)?;
-    }
-    Ok(numbers)
-}
-
-/// The same frames again, which share their bytes with the first ones.
-fn shared(alloc: Global, frames: &[Posted]) -> Result<Vec<Posted>, AllocError> {
-    let mut copies = Vec::with_capacity(alloc, frames.len())?;
-    for frame in frames {
-        let bytes = Arc::try_clone(&frame.bytes)?;
-        copies.push(Posted {
-            to: frame.to,
-            bytes,
-        })?;
-    }
-    Ok(copies)
 }
 
 /// Adds keys behind those of a turn.

@@ -7,7 +7,8 @@ use Rattle.x10_model.specs.Ranges.{function_at}
 use Rattle.x10_model.specs.Structure.{bounds_of}
 use Rattle.x10_model.specs.Values.{Value}
 use Rattle.x10_model.specs.Places as places
-use Rattle.x10_model.specs.Places.{Setting, Finish, Origin, Stay, Message, Spawn, Shift, Back}
+use Rattle.x10_model.specs.declared.finish.Finish.{Finish}
+use Rattle.x10_model.specs.Places.{Setting, Origin, Stay, Message, Spawn, Shift, Back}
 use Rattle.x10_model.specs.Moves.{new_stay, resumed}
 use Rattle.x10_model.specs.Deliveries.{Receives}
 use Rattle.x10_model.specs.Worlds.{Flying, Activity, World, book_with, entered}

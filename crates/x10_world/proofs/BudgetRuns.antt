@@ -6,7 +6,8 @@ use Rattle.x10_model.specs.Modules.{Module, Function}
 use Rattle.x10_model.specs.Ranges.{function_at}
 use Rattle.x10_model.specs.Structure.{bounds_of}
 use Rattle.x10_model.specs.Values.{Value}
-use Rattle.x10_model.specs.Places.{Setting, Finish, root, Origin, Stay}
+use Rattle.x10_model.specs.declared.finish.Finish.{Finish}
+use Rattle.x10_model.specs.Places.{Setting, root, Origin, Stay}
 use Rattle.x10_model.specs.Moves.{new_stay}
 use Rattle.x10_model.specs.Worlds as worlds
 use Rattle.x10_model.specs.Worlds.{World, WithinBounds, first_place, opening, Rule, Quiet, Happens, steps, delivers, idle, Run, done}

@@ -4,7 +4,8 @@ use Rattle.x10_kinds.specs.declared.stop.Stop.{Stop}
 use Rattle.x10_model.specs.Modules.{Module}
 use Rattle.x10_model.specs.declared.event.Event.{Event}
 use Rattle.x10_model.specs.declared.event.Event.TheVariants.{Step, Deliver}
-use Rattle.x10_model.specs.Places.{Finish, Setting}
+use Rattle.x10_model.specs.declared.finish.Finish.{Finish}
+use Rattle.x10_model.specs.Places.{Setting}
 use Rattle.x10_model.specs.Worlds.{World, Ideal, Happens, WithinBounds}
 use Rattle.x10_model.proofs.Events.{happens_right}
 use Rattle.x10_finish.specs.Detection.{Told}

@@ -13,7 +13,8 @@ use Rattle.x10_model.specs.declared.version.FrameVersion.TheVariants.{Wide}
 use Rattle.x10_model.specs.Frames.{Frame, FitsFrame}
 use Rattle.x10_model.specs.Marshalling.{message_of}
 use Rattle.x10_model.specs.Places as machine
-use Rattle.x10_model.specs.Places.{Finish, Message, root}
+use Rattle.x10_model.specs.declared.finish.Finish.{Finish}
+use Rattle.x10_model.specs.Places.{Message, root}
 use Rattle.x10_model.specs.Deliveries.{Receives}
 use Rattle.x10_model.specs.Totals.{Cut, Took, totals_after, reported}
 use Rattle.x10_model.specs.Worlds.{World, Flying, Taken, same_finish, book_with, Ideal, Happens, delivers, idle, not_flying, Delivers}
@@ -41,7 +42,8 @@ use Rattle.x10_world.proofs.FlightLemmas.{far_after, references_on, flies_fewer}
 use Rattle.x10_place.proofs.KnownExports.{IsKnown, far_grows}
 use Rattle.x10_world.proofs.LinkDeliveries.{answered_after_delivery}
 use Rattle.x10_world.proofs.Lists.{set_here, set_either}
-use Rattle.x10_world.proofs.PostedFrames.{same_self, not_due, due_at}
+use Rattle.x10_model.proofs.SameFinishes.{same_self}
+use Rattle.x10_world.proofs.PostedFrames.{not_due, due_at}
 
 -- ---- what a frame brings
 

@@ -8,7 +8,8 @@ use Rattle.x10_model.specs.Modules.{Module}
 use Rattle.x10_model.specs.Values.{Value, Int, Place, Text, Rail, Object, Null, Ref}
 use Rattle.x10_model.specs.Copies.{Snapshot}
 use Rattle.x10_model.specs.Places as machine
-use Rattle.x10_model.specs.Places.{Finish, Message, receiver}
+use Rattle.x10_model.specs.declared.finish.Finish.{Finish}
+use Rattle.x10_model.specs.Places.{Message, receiver}
 use Rattle.x10_model.specs.Worlds.{World, Unused, Flying}
 use Rattle.x10_model.specs.Wrong.{graph_of}
 use Rattle.x10_model.proofs.Lists.{none_some}

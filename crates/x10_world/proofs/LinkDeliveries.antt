@@ -6,7 +6,8 @@ use Rattle.std.proofs.lemmas.Option.{same_Some}
 use Rattle.x10_model.specs.Maps.{with_entry, with_pair}
 use Rattle.x10_model.specs.Values.{Value}
 use Rattle.x10_model.specs.Places as places
-use Rattle.x10_model.specs.Places.{Setting, Finish, root, CallFrame, Origin, Stay, Message, Spawn, Shift, Back}
+use Rattle.x10_model.specs.declared.finish.Finish.{Finish}
+use Rattle.x10_model.specs.Places.{Setting, root, CallFrame, Origin, Stay, Message, Spawn, Shift, Back}
 use Rattle.x10_model.specs.Moves.{new_stay, resumed}
 use Rattle.x10_model.specs.Deliveries.{Receives}
 use Rattle.x10_model.specs.Worlds.{Flying, Net, Book, World, first_place, empty_place}

@@ -11,7 +11,8 @@ use Rattle.x10_model.specs.Ranges.{function_at, instr_in}
 use Rattle.x10_model.specs.Values.{Value, Place}
 use Rattle.x10_model.specs.Copies.{Snapshot, Captures}
 use Rattle.x10_model.specs.Places as places
-use Rattle.x10_model.specs.Places.{Setting, Finish, CallFrame, Origin, Stay, Message, Spawn, Shift, innermost, Effect, Waits, Works, Begins, Spawns, Shifts, Opens, Closes, Ends, next}
+use Rattle.x10_model.specs.declared.finish.Finish.{Finish}
+use Rattle.x10_model.specs.Places.{Setting, CallFrame, Origin, Stay, Message, Spawn, Shift, innermost, Effect, Waits, Works, Begins, Spawns, Shifts, Opens, Closes, Ends, next}
 use Rattle.x10_model.specs.Moves.{Situation, Holds, Passes, GivesBack, SendsBack, new_stay, resumed}
 use Rattle.x10_model.specs.Deliveries.{FitsFunctionAt}
 use Rattle.x10_model.specs.Worlds.{Net, sent, net_after}

@@ -17,7 +17,8 @@ use Rattle.x10_model.specs.Values.{Value, Int, Place, Text, Rail, Object, Null, 
 use Rattle.x10_model.specs.Signatures.{FitSlots}
 use Rattle.x10_model.specs.Copies.{Snapshot, IsOfKindIn}
 use Rattle.x10_model.specs.Places as machine
-use Rattle.x10_model.specs.Places.{Finish, Stay, Message, Spawn, Shift, Back, receiver}
+use Rattle.x10_model.specs.declared.finish.Finish.{Finish}
+use Rattle.x10_model.specs.Places.{Stay, Message, Spawn, Shift, Back, receiver}
 use Rattle.x10_model.specs.Deliveries.{FitsClasses, IsExported, FitsPlace, FitsFunctionAt, FitsResultAt}
 use Rattle.x10_model.specs.Worlds.{World, IsUnder}
 use Rattle.x10_model.specs.Wrong as wrong

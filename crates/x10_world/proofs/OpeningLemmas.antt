@@ -5,7 +5,8 @@ use Rattle.std.proofs.lemmas.Bool.{eqb-true, eqb-false, ne_eqb, lt-ltb, ltb-true
 use Rattle.std.proofs.lemmas.Option.{same_Some, slice_get_within}
 use Rattle.x10_model.specs.Structure.{bounds_of}
 use Rattle.x10_model.specs.Places as machine
-use Rattle.x10_model.specs.Places.{Setting, Finish, Message, root}
+use Rattle.x10_model.specs.declared.finish.Finish.{Finish}
+use Rattle.x10_model.specs.Places.{Setting, Message, root}
 use Rattle.x10_model.specs.Totals.{nothing, zeros, first_totals}
 use Rattle.x10_model.specs.Worlds.{Unused, Flying, same_finish, first_place, empty_place, opening}
 use Rattle.x10_model.proofs.Lists.{none_some, below_some, last_or_before}

@@ -6,7 +6,8 @@ use Rattle.x10_model.specs.Maps.{with_entry}
 use Rattle.x10_model.specs.Modules.{Module}
 use Rattle.x10_model.specs.Frames.{to_of}
 use Rattle.x10_model.specs.Places as machine
-use Rattle.x10_model.specs.Places.{Finish, Message, Effect, Waits, Works, Begins, Spawns, Shifts, Opens, Closes, Ends, receiver}
+use Rattle.x10_model.specs.declared.finish.Finish.{Finish}
+use Rattle.x10_model.specs.Places.{Message, Effect, Waits, Works, Begins, Spawns, Shifts, Opens, Closes, Ends, receiver}
 use Rattle.x10_model.specs.Totals.{Totals, Did, is_reported, reported}
 use Rattle.x10_model.specs.Worlds.{World, Flying, posts_after, same_finish}
 use Rattle.x10_model.specs.Wrong.{graph_of}
@@ -15,7 +16,7 @@ use Rattle.x10_heap.specs.Words.{export_as, has_class, is_named}
 use Rattle.x10_copy.proofs.TestLemmas.{named_tells}
 use Rattle.x10_finish.specs.Detection.{Told}
 use Rattle.x10_finish.specs.Telling.{GoesTo}
-use Rattle.x10_finish.proofs.Ledgers.{same_is}
+use Rattle.x10_model.proofs.SameFinishes.{same_is, same_self}
 use Rattle.x10_place.specs.declared.sent.Outgoing.{Outgoing}
 use Rattle.x10_place.specs.Messages.{Carries, CarriesReport, SendsMessage, IsReportSent}
 use Rattle.x10_place.specs.Stays.{StoreState}
@@ -108,9 +109,6 @@ both_left false b e = absurd cc
 
 not_both : (b : Bool) → b ≡ true → b ≡ false → ⊥
 not_both b e f = cc
-
-pub same_self : (f g : Finish) → f ≡ g → same_finish f g ≡ true
-same_self f g e = ap (same_finish f) (sym e) ∙ rw (eq-eqb f.home f.home refl, eq-eqb f.number f.number refl) refl
 
 -- a move has one report at most
 reported_once : (here : ℕ) (effect : Effect) (f g : Finish) (t u : Totals) → is_reported here f t (Did effect) ≡ true

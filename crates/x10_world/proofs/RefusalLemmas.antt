@@ -7,7 +7,8 @@ use Rattle.x10_kinds.specs.declared.limit.Limit.{Limit}
 use Rattle.x10_model.specs.declared.slot.Slot.{Slot}
 use Rattle.x10_model.specs.Modules.{Module}
 use Rattle.x10_model.specs.Places as machine
-use Rattle.x10_model.specs.Places.{Finish, Message, receiver}
+use Rattle.x10_model.specs.declared.finish.Finish.{Finish}
+use Rattle.x10_model.specs.Places.{Message, receiver}
 use Rattle.x10_model.specs.Frames as frames
 use Rattle.x10_model.specs.declared.version.FrameVersion.TheVariants.{Wide}
 use Rattle.x10_model.specs.Frames.{Frame, Graph, FitsFrame, IsSpelled, to_of}

@@ -6,7 +6,7 @@ use Rattle.std.proofs.lemmas.Bool.{cases_eq}
 use Rattle.std.proofs.lemmas.List.{length-set}
 use Rattle.x10_model.specs.Modules.{Module}
 use Rattle.x10_model.specs.Places as machine
-use Rattle.x10_model.specs.Places.{Finish}
+use Rattle.x10_model.specs.declared.finish.Finish.{Finish}
 use Rattle.x10_model.specs.Worlds.{World}
 use Rattle.x10_model.proofs.Lists.{none_some, set_off}
 use Rattle.x10_finish.specs.Detection.{Told}

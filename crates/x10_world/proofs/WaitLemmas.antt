@@ -5,7 +5,8 @@ use Rattle.std.proofs.lemmas.Option.{same_Some, slice_get_within}
 use Rattle.x10_code.specs.declared.op.Op.{Op}
 use Rattle.x10_model.specs.Modules.{Module}
 use Rattle.x10_model.specs.Places as machine
-use Rattle.x10_model.specs.Places.{Setting, Finish, Stay, IsFree, Effect, Waits, Closes}
+use Rattle.x10_model.specs.declared.finish.Finish.{Finish}
+use Rattle.x10_model.specs.Places.{Setting, Stay, IsFree, Effect, Waits, Closes}
 use Rattle.x10_model.specs.Moves.{Situation, Moves}
 use Rattle.x10_model.specs.Worlds.{World}
 use Rattle.x10_finish.specs.Closing.{IsAtItsEnd}

@@ -1,7 +1,8 @@
 -- Waits at the end of a finish that aren't longer than they have to be.
 use Rattle.std.specs.Prelude.{◌≡◌, ℕ, List, false, ◌∷◌, Some}
 use Rattle.x10_model.specs.declared.event.Event.{Event}
-use Rattle.x10_model.specs.Places.{Setting, Finish, Stay, Waits}
+use Rattle.x10_model.specs.declared.finish.Finish.{Finish}
+use Rattle.x10_model.specs.Places.{Setting, Stay, Waits}
 use Rattle.x10_model.specs.Worlds.{World, Rule, Happens, steps, delivers, idle, HasEnded}
 use Rattle.x10_finish.specs.Nesting.{stays_of}
 use Rattle.x10_finish.specs.Watching.{NothingFlies}

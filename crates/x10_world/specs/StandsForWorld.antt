@@ -11,7 +11,8 @@ use Rattle.x10_model.specs.Structure.{bounds_of}
 use Rattle.x10_model.specs.declared.event.Event.{Event}
 use Rattle.x10_model.specs.declared.event.Event.TheVariants.{Step, Deliver}
 use Rattle.x10_model.specs.Places as machine
-use Rattle.x10_model.specs.Places.{Setting, Finish, Message, receiver, Waits}
+use Rattle.x10_model.specs.declared.finish.Finish.{Finish}
+use Rattle.x10_model.specs.Places.{Setting, Message, receiver, Waits}
 use Rattle.x10_model.specs.Totals.{Totals, Cut, Report, nothing, zeros, reported}
 use Rattle.x10_model.specs.Worlds.{World, Unused, Flying, same_finish, Ideal, Happens, Steps}
 use Rattle.x10_model.specs.Wrong.{graph_of}

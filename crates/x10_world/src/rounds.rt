@@ -15,6 +15,7 @@ use x10_kinds::Stop;
 use x10_model::Event;
 
 mod drive;
+mod events;
 
 pub use drive::run_rounds;
 

@@ -1,21 +1,41 @@
 //! Makes the events of rounds, and doesn't try steps that are known to be idle.
-ghost use Rattle.std.specs.Prelude.{◌≡◌, ◌≢◌, ◌<◌, ◌≤◌, ℕ, true, false, IfOk, IfErr, MatchResult, Err, length};
+ghost use Rattle.std.specs.Prelude.{◌≡◌, ◌≢◌, ◌≤◌, ℕ, true, IfOk, IfErr, Err};
 ghost use Rattle.x10_kinds.specs.declared.stop.Stop.TheVariants as stop;
 ghost use Rattle.x10_world.specs.declared.rounds.Unfinished.TheVariants as halt;
 ghost use Rattle.x10_world.specs.Queries.{IsClosed};
-ghost use Rattle.x10_world.specs.Rounds.{NoneIsLeft, RunsTo, IsCut, IsHalted, HasMade, Advances, AdvancesOrEnds};
-ghost use Rattle.x10_world.specs.Runs.{IsSameWorld};
+ghost use Rattle.x10_world.specs.Rounds.{NoneIsLeft, RunsTo, IsHalted, HasMade, Advances, AdvancesOrEnds};
 
+use crate::rounds::events::{beside, make, sweep_first};
 use crate::rounds::{Phase, Rounds, Unfinished};
-use crate::world::{Swept, World};
+use crate::world::World;
 use std::alloc::{AllocError, Global};
 use x10_model::Event;
 
+/// A part of a turn.
+#[derive(Clone, Copy)]
+enum Part {
+    /// The frames that it takes in.
+    Frames,
+    /// Its steps, one after another.
+    Steps,
+    /// Its steps, all in one go.
+    Sweeps,
+}
+
 impl Rounds {
+    /// Whether the turn has not begun its steps, and has a frame to take in or a step to make.
+    #[inline(always)]
+    fn is_ahead(&self, world: &World) -> bool {
+        let Phase::TakesIn = self.phase else {
+            return false;
+        };
+        world.live(self.place) > 0 || world.first_frame(self.place).is_some()
+    }
+
     /// Where the turn is over, begins that of the next busy place, if there is one.
     #[inline(always)]
     fn pass(&mut self, world: &World) {
-        if let Phase::TakesIn = self.phase {
+        if self.is_ahead(world) {
             return;
         }
         if let Some(place) = world.busy_after(self.place) {
@@ -89,7 +109,7 @@ impl Rounds {
         requires some { 1 ≤ left }
         ensures made { Advances world.old left result world.new }
     {
-        let made = self.take_in(world, left)?;
+        let made = self.make_each(world, Part::Frames, left)?;
         if made > 0 {
             return Ok(made);
         }
@@ -103,47 +123,10 @@ impl Rounds {
         requires some { 1 ≤ left }
         ensures made { Advances world.old left result world.new }
     {
-        self.begin_sweep(world)?;
-        self.sweep(world, left)
-    }
-
-    /// Takes in the frames that are in flight to the place whose turn it is, up to one that leaves place 0 empty, and answers
-    /// how many.
-    #[inline(always)]
-    fn take_in(&mut self, world: &mut World, left: u64) -> Result<u64, Unfinished>
-        requires going { world.old.stopped ≢ true }
-        requires some { 1 ≤ left }
-        ensures made { Advances world.old left result world.new }
-    {
-        let Phase::TakesIn = self.phase else {
+        if !self.begin_sweep(world)? {
             return Ok(0);
-        };
-        let mut made = 0;
-        for _ in 0..left {
-            let Some(number) = world.first_frame(self.place) else {
-                return Ok(made);
-            };
-            self.watch(world, self.place);
-            made += self.deliver(world, number, left - made)?;
-            self.look(world)?;
-            if made == left || (self.place == 0 && world.home_is_empty()) {
-                return Ok(made);
-            }
         }
-        Ok(made)
-    }
-
-    /// Takes a frame in, and answers that this was one event.
-    #[inline(always)]
-    fn deliver(&mut self, world: &mut World, number: u64, left: u64) -> Result<u64, Unfinished>
-        requires going { world.old.stopped ≢ true }
-        requires some { 1 ≤ left }
-        ensures made { Advances world.old left result world.new }
-        ensures some { IfOk result (λ made. 1 ≤ made) }
-    {
-        make(world, Event::Deliver(number))?;
-        self.lull.forget();
-        Ok(1)
+        self.make_sweeps(world, left)
     }
 
     /// Makes the steps that are left of a turn, or some of them, and answers how many events these are.
@@ -154,39 +137,116 @@ impl Rounds {
         ensures made { Advances world.old left result world.new }
     {
         if self.lull.has_several() {
-            return self.sweep(world, left);
+            return self.make_sweeps(world, left);
         }
-        self.make_steps(world, left)
+        self.make_each(world, Part::Steps, left)
     }
 
-    /// Begins the steps of a turn that has taken in all frames, where several activities move.
+    /// Begins the steps of a turn that has taken in all frames, where several activities move. Answers whether they do.
     #[inline(always)]
-    fn begin_sweep(&mut self, world: &World) -> Result<(), AllocError> {
+    fn begin_sweep(&mut self, world: &World) -> Result<bool, AllocError> {
         let Phase::TakesIn = self.phase else {
-            return Ok(());
+            return Ok(false);
         };
         if !self.lull.has_several() {
-            return Ok(());
+            return Ok(false);
         }
         self.recall(world)?;
         self.phase = Phase::Steps(0);
-        Ok(())
+        Ok(true)
     }
 
-    /// Where several activities move, makes the steps that are left of a turn, up to one that begins or ends an activity or puts
-    /// out a frame. Answers how many events these are.
+    /// Where several activities move, makes the steps that are left of a turn, and those of the turns after it while these are of
+    /// the same activities, up to one that begins or ends an activity or puts out a frame. Answers how many events these are.
     #[inline(never)]
-    fn sweep(&mut self, world: &mut World, left: u64) -> Result<u64, Unfinished>
+    fn make_sweeps(&mut self, world: &mut World, left: u64) -> Result<u64, Unfinished>
         requires going { world.old.stopped ≢ true }
         requires some { 1 ≤ left }
         ensures made { Advances world.old left result world.new }
     {
-        let Phase::Steps(from) = self.phase else {
+        self.make_each(world, Part::Sweeps, left)
+    }
+
+    /// Makes what there is of one part of a turn, up to an event that leaves place 0 empty. Answers how many events these are.
+    #[inline(always)]
+    fn make_each(&mut self, world: &mut World, part: Part, left: u64) -> Result<u64, Unfinished>
+        requires going { world.old.stopped ≢ true }
+        requires some { 1 ≤ left }
+        ensures made { Advances world.old left result world.new }
+    {
+        let mut made = 0;
+        for _ in 0..left {
+            let more = self.make_some(world, part, left - made)?;
+            made += more;
+            if more == 0 {
+                return Ok(made);
+            }
+            self.look(world)?;
+            if made == left || (self.place == 0 && world.home_is_empty()) {
+                return Ok(made);
+            }
+        }
+        Ok(made)
+    }
+
+    /// Makes the next event of a part of a turn, or more of them; none where there is none. Answers how many events these are.
+    #[inline(always)]
+    fn make_some(&mut self, world: &mut World, part: Part, left: u64) -> Result<u64, Unfinished>
+        requires going { world.old.stopped ≢ true }
+        requires some { 1 ≤ left }
+        ensures made { Advances world.old left result world.new }
+    {
+        match part {
+            Part::Frames => self.take_next(world, left),
+            Part::Steps => self.step_next(world, left),
+            Part::Sweeps => self.sweep_next(world, left),
+        }
+    }
+
+    /// Takes in the first frame that is in flight to the place whose turn it is. Answers how many events this is.
+    #[inline(always)]
+    fn take_next(&mut self, world: &mut World, left: u64) -> Result<u64, Unfinished>
+        requires going { world.old.stopped ≢ true }
+        requires some { 1 ≤ left }
+        ensures made { Advances world.old left result world.new }
+    {
+        let Phase::TakesIn = self.phase else {
             return Ok(0);
         };
-        if !self.lull.has_several() {
+        let Some(number) = world.first_frame(self.place) else {
             return Ok(0);
-        }
+        };
+        self.watch(world, self.place);
+        make(world, Event::Deliver(number))?;
+        self.lull.forget();
+        Ok(1)
+    }
+
+    /// Makes the next step of a turn, or a stretch of them. Answers how many events these are.
+    #[inline(always)]
+    fn step_next(&mut self, world: &mut World, left: u64) -> Result<u64, Unfinished>
+        requires going { world.old.stopped ≢ true }
+        requires some { 1 ≤ left }
+        ensures made { Advances world.old left result world.new }
+    {
+        let Some(event) = self.step(world) else {
+            return Ok(0);
+        };
+        self.watch(world, self.place);
+        self.make_event(world, event, left)
+    }
+
+    /// Makes the steps that are left of a turn, up to one that begins or ends an activity or puts out a frame; where none is left and
+    /// the next turn is of the same activities, its steps. Answers how many events these are.
+    #[inline(always)]
+    fn sweep_next(&mut self, world: &mut World, left: u64) -> Result<u64, Unfinished>
+        requires going { world.old.stopped ≢ true }
+        requires some { 1 ≤ left }
+        ensures made { Advances world.old left result world.new }
+    {
+        let Some(from) = self.first_to_sweep(world) else {
+            return Ok(0);
+        };
         self.watch(world, self.place);
         if from >= self.keys.len() {
             return Ok(0);
@@ -198,29 +258,35 @@ impl Rounds {
         Ok(swept.made as u64)
     }
 
-    /// Makes the steps that are left of a turn, up to one that leaves place 0 empty, and answers how many events.
+    /// From which position of the turn's list of keys on a sweep makes steps, where several activities move.
     #[inline(always)]
-    fn make_steps(&mut self, world: &mut World, left: u64) -> Result<u64, Unfinished>
-        requires going { world.old.stopped ≢ true }
-        requires some { 1 ≤ left }
-        ensures made { Advances world.old left result world.new }
-    {
+    fn first_to_sweep(&self, world: &World) -> Option<usize> {
         let Phase::Steps(from) = self.phase else {
-            return Ok(0);
+            return None;
         };
-        let mut made = 0;
-        for _ in from..self.keys.len() {
-            let Some(event) = self.step(world) else {
-                return Ok(made);
-            };
-            self.watch(world, self.place);
-            made += self.make_event(world, event, left - made)?;
-            self.look(world)?;
-            if made == left || (self.place == 0 && world.home_is_empty()) {
-                return Ok(made);
-            }
+        if !self.lull.has_several() {
+            return None;
         }
-        Ok(made)
+        if from < self.keys.len() {
+            return Some(from);
+        }
+        if self.comes_round(world) {
+            Some(0)
+        } else {
+            None
+        }
+    }
+
+    /// Where a turn is over, whether the next one is of the same place and activities, and has nothing to take in.
+    #[inline(always)]
+    fn comes_round(&self, world: &World) -> bool {
+        let Some(list) = self.lists.get(usize::from(self.place)) else {
+            return false;
+        };
+        list.fresh.is_empty()
+            && self.keys.len() == world.live(self.place)
+            && world.first_frame(self.place).is_none()
+            && world.busy_after(self.place) == Some(self.place)
     }
 
     /// Makes the steps of a turn that has taken in all frames. Where there is none to make, the next event, wherever it is.
@@ -251,7 +317,7 @@ impl Rounds {
             return Ok(0);
         }
         self.begin_steps(world)?;
-        self.make_steps(world, left)
+        self.make_each(world, Part::Steps, left)
     }
 
     /// Makes the next event, or more.
@@ -293,79 +359,6 @@ impl Rounds {
         }
         Ok(1)
     }
-}
-
-/// Makes one event, and answers whether it did anything.
-#[inline(always)]
-fn make(world: &mut World, event: Event) -> Result<bool, Unfinished>
-    requires going { world.old.stopped ≢ true }
-    ensures made { IfOk result (λ _. HasMade world.old 1 1 world.new) }
-    ensures idle { IfOk result (λ moved. moved ≡ false → IsSameWorld world.old world.new) }
-    ensures cut { IfErr result (λ why. (limit : ℕ) → IsCut world.old limit world.new why) }
-{
-    let moved = world.make_one(event)?;
-    Ok(moved)
-}
-
-/// A step of an activity, by its place and key, where it is rarely made.
-#[inline(never)]
-fn try_step(world: &mut World, activity: (u16, usize)) -> Result<bool, Unfinished>
-    requires going { world.old.stopped ≢ true }
-    ensures made { IfOk result (λ _. HasMade world.old 1 1 world.new) }
-    ensures idle { IfOk result (λ moved. moved ≡ false → IsSameWorld world.old world.new) }
-    ensures cut { IfErr result (λ why. (limit : ℕ) → IsCut world.old limit world.new why) }
-{
-    make(world, Event::Step(activity.0, activity.1))
-}
-
-/// A step of each of the activities of a place with the first of some keys, at most `left`, up to one that begins or ends an
-/// activity or puts out a frame.
-#[inline(always)]
-fn sweep_first(
-    world: &mut World,
-    place: u16,
-    keys: &[usize],
-    left: u64,
-) -> Result<Swept, Unfinished>
-    requires going { world.old.stopped ≢ true }
-    ensures made { MatchResult result (λ swept. HasMade world.old left swept.made world.new)
-        (IsCut world.old left world.new) }
-    ensures few { IfOk result (λ swept. swept.made ≤ length keys.now) }
-{
-    let most = keys.len().min(left as usize);
-    if most == 0 {
-        return Ok(Swept { made: 0, moved: 0 });
-    }
-    let swept = world.sweep(place, &keys[..most])?;
-    Ok(swept)
-}
-
-/// Steps of an activity in one stretch, with the idle steps of the others between them, and answers how many events these
-/// are: a round has `round` of them, and `waiter` is one of the others. Only its idle step is tried. Where it isn't idle, or
-/// the activity can't move, one event was made.
-#[inline(never)]
-fn beside(
-    world: &mut World,
-    activity: (u16, usize),
-    waiter: (u16, usize),
-    round: u64,
-    left: u64,
-) -> Result<u64, Unfinished>
-    requires going { world.old.stopped ≢ true }
-    requires some { 1 ≤ left }
-    requires others { 1 < round }
-    ensures made { Advances world.old left result world.new }
-    ensures some { IfOk result (λ made. 1 ≤ made) }
-{
-    if try_step(world, waiter)? {
-        return Ok(1);
-    }
-    let steps = world.run_activity(activity.0, activity.1, left.div_ceil(round))?;
-    if steps == 0 {
-        try_step(world, activity)?;
-        return Ok(1);
-    }
-    Ok((steps - 1) * round + 1)
 }
 
 /// Runs a world in rounds until the run has ended, with at most `limit` events, idle ones included: those of `Rounds`, one

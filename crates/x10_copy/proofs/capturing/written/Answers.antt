@@ -10,6 +10,6 @@ returns-clause-value c =
     (kinds_of c.args.slots.now) c.args.words.now)
     c.requires.graph
     (drafted c.args.head.now c.args.image.now.classes c.args.heap.now c.args.marks.now (kinds_of c.args.slots.now) c.args.words.now _ _ _ _
-    c.in_ok-writer.writer c.in_ok-writer-2.writer c.in_ok-writer-3.writer c.in_ok-writer-4.writer c.in_ok-writer-5.writer
-    c.requires.words refl c.texts.ensures.value c.rails.ensures.value c.objects.ensures.value c.in_ok-writer.ensures.value c.in_ok-writer-2.ensures
-    c.in_ok-writer-3.ensures.value c.in_ok-writer-4.ensures.value c.in_ok-writer-5.ensures)
+    c.in_ok-writer.writer c.put_roots.new.writer c.put_texts.new.writer c.put_rails.new.writer c.put_objects.new.writer
+    c.requires.words refl c.texts.ensures.value c.rails.ensures.value c.objects.ensures.value c.in_ok-writer.ensures.value c.in_ok-put_roots.ensures
+    c.in_ok-put_texts.ensures.value c.in_ok-put_rails.ensures.value c.in_ok-put_objects.ensures)

@@ -19,11 +19,11 @@ item-requires-clause-found c = found_at c.args.marks.now c.args.class.now c.args
     (slice_get-get_or c.args.words.now c.loop-j.j 0 c.loop-j-test.true)
 
 pub loop-j-preserved : goal.loop-j-preserved
-loop-j-preserved c = one_item c.args.marks.now c.args.class.now c.args.words.now c.loop-j.j _ _ c.args.writer c.loop-j.writer c.in_ok-writer.writer _
+loop-j-preserved c = one_item c.args.marks.now c.args.class.now c.args.words.now c.loop-j.j _ _ c.args.writer.now c.loop-j.writer c.value.new.self _
     c.loop-j.invariant c.field.ensures.value
-    (slice_get-get_or c.args.words.now c.loop-j.j 0 c.loop-j-test.true) c.item.ensures c.in_ok-writer.ensures.value
+    (slice_get-get_or c.args.words.now c.loop-j.j 0 c.loop-j-test.true) c.item.ensures c.in_ok-value.ensures.value
 
 pub returns : goal.returns
-returns c = left_end (item_bytes Wide) c.args.writer (items_of c.args.marks.now c.args.class.now c.args.words.now) c.loop-j.writer _
+returns c = left_end (item_bytes Wide) c.args.writer.now (items_of c.args.marks.now c.args.class.now c.args.words.now) c.loop-j.writer _
     c.loop-j.invariant
     (items_end c.args.marks.now c.args.class.now c.args.words.now c.loop-j.j c.loop-j-test.false)

@@ -13,14 +13,14 @@ loop-i-preserved c =
     let here : FitsRail (rail_at c.args.heap.now (get_or c.args.marks.now.rails c.loop-i.i 0)) =
     rw (← c.rail.ensures, ← is) c.rail-in-loop-i.ensures.fits in
     record {
-      left = part_next blob_bytes (rail_at c.args.heap.now) c.args.marks.now.rails c.loop-i.i c.rail.result c.args.writer c.loop-i.writer
-          c.in_ok-writer.writer c.rail-in-loop-i.result.now
-          c.loop-i.invariant.left lt c.rail.ensures is c.in_ok-writer.ensures.value;
+      left = part_next blob_bytes (rail_at c.args.heap.now) c.args.marks.now.rails c.loop-i.i c.rail.result c.args.writer.now c.loop-i.writer
+          c.rail-in-loop-i-2.new.self c.rail-in-loop-i.result.now
+          c.loop-i.invariant.left lt c.rail.ensures is c.in_ok-rail.ensures.value;
       fit = below_more (λ (j : ℕ). FitsRail (rail_at c.args.heap.now (get_or c.args.marks.now.rails j 0))) c.loop-i.i c.loop-i.invariant.fit here;
     }
 
 pub returns-clause-value : goal.returns-clause-value
-returns-clause-value c = part_end blob_bytes (rail_at c.args.heap.now) c.args.marks.now.rails c.loop-i.i c.args.writer c.loop-i.writer
+returns-clause-value c = part_end blob_bytes (rail_at c.args.heap.now) c.args.marks.now.rails c.loop-i.i c.args.writer.now c.loop-i.writer
     c.loop-i.invariant.left
     (omega (arith, c.loop-i-test.false, c.rails-i-end.ensures.value))
 

@@ -7,6 +7,6 @@ use Rattle.x10_copy.proofs.put.put_rails.Given as goal
 
 abbrev pub invariant-loop-i : goal.invariant-loop-i
 invariant-loop-i l = record {
-  left : IsLeft blob_bytes l.fn.writer (map (rail_at l.heap) l.marks.rails) l.writer (map (rail_at l.heap) (drop l.i l.marks.rails));
+  left : IsLeft blob_bytes l.initial.writer (map (rail_at l.heap) l.marks.rails) l.writer (map (rail_at l.heap) (drop l.i l.marks.rails));
   fit : (j : ℕ) → j < l.i → FitsRail (rail_at l.heap (get_or l.marks.rails j 0));
 }

@@ -21,13 +21,13 @@ item-requires-clause-found c = found_at c.args.marks.now (kinds_of c.args.slots.
     (slice_get-get_or c.args.words.now c.loop-i.i 0 c.loop-i-test.true)
 
 pub loop-i-preserved : goal.loop-i-preserved
-loop-i-preserved c = one_item c.args.marks.now (kinds_of c.args.slots.now) c.args.words.now c.loop-i.i _ _ c.args.writer c.loop-i.writer
-    c.in_ok-writer.writer
+loop-i-preserved c = one_item c.args.marks.now (kinds_of c.args.slots.now) c.args.words.now c.loop-i.i _ _ c.args.writer.now c.loop-i.writer
+    c.value.new.self
     _ c.loop-i.invariant
     (kind_at c.args.slots.now c.loop-i.i _ (slot_there c.args.slots.now c.args.words.now c.loop-i.i c.requires.words c.loop-i-test.true))
-    (slice_get-get_or c.args.words.now c.loop-i.i 0 c.loop-i-test.true) c.item.ensures c.in_ok-writer.ensures.value
+    (slice_get-get_or c.args.words.now c.loop-i.i 0 c.loop-i-test.true) c.item.ensures c.in_ok-value.ensures.value
 
 pub returns : goal.returns
-returns c = left_end (item_bytes Wide) c.args.writer (items_of c.args.marks.now (kinds_of c.args.slots.now) c.args.words.now) c.loop-i.writer _
+returns c = left_end (item_bytes Wide) c.args.writer.now (items_of c.args.marks.now (kinds_of c.args.slots.now) c.args.words.now) c.loop-i.writer _
     c.loop-i.invariant
     (items_end c.args.marks.now (kinds_of c.args.slots.now) c.args.words.now c.loop-i.i c.loop-i-test.false)

@@ -7,5 +7,5 @@ use Rattle.x10_copy.proofs.WrittenLemmas.{IsLeft}
 use Rattle.x10_copy.proofs.put.put_roots.Given as goal
 
 abbrev pub invariant-loop-i : goal.invariant-loop-i
-invariant-loop-i l = IsLeft (item_bytes Wide) l.fn.writer (items_of l.marks (kinds_of l.slots) l.words) l.writer
+invariant-loop-i l = IsLeft (item_bytes Wide) l.initial.writer (items_of l.marks (kinds_of l.slots) l.words) l.writer
     (items_of l.marks (drop l.i (kinds_of l.slots)) (drop l.i l.words))

@@ -13,14 +13,14 @@ loop-i-preserved c =
     let here : FitsText (text_at c.args.heap.now (get_or c.args.marks.now.texts c.loop-i.i 0)) =
     rw (← c.text.ensures, ← is) c.text-in-loop-i.ensures.fits in
     record {
-      left = part_next blob_bytes (text_at c.args.heap.now) c.args.marks.now.texts c.loop-i.i c.text.result c.args.writer c.loop-i.writer
-          c.in_ok-writer.writer c.text-in-loop-i.result.now
-          c.loop-i.invariant.left lt c.text.ensures is c.in_ok-writer.ensures.value;
+      left = part_next blob_bytes (text_at c.args.heap.now) c.args.marks.now.texts c.loop-i.i c.text.result c.args.writer.now c.loop-i.writer
+          c.text-in-loop-i-2.new.self c.text-in-loop-i.result.now
+          c.loop-i.invariant.left lt c.text.ensures is c.in_ok-text.ensures.value;
       fit = below_more (λ (j : ℕ). FitsText (text_at c.args.heap.now (get_or c.args.marks.now.texts j 0))) c.loop-i.i c.loop-i.invariant.fit here;
     }
 
 pub returns-clause-value : goal.returns-clause-value
-returns-clause-value c = part_end blob_bytes (text_at c.args.heap.now) c.args.marks.now.texts c.loop-i.i c.args.writer c.loop-i.writer
+returns-clause-value c = part_end blob_bytes (text_at c.args.heap.now) c.args.marks.now.texts c.loop-i.i c.args.writer.now c.loop-i.writer
     c.loop-i.invariant.left
     (omega (arith, c.loop-i-test.false, c.texts-i-end.ensures.value))
 

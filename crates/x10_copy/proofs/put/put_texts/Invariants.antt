@@ -7,6 +7,6 @@ use Rattle.x10_copy.proofs.put.put_texts.Given as goal
 
 abbrev pub invariant-loop-i : goal.invariant-loop-i
 invariant-loop-i l = record {
-  left : IsLeft blob_bytes l.fn.writer (map (text_at l.heap) l.marks.texts) l.writer (map (text_at l.heap) (drop l.i l.marks.texts));
+  left : IsLeft blob_bytes l.initial.writer (map (text_at l.heap) l.marks.texts) l.writer (map (text_at l.heap) (drop l.i l.marks.texts));
   fit : (j : ℕ) → j < l.i → FitsText (text_at l.heap (get_or l.marks.texts j 0));
 }

@@ -6,13 +6,13 @@ use Rattle.x10_finish.proofs.book.Book.balances.Goals as goal
 
 pub returns-then-self-ne0 : goal.returns-then-self-ne0
 returns-then-self-ne0 c own s r =
-    subst (λ b. IsTrue false ↔ IsBalanced b.places (seen_from b.home (entry_of own) (kept_of b))) c.self.view_is
+    subst (λ b. IsTrue false ↔ IsBalanced b.places (seen_from b.finish.home (entry_of own) (kept_of b))) c.self.view_is
     (no_iff (λ b. c.if-self-ne0.true (c.self.invariant.counted
     ∙ balanced_zero c.self.inside.finish.home c.self.inside.places c.self.inside.pairs.items (entry_of own) b)))
 
 pub returns-then-not-agrees : goal.returns-then-not-agrees
 returns-then-not-agrees c own s r =
-    subst (λ b. IsTrue false ↔ IsBalanced b.places (seen_from b.home (entry_of own) (kept_of b))) c.self.view_is
+    subst (λ b. IsTrue false ↔ IsBalanced b.places (seen_from b.finish.home (entry_of own) (kept_of b))) c.self.view_is
     (no_iff (λ b. apart_unbalanced c.self.inside.finish.home c.self.inside.places c.from-hint.result c.self.inside.pairs.items (entry_of own)
     c.args.sent.now c.args.received.now c.from-home.result c.from-places.result c.deref.result.now c.from-home.ensures
     c.from-places.ensures c.deref.ensures.value
@@ -21,7 +21,7 @@ returns-then-not-agrees c own s r =
 
 pub returns-in-Some : goal.returns-in-Some
 returns-in-Some c own s r =
-    subst (λ b. IsTrue false ↔ IsBalanced b.places (seen_from b.home (entry_of own) (kept_of b))) c.self.view_is
+    subst (λ b. IsTrue false ↔ IsBalanced b.places (seen_from b.finish.home (entry_of own) (kept_of b))) c.self.view_is
     (no_iff (λ b. apart_unbalanced c.self.inside.finish.home c.self.inside.places c.in-Some.apart c.self.inside.pairs.items (entry_of own)
     c.args.sent.now c.args.received.now c.from-home.result c.self.inside.places c.deref-2.result.now c.from-home.ensures refl
     c.deref-2.ensures.value
@@ -30,7 +30,7 @@ returns-in-Some c own s r =
 
 pub returns-in-None : goal.returns-in-None
 returns-in-None c own s r =
-    subst (λ b. IsTrue true ↔ IsBalanced b.places (seen_from b.home (entry_of own) (kept_of b))) c.self.view_is
+    subst (λ b. IsTrue true ↔ IsBalanced b.places (seen_from b.finish.home (entry_of own) (kept_of b))) c.self.view_is
     (yes_iff (zero_balanced c.self.inside.finish.home c.self.inside.places c.self.inside.pairs.items (entry_of own)
     c.args.sent.now c.args.received.now (record { sent = s; received = r }) c.self.invariant.is_place
     (sym c.self.invariant.counted ∙ c.if-self-ne0.false)

@@ -37,4 +37,4 @@ invariant_of-result c = record {
 }
 
 pub returns-clause-ok : goal.returns-clause-ok
-returns-clause-ok c = record { home = refl; number = refl; places_is = refl; kept = none_kept c.args.places c.resize.new.self.items (pairs_are c) }
+returns-clause-ok c = record { finish = refl; places_is = refl; kept = none_kept c.args.places c.resize.new.self.items (pairs_are c) }

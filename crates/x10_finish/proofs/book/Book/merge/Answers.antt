@@ -5,8 +5,7 @@ use Rattle.x10_finish.proofs.book.Book.merge.Goals as goal
 
 pub returns : goal.returns
 returns c = record {
-  home = c.merge_counts.ensures.home;
-  number = c.merge_counts.ensures.number;
+  finish = c.merge_counts.ensures.finish;
   places = c.merge_counts.ensures.places;
   kept =
       subst (λ (sent : List ℕ). kept_of c.merge_counts.new.self

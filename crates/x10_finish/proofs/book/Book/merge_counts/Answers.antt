@@ -10,8 +10,7 @@ returns c =
     let places : length c.args.sent.now ≡ c.self.inside.places = c.requires.sent ∙ ap (λ (b : Kept). b.places) (sym c.self.view_is) in
     subst (λ b. MergesCounts b c.args.from c.args.sent.now c.args.received.now
     (the_view (record c.self.inside { pairs = c.merge-self-inside.new.pairs; unequal = c.merge-self-inside.result }))) c.self.view_is (record {
-      home = refl;
-      number = refl;
+      finish = refl;
       places = refl;
       kept = kept_merged c.self.inside.places (pair_at c.self.inside.places c.self.inside.pairs.items)
           (pair_at c.self.inside.places c.merge-self-inside.new.pairs.items)

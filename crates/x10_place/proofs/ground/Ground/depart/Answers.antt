@@ -5,7 +5,7 @@ use Rattle.x10_place.specs.Parting.{IsGoing, TakesAlong}
 use Rattle.x10_place.specs.StandsFor.{place_of, IsHindered}
 use Rattle.x10_place.specs.Sending.{StandForSome, slots_of_call, words_from}
 use Rattle.x10_place.specs.declared.call_frame.CallFrame.{CallFrame}
-use Rattle.x10_place.specs.Stays.{finish_as, innermost_at}
+use Rattle.x10_place.specs.Stays.{innermost_at}
 use Rattle.x10_place.proofs.StandingStays.{checked, is_going}
 use Rattle.x10_place.proofs.Supplies.{place_fits, err_gives, function_small, arguments_of, too_many, departs_so, arguments_refused}
 use Rattle.x10_place.proofs.ground.Ground.depart.Goals as goal
@@ -20,7 +20,7 @@ pub returns-then-sent-clause-refused : goal.returns-then-sent-clause-refused
 returns-then-sent-clause-refused c =
     too_many c.args.self.now.verified.now c.args.self.now.stays c.args.self.now.store c.args.key c.args.instr
     (checked c.args.self.now.verified.now c.certificate.ensures) c.requires c.args.departure c.requires.op_is c.index-stay.result.now
-    (finish_as c.innermost-under.result) c.word-to.result c.sent.result c.index-stay.ensures
+    c.innermost-under.result c.word-to.result c.sent.result c.index-stay.ensures
     (c.innermost-under.ensures ∙ ap (λ h. innermost_at h c.index-stay.result.now) c.locality-here.ensures.here)
     (c.word-to.ensures ∙ ap (λ (f : CallFrame). word_at f.registers.items c.args.instr.c) c.frame-top.ensures) c.sent.ensures c.if-sent.true
 
@@ -57,7 +57,7 @@ returns-clause-ok c =
     departs_so c.args.self.now.verified.now c.args.self.now.stays c.args.self.now.store c.args.key c.args.instr
     (checked c.args.self.now.verified.now c.certificate.ensures) c.requires c.index-stay.result.now c.index-stay.ensures c.args.departure
     c.requires.op_is _ c.part.new.stays c.spawned.new.self c.arguments.new.store
-    (finish_as c.innermost-under.result) _ c.head_of-head.result c.locality-here.result.here
+    c.innermost-under.result _ c.head_of-head.result c.locality-here.result.here
     (c.innermost-under.ensures ∙ ap (λ h. innermost_at h c.index-stay.result.now) c.locality-here.ensures.here)
     (let few : c.innermost-under.result.number < 2 ^ 32 = search rules in few) c.locality-here.ensures.here
     (c.word-to.ensures ∙ ap (λ (f : CallFrame). word_at f.registers.items c.args.instr.c) c.frame-top.ensures) refl

@@ -5,14 +5,14 @@ use Rattle.x10_frame.specs.Heads.{graph_of}
 use Rattle.x10_place.specs.declared.call_frame.CallFrame.{CallFrame}
 use Rattle.x10_place.specs.Frames.{IsEnteredWith}
 use Rattle.x10_place.specs.Arrivals.{IsOpenHere, FitsLaunch, IsUnsettled, Settles, IsLaunchRefused}
-use Rattle.x10_place.specs.Stays.{finish_as, frames_of}
+use Rattle.x10_place.specs.Stays.{frames_of}
 use Rattle.x10_place.proofs.EntryLemmas.{roots_few, taken_beside, unsettled_refused, launches}
 use Rattle.x10_place.proofs.ground.Ground.launch.Goals as goal
 
 pub returns-in_err-roots-clause-refused : goal.returns-in_err-roots-clause-refused
 returns-in_err-roots-clause-refused c =
     let fits : FitsLaunch c.args.self.now.verified.now.program c.args.self.now.store c.args.view.now c.args.launch = search rules in
-    let is_open : IsOpenHere c.args.self.now.store (finish_as c.args.launch.under) = search rules in
+    let is_open : IsOpenHere c.args.self.now.store c.args.launch.under = search rules in
     let why : IsUnsettled c.args.self.now.store (graph_of c.args.view.now) c.args.launch c.in_err-roots.field-0.0 = search rules in
     let refused : IsLaunchRefused c.args.self.now.verified.now.program c.args.self.now.stays c.args.self.now.store c.args.view.now c.args.launch
     c.in_err-roots.field-0.0 = unsettled_refused c.args.self.now.verified.now.program c.args.self.now.store c.args.view.now c.args.launch fits
@@ -33,7 +33,7 @@ enter-requires c =
 pub returns-clause-ok : goal.returns-clause-ok
 returns-clause-ok c =
     let fits : FitsLaunch c.args.self.now.verified.now.program c.args.self.now.store c.args.view.now c.args.launch = search rules in
-    let is_open : IsOpenHere c.args.self.now.store (finish_as c.args.launch.under) = search rules in
+    let is_open : IsOpenHere c.args.self.now.store c.args.launch.under = search rules in
     let settles : Settles c.args.self.now.store _ c.args.launch c.in_ok-roots.roots.items c.settle.new.store = search rules in
     let entered = subst (λ (f : CallFrame). IsEnteredWith c.args.launch.function
     (length f.registers.items) c.in_ok-roots.roots.items c.enter.new.frame) c.deref_mut.ensures.value c.enter.ensures in

@@ -3,7 +3,7 @@ use Rattle.x10_copy.specs.Captured.{kinds_of, Refuses}
 use Rattle.x10_place.specs.declared.call_frame.CallFrame.{CallFrame}
 use Rattle.x10_place.specs.Sending.{StandForSome, slots_of_end, words_from}
 use Rattle.x10_place.specs.StandsFor.{place_of, IsHindered}
-use Rattle.x10_place.specs.Stays.{StayState, finish_as, origin_as}
+use Rattle.x10_place.specs.Stays.{StayState, origin_as}
 use Rattle.x10_place.proofs.StandingStays.{checked}
 use Rattle.x10_place.proofs.Supplies.{err_gives, result_of_it, result_refused, live_before}
 use Rattle.x10_place.proofs.ground.Ground.leave.Goals.{in-Some+in_ok-result-in-Some, in-None}
@@ -35,11 +35,11 @@ report-requires-clause-live c =
     elim c.match-stay.branch [
       | in-Some+in_ok-result-in-Some w ↦ live_before c.args.self.now.verified.now c.args.self.now.stays c.args.self.now.store c.args.key c.args.instr
           (checked c.args.self.now.verified.now c.certificate.ensures) c.requires c.index-stay.result.now c.index-stay.ensures
-          c.match-stay.self.1.1.1.1.0 (finish_as c.stay.inside.inherited) (ap (λ t. t.1.1.1.1.0) w.self-is ∙ w.in_ok-result-in-Some.ensures.kept)
+          c.match-stay.self.1.1.1.1.0 c.stay.inside.inherited (ap (λ t. t.1.1.1.1.0) w.self-is ∙ w.in_ok-result-in-Some.ensures.kept)
           (ap (λ (q : StayState). q.inherited) c.stay.view_is)
       | in-None w ↦ live_before c.args.self.now.verified.now c.args.self.now.stays c.args.self.now.store c.args.key c.args.instr
           (checked c.args.self.now.verified.now c.certificate.ensures) c.requires c.index-stay.result.now c.index-stay.ensures
-          c.match-stay.self.1.1.1.1.0 (finish_as c.stay.inside.inherited) (ap (λ t. t.1.1.1.1.0) w.self-is)
+          c.match-stay.self.1.1.1.1.0 c.stay.inside.inherited (ap (λ t. t.1.1.1.1.0) w.self-is)
           (ap (λ (q : StayState). q.inherited) c.stay.view_is)
     ]
 
@@ -48,10 +48,10 @@ end-requires c =
     elim c.match-stay.branch [
       | in-Some+in_ok-result-in-Some w ↦ live_before c.args.self.now.verified.now c.args.self.now.stays c.args.self.now.store c.args.key c.args.instr
           (checked c.args.self.now.verified.now c.certificate.ensures) c.requires c.index-stay.result.now c.index-stay.ensures
-          c.match-stay.self.1.1.1.1.0 (finish_as c.stay.inside.inherited) (ap (λ t. t.1.1.1.1.0) w.self-is ∙ w.in_ok-result-in-Some.ensures.kept)
+          c.match-stay.self.1.1.1.1.0 c.stay.inside.inherited (ap (λ t. t.1.1.1.1.0) w.self-is ∙ w.in_ok-result-in-Some.ensures.kept)
           (ap (λ (q : StayState). q.inherited) c.stay.view_is)
       | in-None w ↦ live_before c.args.self.now.verified.now c.args.self.now.stays c.args.self.now.store c.args.key c.args.instr
           (checked c.args.self.now.verified.now c.certificate.ensures) c.requires c.index-stay.result.now c.index-stay.ensures
-          c.match-stay.self.1.1.1.1.0 (finish_as c.stay.inside.inherited) (ap (λ t. t.1.1.1.1.0) w.self-is)
+          c.match-stay.self.1.1.1.1.0 c.stay.inside.inherited (ap (λ t. t.1.1.1.1.0) w.self-is)
           (ap (λ (q : StayState). q.inherited) c.stay.view_is)
     ]

@@ -1,0 +1,176 @@
+//! The counts of the finishes that a place has met.
+ghost use Rattle.std.specs.Prelude.{◌≡◌, ◌-◌, ◌<◌, ℕ, Some, None, OnOk, IfErr, MatchOption, [], length};
+ghost use Rattle.x10_kinds.specs.declared.stop.Stop.TheVariants as stop;
+ghost use Rattle.x10_finish.specs.Counts.{Fits};
+ghost use Rattle.x10_finish.specs.Ledgers.{count_of, counted_or_nothing};
+ghost use Rattle.x10_finish.specs.Met.{IsApart, IsCounted, Lowers, Removes, Writes, is_of_finish, listed};
+
+use crate::count::{Change, Count, apply};
+use std::alloc::Global;
+use std::collections::HashMap;
+use std::marker::Model;
+use x10_kinds::Stop;
+use x10_model::Finish;
+
+/// A count, and the finish that it is of.
+#[derive(Drop)]
+pub struct Named {
+    pub finish: Finish,
+    pub count: Count,
+}
+
+/// What is counted of each finish that was met. The one that was met last lies beside the others until the next one is met: so it
+/// takes no search, and a finish that ends before another one is met none at all.
+#[derive(Drop)]
+pub struct Met {
+    latest: Option<Named>,
+    others: HashMap<Finish, Count>,
+}
+
+impl Model for Met {
+    ghost use Rattle.std.specs.Prelude.{List};
+    ghost use Rattle.x10_model.specs.declared.finish.Finish.{Finish};
+    ghost use Rattle.x10_finish.specs.declared.count.Count.{Count};
+    ghost use Rattle.x10_finish.specs.Met.{IsApart, listed};
+
+    ghost Value = { List (Finish × Count) };
+
+    ghost view = { λ m. listed m.latest m.others.entries };
+
+    ghost invariant = { λ m. IsApart m.latest m.others.entries };
+}
+
+/// Puts the latest count among the others. Where memory is refused, nothing has changed.
+fn set_aside(latest: &mut Option<Named>, others: &mut HashMap<Finish, Count>) -> Result<(), Stop>
+    ensures ok { OnOk result ((latest.new ≡ None) × ((f : Finish) → count_of others.new.entries f
+        ≡ count_of (listed latest.old others.old.entries) f)) }
+    ensures err { IfErr result (λ why. (why ≡ stop.Memory) × (latest.new ≡ latest.old)
+        × (others.new.entries ≡ others.old.entries)) }
+{
+    let Some(Named { finish, count }) = latest.take() else {
+        return Ok(());
+    };
+    match others.insert(finish, count) {
+        Ok(_) => Ok(()),
+        Err(failed) => {
+            let (finish, count) = failed.value;
+            *latest = Some(Named { finish, count });
+            Err(Stop::Memory)
+        }
+    }
+}
+
+/// Whether the latest count is that of a finish.
+#[inline(always)]
+fn is_of(latest: &Option<Named>, finish: Finish) -> bool
+    ensures { result ≡ is_of_finish latest.now finish }
+{
+    match latest {
+        Some(latest) => finish == latest.finish,
+        None => false,
+    }
+}
+
+/// Counts what changes of one of the others, if it is there.
+fn count_among(
+    others: &mut HashMap<Finish, Count>,
+    finish: Finish,
+    change: Change,
+) -> Option<Result<(), Stop>>
+    requires { (c : Count) → count_of others.old.entries finish ≡ Some c
+        → Fits change (length c.sent.items) × (length c.received.items ≡ length c.sent.items) }
+    ensures { MatchOption result ((count_of others.old.entries finish ≡ None)
+        × (others.new.entries ≡ others.old.entries))
+        (λ counted. IsCounted others.old.entries finish change counted others.new.entries) }
+{
+    let count = others.get_mut(&finish)?;
+    Some(apply(count, change))
+}
+
+/// One activity less lives under one of the others.
+fn end_among(others: &mut HashMap<Finish, Count>, finish: Finish)
+    requires { 0 < (counted_or_nothing (count_of others.old.entries finish)).live }
+    ensures { Lowers others.old.entries finish others.new.entries }
+{
+    let Some(count) = others.get_mut(&finish) else {
+        return;
+    };
+    count.live -= 1;
+}
+
+impl Met {
+    /// None.
+    pub fn new(alloc: Global) -> Met
+        ensures { result ≡ [] }
+    {
+        Met {
+            latest: None,
+            others: HashMap::new(alloc),
+        }
+    }
+
+    /// The count of a finish, if it was met.
+    #[inline(always)]
+    pub fn get(&self, finish: Finish) -> Option<&Count>
+        ensures { MatchOption result (count_of self.now finish ≡ None)
+            (λ count. count_of self.now finish ≡ Some count.now) }
+    {
+        match &self.latest {
+            Some(latest) if finish == latest.finish => Some(&latest.count),
+            _ => self.others.get(&finish),
+        }
+    }
+
+    /// Counts what changes, if the finish was met.
+    #[inline(always)]
+    pub fn count(&mut self, finish: Finish, change: Change) -> Option<Result<(), Stop>>
+        requires { (c : Count) → count_of self.old finish ≡ Some c
+            → Fits change (length c.sent.items) × (length c.received.items ≡ length c.sent.items) }
+        ensures { MatchOption result ((count_of self.old finish ≡ None) × (self.new ≡ self.old))
+            (λ counted. IsCounted self.old finish change counted self.new) }
+    {
+        if !is_of(&self.latest, finish) {
+            return count_among(&mut self.others, finish, change);
+        }
+        match &mut self.latest {
+            Some(latest) => Some(apply(&mut latest.count, change)),
+            None => None,
+        }
+    }
+
+    /// One activity less lives under a finish, of which one does.
+    #[inline(always)]
+    pub fn end(&mut self, finish: Finish)
+        requires { 0 < (counted_or_nothing (count_of self.old finish)).live }
+        ensures { Lowers self.old finish self.new }
+    {
+        if !is_of(&self.latest, finish) {
+            return end_among(&mut self.others, finish);
+        }
+        if let Some(latest) = &mut self.latest {
+            latest.count.live -= 1;
+        }
+    }
+
+    /// The count of a finish that is met now. Where memory is refused, nothing has changed.
+    pub fn enter(&mut self, finish: Finish, count: Count) -> Result<(), Stop>
+        requires { count_of self.old finish ≡ None }
+        ensures ok { OnOk result (Writes self.old finish count self.new) }
+        ensures err { IfErr result (λ why. (why ≡ stop.Memory) × (self.new ≡ self.old)) }
+    {
+        set_aside(&mut self.latest, &mut self.others)?;
+        self.latest = Some(Named { finish, count });
+        Ok(())
+    }
+
+    /// Takes the count of a finish away, if it was met.
+    pub fn remove(&mut self, finish: Finish) -> Option<Count>
+        ensures { Removes self.old finish self.new }
+    {
+        if is_of(&self.latest, finish) {
+            let Named { count, .. } = self.latest.take()?;
+            return Some(count);
+        }
+        self.others.remove(&finish)
+    }
+}
