@@ -64,14 +64,14 @@ _x10p_has() {
         arguments=('files asm x10' 'files log')
         ;;
     trace)
-        options=(--places --limit --schedule --seed --explain --color -h --help)
-        values=([--places]='nothing' [--limit]='nothing' [--schedule]='words rounds random oldest newest' [--seed]='nothing' [--explain]='words yes no' [--color]='words auto always never')
+        options=(--places --limit --schedule --seed --explain --color --log -h --help)
+        values=([--places]='nothing' [--limit]='nothing' [--schedule]='words rounds random oldest newest' [--seed]='nothing' [--explain]='words yes no' [--color]='words auto always never' [--log]='files log')
         optional=(--explain)
         arguments=('files asm x10')
         ;;
     draw)
-        options=(--places --limit --schedule --seed --explain --color -h --help)
-        values=([--places]='nothing' [--limit]='nothing' [--schedule]='words rounds random oldest newest' [--seed]='nothing' [--explain]='words yes no' [--color]='words auto always never')
+        options=(--places --limit --schedule --seed --explain --color --log -h --help)
+        values=([--places]='nothing' [--limit]='nothing' [--schedule]='words rounds random oldest newest' [--seed]='nothing' [--explain]='words yes no' [--color]='words auto always never' [--log]='files log')
         optional=(--explain)
         arguments=('files asm x10' 'files svg')
         ;;

@@ -1,5 +1,5 @@
 # The log of a run with threads: written whole or not at all, and made again by an audit, which prints the same lines. What was
-# changed in it is refused, or is another run.
+# changed in it is refused, or is another run. A trace and a picture show it.
 top="$(cd "$(dirname "$0")/../.." && pwd)"
 source "$(dirname "$0")/common"
 
@@ -17,6 +17,9 @@ for file in "$top"/examples/{any_order,fan_out,graph,ping_pong,ring,sieve,round_
         [ -s "$name.log" ] || fail "$name: there is no log"
         if [ $status = 0 ]; then
             does 0 "$(head -c 2000 .printed)" "" x10p audit "$name.x10" "$name.log"
+            does 0 "" "" "$top/tests/scripts/logs_traced" ./x10p "$name.x10" "$name.log"
+            does 0 "" "" x10p draw "$name.x10" "$name.svg" --log "$name.log"
+            [ "$(head -c 5 "$name.svg")" = "<?xml" ] || fail "$name.svg begins with $(head -c 40 "$name.svg")"
         else
             x10p audit "$name.x10" "$name.log" >.audited 2>.refused
             [ "$?:$(cat .refused)" = "1:x10p: open" ] || cmp -s .printed .audited || fail "$name, $limit turns: $(cat .refused)"
@@ -24,7 +27,10 @@ for file in "$top"/examples/{any_order,fan_out,graph,ping_pong,ring,sieve,round_
     done
 done
 [ $runs = 20 ] || fail "there were $runs runs"
-rm ./*.x10 ./*.log
+rm ./*.x10 ./*.log ./*.svg
+
+# more of them, and of other modules, at up to 64 places
+"$top/tests/soak" --runs 40 --traced 2 --jobs 2 ./x10p "$top/tests/activities" >.told || fail "$(tail -n 5 .told)"
 
 prints 7 >seven.asm
 prints 8 >eight.asm
@@ -80,6 +86,36 @@ does 1 "" "x10p: places
 The module asks for 2 places at least; bad.log has fewer." x10p audit two.x10 bad.log --explain
 # the image is looked at first
 does 1 "" "x10p: image: Magic" x10p audit seven.log seven.x10
+
+# at one place a run with threads has the events of rounds: the lines and the picture are the same
+x10p trace seven.x10 >rounds.txt
+does 0 "$(cat rounds.txt)" "" x10p trace seven.x10 --log seven.log
+does 0 "" "" x10p draw seven.x10 rounds.svg
+does 0 "" "" x10p draw seven.x10 log.svg --log seven.log
+same rounds.svg log.svg
+# what an audit refuses is refused so, nothing is printed, and no picture is written
+does 1 "" "x10p: log: line 2 Image" x10p trace eight.x10 --log seven.log
+does 1 "" "x10p: log: line 2 Image" x10p draw eight.x10 none.svg --log seven.log
+head -n 3 seven.log >bad.log
+does 1 "" "x10p: open" x10p trace seven.x10 --log bad.log
+does 1 "" "x10p: open
+No turn of bad.log differs, but the run isn't over after the last: it was stopped, or turns are missing." \
+    x10p draw seven.x10 none.svg --log bad.log --explain
+sed 's/=7/=8/' seven.log >bad.log
+does 1 "" "x10p: differs: turn 0" x10p trace seven.x10 --log bad.log
+does 1 "" "x10p: differs: turn 0" x10p draw seven.x10 none.svg --log bad.log
+does 4 "" "x10p: file" x10p trace seven.x10 --log nowhere.log
+[ ! -e none.svg ] || fail "a refused log has a picture"
+# the log is not written over
+cp seven.log kept.log
+does 4 "" "x10p: file
+kept.log is the log, which nothing is written over." x10p draw seven.x10 kept.log --log kept.log --explain
+same kept.log seven.log
+# the log says the places and the events
+for words in "--places 1" "--limit 1000000" "--limit 9" "--schedule rounds" "--seed 1" --threads --json; do
+    does 3 "" .. x10p trace seven.x10 --log seven.log $words
+    does 3 "" .. x10p draw seven.x10 none.svg --log seven.log $words
+done
 
 # each change of a field of a log
 "$top/tests/scripts/logs_changed" x10p "$top/examples/moved.asm" "$top/examples/hello.asm" >told || {

@@ -1,4 +1,4 @@
-; `--log` is for a run with threads alone, and `audit` takes two files.
+; `--log` is for a run with threads, and for a trace or a picture in place of a run; `audit` takes two files.
 ;
 ; $ x10p run log.x10 --threads --log log.log
 ; 0: 7
@@ -15,6 +15,21 @@
 ; $ x10p run log.x10 --threads --log log.log --log other.log
 ; status 3
 ; $ x10p trace log.x10 --log log.log
+; S 0 0 0 0 INTK
+; S 0 0 0 1 PRINT
+; S 0 0 0 2 RET
+; $ x10p draw log.x10 log.svg --log log.log
+; $ x10p trace log.x10 --log log.log --places 1
+; status 3
+; $ x10p trace log.x10 --log log.log --limit 1000000
+; status 3
+; $ x10p draw log.x10 log.svg --log log.log --schedule rounds
+; status 3
+; $ x10p draw log.x10 log.svg --log log.log --seed 1
+; status 3
+; $ x10p trace log.x10 --log
+; status 3
+; $ x10p list log.x10 --log log.log
 ; status 3
 ; $ x10p runs log.x10 --log log.log
 ; status 3

@@ -5,3 +5,5 @@ pub mod Dues
 pub mod RunLemmas
 pub mod Found
 pub mod LogLemmas
+pub mod LogEventLemmas
+pub mod ShownLemmas

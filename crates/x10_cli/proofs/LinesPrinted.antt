@@ -163,16 +163,16 @@ has_begun c count x y opened to = record {
 -- ---- a trace
 
 -- before the first event
-pub traces_none : (x : WorldState) (a : Option (List ℕ)) → Traces x x a a
+pub traces_none : (x : WorldState) (a : Option (List ℕ)) → Traces x [] x a a
 traces_none x a = ([], begins x, Appends-nil a)
 
 -- the lines of an event more
-pub traces_more : (x y z : WorldState) (a b c : Option (List ℕ)) (event : Event) → Traces x y a b
+pub traces_more : (x y z : WorldState) (events : List Event) (a b c : Option (List ℕ)) (event : Event) → Traces x events y a b
     → ((did : Done) × HasDone y event did z × Appends b c (trace_lines z event did)) → ((w : World) → StandsForWorld y w → MakesEvent y w event z)
-    → Traces x z a c
-traces_more x y z a b c event before one makes = (
+    → Traces x (events ++ event ∷ []) z a c
+traces_more x y z events a b c event before one makes = (
   before.0 ++ trace_lines z event one.0,
-  goes_on x y z before.0 event one.0 before.1 one.1 makes,
+  goes_on x y z events before.0 event one.0 before.1 one.1 makes,
   Appends-trans a b c before.0 (trace_lines z event one.0) before.2 one.2,
 )
 
@@ -198,6 +198,7 @@ prints_kept verb.Trace json asked bytes a b c p k =
         first = h.first;
         last = h.last;
         opened = h.opened;
+        events = h.events;
         traces = (h.traces.0, h.traces.1, Appends-kept a b c h.traces.0 h.traces.2 k);
         runs = h.runs;
         ended = h.ended;

@@ -2,6 +2,7 @@
 use Rattle.std.proofs.Common.{◌≡◌, ℕ, Bool, false, List, Option, Result, Ok, Err, refl, sym, ap, ◌∙◌, inl, inr, arith}
 use Rattle.std.specs.Prelude.{◌≢◌, ◌⊎◌, IfOk, IfErr, OnOk}
 use Rattle.std.specs.Io.KnownBytes.{Appends, Keeps}
+use Rattle.x10_model.specs.declared.event.Event.{Event}
 use Rattle.x10_verify.specs.Certified.{Certified}
 use Rattle.x10_draw.specs.Pages.{IsPage}
 use Rattle.x10_world.specs.Endings.{IsImageOf, lines_at}
@@ -42,7 +43,7 @@ pub done_by : {T : Type 0} (r : Result T Fault) (A : Type 0) → A → IfOk r (�
 done_by (Ok x) A a = a
 done_by (Err e) A a = tt
 
-no_file : (e : Fault) → e ≡ fault.File → status_of e ≡ 2 → ⊥
+pub no_file : (e : Fault) → e ≡ fault.File → status_of e ≡ 2 → ⊥
 no_file e f s =
     let h : 4 ≡ 2 = sym (ap status_of f) ∙ s in
     omega (arith, h)
@@ -73,16 +74,17 @@ run_left json (Err e) bytes v asked x y a b is opened to p = run_begun json e by
 
 pub trace_printed : {T : Type 0} (r : Result T Fault) (bytes : List ℕ) (v : Certified) (asked : Option ℕ) (x y : WorldState) (a b : Option (List ℕ))
     → IsImageOf bytes v → IsOpenedWorld v (places_for asked v) x → RunsTo x y → OnOk r (NoneIsLeft y)
-    → OnOk r (Traces x y a b) → OnOk r (Prints verb.Trace false asked bytes a b)
+    → OnOk r ((events : List Event) × Traces x events y a b) → OnOk r (Prints verb.Trace false asked bytes a b)
 trace_printed (Ok t) bytes v asked x y a b is opened to ended p =
-    (v, is, record { first = x; last = y; opened = opened; traces = p; runs = to; ended = ended })
+    (v, is, record { first = x; last = y; opened = opened; events = p.0; traces = p.1; runs = to; ended = ended })
 trace_printed (Err e) bytes v asked x y a b is opened to ended p = tt
 
 trace_begun : (e : Fault) (bytes : List ℕ) (v : Certified) (asked : Option ℕ) (x : WorldState) (a b : Option (List ℕ)) → IsImageOf bytes v
     → IsOpenedWorld v (places_for asked v) x → (e ≡ fault.File) ⊎ TracesSome x a b
     → status_of e ≡ 2 → LeavesStopped verb.Trace false false asked bytes a b
 trace_begun e bytes v asked x a b is opened (inl f) s = absurd (no_file e f s)
-trace_begun e bytes v asked x a b is opened (inr t) s = inr (v, is, record { first = x; last = t.0; opened = opened; traces = t.2; runs = t.1 })
+trace_begun e bytes v asked x a b is opened (inr t) s =
+    inr (v, is, record { first = x; last = t.1; opened = opened; events = t.0; traces = t.3; runs = t.2 })
 
 pub trace_left : {T : Type 0} (r : Result T Fault) (bytes : List ℕ) (v : Certified) (asked : Option ℕ) (x : WorldState) (a b : Option (List ℕ))
     → IsImageOf bytes v → IsOpenedWorld v (places_for asked v) x

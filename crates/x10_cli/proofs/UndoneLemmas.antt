@@ -8,6 +8,7 @@ use Rattle.x10_cli.specs.declared.fault.Fault.TheVariants as fault
 use Rattle.x10_task.specs.declared.task.Verb.{Verb}
 use Rattle.x10_task.specs.declared.task.Verb.TheVariants as verb
 use Rattle.x10_cli.specs.Answers.{LeavesRefused, LeavesRun, LeavesStopped, Traces, TracesSome, status_of}
+use Rattle.x10_model.specs.declared.event.Event.{Event}
 use Rattle.x10_world.specs.Rounds.{RunsTo}
 use Rattle.x10_world.specs.StandsForWorld.{WorldState}
 
@@ -73,6 +74,7 @@ stopped_kept verb.Trace json threads asked bytes a b c (inr p) k = inr (
     first = p.2.first;
     last = p.2.last;
     opened = p.2.opened;
+    events = p.2.events;
     traces = (p.2.traces.0, p.2.traces.1, Appends-kept a b c p.2.traces.0 p.2.traces.2 k);
     runs = p.2.runs;
   },
@@ -125,10 +127,10 @@ run_stopped (Err e) v w json threads told asked bytes a b is same k =
 
 -- ---- a trace
 
-pub some_kept : (e : Fault) (x y : WorldState) (a b c : Option (List ℕ)) → RunsTo x y → Traces x y a b → (e ≡ fault.File) ⊎ Keeps b c
-    → (e ≡ fault.File) ⊎ TracesSome x a c
-some_kept e x y a b c to traced (inl f) = inl f
-some_kept e x y a b c to traced (inr k) = inr (y, to, (traced.0, traced.1, Appends-kept a b c traced.0 traced.2 k))
+pub some_kept : (e : Fault) (x y : WorldState) (events : List Event) (a b c : Option (List ℕ)) → RunsTo x y → Traces x events y a b
+    → (e ≡ fault.File) ⊎ Keeps b c → (e ≡ fault.File) ⊎ TracesSome x a c
+some_kept e x y events a b c to traced (inl f) = inl f
+some_kept e x y events a b c to traced (inr k) = inr (events, y, to, (traced.0, traced.1, Appends-kept a b c traced.0 traced.2 k))
 
 -- ---- statuses
 

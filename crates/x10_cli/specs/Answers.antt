@@ -129,16 +129,18 @@ pub record HasRun (c : Certified) (places : ℕ) (outputs : List (List machine.L
   pub count : length outputs ≡ places
   pub lines : AreLinesOf outputs last
 
--- lines of events that led from one state of a world to another were appended
-abbrev pub Traces : WorldState → WorldState → Option (List ℕ) → Option (List ℕ) → Type 0
-Traces x y old new = (text : List ℕ) × Traced x text y × Appends old new text
+-- the lines of events that led from one state of a world to another were appended
+abbrev pub Traces : WorldState → List Event → WorldState → Option (List ℕ) → Option (List ℕ)
+    → Type 0
+Traces x events y old new = (text : List ℕ) × Traced x events text y × Appends old new text
 
 -- the lines of all events of a run of the module, from its beginning to a world in which no activity lives
 pub record HasTraced (c : Certified) (places : ℕ) (old new : Option (List ℕ)) : Type 0 where
   pub first : WorldState
   pub last : WorldState
   pub opened : IsOpenedWorld c places first
-  pub traces : Traces first last old new
+  pub events : List Event
+  pub traces : Traces first events last old new
   pub runs : RunsTo first last
   pub ended : NoneIsLeft last
 
@@ -210,12 +212,14 @@ pub record HasTracedSome (c : Certified) (places : ℕ) (old new : Option (List 
   pub first : WorldState
   pub last : WorldState
   pub opened : IsOpenedWorld c places first
-  pub traces : Traces first last old new
+  pub events : List Event
+  pub traces : Traces first events last old new
   pub runs : RunsTo first last
 
--- lines of the first events that led on from a state of a world were appended
+-- the lines of the first events that led on from a state of a world were appended
 abbrev pub TracesSome : WorldState → Option (List ℕ) → Option (List ℕ) → Type 0
-TracesSome x old new = (y : WorldState) × RunsTo x y × Traces x y old new
+TracesSome x old new = (events : List Event) × (y : WorldState) × RunsTo x y
+    × Traces x events y old new
 
 -- the picture of a run of the module, as far as it went
 pub record HasDrawnSome (c : Certified) (places : ℕ) (picture : List ℕ) : Type 0 where

@@ -4,3 +4,4 @@ pub mod Answers
 pub mod Telling
 pub mod Schedules
 pub mod Logs
+pub mod Shown

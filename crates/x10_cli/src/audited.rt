@@ -1,12 +1,13 @@
 //! The command `audit`: a logged run, made again.
-ghost use Rattle.std.specs.Prelude.{◌≡◌, ◌⊎◌, List, ℕ, IfOk, IfErr, OnOk};
+ghost use Rattle.std.specs.Prelude.{true, ◌≡◌, ◌≢◌, ◌⊎◌, List, ℕ, IfOk, IfErr, OnOk};
 ghost use Rattle.std.specs.Io.KnownBytes.{Keeps};
 ghost use Rattle.x10_workers.specs.Plays.{IsPlayed};
 ghost use Rattle.x10_world.specs.Endings.{IsImageOf, lines_in};
-ghost use Rattle.x10_world.specs.Opening.{IsForbidden};
+ghost use Rattle.x10_world.specs.Opening.{IsForbidden, IsOpenedWorld};
 ghost use Rattle.x10_cli.specs.declared.fault.Fault.TheVariants as fault;
 ghost use Rattle.x10_cli.specs.Answers.{IsStatus, IsVerifiedImage, status_of};
 ghost use Rattle.x10_cli.specs.Logs.{HasAudited, IsAuditDue, ReadsLog, TellsAudit};
+ghost use Rattle.x10_cli.specs.Shown.{IsLogOfRun};
 
 use crate::commands::{refuse, tell, verified_in};
 use crate::fault::Fault;
@@ -20,6 +21,7 @@ use x10_place::Line;
 use x10_task::Task;
 use x10_verify::Verified;
 use x10_workers::audit;
+use x10_world::World;
 
 /// Makes the turns of a log again, at as many places as it says, and prints what the places print: the lines are those of a run
 /// of the module that has ended. `log` is the text of the log, and the other arguments are as for `execute`. Answers the exit
@@ -70,6 +72,39 @@ fn print_audited<O: Write>(
     let read = log_in(alloc, bytes, log)?;
     let outputs = outputs_of(alloc, &verified, &read)?;
     print_report(alloc, &outputs, task.json, out)
+}
+
+/// The log that a text spells, if its turns are a run of a module that has ended.
+pub(crate) fn played_log(
+    alloc: Global,
+    verified: &Verified,
+    bytes: &[u8],
+    log: &[u8],
+) -> Result<Log, Fault>
+    requires { IsImageOf bytes.now verified.now }
+    ensures plays { IfOk result (λ read. IsLogOfRun bytes.now log.now verified.now read.places
+        read.turns.items) }
+    ensures due { IfErr result (IsAuditDue bytes.now log.now) }
+{
+    let read = log_in(alloc, bytes, log)?;
+    outputs_of(alloc, verified, &read)?;
+    Ok(read)
+}
+
+/// The world in which the turns of a log that was played are made once more.
+pub(crate) fn world_again<'a>(
+    alloc: Global,
+    verified: &'a Verified<'a>,
+    places: u16,
+) -> Result<World<'a>, Fault>
+    ensures opened { IfOk result (IsOpenedWorld verified.now places) }
+    ensures goes { IfOk result (λ world. world.stopped ≢ true) }
+    ensures err { IfErr result (λ e. e ≡ fault.Memory) }
+{
+    match World::open(alloc, verified, places) {
+        Ok(world) => Ok(world),
+        Err(_) => Err(Fault::Memory),
+    }
 }
 
 /// The log that a text spells, if it is one of an image.

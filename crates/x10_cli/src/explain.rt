@@ -88,11 +88,11 @@ fn least_of(alloc: Global, bytes: &[u8]) -> Option<u16> {
     Some(image.least())
 }
 
-/// At how many places a task runs, as far as it says so: for an audit the log does.
+/// At how many places a task runs, as far as it says so: where a log is read, that does.
 fn places_in(alloc: Global, task: &Task, bytes: &[u8]) -> Option<u16> {
     match task.places {
         Some(places) => Some(places),
-        None if task.verb == Verb::Audit => None,
+        None if task.log.is_some() && task.verb != Verb::Run => None,
         None => least_of(alloc, bytes),
     }
 }

@@ -1,12 +1,14 @@
 //! The command `draw`: a run's picture.
-ghost use Rattle.std.specs.Prelude.{false, ◌≡◌, ◌≢◌, ◌⊎◌, ℕ, List, IfOk, IfErr, OnOk};
+ghost use Rattle.std.specs.Prelude.{false, true, ◌≡◌, ◌≢◌, ◌⊎◌, ℕ, List, IfOk, IfErr, OnOk};
 ghost use Rattle.std.specs.Io.KnownBytes.{Appends, Keeps};
+ghost use Rattle.x10_model.specs.Worlds as machine;
 ghost use Rattle.x10_draw.specs.Pages.{IsPage};
 ghost use Rattle.x10_world.specs.Rounds.{NoneIsLeft, RunsTo};
-ghost use Rattle.x10_world.specs.StandsForWorld.{KeepsSetting};
+ghost use Rattle.x10_world.specs.StandsForWorld.{KeepsSetting, MakesEvent, StandsForWorld};
 ghost use Rattle.x10_task.specs.declared.task.Verb.TheVariants as verb;
 ghost use Rattle.x10_cli.specs.declared.fault.Fault.TheVariants as fault;
 ghost use Rattle.x10_cli.specs.Answers.{CanBeDone, IsDue, LeavesStopped, Prints, status_of};
+ghost use Rattle.x10_cli.specs.Shown.{IsStoppedAt};
 
 use crate::commands::{opened, verified_in};
 use crate::fault::Fault;
@@ -92,10 +94,19 @@ fn draw(
 }
 
 /// Makes an event, and notes it.
-fn draw_event(world: &mut World, event: Event, drawing: &mut Drawing) -> Result<(), Fault>
+pub(crate) fn draw_event(
+    world: &mut World,
+    event: Event,
+    drawing: &mut Drawing,
+) -> Result<(), Fault>
+    ensures made { OnOk result ((w : machine.World) → StandsForWorld world.old w
+        → MakesEvent world.old w event world.new) }
     ensures kept { KeepsSetting world.old world.new }
     ensures runs { RunsTo world.old world.new }
     ensures status { IfErr result (λ e. status_of e ≢ 1) }
+    ensures goes { IfOk result (λ _. world.new.stopped ≢ true) }
+    ensures why { world.old.stopped ≢ true → IfErr result (λ e. (e ≡ fault.Memory)
+        ⊎ IsStoppedAt world.old event e) }
 {
     let done = world.event(event)?;
     drawing.note(world, event, &done)?;

@@ -1,5 +1,6 @@
 //! The command `trace`: the lines of a run's events.
-ghost use Rattle.std.specs.Prelude.{false, ◌≡◌, ◌≢◌, ◌⊎◌, IfOk, IfErr, OnOk};
+ghost use Rattle.std.specs.Prelude.{false, true, ◌≡◌, ◌≢◌, ◌⊎◌, List, IfOk, IfErr, OnOk};
+ghost use Rattle.x10_model.specs.declared.event.Event.{Event};
 ghost use Rattle.std.specs.Io.KnownBytes.{Appends, Keeps};
 ghost use Rattle.x10_model.specs.Worlds as machine;
 ghost use Rattle.x10_world.specs.declared.done.Done.{Done};
@@ -10,6 +11,7 @@ ghost use Rattle.x10_trace.specs.Trace.{trace_lines};
 ghost use Rattle.x10_task.specs.declared.task.Verb.TheVariants as verb;
 ghost use Rattle.x10_cli.specs.declared.fault.Fault.TheVariants as fault;
 ghost use Rattle.x10_cli.specs.Answers.{CanBeDone, IsDue, LeavesStopped, Prints, Traces, TracesSome, status_of};
+ghost use Rattle.x10_cli.specs.Shown.{IsStoppedAt};
 
 use crate::commands::{opened, verified_in};
 use crate::fault::Fault;
@@ -54,8 +56,8 @@ fn print_traced<O: Write>(
     limit: u64,
     out: &mut O,
 ) -> Result<(), Fault>
-    ensures traced { OnOk result (Traces world.old world.new (O.contents out.old)
-        (O.contents out.new)) }
+    ensures traced { OnOk result ((events : List Event) × Traces world.old events world.new
+        (O.contents out.old) (O.contents out.new)) }
     ensures some { IfErr result (λ e. (e ≡ fault.File)
         ⊎ TracesSome world.old (O.contents out.old) (O.contents out.new)) }
     ensures runs { RunsTo world.old world.new }
@@ -74,7 +76,7 @@ fn print_traced<O: Write>(
 }
 
 /// Makes an event, and prints its lines.
-fn print_event<O: Write>(
+pub(crate) fn print_event<O: Write>(
     alloc: Global,
     world: &mut World,
     event: Event,
@@ -89,6 +91,9 @@ fn print_event<O: Write>(
     ensures kept { KeepsSetting world.old world.new }
     ensures runs { RunsTo world.old world.new }
     ensures status { IfErr result (λ e. status_of e ≢ 1) }
+    ensures goes { IfOk result (λ _. world.new.stopped ≢ true) }
+    ensures why { world.old.stopped ≢ true → IfErr result (λ e. (e ≡ fault.File)
+        ⊎ (e ≡ fault.Memory) ⊎ IsStoppedAt world.old event e) }
 {
     let done = world.event(event)?;
     let lines = trace_line(alloc, world, event, &done)?;

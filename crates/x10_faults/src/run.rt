@@ -79,17 +79,17 @@ frame that was posted to it, or turn t of the log isn't what the worker of its
 place did. The mistake is in x10p, not in the module: report it with the image.
 No such program is known.
 
-differs: turn t, and open: from `audit`, turn t of the log isn't what its place
-does then, where the first turn is turn 0; or no turn differs, and the run isn't
-over after the last. The log isn't one of a run that has ended: it was changed,
-or the run was stopped.
+differs: turn t, and open: from `audit`, or with `--log` from `trace` and
+`draw`, turn t of the log isn't what its place does then, where the first turn
+is turn 0; or no turn differs, and the run isn't over after the last. The log
+isn't one of a run that has ended: it was changed, or the run was stopped.
 ";
 
 pub(crate) const OPEN: &str =
-    "differs: turn t, and open: from `audit`, turn t of the log isn't what its place
-does then, where the first turn is turn 0; or no turn differs, and the run isn't
-over after the last. The log isn't one of a run that has ended: it was changed,
-or the run was stopped.
+    "differs: turn t, and open: from `audit`, or with `--log` from `trace` and
+`draw`, turn t of the log isn't what its place does then, where the first turn
+is turn 0; or no turn differs, and the run isn't over after the last. The log
+isn't one of a run that has ended: it was changed, or the run was stopped.
 ";
 
 pub(crate) const MEMORY: &str =

@@ -57,7 +57,8 @@ pub struct Task<'a> {
     pub input: &'a str,
     /// The name of the file to write, only for `asm` and `draw`.
     pub output: Option<&'a str>,
-    /// The name of the log: the file to write for `run` with threads, where there is one; the file to read for `audit`.
+    /// The name of the log: the file to write for `run` with threads, where there is one; the file to read for `audit`, and for
+    /// `trace` and `draw` of a run that was logged.
     pub log: Option<&'a str>,
     /// How many places; left out, the module's least number.
     pub places: Option<u16>,

@@ -4,6 +4,8 @@
 #[cfg(test)]
 mod explaining;
 #[cfg(test)]
+mod logs;
+#[cfg(test)]
 mod threads;
 #[cfg(test)]
 mod usage;

@@ -46,9 +46,12 @@ has_json _ = false
 abbrev pub may_have_log : Verb → Bool → Bool
 may_have_log verb.Run threads = threads
 may_have_log verb.Audit threads = true
+may_have_log verb.Trace threads = true
+may_have_log verb.Draw threads = true
 may_have_log _ threads = false
 
--- a task has what its command takes: a file to write, a log, a number of places, threads, a schedule, a number of seeds; the numbers are in their ranges
+-- A task has what its command takes: a file to write, a log, a number of places, threads, a schedule, a number of seeds; the
+-- numbers are in their ranges. A log that is read says itself how many places there are, and which events, in which order.
 pub record IsTask (t : Task) : Type 0 where
   pub output : is_some t.output ≡ has_output t.verb
   pub places : IfSome t.places (IsOneTo MOST_PLACES)
@@ -63,6 +66,8 @@ pub record IsTask (t : Task) : Type 0 where
   pub json : t.json ≡ true → has_json t.verb ≡ true
   pub log : is_some t.log ≡ true → may_have_log t.verb t.threads ≡ true
   pub audit : t.verb ≡ verb.Audit → is_some t.log ≡ true
+  pub logged : is_some t.log ≡ true → t.verb ≢ verb.Run
+      → (t.places ≡ None) × (t.limit ≡ 1000000) × (t.schedule ≡ order.Rounds)
 
 -- ---- how a task is read
 

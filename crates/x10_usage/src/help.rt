@@ -97,20 +97,23 @@ Exit status:
 
 pub const TRACE: &str = "Example:
   x10p trace examples/seven.x10 --limit 100
+  x10p run examples/seven.x10 --threads --log seven.log
+  x10p trace examples/seven.x10 --log seven.log
 
 Exit status:
   0  done
-  1  refused: the text or image, its module, or the number of places
+  1  refused: the text or image, its module, the number of places, or the log
   2  stopped: lack of memory, a limit of the machine, or --limit
   3  the command line is wrong
   4  a file can't be read, or the output can't be written";
 
 pub const DRAW: &str = "Example:
   x10p draw examples/seven.x10 seven.svg
+  x10p draw examples/seven.x10 seven.svg --log seven.log
 
 Exit status:
   0  done
-  1  refused: the text or image, its module, or the number of places
+  1  refused: the text or image, its module, the number of places, or the log
   2  stopped: lack of memory, a limit of the machine, or --limit
   3  the command line is wrong
   4  a file can't be read, or the output can't be written";

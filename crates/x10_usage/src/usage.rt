@@ -133,8 +133,11 @@ fn why_not(task: &Task) -> &'static str {
     if task.seed.is_some() && task.schedule != Schedule::Random {
         return "--seed is for a random schedule alone";
     }
-    if task.log.is_some() && !task.threads {
+    if task.log.is_some() && task.verb == Verb::Run {
         return "--log is for a run with --threads alone";
+    }
+    if task.log.is_some() {
+        return "with --log the log says the places and the order";
     }
     "these options don't go together"
 }
@@ -293,16 +296,36 @@ fn json_is_for_few(task: &Task) -> bool
         )
 }
 
-/// An audit reads a log, and a run with threads may write one.
+/// An audit reads a log, a trace or a picture may be of one, and a run with threads may write one.
 fn has_log_as_asked(task: &Task) -> bool
     ensures log { IsTrue result → is_some task.now.log ≡ true
         → tasks.may_have_log task.now.verb task.now.threads ≡ true }
     ensures audit { IsTrue result → task.now.verb ≡ Verb.Audit → is_some task.now.log ≡ true }
+    ensures logged { IsTrue result → is_some task.now.log ≡ true → task.now.verb ≢ Verb.Run
+        → (task.now.places ≡ None) × (task.now.limit ≡ 1000000)
+        × (task.now.schedule ≡ Schedule.Rounds) }
 {
+    if !log_says_the_rest(task) {
+        return false;
+    }
     match task.verb {
         Verb::Audit => task.log.is_some(),
         Verb::Run => task.log.is_none() || task.threads,
+        Verb::Trace | Verb::Draw => true,
         _ => task.log.is_none(),
+    }
+}
+
+/// Where a log is read, it says how many places there are, and which events happen in which order.
+fn log_says_the_rest(task: &Task) -> bool
+    ensures { IsTrue result → is_some task.now.log ≡ true → task.now.verb ≢ Verb.Run
+        → (task.now.places ≡ None) × (task.now.limit ≡ 1000000)
+        × (task.now.schedule ≡ Schedule.Rounds) }
+{
+    match task.schedule {
+        _ if task.log.is_none() || matches!(task.verb, Verb::Run) => true,
+        Schedule::Rounds => has_no_numbers(task),
+        _ => false,
     }
 }
 

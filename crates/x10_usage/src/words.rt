@@ -168,16 +168,14 @@ fn audit<'a>(alloc: Global) -> Result<Command<'a>, AllocError> {
 
 fn trace<'a>(alloc: Global) -> Result<Command<'a>, AllocError> {
     let about = "Verify a module, run it, and print what happens, event by event";
-    run_words(alloc, "trace", about, help::TRACE)
+    run_words(alloc, "trace", about, help::TRACE)?.arg(log_to_read(alloc)?)
 }
 
 fn draw<'a>(alloc: Global) -> Result<Command<'a>, AllocError> {
     let about = "Verify a module, run it, and draw what happens as an SVG document";
-    run_words(alloc, "draw", about, help::DRAW)?.arg(output(
-        alloc,
-        "SVG",
-        "The file to write, the picture of the run",
-    ))
+    run_words(alloc, "draw", about, help::DRAW)?
+        .arg(log_to_read(alloc)?)?
+        .arg(output(alloc, "SVG", "The file to write, the picture of the run"))
 }
 
 fn output<'a>(alloc: Global, name: &'a str, help: &'a str) -> Arg<'a> {
@@ -250,6 +248,18 @@ fn log<'a>(alloc: Global) -> Result<Arg<'a>, AllocError> {
         .value_name("LOG")
         .help("The file to write, the log of the run; only with --threads")
         .requires_arg("threads")
+}
+
+/// The log in place of a run.
+fn log_to_read<'a>(alloc: Global) -> Result<Arg<'a>, AllocError> {
+    Arg::new(alloc, "LOG")
+        .long("log")
+        .value_name("LOG")
+        .help("A log that `run --threads --log LOG` wrote: show that run, in place of a new one")
+        .conflicts_with("places")?
+        .conflicts_with("limit")?
+        .conflicts_with("schedule")?
+        .conflicts_with("seed")
 }
 
 fn schedule<'a>(alloc: Global) -> Arg<'a> {

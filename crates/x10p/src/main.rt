@@ -1,8 +1,6 @@
 //! The program `x10p`: it reads its words and the file that they name, and does what they ask for.
 #![tactic(auto)]
 
-ghost use Rattle.std.specs.Prelude.{◌≡◌, IsTrue};
-
 mod input;
 mod logs;
 mod making;
@@ -10,7 +8,7 @@ mod terminal;
 mod text;
 mod trouble;
 
-use crate::making::make;
+use crate::making::{make, write_made};
 use crate::terminal::{show_report, shows_report, speak};
 use crate::text::{Given, as_told, is_input, is_text, read, read_input, written};
 use crate::trouble::Trouble;
@@ -78,7 +76,7 @@ fn perform<R: Threads + Wait + Sync>(
     }
 }
 
-/// Does the work with a log: audits it, or runs and writes it.
+/// Does the work with a log: reads it, or runs and writes it.
 fn with_log<R: Threads + Wait + Sync>(
     rt: &HostRuntime,
     threads: &R,
@@ -87,10 +85,13 @@ fn with_log<R: Threads + Wait + Sync>(
     source: Option<&str>,
     log: &str,
 ) -> Result<u8, Trouble> {
-    if task.verb == Verb::Audit {
-        return logs::audit(rt, task, bytes, source, log);
+    if task.verb == Verb::Run {
+        return logs::run(rt, threads, task, bytes, source, log);
     }
-    logs::run(rt, threads, task, bytes, source, log)
+    match task.output {
+        Some(output) => logs::draw(rt, task, bytes, source, log, output),
+        None => logs::print(rt, task, bytes, source, log),
+    }
 }
 
 /// Reads what the task names. A file that would be read and written is left as it is, and so is one with the name of a text.
@@ -177,21 +178,8 @@ fn write<R: Threads + Wait + Sync>(
     let mut made = Output::new(Vec::new(rt.alloc()));
     let mut told = Told::new(rt.alloc())?;
     let status = make(rt, threads, task, bytes, source, &mut made, &mut told)?;
-    let made = made.writer();
-    if is_written(task.verb, status)
-        && !made.is_empty()
-        && let Err(error) = whole::write(rt, output, made)
-    {
-        return Err(Trouble::writing(error));
-    }
+    write_made(rt, task, status, made.writer(), output)?;
     Ok(speak(rt, task, None, told.bytes(), status))
-}
-
-/// Whether a file is written at a status: an image only where the work is done; a picture also where the run stopped.
-fn is_written(verb: Verb, status: u8) -> bool
-    ensures { verb ≡ Verb.Asm → IsTrue result → status ≡ 0 }
-{
-    status == 0 || verb == Verb::Draw
 }
 
 /// Prints help on standard output, and what is wrong with the words on standard error.

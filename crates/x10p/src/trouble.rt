@@ -22,6 +22,8 @@ pub enum Trouble {
     TooLong,
     /// The files to read and to write are one.
     OneFile,
+    /// The log to read and the file to write are one.
+    OverLog,
     /// The file to write has the name of a text.
     OverText,
 }
@@ -97,6 +99,10 @@ impl Trouble {
             Trouble::OneFile => {
                 let output = written(task).unwrap_or_default();
                 writeln!(err, "{output} is the same file as {input}.")
+            }
+            Trouble::OverLog => {
+                let log = task.log.unwrap_or_default();
+                writeln!(err, "{log} is the log, which nothing is written over.")
             }
             Trouble::OverText => {
                 let output = written(task).unwrap_or_default();

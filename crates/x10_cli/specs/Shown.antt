@@ -1,0 +1,156 @@
+-- What is shown of the log of a run with threads: the lines of its events, and its picture.
+use Rattle.std.specs.Prelude.{◌≡◌, ◌⊎◌, ℕ, ◌+◌, List, [], ◌∷◌, ◌++◌, Option, drop, map, slice_get, None, Some, Bool}
+use Rattle.std.specs.Io.KnownBytes.{Appends}
+use Rattle.x10_kinds.specs.declared.stop.Stop.{Stop}
+use Rattle.x10_model.specs.declared.event.Event.{Event}
+use Rattle.x10_model.specs.declared.event.Event.TheVariants.{Step, Deliver}
+use Rattle.x10_model.specs.Places as machine
+use Rattle.x10_model.specs.Worlds.{World}
+use Rattle.x10_verify.specs.Certified.{Certified}
+use Rattle.x10_draw.specs.Pages.{IsPage}
+use Rattle.x10_hall.specs.declared.turn.Turn.{Turn}
+use Rattle.x10_world.specs.Endings.{IsImageOf}
+use Rattle.x10_world.specs.Opening.{IsOpenedWorld}
+use Rattle.x10_world.specs.Runs.{Reaches}
+use Rattle.x10_world.specs.StandsForWorld.{WorldState, KeepsSetting, StandsForWorld}
+use Rattle.x10_workers.specs.Audits.{IsRefusedAt}
+use Rattle.x10_workers.specs.Plays.{IsPlayed, events_in}
+use Rattle.x10_cli.specs.declared.fault.Fault.{Fault}
+use Rattle.x10_cli.specs.declared.fault.Fault.TheVariants as fault
+use Rattle.x10_cli.specs.Answers.{Traces, of_stop, status_of}
+use Rattle.x10_cli.specs.Logs.{IsAuditDue, IsLogText}
+use Rattle.x10_cli.specs.Telling.{SaysFault}
+
+-- the events of a turn that are left, where so many frames were taken in and so many steps made
+abbrev pub left_of_turn : Turn → ℕ → ℕ → List Event
+left_of_turn t taken steps = map Deliver (drop taken t.taken.items)
+    ++ map (Step t.place) (drop steps t.keys)
+
+-- none where there is no turn
+abbrev pub left_at : Option Turn → ℕ → ℕ → List Event
+left_at None taken steps = []
+left_at (Some t) taken steps = left_of_turn t taken steps
+
+-- the same of the turns from one on, where that much of it was made
+abbrev pub left_of_turns : List Turn → ℕ → ℕ → ℕ → List Event
+left_of_turns turns turn taken steps = left_at (slice_get turns turn) taken steps
+    ++ events_in (drop (turn + 1) turns)
+
+-- the text is the log of a run of the module that has ended, which these turns are
+pub record IsLogOfRun (bytes text : List ℕ) (c : Certified) (places : ℕ)
+    (turns : List Turn) : Type 0 where
+  pub image : IsImageOf bytes c
+  pub log : IsLogText bytes text places turns
+  pub outputs : List (List machine.Line)
+  pub plays : IsPlayed c places turns outputs
+
+-- the text is the log of a run of the module that has ended, and the lines of all its events were appended, from a world of
+-- the module at its beginning
+pub record HasTracedLog (bytes text : List ℕ) (old new : Option (List ℕ)) : Type 0 where
+  pub c : Certified
+  pub places : ℕ
+  pub turns : List Turn
+  pub of_run : IsLogOfRun bytes text c places turns
+  pub first : WorldState
+  pub last : WorldState
+  pub opened : IsOpenedWorld c places first
+  pub traces : Traces first (events_in turns) last old new
+
+-- the lines of the first of these events were appended
+pub record TracesFirst (x : WorldState) (events : List Event)
+    (old new : Option (List ℕ)) : Type 0 where
+  pub made : List Event
+  pub rest : List Event
+  pub all : made ++ rest ≡ events
+  pub last : WorldState
+  pub traces : Traces x made last old new
+
+-- the same of the log's first events
+pub record HasTracedSomeOfLog (bytes text : List ℕ) (old new : Option (List ℕ)) : Type 0 where
+  pub c : Certified
+  pub places : ℕ
+  pub turns : List Turn
+  pub of_run : IsLogOfRun bytes text c places turns
+  pub first : WorldState
+  pub opened : IsOpenedWorld c places first
+  pub traces : TracesFirst first (events_in turns) old new
+
+-- these events lead on from one state of a world to another, and are a run from each world of the machine that the first one
+-- stands for: none goes wrong, and no activity takes more steps than its bound
+pub record RunsBy (x : WorldState) (events : List Event) (y : WorldState) : Type 0 where
+  pub kept : KeepsSetting x y
+  pub runs : (w : World) → StandsForWorld x w → Reaches x w events y
+
+-- the first of these events do
+pub record RunsFirst (x : WorldState) (events : List Event) : Type 0 where
+  pub made : List Event
+  pub rest : List Event
+  pub all : made ++ rest ≡ events
+  pub last : WorldState
+  pub runs : RunsBy x made last
+
+-- a picture was appended
+abbrev pub AppendsPicture : Option (List ℕ) → Option (List ℕ) → Type 0
+AppendsPicture old new = (picture : List ℕ) × IsPage picture × Appends old new picture
+
+-- the text is the log of a run of the module that has ended, a world of the module was led by all its events from its beginning,
+-- and the picture of that was appended
+pub record HasDrawnLog (bytes text : List ℕ) (old new : Option (List ℕ)) : Type 0 where
+  pub c : Certified
+  pub places : ℕ
+  pub turns : List Turn
+  pub of_run : IsLogOfRun bytes text c places turns
+  pub first : WorldState
+  pub last : WorldState
+  pub opened : IsOpenedWorld c places first
+  pub runs : RunsBy first (events_in turns) last
+  pub printed : AppendsPicture old new
+
+-- the same of the log's first events
+pub record HasDrawnSomeOfLog (bytes text : List ℕ) (old new : Option (List ℕ)) : Type 0 where
+  pub c : Certified
+  pub places : ℕ
+  pub turns : List Turn
+  pub of_run : IsLogOfRun bytes text c places turns
+  pub first : WorldState
+  pub opened : IsOpenedWorld c places first
+  pub runs : RunsFirst first (events_in turns)
+  pub printed : AppendsPicture old new
+
+-- an event was refused in a state of a world, and the fault tells why
+abbrev pub IsStoppedAt : WorldState → Event → Fault → Type 0
+IsStoppedAt x event f = (why : Stop) × (f ≡ of_stop why) × IsRefusedAt x event why
+
+-- one of these events was refused, after those before it were made, and the fault tells why
+pub record IsStoppedIn (x : WorldState) (events : List Event) (f : Fault) : Type 0 where
+  pub made : List Event
+  pub event : Event
+  pub rest : List Event
+  pub all : made ++ event ∷ rest ≡ events
+  pub last : WorldState
+  pub runs : RunsBy x made last
+  pub stops : IsStoppedAt last event f
+
+-- the text is the log of a run of the module that has ended, and one of its events was refused all the same, as where memory
+-- is refused
+pub record IsStoppedAgain (bytes text : List ℕ) (f : Fault) : Type 0 where
+  pub c : Certified
+  pub places : ℕ
+  pub turns : List Turn
+  pub of_run : IsLogOfRun bytes text c places turns
+  pub first : WorldState
+  pub opened : IsOpenedWorld c places first
+  pub stops : IsStoppedIn first (events_in turns) f
+
+-- the fault is the one that is due: that of an audit of the log, or why one of its events was refused when they were made again
+abbrev pub IsShownDue : List ℕ → List ℕ → Fault → Type 0
+IsShownDue bytes text (fault.StopLimit limit) = IsAuditDue bytes text (fault.StopLimit limit)
+    ⊎ IsStoppedAgain bytes text (fault.StopLimit limit)
+IsShownDue bytes text fault.StopMemory = IsAuditDue bytes text fault.StopMemory
+    ⊎ IsStoppedAgain bytes text fault.StopMemory
+IsShownDue bytes text f = IsAuditDue bytes text f
+
+-- the line of a fault with this status that is due, and perhaps what explains it
+abbrev pub TellsShown : Bool → List ℕ → List ℕ → ℕ → Option (List ℕ) → Option (List ℕ) → Type 0
+TellsShown explain bytes text status old new = (f : Fault) × (status ≡ status_of f)
+    × IsShownDue bytes text f × SaysFault explain f old new
