@@ -9,7 +9,7 @@ has() {
     type -P "$1" >/dev/null || { echo "skipped: what needs $1"; return 1; }
 }
 
-for text in seven remote_counter fan_out; do
+for text in seven remote_counter fan_out moved ping_pong; do
     x10p asm "$top/examples/$text.asm" $text.x10
 done
 x10p asm "$top/examples/counter_refused.asm" refused.x10
@@ -37,8 +37,8 @@ if has nm; then
     [ "$found" = "$wanted" ] || fail "libburjeeg.so has $found, and the header $wanted"
 fi
 
+strict="-Wall -Wextra -pedantic -Werror -I$include"
 if has gcc; then
-    strict="-Wall -Wextra -pedantic -Werror -I$include"
     printf '#include <burjeeg.h>\n' >alone.c
     gcc -std=c99 $strict -fsyntax-only alone.c || fail "the header as C"
     ! has g++ || g++ $strict -fsyntax-only -x c++ alone.c || fail "the header as C++"
@@ -47,6 +47,15 @@ if has gcc; then
     gcc -std=c99 $strict "$(dirname "$0")/library_calls.c" "$BURJEEG/libburjeeg.a" -o calls \
         -Wl,--wrap=malloc,--wrap=realloc,--wrap=free || fail "library_calls.c"
     ./calls remote_counter.x10 "$top/examples/remote_counter.asm" "$top/examples/counter_refused.asm" || fail "library_calls"
+    gcc -std=c99 $strict "$(dirname "$0")/library_handles.c" "$BURJEEG/libburjeeg.a" -o handles \
+        -Wl,--wrap=malloc,--wrap=realloc,--wrap=free || fail "library_handles.c"
+    gcc -std=c99 $strict "$embed/two_places.c" "$BURJEEG/libburjeeg.a" -o two_places || fail "two_places.c"
+    for image in remote_counter moved ping_pong; do
+        ./handles $image.x10 refused.x10 || fail "library_handles $image"
+        x10p run $image.x10 --places 2 >wanted
+        ./two_places $image.x10 >found || fail "two_places.c $image"
+        same wanted found
+    done
     if has valgrind; then
         for image in fan_out refused; do
             ./run_image $image.x10 >/dev/null 2>&1
@@ -54,7 +63,47 @@ if has gcc; then
             valgrind -q --error-exitcode=9 --leak-check=full ./run_image $image.x10 >/dev/null 2>.told
             [ $? -eq $wanted ] || fail "run_image.c has a leak or a wrong access with $image: $(head -c 500 .told)"
         done
+        valgrind -q --error-exitcode=9 --leak-check=full --trace-children=yes ./two_places ping_pong.x10 >/dev/null 2>.told ||
+            fail "two_places.c has a leak or a wrong access: $(head -c 500 .told)"
     fi
+fi
+
+# in_ranks RANKS WORDS WHAT: with these words, an image and what follows it, x10p-mpi.c says WHAT, and all ranks end
+in_ranks() {
+    timeout 30 mpirun -n "$1" ./x10p-mpi $2 >.lines 2>.told
+    local status=$?
+    [ $status -ne 0 ] && [ $status -ne 124 ] || fail "x10p-mpi.c $2 at $1 ranks: status $status"
+    grep -qxF "$3" .told || fail "x10p-mpi.c $2 at $1 ranks doesn't say $3: $(head -c 500 .told)"
+}
+
+if has mpicc && has mpirun; then
+    # Open MPI begins as many ranks as it is told, also for root, and a rank that waits lets others go first
+    export OMPI_ALLOW_RUN_AS_ROOT=1 OMPI_ALLOW_RUN_AS_ROOT_CONFIRM=1 OMPI_MCA_mpi_yield_when_idle=1
+    export OMPI_MCA_rmaps_base_oversubscribe=1 PRTE_MCA_rmaps_default_mapping_policy=:oversubscribe
+    mpicc -std=c99 $strict "$embed/x10p-mpi.c" "$BURJEEG/libburjeeg.a" -o x10p-mpi || fail "x10p-mpi.c"
+    for image in remote_counter moved ping_pong; do
+        for ranks in 2 4; do
+            x10p run $image.x10 --places $ranks >wanted
+            timeout 30 mpirun -n $ranks ./x10p-mpi $image.x10 >found 2>.told ||
+                fail "x10p-mpi.c $image at $ranks ranks: $(head -c 500 .told)"
+            same wanted found
+        done
+    done
+    # two places that send each other long frames at once
+    x10p asm "$top/tests/travels/long_frames_to_and_fro.asm" to_and_fro.x10
+    does 0 "0: 1" .. timeout 30 mpirun -n 2 ./x10p-mpi to_and_fro.x10
+    # a frame of 8 MB, and one that is too long: the place stops
+    for objects in 1048576 1048577; do
+        x10p asm "$top/tests/limits/frame_of_${objects}_objects.asm" $objects.x10
+    done
+    does 0 "1: 1" .. timeout 30 mpirun -n 2 ./x10p-mpi 1048576.x10
+    in_ranks 2 1048577.x10 "x10p: stop: Limit 7"
+    in_ranks 2 refused.x10 "x10p: verify: Home 0 0"
+    in_ranks 2 fan_out.x10 "x10p: places"
+    in_ranks 2 nowhere.x10 "x10p: file"
+    # a rank that sends what is no frame
+    mpicc -std=c99 $strict "$(dirname "$0")/library_mpi.c" -o no_place || fail "library_mpi.c"
+    in_ranks 1 "ping_pong.x10 : -n 1 ./no_place" "x10p-mpi: place 0: a frame from place 1 is refused, fault 902"
 fi
 
 if has python3; then
@@ -68,8 +117,16 @@ if has python3; then
         cat .told .report
         x10p run tour.x10 --limit 1 >.lines 2>.stop
         echo "$(cat .stop), status 2, $(wc -c <.lines) bytes until then"
+        # the places in turn are the rounds of a trace: frames are delivered in the same order, with the same bytes
+        x10p trace tour.x10 | awk '$1 == "P" { bytes[$2] = $5 } $1 == "D" { print "frame " $2 " to place " $3 ": " bytes[$2] }'
+        x10p run tour.x10
+        x10p run tour.x10 | cut -d ' ' -f 2 | tr '\n' ' ' | sed 's/ $/\n/'
+        echo "x10p: frame: Version"
+        echo "it was closed"
     } >wanted
     same wanted tour || diff wanted tour
+    BURJEEG_LIBRARY="$BURJEEG/libburjeeg.so" PYTHONPATH="$embed" python3 -B "$(dirname "$0")/library_handles.py" tour.x10 ||
+        fail "library_handles.py"
 fi
 
 if has cargo; then

@@ -1,3 +1,4 @@
 mod Giving
 pub mod Coming
 pub mod Lines
+pub mod Sent

@@ -18,7 +18,7 @@ use x10_verify::VerifyFault;
 #[derive(Clone, Copy, Debug, PartialEq, Eq, Drop)]
 pub struct FaultNumbers {
     /// Which fault, by its part in hundreds: 1 a text's, 2 an image's, 3 and 4 the verifier's, 5 a number of places, 6 what
-    /// stopped the work, 7 the bytes of a text, 8 a log's. 0 is none.
+    /// stopped the work, 7 the bytes of a text, 8 a log's, 9 what a place says of bytes that came to it. 0 is none.
     pub kind: u32,
     /// The number of the function; for a frame that was refused, of the place.
     pub function: u16,
@@ -35,7 +35,7 @@ pub fn none() -> FaultNumbers
     plain(0)
 }
 
-fn plain(kind: u32) -> FaultNumbers
+pub(crate) fn plain(kind: u32) -> FaultNumbers
     ensures { result ≡ record { kind = kind; function = 0; pc = 0; at = 0 } }
 {
     FaultNumbers {
@@ -46,7 +46,7 @@ fn plain(kind: u32) -> FaultNumbers
     }
 }
 
-fn counted(kind: u32, at: u64) -> FaultNumbers
+pub(crate) fn counted(kind: u32, at: u64) -> FaultNumbers
     ensures { result ≡ record { kind = kind; function = 0; pc = 0; at = at } }
 {
     FaultNumbers {

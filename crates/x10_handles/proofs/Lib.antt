@@ -1,0 +1,4 @@
+pub mod Behind
+pub mod Parts
+pub mod Stepping
+pub mod BehindWorld

@@ -1,0 +1,6 @@
+pub mod Handles
+pub mod Held
+pub mod Marks
+pub mod Opened
+pub mod Stations
+pub mod Worlds

@@ -1,0 +1,14 @@
+use crate::module::Module;
+use crate::station::Station;
+use x10_world::World;
+
+/// What is behind a handle.
+#[derive(Drop)]
+pub enum Inside {
+    /// A verified module.
+    Module(Module),
+    /// A place.
+    Place(Station),
+    /// All places of a run, and the frames between them.
+    World(World<'static>),
+}
