@@ -1,6 +1,6 @@
 //! The types of frames.
 use std::alloc::{AllocError, Global};
-use x10_frame::{FrameFault, FrameView, Head};
+use x10_frame::{FrameFault, FrameView, Head, What};
 
 /// The type of a frame, as its head says.
 #[derive(Clone, Copy, Debug, PartialEq, Eq)]
@@ -37,10 +37,10 @@ pub(crate) fn head_of(
 
 /// What an arrow shows of a head: the type, the stay that waits for the frame, of a Back, and the function that begins.
 pub(crate) fn facts_of(head: Head) -> (FrameKind, Option<usize>, Option<u16>) {
-    match head {
-        Head::Spawn { function, .. } => (FrameKind::Spawn, None, Some(function)),
-        Head::Shift { function, .. } => (FrameKind::Shift, None, Some(function)),
-        Head::Back { waiting, .. } => (FrameKind::Back, Some(waiting as usize), None),
-        Head::Report { .. } => (FrameKind::Report, None, None),
+    match head.what {
+        What::Spawn { function, .. } => (FrameKind::Spawn, None, Some(function)),
+        What::Shift { function, .. } => (FrameKind::Shift, None, Some(function)),
+        What::Back { waiting } => (FrameKind::Back, Some(waiting as usize), None),
+        What::Report { .. } => (FrameKind::Report, None, None),
     }
 }

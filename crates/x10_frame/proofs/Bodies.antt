@@ -12,10 +12,11 @@ use Rattle.x10_model.specs.Offsets.{StandsAt, EndsWith}
 use Rattle.x10_model.proofs.Offsets.{place_is}
 use Rattle.x10_frame.specs.declared.body.Body.{Body}
 use Rattle.x10_frame.specs.declared.head.Head.{Head}
-use Rattle.x10_frame.specs.declared.head.Head.TheVariants as head
+use Rattle.x10_frame.specs.declared.head.What.{What}
+use Rattle.x10_frame.specs.declared.head.What.TheVariants as what
 use Rattle.x10_frame.specs.declared.fault.FrameFault.{FrameFault as RustFault}
 use Rattle.x10_frame.specs.Faults.{named, IsFault, IsFaultOrMemory}
-use Rattle.x10_frame.specs.Heads.{IsGraphHead, head_of, graph_of, sent_of, received_of, with_graph, most_roots, counts_at, graph_after}
+use Rattle.x10_frame.specs.Heads.{head, BringsGraph, IsGraphHead, head_of, graph_of, sent_of, received_of, with_graph, most_roots, counts_at, graph_after}
 use Rattle.x10_frame.specs.Bodies.{IsGraph, GivesGraph, IsBody, GivesBody}
 use Rattle.x10_bytes.proofs.Loops.{lenient, early}
 
@@ -30,18 +31,18 @@ record WithGraph (h : Head) (g : Graph) : Type 0 where
   sent_is : sent_of (with_graph h g) ≡ []
   received_is : received_of (with_graph h g) ≡ []
 
-with_graph_is : (h : Head) (g : Graph) → IsGraphHead h → WithGraph h g
-with_graph_is (head.Spawn from to home number function) g i = record { head_is = refl; graph_is = refl; sent_is = refl; received_is = refl }
-with_graph_is (head.Shift from to waiting home number function) g i = record { head_is = refl; graph_is = refl; sent_is = refl; received_is = refl }
-with_graph_is (head.Back from to waiting) g i = record { head_is = refl; graph_is = refl; sent_is = refl; received_is = refl }
-with_graph_is (head.Report from to number) g i = absurd i
+with_graph_is : (from to : ℕ) (w : What) (g : Graph) → BringsGraph w → WithGraph (head from to w) g
+with_graph_is from to (what.Spawn under function) g i = record { head_is = refl; graph_is = refl; sent_is = refl; received_is = refl }
+with_graph_is from to (what.Shift waiting under function) g i = record { head_is = refl; graph_is = refl; sent_is = refl; received_is = refl }
+with_graph_is from to (what.Back waiting) g i = record { head_is = refl; graph_is = refl; sent_is = refl; received_is = refl }
+with_graph_is from to (what.Report number) g i = absurd i
 
 pub graph_body : (v : FrameVersion) (places : ℕ) (h : Head) (frame : List ℕ) (start count : ℕ) (texts rails nodes bytes rest : List ℕ) → IsGraphHead h
     → IsGraph v frame start count texts rails nodes rest (graph_at v places (most_roots h) bytes)
     → IsBody v frame h start count texts rails nodes rest (graph_after v places h bytes)
 unfolding done
 graph_body v places h frame start count texts rails nodes bytes rest i g =
-    let w = with_graph_is h g.graph i in
+    let w = with_graph_is h.from h.to h.what g.graph i in
     record {
       frame = with_graph h g.graph;
       reads = bind_is (graph_at v places (most_roots h)) (λ graph. done (with_graph h graph)) bytes g.graph rest g.reads;
@@ -94,7 +95,7 @@ counts_take places from rest b s = ((each_reads (λ s _. s) (λ (_ : ℕ). numbe
 
 pub counts_body : (v : FrameVersion) (places from to finish : ℕ) (frame b0 b1 b2 texts rails nodes : List ℕ) → IsBytes b0 → EndsWith frame b0
     → texts ≡ [] → rails ≡ [] → nodes ≡ [] → AreCounts places b0 b1 → AreCounts places b1 b2
-    → IsBody v frame (head.Report from to finish) (length frame - length b0) 0 texts rails nodes b2 (counts_at places from to finish b0)
+    → IsBody v frame (head from to (what.Report finish)) (length frame - length b0) 0 texts rails nodes b2 (counts_at places from to finish b0)
 unfolding done
 counts_body v places from to finish frame b0 b1 b2 texts rails nodes b e ht hr hn s r =
     let one = counts_take places b0 b1 b s in

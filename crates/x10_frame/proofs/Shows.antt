@@ -14,7 +14,8 @@ use Rattle.x10_model.proofs.Offsets.{later, narrow, place_small, byte_is, range_
 use Rattle.x10_model.proofs.Lists.{all_at}
 use Rattle.x10_bytes.proofs.Parts.{number2_is, number4_is}
 use Rattle.x10_frame.specs.declared.head.Head.{Head}
-use Rattle.x10_frame.specs.declared.head.Head.TheVariants as head
+use Rattle.x10_frame.specs.declared.head.What.{What}
+use Rattle.x10_frame.specs.declared.head.What.TheVariants as what
 use Rattle.x10_frame.specs.Heads.{head_of, graph_of, sent_of, received_of, no_graph}
 use Rattle.x10_frame.specs.Items.{items_in, HasItems}
 use Rattle.x10_frame.specs.Bodies.{HasBody}
@@ -73,10 +74,13 @@ counts_fit v places (Shift from to waiting home number function graph) h =
     record { sent = tt; received = tt; each = λ q lt. absurd (omega (arith, lt)) }
 counts_fit v places (Back from to waiting graph) h = record { sent = tt; received = tt; each = λ q lt. absurd (omega (arith, lt)) }
 
--- how many counts a frame with such a head has
+-- how many counts such a frame has
+abbrev pub counts_for : ℕ → What → ℕ
+counts_for places (what.Report number) = places
+counts_for places w = 0
+
 abbrev pub counts_with : ℕ → Head → ℕ
-counts_with places (head.Report from to number) = places
-counts_with places h = 0
+counts_with places h = counts_for places h.what
 
 pub counts_are : (v : FrameVersion) (places : ℕ) (f : Frame) → FitsFrame v places f
     → (length (sent_of f) ≡ counts_with places (head_of f)) × (length (received_of f) ≡ counts_with places (head_of f))

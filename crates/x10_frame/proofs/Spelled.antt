@@ -9,7 +9,6 @@ use Rattle.x10_model.specs.Offsets.{StandsAt}
 use Rattle.x10_model.proofs.Offsets.{later, narrow}
 use Rattle.x10_bytes.proofs.Parts.{part_at, part_behind, item_here, before_it}
 use Rattle.x10_frame.specs.declared.head.Head.{Head}
-use Rattle.x10_frame.specs.declared.head.Head.TheVariants as head
 use Rattle.x10_frame.specs.Heads.{head_of, graph_of, sent_of, received_of}
 use Rattle.x10_frame.specs.Writing.{head_bytes, sizes_bytes}
 use Rattle.x10_frame.specs.Parts.{length_of_sizes, roots_from, texts_from, rails_from, nodes_from, place_of_root, place_of_text, place_of_rail, place_of_node, counts_from, place_of_sent, place_of_received}
@@ -31,10 +30,7 @@ spelled v (Back from to waiting graph) = refl
 spelled v (Report from to number sent received) = refl
 
 some_head : (v : FrameVersion) (h : Head) → 0 < length (head_bytes v h)
-some_head v (head.Spawn from to home number function) = omega arith
-some_head v (head.Shift from to waiting home number function) = omega arith
-some_head v (head.Back from to waiting) = omega arith
-some_head v (head.Report from to number) = omega arith
+some_head v h = omega arith
 
 all_of : (v : FrameVersion) (f : Frame) → StandsAt (spelling v f) 0 (head_bytes v (head_of f) ++ rest_of v f)
 all_of v f = record { rest = []; is = spelled v f ∙ sym (append-nil (head_bytes v (head_of f) ++ rest_of v f)) }

@@ -7,24 +7,32 @@ use Rattle.x10_model.specs.declared.version.FrameVersion.TheVariants.{Wide}
 use Rattle.x10_model.specs.Frames.{byte_of, width_of, Graph, item_bytes, blob_bytes, node_bytes}
 use Rattle.x10_model.specs.Frames as frames
 use Rattle.x10_frame.specs.declared.head.Head.{Head}
-use Rattle.x10_frame.specs.declared.head.Head.TheVariants as head
+use Rattle.x10_frame.specs.declared.head.What.{What}
+use Rattle.x10_frame.specs.declared.head.What.TheVariants as what
 use Rattle.x10_frame.specs.declared.item.Item.{Item}
 use Rattle.x10_frame.specs.Items.{item_of}
 
--- the head of a frame with a graph
+-- the type of a frame
+abbrev pub type_byte : What → ℕ
+type_byte (what.Spawn under function) = 1
+type_byte (what.Shift waiting under function) = 2
+type_byte (what.Back waiting) = 3
+type_byte (what.Report number) = 4
+
+-- what stands behind the two places
+abbrev pub numbers_bytes : What → List ℕ
+numbers_bytes (what.Spawn under function) =
+    to_be_bytes w16 under.home ++ (to_be_bytes w32 under.number ++ to_be_bytes w16 function)
+numbers_bytes (what.Shift waiting under function) = to_be_bytes w32 waiting
+    ++ (to_be_bytes w16 under.home
+    ++ (to_be_bytes w32 under.number ++ to_be_bytes w16 function))
+numbers_bytes (what.Back waiting) = to_be_bytes w32 waiting
+numbers_bytes (what.Report number) = to_be_bytes w32 number
+
+-- the head of a frame
 abbrev pub head_bytes : FrameVersion → Head → List ℕ
-head_bytes v (head.Spawn from to home number function) = (byte_of v ∷ 1 ∷ [])
-    ++ (to_be_bytes w16 from ++ (to_be_bytes w16 to
-    ++ (to_be_bytes w16 home ++ (to_be_bytes w32 number ++ to_be_bytes w16 function))))
-head_bytes v (head.Shift from to waiting home number function) = (byte_of v ∷ 2 ∷ []) ++
-    (to_be_bytes w16 from ++ (to_be_bytes w16 to ++
-    (to_be_bytes w32 waiting ++ (to_be_bytes w16 home
-    ++ (to_be_bytes w32 number ++ to_be_bytes w16 function)))))
-head_bytes v (head.Back from to waiting) =
-    (byte_of v ∷ 3 ∷ []) ++ (to_be_bytes w16 from
-    ++ (to_be_bytes w16 to ++ to_be_bytes w32 waiting))
-head_bytes v (head.Report from to number) =
-    (byte_of v ∷ 4 ∷ []) ++ (to_be_bytes w16 from ++ (to_be_bytes w16 to ++ to_be_bytes w32 number))
+head_bytes v h = (byte_of v ∷ type_byte h.what ∷ [])
+    ++ (to_be_bytes w16 h.from ++ (to_be_bytes w16 h.to ++ numbers_bytes h.what))
 
 -- how much of everything the graph has
 abbrev pub sizes_bytes : FrameVersion → (roots texts rails nodes : ℕ) → List ℕ

@@ -3,13 +3,13 @@
 ghost use Rattle.std.specs.Prelude.{ℕ};
 ghost use Rattle.x10_model.specs.Offsets.{EndsWith};
 ghost use Rattle.x10_model.specs.declared.version.FrameVersion.{FrameVersion};
-ghost use Rattle.x10_frame.specs.declared.head.Head.TheVariants as variant;
-ghost use Rattle.x10_frame.specs.Heads.{counts_at, after_head};
+ghost use Rattle.x10_frame.specs.declared.head.What.TheVariants as what;
+ghost use Rattle.x10_frame.specs.Heads.{head, counts_at, after_head};
 ghost use Rattle.x10_frame.specs.Bodies.{GivesBody};
 
 use crate::fault::FrameFault;
 use crate::graph::read_graph;
-use crate::head::Head;
+use crate::head::{Head, What};
 use crate::parts::past_counts;
 use std::alloc::Global;
 use x10_model::FrameVersion;
@@ -35,7 +35,7 @@ fn read_counts<'a>(
 ) -> Result<(Body, &'a [u8]), FrameFault>
     requires { EndsWith frame.now bytes.now }
     ensures exact { (v : FrameVersion) (from : ℕ) (to : ℕ) (finish : ℕ)
-        → GivesBody v frame.now (variant.Report from to finish) (λ x. x.0) (λ x. x.1.now) result
+        → GivesBody v frame.now (head from to (what.Report finish)) (λ x. x.0) (λ x. x.1.now) result
         (counts_at places from to finish bytes.now) }
 {
     let start = frame.len() - bytes.len();
@@ -65,10 +65,10 @@ pub fn read_body<'a>(
     ensures exact { GivesBody version frame.now head.now (λ x. x.0) (λ x. x.1.now) result
         (after_head version places head.now bytes.now) }
 {
-    match *head {
-        Head::Spawn { .. } => read_graph(alloc, frame, bytes, version, places, MOST_ROOTS),
-        Head::Shift { .. } => read_graph(alloc, frame, bytes, version, places, MOST_ROOTS),
-        Head::Back { .. } => read_graph(alloc, frame, bytes, version, places, 1),
-        Head::Report { .. } => read_counts(alloc, frame, bytes, places),
+    match head.what {
+        What::Spawn { .. } => read_graph(alloc, frame, bytes, version, places, MOST_ROOTS),
+        What::Shift { .. } => read_graph(alloc, frame, bytes, version, places, MOST_ROOTS),
+        What::Back { .. } => read_graph(alloc, frame, bytes, version, places, 1),
+        What::Report { .. } => read_counts(alloc, frame, bytes, places),
     }
 }

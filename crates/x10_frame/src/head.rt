@@ -11,40 +11,38 @@ ghost use Rattle.x10_frame.specs.Heads as spec;
 use crate::fault::FrameFault;
 use crate::fields::place_at;
 use x10_bytes::{byte_at, u16_at, u32_at};
-use x10_model::FrameVersion;
+use x10_model::{Finish, FrameVersion};
 
-/// What a frame is, from which place to which, and its other numbers.
+/// What a frame is sent for, and its numbers.
 #[derive(Clone, Copy, Debug, PartialEq, Eq)]
-pub enum Head {
-    /// A new activity: the home and number of its finish, and its function.
+pub enum What {
+    /// A new activity: the finish that governs it, and its function.
     Spawn {
-        from: u16,
-        to: u16,
-        home: u16,
-        number: u32,
+        under: Finish,
         function: u16,
     },
-    /// An activity that goes on elsewhere: the stay that waits for it, the home and number of its finish, and the function.
+    /// An activity that goes on elsewhere: the stay that waits for it, the finish that governs it, and the function.
     Shift {
-        from: u16,
-        to: u16,
         waiting: u32,
-        home: u16,
-        number: u32,
+        under: Finish,
         function: u16,
     },
     /// The way back of such an activity: the stay that waits for it.
     Back {
-        from: u16,
-        to: u16,
         waiting: u32,
     },
     /// Counts of a finish, whose home is the receiver: its number.
     Report {
-        from: u16,
-        to: u16,
         number: u32,
     },
+}
+
+/// From which place a frame is sent, to which, and for what.
+#[derive(Clone, Copy, Debug, PartialEq, Eq)]
+pub struct Head {
+    pub from: u16,
+    pub to: u16,
+    pub what: What,
 }
 
 /// The version of a frame, and the bytes after it.
@@ -90,85 +88,69 @@ fn after_places(bytes: &[u8], places: u16) -> Result<&[u8], FrameFault>
 
 #[tactic(auto, unfolding(crate::specs::Heads::spawn_at, x10_model::specs::Readers::bind, x10_model::specs::Readers::done))]
 #[inline(always)]
-fn spawn_at(bytes: &[u8], places: u16, from: u16, to: u16) -> Result<(Head, &[u8]), FrameFault>
-    ensures exact { Answers (λ x. (x.0, x.1.now)) result (spec.spawn_at places from to bytes.now) }
+fn spawn_at(bytes: &[u8], places: u16) -> Result<(What, &[u8]), FrameFault>
+    ensures exact { Answers (λ x. (x.0, x.1.now)) result (spec.spawn_at places bytes.now) }
 {
     let (home, bytes) = place_at(bytes, places)?;
     let (number, bytes) = u32_at::<FrameFault>(bytes)?;
     let (function, bytes) = u16_at::<FrameFault>(bytes)?;
-    let head = Head::Spawn {
-        from,
-        to,
-        home,
-        number,
-        function,
-    };
-    Ok((head, bytes))
+    let under = Finish { home, number };
+    Ok((What::Spawn { under, function }, bytes))
 }
 
 #[tactic(auto, unfolding(crate::specs::Heads::shift_at, x10_model::specs::Readers::bind, x10_model::specs::Readers::done))]
 #[inline(always)]
-fn shift_at(bytes: &[u8], places: u16, from: u16, to: u16) -> Result<(Head, &[u8]), FrameFault>
-    ensures exact { Answers (λ x. (x.0, x.1.now)) result (spec.shift_at places from to bytes.now) }
+fn shift_at(bytes: &[u8], places: u16) -> Result<(What, &[u8]), FrameFault>
+    ensures exact { Answers (λ x. (x.0, x.1.now)) result (spec.shift_at places bytes.now) }
 {
     let (waiting, bytes) = u32_at::<FrameFault>(bytes)?;
     let (home, bytes) = place_at(bytes, places)?;
     let (number, bytes) = u32_at::<FrameFault>(bytes)?;
     let (function, bytes) = u16_at::<FrameFault>(bytes)?;
-    let head = Head::Shift {
-        from,
-        to,
+    let what = What::Shift {
         waiting,
-        home,
-        number,
+        under: Finish { home, number },
         function,
     };
-    Ok((head, bytes))
+    Ok((what, bytes))
 }
 
 #[tactic(auto, unfolding(crate::specs::Heads::back_at, x10_model::specs::Readers::bind, x10_model::specs::Readers::done))]
 #[inline(always)]
-fn back_at(bytes: &[u8], from: u16, to: u16) -> Result<(Head, &[u8]), FrameFault>
-    ensures exact { Answers (λ x. (x.0, x.1.now)) result (spec.back_at from to bytes.now) }
+fn back_at(bytes: &[u8]) -> Result<(What, &[u8]), FrameFault>
+    ensures exact { Answers (λ x. (x.0, x.1.now)) result (spec.back_at bytes.now) }
 {
     let (waiting, bytes) = u32_at::<FrameFault>(bytes)?;
-    Ok((Head::Back { from, to, waiting }, bytes))
+    Ok((What::Back { waiting }, bytes))
 }
 
 #[tactic(auto, unfolding(crate::specs::Heads::report_at, x10_model::specs::Readers::bind, x10_model::specs::Readers::done))]
 #[inline(always)]
-fn report_at(bytes: &[u8], places: u16, from: u16, to: u16) -> Result<(Head, &[u8]), FrameFault>
-    ensures exact { Answers (λ x. (x.0, x.1.now)) result (spec.report_at places from to bytes.now) }
+fn report_at(bytes: &[u8], places: u16) -> Result<(What, &[u8]), FrameFault>
+    ensures exact { Answers (λ x. (x.0, x.1.now)) result (spec.report_at places bytes.now) }
 {
     let (number, bytes) = u32_at::<FrameFault>(bytes)?;
     let bytes = after_places(bytes, places)?;
-    Ok((Head::Report { from, to, number }, bytes))
+    Ok((What::Report { number }, bytes))
 }
 
 #[tactic(auto, unfolding(crate::specs::Heads::numbers_at, x10_model::specs::Readers::given))]
 #[inline(always)]
-fn numbers_at(
-    bytes: &[u8],
-    places: u16,
-    kind: u8,
-    from: u16,
-    to: u16,
-) -> Result<(Head, &[u8]), FrameFault>
-    ensures exact { Answers (λ x. (x.0, x.1.now)) result
-        (numbers_at places kind from to bytes.now) }
+fn numbers_at(bytes: &[u8], places: u16, kind: u8) -> Result<(What, &[u8]), FrameFault>
+    ensures exact { Answers (λ x. (x.0, x.1.now)) result (numbers_at places kind bytes.now) }
 {
     match kind {
-        1 => spawn_at(bytes, places, from, to),
-        2 => shift_at(bytes, places, from, to),
-        3 => back_at(bytes, from, to),
-        4 => report_at(bytes, places, from, to),
+        1 => spawn_at(bytes, places),
+        2 => shift_at(bytes, places),
+        3 => back_at(bytes),
+        4 => report_at(bytes, places),
         _ => Err(FrameFault::FrameType),
     }
 }
 
 /// What follows the version: the numbers before the graph of a frame, or before the counts of a report, and the bytes after
 /// them.
-#[tactic(auto, unfolding(crate::specs::Heads::head_at, x10_model::specs::Readers::bind))]
+#[tactic(auto, unfolding(crate::specs::Heads::head_at, x10_model::specs::Readers::bind, x10_model::specs::Readers::done))]
 #[inline(always)]
 pub fn read_head(bytes: &[u8], places: u16) -> Result<(Head, &[u8]), FrameFault>
     ensures exact { Answers (λ x. (x.0, x.1.now)) result (head_at places bytes.now) }
@@ -176,5 +158,6 @@ pub fn read_head(bytes: &[u8], places: u16) -> Result<(Head, &[u8]), FrameFault>
     let (kind, bytes) = type_at(bytes)?;
     let (from, bytes) = place_at(bytes, places)?;
     let (to, bytes) = place_at(bytes, places)?;
-    numbers_at(bytes, places, kind, from, to)
+    let (what, bytes) = numbers_at(bytes, places, kind)?;
+    Ok((Head { from, to, what }, bytes))
 }

@@ -21,7 +21,7 @@ mod view;
 mod writer;
 
 pub use fault::FrameFault;
-pub use head::Head;
+pub use head::{Head, What};
 pub use item::Item;
 pub use node_view::NodeView;
 pub use nodes::{Nodes, NodesByVersion};

@@ -6,15 +6,16 @@ ghost use Rattle.std.specs.Int.{w16, w32, to_be_bytes};
 ghost use Rattle.x10_model.specs.Images.{int_bytes};
 ghost use Rattle.x10_model.specs.declared.version.FrameVersion.TheVariants.{Wide};
 ghost use Rattle.x10_model.specs.Frames.{item_bytes, blob_bytes, node_bytes, counts_bytes};
-ghost use Rattle.x10_frame.specs.declared.head.Head.TheVariants as head;
+ghost use Rattle.x10_frame.specs.declared.head.What.TheVariants as what;
 ghost use Rattle.x10_frame.specs.Items.{item_of};
-ghost use Rattle.x10_frame.specs.Heads.{IsGraphHead};
+ghost use Rattle.x10_frame.specs.Heads.{head};
 ghost use Rattle.x10_frame.specs.Writing.{head_bytes, values_bytes, node_of};
 
-use crate::head::Head;
+use crate::head::{Head, What};
 use crate::item::Item;
 use byteorder::{BigEndian, ByteOrder};
 use std::alloc::AllocError;
+use x10_model::Finish;
 
 #[inline(always)]
 fn put_place(out: &mut Vec<u8>, place: u16) -> Result<(), AllocError>
@@ -123,15 +124,18 @@ fn put_spawn(
     out: &mut Vec<u8>,
     from: u16,
     to: u16,
-    home: u16,
-    number: u32,
+    under: Finish,
     function: u16,
 ) -> Result<(), AllocError>
     ensures { OnOk result (out.new.items ≡ out.old.items
-        ++ head_bytes Wide (head.Spawn from to home number function)) }
+        ++ head_bytes Wide (head from to (what.Spawn under function))) }
 {
-    let (f, t, h) = (from.to_be_bytes(), to.to_be_bytes(), home.to_be_bytes());
-    let (n, u) = (number.to_be_bytes(), function.to_be_bytes());
+    let (f, t, h) = (
+        from.to_be_bytes(),
+        to.to_be_bytes(),
+        under.home.to_be_bytes(),
+    );
+    let (n, u) = (under.number.to_be_bytes(), function.to_be_bytes());
     out.extend_from_slice(&[
         2, 1, f[0], f[1], t[0], t[1], h[0], h[1], n[0], n[1], n[2], n[3], u[0], u[1],
     ])
@@ -143,19 +147,15 @@ fn put_shift(
     from: u16,
     to: u16,
     waiting: u32,
-    home: u16,
-    number: u32,
+    under: Finish,
     function: u16,
 ) -> Result<(), AllocError>
     ensures { OnOk result (out.new.items ≡ out.old.items
-        ++ head_bytes Wide (head.Shift from to waiting home number function)) }
+        ++ head_bytes Wide (head from to (what.Shift waiting under function))) }
 {
     let (f, t, w) = (from.to_be_bytes(), to.to_be_bytes(), waiting.to_be_bytes());
-    let (h, n, u) = (
-        home.to_be_bytes(),
-        number.to_be_bytes(),
-        function.to_be_bytes(),
-    );
+    let (h, n) = (under.home.to_be_bytes(), under.number.to_be_bytes());
+    let u = function.to_be_bytes();
     out.extend_from_slice(&[
         2, 2, f[0], f[1], t[0], t[1], w[0], w[1], w[2], w[3], h[0], h[1], n[0], n[1], n[2], n[3],
         u[0], u[1],
@@ -178,23 +178,15 @@ fn put_short(out: &mut Vec<u8>, kind: u8, from: u16, to: u16, number: u32) -> Re
 pub fn put_head(out: &mut Vec<u8>, head: &Head) -> Result<(), AllocError>
     ensures { OnOk result (out.new.items ≡ out.old.items ++ head_bytes Wide head.now) }
 {
-    match *head {
-        Head::Spawn {
-            from,
-            to,
-            home,
-            number,
-            function,
-        } => put_spawn(out, from, to, home, number, function),
-        Head::Shift {
-            from,
-            to,
+    let Head { from, to, what } = *head;
+    match what {
+        What::Spawn { under, function } => put_spawn(out, from, to, under, function),
+        What::Shift {
             waiting,
-            home,
-            number,
+            under,
             function,
-        } => put_shift(out, from, to, waiting, home, number, function),
-        Head::Back { from, to, waiting } => put_short(out, 3, from, to, waiting),
-        Head::Report { from, to, number } => put_short(out, 4, from, to, number),
+        } => put_shift(out, from, to, waiting, under, function),
+        What::Back { waiting } => put_short(out, 3, from, to, waiting),
+        What::Report { number } => put_short(out, 4, from, to, number),
     }
 }

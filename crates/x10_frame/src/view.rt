@@ -15,7 +15,7 @@ ghost use Rattle.x10_bytes.specs.Tables.{IsPart};
 
 use crate::body::{Body, read_body};
 use crate::fault::FrameFault;
-use crate::head::{Head, read_head, version_at};
+use crate::head::{Head, What, read_head, version_at};
 use crate::item::{Item, nth_item};
 use crate::node_view::NodeView;
 use crate::nodes::{Nodes, NodesByVersion};
@@ -93,11 +93,9 @@ impl<'a> FrameView<'a> {
         ensures sent { result ≡ length (sent_of self.now) }
         ensures received { result ≡ length (received_of self.now) }
     {
-        match self.head {
-            Head::Report { .. } => usize::from(self.places),
-            Head::Spawn { .. } => 0,
-            Head::Shift { .. } => 0,
-            Head::Back { .. } => 0,
+        match self.head.what {
+            What::Report { .. } => usize::from(self.places),
+            What::Spawn { .. } | What::Shift { .. } | What::Back { .. } => 0,
         }
     }
 

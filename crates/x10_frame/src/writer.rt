@@ -10,7 +10,7 @@ ghost use Rattle.x10_frame.specs.Heads.{IsGraphHead, with_graph};
 ghost use Rattle.x10_frame.specs.Items.{item_of};
 ghost use Rattle.x10_frame.specs.Writing.{head_bytes, sizes_bytes, values_bytes, node_of, draft};
 
-use crate::head::Head;
+use crate::head::{Head, What};
 use crate::item::Item;
 use crate::report::Report;
 use crate::spell::{put_begin, put_blob, put_counts, put_head, put_item, put_items, put_node};
@@ -166,7 +166,8 @@ pub fn write_counts(
         ≡ spelling Wide (frames.Report from to number sent.now received.now)) }
 {
     let mut bytes = Vec::with_capacity(alloc, 16 + 8 * sent.len())?;
-    put_head(&mut bytes, &Head::Report { from, to, number })?;
+    let what = What::Report { number };
+    put_head(&mut bytes, &Head { from, to, what })?;
     let places = sent.len() as u16;
     bytes.extend_from_slice(&places.to_be_bytes())?;
     put_counts(&mut bytes, sent)?;

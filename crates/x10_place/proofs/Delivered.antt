@@ -1,12 +1,15 @@
 -- Frames that a place takes in, and those that it refuses, by what they are.
 use Rattle.std.proofs.Common.{◌≡◌, ℕ, Bool, List, Some, None, Result, Ok, Err, OnOk, IfErr, refl, sym, ap, subst, inl}
 use Rattle.slab.specs.Slab.{Slab}
+use Rattle.x10_model.specs.declared.finish.Finish.{Finish}
 use Rattle.x10_model.specs.Frames as frames
 use Rattle.x10_model.specs.declared.version.FrameVersion.TheVariants.{Wide}
 use Rattle.x10_model.specs.Frames.{Graph, Frame, FitsFrame}
 use Rattle.x10_model.specs.Modules.{FitsImage}
-use Rattle.x10_frame.specs.declared.head.Head.TheVariants as head
-use Rattle.x10_frame.specs.Heads.{head_of, graph_of}
+use Rattle.x10_frame.specs.declared.head.Head.{Head}
+use Rattle.x10_frame.specs.declared.head.What.{What}
+use Rattle.x10_frame.specs.declared.head.What.TheVariants as what
+use Rattle.x10_frame.specs.Heads.{head, finish, head_of, graph_of}
 use Rattle.x10_heap.specs.Heaps.{HeapState}
 use Rattle.x10_copy.specs.declared.refusal.Refusal.{Refusal}
 use Rattle.x10_copy.specs.declared.refusal.Refusal.TheVariants as refusal
@@ -32,25 +35,51 @@ err_then (Err e) f h = f e h
 
 -- ---- frames by their heads
 
-pub spawn_is : (f : Frame) (from to home number function : ℕ) → head_of f ≡ head.Spawn from to home number function
+-- what a frame is sent for, and its places
+parts_are : (f : Frame) (from to : ℕ) (w : What) → head_of f ≡ head from to w
+    → ((head_of f).what ≡ w) × ((head_of f).from ≡ from) × ((head_of f).to ≡ to)
+parts_are f from to w h = (ap (λ (x : Head). x.what) h, ap (λ (x : Head). x.from) h, ap (λ (x : Head). x.to) h)
+
+pub spawn_is : (f : Frame) (from to home number function : ℕ) → head_of f ≡ head from to (what.Spawn (finish home number) function)
     → f ≡ frames.Spawn from to home number function (graph_of f)
-spawn_is (frames.Spawn a b c d e g) from to home number function h = cc
-spawn_is (frames.Shift a b w c d e g) from to home number function h = absurd cc
-spawn_is (frames.Back a b w g) from to home number function h = absurd cc
-spawn_is (frames.Report a b n sent received) from to home number function h = absurd cc
+spawn_is f from to home number function h = by f (parts_are f from to (what.Spawn (finish home number) function) h)
+  where
+    by : (f : Frame) → ((head_of f).what ≡ what.Spawn (finish home number) function) × ((head_of f).from ≡ from) × ((head_of f).to ≡ to)
+        → f ≡ frames.Spawn from to home number function (graph_of f)
+    by (frames.Spawn a b c d e g) (w, p, q) =
+        let same : finish c d ≡ finish home number = cc in
+        let is_home : c ≡ home = ap (λ (u : Finish). u.home) same in
+        let is_number : d ≡ number = ap (λ (u : Finish). u.number) same in cc
+    by (frames.Shift a b k c d e g) (w, p, q) = absurd cc
+    by (frames.Back a b k g) (w, p, q) = absurd cc
+    by (frames.Report a b n sent received) (w, p, q) = absurd cc
 
-pub shift_is : (f : Frame) (from to waiting home number function : ℕ) → head_of f ≡ head.Shift from to waiting home number function
+pub shift_is : (f : Frame) (from to waiting home number function : ℕ)
+    → head_of f ≡ head from to (what.Shift waiting (finish home number) function)
     → f ≡ frames.Shift from to waiting home number function (graph_of f)
-shift_is (frames.Shift a b w c d e g) from to waiting home number function h = cc
-shift_is (frames.Spawn a b c d e g) from to waiting home number function h = absurd cc
-shift_is (frames.Back a b w g) from to waiting home number function h = absurd cc
-shift_is (frames.Report a b n sent received) from to waiting home number function h = absurd cc
+shift_is f from to waiting home number function h = by f (parts_are f from to (what.Shift waiting (finish home number) function) h)
+  where
+    by : (f : Frame)
+        → ((head_of f).what ≡ what.Shift waiting (finish home number) function) × ((head_of f).from ≡ from) × ((head_of f).to ≡ to)
+        → f ≡ frames.Shift from to waiting home number function (graph_of f)
+    by (frames.Shift a b k c d e g) (w, p, q) =
+        let same : finish c d ≡ finish home number = cc in
+        let is_home : c ≡ home = ap (λ (u : Finish). u.home) same in
+        let is_number : d ≡ number = ap (λ (u : Finish). u.number) same in cc
+    by (frames.Spawn a b c d e g) (w, p, q) = absurd cc
+    by (frames.Back a b k g) (w, p, q) = absurd cc
+    by (frames.Report a b n sent received) (w, p, q) = absurd cc
 
-pub back_is : (f : Frame) (from to waiting : ℕ) → head_of f ≡ head.Back from to waiting → f ≡ frames.Back from to waiting (graph_of f)
-back_is (frames.Back a b w g) from to waiting h = cc
-back_is (frames.Spawn a b c d e g) from to waiting h = absurd cc
-back_is (frames.Shift a b w c d e g) from to waiting h = absurd cc
-back_is (frames.Report a b n sent received) from to waiting h = absurd cc
+pub back_is : (f : Frame) (from to waiting : ℕ) → head_of f ≡ head from to (what.Back waiting)
+    → f ≡ frames.Back from to waiting (graph_of f)
+back_is f from to waiting h = by f (parts_are f from to (what.Back waiting) h)
+  where
+    by : (f : Frame) → ((head_of f).what ≡ what.Back waiting) × ((head_of f).from ≡ from) × ((head_of f).to ≡ to)
+        → f ≡ frames.Back from to waiting (graph_of f)
+    by (frames.Back a b k g) (w, p, q) = cc
+    by (frames.Spawn a b c d e g) (w, p, q) = absurd cc
+    by (frames.Shift a b k c d e g) (w, p, q) = absurd cc
+    by (frames.Report a b n sent received) (w, p, q) = absurd cc
 
 module _ (v : Certified) (old : Slab StayState) (s : StoreState) where
   abbrev place : Bool → PlaceState

@@ -26,7 +26,8 @@ use Rattle.x10_model.proofs.Lists.{none_some}
 use Rattle.x10_heap.specs.Words.{Context, AreWordsOf, HoldsHeap}
 use Rattle.x10_heap.proofs.GrownHeaps.{Grows, grows_not}
 use Rattle.x10_frame.specs.declared.head.Head.{Head}
-use Rattle.x10_frame.specs.declared.head.Head.TheVariants as head
+use Rattle.x10_frame.specs.declared.head.What.TheVariants as what
+use Rattle.x10_frame.specs.Heads.{head}
 use Rattle.x10_copy.specs.Captured.{kinds_of, IsSnapshot}
 use Rattle.x10_place.specs.declared.place.Stepped.TheVariants as stepped
 use Rattle.x10_place.specs.declared.outcome.Departure.{Departure}
@@ -233,7 +234,7 @@ module _ (far : Far) (p : PlaceState) (m : machine.Place) (stands : StandsFor fa
       let counted = arguments_there op.At those asked.0 asked.1.there refl in
       let there : i.c < h.top.function.registers = subst (λ q. IsThere p.program h.top.function i (form_of q).c i.c) e range.c in
       let named : i.x < length p.program.functions = subst (λ q. IsThere p.program h.top.function i (form_of q).x i.x) e range.x in
-      let made = sends_by asked.0 (head.Shift p.id d.message.to key u.home u.number i.x)
+      let made = sends_by asked.0 (head p.id d.message.to (what.Shift key u i.x))
       (ap (λ q. head_sent q p.id d.message.to key u i.x) (sym w)) counted there asked.1 in
       let graph = snapshot_of made.snapshot.graph in
       let message : Message = machine.Shift p.id to key under i.x graph in
@@ -301,7 +302,7 @@ module _ (far : Far) (p : PlaceState) (m : machine.Place) (stands : StandsFor fa
       let counted = arguments_there op.Ata those asked.0 asked.1.there refl in
       let there : i.c < h.top.function.registers = subst (λ q. IsThere p.program h.top.function i (form_of q).c i.c) e range.c in
       let named : i.x < length p.program.functions = subst (λ q. IsThere p.program h.top.function i (form_of q).x i.x) e range.x in
-      let made = sends_by asked.0 (head.Spawn p.id d.message.to u.home u.number i.x)
+      let made = sends_by asked.0 (head p.id d.message.to (what.Spawn u i.x))
       (ap (λ q. head_sent q p.id d.message.to key u i.x) (sym w)) counted there asked.1 in
       let graph = snapshot_of made.snapshot.graph in
       let message : Message = machine.Spawn p.id to under i.x graph in

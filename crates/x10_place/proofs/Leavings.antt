@@ -22,7 +22,8 @@ use Rattle.std.specs.List.{AllByRecursion}
 use Rattle.x10_finish.specs.Ledgers.{gives_report, AreDue}
 use Rattle.x10_model.specs.declared.version.FrameVersion.TheVariants.{Wide}
 use Rattle.x10_model.specs.Frames.{spelling}
-use Rattle.x10_frame.specs.declared.head.Head.TheVariants as head
+use Rattle.x10_frame.specs.declared.head.What.TheVariants as what
+use Rattle.x10_frame.specs.Heads.{head}
 use Rattle.x10_copy.specs.Captured.{kinds_of, IsSnapshot}
 use Rattle.x10_place.specs.declared.place.Stepped.TheVariants as stepped
 use Rattle.x10_place.specs.declared.sent.Outgoing.{Outgoing}
@@ -141,7 +142,7 @@ module _ (far : Far) (p : PlaceState) (m : machine.Place) (stands : StandsFor fa
       by None None e sent = (None, refl, refl)
       by (Some origin) (Some o) e sent =
           let snapshot : IsSnapshot x m.cells (kinds_of (slots_of_end p.program a.top)) (as_list ending.result)
-          (head.Back p.id origin.place origin.key) o.bytes.items = sent.1 x m.cells (as_list ending.result) refl refl refl stands.heap words in
+          (head p.id origin.place (what.Back origin.key)) o.bytes.items = sent.1 x m.cells (as_list ending.result) refl refl refl stands.heap words in
           let graph = snapshot_of snapshot.graph in
           let run = h.run.back origin e in (
             Some (machine.Back p.id origin.place origin.key graph),

@@ -12,8 +12,6 @@ use Rattle.x10_model.specs.Frames.{Graph, Frame}
 use Rattle.x10_model.specs.Marshalling.{snapshot_of}
 use Rattle.x10_model.specs.ReadingFrames.{frame_at}
 use Rattle.x10_frame.specs.Heads.{graph_of}
-use Rattle.x10_frame.specs.declared.head.Head.{Head}
-use Rattle.x10_frame.specs.declared.head.Head.TheVariants as head
 use Rattle.x10_verify.specs.Certified.{Certified}
 use Rattle.x10_frame.specs.Faults.{named, IsFault}
 use Rattle.x10_image.specs.Parts.{Signature, signature_of}
@@ -235,12 +233,6 @@ IsBackRefused program old s f from key why = (slots : List Slot)
     × IsRefusal program s.here from s.heap slots (graph_of f) why
 
 -- ---- a frame
-
-abbrev pub to_in : Head → ℕ
-to_in (head.Spawn from to home number function) = to
-to_in (head.Shift from to waiting home number function) = to
-to_in (head.Back from to waiting) = to
-to_in (head.Report from to number) = to
 
 -- the place takes a frame in, whether or not it has stopped
 pub record IsTakenFrame (verified : Certified) (old : Slab StayState) (s : StoreState) (f : Frame)

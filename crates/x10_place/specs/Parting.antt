@@ -10,7 +10,8 @@ use Rattle.x10_model.specs.declared.finish.Finish.{Finish}
 use Rattle.x10_model.specs.Places.{Origin}
 use Rattle.x10_model.specs.Totals.{ends_one, sends_to, is_last}
 use Rattle.x10_frame.specs.declared.head.Head.{Head}
-use Rattle.x10_frame.specs.declared.head.Head.TheVariants as head
+use Rattle.x10_frame.specs.declared.head.What.TheVariants as what
+use Rattle.x10_frame.specs.Heads.{head}
 use Rattle.x10_copy.specs.Captured.{kinds_of, IsCopied}
 use Rattle.x10_place.specs.declared.outcome.Departure.{Departure}
 use Rattle.x10_place.specs.declared.outcome.Departure.TheVariants as departure
@@ -37,10 +38,8 @@ IsGoing _ = ⊥
 
 -- what stands at the front of the frame that an AT or ATA sends
 abbrev pub head_sent : Departure → (here to key : ℕ) → Finish → (function : ℕ) → Head
-head_sent departure.At here to key under function =
-    head.Shift here to key under.home under.number function
-head_sent departure.Ata here to key under function =
-    head.Spawn here to under.home under.number function
+head_sent departure.At here to key under function = head here to (what.Shift key under function)
+head_sent departure.Ata here to key under function = head here to (what.Spawn under function)
 
 -- the stay waits at its AT, or goes on after its ATA
 abbrev pub DepartsBy : Departure → StayState → StayState → Type 0
@@ -80,7 +79,7 @@ SendsResult program s a i (Some origin) (Some o) =
     (o.to ≡ origin.place)
     × TakesAlong program s (slots_of_end program a.top)
     (words_from a.top i.a (slots_of_end program a.top))
-    (head.Back s.here origin.place origin.key) o.bytes.items
+    (head s.here origin.place (what.Back origin.key)) o.bytes.items
 SendsResult program s a i _ _ = ⊥
 
 -- a report goes to the home of a finish where its last activity ends away from there

@@ -23,7 +23,7 @@ use crate::store::Store;
 use slab::Slab;
 use std::alloc::Global;
 use x10_code::Instr;
-use x10_frame::Head;
+use x10_frame::{Head, What};
 use x10_kinds::{Limit, Stop};
 use x10_model::Finish;
 use x10_verify::Verified;
@@ -42,22 +42,18 @@ fn head_of(
     ensures graph { IsGraphHead result }
     ensures roots { most_roots result ≡ 16 }
 {
-    match departure {
-        Departure::At => Head::Shift {
-            from: here,
-            to,
+    let what = match departure {
+        Departure::At => What::Shift {
             waiting: key as u32,
-            home: under.home,
-            number: under.number,
+            under,
             function,
         },
-        Departure::Ata => Head::Spawn {
-            from: here,
-            to,
-            home: under.home,
-            number: under.number,
-            function,
-        },
+        Departure::Ata => What::Spawn { under, function },
+    };
+    Head {
+        from: here,
+        to,
+        what,
     }
 }
 

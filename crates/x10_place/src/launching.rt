@@ -35,34 +35,6 @@ pub(crate) struct Launch {
     pub(crate) back: Option<Origin>,
 }
 
-impl Launch {
-    /// What a frame from a place names: a function, the home and number of a finish, and perhaps the stay that waits.
-    pub(crate) fn new(
-        from: u16,
-        function: u16,
-        home: u16,
-        number: u32,
-        back: Option<Origin>,
-    ) -> Launch
-        ensures { result ≡ record {
-          from = from;
-          function = function;
-          under = record {
-            home = home;
-            number = number;
-          };
-          back = back;
-        } }
-    {
-        Launch {
-            from,
-            function,
-            under: Finish { home, number },
-            back,
-        }
-    }
-}
-
 /// The signature of the function, if it may begin.
 fn entrance<'a>(verified: &Verified<'a>, launch: &Launch) -> Result<SigView<'a>, Refusal>
     ensures ok { IfOk result (IsEntrance verified.now.program launch.now) }

@@ -4,7 +4,8 @@ ghost use Rattle.std.specs.List.{AllByRecursion};
 ghost use Rattle.slab.specs.Slab.{Updates};
 ghost use Rattle.x10_code.specs.declared.op.Op.TheVariants as op;
 ghost use Rattle.x10_copy.specs.Captured.{kinds_of, Refuses};
-ghost use Rattle.x10_frame.specs.declared.head.Head.TheVariants as head;
+ghost use Rattle.x10_frame.specs.declared.head.What.TheVariants as what;
+ghost use Rattle.x10_frame.specs.Heads.{head};
 ghost use Rattle.x10_kinds.specs.declared.stop.Stop.TheVariants as stop;
 ghost use Rattle.x10_place.specs.Frames.{IsFetchedFor};
 ghost use Rattle.x10_place.specs.declared.outcome.Deed.TheVariants as deed;
@@ -23,7 +24,7 @@ use crate::store::Store;
 use slab::Slab;
 use std::alloc::Global;
 use x10_code::Instr;
-use x10_frame::{Head, write_counts};
+use x10_frame::{Head, What, write_counts};
 use x10_kinds::Stop;
 use x10_model::Finish;
 use x10_verify::Verified;
@@ -55,18 +56,20 @@ fn result(
     ensures to { IfOk result (λ out. out.to ≡ origin.place) }
     ensures copy { IfOk result (λ out. TakesAlong verified.now.program store.old (slots_of_end
         verified.now.program top.now) (words_from top.now instr.a (slots_of_end
-        verified.now.program top.now)) (head.Back store.old.here origin.place origin.key)
-        out.bytes.items) }
+        verified.now.program top.now)) (head store.old.here origin.place
+        (what.Back origin.key)) out.bytes.items) }
     ensures err { IfErr result (λ why. Refuses verified.now.program.classes store.old.heap (kinds_of
         (slots_of_end verified.now.program top.now)) (words_from top.now instr.a (slots_of_end
         verified.now.program top.now)) why) }
     ensures kept { store.new ≡ store.old }
 {
     verified.certificate();
-    let head = Head::Back {
+    let head = Head {
         from: store.locality().here,
         to: origin.place,
-        waiting: origin.key,
+        what: What::Back {
+            waiting: origin.key,
+        },
     };
     let signature = verified.image().signature(usize::from(top.function));
     let first = usize::from(instr.a);

@@ -2,7 +2,7 @@
 ghost use Rattle.std.specs.Prelude.{◌≡◌, Bool, false, Ok, IfErr, IfOk, OnErr, OnOk};
 ghost use Rattle.x10_model.specs.declared.version.FrameVersion.TheVariants.{Wide};
 ghost use Rattle.x10_model.specs.Frames.{Frame, FitsFrame, IsSpelled};
-ghost use Rattle.x10_place.specs.Arrivals.{IsUnread, IsTakenFrame, to_in};
+ghost use Rattle.x10_place.specs.Arrivals.{IsUnread, IsTakenFrame};
 ghost use Rattle.x10_place.specs.Receiving.{IsTaken, IsRefusedFrame, IsRefusedBytes, IsOfFrame, stops};
 ghost use Rattle.x10_place.specs.StandsFor.{place_of, IsStanding};
 ghost use Rattle.x10_place.specs.Stretches.{IsUntouched, SameInside};
@@ -13,7 +13,7 @@ use crate::reports::take_report;
 use crate::stay::Origin;
 use std::alloc::Global;
 use x10_copy::Refusal;
-use x10_frame::{FrameFault, FrameView, Head};
+use x10_frame::{FrameFault, FrameView, Head, What};
 
 /// The frame that bytes spell, in either version.
 fn read<'a>(alloc: Global, bytes: &'a [u8], places: u16) -> Result<FrameView<'a>, Refusal>
@@ -25,18 +25,6 @@ fn read<'a>(alloc: Global, bytes: &'a [u8], places: u16) -> Result<FrameView<'a>
         Ok(view) => Ok(view),
         Err(FrameFault::Memory) => Err(Refusal::Memory),
         Err(fault) => Err(Refusal::Frame(fault)),
-    }
-}
-
-/// The place that a frame goes to.
-fn receiver(head: Head) -> u16
-    ensures { result ≡ to_in head }
-{
-    match head {
-        Head::Spawn { to, .. } => to,
-        Head::Shift { to, .. } => to,
-        Head::Back { to, .. } => to,
-        Head::Report { to, .. } => to,
     }
 }
 
@@ -57,32 +45,36 @@ impl<'a> Ground<'a> {
     {
         let verified = self.verified;
         verified.certificate();
-        let head = view.head();
-        if receiver(head) != self.store.locality().here {
+        let Head { from, to, what } = view.head();
+        if to != self.store.locality().here {
             return Err(Refusal::NotHere);
         }
-        match head {
-            Head::Spawn {
-                from,
-                home,
-                number,
-                function,
-                ..
-            } => { self.launch(view, Launch::new(from, function, home, number, None)) }
-            Head::Shift {
-                from,
+        match what {
+            What::Spawn { under, function } => {
+                let launch = Launch {
+                    from,
+                    function,
+                    under,
+                    back: None,
+                };
+                self.launch(view, launch)
+            }
+            What::Shift {
                 waiting,
-                home,
-                number,
+                under,
                 function,
-                ..
             } => {
                 let (place, key) = (from, waiting);
-                let back = Some(Origin { place, key });
-                self.launch(view, Launch::new(from, function, home, number, back))
+                let launch = Launch {
+                    from,
+                    function,
+                    under,
+                    back: Some(Origin { place, key }),
+                };
+                self.launch(view, launch)
             }
-            Head::Back { from, waiting, .. } => { self.resume(view, from, waiting) }
-            Head::Report { from, number, .. } => take_report(&mut self.store, view, from, number),
+            What::Back { waiting } => { self.resume(view, from, waiting) }
+            What::Report { number } => take_report(&mut self.store, view, from, number),
         }
     }
 }

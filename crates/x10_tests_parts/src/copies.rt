@@ -5,11 +5,11 @@ use std::process::Abort;
 use std::test::*;
 use x10_asm::assemble;
 use x10_copy::{Marks, Refusal, Roots, arrive, capture, heap_is_sound, words_are_sound};
-use x10_frame::{FrameView, Head};
+use x10_frame::{FrameView, Head, What};
 use x10_heap::Heap;
 use x10_image::ImageView;
 use x10_kinds::{Kind, Stop};
-use x10_model::Slot;
+use x10_model::{Finish, Slot};
 use x10_samples::CYCLE;
 
 /// A link to an object, a rail and a place's object; and a class with no field.
@@ -117,12 +117,11 @@ fn frame_with(
     assert!(rt; heap_is_sound(heap, image, 2));
     assert!(rt; words_are_sound(heap, 2, slots, words));
     assert!(rt; words.len() <= 16);
-    let head = Head::Spawn {
+    let under = Finish { home: 0, number: 1 };
+    let head = Head {
         from: 0,
         to: 1,
-        home: 0,
-        number: 1,
-        function: 0,
+        what: What::Spawn { under, function: 0 },
     };
     capture(alloc, marks, heap, image, 2, &head, slots, words)
 }

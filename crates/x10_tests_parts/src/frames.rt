@@ -7,9 +7,10 @@ use std::alloc::{AllocError, Global};
 use std::process::Abort;
 use std::test::*;
 use x10_frame::{
-    FrameView, FrameWriter, Head, Item, NodeView, Nodes, NodesByVersion, Report, Sizes,
+    FrameView, FrameWriter, Head, Item, NodeView, Nodes, NodesByVersion, Report, Sizes, What,
     write_report,
 };
+use x10_model::Finish;
 use x10_samples::{
     ALONE, BACK, CYCLE, NARROW_BACK, NARROW_CYCLE, NARROW_REPORT, NARROW_SHIFT, OTHER_REPORT,
     REPORT, SHIFT, SPAWN,
@@ -129,11 +130,11 @@ fn report_again(
 /// The frame that a view shows, written again.
 pub(crate) fn again(alloc: Global, rt: &impl Abort, view: &FrameView) -> Result<Vec<u8>, Fail> {
     let head = view.head();
-    match head {
-        Head::Spawn { .. } => graph_again(alloc, rt, view, &head),
-        Head::Shift { .. } => graph_again(alloc, rt, view, &head),
-        Head::Back { .. } => graph_again(alloc, rt, view, &head),
-        Head::Report { from, to, number } => report_again(alloc, rt, view, from, to, number),
+    match head.what {
+        What::Spawn { .. } => graph_again(alloc, rt, view, &head),
+        What::Shift { .. } => graph_again(alloc, rt, view, &head),
+        What::Back { .. } => graph_again(alloc, rt, view, &head),
+        What::Report { number } => report_again(alloc, rt, view, head.from, head.to, number),
     }
 }
 
@@ -217,12 +218,11 @@ fn has_first(
 
 /// A view has the parts of a cycle.
 fn has_a_cycle(alloc: Global, rt: &impl Abort, view: &FrameView) -> Result<(), Fail> {
-    let head = Head::Spawn {
+    let under = Finish { home: 0, number: 1 };
+    let head = Head {
         from: 0,
         to: 1,
-        home: 0,
-        number: 1,
-        function: 0,
+        what: What::Spawn { under, function: 0 },
     };
     let here = Item::Ref {
         home: 0,
@@ -261,10 +261,10 @@ fn has_counts(view: &FrameView, sent: &[u32], received: &[u32]) -> bool {
 #[test]
 fn parts_of_a_report(rt: HostRuntime) -> Result<(), Fail> {
     let view = view_of(rt.alloc(), &REPORT, 3)?;
-    let head = Head::Report {
+    let head = Head {
         from: 1,
         to: 0,
-        number: 1,
+        what: What::Report { number: 1 },
     };
     assert!(rt; view.head() == head && view.counts() == 3);
     assert!(rt; has_counts(&view, &[0, 0, 1], &[1, 0, 0]));

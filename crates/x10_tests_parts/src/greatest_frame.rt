@@ -6,7 +6,7 @@ use crate::sources::view_of;
 use std::alloc::Global;
 use std::process::Abort;
 use std::test::*;
-use x10_frame::{FrameView, FrameWriter, Head, Item, Sizes};
+use x10_frame::{FrameView, FrameWriter, Head, Item, Sizes, What};
 
 /// The most texts, and the most rails, of a frame.
 const MOST: u32 = 1_048_576;
@@ -44,10 +44,10 @@ fn texts_and_rails(rt: &impl Abort, writer: &mut FrameWriter, long: &str) -> Res
 
 /// The frame of as many texts and as many rails as there can be.
 fn greatest(alloc: Global, rt: &impl Abort) -> Result<Vec<u8>, Fail> {
-    let head = Head::Back {
+    let head = Head {
         from: 0,
         to: 1,
-        waiting: 0,
+        what: What::Back { waiting: 0 },
     };
     let sizes = Sizes {
         roots: 1,

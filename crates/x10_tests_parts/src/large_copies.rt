@@ -5,11 +5,11 @@ use std::process::Abort;
 use std::test::*;
 use x10_asm::assemble;
 use x10_copy::{Marks, Refusal, arrive, capture, heap_is_sound, words_are_sound};
-use x10_frame::{FrameFault, FrameView, Head};
+use x10_frame::{FrameFault, FrameView, Head, What};
 use x10_heap::Heap;
 use x10_image::ImageView;
 use x10_kinds::{Kind, Limit, Stop};
-use x10_model::Slot;
+use x10_model::{Finish, Slot};
 
 /// Lists: of objects alone, and of objects with 15 texts or 15 rails each.
 const LISTS: &str = "places 2
@@ -102,12 +102,11 @@ fn frame_of(
     let slots = first_of(class);
     assert!(rt; heap_is_sound(heap, image, 2));
     assert!(rt; words_are_sound(heap, 2, &slots, &[1]));
-    let head = Head::Spawn {
+    let under = Finish { home: 0, number: 1 };
+    let head = Head {
         from: 0,
         to: 1,
-        home: 0,
-        number: 1,
-        function: 0,
+        what: What::Spawn { under, function: 0 },
     };
     let mut marks = Marks::new(alloc);
     capture(alloc, &mut marks, heap, image, 2, &head, &slots, &[1])

@@ -4,11 +4,11 @@ use std::alloc::{AllocError, Global};
 use std::process::Abort;
 use std::test::*;
 use x10_copy::{Marks, Roots, arrive, capture, heap_is_sound, words_are_sound};
-use x10_frame::{FrameView, Head};
+use x10_frame::{FrameView, Head, What};
 use x10_heap::Heap;
 use x10_image::{ClassView, ImageView};
 use x10_kinds::Kind;
-use x10_model::Slot;
+use x10_model::{Finish, Slot};
 
 /// Fields of each kind.
 const CLASSES: &str = "places 2
@@ -359,12 +359,11 @@ fn arrives(
     let words = random_words(&mut dice, &counts, &slots);
     assert!(rt; heap_is_sound(&from, image, 2));
     assert!(rt; words_are_sound(&from, 2, &slots, &words));
-    let head = Head::Spawn {
+    let under = Finish { home: 0, number: 1 };
+    let head = Head {
         from: 0,
         to: 1,
-        home: 0,
-        number: 1,
-        function: 0,
+        what: What::Spawn { under, function: 0 },
     };
     let frame = capture(alloc, marks, &from, image, 2, &head, &slots, &words).ok()?;
     let view = FrameView::read(alloc, &frame, 2).ok()?;
