@@ -28,6 +28,8 @@ pub mod Loops
 pub mod MoveLemmas
 pub mod Ways
 pub mod RelayMoves
+pub mod RelayWorlds
+pub mod RelayEnds
 pub mod Relayed
 pub mod Refusals
 pub mod Offsets
