@@ -18,7 +18,8 @@ use Rattle.x10_model.specs.Signatures.{FitSlots}
 use Rattle.x10_model.specs.Copies.{Snapshot, Captures}
 use Rattle.x10_model.specs.Places as places
 use Rattle.x10_model.specs.Places.{Setting, CallFrame, Origin, Stay, Export, Message, Spawn, Shift, Back, innermost, Effect, Waits, Works, Begins, Spawns, Shifts, Opens, Closes, Ends, with_stay, goes, next, writes}
-use Rattle.x10_model.specs.Moves.{Situation, Holds, Passes, GivesBack, SendsBack, Returns, as_list, resumed, place_of, line_of, with_cell, MakesRail, SetsByte, index_of, Does}
+use Rattle.x10_model.specs.Moves.{Situation, Holds, Passes, GivesBack, SendsBack, Returns, as_list, resumed, with_cell, MakesRail, SetsByte, Does}
+use Rattle.x10_model.specs.Results.{place_of, line_of, index_of}
 use Rattle.x10_model.specs.Wrong.{Want, AnInt, APlace, AText, ARail, AnObject, AReference, AnIntOrText, AnObjectOrNull, APlaceOrReference, Meets, asked, IsTarget, IsDetached, IsFieldOwner, IsWrongAt, operand, argument, result_dropped, no_field, put_field, away, no_export, finish_open, no_call, no_finish}
 use Rattle.x10_model.specs.Laws.{IsSent, HasRoom}
 use Rattle.x10_model.proofs.Found.{Met}

@@ -8,7 +8,8 @@ use Rattle.x10_model.specs.Values.{Value, Int, Place, Text, Rail, Object, Null, 
 use Rattle.x10_model.specs.Signatures.{FitSlots}
 use Rattle.x10_model.specs.Places as places
 use Rattle.x10_model.specs.Places.{Setting, Stay, CallFrame, Effect}
-use Rattle.x10_model.specs.Moves.{Situation, Holds, HoldsFrom, Passes, place_of, line_of}
+use Rattle.x10_model.specs.Moves.{Situation, Holds, HoldsFrom, Passes}
+use Rattle.x10_model.specs.Results.{place_of, line_of}
 use Rattle.x10_model.specs.Wrong.{Want, AnIntOrText, APlaceOrReference, Meets}
 use Rattle.std.proofs.lemmas.Option.{same_Some}
 use Rattle.x10_model.proofs.Lists.{same_some}

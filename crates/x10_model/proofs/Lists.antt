@@ -1,5 +1,5 @@
 -- Lists and options: what the standard library lacks.
-use Rattle.std.proofs.Common.{◌≡◌, ◌≢◌, ◌⊎◌, ℕ, zero, suc, ◌<◌, List, [], ◌∷◌, ◌++◌, length, set, Option, None, Some, refl, sym, ap, subst, inl, inr, arith}
+use Rattle.std.proofs.Common.{◌≡◌, ◌≢◌, ◌⊎◌, ℕ, zero, suc, ◌+◌, ◌<◌, List, [], ◌∷◌, ◌++◌, length, set, Option, None, Some, refl, sym, ◌∙◌, ap, subst, inl, inr, arith}
 use Rattle.std.specs.Prelude.{slice_get}
 use Rattle.std.specs.List.{AllByRecursion}
 use Rattle.std.proofs.lemmas.Option.{same_Some}
@@ -15,6 +15,21 @@ pub all_at : {A : Type 0} (P : A → Type 0) (xs : List A) (i : ℕ) (x : A) →
 all_at P [] i x h e = absurd cc
 all_at P (y ∷ xs) zero x h e = subst P (same_Some y x e) h.0
 all_at P (y ∷ xs) (suc i) x h e = all_at P xs i x h.1 e
+
+-- what is in a list stays there, where more comes behind it
+pub append_front : {A : Type 0} (xs ys : List A) (i : ℕ) (x : A) → slice_get xs i ≡ Some x → slice_get (xs ++ ys) i ≡ Some x
+append_front [] ys i x e = absurd cc
+append_front (z ∷ xs) ys zero x e = e
+append_front (z ∷ xs) ys (suc i) x e = append_front xs ys i x e
+
+-- what comes behind a list
+pub append_behind : {A : Type 0} (xs ys : List A) (i : ℕ) → slice_get (xs ++ ys) (length xs + i) ≡ slice_get ys i
+append_behind [] ys i =
+    let e : 0 + i ≡ i = omega arith in
+    ap (λ (k : ℕ). slice_get ys k) e
+append_behind (x ∷ xs) ys i =
+    let e : suc (length xs) + i ≡ suc (length xs + i) = omega arith in
+    ap (λ (k : ℕ). slice_get (x ∷ (xs ++ ys)) k) e ∙ append_behind xs ys i
 
 -- the item behind others
 pub append_get : {A : Type 0} (xs : List A) (y : A) (ys : List A) → slice_get (xs ++ y ∷ ys) (length xs) ≡ Some y

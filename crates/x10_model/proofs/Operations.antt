@@ -13,7 +13,8 @@ use Rattle.x10_model.specs.Values.{Value, Int, Place, Text, Rail, Object, Null, 
 use Rattle.x10_model.specs.Signatures.{AreOfKinds}
 use Rattle.x10_model.specs.Places as places
 use Rattle.x10_model.specs.Places.{Setting, Stay, CallFrame, Effect, Origin, Export, Message, Spawn, Shift, Back, innermost, Waits, Works, Begins, Spawns, Shifts, Opens, Closes, Ends, with_stay, goes, next, writes}
-use Rattle.x10_model.specs.Moves.{Situation, Passes, Does, entry_frame, new_stay, writes_or_goes, next_or_goes, is_zero, quotient, remainder, joined_text, rail_length, byte_at, byte_value, place_number, with_line, with_cell}
+use Rattle.x10_model.specs.Moves.{Situation, Passes, Does, entry_frame, new_stay, writes_or_goes, next_or_goes, with_line, with_cell}
+use Rattle.x10_model.specs.Results.{is_zero, quotient, remainder, joined_text, rail_length, byte_at, byte_value, place_number}
 use Rattle.x10_model.specs.Wrong.{AnIntOrText, asked, IsTarget, IsDetached, IsFieldOwner, new_field, result, Anything, AnObjectOrNull}
 use Rattle.x10_model.proofs.Lists.{none_some, below_some}
 use Rattle.std.specs.Bool.{if◌then◌else◌}

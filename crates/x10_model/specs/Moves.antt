@@ -1,10 +1,9 @@
 -- What one instruction of one activity does to its place: a relation by cases on the operation, in the groups numbers,
 -- control, text, objects, rails, places, activities and output.
-use Rattle.std.specs.Prelude.{◌≡◌, ℕ, ℤ, pos, negsuc, ◌+ℤ◌, ◌-ℤ◌, ◌*ℤ◌, int_div, int_rem, int_lt, ◌+◌, ◌-◌, ◌%◌, ◌<◌, ◌⊎◌, Bool, true, false, ◌==◌}
-use Rattle.std.specs.Prelude.{nat_lt, nat_le, List, [], ◌∷◌, ◌++◌, length, replicate, Option, Some, None, if◌then◌else◌, slice_get, slice_set}
-use Rattle.std.specs.Int.{w64, int_wrap, int_rem_euclid}
+use Rattle.std.specs.Prelude.{◌≡◌, ℕ, ℤ, pos, ◌+ℤ◌, ◌-ℤ◌, ◌*ℤ◌, int_lt, ◌+◌, ◌-◌, ◌%◌, ◌<◌, ◌⊎◌, Bool, true, false, ◌==◌}
+use Rattle.std.specs.Prelude.{nat_lt, List, [], ◌∷◌, ◌++◌, length, replicate, Option, Some, None, if◌then◌else◌, slice_get, slice_set}
+use Rattle.std.specs.Int.{int_rem_euclid}
 use Rattle.std.specs.Ordering.{int_eq}
-use Rattle.x10_model.specs.declared.limits.TheConstants.{MOST_BYTES}
 use Rattle.x10_kinds.specs.declared.kind.Kind.{Kind}
 use Rattle.x10_code.specs.declared.op.Op.{Op}
 use Rattle.x10_code.specs.declared.op.Op.TheVariants as op
@@ -16,9 +15,10 @@ use Rattle.x10_model.specs.Ranges.{function_at, instr_at, IsInRange}
 use Rattle.x10_model.specs.Values.{Value, Int, Place, Text, Rail, Object, Null, Ref, Cell, Fields, Bytes, IsOfKind}
 use Rattle.x10_model.specs.Signatures.{FitsSlotAt, FitSlots, AreOfKinds}
 use Rattle.x10_model.specs.Copies.{Snapshot, Captures}
+use Rattle.x10_model.specs.Results.{is_zero, wrapped, quotient, remainder, truth, joined_text, rail_length, byte_at, byte_value, index_of, place_number, place_of, line_of}
 use Rattle.x10_model.specs.Places as places
 use Rattle.x10_model.specs.declared.finish.Finish.{Finish}
-use Rattle.x10_model.specs.Places.{Setting, CallFrame, Origin, Stay, IsFree, Line, Number, Words, Export, Message, Spawn, Shift, Back, innermost}
+use Rattle.x10_model.specs.Places.{Setting, CallFrame, Origin, Stay, IsFree, Line, Message, Spawn, Shift, Back, innermost}
 use Rattle.x10_model.specs.Places.{Effect, Waits, Works, Begins, Spawns, Shifts, Opens, Closes, Ends, with_stay, goes, next, writes}
 
 -- where an instruction is executed: the run's setting, the place with its number, the activity's key there and its
@@ -62,60 +62,6 @@ writes_or_goes s None = goes s.stay.top s.instr.x
 abbrev pub next_or_goes : Situation → Bool → CallFrame
 next_or_goes s true = next s.stay.top
 next_or_goes s false = goes s.stay.top s.instr.x
-
--- ---- numbers
-
-abbrev pub is_zero : ℤ → Bool
-is_zero z = int_eq z (pos 0)
-
--- sums, differences and products wrap in 64 bits
-abbrev pub wrapped : ℤ → Value
-wrapped z = Int (int_wrap w64 z)
-
--- a quotient toward zero, which wraps for the least number by -1; none by zero
-abbrev pub quotient : ℤ → ℤ → Option Value
-quotient x y = if is_zero y then None else Some (wrapped (int_div x y))
-
--- a remainder with the sign of the dividend
-abbrev pub remainder : ℤ → ℤ → Option Value
-remainder x y = if is_zero y then None else Some (Int (int_rem x y))
-
-abbrev pub truth : Bool → Value
-truth b = Int (if b then pos 1 else pos 0)
-
--- ---- text
-
-abbrev pub joined_text : List ℕ → List ℕ → Option Value
-joined_text t u = if nat_le (length t + length u) MOST_BYTES then Some (Text (t ++ u)) else None
-
--- ---- rails
-
--- a length from 0 to 65,535
-abbrev pub rail_length : ℤ → Option ℕ
-rail_length (pos n) = if nat_le n MOST_BYTES then Some n else None
-rail_length (negsuc n) = None
-
--- the byte at an index, if there is one
-abbrev pub byte_at : List ℕ → ℤ → Option ℕ
-byte_at bytes (pos n) = slice_get bytes n
-byte_at bytes (negsuc n) = None
-
-abbrev pub byte_value : Option ℕ → Option Value
-byte_value None = None
-byte_value (Some byte) = Some (Int (pos byte))
-
--- ---- places
-
--- the place with a number, if there is one
-abbrev pub place_number : ℕ → ℤ → Option Value
-place_number places (pos n) = if nat_lt n places then Some (Place n) else None
-place_number places (negsuc n) = None
-
--- the place that a value stands for: itself, or its home
-abbrev pub place_of : Value → Option ℕ
-place_of (Place p) = Some p
-place_of (Ref home id class) = Some home
-place_of _ = None
 
 -- ---- functions
 
@@ -191,11 +137,6 @@ new_stay function arguments under back = record {
 
 -- ---- output
 
-abbrev pub line_of : Value → Option Line
-line_of (Int z) = Some (Number z)
-line_of (Text t) = Some (Words t)
-line_of _ = None
-
 abbrev pub with_line : places.Place → Line → places.Place
 with_line place line = record place { lines = place.lines ++ line ∷ [] }
 
@@ -209,11 +150,6 @@ MakesRail s (Some n) new effect = (reference : ℕ) × (s.place.cells reference 
     × ContinuesAt s (with_cell s.place reference (Bytes (replicate n 0)))
     (writes s.stay.top s.instr.a (Rail reference)) new effect
 MakesRail s None new effect = Continues s (goes s.stay.top s.instr.x) new effect
-
--- the index of a number, which is not negative
-abbrev pub index_of : ℤ → ℕ
-index_of (pos n) = n
-index_of (negsuc n) = 0
 
 -- the byte at an index becomes the number's lowest eight bits, or goes to x where there is no such byte
 abbrev pub SetsByte : Situation → ℕ → List ℕ → ℤ → ℤ → Option ℕ → places.Place → Effect → Type 0

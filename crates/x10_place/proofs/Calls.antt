@@ -20,7 +20,8 @@ use Rattle.x10_model.specs.Signatures.{HasHome, FitsSlotAt, FitSlots}
 use Rattle.x10_model.specs.Places as machine
 use Rattle.x10_model.specs.declared.finish.Finish.{Finish}
 use Rattle.x10_model.specs.Places.{Setting, Stay, innermost, innermost_of, Works, Begins, with_stay, next}
-use Rattle.x10_model.specs.Moves.{Situation, Does, HoldsFrom, place_of, entry_frame, new_stay}
+use Rattle.x10_model.specs.Moves.{Situation, Does, HoldsFrom, entry_frame, new_stay}
+use Rattle.x10_model.specs.Results.{place_of}
 use Rattle.x10_model.specs.Assignments.{State, Edges, SlotsAre, FitsAs, parameter_kind, entry_state, Permits}
 use Rattle.x10_model.proofs.Rules.{first_slot, next_slots}
 use Rattle.x10_verify.proofs.Wholes.{function_fits}

@@ -17,7 +17,8 @@ use Rattle.x10_model.specs.Values.{Value, Int, Text, Cells, IsOfKind}
 use Rattle.x10_model.specs.Signatures.{FitsSlotAt}
 use Rattle.x10_model.specs.Places as machine
 use Rattle.x10_model.specs.Places.{Setting, Stay, Message, Works, Ends, with_stay, next, writes}
-use Rattle.x10_model.specs.Moves.{Situation, Does, GivesBack, SendsBack, Returns, resumed, line_of, with_line}
+use Rattle.x10_model.specs.Moves.{Situation, Does, GivesBack, SendsBack, Returns, resumed, with_line}
+use Rattle.x10_model.specs.Results.{line_of}
 use Rattle.x10_model.specs.Assignments.{State, Edges, ReturnsWell, GivesResult, like_if, Permits, Reaches, after as after_effect}
 use Rattle.x10_model.proofs.Rules.{leads}
 use Rattle.x10_place.specs.declared.call_frame.CallFrame.{CallFrame}

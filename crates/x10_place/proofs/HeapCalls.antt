@@ -9,7 +9,7 @@ use Rattle.x10_kinds.specs.declared.stop.Stop.TheVariants as stop
 use Rattle.x10_code.specs.declared.instr.Instr.{Instr}
 use Rattle.x10_model.specs.declared.limits.TheConstants.{MOST_BYTES}
 use Rattle.x10_model.specs.Modules.{Module}
-use Rattle.x10_model.specs.Moves.{byte_at}
+use Rattle.x10_model.specs.Results.{byte_at}
 use Rattle.x10_model.proofs.Decided.{get_below}
 use Rattle.x10_heap.specs.declared.export.Export.{Export}
 use Rattle.x10_heap.specs.References.{id_of, reference_word}

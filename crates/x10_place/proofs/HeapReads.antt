@@ -11,7 +11,7 @@ use Rattle.x10_code.specs.declared.instr.Instr.{Instr}
 use Rattle.x10_model.specs.Modules.{Module, Function}
 use Rattle.x10_code.specs.Table.{form_of}
 use Rattle.x10_kinds.specs.declared.homes.Term.TheVariants as term
-use Rattle.x10_model.specs.Moves.{place_of}
+use Rattle.x10_model.specs.Results.{place_of}
 use Rattle.x10_model.specs.Ranges.{IsThere}
 use Rattle.x10_model.specs.Places as machine
 use Rattle.x10_model.specs.Assignments.{State, HasAssignment, Edges, IsKind, Permits, field_of}

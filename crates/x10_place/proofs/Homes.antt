@@ -11,7 +11,7 @@ use Rattle.x10_model.specs.Modules.{Function}
 use Rattle.x10_model.specs.declared.slot.Slot.{Slot}
 use Rattle.x10_model.specs.Values.{Value, Ref, Cells, IsOfKind}
 use Rattle.x10_model.specs.Signatures.{HasHome, FitsSlotAt, FitSlots}
-use Rattle.x10_model.specs.Moves.{place_of}
+use Rattle.x10_model.specs.Results.{place_of}
 use Rattle.x10_model.specs.Assignments.{State, IsBelow, homes_here, entry_state, like_if}
 use Rattle.x10_place.specs.Homes.{place_in, place_at, AreHomes, IsLike}
 

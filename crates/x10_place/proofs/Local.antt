@@ -20,7 +20,8 @@ use Rattle.x10_model.specs.Ranges.{IsThere}
 use Rattle.x10_model.specs.Values.{Value, Int, Place, Object, Null, Ref, Bytes, Cells}
 use Rattle.x10_model.specs.Places as machine
 use Rattle.x10_model.specs.Places.{Setting, Stay, Works, with_stay, goes, next, writes}
-use Rattle.x10_model.specs.Moves.{Situation, Does, is_zero, place_of, writes_or_goes, next_or_goes, byte_at, byte_value}
+use Rattle.x10_model.specs.Moves.{Situation, Does, writes_or_goes, next_or_goes}
+use Rattle.x10_model.specs.Results.{is_zero, place_of, byte_at, byte_value}
 use Rattle.x10_model.specs.Assignments.{State, Point, Edges, like_if, IsKind, IsPlaced, Grants, Permits, Reaches, after as after_effect, edges_of}
 use Rattle.x10_model.proofs.Rules.{class_of_field, leads}
 use Rattle.x10_heap.specs.declared.export.Export.{Export}

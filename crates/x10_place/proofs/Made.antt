@@ -22,7 +22,8 @@ use Rattle.x10_model.specs.Signatures.{AreOfKinds}
 use Rattle.x10_model.specs.Places as machine
 use Rattle.x10_model.specs.Places.{Setting, Stay, Works, with_stay, goes, next, writes}
 use Rattle.x10_model.specs.Moves as moves
-use Rattle.x10_model.specs.Moves.{Situation, Does, HoldsFrom, writes_or_goes, joined_text, rail_length, byte_at, index_of}
+use Rattle.x10_model.specs.Moves.{Situation, Does, HoldsFrom, writes_or_goes}
+use Rattle.x10_model.specs.Results.{joined_text, rail_length, byte_at, index_of}
 use Rattle.x10_model.specs.Assignments.{State, Edges, IsKind, KindsAre, Permits, Reaches, edges_of}
 use Rattle.x10_model.proofs.Rules.{first_kind, next_kinds, class_of_field, leads}
 use Rattle.x10_heap.specs.Heaps.{HeapState, ObjectState, with_object, with_rail, with_text, with_field}

@@ -12,7 +12,7 @@ use Rattle.x10_place.specs.declared.route.Number.{Number}
 use Rattle.x10_place.specs.declared.route.Number.TheVariants as number
 use Rattle.x10_heap.specs.Heaps.{HeapState}
 use Rattle.x10_place.specs.Frames.{int_at, given}
-use Rattle.x10_model.specs.Moves.{is_zero, quotient, wrapped}
+use Rattle.x10_model.specs.Results.{is_zero, quotient, wrapped}
 
 -- a number that isn't negative
 wraps_pos : (n : ℕ) → n < 2 ^ 64 → cast_signed w64 n ≡ int_wrap w64 (pos n)

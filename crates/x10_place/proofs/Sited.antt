@@ -18,7 +18,8 @@ use Rattle.x10_model.specs.Ranges.{IsThere}
 use Rattle.x10_model.specs.Values.{Value, Int, Place, Object, Ref, Fields, IsOfKind}
 use Rattle.x10_model.specs.Places as machine
 use Rattle.x10_model.specs.Places.{Setting, Stay, Works, with_stay, goes, next, writes}
-use Rattle.x10_model.specs.Moves.{Situation, Does, place_number, writes_or_goes, next_or_goes}
+use Rattle.x10_model.specs.Moves.{Situation, Does, writes_or_goes, next_or_goes}
+use Rattle.x10_model.specs.Results.{place_number}
 use Rattle.x10_model.specs.Assignments.{State, Edges, IsKind, IsPlaced, Permits, Reaches, edges_of}
 use Rattle.x10_model.proofs.Rules.{leads}
 use Rattle.x10_heap.specs.declared.export.Export.{Export}

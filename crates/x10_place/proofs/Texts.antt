@@ -8,7 +8,7 @@ use Rattle.x10_code.specs.declared.op.Op.TheVariants as op
 use Rattle.x10_code.specs.declared.instr.Instr.{Instr}
 use Rattle.x10_model.specs.Modules.{Module}
 use Rattle.x10_model.specs.declared.limits.TheConstants.{MOST_BYTES}
-use Rattle.x10_model.specs.Moves.{rail_length, byte_at}
+use Rattle.x10_model.specs.Results.{rail_length, byte_at}
 use Rattle.x10_model.specs.Ranges.{instr_in}
 use Rattle.x10_heap.specs.Heaps.{HeapState}
 use Rattle.x10_place.specs.declared.route.Local.{Local}

@@ -17,7 +17,7 @@ use Rattle.x10_model.specs.Modules.{Module, Function, FitsSlot}
 use Rattle.x10_model.specs.Ranges.{function_at, IsInRange}
 use Rattle.x10_model.specs.Values.{Value, Int}
 use Rattle.x10_model.specs.declared.limits.TheConstants.{MOST_BYTES}
-use Rattle.x10_model.specs.Moves.{is_zero, wrapped, quotient, remainder, truth, rail_length, byte_at, byte_value, index_of}
+use Rattle.x10_model.specs.Results.{is_zero, wrapped, quotient, remainder, truth, rail_length, byte_at, byte_value, index_of}
 use Rattle.x10_heap.specs.References.{home_of, id_of, reference_word}
 use Rattle.x10_heap.specs.Heaps.{HeapState, ObjectState, HasField, with_object, with_rail, with_text, with_field, with_byte, with_export, IsFull}
 use Rattle.x10_heap.specs.declared.export.Export.{Export}

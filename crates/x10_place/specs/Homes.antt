@@ -4,7 +4,7 @@ use Rattle.x10_kinds.specs.declared.homes.Term.{Term}
 use Rattle.x10_kinds.specs.declared.homes.Term.TheVariants as term
 use Rattle.x10_kinds.specs.Equations.{Equations, IsTerm}
 use Rattle.x10_model.specs.Values.{Value}
-use Rattle.x10_model.specs.Moves.{place_of}
+use Rattle.x10_model.specs.Results.{place_of}
 
 -- the place that a register's value stands for: itself, or its home
 abbrev pub place_in : Option Value → Option ℕ

@@ -2,7 +2,7 @@
 ghost use Rattle.std.specs.Prelude.{◌≡◌, ◌≢◌, ◌+◌, ◌<◌, ◌≤◌, ◌^◌, ℕ, OnErr, IfOk, IfNone, IfSome, Some, [], length, replicate, slice_index};
 ghost use Rattle.std.specs.Int.{w64, cast_signed};
 ghost use Rattle.x10_code.specs.declared.op.Op.TheVariants as op;
-ghost use Rattle.x10_model.specs.Moves as machine;
+ghost use Rattle.x10_model.specs.Results as machine;
 ghost use Rattle.x10_model.specs.Values.{Int};
 ghost use Rattle.x10_place.specs.declared.route.Local.TheVariants as local;
 ghost use Rattle.x10_place.specs.Frames.{IsInside, IsFetchedFor, int_at, workspace, space_of, with_space, as_value, given, tried, Acts, AsksNumber, Asks, ReadsNumber, ReadsPartial, Reads, PassesArguments, IsEntered, IsEnteredWith};

@@ -2,7 +2,7 @@
 ghost use Rattle.std.specs.Prelude.{◌≡◌, ◌+◌, ◌-◌, ◌<◌, List, ℕ, true, false, IsSome, None, Some, length, pos, slice_get};
 ghost use Rattle.x10_heap.specs.References.{id_of};
 ghost use Rattle.x10_heap.specs.Heaps.{ObjectState, HasField, with_field};
-ghost use Rattle.x10_model.specs.Moves.{byte_at, byte_value};
+ghost use Rattle.x10_model.specs.Results.{byte_at, byte_value};
 ghost use Rattle.x10_heap.specs.declared.export.Export.{Export};
 ghost use Rattle.x10_place.specs.Frames.{as_value, byte_set};
 

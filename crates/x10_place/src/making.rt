@@ -2,7 +2,7 @@
 ghost use Rattle.std.specs.Prelude.{◌≡◌, ◌+◌, ◌<◌, ◌^◌, ℕ, IfErr, IfOk, Err, length};
 ghost use Rattle.x10_kinds.specs.declared.limit.Limit.{Limit};
 ghost use Rattle.x10_kinds.specs.declared.stop.Stop.TheVariants as stop;
-ghost use Rattle.x10_model.specs.Moves as machine;
+ghost use Rattle.x10_model.specs.Results as machine;
 ghost use Rattle.x10_place.specs.declared.route.Make.TheVariants as make;
 ghost use Rattle.x10_place.specs.Frames.{space_of, Makes, AsksMake, ReadsMake, Overfills, IsRefused};
 
