@@ -8,8 +8,8 @@ use Rattle.x10_model.specs.Places.{Stay, Message, Spawn, Shift, Back, innermost}
 use Rattle.x10_model.specs.Worlds.{Post, Flying, Taken}
 use Rattle.x10_finish.specs.Nesting.{Stays}
 use Rattle.x10_finish.specs.Chains.{Name, IsAmong, IsBegunBy, IsChain, AreLinked, Waits, Carries, AreCarried}
-use Rattle.x10_finish.proofs.DetectionLemmas.{at_entry}
-use Rattle.x10_finish.proofs.NestedFinishes.{at_pair, pair_same, pair_other, no_stay}
+use Rattle.x10_finish.proofs.Entries.{at_entry, at_pair}
+use Rattle.x10_finish.proofs.NestedFinishes.{pair_same, pair_other, no_stay}
 use Rattle.x10_model.proofs.Events.{flying_is}
 use Rattle.x10_model.proofs.Found.{head_is}
 use Rattle.x10_model.proofs.Maps.{at_key, at_equal_key, off_key}

@@ -18,9 +18,11 @@ use Rattle.x10_finish.specs.Nesting.{stays_in, Stays, stays_of}
 use Rattle.x10_finish.specs.Telling.{HowMany, Inherits, IsBetween, FliesBetween, Tells, IsInRange, counted_as, GoesTo, FollowsOn, MovesAreCounted, DeliveriesAreCounted, OpeningIsCounted}
 use Rattle.x10_finish.proofs.Stays.{stays_change}
 use Rattle.x10_model.proofs.SameFinishes.{same_is, same_self}
-use Rattle.x10_finish.proofs.DetectionLemmas.{at_entry, counted_at_start, counted_after}
+use Rattle.x10_finish.proofs.Entries.{at_entry}
+use Rattle.x10_finish.proofs.DetectionLemmas.{counted_at_start, counted_after}
 use Rattle.x10_finish.proofs.NestedFinishes.{no_stay}
-use Rattle.x10_finish.proofs.Sound.{map_entry, entry_self, overwritten, stays_after, there_in, free_after}
+use Rattle.x10_finish.proofs.WorldParts.{map_entry, entry_self, stays_after}
+use Rattle.x10_finish.proofs.Sound.{overwritten, there_in, free_after}
 use Rattle.x10_finish.proofs.QuietClosings.{no_stays, first_stay, opening_row}
 use Rattle.x10_finish.proofs.HowMany.{many_some, none_many}
 use Rattle.x10_finish.proofs.CountsOfNet.{Live, Fly, not_unused, live_same, live_new_other, live_gone_other, live_new, live_gone, fly_other, fly_new, fly_taken_other, fly_taken}

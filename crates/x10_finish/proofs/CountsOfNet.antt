@@ -8,8 +8,8 @@ use Rattle.x10_model.specs.Places.{Stay, Message}
 use Rattle.x10_model.specs.Worlds.{Post, Flying, Taken, Unused}
 use Rattle.x10_finish.specs.Nesting.{Stays}
 use Rattle.x10_finish.specs.Telling.{HowMany, Inherits, IsBetween, FliesBetween}
-use Rattle.x10_finish.proofs.DetectionLemmas.{at_entry}
-use Rattle.x10_finish.proofs.NestedFinishes.{at_pair, pair_same, pair_other, no_stay}
+use Rattle.x10_finish.proofs.Entries.{at_entry, at_pair}
+use Rattle.x10_finish.proofs.NestedFinishes.{pair_same, pair_other, no_stay}
 use Rattle.x10_finish.proofs.HowMany.{many_same, many_more, many_less}
 use Rattle.x10_model.proofs.Events.{flying_is}
 use Rattle.x10_model.proofs.Maps.{at_key, off_key}

@@ -14,8 +14,11 @@ use Rattle.x10_finish.specs.Nesting.{stays_in, opened_in, stays_of, opened_of, n
 use Rattle.x10_finish.specs.Closing.{IsSound}
 use Rattle.x10_finish.specs.Watching.{IsCurrent, closes}
 use Rattle.x10_model.proofs.SameFinishes.{same_is}
-use Rattle.x10_finish.proofs.NestedFinishes.{at_pair, no_stay, grown, innermost_held}
-use Rattle.x10_finish.proofs.Sound.{there_in, stays_after, opened_after, opened_same, entry_self, overwritten, net_with}
+use Rattle.x10_finish.proofs.Entries.{at_pair}
+use Rattle.x10_finish.proofs.NestedFinishes.{no_stay, innermost_held}
+use Rattle.x10_finish.proofs.OpenedFinishes.{grown}
+use Rattle.x10_finish.proofs.Sound.{there_in, overwritten, net_with}
+use Rattle.x10_finish.proofs.WorldParts.{stays_after, opened_after, opened_same, entry_self}
 use Rattle.x10_finish.proofs.Rooted.{HadOpen, open_back, had_same, had_rest, had_none, opened_or_new}
 
 -- ---- a finish that was not opened yet

@@ -10,7 +10,7 @@ use Rattle.x10_finish.specs.Stays.{IsWayBack, MovesStay}
 use Rattle.x10_finish.specs.Nesting.{stays_in, stays_of}
 use Rattle.x10_finish.specs.Telling.{IsBetween, IsInRange, GoesTo, OpeningIsInRange, MovesStayInRange, DeliveriesStayInRange}
 use Rattle.x10_finish.proofs.Stays.{stays_change}
-use Rattle.x10_finish.proofs.DetectionLemmas.{at_entry}
+use Rattle.x10_finish.proofs.Entries.{at_entry}
 use Rattle.x10_finish.proofs.NestedFinishes.{no_stay}
 use Rattle.x10_finish.proofs.QuietClosings.{main_is, opening_row}
 use Rattle.x10_finish.proofs.CountsOfNet.{not_unused}

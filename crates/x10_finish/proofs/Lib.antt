@@ -5,11 +5,16 @@ pub mod Squares
 pub mod MergedReports
 pub mod Balances
 pub mod Entries
+pub mod WorkCounted
+pub mod ArrivalCounted
+pub mod EndCounted
 pub mod DetectionLemmas
 pub mod HomeConcludes
 pub mod Stays
 pub mod NestedFinishes
+pub mod OpenedFinishes
 pub mod Chains
+pub mod WorldParts
 pub mod Sound
 pub mod QuietClosings
 pub mod Listed

@@ -17,9 +17,11 @@ use Rattle.x10_finish.specs.Nesting.{stays_in, Stays, stays_of, opened_of, nth, 
 use Rattle.x10_finish.specs.Chains.{Name, IsAmong, IsBegunBy, IsChain}
 use Rattle.x10_finish.specs.Closing.{chains_of, unders_of, IsSound, QuietIsIdeal, IsAtItsEnd, EndedIsQuiet}
 use Rattle.x10_finish.proofs.Stays.{stays_change}
-use Rattle.x10_finish.proofs.NestedFinishes.{at_pair, pair_same, pair_other, no_stay, nothing_inside}
+use Rattle.x10_finish.proofs.Entries.{at_pair}
+use Rattle.x10_finish.proofs.NestedFinishes.{pair_same, pair_other, no_stay, nothing_inside}
 use Rattle.x10_finish.proofs.Chains.{chain_inherits}
-use Rattle.x10_finish.proofs.Sound.{sound_as, there_in, after_waits, after_works, after_opens, after_closes, after_spawns, after_shifts, after_begins, after_ends, net_with, after_enters, after_resumes, unused_finish}
+use Rattle.x10_finish.proofs.WorldParts.{sound_as}
+use Rattle.x10_finish.proofs.Sound.{there_in, after_waits, after_works, after_opens, after_closes, after_spawns, after_shifts, after_begins, after_ends, net_with, after_enters, after_resumes, unused_finish}
 
 -- ---- one event
 

@@ -16,8 +16,11 @@ use Rattle.x10_finish.specs.Nesting.{stays_in, opened_in, Stays, stays_of, opene
 use Rattle.x10_finish.specs.Closing.{unders_of, IsSound, IsRooted, RootIsOver}
 use Rattle.x10_finish.proofs.Stays.{stays_change}
 use Rattle.x10_model.proofs.SameFinishes.{same_is}
-use Rattle.x10_finish.proofs.NestedFinishes.{at_pair, no_stay, IsInside, enclosed_inside, used_held, grown, encloses_other, encloses_new, innermost_held}
-use Rattle.x10_finish.proofs.Sound.{there_in, stays_after, opened_after, opened_same, entry_self, net_with, unused_finish, overwritten}
+use Rattle.x10_finish.proofs.Entries.{at_pair}
+use Rattle.x10_finish.proofs.NestedFinishes.{no_stay, IsInside, enclosed_inside, used_held, innermost_held}
+use Rattle.x10_finish.proofs.OpenedFinishes.{grown, encloses_other, encloses_new}
+use Rattle.x10_finish.proofs.Sound.{there_in, net_with, unused_finish, overwritten}
+use Rattle.x10_finish.proofs.WorldParts.{stays_after, opened_after, opened_same, entry_self}
 use Rattle.x10_finish.proofs.QuietClosings.{sound_happens, sound_opening, lives_used, main_is, opening_row}
 
 -- ---- a quiet root has nothing inside it

@@ -16,7 +16,8 @@ use Rattle.x10_finish.specs.Nesting.{stays_in, stays_of}
 use Rattle.x10_finish.specs.Chains.{Name, IsAmong, IsChain}
 use Rattle.x10_finish.specs.Closing.{chains_of, unders_of, IsSound}
 use Rattle.x10_finish.proofs.Chains.{taken_uncarried}
-use Rattle.x10_finish.proofs.Sound.{map_entry, stays_after, chains_entered, net_with}
+use Rattle.x10_finish.proofs.WorldParts.{map_entry, stays_after}
+use Rattle.x10_finish.proofs.Sound.{chains_entered, net_with}
 use Rattle.x10_world.specs.Budget.{left_of, left_of_any, left_of_all, left_for, IsWithinBudget, BudgetAfterDelivery}
 use Rattle.x10_world.proofs.BoundLemmas.{entry_left}
 use Rattle.x10_world.proofs.Budgets.{functions_of, steps_of, spent_in, fits_of, within_as, fits_taken, left_apart, left_first, spent_apart, spent_own, kept_of, free_apart}

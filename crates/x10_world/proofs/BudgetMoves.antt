@@ -12,7 +12,8 @@ use Rattle.x10_model.proofs.Maps.{at_key}
 use Rattle.x10_finish.specs.Nesting.{stays_in, Stays, stays_of}
 use Rattle.x10_finish.specs.Chains.{Name, IsAmong, IsChain}
 use Rattle.x10_finish.specs.Closing.{chains_of, unders_of, IsSound}
-use Rattle.x10_finish.proofs.Sound.{entry_self, map_entry, stays_after, chains_counted, chains_started, chains_left, first_in, overwritten}
+use Rattle.x10_finish.proofs.WorldParts.{entry_self, map_entry, stays_after, chains_counted, chains_started}
+use Rattle.x10_finish.proofs.Sound.{chains_left, first_in, overwritten}
 use Rattle.x10_finish.specs.Watching.{world_after}
 use Rattle.x10_world.specs.Budget.{left_of, left_of_any, left_of_all, left_for, IsWithinBudget, BudgetAfterMove}
 use Rattle.x10_world.proofs.Budgets.{functions_of, steps_of, spent_in, IsWithinOf, Fits, fits_of, within_as, fits_less, fits_begun, fits_put, within_index, left_apart, left_first, spent_other, spent_apart, spent_own, kept_of, free_apart}

@@ -13,7 +13,7 @@ use Rattle.x10_finish.specs.Chains.{Name, IsAmong}
 use Rattle.x10_finish.specs.Closing.{chains_of, IsSound}
 use Rattle.x10_finish.proofs.NestedFinishes.{pair_same, pair_other, no_stay}
 use Rattle.x10_finish.proofs.Chains.{IsUncarried}
-use Rattle.x10_finish.proofs.Sound.{entry_self, map_entry}
+use Rattle.x10_finish.proofs.WorldParts.{entry_self, map_entry}
 use Rattle.x10_finish.proofs.Listed.{stays_are_listed}
 use Rattle.x10_world.specs.Budget.{left_of_any, left_of_all, left_for, IsWithinBudget}
 use Rattle.x10_world.proofs.BoundLemmas.{index_is}

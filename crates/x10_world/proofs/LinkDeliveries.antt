@@ -14,9 +14,10 @@ use Rattle.x10_model.specs.Worlds.{Flying, Net, Book, World, first_place, empty_
 use Rattle.x10_finish.specs.Nesting.{stays_in, Stays, stays_of}
 use Rattle.x10_finish.specs.Chains.{Name, IsAmong, IsChain, Carries}
 use Rattle.x10_finish.specs.Closing.{chains_of, unders_of, IsSound}
-use Rattle.x10_finish.proofs.DetectionLemmas.{at_entry}
-use Rattle.x10_finish.proofs.NestedFinishes.{at_pair, no_stay}
-use Rattle.x10_finish.proofs.Sound.{stays_after, net_with}
+use Rattle.x10_finish.proofs.Entries.{at_entry, at_pair}
+use Rattle.x10_finish.proofs.NestedFinishes.{no_stay}
+use Rattle.x10_finish.proofs.WorldParts.{stays_after}
+use Rattle.x10_finish.proofs.Sound.{net_with}
 use Rattle.x10_world.specs.Links.{first_function, WaitsAt, AreAnswered, AnsweredAtOpening, AnsweredAfterDelivery}
 use Rattle.x10_world.proofs.LinkLemmas.{same_first, answered_as, waits_apart, IsAwaitedAt, fits_apart, posts_on, stays_on, free_not_waiting, taken_apart}
 

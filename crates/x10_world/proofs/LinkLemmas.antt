@@ -19,7 +19,8 @@ use Rattle.x10_model.proofs.Decided.{get_below}
 use Rattle.x10_model.proofs.Events.{flying_is}
 use Rattle.x10_model.proofs.Maps.{at_key, off_key}
 use Rattle.x10_finish.specs.Nesting.{Stays, stays_of}
-use Rattle.x10_finish.proofs.NestedFinishes.{at_pair, pair_other}
+use Rattle.x10_finish.proofs.Entries.{at_pair}
+use Rattle.x10_finish.proofs.NestedFinishes.{pair_other}
 use Rattle.x10_world.specs.Links.{first_function_of, first_function, WaitsAt, FitsReceiver, AreAnswered}
 
 -- ---- the first function

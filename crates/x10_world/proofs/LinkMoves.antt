@@ -23,7 +23,8 @@ use Rattle.x10_model.proofs.Operations.{way_of}
 use Rattle.x10_model.proofs.Ways.{same_function, Way}
 use Rattle.x10_finish.specs.Nesting.{stays_in, Stays, stays_of}
 use Rattle.x10_finish.proofs.NestedFinishes.{pair_same, no_stay}
-use Rattle.x10_finish.proofs.Sound.{entry_self, stays_after, overwritten, free_after}
+use Rattle.x10_finish.proofs.WorldParts.{entry_self, stays_after}
+use Rattle.x10_finish.proofs.Sound.{overwritten, free_after}
 use Rattle.x10_world.specs.Links.{first_function_of, first_function, WaitsAt, AreAnswered, AnsweredAfterMove}
 use Rattle.x10_world.proofs.LinkLemmas.{same_first, answered_as, IsNotWaiting, waits_on, posts_on, stays_on, ready_not_waiting, free_not_waiting, FitsIfAny, posts_sent, arguments_in, result_in}
 
