@@ -14,6 +14,7 @@ pub mod WholeGraphs
 pub mod CopyLemmas
 pub mod SnapshotLemmas
 pub mod OfKinds
+pub mod Numbered
 pub mod TakenIn
 pub mod ArrivedLemmas
 pub mod Lawful

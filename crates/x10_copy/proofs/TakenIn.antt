@@ -1,5 +1,5 @@
 -- What arrives is taken in by the machine's definitions.
-use Rattle.std.proofs.Common.{◌≡◌, ℕ, zero, suc, ◌+◌, ◌-◌, ◌*◌, ◌/◌, ◌%◌, ◌^◌, ◌<◌, ◌≤◌, ◌==◌, Bool, List, [], ◌∷◌, ◌++◌, length, get_or, map, Option, Some, None, slice_get, refl, sym, ap, subst, ◌∙◌, inl, inr, arith, lt-ltb, le-ltb}
+use Rattle.std.proofs.Common.{◌≡◌, ℕ, suc, ◌+◌, ◌-◌, ◌*◌, ◌/◌, ◌%◌, ◌^◌, ◌<◌, ◌≤◌, ◌==◌, Bool, List, [], ◌∷◌, length, get_or, map, Option, Some, None, slice_get, refl, sym, ap, subst, ◌∙◌, inl, inr, arith, lt-ltb, le-ltb}
 use Rattle.std.specs.Prelude.{IsTrue, nat_lt, option_map, if◌then◌else◌}
 use Rattle.std.specs.Int.{w64}
 use Rattle.std.proofs.Math.Path.{ap₂}
@@ -14,11 +14,12 @@ use Rattle.x10_heap.specs.Words.{Context, is_named, IsObjectWord, IsWordOf, AreW
 use Rattle.x10_model.specs.Signatures.{AreOfKinds}
 use Rattle.x10_model.specs.Values.{Value, Int, Text, Rail, Object, Ref, Cell, Fields, Cells}
 use Rattle.x10_model.specs.Copies as copies
-use Rattle.x10_model.specs.Copies.{Snapshot, named, IsNodeOf, IsOfKindIn, AreNamesOf, IsCopy, IsName, Arrives}
+use Rattle.x10_model.specs.Copies.{Snapshot, named, IsNodeOf, IsOfKindIn, IsCopy, IsName}
 use Rattle.x10_model.specs.Marshalling as marshalling
 use Rattle.x10_model.specs.Marshalling.{text_or_empty, value_of, snapshot_of}
 use Rattle.x10_model.specs.declared.version.FrameVersion.TheVariants.{Wide}
 use Rattle.x10_model.specs.Frames.{Item, IntItem, PlaceItem, TextItem, RailItem, ObjectItem, NullItem, RefItem, Node, Graph, Tables, tables_of, none, uses, turn, used_after, FitsItem, FitsItems, FitsGraph}
+use Rattle.x10_model.proofs.Lists.{append_front, append_behind}
 use Rattle.x10_model.proofs.Decided.{get_below}
 use Rattle.x10_copy.specs.Names.{Names}
 use Rattle.x10_copy.specs.Captured.{FitTheirKinds}
@@ -26,52 +27,8 @@ use Rattle.x10_copy.specs.References.{OfReference, AreNamed}
 use Rattle.x10_copy.specs.Arrived.{word_in, object_from, arrived}
 use Rattle.x10_copy.specs.Taken.{with_heap, TakesIn}
 use Rattle.x10_copy.proofs.CopyLemmas.{as_object, as_rail, names_of, distinct_map}
+use Rattle.x10_copy.proofs.Numbered.{numbers, numbers_length, numbers_or, numbers_distinct}
 use Rattle.x10_copy.proofs.WholeGraphs.{fields_fit, whole}
-
--- ---- lists
-
-front : {X : Type 0} (xs ys : List X) (i : ℕ) (v : X) → slice_get xs i ≡ Some v → slice_get (xs ++ ys) i ≡ Some v
-front [] ys i v e = absurd cc
-front (x ∷ xs) ys zero v e = e
-front (x ∷ xs) ys (suc i) v e = front xs ys i v e
-
-back : {X : Type 0} (xs ys : List X) (i : ℕ) → slice_get (xs ++ ys) (length xs + i) ≡ slice_get ys i
-back [] ys i =
-    let e : 0 + i ≡ i = omega arith in
-    ap (λ (k : ℕ). slice_get ys k) e
-back (x ∷ xs) ys i =
-    let e : suc (length xs) + i ≡ suc (length xs + i) = omega arith in
-    ap (λ (k : ℕ). slice_get (x ∷ (xs ++ ys)) k) e ∙ back xs ys i
-
--- so many numbers, one after the other
-abbrev numbers : ℕ → ℕ → List ℕ
-numbers start zero = []
-numbers start (suc count) = start ∷ numbers (suc start) count
-
-numbers_get : (start count i : ℕ) → i < count → slice_get (numbers start count) i ≡ Some (start + i)
-numbers_get start zero i lt = absurd (omega (arith, lt))
-numbers_get start (suc count) zero lt =
-    let e : start ≡ start + 0 = omega arith in
-    ap Some e
-numbers_get start (suc count) (suc i) lt =
-    let e : suc start + i ≡ start + suc i = omega arith in
-    numbers_get (suc start) count i (omega (arith, lt)) ∙ ap Some e
-
-numbers_length : (start count : ℕ) → length (numbers start count) ≡ count
-numbers_length start zero = refl
-numbers_length start (suc count) = ap suc (numbers_length (suc start) count)
-
-numbers_or : (start count i : ℕ) → i < count → get_or (numbers start count) i 0 ≡ start + i
-numbers_or start count i lt = get_or_from_slice_get (numbers start count) i (start + i) 0 (numbers_get start count i lt)
-
-numbers_distinct : (start count i j v : ℕ) → slice_get (numbers start count) i ≡ Some v → slice_get (numbers start count) j ≡ Some v → i ≡ j
-numbers_distinct start count i j v e f =
-    let li = slice_get_within (numbers start count) i v e in
-    let lj = slice_get_within (numbers start count) j v f in
-    let n = numbers_length start count in
-    let a : start + i ≡ v = same_Some (start + i) v (sym (numbers_get start count i (omega (arith, li, n))) ∙ e) in
-    let b : start + j ≡ v = same_Some (start + j) v (sym (numbers_get start count j (omega (arith, lj, n))) ∙ f) in
-    omega (arith, a, b)
 
 module _ (x : Context) (g : Graph) where
   abbrev s : Snapshot
@@ -116,7 +73,7 @@ module _ (x : Context) (g : Graph) where
 
   object_there : (k : ℕ) (node : Node) → slice_get g.nodes k ≡ Some node → slice_get new.objects (base + k) ≡ Some (object_of node)
   object_there k node e =
-      back x.heap.objects (map object_of g.nodes) k ∙ slice_get-map object_of g.nodes k ∙ ap (λ (o : Option Node). option_map object_of o) e
+      append_behind x.heap.objects (map object_of g.nodes) k ∙ slice_get-map object_of g.nodes k ∙ ap (λ (o : Option Node). option_map object_of o) e
 
   node_there : (k : ℕ) (node : Node) → slice_get g.nodes k ≡ Some node → slice_get s.nodes k ≡ Some (marshalling.node_of g.texts node)
   node_there k node e =
@@ -141,10 +98,10 @@ module _ (x : Context) (g : Graph) where
   word_of used kind.Place (PlaceItem p) few f o r = (f, refl)
   word_of used kind.Text (TextItem i) few f o r =
       let at = get_below g.texts i f.below in
-      (at.0, back x.heap.texts g.texts i ∙ at.1, ap (λ (t : Option (List ℕ)). Text (text_or_empty t)) at.1)
+      (at.0, append_behind x.heap.texts g.texts i ∙ at.1, ap (λ (t : Option (List ℕ)). Text (text_or_empty t)) at.1)
   word_of used kind.Rail (RailItem i) few f o r =
       let at = get_below g.rails i f.below in
-      (at.0, back x.heap.rails g.rails i ∙ at.1, ap Rail (rail_at i f.below))
+      (at.0, append_behind x.heap.rails g.rails i ∙ at.1, ap Rail (rail_at i f.below))
   word_of used (kind.Obj c) (ObjectItem k) few f o r = object_word c k f.below o
   word_of used (kind.Opt c) (ObjectItem k) few f o r = inr (object_word c k f.below o)
   word_of used (kind.Opt c) NullItem few f o r = inl (refl, refl)
@@ -173,7 +130,7 @@ module _ (x : Context) (g : Graph) where
     number = h.number;
     object = h.object;
     word_is = h.word_is;
-    is_there = front x.heap.objects (map object_of g.nodes) h.number h.object h.is_there;
+    is_there = append_front x.heap.objects (map object_of g.nodes) h.number h.object h.is_there;
     class_is = h.class_is;
     value_is = h.value_is;
   }
@@ -181,8 +138,8 @@ module _ (x : Context) (g : Graph) where
   word_kept : (k : Kind) (w : ℕ) (v : Value) → IsWordOf x k w v → IsWordOf y k w v
   word_kept kind.Int w v h = h
   word_kept kind.Place w v h = h
-  word_kept kind.Text w v h = (h.0, front x.heap.texts g.texts w h.0 h.1, h.2)
-  word_kept kind.Rail w v h = (h.0, front x.heap.rails g.rails w h.0 h.1, h.2)
+  word_kept kind.Text w v h = (h.0, append_front x.heap.texts g.texts w h.0 h.1, h.2)
+  word_kept kind.Rail w v h = (h.0, append_front x.heap.rails g.rails w h.0 h.1, h.2)
   word_kept (kind.Obj c) w v h = object_kept c w v h
   word_kept (kind.Opt c) w v (inl h) = inl h
   word_kept (kind.Opt c) w v (inr h) = inr (object_kept c w v h)
@@ -349,7 +306,7 @@ module _ (x : Context) (g : Graph) where
         holds_old m lt =
             let at = get_below x.heap.objects m lt in
             let cell = subst (λ (o : Option ObjectState). HoldsObject x o (old (2 * m))) at.1 (holds.objects m) in
-            rw (front x.heap.objects (map object_of g.nodes) m at.0 at.1, old_object m lt) (cell_kept at.0 (old (2 * m)) cell)
+            rw (append_front x.heap.objects (map object_of g.nodes) m at.0 at.1, old_object m lt) (cell_kept at.0 (old (2 * m)) cell)
 
         holds_node : (k : ℕ) (node : Node) → slice_get g.nodes k ≡ Some node
             → IsObjectCell y (object_of node) (object_cell (Some (marshalling.node_of g.texts node)))
@@ -368,7 +325,7 @@ module _ (x : Context) (g : Graph) where
 
         holds_new : (k : ℕ) (o : Option Node) → slice_get g.nodes k ≡ o → Holds (base + k)
         holds_new k None e =
-            let a : slice_get new.objects (base + k) ≡ None = back x.heap.objects (map object_of g.nodes) k ∙ slice_get-map object_of g.nodes k
+            let a : slice_get new.objects (base + k) ≡ None = append_behind x.heap.objects (map object_of g.nodes) k ∙ slice_get-map object_of g.nodes k
             ∙ ap (λ (o : Option Node). option_map object_of o) e in
             let b : slice_get s.nodes k ≡ None = slice_get-map (marshalling.node_of g.texts) g.nodes k
             ∙ ap (λ (o : Option Node). option_map (marshalling.node_of g.texts) o) e in
@@ -389,12 +346,12 @@ module _ (x : Context) (g : Graph) where
         rails_all m = elim (cases_lt m rails_base) [
           | inl lt ↦ (
               let at = get_below x.heap.rails m lt in
-              old_rail m lt ∙ holds.rails m ∙ ap rail_cell (at.1 ∙ sym (front x.heap.rails g.rails m at.0 at.1))
+              old_rail m lt ∙ holds.rails m ∙ ap rail_cell (at.1 ∙ sym (append_front x.heap.rails g.rails m at.0 at.1))
               )
           | inr le ↦ (
               let is : rails_base + (m - rails_base) ≡ m = omega (arith, le) in
               subst (λ (r : ℕ). after (2 * r + 1) ≡ rail_cell (slice_get new.rails r)) is
-              (new_rail (m - rails_base) ∙ ap rail_cell (sym (back x.heap.rails g.rails (m - rails_base))))
+              (new_rail (m - rails_base) ∙ ap rail_cell (sym (append_behind x.heap.rails g.rails (m - rails_base))))
               )
         ]
 

@@ -8,7 +8,7 @@ use Rattle.x10_code.specs.declared.instr.Instr.{Instr}
 use Rattle.x10_model.specs.Modules.{Module, Function}
 use Rattle.x10_model.specs.Structure.{BoundFault, Nesting, Jump, LoopSlot, CallOrder, InAtomic, around, bound_of, first_failing, nests, is_ret, is_last_ret, is_empty, ends_well, or_else, nesting_fault, jump_fault, slot_fault, order_fault, atomic_fault, checked_bound, bounds_from, bounds_of}
 use Rattle.x10_model.proofs.Bounds.{unless_ok, with_ok}
-use Rattle.x10_model.proofs.Lists.{append_get}
+use Rattle.x10_model.proofs.Lists.{append_front, append_get}
 use Rattle.std.proofs.lemmas.Option.{same_Some, slice_get_within}
 
 -- ---- no fault
@@ -33,11 +33,6 @@ checked function earlier f bound e =
 -- a function with its bound, after those before it
 abbrev pub HasBound : Function → ℕ → Type 0
 HasBound f bound = (earlier : List ℕ) × (nesting_fault f.code ≡ None) × (bound_of earlier f.code ≡ bound)
-
-append_front : (xs ys : List ℕ) (i x : ℕ) → slice_get xs i ≡ Some x → slice_get (xs ++ ys) i ≡ Some x
-append_front [] ys i x e = absurd cc
-append_front (z ∷ xs) ys zero x e = e
-append_front (z ∷ xs) ys (suc i) x e = append_front xs ys i x e
 
 -- the bounds so far stay where they are
 kept : (fs : List Function) (earlier bounds : List ℕ) (i x : ℕ) → bounds_from earlier fs ≡ Ok bounds → slice_get earlier i ≡ Some x
