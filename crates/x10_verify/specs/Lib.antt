@@ -10,6 +10,7 @@ pub mod Printing
 pub mod Named
 pub mod Causes
 pub mod Effects
+pub mod Deciding
 pub mod Merging
 pub mod States
 pub mod Solving

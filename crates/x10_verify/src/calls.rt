@@ -10,6 +10,7 @@ ghost use Rattle.x10_verify.specs.Known.{state_of};
 ghost use Rattle.x10_verify.specs.Knowledge.{point};
 ghost use Rattle.x10_model.specs.Assignments.{IsCalled, IsPlaceTerm, Settles, SlotsAre};
 ghost use Rattle.x10_verify.specs.Effects.{Decides};
+ghost use Rattle.x10_verify.specs.Deciding.{SettlesIn, RefusesIn};
 ghost use Rattle.x10_verify.specs.Causes.{IsCauseOf, IsNoPlace, IsUncalled, IsUnfit};
 ghost use Rattle.x10_model.specs.declared.slot.Slot as slots;
 
@@ -111,12 +112,8 @@ pub(crate) fn called(
     at: Term,
     known: &Known,
 ) -> Result<Effect, FlowCause>
-    ensures decides { (function : Function) (pc : ℕ)
-        → Decides (Settles (Outcome.Calls at) (point image.now function pc instr)
-        (state_of known.now)) result }
-    ensures cause { IfErr result (λ why. (function : Function) (pc : ℕ)
-        → IsCauseOf (Outcome.Calls at) (point image.now function pc instr)
-        (state_of known.now) why) }
+    ensures decides { SettlesIn image.now (Outcome.Calls at) instr (state_of known.now) result }
+    ensures cause { RefusesIn image.now (Outcome.Calls at) instr (state_of known.now) result }
 {
     let signature = callee(image, instr, at, known)?;
     match signature.result() {
@@ -138,12 +135,8 @@ pub(crate) fn started(
     at: Term,
     known: &Known,
 ) -> Result<Effect, FlowCause>
-    ensures decides { (function : Function) (pc : ℕ)
-        → Decides (Settles (Outcome.Starts at) (point image.now function pc instr)
-        (state_of known.now)) result }
-    ensures cause { IfErr result (λ why. (function : Function) (pc : ℕ)
-        → IsCauseOf (Outcome.Starts at) (point image.now function pc instr)
-        (state_of known.now) why) }
+    ensures decides { SettlesIn image.now (Outcome.Starts at) instr (state_of known.now) result }
+    ensures cause { RefusesIn image.now (Outcome.Starts at) instr (state_of known.now) result }
 {
     let signature = callee(image, instr, at, known)?;
     match signature.result() {

@@ -1,14 +1,12 @@
 //! The rules of objects and of global references to them: NEW, GET, PUT, IFOBJ, GNEW, GOPEN.
-ghost use Rattle.std.specs.Prelude.{◌≡◌, ℕ, ◌⊎◌, MatchResult, IfOk, IfErr, ◌<◌, ◌≤◌, ◌+◌, length, Some, None, List, slice_get};
+ghost use Rattle.std.specs.Prelude.{◌≡◌, ℕ, ◌⊎◌, MatchResult, IfErr, ◌<◌, ◌≤◌, ◌+◌, length, Some, None, List, slice_get};
 ghost use Rattle.x10_kinds.specs.declared.kind.Kind as kinds;
 ghost use Rattle.x10_model.specs.Assignments.{IsKind};
-ghost use Rattle.x10_model.specs.Modules.{Module, Function};
 ghost use Rattle.x10_verify.specs.Known.{state_of};
-ghost use Rattle.x10_verify.specs.Knowledge.{point};
-ghost use Rattle.x10_model.specs.Assignments.{KindsAre, Settles, field_of};
-ghost use Rattle.x10_verify.specs.Effects.{Decides};
+ghost use Rattle.x10_model.specs.Assignments.{KindsAre, field_of};
 ghost use Rattle.x10_verify.specs.declared.want.Want.TheVariants.{AnObject, Fitting};
-ghost use Rattle.x10_verify.specs.Causes.{IsCauseOf, IsRefused};
+ghost use Rattle.x10_verify.specs.Deciding.{SettlesIn, RefusesIn, SettlesAnywhere, RefusesAnywhere};
+ghost use Rattle.x10_verify.specs.Causes.{IsRefused};
 
 use crate::fault::FlowCause;
 use crate::known::Known;
@@ -68,11 +66,8 @@ fn fields_fit(fields: &ClassView, first: u8, known: &Known) -> Result<(), FlowCa
 
 /// NEW: the registers from b on fit the fields of class x; a gets an object of it.
 pub(crate) fn made(image: &ImageView, instr: Instr, known: &Known) -> Result<Effect, FlowCause>
-    ensures decides { (function : Function) (pc : ℕ)
-        → Decides (Settles Outcome.Makes (point image.now function pc instr) (state_of known.now))
-        result }
-    ensures cause { IfErr result (λ why. (function : Function) (pc : ℕ)
-        → IsCauseOf Outcome.Makes (point image.now function pc instr) (state_of known.now) why) }
+    ensures decides { SettlesIn image.now Outcome.Makes instr (state_of known.now) result }
+    ensures cause { RefusesIn image.now Outcome.Makes instr (state_of known.now) result }
 {
     if instr.x as usize >= image.classes() {
         return Err(FlowCause::Kind);
@@ -83,11 +78,8 @@ pub(crate) fn made(image: &ImageView, instr: Instr, known: &Known) -> Result<Eff
 
 /// GET: register b is an object that has field c; a gets its kind.
 pub(crate) fn got(image: &ImageView, instr: Instr, known: &Known) -> Result<Effect, FlowCause>
-    ensures decides { (function : Function) (pc : ℕ)
-        → Decides (Settles Outcome.Gets (point image.now function pc instr) (state_of known.now))
-        result }
-    ensures cause { IfErr result (λ why. (function : Function) (pc : ℕ)
-        → IsCauseOf Outcome.Gets (point image.now function pc instr) (state_of known.now) why) }
+    ensures decides { SettlesIn image.now Outcome.Gets instr (state_of known.now) result }
+    ensures cause { RefusesIn image.now Outcome.Gets instr (state_of known.now) result }
 {
     let class = object(instr.b, known)?;
     match field(image, class, instr.c) {
@@ -98,11 +90,8 @@ pub(crate) fn got(image: &ImageView, instr: Instr, known: &Known) -> Result<Effe
 
 /// PUT: register a is an object that has field c, and b fits it.
 pub(crate) fn put(image: &ImageView, instr: Instr, known: &Known) -> Result<Effect, FlowCause>
-    ensures decides { (function : Function) (pc : ℕ)
-        → Decides (Settles Outcome.Puts (point image.now function pc instr) (state_of known.now))
-        result }
-    ensures cause { IfErr result (λ why. (function : Function) (pc : ℕ)
-        → IsCauseOf Outcome.Puts (point image.now function pc instr) (state_of known.now) why) }
+    ensures decides { SettlesIn image.now Outcome.Puts instr (state_of known.now) result }
+    ensures cause { RefusesIn image.now Outcome.Puts instr (state_of known.now) result }
 {
     let class = object(instr.a, known)?;
     let Some(kind) = field(image, class, instr.c) else {
@@ -114,11 +103,8 @@ pub(crate) fn put(image: &ImageView, instr: Instr, known: &Known) -> Result<Effe
 
 /// IFOBJ: register b is an object or null; on going on, a gets the object.
 pub(crate) fn unwrapped(instr: Instr, known: &Known) -> Result<Effect, FlowCause>
-    ensures decides { (program : Module) (function : Function) (pc : ℕ)
-        → Decides (Settles Outcome.Unwraps (point program function pc instr) (state_of known.now))
-        result }
-    ensures cause { IfErr result (λ why. (program : Module) (function : Function) (pc : ℕ)
-        → IsCauseOf Outcome.Unwraps (point program function pc instr) (state_of known.now) why) }
+    ensures decides { SettlesAnywhere Outcome.Unwraps instr (state_of known.now) result }
+    ensures cause { RefusesAnywhere Outcome.Unwraps instr (state_of known.now) result }
 {
     match known.kind(instr.b) {
         None => Err(FlowCause::Unset),
@@ -129,11 +115,8 @@ pub(crate) fn unwrapped(instr: Instr, known: &Known) -> Result<Effect, FlowCause
 
 /// GNEW: register b is an object; a gets a reference to it, whose home is here.
 pub(crate) fn exported(instr: Instr, known: &Known) -> Result<Effect, FlowCause>
-    ensures decides { (program : Module) (function : Function) (pc : ℕ)
-        → Decides (Settles Outcome.Exports (point program function pc instr) (state_of known.now))
-        result }
-    ensures cause { IfErr result (λ why. (program : Module) (function : Function) (pc : ℕ)
-        → IsCauseOf Outcome.Exports (point program function pc instr) (state_of known.now) why) }
+    ensures decides { SettlesAnywhere Outcome.Exports instr (state_of known.now) result }
+    ensures cause { RefusesAnywhere Outcome.Exports instr (state_of known.now) result }
 {
     let class = object(instr.b, known)?;
     Ok(Effect::Sets(Kind::GRef(class), Some(Term::Here)))
@@ -141,11 +124,8 @@ pub(crate) fn exported(instr: Instr, known: &Known) -> Result<Effect, FlowCause>
 
 /// GOPEN: register b is a reference whose home is here; a gets the object.
 pub(crate) fn opened(instr: Instr, known: &Known) -> Result<Effect, FlowCause>
-    ensures decides { (program : Module) (function : Function) (pc : ℕ)
-        → Decides (Settles Outcome.Opens (point program function pc instr) (state_of known.now))
-        result }
-    ensures cause { IfErr result (λ why. (program : Module) (function : Function) (pc : ℕ)
-        → IsCauseOf Outcome.Opens (point program function pc instr) (state_of known.now) why) }
+    ensures decides { SettlesAnywhere Outcome.Opens instr (state_of known.now) result }
+    ensures cause { RefusesAnywhere Outcome.Opens instr (state_of known.now) result }
 {
     let class = reference(instr.b, known)?;
     if !known.homes.same(Term::Reg(instr.b), Term::Here) {

@@ -3,13 +3,10 @@ ghost use Rattle.std.specs.Prelude.{◌≡◌, ℕ, ◌⊎◌, MatchResult, IfOk
 ghost use Rattle.x10_kinds.specs.Kinds as kinds;
 ghost use Rattle.x10_model.specs.Assignments as model;
 ghost use Rattle.x10_model.specs.Assignments.{IsKind, IsPlaced};
-ghost use Rattle.x10_model.specs.Modules.{Module, Function};
 ghost use Rattle.x10_verify.specs.Known.{state_of};
-ghost use Rattle.x10_verify.specs.Knowledge.{point};
-ghost use Rattle.x10_model.specs.Assignments.{Settles};
-ghost use Rattle.x10_verify.specs.Effects.{Decides};
 ghost use Rattle.x10_verify.specs.declared.want.Want.TheVariants.{APlaceOrReference, AReference};
-ghost use Rattle.x10_verify.specs.Causes.{IsCauseOf, IsRefused};
+ghost use Rattle.x10_verify.specs.Deciding.{SettlesAnywhere, RefusesAnywhere};
+ghost use Rattle.x10_verify.specs.Causes.{IsRefused};
 
 use crate::fault::FlowCause;
 use crate::known::Known;
@@ -42,11 +39,8 @@ pub(crate) fn like_if(holds: bool, term: Term) -> Option<Term>
 
 /// MOVE: register b is set; a gets its kind and its place.
 pub(crate) fn copied(instr: Instr, known: &Known) -> Result<Effect, FlowCause>
-    ensures decides { (program : Module) (function : Function) (pc : ℕ)
-        → Decides (Settles Outcome.Copies (point program function pc instr) (state_of known.now))
-        result }
-    ensures cause { IfErr result (λ why. (program : Module) (function : Function) (pc : ℕ)
-        → IsCauseOf Outcome.Copies (point program function pc instr) (state_of known.now) why) }
+    ensures decides { SettlesAnywhere Outcome.Copies instr (state_of known.now) result }
+    ensures cause { RefusesAnywhere Outcome.Copies instr (state_of known.now) result }
 {
     match known.kind(instr.b) {
         None => Err(FlowCause::Unset),
@@ -71,11 +65,8 @@ pub(crate) fn reference(register: u8, known: &Known) -> Result<u16, FlowCause>
 
 /// HOME: register a gets the home of the reference in b.
 pub(crate) fn located(instr: Instr, known: &Known) -> Result<Effect, FlowCause>
-    ensures decides { (program : Module) (function : Function) (pc : ℕ)
-        → Decides (Settles Outcome.Locates (point program function pc instr) (state_of known.now))
-        result }
-    ensures cause { IfErr result (λ why. (program : Module) (function : Function) (pc : ℕ)
-        → IsCauseOf Outcome.Locates (point program function pc instr) (state_of known.now) why) }
+    ensures decides { SettlesAnywhere Outcome.Locates instr (state_of known.now) result }
+    ensures cause { RefusesAnywhere Outcome.Locates instr (state_of known.now) result }
 {
     reference(instr.b, known)?;
     Ok(Effect::Sets(Kind::Place, Some(Term::Reg(instr.b))))
@@ -98,11 +89,8 @@ fn placed(register: u8, known: &Known) -> Result<(), FlowCause>
 
 /// IFHERE: on going on, what register a stands for is here.
 pub(crate) fn found_here(instr: Instr, known: &Known) -> Result<Effect, FlowCause>
-    ensures decides { (program : Module) (function : Function) (pc : ℕ)
-        → Decides (Settles Outcome.FindsHere (point program function pc instr)
-        (state_of known.now)) result }
-    ensures cause { IfErr result (λ why. (program : Module) (function : Function) (pc : ℕ)
-        → IsCauseOf Outcome.FindsHere (point program function pc instr) (state_of known.now) why) }
+    ensures decides { SettlesAnywhere Outcome.FindsHere instr (state_of known.now) result }
+    ensures cause { RefusesAnywhere Outcome.FindsHere instr (state_of known.now) result }
 {
     placed(instr.a, known)?;
     Ok(Effect::Joins(Term::Reg(instr.a), Term::Here))
@@ -110,11 +98,8 @@ pub(crate) fn found_here(instr: Instr, known: &Known) -> Result<Effect, FlowCaus
 
 /// IFSAME: on going on, registers a and b stand for the same place.
 pub(crate) fn found_same(instr: Instr, known: &Known) -> Result<Effect, FlowCause>
-    ensures decides { (program : Module) (function : Function) (pc : ℕ)
-        → Decides (Settles Outcome.FindsSame (point program function pc instr)
-        (state_of known.now)) result }
-    ensures cause { IfErr result (λ why. (program : Module) (function : Function) (pc : ℕ)
-        → IsCauseOf Outcome.FindsSame (point program function pc instr) (state_of known.now) why) }
+    ensures decides { SettlesAnywhere Outcome.FindsSame instr (state_of known.now) result }
+    ensures cause { RefusesAnywhere Outcome.FindsSame instr (state_of known.now) result }
 {
     placed(instr.a, known)?;
     placed(instr.b, known)?;
@@ -123,11 +108,8 @@ pub(crate) fn found_same(instr: Instr, known: &Known) -> Result<Effect, FlowCaus
 
 /// PRINT: register a is a number or a text.
 pub(crate) fn printed(instr: Instr, known: &Known) -> Result<Effect, FlowCause>
-    ensures decides { (program : Module) (function : Function) (pc : ℕ)
-        → Decides (Settles Outcome.Prints (point program function pc instr) (state_of known.now))
-        result }
-    ensures cause { IfErr result (λ why. (program : Module) (function : Function) (pc : ℕ)
-        → IsCauseOf Outcome.Prints (point program function pc instr) (state_of known.now) why) }
+    ensures decides { SettlesAnywhere Outcome.Prints instr (state_of known.now) result }
+    ensures cause { RefusesAnywhere Outcome.Prints instr (state_of known.now) result }
 {
     match known.kind(instr.a) {
         None => Err(FlowCause::Unset),
