@@ -35,7 +35,7 @@ use Rattle.x10_place.specs.StandsFor.{Far, context, Assigned, HoldRegisters, Sta
 use Rattle.x10_place.proofs.Words.{of_kind, reads, words_weaken}
 use Rattle.x10_place.proofs.Homes.{homes_weaken, homes_entry}
 use Rattle.x10_place.proofs.Framed.{has_state, point_of, in_range, small}
-use Rattle.x10_place.proofs.Local.{situated}
+use Rattle.x10_place.proofs.FrameMoves.{situated}
 
 -- ---- homes
 

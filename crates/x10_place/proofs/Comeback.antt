@@ -53,7 +53,8 @@ use Rattle.x10_place.proofs.FittingValues.{arrived_grows, homes_named, values_fi
 use Rattle.x10_place.proofs.Framed.{point_of, in_range, small, count, rule, frame_after}
 use Rattle.x10_place.proofs.GrownFrames.{frame_kept, callers_kept, exports_kept}
 use Rattle.x10_place.proofs.Homes.{homes_written, slot_like}
-use Rattle.x10_place.proofs.StandingStays.{IsChecked, inside_next, inside_with, fetched_inside, open_onward, region_onward}
+use Rattle.x10_place.proofs.StandingFrames.{IsChecked, inside_next, inside_with, fetched_inside}
+use Rattle.x10_place.proofs.StandingFrames.{open_onward, region_onward}
 use Rattle.x10_place.proofs.Rebuilt.{admitted}
 use Rattle.x10_place.proofs.Words.{reads, words_written}
 

@@ -17,7 +17,8 @@ use Rattle.x10_place.specs.declared.route.Route.TheVariants as route
 use Rattle.x10_place.specs.declared.outcome.Outcome.TheVariants as outcome
 use Rattle.x10_place.specs.Routes.{route_of}
 use Rattle.x10_place.specs.Stays.{StayState, StoreState, Location, totals_in, books_in, finish_at, changed_at, HasBook, Recounts, OpensFinish, ClosesFinish, Steps}
-use Rattle.x10_place.specs.StandsFor.{Far, PlaceState, store_of, location_of, StandsFor, IsRegistered}
+use Rattle.x10_place.specs.StandsFor.{Far, PlaceState, store_of, location_of, StandsFor}
+use Rattle.x10_place.specs.WorkingStays.{IsRegistered}
 use Rattle.x10_place.proofs.CountsOfMoves.{IsSameCount, same_count, heap_alone, totals_same, books_same, if_false}
 
 -- the stay has the same finishes open and inherited the same, and the place counts the same

@@ -32,7 +32,7 @@ use Rattle.x10_place.specs.StandsFor.{Far, context, line_as, Assigned, HoldRegis
 use Rattle.x10_place.proofs.Words.{reads, reads_int, words_written}
 use Rattle.x10_place.proofs.Homes.{homes_written, result_like}
 use Rattle.x10_place.proofs.Framed.{FrameAfter, point_of, onward, in_range, small, count, rule, frame_after}
-use Rattle.x10_place.proofs.Local.{situated}
+use Rattle.x10_place.proofs.FrameMoves.{situated}
 use Rattle.x10_place.proofs.HeapReads.{text_known}
 use Rattle.x10_place.proofs.Calls.{fits_word}
 

@@ -31,7 +31,8 @@ use Rattle.x10_place.specs.declared.route.Number.TheVariants as number
 use Rattle.x10_heap.specs.Heaps.{HeapState}
 use Rattle.x10_model.specs.declared.limits.TheConstants.{MOST_BYTES}
 use Rattle.x10_model.specs.Results.{is_zero, byte_at, rail_length}
-use Rattle.x10_place.specs.Frames.{Workspace, Becomes, HasSizes, IsWithin, IsFetched, Takes, CopiesUnless, SetsByte, Acts, AsksNumber, Asks, Makes, Joins, MakesRail, AsksMake, Puts, ActsAt, AsksAt, ExportsObject, numbered, is_at, are_same, word_at, int_at, turns_left}
+use Rattle.x10_place.specs.Frames.{Workspace, Becomes, HasSizes, IsWithin, IsFetched, Takes, CopiesUnless, SetsByte, Acts, AsksNumber, Asks, Puts, ActsAt, AsksAt, numbered, is_at, are_same, word_at, int_at, turns_left}
+use Rattle.x10_place.specs.Making.{Makes, Joins, MakesRail, AsksMake, ExportsObject}
 use Rattle.x10_place.specs.Routes.{route_of}
 use Rattle.x10_place.proofs.Forms.{number_form, local_form, make_form, site_form, form_by, count_by, counted, form_is}
 

@@ -1,5 +1,5 @@
 -- Values that arrive: they stand in a heap that grew, and fit the function that takes them.
-use Rattle.std.proofs.Common.{◌≡◌, ℕ, zero, suc, ◌<◌, ◌≤◌, List, [], ◌∷◌, ◌++◌, length, map, Some, refl, sym, ap, subst, ◌∙◌, arith}
+use Rattle.std.proofs.Common.{◌≡◌, ℕ, zero, suc, ◌<◌, ◌≤◌, List, [], ◌∷◌, length, map, Some, refl, sym, ap, subst, ◌∙◌, arith}
 use Rattle.std.specs.Prelude.{slice_get, slice_index}
 use Rattle.std.proofs.lemmas.Option.{same_Some}
 use Rattle.x10_kinds.specs.declared.kind.Kind.{Kind}
@@ -15,6 +15,7 @@ use Rattle.x10_model.specs.Signatures.{HasHome, FitSlots}
 use Rattle.x10_model.specs.Values.{Value, Int, Place, Text, Rail, Object, Null, Ref, Cells, IsOfKind}
 use Rattle.x10_model.specs.Copies.{Names, named}
 use Rattle.x10_model.specs.Frames.{Graph}
+use Rattle.x10_model.proofs.Lists.{append_front}
 use Rattle.x10_copy.specs.Captured.{kinds_of}
 use Rattle.x10_copy.specs.Arrived.{arrived, HaveHomes}
 use Rattle.x10_copy.specs.Taken.{with_heap}
@@ -28,20 +29,15 @@ use Rattle.x10_place.proofs.Words.{of_kind, words_weaken}
 
 -- ---- the heap
 
-front : {X : Type 0} (xs ys : List X) (i : ℕ) (v : X) → slice_get xs i ≡ Some v → slice_get (xs ++ ys) i ≡ Some v
-front [] ys i v e = absurd cc
-front (x ∷ xs) ys zero v e = e
-front (x ∷ xs) ys (suc i) v e = front xs ys i v e
-
 -- a heap that takes a graph in grows
 pub arrived_grows : (x : Context) (new : HeapState) (g : Graph) → new ≡ arrived x.heap g → Grows x (with_heap x new)
 arrived_grows x new g e = subst (λ h. Grows x (with_heap x h)) (sym e) (record {
   classes = refl;
   here = refl;
   places = refl;
-  objects = λ n o is. (o, front x.heap.objects _ n o is, refl);
-  rails = λ n bytes is. (bytes, front x.heap.rails _ n bytes is);
-  texts = λ n text is. front x.heap.texts _ n text is;
+  objects = λ n o is. (o, append_front x.heap.objects _ n o is, refl);
+  rails = λ n bytes is. (bytes, append_front x.heap.rails _ n bytes is);
+  texts = λ n text is. append_front x.heap.texts _ n text is;
   exports = λ id export is. is;
   far = λ home id class is. is;
 })

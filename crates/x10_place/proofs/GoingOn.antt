@@ -19,53 +19,30 @@ use Rattle.x10_heap.proofs.GrownHeaps.{Grows, grows_not}
 use Rattle.x10_place.specs.declared.call_frame.CallFrame.{CallFrame}
 use Rattle.x10_place.specs.declared.line.Line.{Line}
 use Rattle.x10_place.specs.declared.route.Local.{Local}
-use Rattle.x10_place.specs.declared.route.Local.TheVariants as local
 use Rattle.x10_place.specs.declared.route.Route.{Route}
 use Rattle.x10_place.specs.declared.route.Route.TheVariants as route
 use Rattle.x10_place.specs.Frames.{space_of, IsFetchedFor, Acts}
 use Rattle.x10_place.specs.Routes.{route_of}
 use Rattle.x10_place.specs.declared.outcome.Outcome.TheVariants as outcome
 use Rattle.x10_place.specs.Stays.{StayState, StoreState, Location, books_in, GoesNext, IsPlaced, Prints, GoesOnInside, OpensFinish, ClosesFinish, Steps}
-use Rattle.x10_place.specs.StandsFor.{Far, context, line_as, Assigned, StandsForFrame, StandForCallers, IsOfRun, StandsForStay, HoldsExports, IsWithinPlaces, IsCountedBy, IsTyped, IsTypedFrame}
+use Rattle.x10_place.specs.StandsFor.{Far, context, line_as, Assigned, StandsForFrame, StandForCallers, IsOfRun, StandsForStay, HoldsExports, IsWithinPlaces, IsCountedBy}
+use Rattle.x10_place.specs.WorkingStays.{IsTyped, IsTypedFrame}
 use Rattle.x10_place.proofs.Framed.{point_of, onward, rule}
 use Rattle.x10_place.proofs.GrownFrames.{callers_kept}
-use Rattle.x10_place.proofs.Local.{situated, Done, local_moves}
-use Rattle.x10_place.proofs.Made.{make_moves, put_moves, rset_moves}
+use Rattle.x10_place.proofs.FrameMoves.{situated, Fetched, Done}
+use Rattle.x10_place.proofs.Made.{make_moves}
 use Rattle.x10_place.proofs.Sited.{site_moves, export_moves}
 use Rattle.x10_place.proofs.Calls.{call_moves}
 use Rattle.x10_place.proofs.Ends.{ret_resumes, print_moves, next_stands}
 use Rattle.x10_place.proofs.CountsOfMoves.{Unopened, same_count, heap_alone, works_count, opens_count, closes_count, KeepsBooks, works_books, IsSilent, silent_works, silent_opens, silent_closes}
-use Rattle.x10_place.proofs.StandingStays.{IsChecked, is_export, is_call, is_return, is_print, is_enter, is_leave, is_open_finish, is_close_finish, steps_placed}
+use Rattle.x10_place.proofs.StandingFrames.{IsChecked}
+use Rattle.x10_place.proofs.RoutesOfOne.{is_export, is_call, is_return, is_print, is_enter, is_leave, is_open_finish, is_close_finish}
+use Rattle.x10_place.proofs.StandingStays.{steps_placed}
+use Rattle.x10_place.proofs.LocalSteps.{local_done}
 
 one_more : (lines : List Line) (l : Line) → map line_as (lines ++ l ∷ []) ≡ map line_as lines ++ line_as l ∷ []
 one_more [] l = refl
 one_more (x ∷ xs) l = ap (λ ys. line_as x ∷ ys) (one_more xs l)
-
--- ---- an operation of a call frame alone
-
-module _ (setting : Setting) (here : ℕ) (far : Far) (m : machine.Place) (key : ℕ) (s : Stay) (assigned : Assigned setting.program) (heap : HeapState)
-    (held : HoldsHeap (context setting here heap far) m.cells) (exported : HoldsExports heap m.exports)
-    (locality : IsWithinPlaces setting.program here setting.places) (f : CallFrame)
-    (h : StandsForFrame setting.program assigned (context setting here heap far) f s.top) (i : Instr)
-    (fetched : IsFetchedFor setting.program f i) where
-  local_by : (g : CallFrame) (new : HeapState) (l : Local) (o : Op) (out : Edges) → i.op ≡ o → route_of o ≡ route.Local l → g.function ≡ f.function
-      → Acts l setting.program (space_of f heap) i (space_of g new)
-      → Permits o (point_of setting.program h.function f i) h.state out
-      → ((edge : ℕ × State) → IsIn edge out → Reaches (assigned f.function h.function h.is_function).0 edge)
-      → Done setting here far m key s assigned heap f h i fetched o g new
-  local_by g new l op.Put out e r same acts permits edges =
-      put_moves setting here far m key s assigned heap f h i fetched held exported g new out same edges e permits
-      (subst (λ k. Acts k setting.program (space_of f heap) i (space_of g new)) (let k : l ≡ local.SetField = cc in k) acts)
-  local_by g new l op.Rset out e r same acts permits edges =
-      rset_moves setting here far m key s assigned heap f h i fetched held exported g new out same edges permits
-      (subst (λ k. Acts k setting.program (space_of f heap) i (space_of g new)) (let k : l ≡ local.SetByte = cc in k) acts)
-  local_by g new l o out e r same acts permits edges = local_moves setting here far m key s assigned heap f h i fetched held exported locality l g new
-      out same edges acts o e (λ q. absurd cc) (λ q. absurd cc) r permits
-
-  pub local_done : (g : CallFrame) (new : HeapState) (l : Local) → route_of i.op ≡ route.Local l → g.function ≡ f.function
-      → Acts l setting.program (space_of f heap) i (space_of g new) → Done setting here far m key s assigned heap f h i fetched i.op g new
-  local_done g new l r same acts = let at = rule setting.program assigned (context setting here heap far) f s.top h i fetched in
-      local_by g new l i.op at.0 refl r same acts at.1 at.2
 
 -- ---- a stay
 
@@ -79,6 +56,22 @@ module _ (setting : Setting) (here : ℕ) (far : Far) (m : machine.Place) (key :
 
   abbrev y : HeapState → Context
   y new = context setting here new far
+
+  abbrev fetch : Fetched
+  fetch = record {
+    setting = setting;
+    here = here;
+    far = far;
+    m = m;
+    key = key;
+    s = s;
+    assigned = assigned;
+    heap = st.heap;
+    f = a.top;
+    h = h.top;
+    i = i;
+    fetched = fetched;
+  }
 
   -- The stay is another one, and stands for another stay, which the machine's place has after its move. Apart from stays
   -- that place is the base; its cells stand for the heap as it is now, in which all that was known stays known.
@@ -131,7 +124,7 @@ module _ (setting : Setting) (here : ℕ) (far : Far) (m : machine.Place) (key :
     edges_by o e same = leads o (point_of setting.program h.top.function a.top i) h.top.state out (permits_at o e) same
 
     -- the top call frame and the heap alone
-    from_top : (o : Op) → Done setting here far m key s assigned st.heap a.top h.top i fetched o b.top t.heap → b ≡ record a { top = b.top }
+    from_top : (o : Op) → Done fetch o b.top t.heap → b ≡ record a { top = b.top }
         → t ≡ record st { heap = t.heap } → Goes o b t
     from_top o done rest store = record {
       base = record m { cells = done.cells; exports = done.exports };
@@ -294,16 +287,16 @@ module _ (setting : Setting) (here : ℕ) (far : Far) (m : machine.Place) (key :
     by_route : (r : Route) → FitsImage setting.program → route_of i.op ≡ r
         → Steps r (record { program = setting.program; here = here; places = setting.places }) a st i outcome.Goes b t → Goes i.op b t
     by_route (route.Local l) image e (on, top) = from_top i.op
-        (local_done setting here far m key s assigned st.heap held exported locality a.top h.top i fetched b.top t.heap l e top.function_is
+        (local_done fetch held exported locality b.top t.heap l e top.function_is
         top.changes) top.rest top.store
     by_route (route.Make k) image e (on, top) =
-        from_top i.op (make_moves setting here far m key s assigned st.heap a.top h.top i fetched held exported b.top t.heap out top.function_is edges
+        from_top i.op (make_moves fetch held exported b.top t.heap out top.function_is edges
         k i.op refl e permits top.changes) top.rest top.store
     by_route (route.Site k) image e (on, top) =
-        from_top i.op (site_moves setting here far m key s assigned st.heap a.top h.top i fetched held exported locality b.top t.heap out
+        from_top i.op (site_moves fetch held exported locality b.top t.heap out
         top.function_is edges k i.op refl e permits top.changes) top.rest top.store
     by_route route.Export image e (on, top) =
-        goes_at op.Gnew (is_export i.op e) (from_top op.Gnew (export_moves setting here far m key s assigned st.heap a.top h.top i fetched held
+        goes_at op.Gnew (is_export i.op e) (from_top op.Gnew (export_moves fetch held
         exported locality b.top t.heap out top.function_is edges (is_export i.op e) (permits_at op.Gnew (is_export i.op e)) top.changes) top.rest
         top.store)
     by_route route.Call image e (on, calls, same) =
@@ -362,8 +355,21 @@ pub frame_typed : (program : Module) (f g : CallFrame) (heap new : HeapState) (i
     → IsTypedFrame program new g
 frame_typed program f g heap new i l typed fetched r same acts =
     let setting : Setting = record { program = program; places = typed.places } in
-    let done = local_done setting typed.here typed.far (place_with typed.cells heap 0) 0 (stay_of typed.frame) typed.assigned heap typed.holds
-    (record { exports_are = refl; named = typed.named }) typed.site f typed.stands i fetched g new l r same acts in
+    let at : Fetched = record {
+      setting = setting;
+      here = typed.here;
+      far = typed.far;
+      m = place_with typed.cells heap 0;
+      key = 0;
+      s = stay_of typed.frame;
+      assigned = typed.assigned;
+      heap = heap;
+      f = f;
+      h = typed.stands;
+      i = i;
+      fetched = fetched;
+    } in
+    let done = local_done at typed.holds (record { exports_are = refl; named = typed.named }) typed.site g new l r same acts in
     record {
       assigned = typed.assigned;
       places = typed.places;

@@ -18,7 +18,8 @@ use Rattle.x10_place.specs.declared.call_frame.CallFrame.{CallFrame}
 use Rattle.x10_place.specs.declared.route.Local.{Local}
 use Rattle.x10_place.specs.declared.route.Local.TheVariants as local
 use Rattle.x10_place.specs.declared.route.Make.TheVariants as make
-use Rattle.x10_place.specs.Frames.{workspace, space_of, Acts, Reads, SetsByte, byte_set, Makes, Joins, ReadsMake, Overfills, rail_in, text_in, object_in, NamesObject, ExportsObject, word_at, int_at}
+use Rattle.x10_place.specs.Frames.{workspace, space_of, Acts, Reads, SetsByte, byte_set, rail_in, text_in, object_in, word_at, int_at}
+use Rattle.x10_place.specs.Making.{Makes, Joins, ReadsMake, Overfills, NamesObject, ExportsObject}
 use Rattle.x10_place.specs.Stays.{GoesNextWith}
 
 -- ---- bytes of rails

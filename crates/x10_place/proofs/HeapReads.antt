@@ -27,15 +27,19 @@ use Rattle.x10_place.specs.declared.route.Local.{Local}
 use Rattle.x10_place.specs.declared.route.Route.{Route}
 use Rattle.x10_place.specs.declared.route.Route.TheVariants as route
 use Rattle.x10_place.specs.Frames as frames
-use Rattle.x10_place.specs.Frames.{IsFetchedFor, NamesField, ReadsMake, ReadsAt, NamesObject, word_at}
+use Rattle.x10_place.specs.Frames.{IsFetchedFor, NamesField, ReadsAt, word_at}
+use Rattle.x10_place.specs.Making.{ReadsMake, NamesObject}
 use Rattle.x10_place.specs.Routes.{route_of}
 use Rattle.x10_place.specs.Homes.{place_in}
 use Rattle.x10_finish.specs.Nesting.{nth}
 use Rattle.x10_place.specs.Stays.{StayState, StoreState, Location, HasFinish, ReadsStore}
-use Rattle.x10_place.specs.StandsFor.{context, Assigned, StandsForFrame, IsTyped, IsTypedFrame, IsWorking}
+use Rattle.x10_place.specs.StandsFor.{context, Assigned, StandsForFrame}
+use Rattle.x10_place.specs.WorkingStays.{IsTyped, IsTypedFrame, IsWorking}
 use Rattle.x10_place.proofs.Words.{reads}
 use Rattle.x10_place.proofs.Framed.{point_of, is_instr, in_range, small, rule}
-use Rattle.x10_place.proofs.StandingStays.{IsChecked, is_close_finish, some_open}
+use Rattle.x10_place.proofs.StandingFrames.{IsChecked}
+use Rattle.x10_place.proofs.RoutesOfOne.{is_close_finish}
+use Rattle.x10_place.proofs.StandingStays.{some_open}
 use Rattle.x10_place.proofs.Objects.{object_at, field_there}
 
 module _ (program : Module) (assigned : Assigned program) (x : Context) (same_classes : x.classes ≡ program.classes) (cells : Cells)

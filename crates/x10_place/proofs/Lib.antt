@@ -14,6 +14,8 @@ pub mod StoreLemmas
 pub mod WaitLemmas
 pub mod BegunStays
 pub mod ReturnLemmas
+pub mod RoutesOfOne
+pub mod StandingFrames
 pub mod StandingStays
 pub mod StretchesOfStay
 pub mod Framed
@@ -21,7 +23,11 @@ pub mod Objects
 pub mod GrownFrames
 pub mod KnownExports
 pub mod HeapReads
+pub mod FrameMoves
+pub mod ReferenceMoves
 pub mod Local
+pub mod HeapWrites
+pub mod ObjectMoves
 pub mod Made
 pub mod Sited
 pub mod HeapCalls
@@ -31,6 +37,7 @@ pub mod Ends
 pub mod EntryLemmas
 pub mod Rebuilt
 pub mod CountsOfMoves
+pub mod LocalSteps
 pub mod GoingOn
 pub mod CountedStays
 pub mod BooksOfFinishes

@@ -25,7 +25,8 @@ use Rattle.x10_place.specs.Parting.{DepartsAt, LeavesAt}
 use Rattle.x10_place.specs.Stays.{StayState, StoreState}
 use Rattle.x10_place.specs.StandsFor.{PlaceState, place_of, plain, LeadsAll, Overfills, OverfillsBegin, OverfillsSend, IsOverfull, IsHindered}
 use Rattle.x10_place.specs.Stretches.{BeginsAt, RefusesBegin, IsForPlace, IsMade}
-use Rattle.x10_place.proofs.StandingStays.{IsChecked, outside_ends}
+use Rattle.x10_place.proofs.StandingFrames.{IsChecked}
+use Rattle.x10_place.proofs.StandingStays.{outside_ends}
 use Rattle.x10_place.proofs.Steps.{begin_leads}
 use Rattle.x10_place.proofs.Departures.{depart_leads}
 use Rattle.x10_place.proofs.Leavings.{leave_leads}

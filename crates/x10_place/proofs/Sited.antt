@@ -4,23 +4,23 @@ use Rattle.std.proofs.Common.{◌≡◌, ℕ, ℤ, ◌+◌, ◌*◌, ◌<◌, �
 use Rattle.std.specs.Prelude.{◌==◌, ◌%◌, pos, negsuc, nat_lt, IsTrue, if◌then◌else◌, slice_get, slice_set}
 use Rattle.std.proofs.lemmas.Bool.{eqb-true, eq-eqb, ltb-true, cases_eq}
 use Rattle.std.proofs.lemmas.Nat.{mod_below}
+use Rattle.std.proofs.lemmas.List.{length-map}
 use Rattle.std.proofs.lemmas.Option.{same_Some}
 use Rattle.x10_kinds.specs.declared.kind.Kind.TheVariants as kind
 use Rattle.x10_kinds.specs.declared.homes.Term.TheVariants as term
 use Rattle.x10_kinds.specs.Equations.{joined}
 use Rattle.x10_code.specs.declared.op.Op.{Op}
 use Rattle.x10_code.specs.declared.op.Op.TheVariants as op
-use Rattle.x10_code.specs.declared.instr.Instr.{Instr}
 use Rattle.x10_code.specs.declared.rule.Effect.{Effect}
 use Rattle.x10_code.specs.Table.{form_of}
 use Rattle.x10_model.specs.Maps.{IsIn}
 use Rattle.x10_model.specs.Ranges.{IsThere}
 use Rattle.x10_model.specs.Values.{Value, Int, Place, Object, Ref, Fields, IsOfKind}
 use Rattle.x10_model.specs.Places as machine
-use Rattle.x10_model.specs.Places.{Setting, Stay, Works, with_stay, goes, next, writes}
+use Rattle.x10_model.specs.Places.{Works, with_stay, goes, next, writes}
 use Rattle.x10_model.specs.Moves.{Situation, Does, writes_or_goes, next_or_goes}
 use Rattle.x10_model.specs.Results.{place_number}
-use Rattle.x10_model.specs.Assignments.{State, Edges, IsKind, IsPlaced, Permits, Reaches, edges_of}
+use Rattle.x10_model.specs.Assignments.{State, Point, Edges, IsKind, IsPlaced, Permits, Reaches, edges_of}
 use Rattle.x10_model.proofs.Rules.{leads}
 use Rattle.x10_heap.specs.declared.export.Export.{Export}
 use Rattle.x10_heap.specs.References.{reference_word, home_of, id_of}
@@ -32,13 +32,13 @@ use Rattle.x10_place.specs.declared.route.Route.TheVariants as route
 use Rattle.x10_place.specs.declared.route.Site.{Site}
 use Rattle.x10_place.specs.declared.route.Site.TheVariants as site
 use Rattle.x10_place.specs.Homes.{place_in}
-use Rattle.x10_place.specs.Frames.{space_of, Becomes, Writes, IsFetchedFor, Puts, ActsAt, ExportsObject, numbered, is_at, object_in, int_at, word_at}
+use Rattle.x10_place.specs.Frames.{space_of, Becomes, Writes, Puts, ActsAt, numbered, is_at, object_in, int_at, word_at}
+use Rattle.x10_place.specs.Making.{ExportsObject}
 use Rattle.x10_place.specs.Routes.{route_of}
-use Rattle.x10_place.specs.StandsFor.{Far, context, Assigned, StandsForFrame, HoldsExports, IsWithinPlaces}
+use Rattle.x10_place.specs.StandsFor.{context, StandsForFrame, HoldsExports, IsWithinPlaces}
 use Rattle.x10_place.proofs.Words.{Reads, reads, reads_int, of_kind}
 use Rattle.x10_place.proofs.Framed.{FrameAfter, after_of, onward, onward_or, gives}
-use Rattle.x10_place.proofs.GrownFrames.{frame_kept}
-use Rattle.x10_place.proofs.Local.{situated, Done, states, point, room, register_small, placed_in, goes_to, goes_joined, writes_like, writes_word, edge_next, edge_first, edge_target}
+use Rattle.x10_place.proofs.FrameMoves.{situated, Fetched, context_at, states_at, point_at, beside, goes_to, writes_like, writes_word, goes_joined, room, edge_next, edge_first, edge_target, placed_in, register_small, Done}
 
 abbrev as_place : Option ℕ → Option Value
 as_place None = None
@@ -61,17 +61,9 @@ below places (pos m) n e = chosen (nat_lt m places) m n refl e
     chosen false m n lt e = absurd cc
 below places (negsuc m) n e = absurd cc
 
-length_last : {A : Type 0} (xs : List A) (x : A) → length (xs ++ x ∷ []) ≡ length xs + 1
-length_last [] x = refl
-length_last (y ∷ xs) x = let rest = length_last xs x in omega (arith, rest)
-
 map_last : {A B : Type 0} (f : A → B) (xs : List A) (x : A) → map f (xs ++ x ∷ []) ≡ map f xs ++ f x ∷ []
 map_last f [] x = refl
 map_last f (y ∷ xs) x = ap (λ ys. f y ∷ ys) (map_last f xs x)
-
-length_map : {A B : Type 0} (f : A → B) (xs : List A) → length (map f xs) ≡ length xs
-length_map f [] = refl
-length_map f (x ∷ xs) = let rest = length_map f xs in omega (arith, rest)
 
 home_is : (here id : ℕ) → here < 65536 → home_of (reference_word here id) ≡ here
 home_is here id lt = omega (arith, lt)
@@ -79,12 +71,12 @@ home_is here id lt = omega (arith, lt)
 id_is : (here id : ℕ) → here < 65536 → id_of (reference_word here id) ≡ id
 id_is here id lt = omega (arith, lt)
 
-module _ (setting : Setting) (here : ℕ) (far : Far) (m : machine.Place) (key : ℕ) (s : Stay) (assigned : Assigned setting.program) (heap : HeapState)
-    (f : CallFrame) (h : StandsForFrame setting.program assigned (context setting here heap far) f s.top) (i : Instr)
-    (fetched : IsFetchedFor setting.program f i) (held : HoldsHeap (context setting here heap far) m.cells) (exported : HoldsExports heap m.exports)
-    (locality : IsWithinPlaces setting.program here setting.places) where
+module _ (fetch : Fetched) (held : HoldsHeap (context_at fetch) fetch.m.cells) (exported : HoldsExports fetch.heap fetch.m.exports)
+    (locality : IsWithinPlaces fetch.setting.program fetch.here fetch.setting.places) where
+  open fetch use {setting, here, far, m, key, s, assigned, heap, f, h, i, fetched}
+
   abbrev x : Context
-  x = context setting here heap far
+  x = context_at fetch
 
   abbrev y : HeapState → Context
   y new = context setting here new far
@@ -93,17 +85,20 @@ module _ (setting : Setting) (here : ℕ) (far : Far) (m : machine.Place) (key :
   sit = situated setting here m key s h.function i
 
   abbrev Result : Op → CallFrame → HeapState → Type 0
-  Result o g new = Done setting here far m key s assigned heap f h i fetched o g new
+  Result o g new = Done fetch o g new
 
-  abbrev here_states : ℕ → Option State
-  here_states = states setting here far m key s assigned heap f h i fetched
+  abbrev states : ℕ → Option State
+  states = states_at fetch
+
+  abbrev point : Point
+  point = point_at fetch
 
   register : (o : Op) → i.op ≡ o → (IsThere setting.program h.function i (form_of o).a i.a → i.a < h.function.registers)
       → i.a < length f.registers.items
-  register = room setting here far m key s assigned heap f h i fetched
+  register = room fetch
 
   module _ (g : CallFrame) (kept : HeapState) (out : Edges) (same : g.function ≡ f.function)
-      (edges : (edge : ℕ × State) → IsIn edge out → Reaches here_states edge) where
+      (edges : (edge : ℕ × State) → IsIn edge out → Reaches states edge) where
     went : (pc : ℕ) (words loops : List ℕ) → Becomes (space_of g kept) pc words loops heap → FrameAfter f g pc words loops
     went pc words loops b = after_of f g kept heap pc words loops same b
 
@@ -123,31 +118,31 @@ module _ (setting : Setting) (here : ℕ) (far : Far) (m : machine.Place) (key :
         })
 
     counts : i.op ≡ op.Count → Writes (space_of f heap) i (pos setting.places) (space_of g kept)
-        → out ≡ onward (point setting here far m key s assigned heap f h i fetched)
-        (gives (point setting here far m key s assigned heap f h i fetched) h.state kind.Int None) → Result op.Count g kept
+        → out ≡ onward point
+        (gives point h.state kind.Int None) → Result op.Count g kept
     counts e w to = unchanged op.Count (writes s.top i.a (Int (pos setting.places))) w.2.heap_is (refl, refl)
-        (writes_word setting here far m key s assigned heap f h i fetched g kind.Int (Int (pos setting.places)) w.0 (ap Int w.1)
+        (writes_word fetch g kind.Int (Int (pos setting.places)) w.0 (ap Int w.1)
         (register op.Count e (λ a. a)) (went (f.pc + 1) (slice_set f.registers.items i.a w.0) f.loops w.2)
-        (edge_next setting here far m key s assigned heap f h i fetched out
-        (gives (point setting here far m key s assigned heap f h i fetched) h.state kind.Int None) edges to))
+        (edge_next fetch out
+        (gives point h.state kind.Int None) edges to))
 
     next_place : i.op ≡ op.Nextp → Reads x s.top.registers f.registers.items i.b kind.Place
         → Puts (Some ((word_at f.registers.items i.b + 1) % setting.places)) (space_of f heap) i (space_of g kept)
-        → out ≡ onward (point setting here far m key s assigned heap f h i fetched)
-        (gives (point setting here far m key s assigned heap f h i fetched) h.state kind.Place None) → Result op.Nextp g kept
+        → out ≡ onward point
+        (gives point h.state kind.Place None) → Result op.Nextp g kept
     next_place e (v, is, (lt, value_is)) p to =
         let word = (word_at f.registers.items i.b + 1) % setting.places in
         unchanged op.Nextp (writes s.top i.a (Place word)) p.heap_is (word_at f.registers.items i.b, is ∙ ap Some value_is, (refl, refl))
-        (writes_word setting here far m key s assigned heap f h i fetched g kind.Place (Place word) word
+        (writes_word fetch g kind.Place (Place word) word
         (mod_below (word_at f.registers.items i.b + 1) setting.places (omega (arith, lt)), refl) (register op.Nextp e (λ a. a))
         (went (f.pc + 1) (slice_set f.registers.items i.a word) f.loops p)
-        (edge_next setting here far m key s assigned heap f h i fetched out
-        (gives (point setting here far m key s assigned heap f h i fetched) h.state kind.Place None) edges to))
+        (edge_next fetch out
+        (gives point h.state kind.Place None) edges to))
 
     numbers : (o : Option ℕ) → i.op ≡ op.Placen → numbered setting.places (int_at f.registers.items i.b) ≡ o → IsKind h.state i.b kind.Int
         → Puts o (space_of f heap) i (space_of g kept)
-        → out ≡ onward_or (point setting here far m key s assigned heap f h i fetched)
-        (gives (point setting here far m key s assigned heap f h i fetched) h.state kind.Place None) h.state → Result op.Placen g kept
+        → out ≡ onward_or point
+        (gives point h.state kind.Place None) h.state → Result op.Placen g kept
     numbers (Some n) e is k p to = unchanged op.Placen (writes s.top i.a (Place n)) p.heap_is (
       int_at f.registers.items i.b,
       reads_int x h.state s.top.registers f.registers.items i.b h.words k,
@@ -157,11 +152,11 @@ module _ (setting : Setting) (here : ℕ) (far : Far) (m : machine.Place) (key :
         refl,
       ),
     )
-        (writes_word setting here far m key s assigned heap f h i fetched g kind.Place (Place n) n
+        (writes_word fetch g kind.Place (Place n) n
         (below setting.places (int_at f.registers.items i.b) n is, refl) (register op.Placen e (λ a. a))
         (went (f.pc + 1) (slice_set f.registers.items i.a n) f.loops p)
-        (edge_first setting here far m key s assigned heap f h i fetched out
-        (gives (point setting here far m key s assigned heap f h i fetched) h.state kind.Place None) h.state edges to))
+        (edge_first fetch out
+        (gives point h.state kind.Place None) h.state edges to))
     numbers None e is k p to = unchanged op.Placen (goes s.top i.x) p.heap_is (
       int_at f.registers.items i.b,
       reads_int x h.state s.top.registers f.registers.items i.b h.words k,
@@ -171,17 +166,17 @@ module _ (setting : Setting) (here : ℕ) (far : Far) (m : machine.Place) (key :
         refl,
       ),
     )
-        (goes_to setting here far m key s assigned heap f h i fetched g i.x h.state (went i.x f.registers.items f.loops p)
-        (edge_target setting here far m key s assigned heap f h i fetched out
-        (gives (point setting here far m key s assigned heap f h i fetched) h.state kind.Place None) h.state edges to) refl)
+        (goes_to fetch g i.x h.state (went i.x f.registers.items f.loops p)
+        (edge_target fetch out
+        (gives point h.state kind.Place None) h.state edges to) refl)
 
     -- a register stands for this place, or for another one
     is_here : (b : Bool) → i.op ≡ op.Ifhere → is_at f.registers.items i.a here ≡ b → IsPlaced h.state i.a
         → Becomes (space_of g kept) (if b then f.pc + 1 else i.x) f.registers.items f.loops heap
-        → out ≡ onward_or (point setting here far m key s assigned heap f h i fetched)
+        → out ≡ onward_or point
         (record h.state { homes = joined h.state.homes (term.Reg i.a) term.Here }) h.state → Result op.Ifhere g kept
     is_here true e is k c to =
-        let v = placed_in setting here far m key s assigned heap f h i fetched locality i.a k in
+        let v = placed_in fetch locality i.a k in
         unchanged op.Ifhere (next s.top) c.heap_is (
           v.0,
           home_of (word_at f.registers.items i.a),
@@ -189,13 +184,13 @@ module _ (setting : Setting) (here : ℕ) (far : Far) (m : machine.Place) (key :
           v.2,
           (ap (λ b. with_stay m key (Some (record s { top = next_or_goes sit b }))) (sym is), refl),
         )
-        (goes_joined setting here far m key s assigned heap f h i fetched g (term.Reg i.a) term.Here
-        (register_small setting here far m key s assigned heap f h i fetched op.Ifhere e (λ a. a)) tt
+        (goes_joined fetch g (term.Reg i.a) term.Here
+        (register_small fetch op.Ifhere e (λ a. a)) tt
         (ap place_in v.1 ∙ v.2 ∙ ap Some (eqb-true (home_of (word_at f.registers.items i.a)) here is)) (went (f.pc + 1) f.registers.items f.loops c)
-        (edge_first setting here far m key s assigned heap f h i fetched out
+        (edge_first fetch out
         (record h.state { homes = joined h.state.homes (term.Reg i.a) term.Here }) h.state edges to))
     is_here false e is k c to =
-        let v = placed_in setting here far m key s assigned heap f h i fetched locality i.a k in
+        let v = placed_in fetch locality i.a k in
         unchanged op.Ifhere (goes s.top i.x) c.heap_is (
           v.0,
           home_of (word_at f.registers.items i.a),
@@ -203,23 +198,23 @@ module _ (setting : Setting) (here : ℕ) (far : Far) (m : machine.Place) (key :
           v.2,
           (ap (λ b. with_stay m key (Some (record s { top = next_or_goes sit b }))) (sym is), refl),
         )
-        (goes_to setting here far m key s assigned heap f h i fetched g i.x h.state (went i.x f.registers.items f.loops c)
-        (edge_target setting here far m key s assigned heap f h i fetched out
+        (goes_to fetch g i.x h.state (went i.x f.registers.items f.loops c)
+        (edge_target fetch out
         (record h.state { homes = joined h.state.homes (term.Reg i.a) term.Here }) h.state edges to) refl)
 
     -- where an operation leads, with the effect that its row settles
-    edges_by : {e : Effect} (o : Op) (permits : Permits o (point setting here far m key s assigned heap f h i fetched) h.state out) → permits.0 ≡ e
-        → out ≡ edges_of o (point setting here far m key s assigned heap f h i fetched) h.state e
-    edges_by o permits same = leads o (point setting here far m key s assigned heap f h i fetched) h.state out permits same
+    edges_by : {e : Effect} (o : Op) (permits : Permits o point h.state out) → permits.0 ≡ e
+        → out ≡ edges_of o point h.state e
+    edges_by o permits same = leads o point h.state out permits same
 
     pub site_moves : (k : Site) (o : Op) → i.op ≡ o → route_of o ≡ route.Site k
-        → Permits o (point setting here far m key s assigned heap f h i fetched) h.state out
+        → Permits o point h.state out
         → ActsAt k here setting.places (space_of f heap) i (space_of g kept) → Result o g kept
     site_moves site.Here op.Here e r permits p = unchanged op.Here (writes s.top i.a (Place here)) p.heap_is (refl, refl)
-        (writes_like setting here far m key s assigned heap f h i fetched g kind.Place (Some term.Here) (Place here) here (locality.within, refl)
+        (writes_like fetch g kind.Place (Some term.Here) (Place here) here (locality.within, refl)
         (tt, refl) (register op.Here e (λ a. a)) (went (f.pc + 1) (slice_set f.registers.items i.a here) f.loops p)
-        (edge_next setting here far m key s assigned heap f h i fetched out
-        (gives (point setting here far m key s assigned heap f h i fetched) h.state kind.Place (Some term.Here)) edges
+        (edge_next fetch out
+        (gives point h.state kind.Place (Some term.Here)) edges
         (edges_by op.Here permits permits.1.settles)))
     site_moves site.Count op.Count e r permits p = counts e p (edges_by op.Count permits permits.1.settles)
     site_moves site.Next op.Nextp e r permits p = next_place e
@@ -255,7 +250,7 @@ module _ (setting : Setting) (here : ℕ) (far : Far) (m : machine.Place) (key :
       low = let lt = locality.within in omega (arith, lt, locality.few)
 
       many : length m.exports ≡ length heap.exports
-      many = ap (λ es. length es) exported.exports_are ∙ length_map export_as heap.exports
+      many = ap (λ es. length es) exported.exports_are ∙ length-map heap.exports export_as
 
       abbrev IsReference : ℕ → ℕ → Type 0
       IsReference p q = (p < setting.places) × (q < 2 ^ 32) × IsTrue (is_named (y new) p q class)
@@ -298,26 +293,26 @@ module _ (setting : Setting) (here : ℕ) (far : Far) (m : machine.Place) (key :
 
       pub exports_object : i.op ≡ op.Gnew → (fields : List Value) → s.top.registers i.b ≡ Some (Object (2 * object_in f.registers.items i.b))
           → m.cells (2 * object_in f.registers.items i.b) ≡ Some (Fields made.object.class fields)
-          → out ≡ onward (point setting here far m key s assigned heap f h i fetched)
-          (gives (point setting here far m key s assigned heap f h i fetched) h.state (kind.GRef class) (Some term.Here)) → Result op.Gnew g kept
+          → out ≡ onward point
+          (gives point h.state (kind.GRef class) (Some term.Here)) → Result op.Gnew g kept
       exports_object e fields is cell to = subst (λ hp. Result op.Gnew g hp) (sym made.becomes.heap_is) (record {
         top = writes s.top i.a (Ref here (length m.exports) made.object.class);
         cells = m.cells;
         exports = m.exports ++ export_as export ∷ [];
         does = (2 * object_in f.registers.items i.b, made.object.class, fields, is, cell, (refl, refl));
-        stands = writes_like setting here far m key s assigned new f (frame_kept x (y new) grows setting.program assigned f s.top h) i fetched g
+        stands = writes_like (beside fetch new grows) g
             (kind.GRef class) (Some term.Here) (Ref here (length m.exports) made.object.class)
             (reference_word here (length heap.exports)) word_is (tt, refl) (register op.Gnew e (λ a. a))
             (after_of f g kept new (f.pc + 1) (slice_set f.registers.items i.a (reference_word here (length heap.exports))) f.loops same
             made.becomes)
-            (edge_next setting here far m key s assigned heap f h i fetched out
-            (gives (point setting here far m key s assigned heap f h i fetched) h.state (kind.GRef class) (Some term.Here)) edges to);
+            (edge_next fetch out
+            (gives point h.state (kind.GRef class) (Some term.Here)) edges to);
         holds = holds_texts x (y new) grows m.cells held refl refl held.few_texts;
         grows = grows;
         exported = now_exported;
       })
 
-    pub export_moves : i.op ≡ op.Gnew → Permits op.Gnew (point setting here far m key s assigned heap f h i fetched) h.state out
+    pub export_moves : i.op ≡ op.Gnew → Permits op.Gnew point h.state out
         → ExportsObject here (space_of f heap) i (space_of g kept) → Result op.Gnew g kept
     export_moves e permits made =
         let asked = permits.1.settles in

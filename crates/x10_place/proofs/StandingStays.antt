@@ -1,228 +1,31 @@
 -- Each stay stands where it can go on, with as many finishes open as its call frames stand in: what keeps that.
 use Rattle.std.proofs.Common.{◌≡◌, ◌≢◌, ℕ, ◌+◌, ◌<◌, ◌≤◌, Bool, true, false, List, [], ◌∷◌, ◌++◌, length, Option, Some, None, refl, sym, ap, ap₂, subst, ◌∙◌, arith}
-use Rattle.std.proofs.Math.ListN.{length-set}
-use Rattle.x10_code.specs.declared.op.Op.{Op}
 use Rattle.x10_code.specs.declared.op.Op.TheVariants as op
 use Rattle.x10_code.specs.declared.instr.Instr.{Instr}
-use Rattle.x10_model.specs.Modules.{Module, Function, FitsImage}
+use Rattle.x10_model.specs.Modules.{Module, FitsImage}
 use Rattle.x10_model.specs.declared.finish.Finish.{Finish}
 use Rattle.x10_model.specs.declared.slot.Slot.{Slot}
 use Rattle.x10_model.specs.Ranges.{function_at, instr_at, instr_in, result_of}
 use Rattle.x10_model.specs.Structure.{is_kept_out, is_target}
 use Rattle.x10_code.specs.Table.{form_of}
-use Rattle.x10_image.specs.Parts.{code_in, code_at}
-use Rattle.x10_bounds.specs.AtomicRegions.{is_inside, RegionsMatch}
-use Rattle.x10_bounds.specs.OpenFinishes.{finishes_around, FinishesMatch}
-use Rattle.x10_bounds.proofs.EachFunction.{function_keeps, function_matches}
-use Rattle.x10_verify.specs.Certified.{Certified, IsCertified}
+use Rattle.x10_image.specs.Parts.{code_at}
+use Rattle.x10_bounds.specs.AtomicRegions.{is_inside}
+use Rattle.x10_bounds.specs.OpenFinishes.{finishes_around}
 use Rattle.x10_verify.proofs.Wholes.{function_fits}
 use Rattle.x10_place.specs.declared.call_frame.CallFrame.{CallFrame}
 use Rattle.x10_place.specs.declared.route.Route.{Route}
 use Rattle.x10_place.specs.declared.route.Route.TheVariants as route
-use Rattle.x10_place.specs.Frames.{Workspace, space_of, IsWithin, IsInside, IsFetchedFor, Acts, Makes, ActsAt, ExportsObject}
-use Rattle.x10_place.specs.Parting.{IsGoing}
-use Rattle.x10_place.specs.Routes.{route_of, op_going}
-use Rattle.x10_place.specs.declared.outcome.Departure.{Departure}
-use Rattle.x10_place.specs.declared.outcome.Departure.TheVariants as departure
+use Rattle.x10_place.specs.Frames.{Workspace, space_of, IsWithin, IsInside, IsFetchedFor, Acts, ActsAt}
+use Rattle.x10_place.specs.Making.{Makes, ExportsObject}
+use Rattle.x10_place.specs.Routes.{route_of}
 use Rattle.x10_place.specs.declared.outcome.Outcome.TheVariants as outcome
-use Rattle.x10_place.specs.Stays.{StayState, StoreState, Location, AreCalling, open_at, open_in, in_region, IsPlaced, GoesNext, GoesNextWith, GoesOn, Calls, Resumes, Prints, ChangesTop, GoesOnInside, OpensFinish, ClosesFinish, IsBegun, Steps}
+use Rattle.x10_place.specs.Stays.{StayState, StoreState, Location, AreCalling, open_at, open_in, in_region, IsPlaced, GoesNext, GoesOn, Calls, Resumes, Prints, ChangesTop, GoesOnInside, OpensFinish, ClosesFinish, IsBegun, Steps}
 use Rattle.x10_place.proofs.Chains.{chain_last, chain_more}
-use Rattle.x10_place.proofs.FetchedInstructions.{within_again, target_there, local_lands, make_lands, site_lands, export_lands}
+use Rattle.x10_place.proofs.FetchedInstructions.{within_again, local_lands, make_lands, site_lands, export_lands}
 use Rattle.x10_place.proofs.ReturnLemmas.{goes_on}
-
--- ---- routes of one operation each
-
-pub is_export : (o : Op) → route_of o ≡ route.Export → o ≡ op.Gnew
-is_export op.Gnew e = refl
-is_export _ e = absurd cc
-
-pub is_call : (o : Op) → route_of o ≡ route.Call → o ≡ op.Call
-is_call op.Call e = refl
-is_call _ e = absurd cc
-
-pub is_return : (o : Op) → route_of o ≡ route.Return → o ≡ op.Ret
-is_return op.Ret e = refl
-is_return _ e = absurd cc
-
-pub is_print : (o : Op) → route_of o ≡ route.Print → o ≡ op.Print
-is_print op.Print e = refl
-is_print _ e = absurd cc
-
-pub is_open_finish : (o : Op) → route_of o ≡ route.OpenFinish → o ≡ op.Finb
-is_open_finish op.Finb e = refl
-is_open_finish _ e = absurd cc
-
-pub is_close_finish : (o : Op) → route_of o ≡ route.CloseFinish → o ≡ op.Fine
-is_close_finish op.Fine e = refl
-is_close_finish _ e = absurd cc
-
-pub is_enter : (o : Op) → route_of o ≡ route.Region true → o ≡ op.Atomb
-is_enter op.Atomb e = refl
-is_enter _ e = absurd cc
-
-pub is_leave : (o : Op) → route_of o ≡ route.Region false → o ≡ op.Atome
-is_leave op.Atome e = refl
-is_leave _ e = absurd cc
-
-pub is_async : (o : Op) → route_of o ≡ route.Async → o ≡ op.Async
-is_async op.Async e = refl
-is_async _ e = absurd cc
-
-pub is_at : (o : Op) → route_of o ≡ route.At → o ≡ op.At
-is_at op.At e = refl
-is_at _ e = absurd cc
-
-pub is_ata : (o : Op) → route_of o ≡ route.Ata → o ≡ op.Ata
-is_ata op.Ata e = refl
-is_ata _ e = absurd cc
-
--- an AT or ATA
-pub is_going : (w : Departure) → IsGoing (op_going w)
-is_going departure.At = tt
-is_going departure.Ata = tt
-
--- the routes of operations that leave as many finishes open, and neither enter nor leave an atomic region
-abbrev pub stays_in : Route → Type 0
-stays_in route.OpenFinish = ⊥
-stays_in route.CloseFinish = ⊥
-stays_in (route.Region inside) = ⊥
-stays_in _ = Unit {0}
-
-pub not_finb : (o : Op) (r : Route) → route_of o ≡ r → stays_in r → o ≢ op.Finb
-not_finb o r e s f = subst stays_in (sym e ∙ ap route_of f) s
-
-pub not_fine : (o : Op) (r : Route) → route_of o ≡ r → stays_in r → o ≢ op.Fine
-not_fine o r e s f = subst stays_in (sym e ∙ ap route_of f) s
-
-pub not_atomb : (o : Op) (r : Route) → route_of o ≡ r → stays_in r → o ≢ op.Atomb
-not_atomb o r e s f = subst stays_in (sym e ∙ ap route_of f) s
-
-pub not_atome : (o : Op) (r : Route) → route_of o ≡ r → stays_in r → o ≢ op.Atome
-not_atome o r e s f = subst stays_in (sym e ∙ ap route_of f) s
-
--- ---- modules
-
--- what the verifier knows of a module's code, beside its assignments
-pub record IsChecked (program : Module) : Type 0 where
-  pub fits : FitsImage program
-  pub finishes : (f : ℕ) (function : Function) → function_at program f ≡ Some function → FinishesMatch function.code
-  pub regions : (f : ℕ) (function : Function) → function_at program f ≡ Some function → RegionsMatch function.code
-
-pub checked : (c : Certified) → IsCertified c → IsChecked c.program
-checked c certified = record {
-  fits = certified.fits;
-  finishes = λ f function is. function_matches c.program c.bounds f function certified.verified.bounds_are is;
-  regions = λ f function is. function_keeps c.program c.bounds f function certified.verified.bounds_are is;
-}
-
--- ---- one call frame
-
--- the call frame at another instruction of its function
-inside_at : (program : Module) (f g : CallFrame) (h : IsInside program f) → g.function ≡ f.function → g.pc < length h.function.code
-    → length g.registers.items ≡ length f.registers.items → IsInside program g
-inside_at program f g h same lt count = record {
-  function = h.function;
-  is_function = ap (λ n. function_at program n) same ∙ h.is_function;
-  pc = lt;
-  registers = subst (λ n. h.function.registers ≤ n) (sym count) h.registers;
-}
-
-pub inside_next : (program : Module) (f g : CallFrame) (h : IsInside program f) → f.pc + 1 < length h.function.code → GoesNext f g
-    → IsInside program g
-inside_next program f g h lt goes = inside_at program f g h goes.function_is (subst (λ n. n < length h.function.code) (sym goes.pc_is) lt)
-    (ap length goes.words_are)
-
-pub inside_with : (program : Module) (f g : CallFrame) (register word : ℕ) (h : IsInside program f) → f.pc + 1 < length h.function.code
-    → GoesNextWith f register word g → IsInside program g
-inside_with program f g register word h lt goes = inside_at program f g h goes.function_is
-    (subst (λ n. n < length h.function.code) (sym goes.pc_is) lt) (ap length goes.words_are ∙ simp length-set refl)
-
--- a call frame that an instruction was fetched for stands at one
-abbrev pub fetched_inside : (program : Module) (f : CallFrame) (i : Instr) (fetched : IsFetchedFor program f i) → f.pc < length fetched.function.code
-    → IsInside program f
-fetched_inside program f i fetched lt = record {
-  function = fetched.function;
-  is_function = fetched.is_function;
-  pc = lt;
-  registers = fetched.registers;
-}
-
--- an instruction of a call frame that was fetched
-module _ (program : Module) (checks : IsChecked program) (f : CallFrame) (i : Instr) (fetched : IsFetchedFor program f i) where
-  matches : FinishesMatch fetched.function.code
-  matches = checks.finishes f.function fetched.function fetched.is_function
-
-  -- how many finishes a call frame of this function stands in
-  open_by : (g : CallFrame) → g.function ≡ f.function → open_at program g ≡ finishes_around fetched.function.code g.pc
-  open_by g same = ap (λ o. finishes_around (code_in o) g.pc) (ap (λ n. function_at program n) same ∙ fetched.is_function)
-
-  -- one instruction further
-  pub open_onward : (g : CallFrame) → g.function ≡ f.function → g.pc ≡ f.pc + 1 → i.op ≢ op.Finb → i.op ≢ op.Fine
-      → open_at program g ≡ open_at program f
-  open_onward g same next a b = open_by g same ∙ ap (finishes_around fetched.function.code) next ∙ matches.onward f.pc i fetched.is_instr a b
-      ∙ sym (open_by f refl)
-
-  pub open_opens : (g : CallFrame) → g.function ≡ f.function → g.pc ≡ f.pc + 1 → i.op ≡ op.Finb → open_at program g ≡ open_at program f + 1
-  open_opens g same next is = open_by g same ∙ ap (finishes_around fetched.function.code) next ∙ matches.opens f.pc i fetched.is_instr is
-      ∙ ap (λ n. n + 1) (sym (open_by f refl))
-
-  pub open_closes : (g : CallFrame) → g.function ≡ f.function → g.pc ≡ f.pc + 1 → i.op ≡ op.Fine → open_at program f ≡ open_at program g + 1
-  open_closes g same next is = open_by f refl ∙ matches.closes f.pc i fetched.is_instr is
-      ∙ ap (λ n. n + 1) (sym (ap (finishes_around fetched.function.code) next) ∙ sym (open_by g same))
-
-  -- a FINE stands in a finish, and a RET in none
-  pub open_some : i.op ≡ op.Fine → (n : ℕ) × (open_at program f ≡ n + 1)
-  open_some is = (finishes_around fetched.function.code (f.pc + 1), open_by f refl ∙ matches.closes f.pc i fetched.is_instr is)
-
-  pub open_none : i.op ≡ op.Ret → open_at program f ≡ 0
-  open_none is = open_by f refl ∙ matches.ends f.pc i fetched.is_instr is
-
-  keeps : RegionsMatch fetched.function.code
-  keeps = checks.regions f.function fetched.function fetched.is_function
-
-  -- whether a call frame of this function stands in an atomic region
-  region_by : (g : CallFrame) → g.function ≡ f.function → in_region program g ≡ is_inside fetched.function.code g.pc
-  region_by g same = ap (λ o. is_inside (code_in o) g.pc) (ap (λ n. function_at program n) same ∙ fetched.is_function)
-
-  -- one instruction further
-  region_next : (g : CallFrame) → g.function ≡ f.function → g.pc ≡ f.pc + 1 → in_region program g ≡ is_inside fetched.function.code (f.pc + 1)
-  region_next g same next = region_by g same ∙ ap (is_inside fetched.function.code) next
-
-  pub region_onward : (g : CallFrame) → g.function ≡ f.function → g.pc ≡ f.pc + 1 → i.op ≢ op.Atomb → i.op ≢ op.Atome
-      → in_region program g ≡ in_region program f
-  region_onward g same next a b = region_next g same next ∙ keeps.onward f.pc i fetched.is_instr a b ∙ sym (region_by f refl)
-
-  pub region_entered : (g : CallFrame) → g.function ≡ f.function → g.pc ≡ f.pc + 1 → i.op ≡ op.Atomb → in_region program g ≡ true
-  region_entered g same next is = region_next g same next ∙ keeps.opens f.pc i fetched.is_instr is
-
-  pub region_left : (g : CallFrame) → g.function ≡ f.function → g.pc ≡ f.pc + 1 → i.op ≡ op.Atome → in_region program g ≡ false
-  region_left g same next is = region_next g same next ∙ keeps.leaves f.pc i fetched.is_instr is
-
-  -- a RET stands in none, and neither does what begins something or goes elsewhere
-  pub region_ends : i.op ≡ op.Ret → in_region program f ≡ false
-  region_ends is = region_by f refl ∙ keeps.ends f.pc i fetched.is_instr is
-
-  pub region_none : is_kept_out i.op ≡ true → in_region program f ≡ false
-  region_none is = region_by f refl ∙ keeps.outside f.pc i fetched.is_instr is
-
-  -- where it stands next: at an instruction, in as many finishes, and in an atomic region where it stood in one
-  abbrev pub StaysOpen : ℕ → Type 0
-  StaysOpen pc = (pc < length fetched.function.code) × (finishes_around fetched.function.code pc ≡ finishes_around fetched.function.code f.pc)
-      × (is_inside fetched.function.code pc ≡ is_inside fetched.function.code f.pc)
-
-  pub next_stays : i.op ≢ op.Ret → (r : Route) → route_of i.op ≡ r → stays_in r → StaysOpen (f.pc + 1)
-  next_stays ret r e s = (
-    fetched.next ret,
-    matches.onward f.pc i fetched.is_instr (not_finb i.op r e s) (not_fine i.op r e s),
-    keeps.onward f.pc i fetched.is_instr (not_atomb i.op r e s) (not_atome i.op r e s),
-  )
-
-  pub jump_stays : is_target (form_of i.op).x ≡ true → StaysOpen i.x
-  jump_stays target = (
-    target_there program fetched.function i (form_of i.op).x fetched.in_range.x target,
-    matches.jump f.pc i fetched.is_instr target,
-    keeps.jump f.pc i fetched.is_instr target,
-  )
+use Rattle.x10_place.proofs.RoutesOfOne.{is_call, is_return, is_print, is_open_finish, is_close_finish, is_enter, is_leave, stays_in, not_finb, not_fine, not_atomb, not_atome}
+pub use Rattle.x10_place.proofs.StandingFrames.{IsChecked}
+use Rattle.x10_place.proofs.StandingFrames.{inside_next, inside_with, fetched_inside, open_by, open_onward, open_opens, open_closes, open_some, open_none, region_by, region_onward, region_entered, region_left, region_ends, region_none, StaysOpen, next_stays, jump_stays}
 
 -- ---- stays
 

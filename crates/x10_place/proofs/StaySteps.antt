@@ -28,7 +28,8 @@ use Rattle.x10_place.specs.StandsFor.{PlaceState, place_of, plain, location_of, 
 use Rattle.x10_place.specs.declared.sent.Sent.{Sent}
 use Rattle.x10_place.specs.Messages.{no_sent}
 use Rattle.x10_place.specs.Stretches.{still, IsUntouched, IsForPlace, IsMade, IsAdvanced}
-use Rattle.x10_place.proofs.StandingStays.{IsChecked, is_close_finish}
+use Rattle.x10_place.proofs.StandingFrames.{IsChecked}
+use Rattle.x10_place.proofs.RoutesOfOne.{is_close_finish}
 use Rattle.x10_place.proofs.HeapReads.{working_reads, has_finish}
 use Rattle.x10_place.proofs.CountedStays.{registered_after}
 use Rattle.x10_place.proofs.Steps.{step_leads, wait_leads, waits_by}

@@ -31,11 +31,13 @@ use Rattle.x10_place.specs.Messages.{no_sent}
 use Rattle.x10_place.specs.Stretches.{BeginsAt}
 use Rattle.x10_place.proofs.Framed.{point_of, is_instr, in_range, rule}
 use Rattle.x10_place.proofs.GrownFrames.{stay_kept}
-use Rattle.x10_place.proofs.Local.{situated}
+use Rattle.x10_place.proofs.FrameMoves.{situated}
 use Rattle.x10_place.proofs.Calls.{begin_moves}
 use Rattle.x10_place.proofs.Ends.{next_stands}
 use Rattle.x10_place.proofs.GoingOn.{stay_goes}
-use Rattle.x10_place.proofs.StandingStays.{IsChecked, is_close_finish, next_placed, begun_placed}
+use Rattle.x10_place.proofs.StandingFrames.{IsChecked}
+use Rattle.x10_place.proofs.RoutesOfOne.{is_close_finish}
+use Rattle.x10_place.proofs.StandingStays.{next_placed, begun_placed}
 use Rattle.x10_place.proofs.BooksOfFinishes.{moved_booked}
 use Rattle.x10_place.proofs.Texts.{goes_added, adds, adds_none}
 use Rattle.x10_place.proofs.CountsOfMoves.{KeepsBooks, closed_none, counted_in, waits_count, begins_count, puts_nothing, silent_begins}

@@ -20,9 +20,10 @@ use Rattle.x10_place.specs.declared.route.Route.{Route}
 use Rattle.x10_place.specs.declared.route.Route.TheVariants as route
 use Rattle.x10_place.specs.declared.outcome.Outcome.TheVariants as outcome
 use Rattle.x10_place.specs.Stays.{StayState, StoreState, Location, OverfillsBy, Refuses}
-use Rattle.x10_place.specs.StandsFor.{location_of, Far, IsWorking, Overfills, IsOverfull, IsHindered, PlaceState, place_of, plain, store_of, with_stays, StandsFor, IsStanding, LeadsAll, AreOutside}
+use Rattle.x10_place.specs.StandsFor.{location_of, Far, Overfills, IsOverfull, IsHindered, PlaceState, place_of, plain, store_of, with_stays, StandsFor, IsStanding, LeadsAll, AreOutside}
+use Rattle.x10_place.specs.WorkingStays.{IsWorking}
 use Rattle.x10_place.specs.Stretches.{IsStep, Stretch, still, further, IsStride, Strides, at_once, onward, StridesTo, nowhere, finally}
-use Rattle.x10_place.proofs.StandingStays.{IsChecked}
+use Rattle.x10_place.proofs.StandingFrames.{IsChecked}
 use Rattle.x10_place.proofs.CountedStays.{registered_at}
 use Rattle.x10_place.proofs.StretchesOfStay.{working_after}
 use Rattle.x10_place.proofs.Steps.{step_leads}

@@ -13,10 +13,11 @@ use Rattle.x10_place.specs.declared.stay.Locality.{Locality}
 use Rattle.x10_place.specs.Routes.{route_of}
 use Rattle.x10_place.specs.Messages.{no_sent}
 use Rattle.x10_place.specs.Stays.{StayState, StoreState, Location, location, Steps}
-use Rattle.x10_place.specs.StandsFor.{PlaceState, place_of, location_of, IsStanding, IsWorking, IsHindered, nobody, away, AreOutside}
+use Rattle.x10_place.specs.StandsFor.{PlaceState, place_of, location_of, IsStanding, IsHindered, nobody, away, AreOutside}
+use Rattle.x10_place.specs.WorkingStays.{IsWorking}
 use Rattle.x10_place.specs.Stretches.{IsStep, Stretch, IsStopped, Paused, Strides, StridesTo, nowhere, finally, IsUntouched, IsForPlace, IsMade, IsRun}
 use Rattle.x10_place.proofs.KeptStays.{written}
-use Rattle.x10_place.proofs.StandingStays.{IsChecked}
+use Rattle.x10_place.proofs.StandingFrames.{IsChecked}
 use Rattle.x10_place.proofs.StretchesOfStay.{made_there}
 use Rattle.x10_place.proofs.StepsOfPlace.{gone, strides_standing, to_standing, silent_to, working_at, hindered, flagged_hindered}
 use Rattle.x10_place.proofs.StaySteps.{waits_here}

@@ -16,9 +16,10 @@ use Rattle.x10_place.specs.Frames.{Workspace, space_of, with_space, IsFetchedFor
 use Rattle.x10_place.specs.Routes.{route_of, op_made}
 use Rattle.x10_place.specs.Stays.{StayState, StoreState, Location, IsPlaced, Refuses, Steps}
 use Rattle.x10_place.specs.Stretches.{IsLocalStep, Locally, none, more, Stretch, still, further, Stretched, IsStopped, IsStep, Paused}
-use Rattle.x10_place.specs.StandsFor.{IsWorking}
+use Rattle.x10_place.specs.WorkingStays.{IsWorking}
 use Rattle.x10_place.proofs.GoingOn.{typed_after}
-use Rattle.x10_place.proofs.StandingStays.{IsChecked, is_async, is_at, is_ata, is_return}
+use Rattle.x10_place.proofs.StandingFrames.{IsChecked}
+use Rattle.x10_place.proofs.RoutesOfOne.{is_async, is_at, is_ata, is_return}
 use Rattle.x10_place.proofs.CountedStays.{registered_after}
 
 -- ---- of one call frame

@@ -19,7 +19,8 @@ use Rattle.x10_place.specs.declared.route.Route.TheVariants as route
 use Rattle.x10_place.specs.declared.route.Site.{Site}
 use Rattle.x10_place.specs.declared.route.Site.TheVariants as site
 use Rattle.x10_place.specs.declared.outcome.Outcome.TheVariants as outcome
-use Rattle.x10_place.specs.Frames.{Workspace, space_of, text_in, IsFetchedFor, Acts, SetsByte, Joins, MakesRail, ActsAt, Puts, numbered, int_at}
+use Rattle.x10_place.specs.Frames.{Workspace, space_of, text_in, IsFetchedFor, Acts, SetsByte, ActsAt, Puts, numbered, int_at}
+use Rattle.x10_place.specs.Making.{Joins, MakesRail}
 use Rattle.x10_place.specs.Routes.{route_of}
 use Rattle.x10_place.specs.Stays.{StayState, StoreState, Location, Steps}
 use Rattle.x10_place.specs.StandsFor.{PlaceState, AddsTexts}

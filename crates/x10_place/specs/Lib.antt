@@ -1,12 +1,14 @@
 pub mod Routes
 pub mod Homes
 pub mod Frames
+pub mod Making
 pub mod Texts
 pub mod Stays
 pub mod OpenBooks
 pub mod Messages
 pub mod Sending
 pub mod StandsFor
+pub mod WorkingStays
 pub mod Receiving
 pub mod Parting
 pub mod Stretches

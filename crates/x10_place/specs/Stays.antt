@@ -37,8 +37,10 @@ use Rattle.x10_place.specs.declared.line.Line.{Line}
 use Rattle.x10_place.specs.declared.line.Line.TheVariants as line
 use Rattle.x10_place.specs.declared.route.Route.{Route}
 use Rattle.x10_place.specs.declared.route.Route.TheVariants as route
-use Rattle.x10_place.specs.Frames.{Workspace, space_of, word_at, int_at, IsInside, IsFetchedFor, Acts, Reads, Makes, ReadsMake, Overfills}
-use Rattle.x10_place.specs.Frames.{IsRefused, ActsAt, ReadsAt, ExportsObject, NamesObject, IsExportRefused, IsEntered}
+use Rattle.x10_place.specs.Frames.{Workspace, space_of, word_at, int_at, IsInside, IsFetchedFor, Acts, Reads}
+use Rattle.x10_place.specs.Making.{Makes, ReadsMake, Overfills}
+use Rattle.x10_place.specs.Making.{IsRefused, ExportsObject, NamesObject, IsExportRefused}
+use Rattle.x10_place.specs.Frames.{ActsAt, ReadsAt, IsEntered}
 
 -- what callers see of a stay: the call frame of the function that it executes, and those of the functions that called it,
 -- the last one last; the numbers of the finishes that it opened and hasn't closed, the last one first, and the one that it

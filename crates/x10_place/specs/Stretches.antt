@@ -22,7 +22,8 @@ use Rattle.x10_place.specs.Messages.{no_sent}
 use Rattle.x10_place.specs.Frames.{Workspace, IsFetched, IsFetchedFor, Acts}
 use Rattle.x10_place.specs.Stays.{StayState, StoreState, Location, IsPlaced, GoesNext, IsBegun, innermost_at, totals_in, books_in, changed_at}
 use Rattle.x10_place.specs.Stays.{Recounts, Steps, Refuses}
-use Rattle.x10_place.specs.StandsFor.{PlaceState, place_of, plain, Keeps, IsWorking, IsStanding, LeadsAll, IsIdleAt, IsOverfull, AreOutside}
+use Rattle.x10_place.specs.StandsFor.{PlaceState, place_of, plain, Keeps, IsStanding, LeadsAll, IsIdleAt, IsOverfull, AreOutside}
+use Rattle.x10_place.specs.WorkingStays.{IsWorking}
 use Rattle.x10_place.specs.StandsFor.{IsHindered, OverfillsBegin, inside_at}
 use Rattle.x10_place.specs.Routes.{route_of, op_made}
 

@@ -7,7 +7,7 @@ ghost use Rattle.x10_model.specs.Values.{Int};
 ghost use Rattle.x10_place.specs.declared.route.Local.TheVariants as local;
 ghost use Rattle.x10_place.specs.Frames.{IsInside, IsFetchedFor, int_at, workspace, space_of, with_space, as_value, given, tried, Acts, AsksNumber, Asks, ReadsNumber, ReadsPartial, Reads, PassesArguments, IsEntered, IsEnteredWith};
 ghost use Rattle.x10_place.specs.Routes.{route_of};
-ghost use Rattle.x10_place.specs.StandsFor.{IsTypedFrame};
+ghost use Rattle.x10_place.specs.WorkingStays.{IsTypedFrame};
 ghost use Rattle.x10_place.specs.Stays.{IsCalling, GoesNext, GoesNextWith, GoesBack};
 ghost use Rattle.x10_place.specs.Stretches.{Locally};
 

@@ -4,7 +4,8 @@ ghost use Rattle.x10_kinds.specs.declared.limit.Limit.{Limit};
 ghost use Rattle.x10_kinds.specs.declared.stop.Stop.TheVariants as stop;
 ghost use Rattle.x10_model.specs.Results as machine;
 ghost use Rattle.x10_place.specs.declared.route.Make.TheVariants as make;
-ghost use Rattle.x10_place.specs.Frames.{space_of, Makes, AsksMake, ReadsMake, Overfills, IsRefused};
+ghost use Rattle.x10_place.specs.Frames.{space_of};
+ghost use Rattle.x10_place.specs.Making.{Makes, AsksMake, ReadsMake, Overfills, IsRefused};
 
 use crate::call_frame::CallFrame;
 use crate::route::Make;

@@ -3,7 +3,8 @@ ghost use Rattle.std.specs.Prelude.{◌≡◌, ◌+◌, ◌<◌, ◌^◌, ℕ, I
 ghost use Rattle.x10_kinds.specs.declared.limit.Limit.TheVariants as limits;
 ghost use Rattle.x10_kinds.specs.declared.stop.Stop.TheVariants as stop;
 ghost use Rattle.x10_heap.specs.Heaps.{HeapState, IsFull};
-ghost use Rattle.x10_place.specs.Frames.{space_of, numbered, Puts, ActsAt, AsksAt, ReadsAt, ExportsObject, NamesObject, IsExportRefused};
+ghost use Rattle.x10_place.specs.Frames.{space_of, numbered, Puts, ActsAt, AsksAt, ReadsAt};
+ghost use Rattle.x10_place.specs.Making.{ExportsObject, NamesObject, IsExportRefused};
 
 use crate::call_frame::CallFrame;
 use crate::route::Site;

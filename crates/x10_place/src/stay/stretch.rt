@@ -1,7 +1,7 @@
 //! Steps of a stay, one after another.
 ghost use Rattle.std.specs.Prelude.{◌≡◌, ◌≢◌, ◌<◌, ◌≤◌, Ok};
 ghost use Rattle.x10_place.specs.declared.outcome.Outcome.TheVariants as outcome;
-ghost use Rattle.x10_place.specs.StandsFor.{IsWorking};
+ghost use Rattle.x10_place.specs.WorkingStays.{IsWorking};
 ghost use Rattle.x10_place.specs.declared.stay.Locality.{Locality};
 ghost use Rattle.x10_place.specs.Stays.{location};
 ghost use Rattle.x10_place.specs.Stretches.{Paused};

@@ -1,6 +1,6 @@
 use Rattle.std.proofs.Common.{◌≡◌, List, ℕ, length, sym, subst, refl, ◌∙◌, rules}
 use Rattle.x10_place.specs.Frames.{workspace, space_of, with_space, IsWithin, IsFetched}
-use Rattle.x10_place.specs.StandsFor.{IsTypedFrame}
+use Rattle.x10_place.specs.WorkingStays.{IsTypedFrame}
 use Rattle.x10_place.specs.Stretches.{Locally, none, more}
 use Rattle.x10_place.proofs.CalledFrames.{refilled}
 use Rattle.x10_place.proofs.FetchedInstructions.{function_within, fetched_within, next_small, local_next, local_asks, local_within}

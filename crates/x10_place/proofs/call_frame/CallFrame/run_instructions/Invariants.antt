@@ -1,6 +1,6 @@
 use Rattle.std.proofs.Common.{length}
 use Rattle.x10_place.specs.Frames.{workspace, space_of, with_space, IsWithin}
-use Rattle.x10_place.specs.StandsFor.{IsTypedFrame}
+use Rattle.x10_place.specs.WorkingStays.{IsTypedFrame}
 use Rattle.x10_place.specs.Stretches.{Locally}
 use Rattle.x10_place.proofs.call_frame.CallFrame.run_instructions.Given as goal
 

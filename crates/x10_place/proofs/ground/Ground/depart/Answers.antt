@@ -6,7 +6,8 @@ use Rattle.x10_place.specs.StandsFor.{place_of, IsHindered}
 use Rattle.x10_place.specs.Sending.{StandForSome, slots_of_call, words_from}
 use Rattle.x10_place.specs.declared.call_frame.CallFrame.{CallFrame}
 use Rattle.x10_place.specs.Stays.{innermost_at}
-use Rattle.x10_place.proofs.StandingStays.{checked, is_going}
+use Rattle.x10_place.proofs.StandingFrames.{checked}
+use Rattle.x10_place.proofs.RoutesOfOne.{is_going}
 use Rattle.x10_place.proofs.Supplies.{place_fits, err_gives, function_small, arguments_of, too_many, departs_so, arguments_refused}
 use Rattle.x10_place.proofs.ground.Ground.depart.Goals as goal
 

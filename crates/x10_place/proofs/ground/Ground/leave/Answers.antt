@@ -4,7 +4,7 @@ use Rattle.x10_place.specs.declared.call_frame.CallFrame.{CallFrame}
 use Rattle.x10_place.specs.Sending.{StandForSome, slots_of_end, words_from}
 use Rattle.x10_place.specs.StandsFor.{place_of, IsHindered}
 use Rattle.x10_place.specs.Stays.{StayState, origin_as}
-use Rattle.x10_place.proofs.StandingStays.{checked}
+use Rattle.x10_place.proofs.StandingFrames.{checked}
 use Rattle.x10_place.proofs.Supplies.{err_gives, result_of_it, result_refused, live_before}
 use Rattle.x10_place.proofs.ground.Ground.leave.Goals.{in-Some+in_ok-result-in-Some, in-None}
 use Rattle.x10_place.proofs.ground.Ground.leave.Goals as goal

@@ -1,6 +1,6 @@
 use Rattle.std.proofs.Common.{◌∙◌, ap}
 use Rattle.x10_place.specs.Routes.{op_made}
-use Rattle.x10_place.proofs.StandingStays.{checked}
+use Rattle.x10_place.proofs.StandingFrames.{checked}
 use Rattle.x10_place.proofs.Partings.{begun_ok, departed_ok, left_ok, begin_refused, begin_over, send_over, end_over, end_outside}
 use Rattle.x10_place.proofs.Insides.{begun_inside, departed_inside, left_inside}
 use Rattle.x10_place.proofs.ground.Ground.make.Goals as goal

@@ -5,7 +5,7 @@ use Rattle.x10_place.proofs.StepsOfPlace.{with_same}
 use Rattle.std.specs.Option.{option_copied_mut}
 use Rattle.x10_place.specs.declared.outcome.Outcome.TheVariants as outcome
 use Rattle.x10_place.specs.Stays.{StayState}
-use Rattle.x10_place.proofs.StandingStays.{checked}
+use Rattle.x10_place.proofs.StandingFrames.{checked}
 use Rattle.x10_place.proofs.StretchesOfPlace.{paused_as, working_as, run_nobody, run_away, run_goes, run_waits, run_refused, run_for_place, run_placed, run_not_placed}
 use Rattle.x10_place.proofs.ground.Ground.run_activity.Goals as goal
 use Rattle.x10_place.proofs.Insides.{insider_written, same_insider}

@@ -7,7 +7,7 @@ use Rattle.x10_place.specs.Stays.{StayState}
 use Rattle.x10_place.specs.StandsFor.{plain, IsInsider}
 use Rattle.x10_place.proofs.StaySteps.{steps_as, inside_at, reads_at, advanced_away, for_place, advanced_goes, advanced_left, advanced_placed, hindered_placed, advanced_refused, waits_same, handed}
 use Rattle.x10_place.proofs.KeptStays.{written}
-use Rattle.x10_place.proofs.StandingStays.{checked}
+use Rattle.x10_place.proofs.StandingFrames.{checked}
 use Rattle.x10_place.proofs.StepsOfPlace.{with_same}
 use Rattle.x10_place.proofs.ground.Ground.step.Goals as goal
 use Rattle.x10_place.proofs.Insides.{insider_written, same_insider}

@@ -1,7 +1,7 @@
 use Rattle.std.proofs.Common.{◌≡◌, sym, ap, ◌∙◌, rules}
 use Rattle.x10_frame.specs.Heads.{head}
 use Rattle.x10_place.proofs.Delivered.{ok_then, err_then, spawn_is, shift_is, back_is, spawn_taken, spawn_refused, shift_taken, shift_refused, back_taken, back_refused_so}
-use Rattle.x10_place.proofs.StandingStays.{checked}
+use Rattle.x10_place.proofs.StandingFrames.{checked}
 use Rattle.x10_place.proofs.ground.Ground.take.Goals as goal
 use Rattle.x10_place.proofs.Insides.{launched_inside, back_inside}
 

@@ -3,7 +3,7 @@ use Rattle.x10_place.specs.Stays.{StayState}
 use Rattle.x10_place.specs.StandsFor.{PlaceState, place_of, IsIdleAt, away, AreOutside}
 use Rattle.x10_place.proofs.StepAnswers.{out_idle}
 use Rattle.x10_place.proofs.StaySteps.{finish_there, idle_is}
-use Rattle.x10_place.proofs.StandingStays.{checked}
+use Rattle.x10_place.proofs.StandingFrames.{checked}
 use Rattle.x10_place.proofs.StepsOfPlace.{stopped_standing}
 use Rattle.x10_place.proofs.place.Place.is_idle.Goals as goal
 

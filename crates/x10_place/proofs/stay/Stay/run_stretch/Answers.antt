@@ -1,13 +1,13 @@
 use Rattle.std.proofs.Common.{◌≡◌, ◌≢◌, ◌+◌, ◌-◌, ◌<◌, Ok, Option, IfSome, rules, arith, sym, ap, subst, ◌∙◌}
 use Rattle.x10_code.specs.declared.instr.Instr.{Instr}
 use Rattle.x10_place.specs.declared.outcome.Outcome.TheVariants as outcome
-use Rattle.x10_place.specs.StandsFor.{IsTypedFrame}
+use Rattle.x10_place.specs.WorkingStays.{IsTypedFrame}
 use Rattle.x10_place.specs.Stays.{location, StayState}
 use Rattle.x10_place.specs.Stretches.{still}
 use Rattle.x10_place.specs.contracts.stay.Stay.{the_view}
 use Rattle.x10_place.specs.contracts.store.Store as store
 use Rattle.x10_place.proofs.GoingOn.{typed_top}
-use Rattle.x10_place.proofs.StandingStays.{checked}
+use Rattle.x10_place.proofs.StandingFrames.{checked}
 use Rattle.x10_place.proofs.HeapReads.{working_reads}
 use Rattle.x10_place.proofs.StretchesOfStay.{fetched_there, stretched_on, working_on, further_by, paused_there}
 use Rattle.x10_place.proofs.stay.Stay.run_stretch.Goals as goal

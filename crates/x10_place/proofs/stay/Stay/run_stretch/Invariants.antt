@@ -1,6 +1,6 @@
 use Rattle.std.proofs.Common.{◌-◌, ◌≤◌}
 use Rattle.x10_place.specs.Stays.{location}
-use Rattle.x10_place.specs.StandsFor.{IsWorking}
+use Rattle.x10_place.specs.WorkingStays.{IsWorking}
 use Rattle.x10_place.specs.Stretches.{Stretch}
 use Rattle.x10_place.proofs.stay.Stay.run_stretch.Given as goal
 
