@@ -18,7 +18,7 @@ use Rattle.x10_flights.specs.Flights.{Flight, flight_of, flight_among, goes_to, 
 use Rattle.x10_world.specs.Queries.{IsClosed}
 use Rattle.x10_world.specs.Rounds.{IsEmptyWorld}
 use Rattle.x10_world.specs.StandsForWorld.{WorldState, BelongTo, IsWorld, StandsForWorld, counts_in}
-use Rattle.x10_world.proofs.EventLemmas.{flight_below}
+use Rattle.x10_world.proofs.DeliveryEvents.{flight_below}
 use Rattle.x10_world.proofs.StepLemmas.{done_by}
 
 -- nobody is at any place

@@ -1,11 +1,12 @@
 -- Exports stay: a move of the machine only adds some, and a delivery none.
-use Rattle.std.proofs.Common.{◌≡◌, ℕ, zero, suc, List, [], ◌∷◌, ◌++◌, Some, ap, ◌∙◌}
+use Rattle.std.proofs.Common.{◌≡◌, ℕ, Some, ap, ◌∙◌}
 use Rattle.std.specs.Prelude.{slice_get}
 use Rattle.x10_code.specs.declared.op.Op.{Op}
 use Rattle.x10_model.specs.Places as places
 use Rattle.x10_model.specs.Places.{Setting, Export, Message, Spawn, Shift, Back, Effect}
 use Rattle.x10_model.specs.Moves.{Situation, Moves}
 use Rattle.x10_model.specs.Deliveries.{Receives}
+use Rattle.x10_model.proofs.Lists.{append_front}
 use Rattle.x10_model.proofs.NotWrong.{situation}
 use Rattle.x10_model.proofs.Ways as ways
 use Rattle.x10_model.proofs.Operations.{way_of}
@@ -18,16 +19,11 @@ AreExported old new = (id : ℕ) (e : Export) → slice_get old.exports id ≡ S
 pub exports_same : (old new : places.Place) → new.exports ≡ old.exports → AreExported old new
 exports_same old new same id e is = ap (λ xs. slice_get xs id) same ∙ is
 
-still_there : {X : Type 0} (xs ys : List X) (i : ℕ) (x : X) → slice_get xs i ≡ Some x → slice_get (xs ++ ys) i ≡ Some x
-still_there [] ys i x e = absurd cc
-still_there (z ∷ zs) ys zero x e = e
-still_there (z ∷ zs) ys (suc i) x e = still_there zs ys i x e
-
 -- ---- moves
 
 exported : (s : Situation) (o : Op) (new : places.Place) (effect : Effect) → Way s o new effect → AreExported s.place new
 exported s o new effect (ways.goes_onward base top inside g) id e is =
-    ap (λ xs. slice_get xs id) g.exports ∙ still_there s.place.exports g.more id e is
+    ap (λ xs. slice_get xs id) g.exports ∙ append_front s.place.exports g.more id e is
 exported s o new effect _ id e is = is
 
 pub move_exports : (setting : Setting) (here key : ℕ) (old new : places.Place) (effect : Effect) → Moves setting here old key new effect

@@ -28,6 +28,8 @@ pub mod RunLemmas
 pub mod Courses
 pub mod EventRuns
 pub mod EventLemmas
+pub mod DeliveryEvents
+pub mod StrideRuns
 pub mod StretchLemmas
 pub mod CallAnswers
 pub mod WorldParts

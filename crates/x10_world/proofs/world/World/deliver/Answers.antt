@@ -4,7 +4,7 @@ use Rattle.x10_model.specs.declared.event.Event.TheVariants.{Deliver}
 use Rattle.x10_flights.specs.Flights.{Flight, flight_of, taken_from}
 use Rattle.x10_world.specs.EventAnswers.{AnswersEvent, Handles}
 use Rattle.x10_world.specs.StandsForWorld.{stop_for_refusal}
-use Rattle.x10_world.proofs.EventLemmas.{flight_below, handles_nothing, handles_taken, handles_refusal, taken_is}
+use Rattle.x10_world.proofs.DeliveryEvents.{flight_below, handles_nothing, handles_taken, handles_refusal, taken_is}
 use Rattle.x10_world.proofs.WorldParts.{IsBegun, begun, answers_of, world_of_event, was_there, living_set, handled_there}
 use Rattle.x10_world.proofs.world.World.deliver.Goals as goal
 
