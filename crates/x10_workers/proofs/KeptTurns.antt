@@ -4,6 +4,7 @@ use Rattle.std.specs.Prelude.{slice_get}
 use Rattle.std.proofs.lemmas.Bool.{cases_lt}
 use Rattle.std.proofs.lemmas.List.{append-nil, append_assoc, length-append}
 use Rattle.std.proofs.lemmas.Option.{same_Some, slice_get_within}
+use Rattle.x10_model.proofs.Lists.{append_get}
 use Rattle.x10_verify.specs.Certified.{Certified}
 use Rattle.x10_place.specs.Opening.{IsNew, Opens}
 use Rattle.x10_place.specs.StandsFor.{PlaceState}
@@ -87,16 +88,12 @@ made_none c places all trails rest none whole = record {
     none_at : (id : ℕ) (t : Trail) → slice_get [] id ≡ Some t → ⊥
     none_at id t e = cc
 
-at_seam : {X : Type 0} (xs : List X) (x : X) (ys : List X) → slice_get (xs ++ x ∷ ys) (length xs) ≡ Some x
-at_seam [] x ys = refl
-at_seam (y ∷ xs) x ys = at_seam xs x ys
-
 -- the next of these was kept of the place with the next number
 pub next_kept : (c : Certified) (places : ℕ) (all : List Kept) (trails : List Trail) (rest left : List Kept) (k : Kept) → AreAllKept c places all
     → MadeSoFar c places all trails rest → rest ≡ k ∷ left → IsKeptOf c places (length trails) k
 next_kept c places all trails rest left k kept so is =
     subst (λ n. IsKeptOf c places n k) so.long (kept.each (length so.before) k
-    (ap (λ ks. slice_get ks (length so.before)) (so.are ∙ ap (λ ks. so.before ++ ks) is) ∙ at_seam so.before k left))
+    (ap (λ ks. slice_get ks (length so.before)) (so.are ∙ ap (λ ks. so.before ++ ks) is) ∙ append_get so.before k left))
 
 pub made_more : (c : Certified) (places : ℕ) (all : List Kept) (trails new : List Trail) (rest left : List Kept) (k : Kept) (made : Trail)
     → AreAllKept c places all → MadeSoFar c places all trails rest → rest ≡ k ∷ left → made ≡ trail_of c places k → new ≡ trails ++ made ∷ []

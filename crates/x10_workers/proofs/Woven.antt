@@ -25,7 +25,8 @@ use Rattle.x10_flights.specs.Flights.{Flight, FlightsState, flight_of, taken_fro
 use Rattle.x10_world.specs.Happenings.{Happened, HasTaken, HasDone, StandsAtInstr, frame_count}
 use Rattle.x10_world.specs.StandsForWorld as world
 use Rattle.x10_world.specs.StandsForWorld.{WorldState, world_of, IsWorld, IsMadeStep, IsStepped, after_step, far_in}
-use Rattle.x10_world.proofs.EventLemmas.{did_of, handles_made, handles_taken}
+use Rattle.x10_world.proofs.EventLemmas.{did_of, handles_made}
+use Rattle.x10_world.proofs.DeliveryEvents.{handles_taken}
 use Rattle.x10_world.proofs.Lists.{set_here}
 use Rattle.x10_workers.specs.declared.trail.OwnTurn.{OwnTurn}
 use Rattle.x10_workers.specs.Plays.{flight_as, TakesFrames, takes_none, takes_more, StepsAll, steps_none, steps_more, PlaysTurn}
