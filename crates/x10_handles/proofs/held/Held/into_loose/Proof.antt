@@ -26,9 +26,8 @@ use Rattle.std_heap.specs.contracts.Global as global
 use Rattle.std_heap.proofs.Global.TheLaws.{the_row_laws}
 use mir.Raw.{raw as bare}
 use denote.Memory.{lone}
-use Rattle.libc.specs.Heap.{chunk}
 use Rattle.std.specs.Box.Ownership.{box_owns}
-use Rattle.x10_handles.specs.Held.{holds}
+use Rattle.x10_handles.specs.Held.{holds, token}
 use Rattle.x10_handles.specs.contracts.inside.Inside as inside
 use Rattle.x10_handles.specs.contracts.held.Held as held
 use Rattle.x10_handles.proofs.Parts.{pair, parts_good, parts_in, word, held_out, al}
@@ -61,7 +60,7 @@ into_loose_spec 𝓤 𝓛 𝓜 𝓡 wired =
     qed 𝓛 ((‵ ftrue ⊛ ‵ (owns (types_at f.ended.signature.params z.0.0) z.0.3 z.0.4)) ∷ raw (fact 𝓤 (IsSome v.inside)) ∷ []) ∵
     move ! (1 ∷ []) $ heard ! (IsSome v.inside) (λ there. let g = got v.inside there in let x = g.0 in
     split ! $ drop ! $ fsplit ! $ held_out ! v z.0.4.0 (λ ws. rewrite ! 0 (λ (i : Option inside.the_row.Denot). ‵ (holds v.at i)) g.1 refl $
-    in_a_block ! v.at (λ p. box_owns chunk inside.the_row p x) (fst∗ 𝓤 (never 𝓤) (sem 𝓛 (chunk (bare (lone inside.the_row.mir)) null_ptr))) (λ b o e.
+    in_a_block ! v.at (λ p. box_owns token inside.the_row p x) (fst∗ 𝓤 (never 𝓤) (sem 𝓛 (token (bare (lone inside.the_row.mir)) null_ptr))) (λ b o e.
     move ! (1 ∷ []) $ fsplit ! $ handle_tells (al inside.the_row global.the_row the_row_laws ghosts) ! a z.0.4.1.0 (λ h eh fits. keep ! (2 ∷ 0 ∷ []) $
     let us : List Val = word (block_ptr b o) ∷ h ∷ [] in let made = parts_good inside.the_row global.the_row the_row_laws ghosts b o h fits in
     let first : z.0.4.0 ≡ word (block_ptr b o) ∷ [] = subst (λ (p : Ptr). z.0.4.0 ≡ word p ∷ []) e ws in
