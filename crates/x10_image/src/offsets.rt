@@ -106,6 +106,24 @@ fn instr_of(bytes: &[u8]) -> Instr
     }
 }
 
+/// The first operand of the instruction that eight bytes spell.
+#[inline(always)]
+fn operand_of(bytes: &[u8]) -> u8
+    requires { length bytes.now ≡ 8 }
+    ensures { (i : Instr) → decoded bytes.now ≡ Ok i → result ≡ i.a }
+{
+    bytes[1]
+}
+
+/// The first operand of the instruction at a position.
+#[inline(always)]
+pub fn operand_in(bytes: &[u8], at: usize) -> u8
+    requires { at + 8 ≤ length bytes.now }
+    ensures { (i : Instr) → decoded (slice_range bytes.now at (at + 8)) ≡ Ok i → result ≡ i.a }
+{
+    operand_of(&bytes[at..at + 8])
+}
+
 /// The instruction at a position.
 #[inline(always)]
 pub fn instr_in(bytes: &[u8], at: usize) -> Instr

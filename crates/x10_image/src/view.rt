@@ -1,3 +1,4 @@
+ghost use Rattle.x10_code.specs.declared.instr.Instr.{Instr};
 ghost use Rattle.std.specs.Prelude.{◌≡◌, ◌^◌, ◌<◌, ◌≤◌, List, Ok, Some, IfOk, IsTrue, length, slice_get};
 ghost use Rattle.std.specs.List.{flat_map};
 ghost use Rattle.std.specs.Int.{w16, to_be_bytes};
@@ -14,7 +15,9 @@ ghost use Rattle.x10_bytes.specs.Tables.{IsPart};
 use crate::class_view::ClassView;
 use crate::fault::ImageFault;
 use crate::header::{Header, read_header};
-use crate::offsets::{class_in, code_len_in, code_place, instr_in, signature_in, text_in};
+use crate::offsets::{
+    class_in, code_len_in, code_place, instr_in, operand_in, signature_in, text_in,
+};
 use crate::parts::past_ints;
 use crate::sig_view::SigView;
 use crate::tables::{class_table, function_table, text_table};
@@ -260,6 +263,17 @@ impl<'a> ImageView<'a> {
     {
         let start = code_place(self.bytes, self.functions[f]);
         instr_in(self.bytes, start + 8 * pc)
+    }
+
+    /// The first operand of an instruction, the second of its eight bytes; the others aren't looked at. Constant time.
+    #[inline(always)]
+    pub fn first_operand(&self, f: usize, pc: usize) -> u8
+        requires function { f < length self.now.functions }
+        requires pc { pc < length (code_at self.now f) }
+        ensures { (i : Instr) → instr_at self.now f pc ≡ Some i → result ≡ i.a }
+    {
+        let start = code_place(self.bytes, self.functions[f]);
+        operand_in(self.bytes, start + 8 * pc)
     }
 
     /// An instruction of a function, as `instr` answers it, from the function's code as `code` gives it. For a loop over the

@@ -1,5 +1,5 @@
 -- A function ends, and its caller goes on.
-use Rattle.std.proofs.Common.{◌≡◌, ◌≢◌, ℕ, ◌+◌, ◌<◌, ◌^◌, true, false, List, [], ◌∷◌, ◌++◌, length, Option, Some, None, sym, ap, subst, ◌∙◌, arith}
+use Rattle.std.proofs.Common.{◌≡◌, ◌≢◌, refl, ℕ, ◌+◌, ◌<◌, ◌^◌, true, false, List, [], ◌∷◌, ◌++◌, length, Option, Some, None, sym, ap, subst, ◌∙◌, arith}
 use Rattle.std.specs.Prelude.{is_some}
 use Rattle.std.proofs.lemmas.Option.{same_Some}
 use Rattle.x10_code.specs.declared.op.Op.TheVariants as op
@@ -9,7 +9,8 @@ use Rattle.x10_model.specs.Modules.{Module, Function, FitsImage}
 use Rattle.x10_model.specs.declared.slot.Slot.{Slot}
 use Rattle.x10_model.specs.Ranges.{function_at, instr_at, result_of, result_for, IsThere, IsResultRegister}
 use Rattle.x10_image.specs.Parts.{Signature, signature_of, code_in, code_at}
-use Rattle.x10_verify.proofs.Wholes.{function_fits}
+use Rattle.x10_verify.specs.Certified.{Certified, IsCertified}
+use Rattle.x10_verify.proofs.Wholes.{function_fits, fetched_in_range, fetched_follows}
 use Rattle.x10_place.specs.declared.call_frame.CallFrame.{CallFrame}
 use Rattle.x10_place.specs.Frames.{word_at}
 use Rattle.x10_place.specs.Stays.{StayState, IsCalling, GoesNext, GoesNextWith, GoesOn, GoesBack, Resumes}
@@ -24,6 +25,17 @@ call_named program caller callee call calling e = subst (λ (i : Instr). (i.op �
 
 pub goes_on : (i : Instr) → i.op ≡ op.Call → i.op ≢ op.Ret
 goes_on i e f = absurd cc
+
+-- what is known of a call
+pub at_call : (v : Certified) (caller : CallFrame) (callee : ℕ) → IsCertified v → (calling : IsCalling v.program caller callee)
+    → IsRefetched v.program caller.function caller.pc caller.function caller.pc calling.call
+at_call v caller callee certified calling = record {
+  function_is = refl;
+  pc_is = refl;
+  value = calling.call_is;
+  in_range = fetched_in_range v.program caller.function caller.pc calling.call certified.verified.in_range calling.call_is;
+  follows = fetched_follows v.program v.bounds caller.function caller.pc calling.call certified.verified.bounds_are calling.call_is;
+}
 
 -- an instruction follows the call
 pub caller_follows : (program : Module) (caller : CallFrame) (callee f pc : ℕ) (call : Instr) → IsCalling program caller callee

@@ -370,10 +370,10 @@ impl CallFrame {
         ensures { GoesBack verified.now.program ended.now instr self.old self.new }
     {
         verified.certificate();
-        let call = verified.fetch(usize::from(self.function), usize::from(self.pc));
+        let to = verified.first_operand(usize::from(self.function), usize::from(self.pc));
         let signature = verified.image().signature(usize::from(ended.function));
         if signature.result().is_some() {
-            self.put(call.a, ended.word(instr.a));
+            self.put(to, ended.word(instr.a));
         } else {
             self.next();
         }

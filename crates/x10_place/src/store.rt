@@ -107,8 +107,8 @@ impl Store {
         ensures count { IfOk result (λ frame. count ≤ length frame.value.registers.items) }
         ensures kept { self.new ≡ self.old }
     {
-        self.spare.reserve(1)?;
         let Some(mut frame) = self.spare.pop() else {
+            self.spare.reserve(1)?;
             return first_frame(alloc, 0, count);
         };
         if frame.registers.len() < count {

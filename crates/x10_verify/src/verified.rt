@@ -1,3 +1,4 @@
+ghost use Rattle.x10_code.specs.declared.instr.Instr.{Instr};
 ghost use Rattle.std.specs.Prelude.{◌≡◌, ◌≢◌, ◌↔◌, ◌+◌, ◌<◌, ℕ, IfOk, IfErr, IsFalse, IsTrue, Some, length, slice_get};
 ghost use Rattle.std.specs.List.{flat_map};
 ghost use Rattle.x10_code.specs.declared.instr.Instr as instrs;
@@ -149,6 +150,16 @@ impl<'a> Verified<'a> {
         ensures follows { result.op ≢ op.Ret → pc + 1 < length (code_at self.now.program f) }
     {
         self.image.instr(f, pc)
+    }
+
+    /// The first operand of an instruction, whose operation isn't looked at. Constant time, no memory.
+    #[inline(always)]
+    pub fn first_operand(&self, f: usize, pc: usize) -> u8
+        requires function { f < length self.now.program.functions }
+        requires pc { pc < length (code_at self.now.program f) }
+        ensures { (i : Instr) → instr_at self.now.program f pc ≡ Some i → result ≡ i.a }
+    {
+        self.image.first_operand(f, pc)
     }
 
     /// The code of a function: 8 bytes for each instruction, a part of the image. Constant time, no memory.
