@@ -11,15 +11,44 @@ use crate::world::World;
 use std::alloc::{AllocError, Global};
 use x10_model::Event;
 
-/// A part of a turn.
-#[derive(Clone, Copy)]
-enum Part {
-    /// The frames that it takes in.
-    Frames,
-    /// Its steps, one after another.
-    Steps,
-    /// Its steps, all in one go.
-    Sweeps,
+/// A part of a turn. Each is a type, and the loop over it a function of its own: one for all parts would be too large to be put
+/// where it is called.
+pub(crate) trait Part {
+    /// Makes the next event of the part, or more of them; none where there is none. Answers how many events these are.
+    fn make_some(rounds: &mut Rounds, world: &mut World, left: u64) -> Result<u64, Unfinished>
+        requires going { world.old.stopped ≢ true }
+        requires some { 1 ≤ left }
+        ensures made { Advances world.old left result world.new };
+}
+
+/// The frames that a turn takes in.
+pub(crate) struct Frames;
+
+/// The steps of a turn, one after another.
+pub(crate) struct Steps;
+
+/// The steps of a turn, all in one go.
+pub(crate) struct Sweeps;
+
+impl Part for Frames {
+    #[inline(always)]
+    fn make_some(rounds: &mut Rounds, world: &mut World, left: u64) -> Result<u64, Unfinished> {
+        rounds.take_next(world, left)
+    }
+}
+
+impl Part for Steps {
+    #[inline(always)]
+    fn make_some(rounds: &mut Rounds, world: &mut World, left: u64) -> Result<u64, Unfinished> {
+        rounds.step_next(world, left)
+    }
+}
+
+impl Part for Sweeps {
+    #[inline(always)]
+    fn make_some(rounds: &mut Rounds, world: &mut World, left: u64) -> Result<u64, Unfinished> {
+        rounds.sweep_next(world, left)
+    }
 }
 
 impl Rounds {
@@ -109,7 +138,7 @@ impl Rounds {
         requires some { 1 ≤ left }
         ensures made { Advances world.old left result world.new }
     {
-        let made = self.make_each(world, Part::Frames, left)?;
+        let made = self.make_each::<Frames>(world, left)?;
         if made > 0 {
             return Ok(made);
         }
@@ -139,7 +168,7 @@ impl Rounds {
         if self.lull.has_several() {
             return self.make_sweeps(world, left);
         }
-        self.make_each(world, Part::Steps, left)
+        self.make_each::<Steps>(world, left)
     }
 
     /// Begins the steps of a turn that has taken in all frames, where several activities move. Answers whether they do.
@@ -164,19 +193,19 @@ impl Rounds {
         requires some { 1 ≤ left }
         ensures made { Advances world.old left result world.new }
     {
-        self.make_each(world, Part::Sweeps, left)
+        self.make_each::<Sweeps>(world, left)
     }
 
     /// Makes what there is of one part of a turn, up to an event that leaves place 0 empty. Answers how many events these are.
     #[inline(always)]
-    fn make_each(&mut self, world: &mut World, part: Part, left: u64) -> Result<u64, Unfinished>
+    fn make_each<P: Part>(&mut self, world: &mut World, left: u64) -> Result<u64, Unfinished>
         requires going { world.old.stopped ≢ true }
         requires some { 1 ≤ left }
         ensures made { Advances world.old left result world.new }
     {
         let mut made = 0;
         for _ in 0..left {
-            let more = self.make_some(world, part, left - made)?;
+            let more = P::make_some(self, world, left - made)?;
             made += more;
             if more == 0 {
                 return Ok(made);
@@ -187,20 +216,6 @@ impl Rounds {
             }
         }
         Ok(made)
-    }
-
-    /// Makes the next event of a part of a turn, or more of them; none where there is none. Answers how many events these are.
-    #[inline(always)]
-    fn make_some(&mut self, world: &mut World, part: Part, left: u64) -> Result<u64, Unfinished>
-        requires going { world.old.stopped ≢ true }
-        requires some { 1 ≤ left }
-        ensures made { Advances world.old left result world.new }
-    {
-        match part {
-            Part::Frames => self.take_next(world, left),
-            Part::Steps => self.step_next(world, left),
-            Part::Sweeps => self.sweep_next(world, left),
-        }
     }
 
     /// Takes in the first frame that is in flight to the place whose turn it is. Answers how many events this is.
@@ -317,7 +332,7 @@ impl Rounds {
             return Ok(0);
         }
         self.begin_steps(world)?;
-        self.make_each(world, Part::Steps, left)
+        self.make_each::<Steps>(world, left)
     }
 
     /// Makes the next event, or more.

@@ -5,10 +5,10 @@ use Rattle.x10_world.proofs.RunCounts.{err_is, in_none, in_on, cut_on}
 use Rattle.x10_world.proofs.rounds.Rounds.make_each.Goals as goal
 
 pub loop-init : goal.loop-init
-loop-init c = record { less = omega (arith, c.requires.some); runs = in_none c.args.world.now; goes = c.requires.going }
+loop-init g c = record { less = omega (arith, c.requires.some); runs = in_none c.args.world.now; goes = c.requires.going }
 
 pub returns-in_err-more : goal.returns-in_err-more
-returns-in_err-more c = record {
+returns-in_err-more g c = record {
   made = err_is c.from_residual.result c.in_err-more.field-0.0 _ _ c.from_residual.ensures.1
       (cut_on c.args.world.now c.loop.world c.make_some.new.world c.loop.made
       (c.args.left - c.loop.made) c.args.left c.in_err-more.field-0.0 c.loop.invariant.runs
@@ -16,7 +16,7 @@ returns-in_err-more c = record {
 }
 
 pub returns-in_err-look : goal.returns-in_err-look
-returns-in_err-look c =
+returns-in_err-look g c =
     let more = c.in_ok-more.ensures.made in
     record {
       made = err_is c.from_residual-in_err-look.result halt.Memory _ _ c.from_residual-in_err-look.ensures.1 (
@@ -29,7 +29,7 @@ returns-in_err-look c =
     }
 
 pub returns-then-more-eq0 : goal.returns-then-more-eq0
-returns-then-more-eq0 c =
+returns-then-more-eq0 g c =
     let more = c.in_ok-more.ensures.made in
     record {
       made = record {
@@ -40,7 +40,7 @@ returns-then-more-eq0 c =
     }
 
 pub returns-then-made-left : goal.returns-then-made-left
-returns-then-made-left c =
+returns-then-made-left g c =
     let more = c.in_ok-more.ensures.made in
     record {
       made = record {
@@ -51,7 +51,7 @@ returns-then-made-left c =
     }
 
 pub loop-preserved : goal.loop-preserved
-loop-preserved c =
+loop-preserved g c =
     let more = c.in_ok-more.ensures.made in
     record {
       less = omega (arith, c.loop.invariant.less, more.few, c.if-made-left.false);
