@@ -5,9 +5,6 @@ source "$(dirname "$0")/common"
 embed="$top/examples/embed"
 include="$top/crates/x10_c/include"
 [ -n "${BURJEEG:-}" ] || { echo "skipped: the library, since BURJEEG names no folder that has it"; exit 0; }
-has() {
-    type -P "$1" >/dev/null || { echo "skipped: what needs $1"; return 1; }
-}
 
 for text in seven remote_counter fan_out moved ping_pong; do
     x10p asm "$top/examples/$text.asm" $text.x10
@@ -30,11 +27,31 @@ as() {
     done
 }
 
+# refuses EXAMPLE IMAGE: with each request for memory refused in turn, the example prints what it prints else or ends with a
+# status of its own, and gives back what it took
+refuses() {
+    local number status
+    ./$1 $2.x10 >.wanted 2>.told
+    for ((number = 1; number < 500; number++)); do
+        REFUSED=$number timeout 10 ./$1.refusing $2.x10 >.found 2>.told
+        status=$?
+        case $status in
+        0) same .wanted .found ;;
+        [1-4]) ;;
+        8) break ;;
+        *) fail "$1.c with $2 ends with status $status where request $number for memory is refused" ;;
+        esac
+    done
+    [ $number -gt 10 ] && [ $status -eq 8 ] || fail "$1.c with $2 asks $number times for memory"
+}
+
 # only what the header declares is there for others
 if has nm; then
     found="$(nm -D --defined-only "$BURJEEG/libburjeeg.so" | awk '{ print $3 }' | sort | tr '\n' ' ')"
     wanted="$(grep -oE 'burjeeg_[a-z_]+\(' "$include/burjeeg.h" | tr -d '(' | sort -u | tr '\n' ' ')"
     [ "$found" = "$wanted" ] || fail "libburjeeg.so has $found, and the header $wanted"
+    found="$(nm -g --defined-only "$BURJEEG/libburjeeg.a" | awk 'NF == 3 { print $3 }' | sort | tr '\n' ' ')"
+    [ "$found" = "${wanted}rattle_alloc rattle_dealloc rattle_realloc " ] || fail "libburjeeg.a has $found"
 fi
 
 strict="-Wall -Wextra -pedantic -Werror -I$include"
@@ -56,6 +73,13 @@ if has gcc; then
         ./two_places $image.x10 >found || fail "two_places.c $image"
         same wanted found
     done
+    for example in run_image two_places; do
+        gcc -std=c99 $strict "$embed/$example.c" "$(dirname "$0")/library_refusing.c" "$BURJEEG/libburjeeg.a" -o $example.refusing \
+            -Wl,--wrap=malloc,--wrap=realloc,--wrap=free || fail "$example.c"
+    done
+    refuses run_image fan_out
+    refuses run_image refused
+    KEEPS=1 refuses two_places ping_pong
     if has valgrind; then
         for image in fan_out refused; do
             ./run_image $image.x10 >/dev/null 2>&1
@@ -66,44 +90,6 @@ if has gcc; then
         valgrind -q --error-exitcode=9 --leak-check=full --trace-children=yes ./two_places ping_pong.x10 >/dev/null 2>.told ||
             fail "two_places.c has a leak or a wrong access: $(head -c 500 .told)"
     fi
-fi
-
-# in_ranks RANKS WORDS WHAT: with these words, an image and what follows it, x10p-mpi.c says WHAT, and all ranks end
-in_ranks() {
-    timeout 30 mpirun -n "$1" ./x10p-mpi $2 >.lines 2>.told
-    local status=$?
-    [ $status -ne 0 ] && [ $status -ne 124 ] || fail "x10p-mpi.c $2 at $1 ranks: status $status"
-    grep -qxF "$3" .told || fail "x10p-mpi.c $2 at $1 ranks doesn't say $3: $(head -c 500 .told)"
-}
-
-if has mpicc && has mpirun; then
-    # Open MPI begins as many ranks as it is told, also for root, and a rank that waits lets others go first
-    export OMPI_ALLOW_RUN_AS_ROOT=1 OMPI_ALLOW_RUN_AS_ROOT_CONFIRM=1 OMPI_MCA_mpi_yield_when_idle=1
-    export OMPI_MCA_rmaps_base_oversubscribe=1 PRTE_MCA_rmaps_default_mapping_policy=:oversubscribe
-    mpicc -std=c99 $strict "$embed/x10p-mpi.c" "$BURJEEG/libburjeeg.a" -o x10p-mpi || fail "x10p-mpi.c"
-    for image in remote_counter moved ping_pong; do
-        for ranks in 2 4; do
-            x10p run $image.x10 --places $ranks >wanted
-            timeout 30 mpirun -n $ranks ./x10p-mpi $image.x10 >found 2>.told ||
-                fail "x10p-mpi.c $image at $ranks ranks: $(head -c 500 .told)"
-            same wanted found
-        done
-    done
-    # two places that send each other long frames at once
-    x10p asm "$top/tests/travels/long_frames_to_and_fro.asm" to_and_fro.x10
-    does 0 "0: 1" .. timeout 30 mpirun -n 2 ./x10p-mpi to_and_fro.x10
-    # a frame of 8 MB, and one that is too long: the place stops
-    for objects in 1048576 1048577; do
-        x10p asm "$top/tests/limits/frame_of_${objects}_objects.asm" $objects.x10
-    done
-    does 0 "1: 1" .. timeout 30 mpirun -n 2 ./x10p-mpi 1048576.x10
-    in_ranks 2 1048577.x10 "x10p: stop: Limit 7"
-    in_ranks 2 refused.x10 "x10p: verify: Home 0 0"
-    in_ranks 2 fan_out.x10 "x10p: places"
-    in_ranks 2 nowhere.x10 "x10p: file"
-    # a rank that sends what is no frame
-    mpicc -std=c99 $strict "$(dirname "$0")/library_mpi.c" -o no_place || fail "library_mpi.c"
-    in_ranks 1 "ping_pong.x10 : -n 1 ./no_place" "x10p-mpi: place 0: a frame from place 1 is refused, fault 902"
 fi
 
 if has python3; then
