@@ -1,11 +1,11 @@
 -- What callers see of a book: what it keeps of each place's reports.
-use Rattle.std.specs.Prelude.{◌≡◌, ℕ, ◌*◌, ◌<◌, ◌^◌, List, length}
+use Rattle.std.specs.Prelude.{◌≡◌, ℕ, ◌*◌, ◌<◌, ◌^◌, Bool, IsTrue, List, length, replicate}
 use Rattle.x10_model.specs.Totals.{Cut, zeros, merged}
 use Rattle.x10_frame.specs.declared.report.Report.{Report}
 use Rattle.x10_model.specs.declared.finish.Finish.{Finish}
 use Rattle.x10_finish.specs.declared.pairs.Pair.{Pair}
 use Rattle.x10_finish.specs.Ledgers.{report_of}
-use Rattle.x10_finish.specs.Pairs.{pair_at, unequal_in}
+use Rattle.x10_finish.specs.Pairs.{no_pair, pair_at, unequal_in}
 
 -- of which finish, of how many places, and the numbers pair by pair
 pub record Kept : Type 0 where
@@ -20,12 +20,13 @@ kept_of b p = record {
   received = λ q. (pair_at b.places b.pairs q p).received;
 }
 
--- one pair for each two places, and how many differ is counted
-pub record AreKept (home places unequal : ℕ) (pairs : List Pair) : Type 0 where
+-- one pair for each two places, how many differ is counted, and where nothing was reported yet none has a number
+pub record AreKept (home places unequal : ℕ) (blank : Bool) (pairs : List Pair) : Type 0 where
   pub is_place : home < places
   pub few : places < 2 ^ 16
   pub whole : length pairs ≡ places * places
   pub counted : unequal ≡ unequal_in home places pairs
+  pub none : IsTrue blank → pairs ≡ replicate (places * places) no_pair
 
 -- nothing was reported yet
 pub record IsOpened (f : Finish) (places : ℕ) (b : Kept) : Type 0 where

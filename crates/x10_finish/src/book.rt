@@ -20,6 +20,8 @@ pub struct Book {
     places: u16,
     pairs: Vec<Pair>,
     unequal: usize,
+    /// Whether no report was taken in yet, so that no pair has a number.
+    blank: bool,
     /// The place that last disagreed with the home: it is looked at before the others.
     hint: Cell<u16>,
 }
@@ -31,7 +33,7 @@ impl Model for Book {
 
     ghost view = { λ b. record { finish = b.finish; places = b.places; pairs = b.pairs.items } };
 
-    ghost invariant = { λ b. AreKept b.finish.home b.places b.unequal b.pairs.items };
+    ghost invariant = { λ b. AreKept b.finish.home b.places b.unequal b.blank b.pairs.items };
 }
 
 impl Book {
@@ -45,14 +47,30 @@ impl Book {
         Book::blank(Vec::new(alloc), finish, places)
     }
 
-    /// The same in the memory of the book of a finish that has ended. Asks for more only where that was one of fewer places.
+    /// The same in the memory of the book of a finish that has ended. Asks for more only where that was one of fewer places. Takes
+    /// constant time where that was one of as many, and no report of it came.
     pub fn reopen(self, finish: Finish, places: u16) -> Result<Book, Stop>
         requires { finish.home < places }
         ensures ok { IfOk result (IsOpened finish places) }
         ensures err { IfErr result (λ why. why ≡ stop.Memory) }
     {
-        let Book { pairs, .. } = self;
-        Book::blank(pairs, finish, places)
+        let Book {
+            places: before,
+            pairs,
+            blank,
+            ..
+        } = self;
+        if !blank || before != places {
+            return Book::blank(pairs, finish, places);
+        }
+        Ok(Book {
+            finish,
+            places,
+            pairs,
+            unequal: 0,
+            blank,
+            hint: Cell::new(0),
+        })
     }
 
     /// A book in which nothing was reported yet, in the memory of a list.
@@ -75,6 +93,7 @@ impl Book {
             places,
             pairs,
             unequal: 0,
+            blank: true,
             hint: Cell::new(0),
         })
     }
@@ -102,6 +121,7 @@ impl Book {
         ensures { MergesCounts self.old from sent.now received.now self.new }
     {
         let home = usize::from(self.finish.home);
+        self.blank = false;
         self.unequal = merge(
             &mut self.pairs,
             self.unequal,

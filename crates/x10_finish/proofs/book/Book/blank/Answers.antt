@@ -34,6 +34,7 @@ invariant_of-result c = record {
   few = omega arith;
   whole = ap length (pairs_are c) ∙ length-replicate (c.args.places * c.args.places) no_pair;
   counted = sym (none_unequal c.args.finish.home c.args.places c.resize.new.self.items (pairs_are c));
+  none = λ blank. pairs_are c;
 }
 
 pub returns-clause-ok : goal.returns-clause-ok
