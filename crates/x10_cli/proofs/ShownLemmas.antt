@@ -1,5 +1,5 @@
 -- What the commands say that show the log of a run with threads.
-use Rattle.std.proofs.Common.{◌≡◌, ℕ, List, [], ◌∷◌, ◌++◌, Option, Result, Ok, Err, sym, ap, subst, ◌∙◌, inl, inr, append_assoc}
+use Rattle.std.proofs.Common.{◌≡◌, ℕ, List, [], ◌∷◌, ◌++◌, Option, Result, Ok, Err, refl, sym, ap, subst, ◌∙◌, inl, inr, append_assoc}
 use Rattle.std.specs.Prelude.{◌⊎◌, IfErr, OnOk}
 use Rattle.std.specs.Io.KnownBytes.{Keeps}
 use Rattle.std.proofs.KnownBytes.{Appends-kept, Keeps-trans}
@@ -14,10 +14,12 @@ use Rattle.x10_world.specs.Opening.{IsOpenedWorld}
 use Rattle.x10_world.specs.StandsForWorld.{WorldState, KeepsSetting, MakesEvent, StandsForWorld, setting_of_world}
 use Rattle.x10_world.proofs.RunLemmas.{keeps_more, keeps_self, run_more, setting_kept, within}
 use Rattle.x10_workers.specs.Plays.{events_in}
+use Rattle.x10_task.specs.declared.task.Verb.{Verb}
+use Rattle.x10_task.specs.declared.task.Verb.TheVariants as verb
 use Rattle.x10_cli.specs.declared.fault.Fault.{Fault}
 use Rattle.x10_cli.specs.declared.fault.Fault.TheVariants as fault
 use Rattle.x10_cli.specs.Answers.{Traces, of_stop, status_of}
-use Rattle.x10_cli.specs.Shown.{AppendsPicture, HasDrawnLog, HasDrawnSomeOfLog, RunsBy, RunsFirst, HasTracedLog, HasTracedSomeOfLog, IsLogOfRun, IsShownDue, IsStoppedAgain, IsStoppedAt, IsStoppedIn, TracesFirst}
+use Rattle.x10_cli.specs.Shown.{AppendsPicture, RunsBy, RunsFirst, HoldsOfLog, ShowsAll, ShowsFirst, HasShownLog, HasShownSomeOfLog, IsLogOfRun, IsShownDue, IsStoppedAgain, IsStoppedAt, IsStoppedIn, TracesFirst}
 use Rattle.x10_cli.specs.Logs.{IsAuditDue}
 use Rattle.x10_cli.proofs.RunLemmas.{no_file}
 
@@ -41,7 +43,7 @@ stopped_by bytes text v places turns x e of_run opened (inl h) = subst (λ f. Is
 stopped_by bytes text v places turns x e of_run opened (inr (inl h)) = subst (λ f. IsShownDue bytes text f) (sym h) tt
 stopped_by bytes text v places turns x e of_run opened (inr (inr h)) =
     let again : IsStoppedAgain bytes text e =
-    record { c = v; places = places; turns = turns; of_run = of_run; first = x; opened = opened; stops = h } in
+    record { c = v; places = places; turns = turns; of_run = of_run; first = x; opened = opened; holds = h } in
     subst (λ f. IsShownDue bytes text f) (sym h.stops.1)
     (again_by bytes text h.stops.0 (subst (λ f. IsStoppedAgain bytes text f) h.stops.1 again))
 
@@ -103,59 +105,6 @@ first_kept e x y made rest all a b c split traced (inr k) = inr (record {
   traces = (traced.0, traced.1, Appends-kept a b c traced.0 traced.2 k);
 })
 
-pub traced_by : {T : Type 0} (r : Result T Fault) (bytes text : List ℕ) (v : Certified) (places : ℕ) (turns : List Turn) (x y : WorldState)
-    (a b : Option (List ℕ)) → IsLogOfRun bytes text v places turns → IsOpenedWorld v places x → OnOk r (Traces x (events_in turns) y a b)
-    → OnOk r (HasTracedLog bytes text a b)
-traced_by (Ok t) bytes text v places turns x y a b of_run opened p =
-    record { c = v; places = places; turns = turns; of_run = of_run; first = x; last = y; opened = opened; traces = p }
-traced_by (Err e) bytes text v places turns x y a b of_run opened p = tt
-
-some_by : (e : Fault) (bytes text : List ℕ) (v : Certified) (places : ℕ) (turns : List Turn) (x : WorldState) (a b : Option (List ℕ))
-    → IsLogOfRun bytes text v places turns → IsOpenedWorld v places x → (e ≡ fault.File) ⊎ TracesFirst x (events_in turns) a b → status_of e ≡ 2
-    → Keeps a b ⊎ HasTracedSomeOfLog bytes text a b
-some_by e bytes text v places turns x a b of_run opened (inl f) s = absurd (no_file e f s)
-some_by e bytes text v places turns x a b of_run opened (inr t) s =
-    inr (record { c = v; places = places; turns = turns; of_run = of_run; first = x; opened = opened; traces = t })
-
-pub traced_some : {T : Type 0} (r : Result T Fault) (bytes text : List ℕ) (v : Certified) (places : ℕ) (turns : List Turn) (x : WorldState)
-    (a b : Option (List ℕ)) → IsLogOfRun bytes text v places turns → IsOpenedWorld v places x
-    → IfErr r (λ e. (e ≡ fault.File) ⊎ TracesFirst x (events_in turns) a b)
-    → IfErr r (λ e. status_of e ≡ 2 → Keeps a b ⊎ HasTracedSomeOfLog bytes text a b)
-traced_some (Ok t) bytes text v places turns x a b of_run opened p = tt
-traced_some (Err e) bytes text v places turns x a b of_run opened p = some_by e bytes text v places turns x a b of_run opened p
-
--- what was printed stays where nothing more is written
-pub traced_kept : (bytes text : List ℕ) (a b c : Option (List ℕ)) → HasTracedLog bytes text a b → Keeps b c → HasTracedLog bytes text a c
-traced_kept bytes text a b c h k = record {
-  c = h.c;
-  places = h.places;
-  turns = h.turns;
-  of_run = h.of_run;
-  first = h.first;
-  last = h.last;
-  opened = h.opened;
-  traces = (h.traces.0, h.traces.1, Appends-kept a b c h.traces.0 h.traces.2 k);
-}
-
-pub stopped_kept : (bytes text : List ℕ) (a b c : Option (List ℕ)) → Keeps a b ⊎ HasTracedSomeOfLog bytes text a b → Keeps b c
-    → Keeps a c ⊎ HasTracedSomeOfLog bytes text a c
-stopped_kept bytes text a b c (inl h) k = inl (Keeps-trans a b c h k)
-stopped_kept bytes text a b c (inr h) k = inr (record {
-  c = h.c;
-  places = h.places;
-  turns = h.turns;
-  of_run = h.of_run;
-  first = h.first;
-  opened = h.opened;
-  traces = record {
-    made = h.traces.made;
-    rest = h.traces.rest;
-    all = h.traces.all;
-    last = h.traces.last;
-    traces = (h.traces.traces.0, h.traces.traces.1, Appends-kept a b c h.traces.traces.0 h.traces.traces.2 k);
-  };
-})
-
 -- ---- the picture of a log's events
 
 pub by_none : (x : WorldState) → RunsBy x [] x
@@ -181,52 +130,107 @@ by_more x y z events event before kept makes = record {
 pub by_all : (x y : WorldState) (made left all : List Event) → left ≡ [] → made ++ left ≡ all → RunsBy x made y → RunsBy x all y
 by_all x y made left all is split runs = subst (λ es. RunsBy x es y) (split_end made left all is split) runs
 
-pub drawn_by : {T : Type 0} (r : Result T Fault) (bytes text : List ℕ) (v : Certified) (places : ℕ) (turns : List Turn) (x y : WorldState)
-    (a b : Option (List ℕ)) → IsLogOfRun bytes text v places turns → IsOpenedWorld v places x → OnOk r (RunsBy x (events_in turns) y)
-    → OnOk r (AppendsPicture a b) → OnOk r (HasDrawnLog bytes text a b)
-drawn_by (Ok t) bytes text v places turns x y a b of_run opened runs p =
-    record { c = v; places = places; turns = turns; of_run = of_run; first = x; last = y; opened = opened; runs = runs; printed = p }
-drawn_by (Err e) bytes text v places turns x y a b of_run opened runs p = tt
+-- ---- what a command shows
 
-picture_by : (e : Fault) (bytes text : List ℕ) (v : Certified) (places : ℕ) (turns : List Turn) (x : WorldState) (a b : Option (List ℕ))
-    → IsLogOfRun bytes text v places turns → IsOpenedWorld v places x
-    → (e ≡ fault.File) ⊎ Keeps a b ⊎ (RunsFirst x (events_in turns) × AppendsPicture a b) → status_of e ≡ 2
-    → Keeps a b ⊎ HasDrawnSomeOfLog bytes text a b
-picture_by e bytes text v places turns x a b of_run opened (inl f) s = absurd (no_file e f s)
-picture_by e bytes text v places turns x a b of_run opened (inr (inl k)) s = inl k
-picture_by e bytes text v places turns x a b of_run opened (inr (inr p)) s =
-    inr (record { c = v; places = places; turns = turns; of_run = of_run; first = x; opened = opened; runs = p.0; printed = p.1 })
+-- the lines, where it isn't the picture
+all_lines : (v : Verb) (x y : WorldState) (events : List Event) (a b : Option (List ℕ)) → (v ≡ verb.Draw → ⊥) → Traces x events y a b
+    → ShowsAll v x events a b
+all_lines verb.Draw x y events a b lines h = absurd (lines refl)
+all_lines _ x y events a b lines h = (y, h)
 
-pub drawn_some : {T : Type 0} (r : Result T Fault) (bytes text : List ℕ) (v : Certified) (places : ℕ) (turns : List Turn) (x : WorldState)
-    (a b : Option (List ℕ)) → IsLogOfRun bytes text v places turns → IsOpenedWorld v places x
-    → IfErr r (λ e. (e ≡ fault.File) ⊎ Keeps a b ⊎ (RunsFirst x (events_in turns) × AppendsPicture a b))
-    → IfErr r (λ e. status_of e ≡ 2 → Keeps a b ⊎ HasDrawnSomeOfLog bytes text a b)
-drawn_some (Ok t) bytes text v places turns x a b of_run opened p = tt
-drawn_some (Err e) bytes text v places turns x a b of_run opened p = picture_by e bytes text v places turns x a b of_run opened p
+first_lines : (v : Verb) (x : WorldState) (events : List Event) (a b : Option (List ℕ)) → (v ≡ verb.Draw → ⊥) → TracesFirst x events a b
+    → ShowsFirst v x events a b
+first_lines verb.Draw x events a b lines h = absurd (lines refl)
+first_lines _ x events a b lines h = h
 
-pub drawn_kept : (bytes text : List ℕ) (a b c : Option (List ℕ)) → HasDrawnLog bytes text a b → Keeps b c → HasDrawnLog bytes text a c
-drawn_kept bytes text a b c h k = record {
-  c = h.c;
-  places = h.places;
-  turns = h.turns;
-  of_run = h.of_run;
-  first = h.first;
+module _ {T : Type 0} (r : Result T Fault) (bytes text : List ℕ) (c : Certified) (places : ℕ) (turns : List Turn) (x : WorldState)
+    (a b : Option (List ℕ)) (of_run : IsLogOfRun bytes text c places turns) (opened : IsOpenedWorld c places x) where
+  -- what holds of this world and the events of these turns
+  of_log : (P : WorldState → List Event → Type 0) → P x (events_in turns) → HoldsOfLog bytes text P
+  of_log P h = record { c = c; places = places; turns = turns; of_run = of_run; first = x; opened = opened; holds = h }
+
+  pub lines_shown : (v : Verb) (y : WorldState) → (v ≡ verb.Draw → ⊥) → OnOk r (Traces x (events_in turns) y a b) → OnOk r (HasShownLog v bytes text a b)
+  lines_shown v y lines p = done r p
+    where
+      done : (q : Result T Fault) → OnOk q (Traces x (events_in turns) y a b) → OnOk q (HasShownLog v bytes text a b)
+      done (Ok t) p = of_log (λ z events. ShowsAll v z events a b) (all_lines v x y (events_in turns) a b lines p)
+      done (Err e) p = tt
+
+  pub first_lines_shown : (v : Verb) → (v ≡ verb.Draw → ⊥) → IfErr r (λ e. (e ≡ fault.File) ⊎ TracesFirst x (events_in turns) a b)
+      → IfErr r (λ e. status_of e ≡ 2 → Keeps a b ⊎ HasShownSomeOfLog v bytes text a b)
+  first_lines_shown v lines p = done r p
+    where
+      left : (e : Fault) → (e ≡ fault.File) ⊎ TracesFirst x (events_in turns) a b → status_of e ≡ 2 → Keeps a b ⊎ HasShownSomeOfLog v bytes text a b
+      left e (inl f) s = absurd (no_file e f s)
+      left e (inr t) s = inr (of_log (λ z events. ShowsFirst v z events a b) (first_lines v x (events_in turns) a b lines t))
+
+      done : (q : Result T Fault) → IfErr q (λ e. (e ≡ fault.File) ⊎ TracesFirst x (events_in turns) a b)
+          → IfErr q (λ e. status_of e ≡ 2 → Keeps a b ⊎ HasShownSomeOfLog v bytes text a b)
+      done (Ok t) p = tt
+      done (Err e) p = left e p
+
+  pub picture_shown : (v : Verb) (y : WorldState) → v ≡ verb.Draw → OnOk r (RunsBy x (events_in turns) y) → OnOk r (AppendsPicture a b)
+      → OnOk r (HasShownLog v bytes text a b)
+  picture_shown v y drawn runs p = subst (λ u. OnOk r (HasShownLog u bytes text a b)) (sym drawn) (done r runs p)
+    where
+      done : (q : Result T Fault) → OnOk q (RunsBy x (events_in turns) y) → OnOk q (AppendsPicture a b) → OnOk q (HasShownLog verb.Draw bytes text a b)
+      done (Ok t) runs p = of_log (λ z events. ShowsAll verb.Draw z events a b) (y, runs, p)
+      done (Err e) runs p = tt
+
+  pub first_picture_shown : (v : Verb) → v ≡ verb.Draw
+      → IfErr r (λ e. (e ≡ fault.File) ⊎ Keeps a b ⊎ (RunsFirst x (events_in turns) × AppendsPicture a b))
+      → IfErr r (λ e. status_of e ≡ 2 → Keeps a b ⊎ HasShownSomeOfLog v bytes text a b)
+  first_picture_shown v drawn p =
+      subst (λ u. IfErr r (λ e. status_of e ≡ 2 → Keeps a b ⊎ HasShownSomeOfLog u bytes text a b)) (sym drawn) (done r p)
+    where
+      left : (e : Fault) → (e ≡ fault.File) ⊎ Keeps a b ⊎ (RunsFirst x (events_in turns) × AppendsPicture a b) → status_of e ≡ 2
+          → Keeps a b ⊎ HasShownSomeOfLog verb.Draw bytes text a b
+      left e (inl f) s = absurd (no_file e f s)
+      left e (inr (inl k)) s = inl k
+      left e (inr (inr p)) s = inr (of_log (λ z events. ShowsFirst verb.Draw z events a b) p)
+
+      done : (q : Result T Fault) → IfErr q (λ e. (e ≡ fault.File) ⊎ Keeps a b ⊎ (RunsFirst x (events_in turns) × AppendsPicture a b))
+          → IfErr q (λ e. status_of e ≡ 2 → Keeps a b ⊎ HasShownSomeOfLog verb.Draw bytes text a b)
+      done (Ok t) p = tt
+      done (Err e) p = left e p
+
+-- ---- what was shown stays where nothing more is written
+
+all_kept : (v : Verb) (x : WorldState) (events : List Event) (a b c : Option (List ℕ)) → Keeps b c → ShowsAll v x events a b → ShowsAll v x events a c
+all_kept verb.Draw x events a b c k h = (h.0, h.1, (h.2.0, h.2.1, Appends-kept a b c h.2.0 h.2.2 k))
+all_kept _ x events a b c k h = (h.0, (h.1.0, h.1.1, Appends-kept a b c h.1.0 h.1.2 k))
+
+first_shown_kept : (v : Verb) (x : WorldState) (events : List Event) (a b c : Option (List ℕ)) → Keeps b c → ShowsFirst v x events a b
+    → ShowsFirst v x events a c
+first_shown_kept verb.Draw x events a b c k h = (h.0, (h.1.0, h.1.1, Appends-kept a b c h.1.0 h.1.2 k))
+first_shown_kept _ x events a b c k h = record {
+  made = h.made;
+  rest = h.rest;
+  all = h.all;
   last = h.last;
-  opened = h.opened;
-  runs = h.runs;
-  printed = (h.printed.0, h.printed.1, Appends-kept a b c h.printed.0 h.printed.2 k);
+  traces = (h.traces.0, h.traces.1, Appends-kept a b c h.traces.0 h.traces.2 k);
 }
 
-pub picture_kept : (bytes text : List ℕ) (a b c : Option (List ℕ)) → Keeps a b ⊎ HasDrawnSomeOfLog bytes text a b → Keeps b c
-    → Keeps a c ⊎ HasDrawnSomeOfLog bytes text a c
-picture_kept bytes text a b c (inl h) k = inl (Keeps-trans a b c h k)
-picture_kept bytes text a b c (inr h) k = inr (record {
+-- something else holds of a log where it follows
+log_holds : (bytes text : List ℕ) (P Q : WorldState → List Event → Type 0) → ((x : WorldState) (events : List Event) → P x events → Q x events)
+    → HoldsOfLog bytes text P → HoldsOfLog bytes text Q
+log_holds bytes text P Q follows h = record {
   c = h.c;
   places = h.places;
   turns = h.turns;
   of_run = h.of_run;
   first = h.first;
   opened = h.opened;
-  runs = h.runs;
-  printed = (h.printed.0, h.printed.1, Appends-kept a b c h.printed.0 h.printed.2 k);
-})
+  holds = follows h.first (events_in h.turns) h.holds;
+}
+
+pub shown_kept : (v : Verb) (bytes text : List ℕ) (a b c : Option (List ℕ)) → HasShownLog v bytes text a b → Keeps b c
+    → HasShownLog v bytes text a c
+shown_kept v bytes text a b c h k =
+    log_holds bytes text (λ x events. ShowsAll v x events a b) (λ x events. ShowsAll v x events a c) (λ x events s. all_kept v x events a b c k s) h
+
+pub some_shown_kept : (v : Verb) (bytes text : List ℕ) (a b c : Option (List ℕ)) → Keeps a b ⊎ HasShownSomeOfLog v bytes text a b → Keeps b c
+    → Keeps a c ⊎ HasShownSomeOfLog v bytes text a c
+some_shown_kept v bytes text a b c (inl h) k = inl (Keeps-trans a b c h k)
+some_shown_kept v bytes text a b c (inr h) k = inr (log_holds bytes text (λ x events. ShowsFirst v x events a b) (λ x events. ShowsFirst v x events a c)
+    (λ x events s. first_shown_kept v x events a b c k s) h)

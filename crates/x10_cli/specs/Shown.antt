@@ -15,6 +15,8 @@ use Rattle.x10_world.specs.Runs.{Reaches}
 use Rattle.x10_world.specs.StandsForWorld.{WorldState, KeepsSetting, StandsForWorld}
 use Rattle.x10_workers.specs.Audits.{IsRefusedAt}
 use Rattle.x10_workers.specs.Plays.{IsPlayed, events_in}
+use Rattle.x10_task.specs.declared.task.Verb.{Verb}
+use Rattle.x10_task.specs.declared.task.Verb.TheVariants as verb
 use Rattle.x10_cli.specs.declared.fault.Fault.{Fault}
 use Rattle.x10_cli.specs.declared.fault.Fault.TheVariants as fault
 use Rattle.x10_cli.specs.Answers.{Traces, of_stop, status_of}
@@ -44,17 +46,16 @@ pub record IsLogOfRun (bytes text : List ℕ) (c : Certified) (places : ℕ)
   pub outputs : List (List machine.Line)
   pub plays : IsPlayed c places turns outputs
 
--- the text is the log of a run of the module that has ended, and the lines of all its events were appended, from a world of
--- the module at its beginning
-pub record HasTracedLog (bytes text : List ℕ) (old new : Option (List ℕ)) : Type 0 where
+-- the text is the log of a run of the module that has ended, and something holds of all its events and a world of the module
+-- at its beginning
+pub record HoldsOfLog (bytes text : List ℕ) (P : WorldState → List Event → Type 0) : Type 0 where
   pub c : Certified
   pub places : ℕ
   pub turns : List Turn
   pub of_run : IsLogOfRun bytes text c places turns
   pub first : WorldState
-  pub last : WorldState
   pub opened : IsOpenedWorld c places first
-  pub traces : Traces first (events_in turns) last old new
+  pub holds : P first (events_in turns)
 
 -- the lines of the first of these events were appended
 pub record TracesFirst (x : WorldState) (events : List Event)
@@ -64,16 +65,6 @@ pub record TracesFirst (x : WorldState) (events : List Event)
   pub all : made ++ rest ≡ events
   pub last : WorldState
   pub traces : Traces x made last old new
-
--- the same of the log's first events
-pub record HasTracedSomeOfLog (bytes text : List ℕ) (old new : Option (List ℕ)) : Type 0 where
-  pub c : Certified
-  pub places : ℕ
-  pub turns : List Turn
-  pub of_run : IsLogOfRun bytes text c places turns
-  pub first : WorldState
-  pub opened : IsOpenedWorld c places first
-  pub traces : TracesFirst first (events_in turns) old new
 
 -- these events lead on from one state of a world to another, and are a run from each world of the machine that the first one
 -- stands for: none goes wrong, and no activity takes more steps than its bound
@@ -93,29 +84,24 @@ pub record RunsFirst (x : WorldState) (events : List Event) : Type 0 where
 abbrev pub AppendsPicture : Option (List ℕ) → Option (List ℕ) → Type 0
 AppendsPicture old new = (picture : List ℕ) × IsPage picture × Appends old new picture
 
--- the text is the log of a run of the module that has ended, a world of the module was led by all its events from its beginning,
--- and the picture of that was appended
-pub record HasDrawnLog (bytes text : List ℕ) (old new : Option (List ℕ)) : Type 0 where
-  pub c : Certified
-  pub places : ℕ
-  pub turns : List Turn
-  pub of_run : IsLogOfRun bytes text c places turns
-  pub first : WorldState
-  pub last : WorldState
-  pub opened : IsOpenedWorld c places first
-  pub runs : RunsBy first (events_in turns) last
-  pub printed : AppendsPicture old new
+-- What a command shows of these events, from a state of a world on: for `draw` they led it on, and the picture of that was
+-- appended; else the lines of each were.
+abbrev pub ShowsAll : Verb → WorldState → List Event → (old new : Option (List ℕ)) → Type 0
+ShowsAll verb.Draw x events old new = (y : WorldState) × RunsBy x events y × AppendsPicture old new
+ShowsAll _ x events old new = (y : WorldState) × Traces x events y old new
 
--- the same of the log's first events
-pub record HasDrawnSomeOfLog (bytes text : List ℕ) (old new : Option (List ℕ)) : Type 0 where
-  pub c : Certified
-  pub places : ℕ
-  pub turns : List Turn
-  pub of_run : IsLogOfRun bytes text c places turns
-  pub first : WorldState
-  pub opened : IsOpenedWorld c places first
-  pub runs : RunsFirst first (events_in turns)
-  pub printed : AppendsPicture old new
+-- the same of the first of these events
+abbrev pub ShowsFirst : Verb → WorldState → List Event → (old new : Option (List ℕ)) → Type 0
+ShowsFirst verb.Draw x events old new = RunsFirst x events × AppendsPicture old new
+ShowsFirst _ x events old new = TracesFirst x events old new
+
+-- the same of all events of a log, or of its first ones
+abbrev pub HasShownLog : Verb → (bytes text : List ℕ) → (old new : Option (List ℕ)) → Type 0
+HasShownLog v bytes text old new = HoldsOfLog bytes text (λ x events. ShowsAll v x events old new)
+
+abbrev pub HasShownSomeOfLog : Verb → (bytes text : List ℕ) → (old new : Option (List ℕ)) → Type 0
+HasShownSomeOfLog v bytes text old new =
+    HoldsOfLog bytes text (λ x events. ShowsFirst v x events old new)
 
 -- an event was refused in a state of a world, and the fault tells why
 abbrev pub IsStoppedAt : WorldState → Event → Fault → Type 0
@@ -131,16 +117,9 @@ pub record IsStoppedIn (x : WorldState) (events : List Event) (f : Fault) : Type
   pub runs : RunsBy x made last
   pub stops : IsStoppedAt last event f
 
--- the text is the log of a run of the module that has ended, and one of its events was refused all the same, as where memory
--- is refused
-pub record IsStoppedAgain (bytes text : List ℕ) (f : Fault) : Type 0 where
-  pub c : Certified
-  pub places : ℕ
-  pub turns : List Turn
-  pub of_run : IsLogOfRun bytes text c places turns
-  pub first : WorldState
-  pub opened : IsOpenedWorld c places first
-  pub stops : IsStoppedIn first (events_in turns) f
+-- one of the log's events was refused all the same, as where memory is refused
+abbrev pub IsStoppedAgain : (bytes text : List ℕ) → Fault → Type 0
+IsStoppedAgain bytes text f = HoldsOfLog bytes text (λ first events. IsStoppedIn first events f)
 
 -- the fault is the one that is due: that of an audit of the log, or why one of its events was refused when they were made again
 abbrev pub IsShownDue : List ℕ → List ℕ → Fault → Type 0

@@ -5,7 +5,7 @@ use std::sync::Wait;
 use std::test::*;
 use std::thread::Threads;
 use x10_asm::assemble;
-use x10_cli::{audit_logged, draw_logged, run_logged, trace_logged};
+use x10_cli::{audit_logged, run_logged, show_logged};
 use x10_samples::SEVEN;
 use x10_usage::parse;
 
@@ -78,7 +78,7 @@ fn traced(alloc: Global, image: &[u8], log: &[u8]) -> Result<Answer, Fail> {
     let words = words_of(alloc, &["trace", "F", "--log", "L"])?;
     let task = parse(alloc, &words, false).ok().ok_or("it is a task")?;
     let (mut out, mut err) = (Vec::new(alloc), Vec::new(alloc));
-    let status = trace_logged(alloc, &task, image, None, log, &mut out, &mut err);
+    let status = show_logged(alloc, &task, image, None, log, &mut out, &mut err);
     Ok(Answer { status, out, err })
 }
 
@@ -86,7 +86,7 @@ fn drawn(alloc: Global, image: &[u8], log: &[u8]) -> Result<Answer, Fail> {
     let words = words_of(alloc, &["draw", "F", "S", "--log", "L"])?;
     let task = parse(alloc, &words, false).ok().ok_or("it is a task")?;
     let (mut out, mut err) = (Vec::new(alloc), Vec::new(alloc));
-    let status = draw_logged(alloc, &task, image, None, log, &mut out, &mut err);
+    let status = show_logged(alloc, &task, image, None, log, &mut out, &mut err);
     Ok(Answer { status, out, err })
 }
 

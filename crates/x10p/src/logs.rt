@@ -7,7 +7,7 @@ use std::fs::{self, File};
 use std::io::{self, BufWriter};
 use std::sync::Wait;
 use std::thread::Threads;
-use x10_cli::{audit_logged, draw_logged, run_logged, trace_logged};
+use x10_cli::{audit_logged, run_logged, show_logged};
 use x10_files::{Output, Told, whole};
 use x10_task::{Task, Verb};
 
@@ -54,7 +54,7 @@ pub fn print(
     };
     let mut told = Told::new(alloc)?;
     let status = if task.verb == Verb::Trace {
-        trace_logged(alloc, task, bytes, source, &log, &mut out, &mut told)
+        show_logged(alloc, task, bytes, source, &log, &mut out, &mut told)
     } else {
         audit_logged(alloc, task, bytes, source, &log, &mut out, &mut told)
     };
@@ -75,7 +75,7 @@ pub fn draw(
     let log = read(rt, task, log)?;
     let mut made = Output::new(Vec::new(alloc));
     let mut told = Told::new(alloc)?;
-    let status = draw_logged(alloc, task, bytes, source, &log, &mut made, &mut told);
+    let status = show_logged(alloc, task, bytes, source, &log, &mut made, &mut told);
     if made.wants_memory() {
         return Err(Trouble::Memory);
     }
