@@ -27,7 +27,8 @@ use Rattle.x10_place.proofs.FrameMoves.{situated, Fetched, context_at, states_at
 
 -- an object that is written keeps its class
 pub object_grows : (xs ys : List ObjectState) (n : ℕ) (new old : ObjectState) → IsWritten xs n new ys → slice_get xs n ≡ Some old
-    → new.class ≡ old.class → (k : ℕ) (o : ObjectState) → slice_get xs k ≡ Some o → (q : ObjectState) × (slice_get ys k ≡ Some q) × (q.class ≡ o.class)
+    → new.class ≡ old.class → (k : ℕ) (o : ObjectState) → slice_get xs k ≡ Some o
+    → (q : ObjectState) × (slice_get ys k ≡ Some q) × (q.class ≡ o.class)
 object_grows xs ys n new old h at same k o e = elim (cases_eq k n) [
   | inl here ↦
       (let is : o ≡ old = same_Some o old (sym e ∙ ap (λ j. slice_get xs j) here ∙ at) in

@@ -302,11 +302,13 @@ module _ (fetch : Fetched) where
     local_moves op.Gopen e np ns r permits =
         let asked = permits.1.settles in
         unchanged local.Open op.Gopen tt r (opens fetch g kept out same edges exported asked.0 e
-        (reads x h.state s.top.registers f.registers.items i.b (kind.GRef asked.0) h.words asked.1) asked.2 (by local.Open r) (edges_by op.Gopen permits asked.3))
+        (reads x h.state s.top.registers f.registers.items i.b (kind.GRef asked.0) h.words asked.1) asked.2 (by local.Open r)
+        (edges_by op.Gopen permits asked.3))
     local_moves op.Ifsame e np ns r permits =
         let asked = permits.1.settles in
         unchanged local.SamePlace op.Ifsame tt r (compares fetch g kept out same edges site (are_same f.registers.items i.a i.b) e refl
-        asked.0 asked.1 (by local.SamePlace r) (edges_by op.Ifsame permits asked.2))
+        asked.0 asked.1
+        (by local.SamePlace r) (edges_by op.Ifsame permits asked.2))
     local_moves op.Null e np ns r permits = unchanged local.Null op.Null tt r (
       writes s.top i.a Null,
       (refl, refl),

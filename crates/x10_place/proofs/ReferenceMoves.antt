@@ -79,7 +79,8 @@ module _ (fetch : Fetched) (g : CallFrame) (kept : HeapState) (out : Edges) (sam
 
   -- a field is read
   pub gets : HoldsHeap x m.cells → (class : ℕ) (kinds : List Kind) (k : Kind) → i.op ≡ op.Get
-      → Reads x s.top.registers f.registers.items i.b (kind.Obj class) → slice_get setting.program.classes class ≡ Some kinds → slice_get kinds i.c ≡ Some k → GetsField (space_of f heap) i (space_of g kept)
+      → Reads x s.top.registers f.registers.items i.b (kind.Obj class)
+      → slice_get setting.program.classes class ≡ Some kinds → slice_get kinds i.c ≡ Some k → GetsField (space_of f heap) i (space_of g kept)
       → out ≡ onward point (gives point h.state k None) → Moved fetch op.Get g
   gets held class kinds k e (v, is, some) classes known c to =
       let o : ObjectAt x m.cells class kinds (word_at f.registers.items i.b) v =
