@@ -149,7 +149,8 @@ module _ {T : Type 0} (r : Result T Fault) (bytes text : List ℕ) (c : Certifie
   of_log : (P : WorldState → List Event → Type 0) → P x (events_in turns) → HoldsOfLog bytes text P
   of_log P h = record { c = c; places = places; turns = turns; of_run = of_run; first = x; opened = opened; holds = h }
 
-  pub lines_shown : (v : Verb) (y : WorldState) → (v ≡ verb.Draw → ⊥) → OnOk r (Traces x (events_in turns) y a b) → OnOk r (HasShownLog v bytes text a b)
+  pub lines_shown : (v : Verb) (y : WorldState) → (v ≡ verb.Draw → ⊥) → OnOk r (Traces x (events_in turns) y a b)
+      → OnOk r (HasShownLog v bytes text a b)
   lines_shown v y lines p = done r p
     where
       done : (q : Result T Fault) → OnOk q (Traces x (events_in turns) y a b) → OnOk q (HasShownLog v bytes text a b)
@@ -173,7 +174,8 @@ module _ {T : Type 0} (r : Result T Fault) (bytes text : List ℕ) (c : Certifie
       → OnOk r (HasShownLog v bytes text a b)
   picture_shown v y drawn runs p = subst (λ u. OnOk r (HasShownLog u bytes text a b)) (sym drawn) (done r runs p)
     where
-      done : (q : Result T Fault) → OnOk q (RunsBy x (events_in turns) y) → OnOk q (AppendsPicture a b) → OnOk q (HasShownLog verb.Draw bytes text a b)
+      done : (q : Result T Fault) → OnOk q (RunsBy x (events_in turns) y) → OnOk q (AppendsPicture a b)
+          → OnOk q (HasShownLog verb.Draw bytes text a b)
       done (Ok t) runs p = of_log (λ z events. ShowsAll verb.Draw z events a b) (y, runs, p)
       done (Err e) runs p = tt
 
@@ -232,5 +234,6 @@ shown_kept v bytes text a b c h k =
 pub some_shown_kept : (v : Verb) (bytes text : List ℕ) (a b c : Option (List ℕ)) → Keeps a b ⊎ HasShownSomeOfLog v bytes text a b → Keeps b c
     → Keeps a c ⊎ HasShownSomeOfLog v bytes text a c
 some_shown_kept v bytes text a b c (inl h) k = inl (Keeps-trans a b c h k)
-some_shown_kept v bytes text a b c (inr h) k = inr (log_holds bytes text (λ x events. ShowsFirst v x events a b) (λ x events. ShowsFirst v x events a c)
+some_shown_kept v bytes text a b c (inr h) k = inr (log_holds bytes text (λ x events. ShowsFirst v x events a b)
+    (λ x events. ShowsFirst v x events a c)
     (λ x events s. first_shown_kept v x events a b c k s) h)
