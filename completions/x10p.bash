@@ -9,7 +9,7 @@ _x10p_has() {
     case $1 in
     '')
         options=(-h --help -V --version)
-        arguments=('words asm list check verify bounds explain run runs audit trace draw help')
+        arguments=('words asm list check verify bounds frame explain run runs audit trace draw help')
         ;;
     asm)
         options=(--explain --color -h --help)
@@ -41,9 +41,15 @@ _x10p_has() {
         optional=(--explain)
         arguments=('files asm x10')
         ;;
+    frame)
+        options=(--places --explain --color -h --help)
+        values=([--places]='nothing' [--explain]='words yes no' [--color]='words auto always never')
+        optional=(--explain)
+        arguments=('nothing')
+        ;;
     explain)
         options=(-h --help)
-        arguments=('words Word Number Count Order Label Text Limit Entry Nesting Jump LoopSlot CallOrder Atomic TooLarge Index Unset Kind Home Result places turns file usage thread refused differs open Memory Short Magic Version Reserved Code Trailing Head Image Place Taken Key Frame Printed Spelling Ending')
+        arguments=('words Word Number Count Order Label Text Limit Entry Nesting Jump LoopSlot CallOrder Atomic TooLarge Index Unset Kind Home Result places turns file usage thread refused differs open Memory Short Magic Version Reserved Code Trailing Head Image Place Taken Key Frame Printed Spelling Ending FrameType Tag')
         ;;
     run)
         options=(--places --limit --schedule --seed --explain --color --threads --log --json -h --help)
@@ -76,7 +82,7 @@ _x10p_has() {
         arguments=('files asm x10' 'files svg')
         ;;
     help)
-        arguments=('words asm list check verify bounds explain run runs audit trace draw help')
+        arguments=('words asm list check verify bounds frame explain run runs audit trace draw help')
         ;;
     esac
 }

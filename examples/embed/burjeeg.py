@@ -29,10 +29,7 @@ DONE, REFUSED, STOPPED, NO_TEXT, NULL, SMALL, CLOSED, IN_USE, NOTHING = 0, 1, 2,
 _HERE = Path(__file__).resolve().parent
 _ROOM = 4096
 _PLACES, _MEMORY = 501, 601
-_OF_FRAMES = {
-    **dict(enumerate("Short Version Type Place Tag Text Order Trailing".split(), 901)),
-    **dict(enumerate("NotHere Function Kind Home Ref Finish Segment".split(), 911)),
-}
+_OF_FRAMES = dict(enumerate("NotHere Function Kind Home Ref Finish Segment".split(), 911))
 _HAD_STOPPED = 921
 _T = TypeVar("_T", bound="_Handled")
 
@@ -45,7 +42,7 @@ class _Fault(ctypes.Structure):
 class Fault(Exception):
     """Why something wasn't done.
 
-    `line` is what the program prints for it, without its line end; for a frame that a place refuses, and for a place that had
+    `line` is what the program prints for it, without its line end; for a frame that doesn't fit a place, and for a place that had
     stopped before, which the program never meets, it is a line of the same form. `status` is 1 where the bytes are refused, 2 where the work was stopped, 4 where a text
     isn't UTF-8. `kind` is a number of the header's burjeeg_kind; `function`, `pc` and `at` say where. `output` is what `run` had
     printed until then.

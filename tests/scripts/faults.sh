@@ -7,7 +7,7 @@ source "$(dirname "$0")/common"
 # every cause that a fault's line can have is one of the page's, whatever its letters are
 causes="Word Number Count Order Label Text Limit Entry Nesting Jump LoopSlot CallOrder Atomic TooLarge Index Unset Kind Home
     Result Short Magic Version Trailing Reserved Code places limit turns refused differs open thread stop memory file usage Head Image Place Taken Key
-    Frame Printed Spelling Ending"
+    Frame Printed Spelling Ending FrameType Tag"
 for cause in $causes; do
     [ "$cause" != stop ] || continue
     for name in "$cause" "${cause,,}" "${cause^^}"; do
@@ -15,7 +15,7 @@ for cause in $causes; do
         [ ! -s .err ] || fail "explain $name: $(cat .err)"
         cmp -s "$name.told" "$cause.told" || fail "explain $name isn't explain $cause"
     done
-    grep -qiE "^((asm|image|verify|log): |verify: Structure |stop: )?$cause\b|, and $cause\b|, and stop: $cause\b" "$cause.told" ||
+    grep -qiE "^((asm|image|verify|log|frame): |verify: Structure |stop: )?$cause\b|, and $cause\b|, and stop: $cause\b" "$cause.told" ||
         fail "explain $cause begins with $(head -n 1 "$cause.told")"
     [ "$(wc -L <"$cause.told")" -le 120 ] || fail "explain $cause has a long line"
 done

@@ -27,7 +27,7 @@ doubles=examples/doubles.asm
 mkdir examples
 prints 5 >"$doubles"
 cp seven.x10 examples/
-for command in "" asm list check verify bounds run audit trace draw explain; do
+for command in "" asm list check verify bounds frame run audit trace draw explain; do
     x10p $command --help >.help 2>.err || fail "x10p $command --help: status $?"
     grep -q "Exit status:" .help && grep -q "  4  " .help || fail "the help of x10p $command has no statuses"
     grep "^  x10p " .help >.examples || fail "the help of x10p $command has no example"

@@ -92,7 +92,7 @@ enum burjeeg_kind {
 
     BURJEEG_FILE = 701, /* the text isn't UTF-8 */
 
-    /* Bytes that came to a place are no frame of a run of so many places. */
+    /* Bytes, such as those that came to a place, are no frame of a run of so many places. */
     BURJEEG_FRAME_SHORT = 901,
     BURJEEG_FRAME_VERSION = 902,
     BURJEEG_FRAME_TYPE = 903,

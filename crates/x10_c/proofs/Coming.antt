@@ -59,6 +59,7 @@ module _ (v : Verb) (asked : Option ℕ) (bytes text : List ℕ) where
   failed (fault.Refused p) r new empty u s = same (fault.Refused p) r new (λ e. omega (arith, e)) u s
   failed (fault.Differs t) r new empty u s = same (fault.Differs t) r new (λ e. omega (arith, e)) u s
   failed fault.Thread r new empty u s = same fault.Thread r new (λ e. omega (arith, e)) u s
+  failed (fault.Frame f) r new empty u s = same (fault.Frame f) r new (λ e. omega (arith, e)) u s
   failed (fault.Log f) r new empty u s = same (fault.Log f) r new (λ e. omega (arith, e)) u s
   failed fault.LogImage r new empty u s = same fault.LogImage r new (λ e. omega (arith, e)) u s
   failed (fault.LogDiffers t) r new empty u s = same (fault.LogDiffers t) r new (λ e. omega (arith, e)) u s

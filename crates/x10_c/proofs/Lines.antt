@@ -11,6 +11,8 @@ use Rattle.x10_bounds.specs.declared.fault.BoundCause.{BoundCause}
 use Rattle.x10_bounds.specs.declared.fault.BoundCause.TheVariants as bound
 use Rattle.x10_verify.specs.declared.fault.VerifyCause.{VerifyCause}
 use Rattle.x10_verify.specs.declared.fault.VerifyCause.TheVariants as verify
+use Rattle.x10_frame.specs.declared.fault.FrameFault.{FrameFault}
+use Rattle.x10_frame.specs.declared.fault.FrameFault.TheVariants as frame
 use Rattle.x10_log.specs.declared.fault.LogCause.{LogCause}
 use Rattle.x10_log.specs.declared.fault.LogCause.TheVariants as log
 use Rattle.x10_cli.specs.declared.fault.Fault.{Fault}
@@ -95,6 +97,17 @@ of_log line log.Spelling = (_, refl, refl)
 of_log line log.Ending = (_, refl, refl)
 of_log line log.Memory = (_, refl, refl)
 
+of_frame : (f : FrameFault) → Back (fault.Frame f)
+of_frame frame.Short = (_, refl, refl)
+of_frame frame.Version = (_, refl, refl)
+of_frame frame.FrameType = (_, refl, refl)
+of_frame frame.Place = (_, refl, refl)
+of_frame frame.Tag = (_, refl, refl)
+of_frame frame.Text = (_, refl, refl)
+of_frame frame.Order = (_, refl, refl)
+of_frame frame.Trailing = (_, refl, refl)
+of_frame frame.Memory = (_, refl, refl)
+
 back : (f : Fault) → Back f
 back (fault.Asm f) = of_asm f.line f.cause
 back (fault.Image f) = of_image f
@@ -114,6 +127,7 @@ back (fault.Log f) = of_log f.line f.cause
 back fault.LogImage = (_, refl, refl)
 back (fault.LogDiffers t) = (_, refl, refl)
 back fault.LogOpen = (_, refl, refl)
+back (fault.Frame f) = of_frame f
 
 -- the line of the fault that numbers stand for is that of each fault with these numbers
 pub same_line : (f g : Fault) (n : FaultNumbers) → numbers_of f ≡ n → fault_of n ≡ Some g → fault_line g ≡ fault_line f

@@ -3,8 +3,6 @@ use Rattle.std.specs.Prelude.{◌≡◌, ◌≢◌, ◌⊎◌, ◌≤◌, ℕ, B
 use Rattle.x10_kinds.specs.Limits.{number_of}
 use Rattle.x10_kinds.specs.declared.stop.Stop.{Stop}
 use Rattle.x10_kinds.specs.declared.stop.Stop.TheVariants as stop
-use Rattle.x10_frame.specs.declared.fault.FrameFault.{FrameFault}
-use Rattle.x10_frame.specs.declared.fault.FrameFault.TheVariants as frame
 use Rattle.x10_copy.specs.declared.refusal.Refusal.{Refusal}
 use Rattle.x10_copy.specs.declared.refusal.Refusal.TheVariants as refusal
 use Rattle.x10_place.specs.declared.line.Line.{Line}
@@ -18,7 +16,7 @@ use Rattle.x10_handles.specs.declared.unopened.Unopened.TheVariants as unopened
 use Rattle.x10_handles.specs.Stations.{IsFrameOut}
 use Rattle.x10_cli.specs.Lines.{shown}
 use Rattle.x10_c.specs.declared.numbers.FaultNumbers.{FaultNumbers}
-use Rattle.x10_c.specs.Numbers.{no_fault}
+use Rattle.x10_c.specs.Numbers.{frame_kind, no_fault}
 use Rattle.x10_c.specs.Calls.{HasRoom}
 
 -- a fault with no numbers beside its kind, and one with a count
@@ -54,17 +52,6 @@ step_told (Ok moved) = no_fault
 step_told (Err why) = stop_numbers why
 
 -- ---- bytes come in
-
-abbrev pub frame_kind : FrameFault → ℕ
-frame_kind frame.Short = 901
-frame_kind frame.Version = 902
-frame_kind frame.FrameType = 903
-frame_kind frame.Place = 904
-frame_kind frame.Tag = 905
-frame_kind frame.Text = 906
-frame_kind frame.Order = 907
-frame_kind frame.Trailing = 908
-frame_kind frame.Memory = 909
 
 abbrev pub refusal_numbers : Refusal → FaultNumbers
 refusal_numbers (refusal.Frame fault) = plain (frame_kind fault)

@@ -11,6 +11,8 @@ use Rattle.x10_bounds.specs.declared.fault.BoundCause.{BoundCause}
 use Rattle.x10_bounds.specs.declared.fault.BoundCause.TheVariants as bound
 use Rattle.x10_verify.specs.declared.fault.VerifyCause.{VerifyCause}
 use Rattle.x10_verify.specs.declared.fault.VerifyCause.TheVariants as verify
+use Rattle.x10_frame.specs.declared.fault.FrameFault.{FrameFault}
+use Rattle.x10_frame.specs.declared.fault.FrameFault.TheVariants as frame
 use Rattle.x10_log.specs.declared.fault.LogCause.{LogCause}
 use Rattle.x10_log.specs.declared.fault.LogCause.TheVariants as log
 use Rattle.x10_cli.specs.declared.fault.Fault.{Fault}
@@ -73,6 +75,17 @@ log_kind log.Spelling = 808
 log_kind log.Ending = 809
 log_kind log.Memory = 810
 
+abbrev pub frame_kind : FrameFault → ℕ
+frame_kind frame.Short = 901
+frame_kind frame.Version = 902
+frame_kind frame.FrameType = 903
+frame_kind frame.Place = 904
+frame_kind frame.Tag = 905
+frame_kind frame.Text = 906
+frame_kind frame.Order = 907
+frame_kind frame.Trailing = 908
+frame_kind frame.Memory = 909
+
 -- ---- the numbers of a fault
 
 abbrev pub plain : ℕ → FaultNumbers
@@ -110,6 +123,7 @@ numbers_of (fault.Log f) = counted (log_kind f.cause) f.line
 numbers_of fault.LogImage = plain 811
 numbers_of (fault.LogDiffers turn) = counted 812 turn
 numbers_of fault.LogOpen = plain 813
+numbers_of (fault.Frame f) = plain (frame_kind f)
 
 -- ---- the fault that numbers stand for
 
@@ -134,6 +148,10 @@ limits_all = limits.Objects ∷ limits.Texts ∷ limits.Rails ∷ limits.Referen
     ∷ limits.Activities ∷ limits.FrameObjects ∷ limits.FrameTexts ∷ limits.FrameRails
     ∷ limits.Keys ∷ limits.Frames ∷ []
 
+abbrev pub frame_faults : List FrameFault
+frame_faults = frame.Short ∷ frame.Version ∷ frame.FrameType ∷ frame.Place ∷ frame.Tag
+    ∷ frame.Text ∷ frame.Order ∷ frame.Trailing ∷ frame.Memory ∷ []
+
 abbrev pub asm_of : ℕ → Option AsmCause
 asm_of n = find (λ c. asm_kind c == n) asm_causes
 
@@ -143,6 +161,9 @@ image_of n f pc = find (λ x. image_kind x == n) (image_faults f pc)
 abbrev pub verify_of : ℕ → Option VerifyCause
 verify_of n = find (λ c. verify_kind c == n) verify_causes
 
+abbrev pub frame_of : ℕ → Option FrameFault
+frame_of n = find (λ f. frame_kind f == n) frame_faults
+
 abbrev pub limit_of : ℕ → Option Limit
 limit_of n = find (λ l. number_of l == n) limits_all
 
@@ -150,13 +171,17 @@ abbrev pub if_limit : Option Limit → Option Fault
 if_limit None = None
 if_limit (Some limit) = Some (fault.StopLimit limit)
 
+abbrev pub if_frame : Option FrameFault → Option Fault
+if_frame None = None
+if_frame (Some f) = Some (fault.Frame f)
+
 -- those of a log, at a line of it
 abbrev pub logs : ℕ → List Fault
 logs line = map (λ c. fault.Log (record { line = line; cause = c }))
     (log.Head ∷ log.Place ∷ log.Taken ∷ log.Key ∷ log.Frame ∷ log.Printed ∷ log.Count
     ∷ log.Spelling ∷ log.Ending ∷ log.Memory ∷ [])
 
--- those from 501 on
+-- those from 501 on, but for a frame's
 abbrev pub others : FaultNumbers → List Fault
 others n = fault.Places ∷ fault.Memory ∷ fault.StopMemory ∷ fault.Limit ∷ fault.Turns
     ∷ fault.Refused n.function ∷ fault.Differs n.at ∷ fault.Thread ∷ fault.File ∷ fault.LogImage
@@ -165,9 +190,13 @@ others n = fault.Places ∷ fault.Memory ∷ fault.StopMemory ∷ fault.Limit �
 abbrev pub kind_of : Fault → ℕ
 kind_of f = (numbers_of f).kind
 
+abbrev pub or_frame : ℕ → Option Fault → Option Fault
+or_frame kind None = if_frame (frame_of kind)
+or_frame kind (Some f) = Some f
+
 abbrev pub other_of : FaultNumbers → Option Fault
 other_of n = if n.kind == 603 then if_limit (limit_of n.at)
-    else find (λ f. kind_of f == n.kind) (others n)
+    else or_frame n.kind (find (λ f. kind_of f == n.kind) (others n))
 
 abbrev pub if_verify : FaultNumbers → Option VerifyCause → Option Fault
 if_verify n None = other_of n

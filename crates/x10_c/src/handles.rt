@@ -1,10 +1,10 @@
 //! What the calls with handles answer.
 ghost use Rattle.std.specs.Prelude.{◌≡◌};
-ghost use Rattle.x10_c.specs.Handles.{event_status, event_told, frame_kind, opening_status, receive_status, receive_told, refusal_numbers, refusal_status, step_status, step_told, stop_numbers};
+ghost use Rattle.x10_c.specs.Handles.{event_status, event_told, opening_status, receive_status, receive_told, refusal_numbers, refusal_status, step_status, step_told, stop_numbers};
 
+use crate::kinds::kind_of_frame;
 use crate::numbers::{FaultNumbers, counted, none, plain};
 use x10_copy::Refusal;
-use x10_frame::FrameFault;
 use x10_handles::Unopened;
 use x10_kinds::Stop;
 
@@ -68,22 +68,6 @@ pub fn tell_event(made: Result<(), Stop>, told: &mut FaultNumbers) -> u32
             *told = numbers_of_stop(why);
             2
         }
-    }
-}
-
-fn kind_of_frame(fault: FrameFault) -> u32
-    ensures { result ≡ frame_kind fault }
-{
-    match fault {
-        FrameFault::Short => 901,
-        FrameFault::Version => 902,
-        FrameFault::FrameType => 903,
-        FrameFault::Place => 904,
-        FrameFault::Tag => 905,
-        FrameFault::Text => 906,
-        FrameFault::Order => 907,
-        FrameFault::Trailing => 908,
-        FrameFault::Memory => 909,
     }
 }
 

@@ -1,9 +1,10 @@
 //! The numbers of causes, and the causes of numbers.
 ghost use Rattle.std.specs.Prelude.{◌≡◌};
-ghost use Rattle.x10_c.specs.Numbers.{asm_kind, asm_of, image_kind, image_of, limit_of, log_kind, structure_kind, verify_kind, verify_of};
+ghost use Rattle.x10_c.specs.Numbers.{asm_kind, asm_of, frame_kind, frame_of, image_kind, image_of, limit_of, log_kind, structure_kind, verify_kind, verify_of};
 
 use x10_asm::AsmCause;
 use x10_bounds::BoundCause;
+use x10_frame::FrameFault;
 use x10_image::ImageFault;
 use x10_kinds::Limit;
 use x10_log::LogCause;
@@ -143,6 +144,39 @@ pub fn kind_of_log(cause: LogCause) -> u32
         LogCause::Spelling => 808,
         LogCause::Ending => 809,
         LogCause::Memory => 810,
+    }
+}
+
+pub fn kind_of_frame(fault: FrameFault) -> u32
+    ensures { result ≡ frame_kind fault }
+{
+    match fault {
+        FrameFault::Short => 901,
+        FrameFault::Version => 902,
+        FrameFault::FrameType => 903,
+        FrameFault::Place => 904,
+        FrameFault::Tag => 905,
+        FrameFault::Text => 906,
+        FrameFault::Order => 907,
+        FrameFault::Trailing => 908,
+        FrameFault::Memory => 909,
+    }
+}
+
+pub fn frame_of_kind(kind: u32) -> Option<FrameFault>
+    ensures { result ≡ frame_of kind }
+{
+    match kind {
+        901 => Some(FrameFault::Short),
+        902 => Some(FrameFault::Version),
+        903 => Some(FrameFault::FrameType),
+        904 => Some(FrameFault::Place),
+        905 => Some(FrameFault::Tag),
+        906 => Some(FrameFault::Text),
+        907 => Some(FrameFault::Order),
+        908 => Some(FrameFault::Trailing),
+        909 => Some(FrameFault::Memory),
+        _ => None,
     }
 }
 

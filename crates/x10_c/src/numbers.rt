@@ -4,8 +4,8 @@ ghost use Rattle.x10_cli.specs.declared.fault.Fault.TheVariants as fault;
 ghost use Rattle.x10_c.specs.Numbers.{fault_of, no_fault, numbers_of, other_of};
 
 use crate::kinds::{
-    asm_of_kind, image_of_kind, kind_of_asm, kind_of_image, kind_of_log, kind_of_structure,
-    kind_of_verify, limit_of_number, verify_of_kind,
+    asm_of_kind, frame_of_kind, image_of_kind, kind_of_asm, kind_of_frame, kind_of_image,
+    kind_of_log, kind_of_structure, kind_of_verify, limit_of_number, verify_of_kind,
 };
 use x10_asm::AsmFault;
 use x10_cli::Fault;
@@ -18,7 +18,7 @@ use x10_verify::VerifyFault;
 #[derive(Clone, Copy, Debug, PartialEq, Eq, Drop)]
 pub struct FaultNumbers {
     /// Which fault, by its part in hundreds: 1 a text's, 2 an image's, 3 and 4 the verifier's, 5 a number of places, 6 what
-    /// stopped the work, 7 the bytes of a text, 8 a log's, 9 what a place says of bytes that came to it. 0 is none.
+    /// stopped the work, 7 the bytes of a text, 8 a log's, 9 those of a frame, and of one that came to a place. 0 is none.
     pub kind: u32,
     /// The number of the function; for a frame that was refused, of the place.
     pub function: u16,
@@ -92,6 +92,7 @@ pub fn numbers(fault: Fault) -> FaultNumbers
         Fault::LogImage => plain(811),
         Fault::LogDiffers(turn) => counted(812, turn as u64),
         Fault::LogOpen => plain(813),
+        Fault::Frame(fault) => plain(kind_of_frame(fault)),
     }
 }
 
@@ -153,6 +154,6 @@ fn other(told: &FaultNumbers) -> Option<Fault>
         808 => Some(in_log(told, LogCause::Spelling)),
         809 => Some(in_log(told, LogCause::Ending)),
         810 => Some(in_log(told, LogCause::Memory)),
-        _ => None,
+        kind => frame_of_kind(kind).map(Fault::Frame),
     }
 }

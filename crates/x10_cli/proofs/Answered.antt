@@ -30,10 +30,12 @@ use Rattle.x10_workers.specs.declared.halt.WorkFault.{WorkFault}
 use Rattle.x10_workers.specs.declared.halt.WorkFault.TheVariants as work
 use Rattle.x10_world.specs.declared.fault.OpenFault.{OpenFault}
 use Rattle.x10_world.specs.declared.fault.OpenFault.TheVariants as opened
+use Rattle.x10_frame.specs.declared.fault.FrameFault.{FrameFault}
+use Rattle.x10_frame.specs.declared.fault.FrameFault.TheVariants as frame
 use Rattle.x10_cli.specs.declared.fault.Fault.{Fault}
 use Rattle.x10_cli.specs.declared.fault.Fault.TheVariants as fault
 use Rattle.x10_task.specs.declared.task.Verb.TheVariants as verb
-use Rattle.x10_cli.specs.Answers.{IsImage, IsVerifiedImage, CanBeDone, IsStatus, LeavesStopped, Prints, lines_told, verdict_line, places_for, of_verify, of_bounds, of_open, of_stop, of_work, status_of}
+use Rattle.x10_cli.specs.Answers.{IsImage, IsVerifiedImage, CanBeDone, IsStatus, LeavesStopped, Prints, lines_told, verdict_line, places_for, of_verify, of_bounds, of_frame, of_open, of_stop, of_work, status_of}
 
 abbrev answer : Module → Result Module ImageFault
 answer m = Ok m
@@ -89,6 +91,14 @@ pub no_bounds : (bytes : List ℕ) (m : Module) (f : BoundFault) (told : Fault) 
 no_bounds bytes m f told image g e is done =
     let same = same_module done.0 m bytes done.1.fits done.1.spelled image.fits image.spelled in
     no_bounds_by m f.cause f g (ap status_of (sym e) ∙ is) (subst HasBounds same done.2)
+
+-- ---- a frame
+
+-- memory alone is no refusal
+pub refuses_none : (f : FrameFault) (told : Fault) → told ≡ of_frame f → f ≡ frame.Memory → status_of told ≡ 1 → ⊥
+refuses_none f told e m s =
+    let h : 2 ≡ 1 = sym (ap status_of (e ∙ ap of_frame m)) ∙ s in
+    omega (arith, h)
 
 -- ---- places
 

@@ -188,6 +188,7 @@ prints_kept verb.Bounds json asked bytes a b c p k = (p.0, p.1, p.2, p.3, Append
 prints_kept verb.Runs json asked bytes a b c p k = (p.0, p.1, (p.2.0, p.2.1, p.2.2, p.2.3, Appends-kept a b c _ p.2.4 k))
 prints_kept verb.Run json asked bytes a b c p k = (p.0, p.1, p.2, p.3, Appends-kept a b c _ p.4 k)
 prints_kept verb.Audit json asked bytes a b c p k = absurd p
+prints_kept verb.Frame json asked bytes a b c p k = (p.0, p.1, Appends-kept a b c _ p.2 k)
 prints_kept verb.Explain json asked bytes a b c p k = (p.0, Appends-kept a b c _ p.1 k)
 prints_kept verb.Draw json asked bytes a b c p k = (p.0, p.1, p.2, p.3, Appends-kept a b c _ p.4 k)
 prints_kept verb.Trace json asked bytes a b c p k =

@@ -55,6 +55,7 @@ refused_kept verb.Runs a b c p k = Keeps-trans a b c p k
 refused_kept verb.Audit a b c p k = Keeps-trans a b c p k
 refused_kept verb.Trace a b c p k = Keeps-trans a b c p k
 refused_kept verb.Draw a b c p k = Keeps-trans a b c p k
+refused_kept verb.Frame a b c p k = Keeps-trans a b c p k
 refused_kept verb.Explain a b c p k = Keeps-trans a b c p k
 
 run_kept : (json : Bool) (threads : Bool) (asked : Option ℕ) (bytes : List ℕ) (a b c : Option (List ℕ)) → LeavesRun json threads asked bytes a b
@@ -89,6 +90,7 @@ stopped_kept verb.ListVerbose json threads asked bytes a b c p k = Keeps-trans a
 stopped_kept verb.Check json threads asked bytes a b c p k = (p.0, Appends-kept a b c p.0 p.1 k)
 stopped_kept verb.Verify json threads asked bytes a b c p k = Keeps-trans a b c p k
 stopped_kept verb.Bounds json threads asked bytes a b c p k = Keeps-trans a b c p k
+stopped_kept verb.Frame json threads asked bytes a b c p k = Keeps-trans a b c p k
 stopped_kept verb.Explain json threads asked bytes a b c p k = Keeps-trans a b c p k
 
 -- ---- a check

@@ -34,8 +34,11 @@ use Rattle.x10_draw.specs.Pages.{IsPage}
 use Rattle.x10_world.specs.declared.rounds.Unfinished.{Unfinished}
 use Rattle.x10_world.specs.declared.rounds.Unfinished.TheVariants as halt
 use Rattle.x10_findings.specs.Findings.{FindingsState}
+use Rattle.x10_frame.specs.declared.fault.FrameFault.{FrameFault}
+use Rattle.x10_frame.specs.declared.fault.FrameFault.TheVariants as frame
 use Rattle.x10_cli.specs.Lines.{bound_lines, all_lines}
 use Rattle.x10_cli.specs.Runs.{FoundIn, findings_text}
+use Rattle.x10_cli.specs.Frames.{IsFrame, TellsFrame, IsFrameFault}
 use Rattle.x10_kinds.specs.declared.stop.Stop.{Stop}
 use Rattle.x10_kinds.specs.declared.stop.Stop.TheVariants as stop
 use Rattle.x10_image.specs.declared.fault.ImageFault.{ImageFault}
@@ -92,7 +95,7 @@ is_good_file false bytes = verdict.IsVerifiedText bytes
 abbrev pub IsChecked : List ℕ → Type 0
 IsChecked bytes = is_good_file (begins_as_image bytes) bytes
 
--- The file's bytes, and of a run the number of places, are such that the command can be done. An audit can't with one file
+-- The file's bytes, and of a run and a frame the number of places, are such that the command can be done. An audit can't with one file
 -- alone: it has a log too.
 abbrev pub CanBeDone : Verb → Option ℕ → List ℕ → Type 0
 CanBeDone verb.Asm places bytes = (m : Module) × (module_of bytes ≡ Ok m)
@@ -110,6 +113,7 @@ CanBeDone verb.Trace places bytes = (c : Certified) × IsImageOf bytes c
 CanBeDone verb.Draw places bytes = (c : Certified) × IsImageOf bytes c
     × (IsForbidden c (places_for places c) → ⊥)
 CanBeDone verb.Audit places bytes = ⊥
+CanBeDone verb.Frame places bytes = IsFrame places bytes
 CanBeDone verb.Explain places bytes = Unit {0}
 
 -- how many functions a verified module has, and the bound of its entry function
@@ -166,7 +170,7 @@ IsListing true m text = Unit {0}
 
 -- what is appended to what is known to be written: the image of the text's module, the listing of the image's or what JSON has of it, perhaps
 -- with comments between, which is read as the module again, the verdict, the bounds of its functions, the lines of a run that has ended, or those of its events, or its picture, at as many
--- places as were asked for; or what is known of a cause
+-- places as were asked for; what a frame says; or what is known of a cause
 abbrev pub Prints : Verb → Bool → Option ℕ → List ℕ → Option (List ℕ) → Option (List ℕ) → Type 0
 Prints verb.Asm json asked bytes old new = (m : Module) × (module_of bytes ≡ Ok m)
     × Appends old new (spelling m)
@@ -189,6 +193,8 @@ Prints verb.Draw json asked bytes old new = (c : Certified) × (picture : List �
     × HasDrawn c (places_for asked c) picture
     × Appends old new picture
 Prints verb.Audit json asked bytes old new = ⊥
+Prints verb.Frame json asked bytes old new = (text : List ℕ) × TellsFrame asked bytes text
+    × Appends old new text
 Prints verb.Explain json asked bytes old new = (text : List ℕ) × Appends old new text
 Prints verb.Run json asked bytes old new = (c : Certified) × (outputs : List (List machine.Line))
     × IsImageOf bytes c × HasRun c (places_for asked c) outputs
@@ -260,8 +266,8 @@ LeavesStopped _ json threads asked bytes old new = Keeps old new
 abbrev pub IsModuleOf : List ℕ → Module → Type 0
 IsModuleOf bytes m = IsImage bytes m ⊎ ((begins_as_image bytes ≡ false) × (module_of bytes ≡ Ok m))
 
--- a refusal is the one that is due: that of reading the text or the image, of the verifier, of the bounds, or of the number of
--- places that was asked for; never that of a log, which only an audit has
+-- a refusal is the one that is due: that of reading the text or the image, of the verifier, of the bounds, of the number of
+-- places that was asked for, or of reading a frame; never that of a log, which only an audit has
 abbrev pub IsDue : Option ℕ → List ℕ → Fault → Type 0
 IsDue asked bytes (fault.Asm f) = module_of bytes ≡ Err f
 IsDue asked bytes (fault.Image f) = IsFault (images.named f) (module_at bytes)
@@ -270,6 +276,7 @@ IsDue asked bytes (fault.Bounds f) = (m : Module) × IsImage bytes m
     × IsFaultOrMemory (bounds.named f.cause) f (bounds_of m)
 IsDue asked bytes fault.Places = (c : Certified) × IsImageOf bytes c
     × IsForbidden c (places_for asked c)
+IsDue asked bytes (fault.Frame f) = IsFrameFault asked bytes f
 IsDue asked bytes (fault.Log f) = ⊥
 IsDue asked bytes fault.LogImage = ⊥
 IsDue asked bytes (fault.LogDiffers turn) = ⊥
@@ -299,6 +306,7 @@ status_of (fault.Image f) = 1
 status_of (fault.Verify f) = 1
 status_of (fault.Bounds f) = 1
 status_of fault.Places = 1
+status_of (fault.Frame f) = 1
 status_of (fault.Log f) = 1
 status_of fault.LogImage = 1
 status_of (fault.LogDiffers turn) = 1
@@ -322,6 +330,10 @@ IsStatus n = (n ≡ 0) ⊎ ((f : Fault) × (n ≡ status_of f))
 abbrev pub of_image : ImageFault → Fault
 of_image image.Memory = fault.Memory
 of_image f = fault.Image f
+
+abbrev pub of_frame : FrameFault → Fault
+of_frame frame.Memory = fault.Memory
+of_frame f = fault.Frame f
 
 abbrev pub of_asm : AsmCause → AsmFault → Fault
 of_asm asm.Memory f = fault.Memory

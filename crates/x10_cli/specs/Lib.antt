@@ -1,5 +1,6 @@
 pub mod Lines
 pub mod Runs
+pub mod Frames
 pub mod Answers
 pub mod Telling
 pub mod Schedules

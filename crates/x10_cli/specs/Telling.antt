@@ -7,6 +7,8 @@ use Rattle.x10_image.specs.declared.fault.ImageFault.{ImageFault}
 use Rattle.x10_image.specs.declared.fault.ImageFault.TheVariants as image
 use Rattle.x10_verify.specs.declared.fault.VerifyCause.{VerifyCause}
 use Rattle.x10_verify.specs.declared.fault.VerifyCause.TheVariants as verify
+use Rattle.x10_frame.specs.declared.fault.FrameFault.{FrameFault}
+use Rattle.x10_frame.specs.declared.fault.FrameFault.TheVariants as frame
 use Rattle.x10_log.specs.declared.fault.LogCause.{LogCause}
 use Rattle.x10_log.specs.declared.fault.LogCause.TheVariants as log
 use Rattle.x10_cli.specs.declared.fault.Fault.{Fault}
@@ -39,6 +41,18 @@ log_word log.Spelling = codes "Spelling"
 log_word log.Ending = codes "Ending"
 log_word log.Memory = codes "Memory"
 
+-- the name of a fault for which bytes aren't a frame
+abbrev pub frame_word : FrameFault → List ℕ
+frame_word frame.Short = codes "Short"
+frame_word frame.Version = codes "Version"
+frame_word frame.FrameType = codes "FrameType"
+frame_word frame.Place = codes "Place"
+frame_word frame.Tag = codes "Tag"
+frame_word frame.Text = codes "Text"
+frame_word frame.Order = codes "Order"
+frame_word frame.Trailing = codes "Trailing"
+frame_word frame.Memory = codes "Memory"
+
 -- what is told of a fault
 abbrev pub fault_text : Fault → List ℕ
 fault_text (fault.Asm f) = codes "asm: line " ++ (decimal f.line ++ (codes " " ++ asm_word f.cause))
@@ -51,6 +65,7 @@ fault_text fault.LogImage = codes "log: line 2 Image"
 fault_text (fault.LogDiffers turn) = codes "differs: turn " ++ decimal turn
 fault_text fault.LogOpen = codes "open"
 fault_text fault.Places = codes "places"
+fault_text (fault.Frame f) = codes "frame: " ++ frame_word f
 fault_text fault.Memory = codes "memory"
 fault_text fault.StopMemory = codes "stop: Memory"
 fault_text (fault.StopLimit limit) = codes "stop: Limit " ++ decimal (number_of limit)

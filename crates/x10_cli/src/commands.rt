@@ -16,6 +16,7 @@ use crate::cause::print_section;
 use crate::checking::print_check;
 use crate::explain::explanation;
 use crate::fault::Fault;
+use crate::frame::print_frame;
 use crate::lines::print_outputs;
 use crate::picture::print_picture;
 use crate::runs::print_runs;
@@ -43,7 +44,8 @@ use x10_world::World;
 /// turns in its log, where the fault is `Turns` or a stop, and none where it is another. With threads it may wait: nothing is
 /// promised about when, or whether, it returns then. `source` is the text from which the bytes of an image were assembled, if
 /// they were: then explanations name its lines, and a listing for people its labels. For `explain` the bytes are the name of a
-/// cause. An audit, which has a log beside its image, is `audit_logged`'s; here it is the fault `file`.
+/// cause, for `frame` those of a frame, of which the task says how many places there are; without, it is the fault `file`. So it
+/// is for an audit, which has a log beside its image and is `audit_logged`'s.
 pub fn execute<R: Threads + Wait + Sync, O: Write, E: Write>(
     rt: &R,
     alloc: Global,
@@ -155,6 +157,7 @@ fn perform<R: Threads + Wait + Sync, O: Write>(
         Verb::Audit => Err(Fault::File),
         Verb::Trace => print_trace(alloc, task, bytes, out),
         Verb::Draw => print_picture(alloc, task, bytes, out),
+        Verb::Frame => print_frame(alloc, task.places, bytes, out),
         Verb::Explain => print_section(bytes, out),
     }
 }

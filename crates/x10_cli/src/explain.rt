@@ -1,5 +1,6 @@
 //! What is said about a fault besides its line, for people.
 
+use crate::explain_frame::of_frame;
 use crate::explain_log::{log_of, of_log, of_open_log, of_other_image, of_turn};
 use crate::fault::Fault;
 use std::alloc::{AllocError, Global};
@@ -29,6 +30,7 @@ pub(crate) fn explanation(
         Fault::Image(fault) => explain_image(alloc, bytes, fault),
         Fault::Verify(fault) => of_verify(alloc, task, bytes, source, fault),
         Fault::Bounds(fault) => of_verify(alloc, task, bytes, source, structure(fault)),
+        Fault::Frame(fault) => of_frame(alloc, task, bytes, fault),
         Fault::Log(fault) => of_log(alloc, task, fault),
         Fault::LogImage => of_other_image(alloc, task),
         Fault::LogDiffers(turn) => of_turn(alloc, task, log, turn),

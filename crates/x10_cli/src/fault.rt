@@ -1,14 +1,15 @@
 ghost use Rattle.std.specs.Prelude.{true, false, ◌≡◌, Some};
 ghost use Rattle.std.specs.Fmt.{DisplaysOnOk};
-ghost use Rattle.x10_cli.specs.Telling.{fault_text, log_word};
+ghost use Rattle.x10_cli.specs.Telling.{fault_text, frame_word, log_word};
 ghost use Rattle.x10_cli.specs.declared.fault.Fault.TheVariants as fault;
-ghost use Rattle.x10_cli.specs.Answers.{status_of, of_asm, of_image, of_verify, of_bounds, of_open, of_stop, of_log, of_audit, of_halt, of_work};
+ghost use Rattle.x10_cli.specs.Answers.{status_of, of_asm, of_image, of_verify, of_bounds, of_open, of_frame, of_stop, of_log, of_audit, of_halt, of_work};
 
 use std::alloc::{AllocError, AllocFailed};
 use std::{fmt, io};
 use x10_asm::{AsmCause, AsmFault};
 use x10_bounds::{BoundCause, BoundFault};
 use x10_explain::{asm_name, image_name, verify_name};
+use x10_frame::FrameFault;
 use x10_image::ImageFault;
 use x10_kinds::{Limit, Stop};
 use x10_log::{LogCause, LogFault};
@@ -29,6 +30,8 @@ pub enum Fault {
     Bounds(BoundFault),
     /// The module does not run at the given number of places.
     Places,
+    /// The bytes are not a frame of so many places.
+    Frame(FrameFault),
     /// The text of a log spells none.
     Log(LogFault),
     /// The log is one of another image.
@@ -65,7 +68,7 @@ impl Fault {
     {
         match self {
             Fault::Asm(_) | Fault::Image(_) | Fault::Verify(_) | Fault::Bounds(_) => 1,
-            Fault::Places | Fault::Log(_) | Fault::LogImage => 1,
+            Fault::Places | Fault::Frame(_) | Fault::Log(_) | Fault::LogImage => 1,
             Fault::LogDiffers(_) | Fault::LogOpen => 1,
             Fault::Memory | Fault::StopMemory | Fault::StopLimit(_) | Fault::Limit => 2,
             Fault::Turns | Fault::Refused(_) | Fault::Differs(_) | Fault::Thread => 2,
@@ -91,6 +94,7 @@ impl fmt::Display for Fault {
             Fault::Image(fault) => write_image(*fault, f),
             Fault::Verify(fault) => write_verify(*fault, f),
             Fault::Bounds(fault) => write_bounds(*fault, f),
+            Fault::Frame(fault) => write_frame(*fault, f),
             Fault::Log(fault) => write_log(*fault, f),
             Fault::LogImage => f.write_str("log: line 2 Image"),
             Fault::LogDiffers(turn) => write!(f, "differs: turn {turn}"),
@@ -150,6 +154,31 @@ fn write_bounds<W: fmt::Write>(told: BoundFault, f: &mut fmt::Formatter<W>) -> f
     let (function, pc) = (told.function, told.pc);
     let rule = verify_name(VerifyCause::Structure(told.cause));
     write!(f, "verify: Structure {rule} {function} {pc}")
+}
+
+fn write_frame<W: fmt::Write>(told: FrameFault, f: &mut fmt::Formatter<W>) -> fmt::Result
+    ensures { DisplaysOnOk W.write_str_gives f.old result
+        (Some (fault_text (fault.Frame told))) f.new }
+{
+    let name = frame_name(told);
+    write!(f, "frame: {name}")
+}
+
+/// The name of a fault for which bytes aren't a frame.
+pub(crate) fn frame_name(fault: FrameFault) -> &'static str
+    ensures { result.now ≡ frame_word fault }
+{
+    match fault {
+        FrameFault::Short => "Short",
+        FrameFault::Version => "Version",
+        FrameFault::FrameType => "FrameType",
+        FrameFault::Place => "Place",
+        FrameFault::Tag => "Tag",
+        FrameFault::Text => "Text",
+        FrameFault::Order => "Order",
+        FrameFault::Trailing => "Trailing",
+        FrameFault::Memory => "Memory",
+    }
 }
 
 fn write_log<W: fmt::Write>(told: LogFault, f: &mut fmt::Formatter<W>) -> fmt::Result
@@ -219,6 +248,14 @@ impl From<OpenFault> for Fault {
             OpenFault::Places => Fault::Places,
             OpenFault::Memory => Fault::Memory,
         }
+    }
+}
+
+impl From<FrameFault> for Fault {
+    ghost from_gives = { λ f told. told ≡ of_frame f };
+
+    fn from(fault: FrameFault) -> Fault {
+        Fault::Frame(fault).unless(fault == FrameFault::Memory)
     }
 }
 

@@ -88,6 +88,9 @@ pub(crate) const ORDER: &str = "asm: Order: a line out of order, or one that is 
 
 Add `entry 0`. A missing line is reported after the last one. The order is
 `places`, all `class`, all `int`, all `text`, the functions, `entry`.
+
+frame: Order. The texts, rails and objects aren't numbered as they are first
+used, one is never used, or there are too many of something.
 ";
 
 pub(crate) const LABEL: &str = "asm: Label: unknown, there twice, or not well formed.
@@ -124,6 +127,8 @@ image: Text. A text isn't UTF-8.
     ; status 1: image: Text
     58313050 0001 0001 0000 0000 0001 0001 0000 0000
     0001 ff
+
+frame: Text. A text isn't UTF-8.
 ";
 
 pub(crate) const LIMIT: &str = "asm: Limit: a number beyond what a module may have.

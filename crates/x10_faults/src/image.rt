@@ -5,6 +5,8 @@ pub(crate) const SHORT: &str = "image: Short. The bytes end too early: a file th
     ; $ x10p verify short.x10
     ; status 1: image: Short
     58313050
+
+frame: Short. The bytes end too early: some of the digits weren't copied.
 ";
 
 pub(crate) const MAGIC: &str =
@@ -21,6 +23,9 @@ pub(crate) const VERSION: &str = "image: Version. A version other than 1 and 2.
     ; $ x10p verify version.x10
     ; status 1: image: Version
     58313050 0003 0001 0000 0000 0000 0001 0000 0000
+
+frame: Version. A version other than 1 and 2: an image begins otherwise, and so
+does a log.
 ";
 
 pub(crate) const RESERVED: &str = "image: Reserved. A 0 of the layout that isn't 0.
@@ -47,4 +52,6 @@ pub(crate) const TRAILING: &str = "image: Trailing. Bytes after the last functio
     ; status 1: image: Trailing
     58313050 0001 0001 0000 0000 0000 0001 0000 0000
     00010000 00000000 0001 0000 2900000000000000 00
+
+frame: Trailing. Bytes after the last field.
 ";

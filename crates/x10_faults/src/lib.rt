@@ -2,6 +2,7 @@
 #![tactic(auto)]
 
 mod asm;
+mod frame;
 mod image;
 mod log;
 mod run;

@@ -20,6 +20,27 @@ order of its constants, makes another image.
 pub(crate) const PLACE: &str =
     "log: Place: the number of places isn't 1 to 64, or a turn's line doesn't begin
 with the number of a place.
+
+frame: Place. A place that isn't below the number of places, or a Report of
+another number of places: `--places` is another number than that of the run.
+
+    ; $ x10p frame 02040001000000000000000200000000000000000000000100000000 --places 3
+    ; status 1: frame: Place
+    ; $ x10p frame 02040001000000000000000200000000000000000000000100000000 --places 1
+    ; status 1: frame: Place
+    ; $ x10p frame 020400010000000000000002 --places 2
+    ; status 1: frame: Short
+    ; $ x10p frame 030100000001 --places 2
+    ; status 1: frame: Version
+    ; $ x10p frame 020500000001 --places 2
+    ; status 1: frame: FrameType
+    ; $ x10p frame 0204000100000000000000020000000000000000000000010000000000 --places 2
+    ; status 1: frame: Trailing
+    places 1
+    func 1 0 none
+      RET 0
+    end
+    entry 0
 ";
 
 pub(crate) const TAKEN: &str = "log: Taken: a frame that was taken in isn't `<` and a number.

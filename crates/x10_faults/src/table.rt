@@ -1,8 +1,8 @@
 //! The causes. Written by `make` beside `src` from docs/FAULTS.md; change that, not this.
-use crate::{asm, image, log, run, structure, verify};
+use crate::{asm, frame, image, log, run, structure, verify};
 
 /// The causes that the page of faults has, each as it is first written there.
-pub const CAUSES: [&str; 43] = [
+pub const CAUSES: [&str; 45] = [
     "Word",
     "Number",
     "Count",
@@ -46,6 +46,8 @@ pub const CAUSES: [&str; 43] = [
     "Printed",
     "Spelling",
     "Ending",
+    "FrameType",
+    "Tag",
 ];
 
 /// What the page says of a cause, by its name in `CAUSES`.
@@ -93,6 +95,8 @@ pub(crate) fn text_of(cause: &str) -> Option<&'static str> {
         "Printed" => Some(log::PRINTED),
         "Spelling" => Some(log::SPELLING),
         "Ending" => Some(log::ENDING),
+        "FrameType" => Some(frame::FRAME_TYPE),
+        "Tag" => Some(frame::TAG),
         _ => None,
     }
 }

@@ -23,6 +23,8 @@ pub enum Verb {
     Trace,
     /// Verify it, run it, and draw what happens.
     Draw,
+    /// Print what a frame says, of a file or in hexadecimal in place of a file's name.
+    Frame,
     /// Print what is known of a cause of faults. Its name stands in place of a file's.
     Explain,
 }
@@ -60,7 +62,7 @@ pub struct Task<'a> {
     /// The name of the log: the file to write for `run` with threads, where there is one; the file to read for `audit`, and for
     /// `trace` and `draw` of a run that was logged.
     pub log: Option<&'a str>,
-    /// How many places; left out, the module's least number.
+    /// How many places; left out, the module's least number. For a frame it isn't left out.
     pub places: Option<u16>,
     /// How many events at most, including those in which nothing moves; with threads, how many turns of workers.
     pub limit: u64,

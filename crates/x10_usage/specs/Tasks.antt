@@ -34,6 +34,15 @@ is_run verb.Trace = true
 is_run verb.Draw = true
 is_run _ = false
 
+-- the commands that may have a number of places
+abbrev pub has_places : Verb → Bool
+has_places verb.Run = true
+has_places verb.Runs = true
+has_places verb.Trace = true
+has_places verb.Draw = true
+has_places verb.Frame = true
+has_places _ = false
+
 -- the commands that can print JSON
 abbrev pub has_json : Verb → Bool
 has_json verb.List = true
@@ -51,7 +60,8 @@ may_have_log verb.Draw threads = true
 may_have_log _ threads = false
 
 -- A task has what its command takes: a file to write, a log, a number of places, threads, a schedule, a number of seeds; the
--- numbers are in their ranges. A log that is read says itself how many places there are, and which events, in which order.
+-- numbers are in their ranges. A log that is read says itself how many places there are, and which events, in which order. Of a
+-- frame it is always said how many there are.
 pub record IsTask (t : Task) : Type 0 where
   pub output : is_some t.output ≡ has_output t.verb
   pub places : IfSome t.places (IsOneTo MOST_PLACES)
@@ -59,7 +69,9 @@ pub record IsTask (t : Task) : Type 0 where
   pub seeds : IsOneTo 1000000 t.seeds
   pub runs : t.verb ≢ verb.Runs → t.seeds ≡ 100
   pub seeded : t.verb ≡ verb.Runs → t.schedule ≡ order.Rounds
-  pub run : is_run t.verb ≡ false → (t.places ≡ None) × (t.limit ≡ 1000000)
+  pub run : is_run t.verb ≡ false → t.limit ≡ 1000000
+  pub placed : has_places t.verb ≡ false → t.places ≡ None
+  pub frame : t.verb ≡ verb.Frame → is_some t.places ≡ true
   pub threads : t.threads ≡ true → t.verb ≡ verb.Run
   pub schedule : t.schedule ≢ order.Rounds → (is_run t.verb ≡ true) × (t.threads ≡ false)
   pub seed : is_some t.seed ≡ true → t.schedule ≡ order.Random
@@ -83,8 +95,9 @@ verb_named name is_verbose =
     else (if bytes_eq name (codes "audit") then verb.Audit
     else (if bytes_eq name (codes "trace") then verb.Trace
     else (if bytes_eq name (codes "draw") then verb.Draw
+    else (if bytes_eq name (codes "frame") then verb.Frame
     else (if bytes_eq name (codes "explain") then verb.Explain
-    else verb.Run)))))))))
+    else verb.Run))))))))))
 
 -- the schedule of a name; where there is none, rounds, or a random one where there is a seed
 abbrev pub schedule_named : Option (List ℕ) → Bool → Schedule

@@ -118,6 +118,16 @@ Exit status:
   3  the command line is wrong
   4  a file can't be read, or the output can't be written";
 
+pub const FRAME: &str = "Example:
+  x10p frame 02040001000000000000000200000000000000000000000100000000 --places 2
+
+Exit status:
+  0  done
+  1  refused: it isn't a frame where there are so many places
+  2  lack of memory
+  3  the command line is wrong
+  4  a file can't be read, or the output can't be written";
+
 pub const EXPLAIN: &str = "Example:
   x10p explain Kind
 

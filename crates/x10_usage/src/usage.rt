@@ -178,6 +178,7 @@ fn verb_of(name: &str, is_verbose: bool) -> Verb
         "audit" => Verb::Audit,
         "trace" => Verb::Trace,
         "draw" => Verb::Draw,
+        "frame" => Verb::Frame,
         "explain" => Verb::Explain,
         _ => Verb::Run,
     }
@@ -227,7 +228,7 @@ fn is_task(task: &Task) -> bool
         && is_place_count(task.places)
         && is_event_count(task.limit)
         && is_seed_count(task)
-        && (is_run(task.verb) || has_no_numbers(task))
+        && has_numbers_as_asked(task)
         && threads_are_for_run(task)
         && is_schedule(task)
         && json_is_for_few(task)
@@ -272,6 +273,20 @@ fn is_run(verb: Verb) -> bool
     ensures { result ≡ tasks.is_run verb }
 {
     matches!(verb, Verb::Run | Verb::Runs | Verb::Trace | Verb::Draw)
+}
+
+/// A limit of events is for what runs, and so is a number of places, which a frame has too, and always.
+fn has_numbers_as_asked(task: &Task) -> bool
+    ensures run { IsTrue result → tasks.is_run task.now.verb ≡ false → task.now.limit ≡ 1000000 }
+    ensures placed { IsTrue result → tasks.has_places task.now.verb ≡ false
+        → task.now.places ≡ None }
+    ensures frame { IsTrue result → task.now.verb ≡ Verb.Frame → is_some task.now.places ≡ true }
+{
+    match task.verb {
+        Verb::Run | Verb::Runs | Verb::Trace | Verb::Draw => true,
+        Verb::Frame => task.places.is_some() && task.limit == EVENTS,
+        _ => has_no_numbers(task),
+    }
 }
 
 fn has_no_numbers(task: &Task) -> bool

@@ -33,6 +33,7 @@ fn with_looks<'a>(alloc: Global, command: Command<'a>) -> Result<Command<'a>, Al
     let command = with(command, check(alloc))?;
     let command = with(command, verify(alloc))?;
     let command = with(command, bounds(alloc))?;
+    let command = with(command, frame(alloc))?;
     with(command, cause(alloc))
 }
 
@@ -110,6 +111,23 @@ fn bounds<'a>(alloc: Global) -> Result<Command<'a>, AllocError> {
         .about("Print the most steps that each function takes, a line `FUNCTION STEPS` each")
         .after_help(help::BOUNDS)
         .arg(image_name(alloc))?
+        .arg(explain(alloc))?
+        .arg(color(alloc))
+}
+
+fn frame<'a>(alloc: Global) -> Result<Command<'a>, AllocError> {
+    let places = places(alloc)
+        .help("How many places there are where the frame is sent, 1 to 64")
+        .required(true);
+    Command::new(alloc, "frame")
+        .about("Tell what a frame between two places says, a line for each thing")
+        .after_help(help::FRAME)
+        .arg(input(
+            alloc,
+            "FRAME",
+            "The frame as hexadecimal digits, or the file of its bytes, or - for standard input",
+        ))?
+        .arg(places)?
         .arg(explain(alloc))?
         .arg(color(alloc))
 }

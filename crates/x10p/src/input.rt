@@ -2,8 +2,8 @@
 use crate::trouble::Trouble;
 use std::io::Read;
 use x10_cli::is_image;
+use x10_frame::{FrameFault, FrameView};
 use x10_image::{ImageFault, ImageView};
-use x10_task::Verb;
 
 /// How many bytes are read before they are looked at for the first time.
 const FIRST: u64 = 65_536;
@@ -22,6 +22,17 @@ const TEXT_LINE: u64 = 131_079;
 /// How a log begins.
 const LOG: &[u8] = b"x10 log 1\n";
 
+/// What a file is read as.
+#[derive(Clone, Copy)]
+pub enum Wanted {
+    Text,
+    Image,
+    /// Its first bytes say which of the two it is.
+    TextOrImage,
+    /// A frame where there are so many places.
+    Frame(u16),
+}
+
 /// What is known about a file from those of its bytes that were read.
 enum Look {
     /// More of it may be of use, up to this many bytes in all.
@@ -33,14 +44,14 @@ enum Look {
 }
 
 /// The bytes of a file, or its first bytes, enough of them that the command answers as it would for all.
-pub fn read<F: Read>(rt: &HostRuntime, verb: Verb, file: &mut F) -> Result<Vec<u8>, Trouble> {
+pub fn read<F: Read>(rt: &HostRuntime, wanted: Wanted, file: &mut F) -> Result<Vec<u8>, Trouble> {
     let mut bytes = Vec::new(rt.alloc());
     let mut goal = FIRST;
     for _ in 0..40 {
         if is_at_end(file, goal, &mut bytes)? {
             return Ok(bytes);
         }
-        match look_at(rt, verb, &bytes)? {
+        match look_at(rt, wanted, &bytes)? {
             Look::More(most) => goal = goal.saturating_mul(MORE).min(most),
             Look::Enough => return Ok(bytes),
             Look::TooLong => return Err(Trouble::TooLong),
@@ -91,11 +102,12 @@ fn is_at_end<F: Read>(file: &mut F, goal: u64, bytes: &mut Vec<u8>) -> Result<bo
     }
 }
 
-fn look_at(rt: &HostRuntime, verb: Verb, bytes: &[u8]) -> Result<Look, Trouble> {
-    match verb {
-        Verb::Asm => Ok(look_at_text(bytes)),
-        Verb::Check if !is_image(bytes) => Ok(look_at_text(bytes)),
-        _ => look_at_image(rt, bytes),
+fn look_at(rt: &HostRuntime, wanted: Wanted, bytes: &[u8]) -> Result<Look, Trouble> {
+    match wanted {
+        Wanted::Text => Ok(look_at_text(bytes)),
+        Wanted::TextOrImage if !is_image(bytes) => Ok(look_at_text(bytes)),
+        Wanted::Image | Wanted::TextOrImage => look_at_image(rt, bytes),
+        Wanted::Frame(places) => look_at_frame(rt, places, bytes),
     }
 }
 
@@ -130,6 +142,15 @@ fn look_at_image(rt: &HostRuntime, bytes: &[u8]) -> Result<Look, Trouble> {
     match ImageView::read(rt.alloc(), bytes) {
         Err(ImageFault::Memory) => Err(Trouble::Memory),
         Ok(_) | Err(ImageFault::Short | ImageFault::Entry) => Ok(Look::More(u64::MAX)),
+        Err(_) => Ok(Look::Enough),
+    }
+}
+
+/// A frame is read from front to back too, and what follows it is a fault whatever it is.
+fn look_at_frame(rt: &HostRuntime, places: u16, bytes: &[u8]) -> Result<Look, Trouble> {
+    match FrameView::read(rt.alloc(), bytes, places) {
+        Err(FrameFault::Memory) => Err(Trouble::Memory),
+        Ok(_) | Err(FrameFault::Short) => Ok(Look::More(u64::MAX)),
         Err(_) => Ok(Look::Enough),
     }
 }

@@ -18,7 +18,7 @@ use std::process::ExitCode;
 use std::sync::Wait;
 use std::thread::Threads;
 use std::{env, io};
-use x10_cli::{Fault, execute, tell};
+use x10_cli::{Fault, digits_in, execute, tell};
 use x10_files::{Output, Told, whole};
 use x10_task::{Task, Verb};
 use x10_usage::{Usage, no_text, parse};
@@ -48,7 +48,7 @@ fn follow<R: Threads + Wait + Sync>(rt: &HostRuntime, threads: &R, words: &[Stri
     }
 }
 
-/// Reads what the task names and does the work, which reports its own faults. A cause is a name alone.
+/// Reads what the task names and does the work, which reports its own faults. A cause is a name alone, and a frame may be digits.
 fn perform<R: Threads + Wait + Sync>(
     rt: &HostRuntime,
     threads: &R,
@@ -56,6 +56,11 @@ fn perform<R: Threads + Wait + Sync>(
 ) -> Result<u8, Trouble> {
     if task.verb == Verb::Explain {
         return print(rt, threads, task, task.input.as_bytes(), None);
+    }
+    if task.verb == Verb::Frame
+        && let Some(bytes) = digits_in(rt.alloc(), task.input)?
+    {
+        return print(rt, threads, task, &bytes, None);
     }
     let (bytes, text) = match read_named(rt, threads, task)? {
         Given::Bytes(bytes, text) => (bytes, text),

@@ -1,5 +1,5 @@
 //! Texts in place of images, and standard input in place of files.
-use crate::input;
+use crate::input::{self, Wanted};
 use crate::making::make;
 use crate::trouble::Trouble;
 use std::fs::File;
@@ -59,10 +59,10 @@ pub fn read<R: Threads + Wait + Sync>(
     file: &mut File,
 ) -> Result<Given, Trouble> {
     if is_text(task.input) && takes_image(task.verb) {
-        let text = input::read(rt, Verb::Asm, file)?;
+        let text = input::read(rt, Wanted::Text, file)?;
         return assembled(rt, threads, task, text);
     }
-    Ok(Given::Bytes(input::read(rt, task.verb, file)?, None))
+    Ok(Given::Bytes(input::read(rt, wanted_by(task), file)?, None))
 }
 
 /// Reads standard input as far as it can be what the command takes. Where the command takes an image, its first bytes say whether
@@ -74,18 +74,28 @@ pub fn read_input<R: Threads + Wait + Sync>(
 ) -> Result<Given, Trouble> {
     let mut reader = rt.reader();
     if !takes_image(task.verb) {
-        return Ok(Given::Bytes(input::read(rt, task.verb, &mut reader)?, None));
+        let bytes = input::read(rt, wanted_by(task), &mut reader)?;
+        return Ok(Given::Bytes(bytes, None));
     }
-    // as far as it can be either, as for a check
-    let bytes = input::read(rt, Verb::Check, &mut reader)?;
+    let bytes = input::read(rt, Wanted::TextOrImage, &mut reader)?;
     if is_image(&bytes) {
         return Ok(Given::Bytes(bytes, None));
     }
     assembled(rt, threads, &as_told(task), bytes)
 }
 
+/// What a task reads its file as.
+fn wanted_by(task: &Task) -> Wanted {
+    match task.verb {
+        Verb::Asm => Wanted::Text,
+        Verb::Check => Wanted::TextOrImage,
+        Verb::Frame => Wanted::Frame(task.places.unwrap_or_default()),
+        _ => Wanted::Image,
+    }
+}
+
 fn takes_image(verb: Verb) -> bool {
-    !matches!(verb, Verb::Asm | Verb::Check | Verb::Explain)
+    !matches!(verb, Verb::Asm | Verb::Check | Verb::Frame | Verb::Explain)
 }
 
 /// The image that a text spells, or why it spells none.
