@@ -1,5 +1,5 @@
 -- The front of a frame: its first byte, and the lines before its graph.
-use Rattle.std.proofs.Common.{◌≡◌, ℕ, ◌<◌, List, [], ◌∷◌, ◌++◌, Result, Ok, Err, length, slice_index_or, refl, sym, ap, ◌∙◌, append_assoc, arith, OnOk}
+use Rattle.std.proofs.Common.{◌≡◌, ℕ, ◌<◌, List, ◌++◌, Result, Ok, Err, length, slice_index_or, refl, sym, ap, ◌∙◌, append_assoc, arith, OnOk}
 use Rattle.x10_model.specs.declared.version.FrameVersion.{FrameVersion}
 use Rattle.x10_model.specs.Frames.{Frame, byte_of, spelling}
 use Rattle.x10_model.specs.ReadingFrames as reading

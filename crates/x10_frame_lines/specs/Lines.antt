@@ -6,8 +6,10 @@ use Rattle.x10_model.specs.declared.version.FrameVersion.{FrameVersion}
 use Rattle.x10_model.specs.Frames.{Item, Node, Graph, Frame, FitsFrame, byte_of, spelling, IntItem, PlaceItem, TextItem, RailItem, ObjectItem, NullItem, RefItem}
 use Rattle.x10_asm.specs.Listing.{spaced, quoted}
 use Rattle.x10_frame.specs.Heads.{head_of, graph_of, sent_of, received_of}
+use Rattle.x10_model.specs.declared.finish.Finish.{Finish}
 use Rattle.x10_frame.specs.declared.head.Head.{Head}
-use Rattle.x10_frame.specs.declared.head.Head.TheVariants as head
+use Rattle.x10_frame.specs.declared.head.What.{What}
+use Rattle.x10_frame.specs.declared.head.What.TheVariants as what
 
 -- ---- before the graph or the counts
 
@@ -28,21 +30,25 @@ finish_line number home = codes "finish: "
     ++ (decimal number ++ (codes " of place " ++ (decimal home ++ 10 ∷ [])))
 
 -- what begins, and under which finish
-abbrev pub launch_lines : (home number function : ℕ) → List ℕ
-launch_lines home number function = finish_line number home
+abbrev pub launch_lines : Finish → (function : ℕ) → List ℕ
+launch_lines under function = finish_line under.number under.home
     ++ (codes "function: " ++ (decimal function ++ 10 ∷ []))
 
--- the lines of a head, in a version
-abbrev pub head_lines : ℕ → Head → List ℕ
-head_lines version (head.Spawn from to home number function) =
-    first_line (codes "Spawn") version from to ++ launch_lines home number function
-head_lines version (head.Shift from to waiting home number function) =
+-- the lines of what a frame is sent for, in a version
+abbrev pub what_lines : (version from to : ℕ) → What → List ℕ
+what_lines version from to (what.Spawn under function) =
+    first_line (codes "Spawn") version from to ++ launch_lines under function
+what_lines version from to (what.Shift waiting under function) =
     first_line (codes "Shift") version from to
-    ++ (waiting_line waiting from ++ launch_lines home number function)
-head_lines version (head.Back from to waiting) =
+    ++ (waiting_line waiting from ++ launch_lines under function)
+what_lines version from to (what.Back waiting) =
     first_line (codes "Back") version from to ++ waiting_line waiting to
-head_lines version (head.Report from to number) =
+what_lines version from to (what.Report number) =
     first_line (codes "Report") version from to ++ finish_line number to
+
+-- the lines of a head
+abbrev pub head_lines : ℕ → Head → List ℕ
+head_lines version h = what_lines version h.from h.to h.what
 
 -- ---- the graph
 

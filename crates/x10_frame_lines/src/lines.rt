@@ -12,7 +12,8 @@ ghost use Rattle.x10_frame_lines.specs.Lines.{IsTold, first_line, launch_lines, 
 use crate::graph::push_graph;
 use std::alloc::{AllocError, Global};
 use std::fmt::Write;
-use x10_frame::{FrameFault, FrameView, Head};
+use x10_frame::{FrameFault, FrameView, Head, What};
+use x10_model::Finish;
 
 /// The lines of a frame, one for each thing that it says, where there are `places` places. What isn't a frame is refused by its
 /// first fault from front to back. Linear in the bytes, in time and in memory.
@@ -52,34 +53,26 @@ fn push_head(text: &mut String, version: u8, head: Head) -> Result<(), AllocErro
     ensures { OnOk result (string_bytes text.new
         ≡ string_bytes text.old ++ head_lines version head) }
 {
-    match head {
-        Head::Spawn {
-            from,
-            to,
-            home,
-            number,
-            function,
-        } => {
+    let Head { from, to, what } = head;
+    match what {
+        What::Spawn { under, function } => {
             push_first(text, "Spawn", version, from, to)?;
-            push_launch(text, home, number, function)
+            push_launch(text, under, function)
         }
-        Head::Shift {
-            from,
-            to,
+        What::Shift {
             waiting,
-            home,
-            number,
+            under,
             function,
         } => {
             push_first(text, "Shift", version, from, to)?;
             writeln!(text, "waiting: stay {waiting} of place {from}")?;
-            push_launch(text, home, number, function)
+            push_launch(text, under, function)
         }
-        Head::Back { from, to, waiting } => {
+        What::Back { waiting } => {
             push_first(text, "Back", version, from, to)?;
             writeln!(text, "waiting: stay {waiting} of place {to}")
         }
-        Head::Report { from, to, number } => {
+        What::Report { number } => {
             push_first(text, "Report", version, from, to)?;
             writeln!(text, "finish: {number} of place {to}")
         }
@@ -104,10 +97,11 @@ fn push_first(
 }
 
 /// What begins, and under which finish.
-fn push_launch(text: &mut String, home: u16, number: u32, function: u16) -> Result<(), AllocError>
+fn push_launch(text: &mut String, under: Finish, function: u16) -> Result<(), AllocError>
     ensures { OnOk result (string_bytes text.new
-        ≡ string_bytes text.old ++ launch_lines home number function) }
+        ≡ string_bytes text.old ++ launch_lines under function) }
 {
+    let Finish { home, number } = under;
     writeln!(text, "finish: {number} of place {home}")?;
     writeln!(text, "function: {function}")
 }
