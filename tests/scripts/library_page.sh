@@ -1,5 +1,5 @@
-# The programs in Rattle that docs/LIBRARY.md shows: what the page has of them is what stands there, their images are those of
-# the examples, and their lines those of the program.
+# What docs/LIBRARY.md shows of programs stands in a program that is run: in Rattle, C or Python. The images of those in Rattle are
+# those of the examples, and their lines those of the program.
 top="$(cd "$(dirname "$0")/../.." && pwd)"
 source "$(dirname "$0")/common"
 
@@ -26,15 +26,22 @@ import re, sys
 from pathlib import Path
 top = Path(sys.argv[1])
 
+# in which files the parts in each language have to stand, and how many there are
+FILES = {"rust": ("crates/embed_*/src/main.rt", 4), "c": ("examples/embed/*.c", 2), "python": ("examples/embed/tour.py", 2)}
+
 def plain(text):
-    return "".join(f"{line.strip()}\n" for line in text.splitlines())
+    return "".join(f"{line.strip()}\n" for line in text.splitlines() if line.strip())
 
 page = (top / "docs/LIBRARY.md").read_text(encoding="utf-8")
-programs = [plain(it.read_text(encoding="utf-8")) for it in sorted(top.glob("crates/embed_*/src/main.rt"))]
-blocks = re.findall(r"(?ms)^```rust\n(.*?)^```$", page)
-lost = [it for it in blocks if not any(plain(it) in program for program in programs)]
-for it in lost:
-    print(f"docs/LIBRARY.md shows what stands in no program:\n{it}")
-sys.exit(len(blocks) < 4 or bool(lost))
+wrong = False
+for language, (files, count) in FILES.items():
+    programs = [plain(it.read_text(encoding="utf-8")) for it in sorted(top.glob(files))]
+    blocks = re.findall(rf"(?ms)^```{language}\n(.*?)^```$", page)
+    # a part may have pieces, with an empty line between them
+    lost = [it for block in blocks for it in block.split("\n\n") if not any(plain(it) in program for program in programs)]
+    for it in lost:
+        print(f"docs/LIBRARY.md shows what stands in no program:\n{it}")
+    wrong = wrong or bool(lost) or len(blocks) != count
+sys.exit(wrong)
 PY
 exit $wrong
