@@ -1,6 +1,7 @@
 pub mod Ledgers
 pub mod MetLemmas
 pub mod Sums
+pub mod PairLists
 pub mod Squares
 pub mod MergedReports
 pub mod Balances

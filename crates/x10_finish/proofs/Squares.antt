@@ -1,7 +1,6 @@
 -- Pairs of places in a list, row by row.
-use Rattle.std.proofs.Common.{◌≡◌, ℕ, ◌+◌, ◌*◌, ◌<◌, ◌≤◌, ◌==◌, ◌&&◌, nat_lt, max, Bool, true, false, if◌then◌else◌, List, length, get_or, ◌⊎◌, inl, inr, refl, sym, ◌∙◌, ap, subst, arith, lit≤, ◌^◌, slice_set, slice_index_or, get_or-set_same, get_or-set_other}
+use Rattle.std.proofs.Common.{◌≡◌, ℕ, ◌+◌, ◌*◌, ◌<◌, ◌≤◌, ◌==◌, ◌&&◌, nat_lt, max, Bool, true, false, if◌then◌else◌, List, length, ◌⊎◌, inl, inr, refl, sym, ◌∙◌, ap, subst, arith, lit≤, ◌^◌, slice_set, slice_index_or, get_or-set_same, get_or-set_other}
 use Rattle.std.proofs.lemmas.Bool.{eqb-true, eq-eqb, lt-ltb, ltb-true, cases_eq, and_from, and_parts}
-use Rattle.std.proofs.lemmas.List.{get_or_default}
 use Rattle.std.proofs.Math.Nat.{mul-le-mul_right}
 use Rattle.x10_finish.specs.declared.pairs.Pair.{Pair}
 use Rattle.x10_finish.specs.Pairs.{no_pair, pair_at, difference, unequal_in, raised_at}
@@ -104,8 +103,6 @@ raised_written n pairs i j by w li lj e is a b = elim (both_or_not a b i j) [
       apart (let both = and_parts (a == i) (b == j) t in (eqb-true a i both.0, eqb-true b j both.1))))
 ]
 
-pub read_at : (n : ℕ) (pairs : List Pair) (i j : ℕ) (x : Pair) → i < n → j < n → length pairs ≡ n * n → x ≡ get_or pairs (i * n + j) x
+pub read_at : (n : ℕ) (pairs : List Pair) (i j : ℕ) (x : Pair) → i < n → j < n → x ≡ slice_index_or pairs (i * n + j) no_pair
     → x ≡ pair_at n pairs i j
-read_at n pairs i j x li lj e h =
-    let below = place_below n i j li lj in
-    h ∙ get_or_default pairs (i * n + j) x no_pair (subst (λ m. i * n + j < m) (sym e) below) ∙ sym (pair_at-is n pairs i j li lj)
+read_at n pairs i j x li lj h = h ∙ sym (pair_at-is n pairs i j li lj)

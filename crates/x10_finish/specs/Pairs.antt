@@ -1,5 +1,6 @@
 -- What the home of a finish keeps, pair by pair of places.
-use Rattle.std.specs.Prelude.{ℕ, zero, suc, ◌+◌, ◌*◌, ◌==◌, ◌&&◌, nat_lt, max, Bool, List, if◌then◌else◌, slice_index, slice_index_or}
+use Rattle.std.specs.Prelude.{ℕ, zero, suc, ◌+◌, ◌*◌, ◌==◌, ◌&&◌, ◌≤◌, nat_lt, max, Bool, List, if◌then◌else◌, slice_index, slice_index_or, All}
+use Rattle.x10_finish.specs.declared.pair_list.Stamped.{Stamped}
 use Rattle.x10_finish.specs.declared.pairs.Pair.{Pair}
 
 -- f 0 + f 1 + .. + f (n - 1)
@@ -13,6 +14,14 @@ sum_square f n = sum_below (λ a. sum_below (f a) n) n
 
 abbrev pub no_pair : Pair
 no_pair = record { sent = 0; received = 0 }
+
+-- what a round sees of a pair: nothing, where it was written in another round
+abbrev pub seen_in : ℕ → Stamped → Pair
+seen_in round s = if s.round == round then s.pair else no_pair
+
+-- no pair was written in a later round
+abbrev pub AreUpTo : ℕ → List Stamped → Type 0
+AreUpTo round items = All (λ s. s.round ≤ round) items
 
 -- the pair of two places, row by row of the sender; nothing where there is no such place
 abbrev pub pair_at : ℕ → List Pair → ℕ → ℕ → Pair

@@ -4,7 +4,8 @@ ghost use Rattle.x10_model.specs.Totals.{Totals, IsBalanced, IsDoneAt, entry_of,
 ghost use Rattle.x10_finish.specs.Ledgers.{totals_of};
 ghost use Rattle.x10_finish.specs.Books.{Kept, kept_of, IsOpened, MergesCounts, Merges};
 
-use crate::pairs::{Pair, agrees, first_apart, merge};
+use crate::pair_list::PairList;
+use crate::pairs::{agrees, first_apart, merge};
 use crate::tally::Tally;
 use std::alloc::Global;
 use std::cell::Cell;
@@ -18,7 +19,7 @@ use x10_model::Finish;
 pub struct Book {
     finish: Finish,
     places: u16,
-    pairs: Vec<Pair>,
+    pairs: PairList,
     unequal: usize,
     /// Whether no report was taken in yet, so that no pair has a number.
     blank: bool,
@@ -31,9 +32,9 @@ impl Model for Book {
 
     ghost Value = { Kept };
 
-    ghost view = { λ b. record { finish = b.finish; places = b.places; pairs = b.pairs.items } };
+    ghost view = { λ b. record { finish = b.finish; places = b.places; pairs = b.pairs } };
 
-    ghost invariant = { λ b. AreKept b.finish.home b.places b.unequal b.blank b.pairs.items };
+    ghost invariant = { λ b. AreKept b.finish.home b.places b.unequal b.blank b.pairs };
 }
 
 impl Book {
@@ -44,50 +45,28 @@ impl Book {
         ensures ok { IfOk result (IsOpened finish places) }
         ensures err { IfErr result (λ why. why ≡ stop.Memory) }
     {
-        Book::blank(Vec::new(alloc), finish, places)
+        Book::blank(PairList::new(alloc), finish, places)
     }
 
-    /// The same in the memory of the book of a finish that has ended. Asks for more only where that was one of fewer places. Takes
-    /// constant time where that was one of as many, and no report of it came.
+    /// The same in the memory of the book of a finish that has ended. Takes constant time where that was one of as many places, and
+    /// asks for more memory only where it was one of fewer.
     pub fn reopen(self, finish: Finish, places: u16) -> Result<Book, Stop>
         requires { finish.home < places }
         ensures ok { IfOk result (IsOpened finish places) }
         ensures err { IfErr result (λ why. why ≡ stop.Memory) }
     {
-        let Book {
-            places: before,
-            pairs,
-            blank,
-            ..
-        } = self;
-        if !blank || before != places {
-            return Book::blank(pairs, finish, places);
-        }
-        Ok(Book {
-            finish,
-            places,
-            pairs,
-            unequal: 0,
-            blank,
-            hint: Cell::new(0),
-        })
+        let Book { pairs, .. } = self;
+        Book::blank(pairs, finish, places)
     }
 
     /// A book in which nothing was reported yet, in the memory of a list.
-    fn blank(mut pairs: Vec<Pair>, finish: Finish, places: u16) -> Result<Book, Stop>
+    fn blank(pairs: PairList, finish: Finish, places: u16) -> Result<Book, Stop>
         requires { finish.home < places }
         ensures ok { IfOk result (IsOpened finish places) }
         ensures err { IfErr result (λ why. why ≡ stop.Memory) }
     {
         let size = usize::from(places) * usize::from(places);
-        let none = Pair {
-            sent: 0,
-            received: 0,
-        };
-        pairs.clear();
-        if pairs.resize(size, none).is_err() {
-            return Err(Stop::Memory);
-        }
+        let pairs = pairs.zeroed(size)?;
         Ok(Book {
             finish,
             places,
@@ -152,6 +131,9 @@ impl Book {
     {
         if self.unequal != 0 {
             return false;
+        }
+        if self.blank && sent.is_empty() && received.is_empty() {
+            return true;
         }
         let (home, places) = (usize::from(self.finish.home), usize::from(self.places));
         let hint = usize::from(self.hint.get());

@@ -6,6 +6,7 @@ mod book;
 mod count;
 pub mod laws;
 mod met;
+mod pair_list;
 mod pairs;
 mod tally;
 

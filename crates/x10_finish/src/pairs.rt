@@ -3,6 +3,8 @@
 ghost use Rattle.std.specs.Prelude.{◌≡◌, ◌+◌, ◌*◌, ◌<◌, ◌≤◌, ◌^◌, ℕ, true, false, IfNone, IfSome, length, slice_index};
 ghost use Rattle.x10_finish.specs.Pairs.{pair_at, difference, unequal_in, raised_at, merged_to, agreed};
 
+use crate::pair_list::PairList;
+
 /// How many activities one place has reported that it sent to another, and the other that it received from the one.
 #[derive(Clone, Copy, Debug, PartialEq, Eq)]
 pub struct Pair {
@@ -24,7 +26,7 @@ fn differs(home: usize, from: usize, to: usize, pair: Pair) -> usize
 /// The larger of each number for one pair. Takes how many pairs differ, and answers how many do afterwards. Constant time.
 #[inline(always)]
 pub fn raise(
-    pairs: &mut Vec<Pair>,
+    pairs: &mut PairList,
     unequal: usize,
     home: usize,
     places: usize,
@@ -35,15 +37,15 @@ pub fn raise(
     requires few { places < 2 ^ 16 }
     requires from { from < places }
     requires to { to < places }
-    requires whole { length pairs.old.items ≡ places * places }
-    requires unequal { unequal ≡ unequal_in home places pairs.old.items }
-    ensures whole { length pairs.new.items ≡ places * places }
-    ensures unequal { result ≡ unequal_in home places pairs.new.items }
-    ensures pairs { (a b : ℕ) → pair_at places pairs.new.items a b
-        ≡ raised_at from to by (pair_at places pairs.old.items) a b }
+    requires whole { length pairs.old ≡ places * places }
+    requires unequal { unequal ≡ unequal_in home places pairs.old }
+    ensures whole { length pairs.new ≡ places * places }
+    ensures unequal { result ≡ unequal_in home places pairs.new }
+    ensures pairs { (a b : ℕ) → pair_at places pairs.new a b
+        ≡ raised_at from to by (pair_at places pairs.old) a b }
 {
     let i = from * places + to;
-    let old = pairs[i];
+    let old = pairs.get(i);
     if by.sent <= old.sent && by.received <= old.received {
         return unequal;
     }
@@ -51,7 +53,7 @@ pub fn raise(
         sent: old.sent.max(by.sent),
         received: old.received.max(by.received),
     };
-    pairs[i] = new;
+    pairs.set(i, new);
     unequal + differs(home, from, to, new) - differs(home, from, to, old)
 }
 
@@ -59,7 +61,7 @@ pub fn raise(
 /// differ, and answers how many do afterwards. Constant time.
 #[inline(always)]
 fn raise_both(
-    pairs: &mut Vec<Pair>,
+    pairs: &mut PairList,
     unequal: usize,
     home: usize,
     places: usize,
@@ -71,14 +73,14 @@ fn raise_both(
     requires few { places < 2 ^ 16 }
     requires place { place < places }
     requires other { other < places }
-    requires whole { length pairs.old.items ≡ places * places }
-    requires unequal { unequal ≡ unequal_in home places pairs.old.items }
-    ensures whole { length pairs.new.items ≡ places * places }
-    ensures unequal { result ≡ unequal_in home places pairs.new.items }
-    ensures pairs { (a b : ℕ) → pair_at places pairs.new.items a b
+    requires whole { length pairs.old ≡ places * places }
+    requires unequal { unequal ≡ unequal_in home places pairs.old }
+    ensures whole { length pairs.new ≡ places * places }
+    ensures unequal { result ≡ unequal_in home places pairs.new }
+    ensures pairs { (a b : ℕ) → pair_at places pairs.new a b
         ≡ raised_at other place (record { sent = 0; received = received })
         (raised_at place other (record { sent = sent; received = 0 })
-        (pair_at places pairs.old.items)) a b }
+        (pair_at places pairs.old)) a b }
 {
     let went = Pair { sent, received: 0 };
     let unequal = raise(pairs, unequal, home, places, place, other, went);
@@ -146,7 +148,7 @@ fn next_counted(sent: &[u32], received: &[u32], from: usize) -> usize
 /// pairs differ, and answers how many do afterwards. Linear in the number of places; where both counts are 0, as most of a report
 /// are, no pair is looked at.
 pub fn merge(
-    pairs: &mut Vec<Pair>,
+    pairs: &mut PairList,
     mut unequal: usize,
     home: usize,
     place: usize,
@@ -156,13 +158,13 @@ pub fn merge(
     requires few { length sent.now < 2 ^ 16 }
     requires place { place < length sent.now }
     requires received { length received.now ≡ length sent.now }
-    requires whole { length pairs.old.items ≡ length sent.now * length sent.now }
-    requires unequal { unequal ≡ unequal_in home (length sent.now) pairs.old.items }
-    ensures whole { length pairs.new.items ≡ length sent.now * length sent.now }
-    ensures unequal { result ≡ unequal_in home (length sent.now) pairs.new.items }
-    ensures pairs { (a b : ℕ) → pair_at (length sent.now) pairs.new.items a b
+    requires whole { length pairs.old ≡ length sent.now * length sent.now }
+    requires unequal { unequal ≡ unequal_in home (length sent.now) pairs.old }
+    ensures whole { length pairs.new ≡ length sent.now * length sent.now }
+    ensures unequal { result ≡ unequal_in home (length sent.now) pairs.new }
+    ensures pairs { (a b : ℕ) → pair_at (length sent.now) pairs.new a b
         ≡ merged_to place sent.now received.now (length sent.now)
-        (pair_at (length sent.now) pairs.old.items) a b }
+        (pair_at (length sent.now) pairs.old) a b }
 {
     let places = sent.len();
     let mut at = 0;
@@ -185,7 +187,7 @@ fn number(counts: &[u32], q: usize) -> u32
 
 /// Whether the home and a place agree on what they sent each other, by the home's own numbers and the pairs.
 pub fn agrees(
-    pairs: &[Pair],
+    pairs: &PairList,
     home: usize,
     places: usize,
     sent: &[u32],
@@ -201,13 +203,13 @@ pub fn agrees(
     if q == home {
         return number(sent, home) == number(received, home);
     }
-    let (to, from) = (pairs[home * places + q], pairs[q * places + home]);
+    let (to, from) = (pairs.get(home * places + q), pairs.get(q * places + home));
     number(sent, q) == to.received && from.sent == number(received, q)
 }
 
 /// The first place that doesn't agree with the home. Linear in the number of places.
 pub fn first_apart(
-    pairs: &[Pair],
+    pairs: &PairList,
     home: usize,
     places: u16,
     sent: &[u32],

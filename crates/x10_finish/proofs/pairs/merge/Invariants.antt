@@ -6,8 +6,8 @@ abbrev pub invariant-loop-done : goal.invariant-loop-done
 invariant-loop-done l = record {
   far : l._done ≤ l.at;
   within : l.at ≤ length l.sent;
-  whole : length l.pairs.items ≡ length l.sent * length l.sent;
-  unequal : l.unequal ≡ unequal_in l.home (length l.sent) l.pairs.items;
-  pairs : (a b : ℕ) → pair_at (length l.sent) l.pairs.items a b
-      ≡ merged_to l.place l.sent l.received l.at (pair_at (length l.sent) l.initial.pairs.items) a b;
+  whole : length l.pairs ≡ length l.sent * length l.sent;
+  unequal : l.unequal ≡ unequal_in l.home (length l.sent) l.pairs;
+  pairs : (a b : ℕ) → pair_at (length l.sent) l.pairs a b
+      ≡ merged_to l.place l.sent l.received l.at (pair_at (length l.sent) l.initial.pairs) a b;
 }
