@@ -1,5 +1,6 @@
 -- The counts of the finishes that were met: one is found, written, entered or goes.
-use Rattle.std.proofs.Common.{◌≡◌, ◌-◌, Bool, true, false, cond, List, ◌∷◌, length, Option, Some, None, Result, Err, OnOk, IfErr, MatchOption, refl, sym, ◌∙◌, ap, subst}
+use Rattle.std.proofs.Common.{◌≡◌, ◌-◌, ◌<◌, ◌==◌, ◌&&◌, max, ℕ, Bool, true, false, cond, List, ◌∷◌, length, Option, Some, None, Result, Err, OnOk, IfErr, MatchOption, refl, sym, ◌∙◌, ap, subst, arith}
+use Rattle.std.proofs.lemmas.Bool.{ne_eqb}
 use Rattle.x10_kinds.specs.declared.limit.Limit.TheVariants as limits
 use Rattle.x10_kinds.specs.declared.stop.Stop.{Stop}
 use Rattle.x10_kinds.specs.declared.stop.Stop.TheVariants as stop
@@ -11,7 +12,7 @@ use Rattle.x10_finish.specs.declared.met.Named.{Named}
 use Rattle.x10_finish.specs.declared.count.Change.{Change}
 use Rattle.x10_finish.specs.Counts.{IsFull, IsWhole, changed, counted}
 use Rattle.x10_finish.specs.Ledgers.{count_of}
-use Rattle.x10_finish.specs.Met.{IsApart, IsCounted, Lowers, Removes, Writes, is_of_finish, listed}
+use Rattle.x10_finish.specs.Met.{IsApart, IsCounted, Lowers, NoneAbove, Removes, Writes, is_of_finish, listed}
 use Rattle.x10_finish.proofs.Ledgers.{if_err}
 
 -- ---- the latest one
@@ -133,3 +134,25 @@ latest_lowered n others f same = record {
   was_there = ap (λ b. cond b (Some n.count) (count_of others f)) same;
   writes = latest_writes n others f (record n.count { live = n.count.live - 1 }) same;
 }
+
+-- ---- no finish with a greater number is there
+
+and_no : (b t : Bool) → t ≡ false → (b && t) ≡ false
+and_no true t e = e
+and_no false t e = refl
+
+greater_apart : (k f : Finish) → k.number < f.number → same_finish k f ≡ false
+greater_apart k f lt = and_no (k.home == f.home) (k.number == f.number) (ne_eqb k.number f.number (λ e. omega (arith, e, lt)))
+
+pub above_written : (highest now : ℕ) (old new : List (Finish × Count)) (k : Finish) (w : Count) → now ≡ max highest k.number
+    → NoneAbove highest old → Writes old k w new → NoneAbove now new
+above_written highest now old new k w is none h f lt =
+    let apart = greater_apart k f (omega (arith, is, lt)) in
+    h f ∙ ap (λ b. cond b (Some w) (count_of old f)) apart ∙ none f (omega (arith, is, lt))
+
+none_either : (b : Bool) (o : Option Count) → o ≡ None → cond b None o ≡ None
+none_either true o e = refl
+none_either false o e = e
+
+pub above_removed : (highest : ℕ) (old new : List (Finish × Count)) (k : Finish) → NoneAbove highest old → Removes old k new → NoneAbove highest new
+above_removed highest old new k none h f lt = h f ∙ none_either (same_finish k f) (count_of old f) (none f lt)

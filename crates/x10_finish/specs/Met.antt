@@ -1,5 +1,5 @@
 -- What a place counts of the finishes that it has met, the latest one before the others if it lies beside them.
-use Rattle.std.specs.Prelude.{◌≡◌, Bool, false, ◌-◌, List, ◌∷◌, Option, Some, None, Result, Err, OnOk, IfErr, cond, length}
+use Rattle.std.specs.Prelude.{◌≡◌, ℕ, ◌<◌, Bool, false, ◌-◌, List, ◌∷◌, Option, Some, None, Result, Err, OnOk, IfErr, cond, length}
 use Rattle.x10_kinds.specs.declared.limit.Limit.TheVariants as limits
 use Rattle.x10_kinds.specs.declared.stop.Stop.{Stop}
 use Rattle.x10_kinds.specs.declared.stop.Stop.TheVariants as stop
@@ -51,3 +51,7 @@ pub record Lowers (old : List (Finish × Count)) (f : Finish) (new : List (Finis
   pub was : Count
   pub was_there : count_of old f ≡ Some was
   pub writes : Writes old f (record was { live = was.live - 1 }) new
+
+-- no finish with a greater number is there
+abbrev pub NoneAbove : ℕ → List (Finish × Count) → Type 0
+NoneAbove highest counts = (f : Finish) → highest < f.number → count_of counts f ≡ None

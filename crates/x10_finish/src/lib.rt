@@ -8,6 +8,7 @@ pub mod laws;
 mod met;
 mod pair_list;
 mod pairs;
+mod table;
 mod tally;
 
 pub use book::Book;

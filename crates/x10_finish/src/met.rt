@@ -6,8 +6,8 @@ ghost use Rattle.x10_finish.specs.Ledgers.{count_of, counted_or_nothing};
 ghost use Rattle.x10_finish.specs.Met.{IsApart, IsCounted, Lowers, Removes, Writes, is_of_finish, listed};
 
 use crate::count::{Change, Count, apply};
+use crate::table::Table;
 use std::alloc::Global;
-use std::collections::HashMap;
 use std::marker::Model;
 use x10_kinds::Stop;
 use x10_model::Finish;
@@ -24,7 +24,7 @@ pub struct Named {
 #[derive(Drop)]
 pub struct Met {
     latest: Option<Named>,
-    others: HashMap<Finish, Count>,
+    others: Table,
 }
 
 impl Model for Met {
@@ -35,25 +35,24 @@ impl Model for Met {
 
     ghost Value = { List (Finish × Count) };
 
-    ghost view = { λ m. listed m.latest m.others.entries };
+    ghost view = { λ m. listed m.latest m.others };
 
-    ghost invariant = { λ m. IsApart m.latest m.others.entries };
+    ghost invariant = { λ m. IsApart m.latest m.others };
 }
 
 /// Puts the latest count among the others. Where memory is refused, nothing has changed.
-fn set_aside(latest: &mut Option<Named>, others: &mut HashMap<Finish, Count>) -> Result<(), Stop>
-    ensures ok { OnOk result ((latest.new ≡ None) × ((f : Finish) → count_of others.new.entries f
-        ≡ count_of (listed latest.old others.old.entries) f)) }
+fn set_aside(latest: &mut Option<Named>, others: &mut Table) -> Result<(), Stop>
+    ensures ok { OnOk result ((latest.new ≡ None) × ((f : Finish) → count_of others.new f
+        ≡ count_of (listed latest.old others.old) f)) }
     ensures err { IfErr result (λ why. (why ≡ stop.Memory) × (latest.new ≡ latest.old)
-        × (others.new.entries ≡ others.old.entries)) }
+        × (others.new ≡ others.old)) }
 {
     let Some(Named { finish, count }) = latest.take() else {
         return Ok(());
     };
     match others.insert(finish, count) {
-        Ok(_) => Ok(()),
-        Err(failed) => {
-            let (finish, count) = failed.value;
+        Ok(()) => Ok(()),
+        Err(count) => {
             *latest = Some(Named { finish, count });
             Err(Stop::Memory)
         }
@@ -71,33 +70,6 @@ fn is_of(latest: &Option<Named>, finish: Finish) -> bool
     }
 }
 
-/// Counts what changes of one of the others, if it is there.
-fn count_among(
-    others: &mut HashMap<Finish, Count>,
-    finish: Finish,
-    change: Change,
-) -> Option<Result<(), Stop>>
-    requires { (c : Count) → count_of others.old.entries finish ≡ Some c
-        → Fits change (length c.sent.items) × (length c.received.items ≡ length c.sent.items) }
-    ensures { MatchOption result ((count_of others.old.entries finish ≡ None)
-        × (others.new.entries ≡ others.old.entries))
-        (λ counted. IsCounted others.old.entries finish change counted others.new.entries) }
-{
-    let count = others.get_mut(&finish)?;
-    Some(apply(count, change))
-}
-
-/// One activity less lives under one of the others.
-fn end_among(others: &mut HashMap<Finish, Count>, finish: Finish)
-    requires { 0 < (counted_or_nothing (count_of others.old.entries finish)).live }
-    ensures { Lowers others.old.entries finish others.new.entries }
-{
-    let Some(count) = others.get_mut(&finish) else {
-        return;
-    };
-    count.live -= 1;
-}
-
 impl Met {
     /// None.
     pub fn new(alloc: Global) -> Met
@@ -105,7 +77,7 @@ impl Met {
     {
         Met {
             latest: None,
-            others: HashMap::new(alloc),
+            others: Table::new(alloc),
         }
     }
 
@@ -117,7 +89,7 @@ impl Met {
     {
         match &self.latest {
             Some(latest) if finish == latest.finish => Some(&latest.count),
-            _ => self.others.get(&finish),
+            _ => self.others.get(finish),
         }
     }
 
@@ -130,7 +102,7 @@ impl Met {
             (λ counted. IsCounted self.old finish change counted self.new) }
     {
         if !is_of(&self.latest, finish) {
-            return count_among(&mut self.others, finish, change);
+            return self.others.count(finish, change);
         }
         match &mut self.latest {
             Some(latest) => Some(apply(&mut latest.count, change)),
@@ -145,7 +117,7 @@ impl Met {
         ensures { Lowers self.old finish self.new }
     {
         if !is_of(&self.latest, finish) {
-            return end_among(&mut self.others, finish);
+            return self.others.end(finish);
         }
         if let Some(latest) = &mut self.latest {
             latest.count.live -= 1;
@@ -171,6 +143,6 @@ impl Met {
             let Named { count, .. } = self.latest.take()?;
             return Some(count);
         }
-        self.others.remove(&finish)
+        self.others.remove(finish)
     }
 }

@@ -8,6 +8,6 @@ use Rattle.x10_finish.proofs.met.set_aside.Goals as goal
 pub returns-in-Ok-clause-ok : goal.returns-in-Ok-clause-ok
 returns-in-Ok-clause-ok c = (
   c.take.ensures.after,
-  subst (λ o. (f : Finish) → count_of c.insert.new.self.entries f ≡ count_of (listed o c.args.others.now.entries) f) c.in-Some.ensures.value
-      (lemmas.set_aside c.in-Some.field-0 c.args.others.now.entries c.insert.new.self.entries c.in-Ok.ensures.updates.0),
+  subst (λ o. (f : Finish) → count_of c.insert.new.self f ≡ count_of (listed o c.args.others.now) f) c.in-Some.ensures.value
+      (lemmas.set_aside c.in-Some.field-0 c.args.others.now c.insert.new.self c.in-Ok.ensures.ok),
 )

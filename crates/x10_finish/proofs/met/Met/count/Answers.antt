@@ -11,11 +11,11 @@ use Rattle.x10_finish.proofs.met.Met.count.Goals.{in-Some, in-None}
 pub returns-then-not-is_of : goal.returns-then-not-is_of
 returns-then-not-is_of c =
     let other : is_of_finish c.self.inside.latest c.args.finish ≡ false = search rules in
-    subst (λ (m : List (Finish × Count)). MatchOption c.count_among.result ((count_of m c.args.finish ≡ None)
-    × (listed c.self.inside.latest c.count_among.new.others.entries ≡ m))
-    (λ counted. IsCounted m c.args.finish c.args.change counted (listed c.self.inside.latest c.count_among.new.others.entries))) c.self.view_is
-    (among_counted c.self.inside.latest c.self.inside.others.entries c.count_among.new.others.entries c.args.finish c.args.change
-    c.count_among.result other c.count_among.ensures)
+    subst (λ (m : List (Finish × Count)). MatchOption c.count.result ((count_of m c.args.finish ≡ None)
+    × (listed c.self.inside.latest c.count.new.self ≡ m))
+    (λ counted. IsCounted m c.args.finish c.args.change counted (listed c.self.inside.latest c.count.new.self))) c.self.view_is
+    (among_counted c.self.inside.latest c.self.inside.others c.count.new.self c.args.finish c.args.change
+    c.count.result other c.count.ensures)
 
 pub returns : goal.returns
 returns c = elim c.match-self.branch [
@@ -23,9 +23,9 @@ returns c = elim c.match-self.branch [
       let is : c.self.inside.latest ≡ Some w.in-Some.latest = search rules in
       let same : same_finish c.args.finish w.in-Some.latest.finish ≡ true = search rules in
       rw (w.result-is, w.self-inside-is) (subst (λ (m : List (Finish × Count)). IsCounted m c.args.finish c.args.change w.apply.result
-      ((w.in-Some.latest.finish, w.apply.new.count) ∷ c.self.inside.others.entries))
-      (ap (λ o. listed o c.self.inside.others.entries) (sym is) ∙ c.self.view_is)
-      (latest_counted w.in-Some.latest c.self.inside.others.entries c.args.finish c.args.change w.apply.result w.apply.new.count same
+      ((w.in-Some.latest.finish, w.apply.new.count) ∷ c.self.inside.others))
+      (ap (λ o. listed o c.self.inside.others) (sym is) ∙ c.self.view_is)
+      (latest_counted w.in-Some.latest c.self.inside.others c.args.finish c.args.change w.apply.result w.apply.new.count same
       w.apply.ensures.ok w.apply.ensures.whole w.apply.ensures.full w.apply.ensures.err))
   | in-None w ↦ absurd (search rules)
 ]

@@ -10,8 +10,8 @@ use Rattle.x10_finish.proofs.met.Met.end.Goals.{in-Some, in_default}
 pub returns-then-not-is_of : goal.returns-then-not-is_of
 returns-then-not-is_of c =
     let other : is_of_finish c.self.inside.latest c.args.finish ≡ false = search rules in
-    subst (λ (m : List (Finish × Count)). Lowers m c.args.finish (listed c.self.inside.latest c.end_among.new.others.entries)) c.self.view_is
-    (among_lowered c.self.inside.latest c.self.inside.others.entries c.end_among.new.others.entries c.args.finish other c.end_among.ensures)
+    subst (λ (m : List (Finish × Count)). Lowers m c.args.finish (listed c.self.inside.latest c.end.new.self)) c.self.view_is
+    (among_lowered c.self.inside.latest c.self.inside.others c.end.new.self c.args.finish other c.end.ensures)
 
 pub returns : goal.returns
 returns c = elim c.match-self.branch [
@@ -19,8 +19,8 @@ returns c = elim c.match-self.branch [
       let is : c.self.inside.latest ≡ Some w.in-Some.latest = search rules in
       let same : same_finish c.args.finish w.in-Some.latest.finish ≡ true = search rules in
       rw w.self-inside-is (subst (λ (m : List (Finish × Count)). Lowers m c.args.finish
-      ((w.in-Some.latest.finish, record w.in-Some.latest.count { live = w.in-Some.latest.count.live - 1 }) ∷ c.self.inside.others.entries))
-      (ap (λ o. listed o c.self.inside.others.entries) (sym is) ∙ c.self.view_is)
-      (latest_lowered w.in-Some.latest c.self.inside.others.entries c.args.finish same))
+      ((w.in-Some.latest.finish, record w.in-Some.latest.count { live = w.in-Some.latest.count.live - 1 }) ∷ c.self.inside.others))
+      (ap (λ o. listed o c.self.inside.others) (sym is) ∙ c.self.view_is)
+      (latest_lowered w.in-Some.latest c.self.inside.others c.args.finish same))
   | in_default w ↦ absurd (search rules)
 ]

@@ -8,5 +8,5 @@ use Rattle.x10_finish.proofs.met.Met.remove.Goals as goal
 pub returns : goal.returns
 returns c =
     let other : is_of_finish c.self.inside.latest c.args.finish ≡ false = search rules in
-    subst (λ (m : List (Finish × Count)). Removes m c.args.finish (listed c.self.inside.latest c.remove.new.self.entries)) c.self.view_is
-    (removes_among c.self.inside.latest c.self.inside.others.entries c.remove.new.self.entries c.args.finish other c.remove.ensures.updates.0)
+    subst (λ (m : List (Finish × Count)). Removes m c.args.finish (listed c.self.inside.latest c.remove.new.self)) c.self.view_is
+    (removes_among c.self.inside.latest c.self.inside.others c.remove.new.self c.args.finish other c.remove.ensures)

@@ -3,7 +3,7 @@ use Rattle.std.proofs.lemmas.Map.Steps.{set_value_same}
 use Rattle.std.specs.Map.{set_value}
 use Rattle.x10_model.specs.Worlds.{same_finish}
 use Rattle.x10_finish.proofs.Ledgers.{if_err}
-use Rattle.x10_finish.proofs.met.count_among.Goals as goal
+use Rattle.x10_finish.proofs.table.count_in.Goals as goal
 
 pub returns : goal.returns
 returns c =
@@ -20,7 +20,7 @@ returns c =
       err = if_err c.apply.result c.apply.ensures.err (λ why e. (
         e.0,
         e.1,
-        now.0 ∙ ap (set_value (same_finish c.args.finish) c.args.others.now.entries) e.2
-            ∙ set_value_same (same_finish c.args.finish) c.args.others.now.entries c.in_ok-count.count.now (sym there),
+        now.0 ∙ ap (set_value (same_finish c.args.finish) c.args.counts.now.entries) e.2
+            ∙ set_value_same (same_finish c.args.finish) c.args.counts.now.entries c.in_ok-count.count.now (sym there),
       ));
     }

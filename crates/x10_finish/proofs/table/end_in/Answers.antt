@@ -1,5 +1,5 @@
 use Rattle.std.proofs.Common.{◌-◌, IsSome, refl, sym, subst}
-use Rattle.x10_finish.proofs.met.end_among.Goals as goal
+use Rattle.x10_finish.proofs.table.end_in.Goals as goal
 
 pub returns : goal.returns
 returns c = record {
