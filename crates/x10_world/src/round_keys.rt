@@ -24,6 +24,24 @@ impl RoundKeys {
         }
     }
 
+    /// Notes that an activity with a key began. Logarithmic in the known keys, of which it may be one: that of an activity that ended.
+    #[inline(always)]
+    pub fn begin(&mut self, key: usize) -> Result<(), AllocError> {
+        if self.known.binary_search(&key).is_err() {
+            self.fresh.push(key)?;
+        }
+        Ok(())
+    }
+
+    /// The one key that there may be; none where there may be several, or none.
+    #[inline(always)]
+    pub fn only(&self) -> Option<usize> {
+        match self.known.as_slice() {
+            [key] if self.fresh.is_empty() => Some(*key),
+            _ => None,
+        }
+    }
+
     /// Makes the keys in use now the known ones. Linear in the keys, except that new ones are sorted; constant time where no
     /// activity began or ended.
     #[inline(always)]

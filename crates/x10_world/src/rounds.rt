@@ -16,6 +16,7 @@ use x10_model::Event;
 
 mod drive;
 mod events;
+mod parts;
 
 pub use drive::run_rounds;
 
@@ -295,7 +296,7 @@ impl Rounds {
     {
         self.lull.forget();
         if let Some(list) = self.lists.get_mut(usize::from(place)) {
-            list.fresh.push(key)?;
+            list.begin(key)?;
         }
         Ok(())
     }

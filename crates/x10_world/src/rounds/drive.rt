@@ -6,50 +6,11 @@ ghost use Rattle.x10_world.specs.Queries.{IsClosed};
 ghost use Rattle.x10_world.specs.Rounds.{NoneIsLeft, RunsTo, IsHalted, HasMade, Advances, AdvancesOrEnds};
 
 use crate::rounds::events::{beside, make, sweep_first};
+use crate::rounds::parts::{Frames, Part, Steps, Sweeps};
 use crate::rounds::{Phase, Rounds, Unfinished};
 use crate::world::World;
 use std::alloc::{AllocError, Global};
 use x10_model::Event;
-
-/// A part of a turn. Each is a type, and the loop over it a function of its own: one for all parts would be too large to be put
-/// where it is called.
-pub(crate) trait Part {
-    /// Makes the next event of the part, or more of them; none where there is none. Answers how many events these are.
-    fn make_some(rounds: &mut Rounds, world: &mut World, left: u64) -> Result<u64, Unfinished>
-        requires going { world.old.stopped ≢ true }
-        requires some { 1 ≤ left }
-        ensures made { Advances world.old left result world.new };
-}
-
-/// The frames that a turn takes in.
-pub(crate) struct Frames;
-
-/// The steps of a turn, one after another.
-pub(crate) struct Steps;
-
-/// The steps of a turn, all in one go.
-pub(crate) struct Sweeps;
-
-impl Part for Frames {
-    #[inline(always)]
-    fn make_some(rounds: &mut Rounds, world: &mut World, left: u64) -> Result<u64, Unfinished> {
-        rounds.take_next(world, left)
-    }
-}
-
-impl Part for Steps {
-    #[inline(always)]
-    fn make_some(rounds: &mut Rounds, world: &mut World, left: u64) -> Result<u64, Unfinished> {
-        rounds.step_next(world, left)
-    }
-}
-
-impl Part for Sweeps {
-    #[inline(always)]
-    fn make_some(rounds: &mut Rounds, world: &mut World, left: u64) -> Result<u64, Unfinished> {
-        rounds.sweep_next(world, left)
-    }
-}
 
 impl Rounds {
     /// Whether the turn has not begun its steps, and has a frame to take in or a step to make.
@@ -220,7 +181,7 @@ impl Rounds {
 
     /// Takes in the first frame that is in flight to the place whose turn it is. Answers how many events this is.
     #[inline(always)]
-    fn take_next(&mut self, world: &mut World, left: u64) -> Result<u64, Unfinished>
+    pub(crate) fn take_next(&mut self, world: &mut World, left: u64) -> Result<u64, Unfinished>
         requires going { world.old.stopped ≢ true }
         requires some { 1 ≤ left }
         ensures made { Advances world.old left result world.new }
@@ -239,7 +200,7 @@ impl Rounds {
 
     /// Makes the next step of a turn, or a stretch of them. Answers how many events these are.
     #[inline(always)]
-    fn step_next(&mut self, world: &mut World, left: u64) -> Result<u64, Unfinished>
+    pub(crate) fn step_next(&mut self, world: &mut World, left: u64) -> Result<u64, Unfinished>
         requires going { world.old.stopped ≢ true }
         requires some { 1 ≤ left }
         ensures made { Advances world.old left result world.new }
@@ -254,7 +215,7 @@ impl Rounds {
     /// Makes the steps that are left of a turn, up to one that begins or ends an activity or puts out a frame; where none is left and
     /// the next turn is of the same activities, its steps. Answers how many events these are.
     #[inline(always)]
-    fn sweep_next(&mut self, world: &mut World, left: u64) -> Result<u64, Unfinished>
+    pub(crate) fn sweep_next(&mut self, world: &mut World, left: u64) -> Result<u64, Unfinished>
         requires going { world.old.stopped ≢ true }
         requires some { 1 ≤ left }
         ensures made { Advances world.old left result world.new }
@@ -331,8 +292,23 @@ impl Rounds {
         if world.first_frame(self.place).is_some() {
             return Ok(0);
         }
+        if let Some(key) = self.only_key(world) {
+            let place = self.place;
+            self.watch(world, place);
+            self.phase = Phase::Over;
+            return self.make_event(world, Event::Step(place, key), left);
+        }
         self.begin_steps(world)?;
         self.make_each::<Steps>(world, left)
+    }
+
+    /// The key of the activity that is alone at the place whose turn it is, if that is known without a search.
+    #[inline(always)]
+    fn only_key(&self, world: &World) -> Option<usize> {
+        if world.live(self.place) != 1 {
+            return None;
+        }
+        self.lists.get(usize::from(self.place))?.only()
     }
 
     /// Makes the next event, or more.
