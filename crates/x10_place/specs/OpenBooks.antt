@@ -1,5 +1,5 @@
 -- The books of finishes that are open, the latest before the others if it lies beside them.
-use Rattle.std.specs.Prelude.{◌≡◌, ◌==◌, ℕ, List, ◌∷◌, Option, Some, None, cond, if◌then◌else◌}
+use Rattle.std.specs.Prelude.{◌≡◌, ◌<◌, ◌==◌, ℕ, List, ◌∷◌, Option, Some, None, cond, if◌then◌else◌}
 use Rattle.std.specs.Ordering.{nat_cmp}
 use Rattle.std.specs.BTreeMap.{is_at}
 use Rattle.x10_model.specs.declared.finish.Finish.{Finish}
@@ -39,3 +39,7 @@ pub record IsMergedAt (old : List (ℕ × Kept)) (number from : ℕ) (sent recei
     (new : List (ℕ × Kept)) : Type 0 where
   pub some : (b : Kept) → book_at old number ≡ Some b → MergesAt old number from sent received b new
   pub none : book_at old number ≡ None → new ≡ old
+
+-- no book with a greater number is there
+abbrev pub NoneAbove : ℕ → List (ℕ × Kept) → Type 0
+NoneAbove highest books = (n : ℕ) → highest < n → book_at books n ≡ None

@@ -5,8 +5,8 @@ ghost use Rattle.x10_finish.specs.Books.{Kept, IsOpened};
 ghost use Rattle.x10_place.specs.OpenBooks.{Enters, IsMergedAt, Writes, listed, without};
 ghost use Rattle.x10_place.specs.Stays.{book_at};
 
+use crate::shelf::Shelf;
 use std::alloc::Global;
-use std::collections::BTreeMap;
 use std::marker::Model;
 use x10_finish::Book;
 use x10_kinds::Stop;
@@ -25,7 +25,7 @@ pub(crate) struct Numbered {
 pub(crate) struct Books {
     alloc: Global,
     latest: Option<Numbered>,
-    others: BTreeMap<u32, Book>,
+    others: Shelf,
     /// Books of finishes that ended: one that opens takes one of these, so that finishes in a loop ask for no more memory.
     ended: Vec<Book>,
 }
@@ -37,7 +37,7 @@ impl Model for Books {
 
     ghost Value = { List (ℕ × Kept) };
 
-    ghost view = { λ b. listed b.latest b.others.entries };
+    ghost view = { λ b. listed b.latest b.others };
 }
 
 /// The book of a finish that opens: one of those that ended, where there is one. Else there is room for one afterwards.
@@ -56,19 +56,18 @@ fn opened(alloc: Global, ended: &mut Vec<Book>, finish: Finish, places: u16) -> 
 }
 
 /// Puts the latest book among the others. Where memory is refused, nothing has changed.
-fn set_aside(latest: &mut Option<Numbered>, others: &mut BTreeMap<u32, Book>) -> Result<(), Stop>
-    ensures ok { OnOk result ((n : ℕ) → book_at others.new.entries n
-        ≡ book_at (listed latest.old others.old.entries) n) }
+fn set_aside(latest: &mut Option<Numbered>, others: &mut Shelf) -> Result<(), Stop>
+    ensures ok { OnOk result ((n : ℕ) → book_at others.new n
+        ≡ book_at (listed latest.old others.old) n) }
     ensures err { IfErr result (λ why. (why ≡ stop.Memory) × (latest.new ≡ latest.old)
-        × (others.new.entries ≡ others.old.entries)) }
+        × (others.new ≡ others.old)) }
 {
     let Some(Numbered { number, book }) = latest.take() else {
         return Ok(());
     };
     match others.insert(number, book) {
-        Ok(_) => Ok(()),
-        Err(failed) => {
-            let (number, book) = failed.value;
+        Ok(()) => Ok(()),
+        Err(book) => {
             *latest = Some(Numbered { number, book });
             Err(Stop::Memory)
         }
@@ -102,7 +101,7 @@ impl Books {
         Books {
             alloc,
             latest: None,
-            others: BTreeMap::new(alloc),
+            others: Shelf::new(alloc),
             ended: Vec::new(alloc),
         }
     }
@@ -115,7 +114,7 @@ impl Books {
     {
         match &self.latest {
             Some(latest) if latest.number == number => Some(&latest.book),
-            _ => self.others.get(&number),
+            _ => self.others.get(number),
         }
     }
 
@@ -146,10 +145,7 @@ impl Books {
                 return;
             }
         }
-        let Some(book) = self.others.get_mut(&number) else {
-            return;
-        };
-        book.merge_counts(from, sent, received);
+        self.others.merge(number, from, sent, received);
     }
 
     /// Takes the book of a finish that has ended away. Asks for no memory: where there is no room to keep it for the next finish,
@@ -158,7 +154,7 @@ impl Books {
         ensures { Writes self.old number None self.new }
     {
         let latest = taken(&mut self.latest, number);
-        let other = self.others.remove(&number);
+        let other = self.others.remove(number);
         if let Some(book) = latest.or(other) {
             keep(&mut self.ended, book);
         }

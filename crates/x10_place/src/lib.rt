@@ -20,6 +20,7 @@ mod resuming;
 mod route;
 mod sending;
 mod sent;
+mod shelf;
 mod site;
 mod starting;
 mod stay;
