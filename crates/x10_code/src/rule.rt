@@ -61,61 +61,56 @@ pub struct Rule {
     pub outcome: Outcome,
 }
 
-/// The row of an instruction: what the verifier goes by, and so what those who explain its answer go by. Constant time.
+const INT: Option<Kind> = Some(Kind::Int);
+
+const TEXT: Option<Kind> = Some(Kind::Text);
+
+const RAIL: Option<Kind> = Some(Kind::Rail);
+
+const PLACE: Option<Kind> = Some(Kind::Place);
+
+/// The row of an instruction: what the verifier goes by, and so what those who explain its answer go by. Rows come in order of
+/// the registers whose kinds they ask for. Constant time.
 pub fn rule_of(instr: Instr) -> Rule
     requires { NamesSmall instr }
     ensures value { result ≡ rule_for instr.op instr }
 {
-    const INT: Option<Kind> = Some(Kind::Int);
-    const TEXT: Option<Kind> = Some(Kind::Text);
-    const RAIL: Option<Kind> = Some(Kind::Rail);
-    const PLACE: Option<Kind> = Some(Kind::Place);
     match instr.op {
-        // numbers
-        Op::Intk => asks(None, None, None, sets(Kind::Int)),
-        Op::Add | Op::Sub | Op::Mul | Op::Div | Op::Rem | Op::Lt | Op::Eq => {
-            asks(None, INT, INT, sets(Kind::Int))
-        }
-        // control
-        Op::Move => asks(None, None, None, Outcome::Copies),
-        Op::Jmp | Op::Loop | Op::Endl => asks(None, None, None, keeps()),
-        Op::Jz => asks(INT, None, None, keeps()),
-        Op::Call => asks(None, None, None, Outcome::Calls(Term::Here)),
-        Op::Ret => asks(None, None, None, Outcome::Returns),
-        // text
+        Op::Intk | Op::Count => asks(None, None, None, sets(Kind::Int)),
         Op::Textk => asks(None, None, None, sets(Kind::Text)),
-        Op::Tlen => asks(None, TEXT, None, sets(Kind::Int)),
-        Op::Tcat => asks(None, TEXT, TEXT, sets(Kind::Text)),
-        // objects
+        Op::Null => asks(None, None, None, sets(Kind::Opt(instr.x as u16))),
+        Op::Here => asks(None, None, None, sets_place(Term::Here)),
+        Op::Placek => asks(None, None, None, sets_place(Term::Place(instr.x as u16))),
+        Op::Jmp | Op::Loop | Op::Endl => asks(None, None, None, keeps()),
+        Op::Finb | Op::Fine | Op::Atomb | Op::Atome => asks(None, None, None, keeps()),
+        Op::Move => asks(None, None, None, Outcome::Copies),
+        Op::Call => asks(None, None, None, Outcome::Calls(Term::Here)),
+        Op::At => asks(None, None, None, Outcome::Calls(Term::Reg(instr.c))),
+        Op::Ret => asks(None, None, None, Outcome::Returns),
+        Op::Async => asks(None, None, None, Outcome::Starts(Term::Here)),
+        Op::Ata => asks(None, None, None, Outcome::Starts(Term::Reg(instr.c))),
         Op::New => asks(None, None, None, Outcome::Makes),
         Op::Get => asks(None, None, None, Outcome::Gets),
         Op::Put => asks(None, None, None, Outcome::Puts),
-        Op::Null => asks(None, None, None, sets(Kind::Opt(instr.x as u16))),
         Op::Ifobj => asks(None, None, None, Outcome::Unwraps),
-        // rails
-        Op::Rail => asks(None, INT, None, sets(Kind::Rail)),
-        Op::Rget => asks(None, RAIL, INT, sets(Kind::Int)),
-        Op::Rset => asks(RAIL, INT, INT, keeps()),
-        Op::Rlen => asks(None, RAIL, None, sets(Kind::Int)),
-        // places
-        Op::Here => asks(None, None, None, sets_place(Term::Here)),
-        Op::Placek => asks(None, None, None, sets_place(Term::Place(instr.x as u16))),
-        Op::Placen => asks(None, INT, None, sets(Kind::Place)),
-        Op::Placei => asks(None, PLACE, None, sets(Kind::Int)),
-        Op::Nextp => asks(None, PLACE, None, sets(Kind::Place)),
-        Op::Count => asks(None, None, None, sets(Kind::Int)),
         Op::Home => asks(None, None, None, Outcome::Locates),
         Op::Gnew => asks(None, None, None, Outcome::Exports),
         Op::Gopen => asks(None, None, None, Outcome::Opens),
         Op::Ifhere => asks(None, None, None, Outcome::FindsHere),
         Op::Ifsame => asks(None, None, None, Outcome::FindsSame),
-        // activities
-        Op::Async => asks(None, None, None, Outcome::Starts(Term::Here)),
-        Op::At => asks(None, None, None, Outcome::Calls(Term::Reg(instr.c))),
-        Op::Ata => asks(None, None, None, Outcome::Starts(Term::Reg(instr.c))),
-        Op::Finb | Op::Fine | Op::Atomb | Op::Atome => asks(None, None, None, keeps()),
-        // output
         Op::Print => asks(None, None, None, Outcome::Prints),
+        Op::Jz => asks(INT, None, None, keeps()),
+        Op::Placen => asks(None, INT, None, sets(Kind::Place)),
+        Op::Rail => asks(None, INT, None, sets(Kind::Rail)),
+        Op::Tlen => asks(None, TEXT, None, sets(Kind::Int)),
+        Op::Rlen => asks(None, RAIL, None, sets(Kind::Int)),
+        Op::Placei => asks(None, PLACE, None, sets(Kind::Int)),
+        Op::Nextp => asks(None, PLACE, None, sets(Kind::Place)),
+        Op::Add | Op::Sub | Op::Mul | Op::Div | Op::Rem => asks(None, INT, INT, sets(Kind::Int)),
+        Op::Lt | Op::Eq => asks(None, INT, INT, sets(Kind::Int)),
+        Op::Tcat => asks(None, TEXT, TEXT, sets(Kind::Text)),
+        Op::Rget => asks(None, RAIL, INT, sets(Kind::Int)),
+        Op::Rset => asks(RAIL, INT, INT, keeps()),
     }
 }
 
