@@ -11,10 +11,13 @@ mod table;
 mod verify;
 
 pub use table::CAUSES;
+use table::TEXTS;
 
 /// What the page says of a cause, as it is printed, with its line ends; capitals and small letters are the same. Where several
 /// parts of the page have a cause of this name, what each says.
 pub fn section(cause: &str) -> Option<&'static str> {
-    let name = CAUSES.iter().find(|name| name.eq_ignore_ascii_case(cause))?;
-    table::text_of(name)
+    let at = CAUSES
+        .iter()
+        .position(|name| name.eq_ignore_ascii_case(cause))?;
+    Some(TEXTS[at])
 }
