@@ -17,10 +17,10 @@ use Rattle.x10_model.specs.Values.{Value, Int, Place, Text, Rail, Object, Null, 
 use Rattle.x10_model.specs.Signatures.{FitSlots}
 use Rattle.x10_model.specs.Copies.{Snapshot, Captures}
 use Rattle.x10_model.specs.Places as places
-use Rattle.x10_model.specs.Places.{Setting, CallFrame, Origin, Stay, Export, Message, Spawn, Shift, Back, innermost, Effect, Waits, Works, Begins, Spawns, Shifts, Opens, Closes, Ends, with_stay, goes, next, writes}
+use Rattle.x10_model.specs.Places.{Setting, CallFrame, Origin, Stay, Export, Message, Spawn, Shift, Back, innermost, Effect, Waits, Works, Begins, Spawns, Shifts, Opens, Ends, with_stay, goes, next, writes}
 use Rattle.x10_model.specs.Moves.{Situation, Holds, Passes, GivesBack, SendsBack, Returns, as_list, resumed, with_cell, MakesRail, SetsByte, Does}
 use Rattle.x10_model.specs.Results.{place_of, line_of, index_of}
-use Rattle.x10_model.specs.Wrong.{Want, AnInt, APlace, AText, ARail, AnObject, AReference, AnIntOrText, AnObjectOrNull, APlaceOrReference, Meets, asked, IsTarget, IsDetached, IsFieldOwner, IsWrongAt, operand, argument, result_dropped, no_field, put_field, away, no_export, finish_open, no_call, no_finish}
+use Rattle.x10_model.specs.Wrong.{Want, AnInt, APlace, AText, ARail, AnObject, AReference, AnIntOrText, AnObjectOrNull, APlaceOrReference, Meets, asked, IsTarget, IsDetached, IsFieldOwner, IsWrongAt, operand, argument, result_dropped, no_field, put_field, away, no_export, finish_open, no_call}
 use Rattle.x10_model.specs.Laws.{IsSent, HasRoom}
 use Rattle.x10_model.proofs.Found.{Met}
 use Rattle.x10_model.proofs.Decided.{and_then, get_below, met_or_not, slots_or_not, kind_or_not}
@@ -244,11 +244,6 @@ returns_to s room v (caller ∷ callers) e g cs = ends_call s v caller callers (
 
 -- ---- objects
 
-pub get_field : (s : Situation) (r class : ℕ) (fields : List Value) (v : Option Value) → s.instr.op ≡ op.Get → Holds s s.instr.b (Object r)
-    → s.place.cells r ≡ Some (Fields class fields) → slice_get fields s.instr.c ≡ v → Result op.Get s
-get_field s r class fields None e h c f = inr (no_field r class fields (subst (λ o. IsFieldOwner s o r) (sym e) h) c f)
-get_field s r class fields (Some v) e h c f = inl (on s (put s v), Works, (r, class, fields, v, h, c, f, (refl, refl)))
-
 pub put_kind : (s : Situation) (r class : ℕ) (fields : List Value) (v : Value) (kinds : List Kind) (kind : Option Kind) → s.instr.op ≡ op.Put
     → Holds s s.instr.a (Object r) → s.place.cells r ≡ Some (Fields class fields) → Holds s s.instr.b v
     → s.instr.c < length fields → slice_get s.setting.program.classes class ≡ Some kinds → slice_get kinds s.instr.c ≡ kind → Result op.Put s
@@ -325,12 +320,4 @@ sets_byte s r bytes z w (Some byte) = (
       (next s.stay.top),
   Works,
   (refl, refl),
-)
-
-pub leaves : (s : Situation) (finishes : List ℕ) → s.instr.op ≡ op.Fine → s.stay.finishes ≡ finishes → Result op.Fine s
-leaves s [] e f = inr (no_finish e f)
-leaves s (n ∷ ns) e f = inl (
-  with_stay s.place s.key (Some (record s.stay { top = next s.stay.top; finishes = ns })),
-  Closes n,
-  (n, ns, f, inr (refl, refl)),
 )

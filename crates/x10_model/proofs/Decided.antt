@@ -32,6 +32,11 @@ get_below [] i lt = absurd (omega arith)
 get_below (x ∷ xs) zero lt = (x, refl)
 get_below (x ∷ xs) (suc i) lt = get_below xs i (omega arith)
 
+-- a list has a first element, or is empty
+pub empty_or_not : {X : Type 0} (xs : List X) → ((x : X) × (rest : List X) × (xs ≡ x ∷ rest)) ⊎ (xs ≡ [])
+empty_or_not [] = inr refl
+empty_or_not (x ∷ xs) = inl (x, xs, refl)
+
 -- ---- cells
 
 rail_cell : (o : Option Cell) → ((bytes : List ℕ) × (o ≡ Some (Bytes bytes))) ⊎ ((bytes : List ℕ) × (o ≡ Some (Bytes bytes)) → ⊥)

@@ -3,6 +3,7 @@
 -- of two, a new one of them needs no line.
 use Rattle.std.proofs.Common.{◌≡◌, ℕ, ◌<◌, List, [], ◌∷◌, length, Option, Some, None, refl, sym, ap, subst, ◌∙◌, inl, inr, pos, ◌+◌, ◌-◌, ◌%◌, true, false, ◌==◌, ◌++◌}
 use Rattle.std.specs.Prelude.{slice_get, nat_lt, ◌==◌, if◌then◌else◌}
+use Rattle.std.proofs.lemmas.Option.{slice_get_cases}
 use Rattle.x10_kinds.specs.declared.kind.Kind.{Kind}
 use Rattle.x10_code.specs.declared.op.Op.{Op}
 use Rattle.x10_code.specs.declared.op.Op.TheVariants as op
@@ -15,13 +16,13 @@ use Rattle.x10_model.specs.Places as places
 use Rattle.x10_model.specs.Places.{Setting, Stay, CallFrame, Effect, Origin, Export, Message, Spawn, Shift, Back, innermost, Waits, Works, Begins, Spawns, Shifts, Opens, Closes, Ends, with_stay, goes, next, writes}
 use Rattle.x10_model.specs.Moves.{Situation, Passes, Does, entry_frame, new_stay, writes_or_goes, next_or_goes, with_line, with_cell}
 use Rattle.x10_model.specs.Results.{is_zero, quotient, remainder, joined_text, rail_length, byte_at, byte_value, place_number}
-use Rattle.x10_model.specs.Wrong.{AnIntOrText, asked, IsTarget, IsDetached, IsFieldOwner, new_field, result, Anything, AnObjectOrNull}
+use Rattle.x10_model.specs.Wrong.{AnIntOrText, asked, IsTarget, IsDetached, IsFieldOwner, new_field, no_field, no_finish, result, Anything, AnObjectOrNull}
 use Rattle.x10_model.proofs.Lists.{none_some, below_some}
 use Rattle.std.specs.Bool.{if◌then◌else◌}
 use Rattle.x10_model.specs.Laws.{HasRoom}
-use Rattle.x10_model.proofs.Decided.{and_then, get_below, kinds_or_not, gives_or_not}
+use Rattle.x10_model.proofs.Decided.{and_then, empty_or_not, get_below, kinds_or_not, gives_or_not}
 use Rattle.x10_model.proofs.Found.{AllMet, placed, printed, Passed, passed_at, held_place, held_object, same_object}
-use Rattle.x10_model.proofs.Able.{Result, ask, ask_int, ask_place, ask_text, ask_rail, ask_object, ask_ref, ask_placed, is_line, is_object_or_null, holds, on_at, on, put, x_there, called, detached, captured, returns_to, get_field, put_value, opened, makes_rail, sets_byte, leaves}
+use Rattle.x10_model.proofs.Able.{Result, ask, ask_int, ask_place, ask_text, ask_rail, ask_object, ask_ref, ask_placed, is_line, is_object_or_null, holds, on_at, on, put, x_there, called, detached, captured, returns_to, put_value, opened, makes_rail, sets_byte}
 use Rattle.x10_model.proofs.Ways.{Way, passes, jumps, begins_loop, calls, begins, shifts, spawns, opens, to, exporting, changing, goes_on, marked, written, went, jumped, turned, made, set, returned, left}
 
 -- ---- a move found what its operation asks for
@@ -156,8 +157,10 @@ step op.New s e range room = let kinds = get_below s.setting.program.classes s.i
       | inr never ↦ inr (new_field e (λ vs held fit. never vs held
           (subst (λ (g : Option (List Kind)). AreOfKinds (IsOfKind s.place.cells) vs (fields_of g)) kinds.1 fit)))
     ]
-step op.Get s e range room = and_then (ask_object op.Get s e s.instr.b (0, refl))
-    (λ h. get_field s h.0 h.1 h.2 (slice_get h.2 s.instr.c) e h.3 h.4 refl)
+step op.Get s e range room = and_then (ask_object op.Get s e s.instr.b (0, refl)) (λ h. elim (slice_get_cases h.2 s.instr.c).1 [
+  | inl v ↦ inl (on s (put s v.0), Works, (h.0, h.1, h.2, v.0, h.3, h.4, v.2, (refl, refl)))
+  | inr none ↦ inr (no_field h.0 h.1 h.2 (subst (λ o. IsFieldOwner s o h.0) (sym e) h.3) h.4 none.1)
+])
 step op.Put s e range room = and_then (ask_object op.Put s e s.instr.a (0, refl)) (λ h. and_then (ask op.Put s e s.instr.b Anything (1, refl)) (λ v.
     put_value s h.0 h.1 h.2 v.0 (slice_get h.2 s.instr.c) e h.3 h.4 v.1 refl))
 step op.Null s e range room = inl (on s (put s Null), Works, (refl, refl))
@@ -231,7 +234,14 @@ step op.Finb s e range room = inl (
   Opens s.place.opened (innermost s.here s.stay),
   (refl, refl),
 )
-step op.Fine s e range room = leaves s s.stay.finishes e refl
+step op.Fine s e range room = elim (empty_or_not s.stay.finishes) [
+  | inl f ↦ inl (
+    with_stay s.place s.key (Some (record s.stay { top = next s.stay.top; finishes = f.1 })),
+    Closes f.0,
+    (f.0, f.1, f.2, inr (refl, refl)),
+  )
+  | inr none ↦ inr (no_finish e none)
+]
 step op.Atomb s e range room = inl (_, Works, (refl, refl))
 step op.Atome s e range room = inl (_, Works, (refl, refl))
 -- output
