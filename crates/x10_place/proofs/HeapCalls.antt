@@ -1,6 +1,6 @@
 -- What calls of the heap give is what operations of a call frame do.
 use Rattle.std.proofs.Common.{◌≡◌, ℕ, ℤ, ◌+◌, ◌<◌, ◌≤◌, ◌^◌, List, ◌++◌, length, Option, Some, None, Result, Ok, Err, refl, sym, ap, ap₂, subst, ◌∙◌}
-use Rattle.std.specs.Prelude.{◌-◌, IsSome, slice_get, slice_set}
+use Rattle.std.specs.Prelude.{◌-◌, IsSome, slice_get, slice_set, Bool, true, false, if◌then◌else◌}
 use Rattle.std.proofs.lemmas.Bool.{le-leb, lt-leb}
 use Rattle.x10_kinds.specs.declared.limit.Limit.{Limit}
 use Rattle.x10_kinds.specs.declared.limit.Limit.TheVariants as limits
@@ -34,23 +34,24 @@ module _ (program : Module) (l : Local) (is : l ≡ local.SetByte) (words : List
   bytes_at = ap (λ n. slice_get heap.rails n) rail_is ∙ bytes_there.1
 
   -- there is no such byte
-  pub byte_kept : (pc : ℕ) (loops : List ℕ) → ((bytes : List ℕ) → slice_get heap.rails rail ≡ Some bytes
-      → (byte_at bytes index ≡ None) × (new ≡ heap)) → Acts l program (workspace pc words loops heap) i (workspace i.x words loops new)
-  byte_kept pc loops h =
+  byte_kept : (pc q : ℕ) (loops : List ℕ) → q ≡ i.x
+      → ((bytes : List ℕ) → slice_get heap.rails rail ≡ Some bytes → (byte_at bytes index ≡ None) × (new ≡ heap))
+      → Acts l program (workspace pc words loops heap) i (workspace q words loops new)
+  byte_kept pc q loops next h =
       let none = h bytes_there.0 bytes_at in
       let at : byte_at bytes_there.0 (int_at words i.b) ≡ None = ap (λ z. byte_at bytes_there.0 z) (sym index_is) ∙ none.0 in
-      subst (λ k. Acts k program (workspace pc words loops heap) i (workspace i.x words loops new)) (sym is) (
+      subst (λ k. Acts k program (workspace pc words loops heap) i (workspace q words loops new)) (sym is) (
         bytes_there.0,
         bytes_there.1,
-        subst (λ o. SetsByte o bytes_there.0 (workspace pc words loops heap) i (workspace i.x words loops new)) (sym at)
-            (record { pc_is = refl; words_are = refl; loops_are = refl; heap_is = none.1 }),
+        subst (λ o. SetsByte o bytes_there.0 (workspace pc words loops heap) i (workspace q words loops new)) (sym at)
+            (record { pc_is = next; words_are = refl; loops_are = refl; heap_is = none.1 }),
       )
 
   some_byte : (o : Option ℕ) → IsSome o → (byte : ℕ) × (o ≡ Some byte)
   some_byte (Some byte) h = (byte, refl)
   some_byte None h = absurd cc
 
-  pub byte_written : (pc q : ℕ) (loops : List ℕ) → q ≡ pc + 1
+  byte_written : (pc q : ℕ) (loops : List ℕ) → q ≡ pc + 1
       → ((bytes : List ℕ) → slice_get heap.rails rail ≡ Some bytes → IsSome (byte_at bytes index) × (new ≡ byte_set heap rail bytes index number))
       → Acts l program (workspace pc words loops heap) i (workspace q words loops new)
   byte_written pc q loops next h =
@@ -67,18 +68,27 @@ module _ (program : Module) (l : Local) (is : l ≡ local.SetByte) (words : List
             (record { pc_is = next; words_are = refl; loops_are = refl; heap_is = heap_is }),
       )
 
+  -- the byte is written where there is one, and else the next instruction is x
+  pub byte_tried : (pc q : ℕ) (loops : List ℕ) (done : Bool) → q ≡ (if done then pc + 1 else i.x)
+      → (done ≡ true → (bytes : List ℕ) → slice_get heap.rails rail ≡ Some bytes
+      → IsSome (byte_at bytes index) × (new ≡ byte_set heap rail bytes index number))
+      → (done ≡ false → (bytes : List ℕ) → slice_get heap.rails rail ≡ Some bytes → (byte_at bytes index ≡ None) × (new ≡ heap))
+      → Acts l program (workspace pc words loops heap) i (workspace q words loops new)
+  byte_tried pc q loops true next some none = byte_written pc q loops next (some refl)
+  byte_tried pc q loops false next some none = byte_kept pc q loops next (none refl)
+
 -- ---- global references
 
 -- the object that a reference names
-pub opens : (program : Module) (l : Local) (pc : ℕ) (words loops : List ℕ) (heap : HeapState) (i : Instr) (reference word a : ℕ) → l ≡ local.Open
-    → Reads l heap words i → reference ≡ word_at words i.b → a ≡ i.a
+pub opens : (program : Module) (l : Local) (pc q : ℕ) (words after loops : List ℕ) (heap : HeapState) (i : Instr) (reference word : ℕ)
+    → l ≡ local.Open → Reads l heap words i → reference ≡ word_at words i.b → q ≡ pc + 1 → after ≡ slice_set words i.a word
     → ((e : Export) → slice_get heap.exports (id_of reference) ≡ Some e → word ≡ e.object + 1)
-    → Acts l program (workspace pc words loops heap) i (workspace (pc + 1) (slice_set words a word) loops heap)
-opens program l pc words loops heap i reference word a is reads reference_is a_is names =
+    → Acts l program (workspace pc words loops heap) i (workspace q after loops heap)
+opens program l pc q words after loops heap i reference word is reads reference_is next after_is names =
     let e = get_below heap.exports (id_of (word_at words i.b)) (subst (λ k. Reads k heap words i) is reads) in
     let word_is = names e.0 (ap (λ n. slice_get heap.exports (id_of n)) reference_is ∙ e.1) in
-    subst (λ k. Acts k program (workspace pc words loops heap) i (workspace (pc + 1) (slice_set words a word) loops heap)) (sym is)
-    (e.0, e.1, record { pc_is = refl; words_are = ap₂ (λ r w. slice_set words r w) a_is word_is; loops_are = refl; heap_is = refl })
+    subst (λ k. Acts k program (workspace pc words loops heap) i (workspace q after loops heap)) (sym is)
+    (e.0, e.1, record { pc_is = next; words_are = after_is ∙ ap (slice_set words i.a) word_is; loops_are = refl; heap_is = refl })
 
 -- a reference is made
 pub exports : (f g : CallFrame) (heap new : HeapState) (here id r w : ℕ) (i : Instr) → NamesObject heap f.registers.items i.b

@@ -1,5 +1,5 @@
 -- Operations as a step tells them apart.
-use Rattle.std.specs.Prelude.{true, false}
+use Rattle.std.specs.Prelude.{true, false, Option, Some, None}
 use Rattle.x10_code.specs.declared.op.Op.{Op}
 use Rattle.x10_code.specs.declared.op.Op.TheVariants as op
 use Rattle.x10_place.specs.declared.outcome.Deed.{Deed}
@@ -8,6 +8,7 @@ use Rattle.x10_place.specs.declared.outcome.Departure.{Departure}
 use Rattle.x10_place.specs.declared.outcome.Departure.TheVariants as departure
 use Rattle.x10_place.specs.declared.route.Route.{Route}
 use Rattle.x10_place.specs.declared.route.Route.TheVariants as route
+use Rattle.x10_place.specs.declared.route.Local.{Local}
 use Rattle.x10_place.specs.declared.route.Local.TheVariants as local
 use Rattle.x10_place.specs.declared.route.Partial.TheVariants as partial
 use Rattle.x10_place.specs.declared.route.Number.TheVariants as number
@@ -61,6 +62,11 @@ route_of op.Finb = route.OpenFinish
 route_of op.Fine = route.CloseFinish
 route_of op.Atomb = route.Region true
 route_of op.Atome = route.Region false
+
+-- what an operation of one call frame does; none for another route
+abbrev pub local_part : Route → Option Local
+local_part (route.Local l) = Some l
+local_part _ = None
 
 -- the operation by which an activity goes to a place
 abbrev pub op_going : Departure → Op

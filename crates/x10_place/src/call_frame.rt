@@ -1,5 +1,5 @@
 //! Call frames: a function that is being executed, and what an instruction does to it.
-ghost use Rattle.std.specs.Prelude.{◌≡◌, ◌≢◌, ◌+◌, ◌<◌, ◌≤◌, ◌^◌, ℕ, OnErr, IfOk, IfNone, IfSome, Some, [], length, replicate, slice_index};
+ghost use Rattle.std.specs.Prelude.{◌≡◌, ◌≢◌, ◌+◌, ◌<◌, ◌≤◌, ◌^◌, ℕ, OnErr, IfOk, IfNone, IfSome, Some, [], length, replicate, slice_index, slice_set, if◌then◌else◌};
 ghost use Rattle.std.specs.Int.{w64, cast_signed};
 ghost use Rattle.x10_code.specs.declared.op.Op.TheVariants as op;
 ghost use Rattle.x10_model.specs.Results as machine;
@@ -116,6 +116,28 @@ fn attempt(registers: &[u64], heap: &Heap, partial: Partial, instr: Instr) -> Op
     }
 }
 
+/// Writes a word to a register: the number of the instruction after the one at `pc`.
+#[inline(always)]
+fn write(word: u64, registers: &mut [u64], register: u8, pc: u16) -> u16
+    requires there { register < length registers.old }
+    requires next { pc + 1 < 2 ^ 16 }
+    ensures next { result ≡ pc + 1 }
+    ensures written { registers.new ≡ slice_set registers.old register word }
+{
+    registers[usize::from(register)] = word;
+    pc + 1
+}
+
+/// The number of the instruction after the one at `pc` where something holds, else x.
+#[inline(always)]
+fn next_if(holds: bool, pc: u16, instr: Instr) -> u16
+    requires next { pc + 1 < 2 ^ 16 }
+    requires x { instr.x < 2 ^ 16 }
+    ensures { result ≡ (if holds then pc + 1 else instr.x) }
+{
+    if holds { pc + 1 } else { instr.x as u16 }
+}
+
 /// An operation of one call frame, which stands at an instruction: the number of the next one.
 #[inline(always)]
 fn act(
@@ -133,96 +155,44 @@ fn act(
     ensures { Acts local verified.now.program (workspace pc registers.old loops.old heap.old)
         instr (workspace result registers.new loops.new heap.new) }
 {
+    let (a, b) = (usize::from(instr.a), usize::from(instr.b));
     match local {
         Local::Number(function) => {
-            registers[usize::from(instr.a)] = number(
-                registers, heap, verified, function, instr,
-            ).cast_unsigned();
-            pc + 1
+            let number = number(registers, heap, verified, function, instr);
+            write(number.cast_unsigned(), registers, instr.a, pc)
         }
-        Local::Partial(partial) => {
-            let Some(number) = attempt(registers, heap, partial, instr) else {
-                return instr.x as u16;
-            };
-            registers[usize::from(instr.a)] = number.cast_unsigned();
-            pc + 1
-        }
-        Local::Copy => {
-            registers[usize::from(instr.a)] = registers[usize::from(instr.b)];
-            pc + 1
-        }
-        Local::Null => {
-            registers[usize::from(instr.a)] = 0;
-            pc + 1
-        }
-        Local::NotNull => {
-            let word = registers[usize::from(instr.b)];
-            if word == 0 {
-                return instr.x as u16;
-            }
-            registers[usize::from(instr.a)] = word;
-            pc + 1
-        }
-        Local::GetField => {
-            let word = field(heap, registers[usize::from(instr.b)], instr.c);
-            registers[usize::from(instr.a)] = word;
-            pc + 1
-        }
+        Local::Partial(partial) => match attempt(registers, heap, partial, instr) {
+            Some(number) => write(number.cast_unsigned(), registers, instr.a, pc),
+            None => instr.x as u16,
+        },
+        Local::Copy => write(registers[b], registers, instr.a, pc),
+        Local::Null => write(0, registers, instr.a, pc),
+        Local::NotNull => match registers[b] {
+            0 => instr.x as u16,
+            word => write(word, registers, instr.a, pc),
+        },
+        Local::GetField => write(field(heap, registers[b], instr.c), registers, instr.a, pc),
         Local::SetField => {
-            let (object, word) = (
-                registers[usize::from(instr.a)],
-                registers[usize::from(instr.b)],
-            );
-            set_field(heap, object, instr.c, word);
+            set_field(heap, registers[a], instr.c, registers[b]);
             pc + 1
         }
         Local::SetByte => {
-            let rail = registers[usize::from(instr.a)];
             let (index, number) = (int(registers, instr.b), int(registers, instr.c));
-            if !set_rail_byte(heap, rail, index, number) {
-                return instr.x as u16;
-            }
-            pc + 1
+            next_if(set_rail_byte(heap, registers[a], index, number), pc, instr)
         }
-        Local::Place => {
-            registers[usize::from(instr.a)] = u64::from(instr.x);
-            pc + 1
-        }
-        Local::Home => {
-            registers[usize::from(instr.a)] = u64::from(home_in(registers[usize::from(instr.b)]));
-            pc + 1
-        }
-        Local::Open => {
-            let word = object_of(heap, registers[usize::from(instr.b)]);
-            registers[usize::from(instr.a)] = word;
-            pc + 1
-        }
-        Local::SamePlace => {
-            let (one, other) = (
-                registers[usize::from(instr.a)],
-                registers[usize::from(instr.b)],
-            );
-            if home_in(one) == home_in(other) {
-                pc + 1
-            } else {
-                instr.x as u16
-            }
-        }
+        Local::Place => write(u64::from(instr.x), registers, instr.a, pc),
+        Local::Home => write(u64::from(home_in(registers[b])), registers, instr.a, pc),
+        Local::Open => write(object_of(heap, registers[b]), registers, instr.a, pc),
+        Local::SamePlace => next_if(home_in(registers[a]) == home_in(registers[b]), pc, instr),
         Local::Jump => instr.x as u16,
-        Local::JumpIfZero => {
-            if int(registers, instr.a) == 0 {
-                return instr.x as u16;
-            }
-            pc + 1
-        }
+        Local::JumpIfZero => next_if(int(registers, instr.a) != 0, pc, instr),
         Local::Loop => {
-            loops[usize::from(instr.a)] = instr.x;
+            loops[a] = instr.x;
             pc + 1
         }
         Local::EndLoop => {
-            let left = loops[usize::from(instr.a)].saturating_sub(1);
-            loops[usize::from(instr.a)] = left;
-            if 0 < left { instr.x as u16 } else { pc + 1 }
+            loops[a] = loops[a].saturating_sub(1);
+            if 0 < loops[a] { instr.x as u16 } else { pc + 1 }
         }
     }
 }

@@ -1,6 +1,6 @@
 //! Operations, as a step distinguishes them.
 ghost use Rattle.std.specs.Prelude.{◌≡◌};
-ghost use Rattle.x10_place.specs.Routes.{route_of};
+ghost use Rattle.x10_place.specs.Routes.{route_of, local_part};
 
 use x10_code::Op;
 
@@ -117,51 +117,64 @@ pub(crate) enum Route {
     Ata,
 }
 
+/// What an operation does that changes its own call frame, a field of an object or a byte of a rail; none for another one.
+#[inline(always)]
+fn local_of(op: Op) -> Option<Local>
+    ensures { result ≡ local_part (route_of op) }
+{
+    Some(match op {
+        Op::Intk => Local::Number(Number::Constant),
+        Op::Add => Local::Number(Number::Sum),
+        Op::Sub => Local::Number(Number::Difference),
+        Op::Mul => Local::Number(Number::Product),
+        Op::Div => Local::Partial(Partial::Quotient),
+        Op::Rem => Local::Partial(Partial::Remainder),
+        Op::Lt => Local::Number(Number::Less),
+        Op::Eq => Local::Number(Number::Equal),
+        Op::Move => Local::Copy,
+        Op::Jmp => Local::Jump,
+        Op::Jz => Local::JumpIfZero,
+        Op::Loop => Local::Loop,
+        Op::Endl => Local::EndLoop,
+        Op::Tlen => Local::Number(Number::TextLength),
+        Op::Get => Local::GetField,
+        Op::Put => Local::SetField,
+        Op::Null => Local::Null,
+        Op::Ifobj => Local::NotNull,
+        Op::Rget => Local::Partial(Partial::Byte),
+        Op::Rset => Local::SetByte,
+        Op::Rlen => Local::Number(Number::RailLength),
+        Op::Placek => Local::Place,
+        Op::Placei => Local::Number(Number::PlaceNumber),
+        Op::Home => Local::Home,
+        Op::Gopen => Local::Open,
+        Op::Ifsame => Local::SamePlace,
+        _ => return None,
+    })
+}
+
 /// What an operation does.
 #[inline(always)]
 pub(crate) fn classify(op: Op) -> Route
     ensures { result ≡ route_of op }
 {
+    if let Some(local) = local_of(op) {
+        return Route::Local(local);
+    }
     match op {
-        Op::Intk => Route::Local(Local::Number(Number::Constant)),
-        Op::Add => Route::Local(Local::Number(Number::Sum)),
-        Op::Sub => Route::Local(Local::Number(Number::Difference)),
-        Op::Mul => Route::Local(Local::Number(Number::Product)),
-        Op::Div => Route::Local(Local::Partial(Partial::Quotient)),
-        Op::Rem => Route::Local(Local::Partial(Partial::Remainder)),
-        Op::Lt => Route::Local(Local::Number(Number::Less)),
-        Op::Eq => Route::Local(Local::Number(Number::Equal)),
-        Op::Move => Route::Local(Local::Copy),
-        Op::Jmp => Route::Local(Local::Jump),
-        Op::Jz => Route::Local(Local::JumpIfZero),
-        Op::Loop => Route::Local(Local::Loop),
-        Op::Endl => Route::Local(Local::EndLoop),
         Op::Call => Route::Call,
         Op::Ret => Route::Return,
         Op::Print => Route::Print,
         Op::Textk => Route::Make(Make::Text),
-        Op::Tlen => Route::Local(Local::Number(Number::TextLength)),
         Op::Tcat => Route::Make(Make::JoinedText),
         Op::New => Route::Make(Make::Object),
-        Op::Get => Route::Local(Local::GetField),
-        Op::Put => Route::Local(Local::SetField),
-        Op::Null => Route::Local(Local::Null),
-        Op::Ifobj => Route::Local(Local::NotNull),
         Op::Rail => Route::Make(Make::Rail),
-        Op::Rget => Route::Local(Local::Partial(Partial::Byte)),
-        Op::Rset => Route::Local(Local::SetByte),
-        Op::Rlen => Route::Local(Local::Number(Number::RailLength)),
         Op::Here => Route::Site(Site::Here),
-        Op::Placek => Route::Local(Local::Place),
         Op::Placen => Route::Site(Site::Numbered),
-        Op::Placei => Route::Local(Local::Number(Number::PlaceNumber)),
         Op::Nextp => Route::Site(Site::Next),
         Op::Count => Route::Site(Site::Count),
-        Op::Home => Route::Local(Local::Home),
         Op::Gnew => Route::Export,
-        Op::Gopen => Route::Local(Local::Open),
         Op::Ifhere => Route::Site(Site::IsHere),
-        Op::Ifsame => Route::Local(Local::SamePlace),
         Op::Async => Route::Async,
         Op::Finb => Route::OpenFinish,
         Op::Fine => Route::CloseFinish,
@@ -169,5 +182,6 @@ pub(crate) fn classify(op: Op) -> Route
         Op::Ata => Route::Ata,
         Op::Atomb => Route::Region(true),
         Op::Atome => Route::Region(false),
+        _ => unreachable!(),
     }
 }
