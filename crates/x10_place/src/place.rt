@@ -22,6 +22,7 @@ use std::alloc::{AllocError, Global};
 use std::marker::Model;
 use x10_code::Op;
 use x10_copy::Refusal;
+use x10_heap::Heap;
 use x10_kinds::Stop;
 use x10_verify::Verified;
 
@@ -320,6 +321,13 @@ impl<'a> Place<'a> {
         ensures { result.now ≡ self.now.lines }
     {
         &self.ground.store.lines
+    }
+
+    /// What the activities here share. Constant time.
+    pub fn heap(&self) -> &Heap
+        ensures { result.now ≡ self.now.heap }
+    {
+        &self.ground.store.heap
     }
 
     /// Whether the root finish may end: at place 0, whether no activity under it lives here, and as many have come to each

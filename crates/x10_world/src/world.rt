@@ -17,6 +17,7 @@ use crate::places::Places;
 use std::alloc::{AllocError, Global};
 use std::marker::Model;
 use x10_flights::Flights;
+use x10_heap::Heap;
 use x10_kinds::Stop;
 use x10_model::Event;
 use x10_model::limits::MOST_PLACES;
@@ -150,6 +151,15 @@ impl<'a> World<'a> {
     {
         let place = self.places.list().get(usize::from(place))?;
         Some(place.output())
+    }
+
+    /// What the activities of a place share; none where there is no such place. Constant time.
+    pub fn heap(&self, place: u16) -> Option<&Heap>
+        ensures { MatchOption result (HasNoPlace self.now.places place)
+            (λ heap. HasPlace self.now.places place (λ p. heap.now ≡ p.heap)) }
+    {
+        let place = self.places.list().get(usize::from(place))?;
+        Some(place.heap())
     }
 
     /// A copy of the lines of each place. Linear in their bytes.
