@@ -114,10 +114,10 @@ fn of_memory(alloc: Global, task: &Task, bytes: &[u8]) -> Result<String, AllocEr
     let Some(places) = places_in(alloc, task, bytes) else {
         return Ok(String::new(alloc));
     };
-    // two numbers of four bytes for each pair of places
+    // three numbers of four bytes for each pair of places
     let finish = u64::from(places)
         .saturating_mul(u64::from(places))
-        .saturating_mul(8);
+        .saturating_mul(12);
     format!(in alloc;
         "The system gave no memory for what the next event makes. What a place makes it keeps; an open finish takes {finish} bytes here, at {places} places.\n"
     )
