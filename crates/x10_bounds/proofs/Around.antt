@@ -2,11 +2,10 @@
 -- some regions are left and later ones are entered.
 use Rattle.std.proofs.Common.{◌≡◌, ◌⊎◌, ℕ, zero, suc, ◌+◌, ◌<◌, ◌≤◌, Bool, true, false, ◌==◌, ◌&&◌, ◌||◌, List, [], ◌∷◌, ◌++◌, length, Option, Some, None, refl, sym, ap, subst, ◌∙◌, inl, inr, arith}
 use Rattle.std.specs.Prelude.{nat_lt, slice_get}
-use Rattle.x10_code.specs.declared.op.Op.{Op}
-use Rattle.x10_code.specs.declared.op.Op.TheVariants as op
 use Rattle.x10_code.specs.declared.instr.Instr.{Instr}
-use Rattle.x10_model.specs.Structure.{Region, Turning, Waiting, Atomic, opener_of, outside, regions_after, passed, around, is_loop, same_openers, leaves_loops, depth_of}
+use Rattle.x10_model.specs.Structure.{Region, Turning, Waiting, Atomic, opener_of, outside, passed, around, is_loop, same_openers, leaves_loops, depth_of}
 use Rattle.x10_bounds.specs.Spots.{finishes_of, atomics_of, begins_before}
+use Rattle.x10_bounds.proofs.Changes.{Change, change, opens, closes, keeps}
 
 -- each region begins before a bound, and what is around it is what is around its opener
 abbrev pub IsChain : List Instr → ℕ → List Region → Type 0
@@ -21,20 +20,18 @@ outside_chain : (code : List Instr) (bound : ℕ) (rs : List Region) → IsChain
 outside_chain code bound [] c = tt
 outside_chain code bound (r ∷ rs) c = weaker code (opener_of r) bound rs (omega arith) c.2
 
-after_chain : (code : List Instr) (pc : ℕ) (o : Op) (i : Instr) → IsChain code pc (around code pc)
-    → IsChain code (suc pc) (regions_after o pc i (around code pc))
-after_chain code pc op.Loop i c = (omega arith, refl, c)
-after_chain code pc op.Finb i c = (omega arith, refl, c)
-after_chain code pc op.Atomb i c = (omega arith, refl, c)
-after_chain code pc op.Endl i c = weaker code pc (suc pc) (outside (around code pc)) (omega arith) (outside_chain code pc (around code pc) c)
-after_chain code pc op.Fine i c = weaker code pc (suc pc) (outside (around code pc)) (omega arith) (outside_chain code pc (around code pc) c)
-after_chain code pc op.Atome i c = weaker code pc (suc pc) (outside (around code pc)) (omega arith) (outside_chain code pc (around code pc) c)
-after_chain code pc _ i c = weaker code pc (suc pc) (around code pc) (omega arith) c
+after_chain : (code : List Instr) (pc : ℕ) (closed : Option ℕ) (after : List Region) → Change pc (around code pc) closed after
+    → IsChain code pc (around code pc) → IsChain code (suc pc) after
+after_chain code pc None after (opens r o) c =
+    (omega (arith, o), ap (around code) (sym o), subst (λ n. IsChain code n (around code pc)) (sym o) c)
+after_chain code pc closed after closes c = weaker code pc (suc pc) (outside (around code pc)) (omega arith)
+    (outside_chain code pc (around code pc) c)
+after_chain code pc None after keeps c = weaker code pc (suc pc) (around code pc) (omega arith) c
 
 passed_chain : (code : List Instr) (pc : ℕ) (i : Option Instr) → IsChain code pc (around code pc)
     → IsChain code (suc pc) (passed i pc (around code pc))
 passed_chain code pc None c = weaker code pc (suc pc) (around code pc) (omega arith) c
-passed_chain code pc (Some i) c = after_chain code pc i.op i c
+passed_chain code pc (Some i) c = after_chain code pc _ _ (change i.op pc i (around code pc)) c
 
 pub chain : (code : List Instr) (pc : ℕ) → IsChain code pc (around code pc)
 chain code zero = tt
@@ -66,36 +63,21 @@ outside_later : (pc : ℕ) (from entered : List Region) (count : ℕ) → AllFro
 outside_later pc from [] count a = record { entered = []; count = suc count; is = outside-left count from; later = tt }
 outside_later pc from (r ∷ entered) count a = record { entered = entered; count = count; is = refl; later = a.1 }
 
-after_later : (o : Op) (pc n : ℕ) (i : Instr) (from to : List Region) → pc ≤ n → IsLater pc from to → IsLater pc from (regions_after o n i to)
-after_later op.Loop pc n i from to le h = record {
-  entered = Turning n i.x ∷ h.entered;
+after_later : (pc n : ℕ) (from to : List Region) (closed : Option ℕ) (after : List Region) → Change n to closed after → pc ≤ n
+    → IsLater pc from to → IsLater pc from after
+after_later pc n from to None after (opens r o) le h = record {
+  entered = r ∷ h.entered;
   count = h.count;
-  is = ap (λ (rs : List Region). Turning n i.x ∷ rs) h.is;
-  later = (le, h.later);
+  is = ap (λ (rs : List Region). r ∷ rs) h.is;
+  later = (omega (arith, o, le), h.later);
 }
-after_later op.Finb pc n i from to le h = record {
-  entered = Waiting n ∷ h.entered;
-  count = h.count;
-  is = ap (λ (rs : List Region). Waiting n ∷ rs) h.is;
-  later = (le, h.later);
-}
-after_later op.Atomb pc n i from to le h = record {
-  entered = Atomic n ∷ h.entered;
-  count = h.count;
-  is = ap (λ (rs : List Region). Atomic n ∷ rs) h.is;
-  later = (le, h.later);
-}
-after_later op.Endl pc n i from to le h = subst (λ (rs : List Region). IsLater pc from (outside rs)) (sym h.is)
+after_later pc n from to closed after closes le h = subst (λ (rs : List Region). IsLater pc from (outside rs)) (sym h.is)
     (outside_later pc from h.entered h.count h.later)
-after_later op.Fine pc n i from to le h = subst (λ (rs : List Region). IsLater pc from (outside rs)) (sym h.is)
-    (outside_later pc from h.entered h.count h.later)
-after_later op.Atome pc n i from to le h = subst (λ (rs : List Region). IsLater pc from (outside rs)) (sym h.is)
-    (outside_later pc from h.entered h.count h.later)
-after_later _ pc n i from to le h = h
+after_later pc n from to None after keeps le h = h
 
 passed_later : (o : Option Instr) (pc n : ℕ) (from to : List Region) → pc ≤ n → IsLater pc from to → IsLater pc from (passed o n to)
 passed_later None pc n from to le h = h
-passed_later (Some i) pc n from to le h = after_later i.op pc n i from to le h
+passed_later (Some i) pc n from to le h = after_later pc n from to _ _ (change i.op n i to) le h
 
 same_or_below : (pc x : ℕ) → pc ≤ suc x → (pc ≡ suc x) ⊎ (pc ≤ x)
 same_or_below pc x le = grind arith
@@ -231,18 +213,14 @@ outside-count : (n : ℕ) (rs : List Region) → length rs ≤ n → length (out
 outside-count n [] le = omega arith
 outside-count n (r ∷ rs) le = omega arith
 
-after-count : (o : Op) (n : ℕ) (i : Instr) (rs : List Region) → length rs ≤ n → length (regions_after o n i rs) ≤ suc n
-after-count op.Loop n i rs le = omega arith
-after-count op.Finb n i rs le = omega arith
-after-count op.Atomb n i rs le = omega arith
-after-count op.Endl n i rs le = outside-count n rs le
-after-count op.Fine n i rs le = outside-count n rs le
-after-count op.Atome n i rs le = outside-count n rs le
-after-count _ n i rs le = omega arith
+after-count : (n : ℕ) (rs : List Region) (closed : Option ℕ) (after : List Region) → Change n rs closed after → length rs ≤ n → length after ≤ suc n
+after-count n rs None after (opens r o) le = omega arith
+after-count n rs closed after closes le = outside-count n rs le
+after-count n rs None after keeps le = omega arith
 
 passed-count : (o : Option Instr) (n : ℕ) (rs : List Region) → length rs ≤ n → length (passed o n rs) ≤ suc n
 passed-count None n rs le = omega arith
-passed-count (Some i) n rs le = after-count i.op n i rs le
+passed-count (Some i) n rs le = after-count n rs _ _ (change i.op n i rs) le
 
 length-around : (code : List Instr) (pc : ℕ) → length (around code pc) ≤ pc
 length-around code zero = omega arith

@@ -7,7 +7,9 @@ use Rattle.x10_code.specs.declared.instr.Instr.{Instr}
 use Rattle.x10_model.specs.Structure.{Region, opener_of, outside, regions_after, passed, around, nests, is_empty, ends_well, or_else, first_failing, nesting_fault}
 use Rattle.std.proofs.lemmas.Option.{slice_get_within}
 use Rattle.x10_model.proofs.Decided.{get_below}
-use Rattle.x10_bounds.specs.Regions.{closed_by, is_number, is_opener, leaves_open, closer_of}
+use Rattle.x10_bounds.specs.Regions.{closed_by, first_opener, is_number, is_opener, leaves_open, closer_of}
+use Rattle.x10_bounds.proofs.Changes as change
+use Rattle.x10_bounds.proofs.Changes.{Change}
 use Rattle.x10_bounds.proofs.FirstFailure.{none_fails}
 use Rattle.x10_model.proofs.Balance.{last_or_below}
 
@@ -19,7 +21,7 @@ IsOpen o (r ∷ rs) = (opener_of r ≡ o) ⊎ IsOpen o rs
 eq_yes : (a b : ℕ) → a ≡ b → (a == b) ≡ true
 eq_yes a b e = grind arith
 
-stays_outside : (o : ℕ) (rs : List Region) → is_number o (closed_by op.Endl rs) ≡ false → IsOpen o rs → IsOpen o (outside rs)
+stays_outside : (o : ℕ) (rs : List Region) → is_number o (first_opener rs) ≡ false → IsOpen o rs → IsOpen o (outside rs)
 stays_outside o [] other h = absurd h
 stays_outside o (r ∷ rs) other h = elim h [
   | inl e ↦ absurd (let yes : (opener_of r == o) ≡ true = eq_yes (opener_of r) o e in cc)
@@ -27,14 +29,11 @@ stays_outside o (r ∷ rs) other h = elim h [
 ]
 
 -- it stays open past an instruction that doesn't close it
-stays : (p : Op) (o pc : ℕ) (i : Instr) (rs : List Region) → is_number o (closed_by p rs) ≡ false → IsOpen o rs → IsOpen o (regions_after p pc i rs)
-stays op.Loop o pc i rs other h = inr h
-stays op.Finb o pc i rs other h = inr h
-stays op.Atomb o pc i rs other h = inr h
-stays op.Endl o pc i rs other h = stays_outside o rs other h
-stays op.Fine o pc i rs other h = stays_outside o rs other h
-stays op.Atome o pc i rs other h = stays_outside o rs other h
-stays _ o pc i rs other h = h
+stays : (o pc : ℕ) (rs : List Region) (closed : Option ℕ) (after : List Region) → Change pc rs closed after → is_number o closed ≡ false
+    → IsOpen o rs → IsOpen o after
+stays o pc rs None after (change.opens r x) other h = inr h
+stays o pc rs closed after change.closes other h = stays_outside o rs other h
+stays o pc rs None after change.keeps other h = h
 
 opens : (p : Op) (pc : ℕ) (i : Instr) (rs : List Region) → is_opener p ≡ true → IsOpen pc (regions_after p pc i rs)
 opens op.Loop pc i rs e = inl refl
@@ -56,7 +55,8 @@ stays_open code o i at opener none (suc x) lt le = elim (last_or_below o x lt) [
   | inr before ↦
       let here = get_below code x (omega arith) in
       let other = is_false (is_number o (closed_by here.0.op (around code x))) (none_fails (leaves_open code o) code x here.0 none here.1) in
-      let h = stays here.0.op o x here.0 (around code x) other (stays_open code o i at opener none x before (omega arith)) in
+      let h = stays o x (around code x) _ _ (change.change here.0.op x here.0 (around code x)) other
+      (stays_open code o i at opener none x before (omega arith)) in
       subst (λ (j : Option Instr). IsOpen o (passed j x (around code x))) (sym here.1) h
 ]
 

@@ -1,8 +1,6 @@
 -- The first closers of the regions, from the last instruction to the first; and the regions in order.
 use Rattle.std.proofs.Common.{◌≡◌, ◌≢◌, ◌⊎◌, ℕ, ◌+◌, ◌<◌, Bool, true, false, ◌==◌, List, [], ◌∷◌, ◌++◌, length, drop, Option, Some, None, sym, ap, subst, ◌∙◌, inl, inr, append_assoc, arith}
 use Rattle.std.specs.Prelude.{if◌then◌else◌, not, slice_get, slice_set}
-use Rattle.x10_code.specs.declared.op.Op.{Op}
-use Rattle.x10_code.specs.declared.op.Op.TheVariants as op
 use Rattle.x10_code.specs.declared.instr.Instr.{Instr}
 use Rattle.x10_model.specs.Structure.{opener_of, around, first_failing}
 use Rattle.x10_model.specs.Structure as structure
@@ -10,6 +8,7 @@ use Rattle.x10_model.proofs.Decided.{get_below}
 use Rattle.x10_bounds.specs.declared.region.Region.{Region}
 use Rattle.x10_bounds.specs.Regions.{AreClosersFrom, closed_by, first_opener, is_number, leaves_open, opened_by, regions_from, in_list}
 use Rattle.x10_bounds.proofs.Around.{IsChain, chain}
+use Rattle.x10_bounds.proofs.Changes.{Change, change, opens, closes, keeps}
 use Rattle.x10_bounds.proofs.FirstFailure.{drop-at, drop-end}
 use Rattle.x10_model.proofs.Lists.{set_here, set_off}
 use Rattle.std.proofs.Math.ListN.{length-set}
@@ -18,18 +17,18 @@ first_before : (code : List Instr) (pc o : ℕ) (rs : List structure.Region) →
 first_before code pc o [] c e = absurd cc
 first_before code pc o (r ∷ rs) c e = let same : opener_of r ≡ o = cc in omega (arith, c.0, same)
 
-closed_before : (code : List Instr) (pc o : ℕ) (p : Op) (rs : List structure.Region) → IsChain code pc rs → closed_by p rs ≡ Some o → o < pc
-closed_before code pc o op.Endl rs c e = first_before code pc o rs c e
-closed_before code pc o op.Fine rs c e = first_before code pc o rs c e
-closed_before code pc o op.Atome rs c e = first_before code pc o rs c e
-closed_before code pc o _ rs c e = absurd cc
+closed_before : (code : List Instr) (pc o n : ℕ) (rs : List structure.Region) (closed : Option ℕ) (after : List structure.Region)
+    → Change n rs closed after → IsChain code pc rs → closed ≡ Some o → o < pc
+closed_before code pc o n rs None after (opens r x) c e = absurd cc
+closed_before code pc o n rs closed after closes c e = first_before code pc o rs c e
+closed_before code pc o n rs None after keeps c e = absurd cc
 
 -- what an instruction closes begins before it
 pub closes_earlier : (code : List Instr) (pc o : ℕ) (closed : Option ℕ) → pc < length code
     → ((i : Instr) → slice_get code pc ≡ Some i → closed ≡ closed_by i.op (around code pc)) → closed ≡ Some o → o < pc
 closes_earlier code pc o closed lt says e =
     let at = get_below code pc lt in
-    closed_before code pc o at.0.op (around code pc) (chain code pc) (sym (says at.0 at.1) ∙ e)
+    closed_before code pc o pc (around code pc) _ _ (change at.0.op pc at.0 (around code pc)) (chain code pc) (sym (says at.0 at.1) ∙ e)
 
 -- ---- the table of closers
 

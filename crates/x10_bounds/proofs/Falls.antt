@@ -12,6 +12,8 @@ use Rattle.x10_model.specs.Structure.{Region, Turning, Waiting, Atomic, opener_o
 use Rattle.x10_model.proofs.Decided.{get_below}
 use Rattle.x10_bounds.specs.Spots.{begins_before}
 use Rattle.x10_bounds.specs.Potential.{inner, outer, total, levels_before, levels_from, pending, potential, IsStructured, PotentialFalls}
+use Rattle.x10_bounds.proofs.Changes as nest
+use Rattle.x10_bounds.proofs.Changes.{Nested}
 use Rattle.x10_bounds.proofs.FirstFailure.{none_fails}
 use Rattle.x10_bounds.proofs.Around.{left, AllFrom, IsLater, is_later, leaves-around, same_kept}
 use Rattle.x10_bounds.proofs.Levels.{AllNest, levels-at, parted, begins_at}
@@ -45,21 +47,12 @@ total_onward earlier op.Loop i ls a b = absurd (a refl)
 total_onward earlier op.Endl i ls a b = absurd (b refl)
 total_onward earlier o i ls a b = omega (arith, parted ls)
 
-pending_onward : (earlier : List ℕ) (code : List Instr) (slots : ℕ → ℕ) (o : Op) (pc : ℕ) (i : Instr) (rs : List Region) → o ≢ op.Loop → o ≢ op.Endl
-    → nests o rs ≡ true → pending earlier code slots (regions_after o pc i rs) ≡ pending earlier code slots rs
-pending_onward earlier code slots op.Loop pc i rs a b n = absurd (a refl)
-pending_onward earlier code slots op.Endl pc i rs a b n = absurd (b refl)
-pending_onward earlier code slots op.Finb pc i rs a b n = refl
-pending_onward earlier code slots op.Fine pc i (Waiting o ∷ rs) a b n = refl
-pending_onward earlier code slots op.Fine pc i [] a b n = absurd cc
-pending_onward earlier code slots op.Fine pc i (Turning o l ∷ rs) a b n = absurd cc
-pending_onward earlier code slots op.Fine pc i (Atomic o ∷ rs) a b n = absurd cc
-pending_onward earlier code slots op.Atomb pc i rs a b n = refl
-pending_onward earlier code slots op.Atome pc i (Atomic o ∷ rs) a b n = refl
-pending_onward earlier code slots op.Atome pc i [] a b n = absurd cc
-pending_onward earlier code slots op.Atome pc i (Turning o l ∷ rs) a b n = absurd cc
-pending_onward earlier code slots op.Atome pc i (Waiting o ∷ rs) a b n = absurd cc
-pending_onward earlier code slots _ pc i rs a b n = refl
+pending_onward : (earlier : List ℕ) (code : List Instr) (slots : ℕ → ℕ) (o : Op) (pc : ℕ) (i : Instr) (rs after : List Region) → o ≢ op.Loop
+    → o ≢ op.Endl → Nested pc i o rs after → pending earlier code slots after ≡ pending earlier code slots rs
+pending_onward earlier code slots op.Loop pc i rs after a b (nest.opens_loop xs) = absurd (a refl)
+pending_onward earlier code slots op.Endl pc i rs after a b (nest.closes_loop o l xs) = absurd (b refl)
+pending_onward earlier code slots o pc i rs after a b (nest.no_loop p xs ys c d s) =
+    sym (nest.kept (pending earlier code slots) (λ o zs. refl) (λ o zs. refl) pc xs ys s)
 
 -- a slot that no loop around uses
 pending_other : (earlier : List ℕ) (code : List Instr) (slots : ℕ → ℕ) (k v : ℕ) (rs : List Region) → depth_of rs ≤ k
@@ -86,7 +79,8 @@ falls_onward earlier code pc i slots fit at a b =
     let t : total (levels_from earlier code pc) ≡ cost earlier i + total (levels_from earlier code (pc + 1)) =
     ap total (levels-at earlier code pc i at) ∙ total_onward earlier i.op i (levels_from earlier code (pc + 1)) a b in
     let p : pending earlier code slots (around code (pc + 1)) ≡ pending earlier code slots (around code pc) =
-    ap (pending earlier code slots) (around-more code pc i at) ∙ pending_onward earlier code slots i.op pc i (around code pc) a b (fit pc i at) in
+    ap (pending earlier code slots) (around-more code pc i at)
+    ∙ pending_onward earlier code slots i.op pc i (around code pc) _ a b (nest.nested i.op pc i (around code pc) (fit pc i at)) in
     omega (arith, t, p)
 
 -- ---- loops

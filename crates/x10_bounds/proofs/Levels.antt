@@ -1,13 +1,14 @@
 -- The levels of a function's code: how they change from one instruction to the next.
-use Rattle.std.proofs.Common.{◌≡◌, ℕ, zero, suc, ◌+◌, ◌*◌, ◌≤◌, true, false, List, [], ◌∷◌, length, drop, Some, ◌⊎◌, inl, inr, refl, sym, ap, subst, ◌∙◌, arith}
+use Rattle.std.proofs.Common.{◌≡◌, ◌≢◌, ℕ, zero, suc, ◌+◌, ◌*◌, ◌≤◌, true, false, List, [], ◌∷◌, length, drop, Some, ◌⊎◌, inl, inr, refl, sym, ap, subst, ◌∙◌, arith}
 use Rattle.std.specs.Prelude.{slice_get}
 use Rattle.std.proofs.lemmas.Bool.{cases_lt}
 use Rattle.x10_code.specs.declared.op.Op.{Op}
 use Rattle.x10_code.specs.declared.op.Op.TheVariants as op
 use Rattle.x10_code.specs.declared.instr.Instr.{Instr}
-use Rattle.x10_model.specs.Structure.{Region, Turning, Waiting, Atomic, regions_after, around, nests, weight, depth_of, is_call, cost, steps_from, bound_of}
+use Rattle.x10_model.specs.Structure.{Region, Turning, Waiting, Atomic, around, nests, weight, depth_of, is_call, cost, steps_from, bound_of}
 use Rattle.x10_model.proofs.Decided.{get_below}
 use Rattle.x10_bounds.specs.Potential.{inner, outer, total, levels_before, levels, levels_from}
+use Rattle.x10_bounds.proofs.Changes.{Nested, nested, opens_loop, closes_loop, no_loop, kept}
 use Rattle.x10_bounds.proofs.FirstFailure.{drop-at, drop-end}
 use Rattle.x10_bounds.proofs.Spots.{around-more}
 
@@ -59,32 +60,24 @@ plain_cost earlier i e = rw e refl
 
 -- ---- as many levels as there are loops around, and one more
 
+-- an operation that neither opens nor closes a loop
+pub onward : (earlier : List ℕ) (o : Op) (i : Instr) (ls : List ℕ) → o ≢ op.Loop → o ≢ op.Endl
+    → levels_before earlier o i ls ≡ (cost earlier i + inner ls) ∷ outer ls
+onward earlier op.Loop i ls a b = absurd (a refl)
+onward earlier op.Endl i ls a b = absurd (b refl)
+onward earlier o i ls a b = refl
+
 -- an operation fits the regions that it stands in
-none_past_before : (earlier : List ℕ) (o : Op) (pc : ℕ) (i : Instr) (rs : List Region) (ls : List ℕ) → nests o rs ≡ true
-    → past (suc (depth_of (regions_after o pc i rs))) ls ≡ [] → past (suc (depth_of rs)) (levels_before earlier o i ls) ≡ []
-none_past_before earlier op.Loop pc i rs ls n e = deeper (depth_of rs) (outer (outer ls)) (suc_is (depth_of rs) ls e)
+none_past_before : (earlier : List ℕ) (o : Op) (pc : ℕ) (i : Instr) (rs after : List Region) (ls : List ℕ) → Nested pc i o rs after
+    → past (suc (depth_of after)) ls ≡ [] → past (suc (depth_of rs)) (levels_before earlier o i ls) ≡ []
+none_past_before earlier op.Loop pc i rs after ls (opens_loop xs) e = suc_is (depth_of xs) ls e
   where
     suc_is : (k : ℕ) (ls : List ℕ) → past (suc (k + 1)) ls ≡ [] → past k (outer (outer ls)) ≡ []
     suc_is k ls e = let s : suc (k + 1) ≡ suc (suc k) = omega arith in sym (ap (λ n. past n ls) s) ∙ e
-
-    deeper : (k : ℕ) (ls : List ℕ) → past k ls ≡ [] → past k ls ≡ []
-    deeper k ls e = e
-none_past_before earlier op.Endl pc i (Turning o l ∷ rs) ls n e = let s : suc (depth_of rs + 1) ≡ suc (suc (depth_of rs)) = omega arith in
+none_past_before earlier op.Endl pc i rs after ls (closes_loop o l xs) e = let s : suc (depth_of xs + 1) ≡ suc (suc (depth_of xs)) = omega arith in
     ap (λ k. past k (1 ∷ ls)) s ∙ e
-none_past_before earlier op.Endl pc i [] ls n e = absurd cc
-none_past_before earlier op.Endl pc i (Waiting o ∷ rs) ls n e = absurd cc
-none_past_before earlier op.Endl pc i (Atomic o ∷ rs) ls n e = absurd cc
-none_past_before earlier op.Fine pc i (Waiting o ∷ rs) ls n e = e
-none_past_before earlier op.Fine pc i [] ls n e = absurd cc
-none_past_before earlier op.Fine pc i (Turning o l ∷ rs) ls n e = absurd cc
-none_past_before earlier op.Fine pc i (Atomic o ∷ rs) ls n e = absurd cc
-none_past_before earlier op.Atome pc i (Atomic o ∷ rs) ls n e = e
-none_past_before earlier op.Atome pc i [] ls n e = absurd cc
-none_past_before earlier op.Atome pc i (Turning o l ∷ rs) ls n e = absurd cc
-none_past_before earlier op.Atome pc i (Waiting o ∷ rs) ls n e = absurd cc
-none_past_before earlier op.Atomb pc i rs ls n e = e
-none_past_before earlier op.Finb pc i rs ls n e = e
-none_past_before earlier _ pc i rs ls n e = e
+none_past_before earlier o pc i rs after ls (no_loop p xs ys a b s) e = ap (past (suc (depth_of xs))) (onward earlier p i ls a b)
+    ∙ ap (λ k. past (suc k) ls) (kept depth_of (λ o zs. refl) (λ o zs. refl) pc xs ys s) ∙ e
 
 -- each instruction fits the regions that it stands in
 abbrev pub AllNest : List Instr → Type 0
@@ -99,7 +92,8 @@ none_past_within earlier code (suc k) pc fit le = elim (at_or_past code pc) [
       let next : past (suc (depth_of (around code (pc + 1)))) (levels_from earlier code (pc + 1)) ≡ [] =
       none_past_within earlier code k (pc + 1) fit (omega (arith, le)) in
       ap (past (suc (depth_of (around code pc)))) (levels-at earlier code pc at.0 at.1)
-      ∙ none_past_before earlier at.0.op pc at.0 (around code pc) (levels_from earlier code (pc + 1)) (fit pc at.0 at.1)
+      ∙ none_past_before earlier at.0.op pc at.0 (around code pc) _ (levels_from earlier code (pc + 1))
+      (nested at.0.op pc at.0 (around code pc) (fit pc at.0 at.1))
       (subst (λ rs. past (suc (depth_of rs)) (levels_from earlier code (pc + 1)) ≡ []) (around-more code pc at.0 at.1) next)
   | inr past_end ↦ ap (past (suc (depth_of (around code pc)))) (levels-end earlier code pc past_end) ∙ past-nil (suc (depth_of (around code pc)))
 ]
@@ -141,25 +135,15 @@ worth_loop x pc ls rs = worth_more (1 + x * inner ls) (inner (outer ls)) (outer 
     ring_loop : (x h w r : ℕ) → (1 + x * h) * w + r ≡ 1 * w + (h * (x * w) + r)
     ring_loop x h w r = grind arith
 
-worth_before : (earlier : List ℕ) (o : Op) (pc : ℕ) (i : Instr) (rs : List Region) (ls : List ℕ) → i.op ≡ o → nests o rs ≡ true
-    → worth (levels_before earlier o i ls) rs ≡ cost earlier i * weight rs + worth ls (regions_after o pc i rs)
-worth_before earlier op.Loop pc i rs ls is n = worth_loop i.x pc ls rs
-    ∙ ap (λ c. c * weight rs + worth ls (Turning pc i.x ∷ rs)) (plain_cost earlier i (ap is_call is))
-worth_before earlier op.Endl pc i (Turning o l ∷ rs) ls is n = ap (λ c. c * (l * weight rs) + worth ls rs) (plain_cost earlier i (ap is_call is))
-worth_before earlier op.Endl pc i [] ls is n = absurd cc
-worth_before earlier op.Endl pc i (Waiting o ∷ rs) ls is n = absurd cc
-worth_before earlier op.Endl pc i (Atomic o ∷ rs) ls is n = absurd cc
-worth_before earlier op.Fine pc i (Waiting o ∷ rs) ls is n = worth_onward (cost earlier i) ls rs
-worth_before earlier op.Fine pc i [] ls is n = absurd cc
-worth_before earlier op.Fine pc i (Turning o l ∷ rs) ls is n = absurd cc
-worth_before earlier op.Fine pc i (Atomic o ∷ rs) ls is n = absurd cc
-worth_before earlier op.Atome pc i (Atomic o ∷ rs) ls is n = worth_onward (cost earlier i) ls rs
-worth_before earlier op.Atome pc i [] ls is n = absurd cc
-worth_before earlier op.Atome pc i (Turning o l ∷ rs) ls is n = absurd cc
-worth_before earlier op.Atome pc i (Waiting o ∷ rs) ls is n = absurd cc
-worth_before earlier op.Atomb pc i rs ls is n = worth_onward (cost earlier i) ls rs
-worth_before earlier op.Finb pc i rs ls is n = worth_onward (cost earlier i) ls rs
-worth_before earlier _ pc i rs ls is n = worth_onward (cost earlier i) ls rs
+worth_before : (earlier : List ℕ) (o : Op) (pc : ℕ) (i : Instr) (rs after : List Region) (ls : List ℕ) → i.op ≡ o → Nested pc i o rs after
+    → worth (levels_before earlier o i ls) rs ≡ cost earlier i * weight rs + worth ls after
+worth_before earlier op.Loop pc i rs after ls is (opens_loop xs) = worth_loop i.x pc ls xs
+    ∙ ap (λ c. c * weight xs + worth ls (Turning pc i.x ∷ xs)) (plain_cost earlier i (ap is_call is))
+worth_before earlier op.Endl pc i rs after ls is (closes_loop o l xs) = ap (λ c. c * (l * weight xs) + worth ls xs)
+    (plain_cost earlier i (ap is_call is))
+worth_before earlier o pc i rs after ls is (no_loop p xs ys a b s) = ap (λ ms. worth ms xs) (onward earlier p i ls a b)
+    ∙ worth_onward (cost earlier i) ls xs
+    ∙ ap (λ n. cost earlier i * weight xs + n) (kept (worth ls) (λ o zs. refl) (λ o zs. refl) pc xs ys s)
 
 -- the steps from an instruction on are what the levels there are worth
 steps_within : (earlier : List ℕ) (code : List Instr) (k pc : ℕ) → AllNest code → length code ≤ pc + k
@@ -172,7 +156,8 @@ steps_within earlier code (suc k) pc fit le = elim (at_or_past code pc) [
       ap (steps_from earlier code pc) (drop-at code pc at.0 at.1)
       ∙ ap (λ n. cost earlier at.0 * weight (around code pc) + n)
       (next ∙ ap (worth (levels_from earlier code (pc + 1))) (around-more code pc at.0 at.1))
-      ∙ sym (worth_before earlier at.0.op pc at.0 (around code pc) (levels_from earlier code (pc + 1)) refl (fit pc at.0 at.1))
+      ∙ sym (worth_before earlier at.0.op pc at.0 (around code pc) _ (levels_from earlier code (pc + 1)) refl
+      (nested at.0.op pc at.0 (around code pc) (fit pc at.0 at.1)))
       ∙ ap (λ ls. worth ls (around code pc)) (sym (levels-at earlier code pc at.0 at.1))
   | inr past_end ↦ none_left earlier code pc past_end
 ]

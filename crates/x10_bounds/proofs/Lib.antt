@@ -1,5 +1,6 @@
 pub mod Around
 pub mod Capped
+pub mod Changes
 pub mod Closed
 pub mod Closers
 pub mod FirstFailure
