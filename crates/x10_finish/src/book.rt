@@ -39,7 +39,7 @@ impl Model for Book {
 
 impl Book {
     /// The book of a finish that was opened at its home, one of `places` places; nothing was reported yet. Takes all the memory
-    /// that the book will need: two numbers for each pair of places.
+    /// that the book will need: 12 bytes for each pair of places.
     pub fn open(alloc: Global, finish: Finish, places: u16) -> Result<Book, Stop>
         requires { finish.home < places }
         ensures ok { IfOk result (IsOpened finish places) }

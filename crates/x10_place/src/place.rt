@@ -64,10 +64,11 @@ impl<'a> Place<'a> {
     /// step would make or send (`x10_kinds::Limit`), or after another Stop; the output is then that of the steps before it.
     ///
     /// Constant time, except that CALL, ASYNC, NEW, RAIL, TEXTK, TCAT and PRINT of a text also copy or fill what they make,
-    /// that AT, ATA and a RET that sends a result back copy all that they send, that FINB makes two numbers for each pair of
-    /// places, that FINE looks at the places where nothing lives under its finish here, that the book of an open finish is
-    /// looked up in logarithmic time, that a report has two numbers for each place, and that a list or table that grows is
-    /// copied now and then. What makes, prints or sends something takes memory, and so do CALL, ASYNC and FINB.
+    /// that AT, ATA and a RET that sends a result back copy all that they send, that FINB fills 12 bytes for each pair of
+    /// places where more finishes are open here than ever before, that FINE looks at the places where nothing lives under its
+    /// finish here, that the book of an open finish is looked up in logarithmic time, that a report has two numbers for each
+    /// place, and that a list or table that grows is copied now and then. What makes, prints or sends something takes memory,
+    /// and so do CALL, ASYNC and FINB.
     #[inline(always)]
     pub fn step(&mut self, key: usize) -> Result<Stepped, Stop>
         ensures idle { self.old.stopped ≢ true → IsIdleAt self.old key
