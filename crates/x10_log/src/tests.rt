@@ -2,6 +2,7 @@
 use crate::{LogCause, read_log, write_log};
 use std::alloc::Global;
 use std::fmt::Write;
+use std::process::Abort;
 use std::test::*;
 
 /// The first three lines of a log.
@@ -76,58 +77,121 @@ fn small_log_is_read(rt: HostRuntime) -> Result<(), Fail> {
     Ok(())
 }
 
-#[test]
-fn changed_turns(rt: HostRuntime) -> Result<(), Fail> {
-    let alloc = rt.alloc();
-    for (lines, fault) in [
-        ("", None),
-        (TURN, None),
-        ("1 <3 <4 0*3 1 >1:0102ff =-5 \"a\"\n", None),
-        ("2 <3 <4 0*3 1 >1:0102ff =-5 \"a\"\n", Some(LogCause::Place)),
-        ("00 <3\n", Some(LogCause::Spelling)),
-        ("\n", Some(LogCause::Place)),
-        ("0 <5 <4 0*3 1\n", None),
-        ("0 <18446744073709551615\n", None),
-        ("0 <18446744073709551616\n", Some(LogCause::Taken)),
-        ("0 <03\n", Some(LogCause::Spelling)),
-        ("0 <+3\n", Some(LogCause::Spelling)),
-        ("0 <\n", Some(LogCause::Taken)),
-        ("0 0*2 1\n", None),
-        ("0 0*1 1\n", Some(LogCause::Spelling)),
-        ("0 0*0 1\n", Some(LogCause::Spelling)),
-        ("0 0*03\n", Some(LogCause::Spelling)),
-        ("0 0*\n", Some(LogCause::Key)),
-        ("0 0*3 0\n", Some(LogCause::Spelling)),
-        ("0 0*3*3\n", Some(LogCause::Key)),
-        ("0 k\n", Some(LogCause::Key)),
-        ("0 >2:0102ff\n", None),
-        ("0 >1:\n", None),
-        ("0 >65536:01\n", Some(LogCause::Frame)),
-        ("0 >1:0102fF\n", Some(LogCause::Spelling)),
-        ("0 >1:0102f\n", Some(LogCause::Frame)),
-        ("0 >1:0g\n", Some(LogCause::Frame)),
-        ("0 >1\n", Some(LogCause::Frame)),
-        ("0 =5\n", None),
-        ("0 =-9223372036854775808\n", None),
-        ("0 =9223372036854775808\n", Some(LogCause::Printed)),
-        ("0 =-0\n", Some(LogCause::Spelling)),
-        ("0 =\n", Some(LogCause::Printed)),
-        ("0 \"\"\n", None),
-        ("0 \"a\\q\"\n", Some(LogCause::Printed)),
-        ("0 \"a\n", Some(LogCause::Printed)),
-        ("0 \"a\"b\n", Some(LogCause::Printed)),
-        ("0 =5 >1:\n", Some(LogCause::Spelling)),
-        ("0 1 <3\n", Some(LogCause::Spelling)),
-        ("0  1\n", Some(LogCause::Key)),
-        ("0 1 \n", Some(LogCause::Key)),
-        ("0 1\r\n", Some(LogCause::Key)),
-        ("0 1", Some(LogCause::Ending)),
-    ] {
+/// Lines behind the first three, each with the cause for which the first of them is refused; none where they are read.
+fn are_answered(
+    alloc: Global,
+    rt: &impl Abort,
+    cases: &[(&str, Option<LogCause>)],
+) -> Result<(), Fail> {
+    for (lines, cause) in cases {
         let answer = refusal_behind(alloc, lines)?;
-        assert_eq!(rt; answer, fault.map(|cause| (4, cause)));
+        assert_eq!(rt; answer, cause.map(|cause| (4, cause)));
     }
+    Ok(())
+}
+
+#[test]
+fn changed_places(rt: HostRuntime) -> Result<(), Fail> {
+    are_answered(
+        rt.alloc(),
+        &rt,
+        &[
+            ("", None),
+            (TURN, None),
+            ("1 <3 <4 0*3 1 >1:0102ff =-5 \"a\"\n", None),
+            ("2 <3 <4 0*3 1 >1:0102ff =-5 \"a\"\n", Some(LogCause::Place)),
+            ("00 <3\n", Some(LogCause::Spelling)),
+            ("\n", Some(LogCause::Place)),
+        ],
+    )
+}
+
+#[test]
+fn changed_frames_that_are_taken(rt: HostRuntime) -> Result<(), Fail> {
+    are_answered(
+        rt.alloc(),
+        &rt,
+        &[
+            ("0 <5 <4 0*3 1\n", None),
+            ("0 <18446744073709551615\n", None),
+            ("0 <18446744073709551616\n", Some(LogCause::Taken)),
+            ("0 <03\n", Some(LogCause::Spelling)),
+            ("0 <+3\n", Some(LogCause::Spelling)),
+            ("0 <\n", Some(LogCause::Taken)),
+        ],
+    )
+}
+
+#[test]
+fn changed_keys(rt: HostRuntime) -> Result<(), Fail> {
+    are_answered(
+        rt.alloc(),
+        &rt,
+        &[
+            ("0 0*2 1\n", None),
+            ("0 0*1 1\n", Some(LogCause::Spelling)),
+            ("0 0*0 1\n", Some(LogCause::Spelling)),
+            ("0 0*03\n", Some(LogCause::Spelling)),
+            ("0 0*\n", Some(LogCause::Key)),
+            ("0 0*3 0\n", Some(LogCause::Spelling)),
+            ("0 0*3*3\n", Some(LogCause::Key)),
+            ("0 k\n", Some(LogCause::Key)),
+        ],
+    )
+}
+
+#[test]
+fn changed_frames_that_are_sent(rt: HostRuntime) -> Result<(), Fail> {
+    are_answered(
+        rt.alloc(),
+        &rt,
+        &[
+            ("0 >2:0102ff\n", None),
+            ("0 >1:\n", None),
+            ("0 >65536:01\n", Some(LogCause::Frame)),
+            ("0 >1:0102fF\n", Some(LogCause::Spelling)),
+            ("0 >1:0102f\n", Some(LogCause::Frame)),
+            ("0 >1:0g\n", Some(LogCause::Frame)),
+            ("0 >1\n", Some(LogCause::Frame)),
+        ],
+    )
+}
+
+#[test]
+fn changed_printed_lines(rt: HostRuntime) -> Result<(), Fail> {
+    are_answered(
+        rt.alloc(),
+        &rt,
+        &[
+            ("0 =5\n", None),
+            ("0 =-9223372036854775808\n", None),
+            ("0 =9223372036854775808\n", Some(LogCause::Printed)),
+            ("0 =-0\n", Some(LogCause::Spelling)),
+            ("0 =\n", Some(LogCause::Printed)),
+            ("0 \"\"\n", None),
+            ("0 \"a\\q\"\n", Some(LogCause::Printed)),
+            ("0 \"a\n", Some(LogCause::Printed)),
+            ("0 \"a\"b\n", Some(LogCause::Printed)),
+        ],
+    )
+}
+
+#[test]
+fn changed_words_and_line_ends(rt: HostRuntime) -> Result<(), Fail> {
+    are_answered(
+        rt.alloc(),
+        &rt,
+        &[
+            ("0 =5 >1:\n", Some(LogCause::Spelling)),
+            ("0 1 <3\n", Some(LogCause::Spelling)),
+            ("0  1\n", Some(LogCause::Key)),
+            ("0 1 \n", Some(LogCause::Key)),
+            ("0 1\r\n", Some(LogCause::Key)),
+            ("0 1", Some(LogCause::Ending)),
+        ],
+    )?;
     assert_eq!(rt;
-        refusal_behind(alloc, "0 1\n0 2\n0 x\n")?,
+        refusal_behind(rt.alloc(), "0 1\n0 2\n0 x\n")?,
         Some((6, LogCause::Key))
     );
     Ok(())
