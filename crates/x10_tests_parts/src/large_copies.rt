@@ -173,44 +173,46 @@ fn the_most_objects(rt: HostRuntime) -> Result<(), Fail> {
     Ok(())
 }
 
-#[test]
-fn the_most_texts(rt: HostRuntime) -> Result<(), Fail> {
-    let bytes = assembled(rt.alloc(), LISTS)?;
-    let image = image_of(rt.alloc(), &bytes)?;
-    let most = texts(rt.alloc(), MOST)?;
-    assert!(rt; that_go(rt.alloc(), &rt, &image, &most, 1)? == (69_906, 1_048_576, 0));
-    let more = texts(rt.alloc(), MOST + 1)?;
-    assert!(rt;
-        meets(
-            rt.alloc(),
-            &rt,
-            &image,
-            &more,
-            1,
-            Stop::Limit(Limit::FrameTexts)
-        )
-    );
+/// The first object of a heap goes along with all that it reaches, which arrive as so many objects, texts and rails; that of a
+/// heap with one part more doesn't, for a limit.
+fn goes_and_meets(
+    alloc: Global,
+    rt: &impl Abort,
+    class: u16,
+    (most, parts): (&Heap, (usize, usize, usize)),
+    (more, limit): (&Heap, Limit),
+) -> Result<(), Fail> {
+    let bytes = assembled(alloc, LISTS)?;
+    let image = image_of(alloc, &bytes)?;
+    assert!(rt; that_go(alloc, rt, &image, most, class)? == parts);
+    assert!(rt; meets(alloc, rt, &image, more, class, Stop::Limit(limit)));
     Ok(())
 }
 
 #[test]
+fn the_most_texts(rt: HostRuntime) -> Result<(), Fail> {
+    let (most, more) = (texts(rt.alloc(), MOST)?, texts(rt.alloc(), MOST + 1)?);
+    let parts = (69_906, 1_048_576, 0);
+    goes_and_meets(
+        rt.alloc(),
+        &rt,
+        1,
+        (&most, parts),
+        (&more, Limit::FrameTexts),
+    )
+}
+
+#[test]
 fn the_most_rails(rt: HostRuntime) -> Result<(), Fail> {
-    let bytes = assembled(rt.alloc(), LISTS)?;
-    let image = image_of(rt.alloc(), &bytes)?;
-    let most = rails(rt.alloc(), MOST)?;
-    assert!(rt; that_go(rt.alloc(), &rt, &image, &most, 2)? == (69_906, 0, 1_048_576));
-    let more = rails(rt.alloc(), MOST + 1)?;
-    assert!(rt;
-        meets(
-            rt.alloc(),
-            &rt,
-            &image,
-            &more,
-            2,
-            Stop::Limit(Limit::FrameRails)
-        )
-    );
-    Ok(())
+    let (most, more) = (rails(rt.alloc(), MOST)?, rails(rt.alloc(), MOST + 1)?);
+    let parts = (69_906, 0, 1_048_576);
+    goes_and_meets(
+        rt.alloc(),
+        &rt,
+        2,
+        (&most, parts),
+        (&more, Limit::FrameRails),
+    )
 }
 
 /// A list with more objects than numbers of two bytes tell apart.
