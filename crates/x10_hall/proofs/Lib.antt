@@ -3,4 +3,5 @@ pub mod FrameNumbers
 pub mod PostedTurns
 pub mod KeyRounds
 pub mod MailPosts
+pub mod Picks
 pub mod RowLogs

@@ -1,4 +1,5 @@
 pub mod Halls
 pub mod Mails
 pub mod Rows
+pub mod Repetitions
 pub mod KeyLists

@@ -1,5 +1,5 @@
 -- A hall that takes a given number of turns at most, and what a worker asks of it.
-use Rattle.std.specs.Prelude.{◌≡◌, ◌⊎◌, ℕ, ◌+◌, ◌^◌, Bool, true, false, List, ◌∷◌, ◌++◌, Option, Some, None, is_some, nat_le, length, if◌then◌else◌}
+use Rattle.std.specs.Prelude.{◌≡◌, ◌⊎◌, ℕ, ◌+◌, ◌^◌, Bool, true, false, List, ◌∷◌, ◌++◌, Option, Some, None, is_some, nat_le, length, replicate, flat_map, if◌then◌else◌}
 use Rattle.x10_kinds.specs.declared.limit.Limit.TheVariants as limits
 use Rattle.x10_kinds.specs.declared.stop.Stop.TheVariants as stop
 use Rattle.x10_hall.specs.declared.port.End.{End}
@@ -13,6 +13,7 @@ use Rattle.x10_hall.specs.declared.port.End.TheVariants as end
 use Rattle.x10_hall.specs.declared.state.HallState.{HallState}
 use Rattle.x10_hall.specs.declared.state.HallState.TheVariants.{Open, Finished, Stopped}
 use Rattle.x10_hall.specs.declared.turn.Turn.{Turn}
+use Rattle.x10_hall.specs.declared.turn.Stint.{Stint}
 use Rattle.x10_hall.specs.Halls.{HallValue, told, posted_in, next_frame, moved_on, finished}
 
 -- a worker has stopped the run
@@ -44,6 +45,14 @@ with_turns h turns = record {
   cursors = h.cursors;
   state = h.state;
 }
+
+-- a turn, so often
+abbrev pub turns_of : Stint → List Turn
+turns_of s = replicate s.times s.turn
+
+-- turns, each so often
+abbrev pub turns_in : List Stint → List Turn
+turns_in stints = flat_map turns_of stints
 
 -- a hall that takes so many turns gets some turns, before one that it refuses, and why
 pub record PostsUpTo (most : ℕ) (h : HallValue) (turns : List Turn) (after : HallValue)

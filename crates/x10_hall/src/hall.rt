@@ -1,11 +1,14 @@
 //! The hall: the log of all turns, and a row of frames for each place.
 
-ghost use Rattle.std.specs.Prelude.{◌≡◌, ◌↔◌, ◌+◌, ◌≤◌, ◌^◌, ◌⊎◌, IfOk, IfErr, MatchOption, Some, None, Err, is_some, length};
+ghost use Rattle.std.specs.Prelude.{◌≡◌, ◌↔◌, ◌+◌, ◌<◌, ◌≤◌, ◌^◌, ◌⊎◌, IfOk, IfErr, MatchOption, Some, None, Err, is_some, length};
 ghost use Rattle.x10_kinds.specs.declared.limit.Limit.TheVariants as limits;
 ghost use Rattle.x10_kinds.specs.declared.stop.Stop.TheVariants as stop;
 ghost use Rattle.x10_hall.specs.declared.state.HallState.TheVariants as is;
+ghost use Rattle.x10_hall.specs.declared.turn.Turn.{Turn};
+ghost use Rattle.x10_hall.specs.Repetitions.{IsLast};
 ghost use Rattle.x10_hall.specs.Halls.{told, posted_in, next_frame, empty_hall, with_turn, moved_on, with_state, finished};
 
+use crate::repeats::Repeats;
 use crate::row::{Row, deliver, make_room, open_rows, share};
 use crate::state::HallState;
 use crate::turn::{Taken, Turn};
@@ -21,7 +24,7 @@ const FRAMES: u8 = 11;
 /// own in this order.
 #[derive(Drop)]
 pub struct Hall {
-    log: Vec<Turn>,
+    log: Repeats<Turn>,
     rows: Vec<Row>,
     /// How many frames the log has.
     posted: u64,
@@ -47,7 +50,7 @@ impl Hall {
     {
         let rows = open_rows(alloc, places)?;
         Ok(Hall {
-            log: Vec::new(alloc),
+            log: Repeats::new(alloc),
             rows,
             posted: 0,
             state: HallState::Open,
@@ -62,8 +65,8 @@ impl Hall {
     }
 
     /// The turns that were posted, first to last.
-    pub fn log(&self) -> &[Turn]
-        ensures { result.now ≡ self.now.log }
+    pub fn log(&self) -> &Repeats<Turn>
+        ensures { result.now.items ≡ self.now.log }
     {
         &self.log
     }
@@ -91,16 +94,43 @@ impl Hall {
         if count > u64::MAX - self.posted {
             return Err(Stop::Limit(Limit::Frames));
         }
-        let copies = share(*self.log.allocator(), &turn.frames)?;
-        if self.log.try_reserve(1).is_err() {
-            return Err(Stop::Memory);
-        }
+        let copies = share(self.log.allocator(), &turn.frames)?;
         if let Err(stop) = make_room(&mut self.rows, &turn.frames) {
             return Err(stop);
         }
+        if let Err(_) = self.log.push(turn) {
+            return Err(Stop::Memory);
+        }
         deliver(&mut self.rows, self.posted, copies);
         self.posted += count;
-        self.log.push_reserved(turn);
+        Ok(())
+    }
+
+    /// Appends the last turn once more, with its frames, as `post` does. Where it has no frame, this takes a word of memory.
+    pub fn again(&mut self) -> Result<(), Stop>
+        requires { 0 < length self.old.log }
+        ensures ok { IfOk result (λ _. (turn : Turn) → IsLast self.old.log turn
+            → self.new ≡ with_turn self.old turn) }
+        ensures err { IfErr result (λ why. (self.new ≡ self.old)
+            × ((why ≡ stop.Memory) ⊎ (why ≡ stop.Limit limits.Frames))) }
+        ensures limit { (turn : Turn) → IsLast self.old.log turn
+            → (result ≡ Err (stop.Limit limits.Frames))
+            ↔ (2 ^ 64 ≤ posted_in self.old.log + length turn.frames.items) }
+    {
+        let turn = self.log.at(self.log.len() - 1);
+        let count = turn.frames.len() as u64;
+        if count > u64::MAX - self.posted {
+            return Err(Stop::Limit(Limit::Frames));
+        }
+        let copies = share(self.log.allocator(), &turn.frames)?;
+        if let Err(stop) = make_room(&mut self.rows, &turn.frames) {
+            return Err(stop);
+        }
+        if let Err(_) = self.log.again() {
+            return Err(Stop::Memory);
+        }
+        deliver(&mut self.rows, self.posted, copies);
+        self.posted += count;
         Ok(())
     }
 
@@ -134,7 +164,7 @@ impl Hall {
     }
 
     /// The turns that were posted, first to last. The frames that are left in the rows are dropped.
-    pub fn into_log(self) -> Vec<Turn>
+    pub fn into_log(self) -> Repeats<Turn>
         ensures { result.items ≡ self.log }
     {
         let Hall { log, .. } = self;

@@ -1,15 +1,17 @@
 //! The hall that the workers of a run share: one lock for all of it, and for each place a signal of its own.
 
-ghost use Rattle.std.specs.Prelude.{◌≡◌, ◌≢◌, ◌↔◌, ◌⊎◌, IsTrue, IfOk, IfErr, Some, None};
+ghost use Rattle.std.specs.Prelude.{◌≡◌, ◌≢◌, ◌↔◌, ◌⊎◌, ◌<◌, IsTrue, IfOk, IfErr, Some, None, length};
+ghost use Rattle.x10_hall.specs.declared.turn.Turn.{Turn};
+ghost use Rattle.x10_hall.specs.Repetitions.{IsLast};
 ghost use Rattle.x10_kinds.specs.declared.stop.Stop.TheVariants as stop;
 ghost use Rattle.x10_hall.specs.declared.port.PostFault.TheVariants as fault;
 ghost use Rattle.x10_hall.specs.Halls.{empty_hall, with_turn, with_state};
-ghost use Rattle.x10_hall.specs.Mails.{refusal, ended, Takes, signal_of, with_turns, PostsUpTo};
+ghost use Rattle.x10_hall.specs.Mails.{refusal, ended, Takes, signal_of, with_turns, turns_of, turns_in, PostsUpTo};
 
 use crate::hall::Hall;
 use crate::port::{End, Port, PostFault, Signal, Take};
 use crate::state::HallState;
-use crate::turn::{Posted, Turn};
+use crate::turn::{Posted, Stint, Turn};
 use std::alloc::{AllocError, Global};
 use std::sync::atomic::{AtomicBool, Ordering};
 use std::sync::{Condvar, Mutex, Wait};
@@ -57,15 +59,59 @@ impl Limited {
         }
     }
 
-    /// Appends turns, one after another, up to the first that is refused.
-    fn post_all(&mut self, turns: Vec<Turn>) -> Result<(), PostFault>
+    /// Appends the last turn once more, as `post` appends a turn.
+    fn again(&mut self) -> Result<(), PostFault>
+        requires { 0 < length self.old.hall.log }
         ensures most { self.new.most ≡ self.old.most }
-        ensures ok { IfOk result (λ _. self.new.hall ≡ with_turns self.old.hall turns.items) }
-        ensures err { IfErr result (PostsUpTo self.old.most self.old.hall turns.items
+        ensures ok { IfOk result (λ _. (turn : Turn) → IsLast self.old.hall.log turn
+            → (refusal self.old.most self.old.hall turn ≡ None)
+            × (self.new.hall ≡ with_turn self.old.hall turn)) }
+        ensures err { IfErr result (λ why. (turn : Turn) → IsLast self.old.hall.log turn
+            → (self.new.hall ≡ self.old.hall)
+            × ((refusal self.old.most self.old.hall turn ≡ Some why)
+            ⊎ ((refusal self.old.most self.old.hall turn ≡ None)
+            × (why ≡ fault.Stop stop.Memory)))) }
+    {
+        if self.hall.state() == HallState::Stopped {
+            return Err(PostFault::Stopped);
+        }
+        if self.most <= self.hall.log().len() as u64 {
+            return Err(PostFault::Turns);
+        }
+        match self.hall.again() {
+            Ok(()) => Ok(()),
+            Err(why) => Err(PostFault::Stop(why)),
+        }
+    }
+
+    /// Appends a turn so often, up to the first time that is refused.
+    fn post_stint(&mut self, stint: Stint) -> Result<(), PostFault>
+        ensures most { self.new.most ≡ self.old.most }
+        ensures ok { IfOk result (λ _. self.new.hall ≡ with_turns self.old.hall (turns_of stint)) }
+        ensures err { IfErr result (PostsUpTo self.old.most self.old.hall (turns_of stint)
             self.new.hall) }
     {
-        for turn in turns {
-            self.post(turn)?;
+        let Stint { turn, times } = stint;
+        if times == 0 {
+            return Ok(());
+        }
+        self.post(turn)?;
+        for _ in 1..times {
+            self.again()?;
+        }
+        Ok(())
+    }
+
+    /// Appends turns, one after another, up to the first that is refused.
+    fn post_all(&mut self, stints: Vec<Stint>) -> Result<(), PostFault>
+        ensures most { self.new.most ≡ self.old.most }
+        ensures ok { IfOk result (λ _. self.new.hall ≡ with_turns self.old.hall
+            (turns_in stints.items)) }
+        ensures err { IfErr result (PostsUpTo self.old.most self.old.hall (turns_in stints.items)
+            self.new.hall) }
+    {
+        for stint in stints {
+            self.post_stint(stint)?;
         }
         Ok(())
     }
@@ -124,10 +170,10 @@ struct Receivers {
 
 impl Receivers {
     /// Those of the frames of some turns.
-    fn of(turns: &[Turn]) -> Receivers {
+    fn of(stints: &[Stint]) -> Receivers {
         let mut receivers = Receivers { bits: 0 };
-        for turn in turns {
-            receivers.add(&turn.frames);
+        for stint in stints {
+            receivers.add(&stint.turn.frames);
         }
         receivers
     }
@@ -231,9 +277,9 @@ impl<R: Wait> Port for Desk<'_, R> {
         self.mail.shared.lock(self.rt).take(place)
     }
 
-    fn post(&self, turns: Vec<Turn>) -> Result<(), PostFault> {
-        let receivers = Receivers::of(&turns);
-        let posted = self.mail.shared.lock(self.rt).post_all(turns);
+    fn post(&self, stints: Vec<Stint>) -> Result<(), PostFault> {
+        let receivers = Receivers::of(&stints);
+        let posted = self.mail.shared.lock(self.rt).post_all(stints);
         self.mail.wake(receivers);
         posted
     }

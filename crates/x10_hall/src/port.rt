@@ -1,5 +1,5 @@
 //! What a worker asks of the hall.
-use crate::turn::{Taken, Turn};
+use crate::turn::{Stint, Taken};
 use thiserror::Error;
 use x10_kinds::Stop;
 
@@ -56,7 +56,7 @@ pub trait Port {
 
     /// Appends turns to the log, one after another, and their frames to the rows of their receivers. Where one is refused,
     /// those before it are in the log.
-    fn post(&self, turns: Vec<Turn>) -> Result<(), PostFault>;
+    fn post(&self, stints: Vec<Stint>) -> Result<(), PostFault>;
 
     /// Waits until there is a frame for a place, or the run has ended or was stopped.
     fn wait(&self, place: u16) -> Signal;

@@ -38,3 +38,12 @@ pub struct Turn {
     /// The lines that were printed, in this order.
     pub lines: Vec<Line>,
 }
+
+/// A turn that was made so often, again and again, by the same place with no other turn between.
+#[derive(Drop)]
+pub struct Stint {
+    /// The turn.
+    pub turn: Turn,
+    /// How often.
+    pub times: u64,
+}

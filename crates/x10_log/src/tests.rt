@@ -1,9 +1,10 @@
 //! Small logs: read and written again, changed in each of their fields, and at the limits of a turn.
-use crate::{LogCause, read_log, write_log};
+use crate::{Log, LogCause, read_log, write_log};
 use std::alloc::Global;
 use std::fmt::Write;
 use std::process::Abort;
 use std::test::*;
+use x10_hall::Repeats;
 
 /// The first three lines of a log.
 const HEAD: &str = "x10 log 1
@@ -14,11 +15,25 @@ places 2
 /// A turn.
 const TURN: &str = "0 <3 <4 0*3 1 >1:0102ff =-5 \"a \\\"b\\\\c\\n\"\n";
 
+/// The text of a log that was read.
+fn written(alloc: Global, log: Log) -> Result<String, Fail> {
+    let Log {
+        digest,
+        places,
+        turns,
+    } = log;
+    let mut all = Repeats::new(alloc);
+    for turn in turns {
+        all.push(turn)?;
+    }
+    Ok(write_log(alloc, &digest, places, &all)?)
+}
+
 /// Why a text is refused: the line and the cause. Nothing, where it is read, and what is read is written as the same text.
 fn refusal(alloc: Global, text: &str) -> Result<Option<(usize, LogCause)>, Fail> {
     match read_log(alloc, text) {
         Ok(log) => {
-            let again = write_log(alloc, &log.digest, log.places, &log.turns)?;
+            let again = written(alloc, log)?;
             if again.as_str() == text {
                 Ok(None)
             } else {
@@ -72,7 +87,7 @@ fn small_log_is_read(rt: HostRuntime) -> Result<(), Fail> {
     assert_eq!(rt; turn.lines.len(), 2);
     assert_eq!(rt; log.turns[1].place, 1);
     assert!(rt; log.turns[1].keys.is_empty());
-    let again = write_log(alloc, &log.digest, log.places, &log.turns)?;
+    let again = written(alloc, log)?;
     assert_eq!(rt; again.as_str(), text.as_str());
     Ok(())
 }

@@ -10,7 +10,7 @@ ghost use Rattle.x10_log.specs.Logs.{turn_value, value_of, turn_line, head_lines
 use crate::pieces::{push_frames, push_keys, push_lines, push_taken};
 use std::alloc::{AllocError, Global};
 use std::fmt::Write;
-use x10_hall::Turn;
+use x10_hall::{Repeats, Turn};
 
 /// A turn's line, without the line feed.
 #[tactic(auto, unfolding(crate::specs::Logs::turn_line))]
@@ -43,13 +43,13 @@ pub fn push_head(
 }
 
 /// The lines of turns.
-fn push_turns(alloc: Global, text: &mut String, turns: &[Turn]) -> Result<(), AllocError>
+fn push_turns(alloc: Global, text: &mut String, turns: &Repeats<Turn>) -> Result<(), AllocError>
     ensures text { OnOk result (string_bytes text.new
-        ≡ string_bytes text.old ++ flat_map ended_line (map turn_value turns.now)) }
-    ensures fits { OnOk result (AllByRecursion FitsTurn (map turn_value turns.now)) }
+        ≡ string_bytes text.old ++ flat_map ended_line (map turn_value turns.now.items)) }
+    ensures fits { OnOk result (AllByRecursion FitsTurn (map turn_value turns.now.items)) }
 {
     for at in 0..turns.len() {
-        push_turn(alloc, text, &turns[at])?;
+        push_turn(alloc, text, turns.at(at))?;
         text.push_str("\n")?;
     }
     Ok(())
@@ -61,11 +61,11 @@ pub fn write_log(
     alloc: Global,
     digest: &[u8; 32],
     places: u16,
-    turns: &[Turn],
+    turns: &Repeats<Turn>,
 ) -> Result<String, AllocError>
     ensures text { IfOk result (λ text. string_bytes text
-        ≡ spelled (value_of digest.now places turns.now)) }
-    ensures fits { OnOk result (FitsLog (value_of digest.now places turns.now)) }
+        ≡ spelled (value_of digest.now places turns.now.items)) }
+    ensures fits { OnOk result (FitsLog (value_of digest.now places turns.now.items)) }
 {
     let mut text = String::new(alloc);
     push_head(alloc, &mut text, digest, places)?;

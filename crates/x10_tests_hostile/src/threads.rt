@@ -5,7 +5,7 @@ use std::process::Abort;
 use std::sync::{Arc, Wait};
 use std::test::*;
 use std::thread::Threads;
-use x10_hall::{Desk, Hall, Keys, Mail, Posted, Turn};
+use x10_hall::{Desk, Hall, Keys, Mail, Posted, Repeats, Turn};
 use x10_kinds::Stop;
 use x10_place::Line;
 use x10_samples::RELAY;
@@ -58,6 +58,20 @@ fn is_posted(rt: &impl Abort, hall: &mut Hall, turn: Turn) -> bool {
     }
 }
 
+/// Whether the last turn is posted once more; where it isn't, memory was refused.
+fn is_posted_again(rt: &impl Abort, hall: &mut Hall) -> bool {
+    if hall.log().is_empty() {
+        return false;
+    }
+    match hall.again() {
+        Ok(()) => true,
+        Err(why) => {
+            assert!(rt; why == Stop::Memory);
+            false
+        }
+    }
+}
+
 /// The numbers of the next frames for a place, up to four, which then are taken.
 fn taken(hall: &mut Hall, place: u16) -> [Option<u64>; 4] {
     let mut numbers = [None; 4];
@@ -72,7 +86,7 @@ fn turns(hall: &Hall) -> usize {
     hall.log().len()
 }
 
-/// Two turns are posted, of which the second may be refused: then the log, the rows and what was taken of them are as before.
+/// Two turns are posted, the second one twice, of which a later one may be refused: then the log, the rows and what was taken of them are as before.
 fn are_posted(alloc: Global, rt: &impl Abort) -> Option<()> {
     let mut hall = Hall::new(alloc, 2).ok()?;
     let first = turn_to(alloc, &[1, 0, 1]).ok()?;
@@ -95,6 +109,13 @@ fn are_posted(alloc: Global, rt: &impl Abort) -> Option<()> {
     assert!(rt; turns(&hall) == 2);
     assert!(rt; taken(&mut hall, 1) == [Some(2), Some(3), None, None]);
     assert!(rt; taken(&mut hall, 0) == [Some(1), Some(4), None, None]);
+    if !is_posted_again(rt, &mut hall) {
+        assert!(rt; turns(&hall) == 2 && taken(&mut hall, 1) == [None; 4]);
+        return None;
+    }
+    assert!(rt; turns(&hall) == 3);
+    assert!(rt; taken(&mut hall, 1) == [Some(5), None, None, None]);
+    assert!(rt; taken(&mut hall, 0) == [Some(6), None, None, None]);
     Some(())
 }
 
@@ -118,7 +139,12 @@ fn worked<'a, R: Wait + Abort>(
 }
 
 /// Whether a log and the trails of its workers come to the number 5. Nothing where memory was refused.
-fn prints_five(alloc: Global, rt: &impl Abort, log: &[Turn], trails: &[Trail]) -> Option<bool> {
+fn prints_five(
+    alloc: Global,
+    rt: &impl Abort,
+    log: &Repeats<Turn>,
+    trails: &[Trail],
+) -> Option<bool> {
     match weave(alloc, log, trails) {
         Ok(outputs) => Some(have_first(&outputs, &[&[5]], true)),
         Err(why) => {
@@ -142,10 +168,10 @@ fn is_woven<R: Wait + Abort>(alloc: Global, rt: &R) -> Option<()> {
 }
 
 /// How many lines the turns of a log have.
-fn lines_in(log: &[Turn]) -> usize {
+fn lines_in(log: &Repeats<Turn>) -> usize {
     let mut count = 0usize;
-    for turn in log {
-        count = count.saturating_add(turn.lines.len());
+    for at in 0..log.len() {
+        count = count.saturating_add(log.at(at).lines.len());
     }
     count
 }

@@ -1,4 +1,5 @@
 //! Logs of a run in which one thing was changed.
+use crate::logs::listed;
 use crate::runs::{ACROSS, assembled, audited, program, run};
 use std::alloc::Global;
 use std::sync::{Arc, Wait};
@@ -134,7 +135,7 @@ fn log_of<R: Threads + Wait + Sync>(
     places: u16,
 ) -> Result<Vec<Turn>, Fail> {
     match run(rt, alloc, verified, places, 1_000) {
-        Ok(report) => Ok(report.log),
+        Ok(report) => listed(alloc, &report.log),
         Err(_) => Err("there is no report".into()),
     }
 }

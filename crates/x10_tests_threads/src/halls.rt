@@ -78,6 +78,27 @@ fn frames_in_order(rt: HostRuntime) -> Result<(), Fail> {
     Ok(())
 }
 
+/// Whether the last turn is posted once more.
+fn is_posted_again(hall: &mut Hall) -> bool {
+    !hall.log().is_empty() && hall.again().is_ok()
+}
+
+#[test]
+fn frames_again(rt: HostRuntime) -> Result<(), Fail> {
+    let mut hall = hall_of_two(rt.alloc())?;
+    assert!(rt; !is_posted_again(&mut hall));
+    let turn = turn_to(rt.alloc(), &[1, 0])?;
+    assert!(rt; is_posted(&mut hall, turn));
+    assert!(rt; is_posted_again(&mut hall));
+    assert!(rt; turns(&hall) == 2);
+    assert!(rt; next(&mut hall, 1) == Some((0, 1)));
+    assert!(rt; next(&mut hall, 1) == Some((2, 1)));
+    assert!(rt; next(&mut hall, 0) == Some((1, 0)));
+    assert!(rt; next(&mut hall, 0) == Some((3, 0)));
+    assert!(rt; next(&mut hall, 0).is_none());
+    Ok(())
+}
+
 #[test]
 fn states(rt: HostRuntime) -> Result<(), Fail> {
     let mut hall = hall_of_two(rt.alloc())?;

@@ -8,6 +8,8 @@ mod ends;
 #[cfg(test)]
 mod halls;
 #[cfg(test)]
+mod logs;
+#[cfg(test)]
 mod meeting;
 #[cfg(test)]
 mod ports;

@@ -6,7 +6,7 @@ use std::alloc::{AllocError, Global};
 use std::sync::{Arc, Mutex, Wait};
 use std::test::*;
 use x10_copy::Refusal;
-use x10_hall::{Desk, End, Mail, Port, PostFault, Signal, Take, Taken, Turn};
+use x10_hall::{Desk, End, Mail, Port, PostFault, Repeats, Signal, Stint, Take, Taken, Turn};
 use x10_verify::Verified;
 use x10_workers::{AuditFault, Halt, Open, Trail, weave, work};
 
@@ -97,8 +97,8 @@ impl<R: Wait> Port for Odd<'_, R> {
         }
     }
 
-    fn post(&self, turns: Vec<Turn>) -> Result<(), PostFault> {
-        self.brief.post(turns)
+    fn post(&self, stints: Vec<Stint>) -> Result<(), PostFault> {
+        self.brief.post(stints)
     }
 
     fn wait(&self, place: u16) -> Signal {
@@ -126,7 +126,7 @@ impl<R: Wait> Port for Odd<'_, R> {
 struct Odds {
     halt: Option<Halt>,
     fault: Option<AuditFault>,
-    log: Vec<Turn>,
+    log: Repeats<Turn>,
 }
 
 /// The work of a place, one of as many as the module has at least.
@@ -189,9 +189,10 @@ fn ending<R: Wait>(rt: &R, alloc: Global, text: &str, manner: Manner) -> Result<
 }
 
 /// Whether place 1 took these frames in its turns, turn after turn.
-fn took(log: &[Turn], turns: &[&[u64]]) -> bool {
+fn took(log: &Repeats<Turn>, turns: &[&[u64]]) -> bool {
     let mut next = turns.iter();
-    for turn in log {
+    for at in 0..log.len() {
+        let turn = log.at(at);
         if turn.place == 1
             && next.next().map(|taken| turn.taken.as_slice() == *taken) != Some(true)
         {

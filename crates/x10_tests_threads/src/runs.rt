@@ -1,4 +1,5 @@
 //! Runs of whole modules, with a thread for each place.
+use crate::logs::listed;
 use std::alloc::Global;
 use std::process::Abort;
 use std::sync::Wait;
@@ -118,7 +119,10 @@ fn comes_to<R: Threads + Wait + Sync>(
     if !printed(&report.outputs, wanted) {
         return false;
     }
-    match audited(alloc, verified, places, &report.log) {
+    let Ok(log) = listed(alloc, &report.log) else {
+        return false;
+    };
+    match audited(alloc, verified, places, &log) {
         Some(Ok(outputs)) => printed(&outputs, wanted),
         _ => false,
     }

@@ -4,7 +4,7 @@ use std::alloc::Global;
 use std::sync::Wait;
 use std::sync::atomic::{AtomicU64, Ordering};
 use std::test::*;
-use x10_hall::{Desk, End, Mail, Port, PostFault, Signal, Take, Turn};
+use x10_hall::{Desk, End, Mail, Port, PostFault, Signal, Stint, Take};
 use x10_verify::Verified;
 use x10_workers::{Gate, Halt, Open, Trail, work};
 
@@ -109,7 +109,7 @@ impl Port for Counting {
         Take::Nothing
     }
 
-    fn post(&self, _turns: Vec<Turn>) -> Result<(), PostFault> {
+    fn post(&self, _stints: Vec<Stint>) -> Result<(), PostFault> {
         Ok(())
     }
 
@@ -153,9 +153,10 @@ fn steps<R: Wait>(rt: &R, alloc: Global, text: &str, keys: &[usize]) -> Result<b
     let Some(Ok(trail)) = worked(rt, alloc, &verified, &desk, &Open) else {
         return Err("there is no trail".into());
     };
-    let Some(turn) = trail.turns().first() else {
+    if trail.turns().is_empty() {
         return Ok(false);
-    };
+    }
+    let turn = trail.turns().at(0);
     if turn.keys.len() != keys.len() {
         return Ok(false);
     }
@@ -207,5 +208,27 @@ fn called(
 fn calls(rt: HostRuntime) -> Result<(), Fail> {
     assert!(rt; called(&rt, rt.alloc(), false)? == (123_456, 1, None));
     assert!(rt; called(&rt, rt.alloc(), true)? == (1, 1, Some(Halt::Ended)));
+    Ok(())
+}
+
+/// How many turns the worker of the only place keeps of `LONG`, and how many its log has.
+fn counted<R: Wait>(rt: &R, alloc: Global, most: u64) -> Result<(Option<usize>, usize), Fail> {
+    let bytes = assembled(alloc, LONG)?;
+    let verified = program(alloc, &bytes)?;
+    let mail = Mail::new(alloc, 1, most)?;
+    let desk = Desk::new(rt, &mail);
+    let kept = match worked(rt, alloc, &verified, &desk, &Open) {
+        Some(Ok(trail)) => Some(trail.turns().len()),
+        _ => None,
+    };
+    Ok((kept, mail.into_hall().log().len()))
+}
+
+/// Turns that are the same again count one by one, also for the limit of turns.
+#[test]
+fn same_again(rt: HostRuntime) -> Result<(), Fail> {
+    assert!(rt; counted(&rt, rt.alloc(), 1_000)? == (Some(6), 6));
+    assert!(rt; counted(&rt, rt.alloc(), 6)? == (Some(6), 6));
+    assert!(rt; counted(&rt, rt.alloc(), 3)? == (None, 3));
     Ok(())
 }

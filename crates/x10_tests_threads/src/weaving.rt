@@ -1,10 +1,11 @@
 //! Logs that are compared with what the worker of their place kept.
 use crate::changed::{Change, make_change};
+use crate::logs::{listed, logged};
 use crate::runs::{ACROSS, assembled, printed, program};
 use std::alloc::Global;
 use std::sync::Wait;
 use std::test::*;
-use x10_hall::{Desk, End, Mail, Port, PostFault, Signal, Take, Turn};
+use x10_hall::{Desk, End, Mail, Port, PostFault, Repeats, Signal, Stint, Take, Turn};
 use x10_verify::Verified;
 use x10_workers::{AuditFault, Halt, Open, Trail, weave, work};
 
@@ -28,7 +29,7 @@ entry 1
 #[derive(Drop)]
 struct Kept<'a> {
     trails: Vec<Trail<'a>>,
-    log: Vec<Turn>,
+    log: Repeats<Turn>,
 }
 
 /// A port that takes no turn.
@@ -40,7 +41,7 @@ impl Port for Full {
         Take::Nothing
     }
 
-    fn post(&self, _turns: Vec<Turn>) -> Result<(), PostFault> {
+    fn post(&self, _stints: Vec<Stint>) -> Result<(), PostFault> {
         Err(PostFault::Turns)
     }
 
@@ -64,7 +65,7 @@ impl Port for Closed {
         Take::Stopped
     }
 
-    fn post(&self, _turns: Vec<Turn>) -> Result<(), PostFault> {
+    fn post(&self, _stints: Vec<Stint>) -> Result<(), PostFault> {
         Err(PostFault::Stopped)
     }
 
@@ -96,8 +97,8 @@ impl<R: Wait> Port for Brief<'_, R> {
         self.desk.take(place)
     }
 
-    fn post(&self, turns: Vec<Turn>) -> Result<(), PostFault> {
-        self.desk.post(turns)
+    fn post(&self, stints: Vec<Stint>) -> Result<(), PostFault> {
+        self.desk.post(stints)
     }
 
     fn wait(&self, _place: u16) -> Signal {
@@ -178,8 +179,10 @@ fn is_right(what: Change, at: Option<usize>, turns: usize, fault: Option<AuditFa
 fn is_told<R: Wait>(rt: &R, alloc: Global, what: Change) -> Result<bool, Fail> {
     let bytes = assembled(alloc, OWN)?;
     let verified = program(alloc, &bytes)?;
-    let Kept { trails, mut log } = run_alone(rt, alloc, &verified)?;
-    let at = make_change(alloc, &mut log, what)?;
+    let Kept { trails, log } = run_alone(rt, alloc, &verified)?;
+    let mut turns = listed(alloc, &log)?;
+    let at = make_change(alloc, &mut turns, what)?;
+    let log = logged(alloc, turns)?;
     let fault = weave(alloc, &log, &trails).err();
     Ok(is_right(what, at, log.len(), fault))
 }
@@ -237,11 +240,13 @@ fn ends_at(log: &[Turn], place: u16) -> bool {
 fn last_turn_elsewhere(rt: HostRuntime) -> Result<(), Fail> {
     let bytes = assembled(rt.alloc(), ACROSS)?;
     let verified = program(rt.alloc(), &bytes)?;
-    let Kept { trails, mut log } = run_in_turn(&rt, rt.alloc(), &verified)?;
+    let Kept { trails, log } = run_in_turn(&rt, rt.alloc(), &verified)?;
     let whole = weave(rt.alloc(), &log, &trails).err();
     assert!(rt; whole == Some(AuditFault::Open));
-    assert!(rt; ends_at(&log, 1));
-    log.pop();
+    let mut turns = listed(rt.alloc(), &log)?;
+    assert!(rt; ends_at(&turns, 1));
+    turns.pop();
+    let log = logged(rt.alloc(), turns)?;
     let cut = weave(rt.alloc(), &log, &trails).err();
     assert!(rt; cut == Some(AuditFault::Differs(log.len())));
     Ok(())

@@ -10,7 +10,7 @@ use Rattle.x10_place.specs.declared.place.Stepped.{Stepped}
 use Rattle.x10_place.specs.declared.place.Stepped.TheVariants as stepped
 use Rattle.x10_place.specs.declared.sent.Sent.{Sent}
 use Rattle.x10_place.specs.Messages.{no_sent}
-use Rattle.x10_place.specs.StandsFor.{PlaceState, IsIdleAt, LeadsAll, Keeps, AreOutside}
+use Rattle.x10_place.specs.StandsFor.{PlaceState, line_as, IsIdleAt, LeadsAll, Keeps, AreOutside}
 use Rattle.x10_place.specs.Stays.{StayState}
 use Rattle.x10_place.specs.Stretches.{Strides, at_once, onward, StridesTo, nowhere, finally}
 use Rattle.x10_hall.specs.declared.turn.Posted.{Posted}
@@ -23,7 +23,7 @@ use Rattle.x10_model.proofs.Found.{head_is}
 use Rattle.x10_world.specs.StandsForWorld.{IsMadeStep}
 use Rattle.x10_world.proofs.Lists.{replicate_more}
 use Rattle.x10_workers.specs.Trails.{frames_sent, frames_out, TakesFrame, TakesEach, StepsBy, by_step, by_stride, StepsEach, TurnLeads, TrailLeads}
-use Rattle.x10_workers.specs.Workings.{WorksOn}
+use Rattle.x10_workers.specs.Workings.{WorksOn, IsSilent, AreAlike, KeepsTurn}
 use Rattle.x10_workers.specs.Looms.{flying_as}
 use Rattle.x10_workers.specs.Weaves.{Woven, TakesOff, TakesOffEach, IsTurnOf, IsNextTurn, Weaves, WeavesAll, weaves_more, all_flying}
 
@@ -115,6 +115,34 @@ goes_still p q kept same goes = record { more = []; kept = sym (append-nil kept)
 pub goes_one : (p q : PlaceState) (old new : List OwnTurn) (t : OwnTurn) → new ≡ old ++ t ∷ [] → TurnLeads p t q → q.stopped ≢ true
     → WorksOn p old q new
 goes_one p q old new t kept led goes = record { more = t ∷ []; kept = kept; leads = (q, led, refl); goes = goes }
+
+-- turns that tell the same lead the same way
+pub alike_leads : (p q : PlaceState) (like own : OwnTurn) → AreAlike like own → TurnLeads p own q → TurnLeads p like q
+alike_leads p q like own a led = record {
+  middle = led.middle;
+  takes = subst (λ fs. TakesEach p fs led.middle) (sym a.taken) led.takes;
+  steps = subst (λ fs. StepsEach led.middle like.keys fs q) (sym a.frames) (subst (λ ks. StepsEach led.middle ks (map frame_of own.frames.items) q)
+      (sym a.keys) led.steps);
+  printed = led.printed ∙ sym a.lines;
+}
+
+-- one turn was made, and kept
+pub goes_kept : (p q : PlaceState) (old new : List OwnTurn) (t : OwnTurn) → KeepsTurn t old new → TurnLeads p t q → q.stopped ≢ true
+    → WorksOn p old q new
+goes_kept p q old new t k led goes = goes_one p q old new k.like k.kept (alike_leads p q k.like t k.alike led) goes
+
+-- turns that say nothing and have the same keys tell the same
+pub silent_alike : (one other : OwnTurn) → IsSilent one → IsSilent other → one.keys ≡ other.keys → AreAlike one other
+silent_alike one other a b keys = record {
+  taken = ap (λ fs. map told fs) (a.taken ∙ sym b.taken);
+  keys = keys;
+  frames = ap (λ fs. map frame_of fs) (a.frames ∙ sym b.frames);
+  lines = ap (λ ls. map line_as ls) (a.lines ∙ sym b.lines);
+}
+
+-- each turn tells the same as itself
+pub alike_itself : (own : OwnTurn) → AreAlike own own
+alike_itself own = record { taken = refl; keys = refl; frames = refl; lines = refl }
 
 -- nothing was done since
 pub goes_same : (p q r : PlaceState) (old new kept : List OwnTurn) → WorksOn p old q new → r ≡ q → kept ≡ new → WorksOn p old r kept
@@ -212,6 +240,10 @@ not_off held place o f after is never off = go o refl (same_Some (flying_as o) (
     go : (p : Option (Bor Posted)) → o ≡ p → flying_as p ≡ Some (record { to = place; bytes = f.bytes }) → ⊥
     go None e flies = cc
     go (Some p) e flies = never p e (same_Some (frame_of p.now) (record { to = place; bytes = f.bytes }) flies)
+
+-- the items up to one and with it
+pub take_seen : {X : Type 0} (xs : List X) (i : ℕ) (x : X) → slice_get xs i ≡ Some x → take (i + 1) xs ≡ take i xs ++ x ∷ []
+take_seen xs i x is = take_more xs i x (slice_get_within xs i x is) ∙ ap (λ z. take i xs ++ z ∷ []) (get_or_from_slice_get xs i x x is)
 
 pub when_some : {X : Type 0} (o : Option X) (x : X) (A : Type 0) (B : X → Type 0) → o ≡ Some x → B x → MatchOption o A B
 when_some o x A B is b = subst (λ p. MatchOption p A B) (sym is) b

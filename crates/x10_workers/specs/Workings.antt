@@ -1,9 +1,10 @@
 -- What the workers of a run hand over, and what they do while they are at work.
-use Rattle.std.specs.Prelude.{◌≡◌, ◌≢◌, ◌↔◌, ℕ, List, ◌++◌, Some, Result, IfOk, IsTrue, true, false, length, map, slice_get}
+use Rattle.std.specs.Prelude.{◌≡◌, ◌≢◌, ◌↔◌, ℕ, ◌<◌, List, [], ◌∷◌, ◌++◌, Some, Result, IfOk, IsTrue, true, false, length, map, slice_get}
 use Rattle.x10_verify.specs.Certified.{Certified}
 use Rattle.x10_place.specs.StandsFor.{PlaceState, store_of, line_as}
 use Rattle.x10_place.specs.Stays.{IsDoneHere}
-use Rattle.x10_hall.specs.Halls.{PostedFrame, frame_of}
+use Rattle.x10_hall.specs.Halls.{PostedFrame, frame_of, told}
+use Rattle.x10_hall.specs.Repetitions.{IsLast}
 use Rattle.x10_workers.specs.declared.halt.Halt.{Halt}
 use Rattle.x10_workers.specs.declared.trail.Kept.{Kept}
 use Rattle.x10_workers.specs.declared.trail.OwnTurn.{OwnTurn}
@@ -61,6 +62,32 @@ pub record WorksOn (p : PlaceState) (old : List OwnTurn) (q : PlaceState)
   pub kept : new ≡ old ++ more
   pub leads : TrailLeads p more q
   pub goes : q.stopped ≢ true
+
+-- a turn that took nothing in and put nothing out
+pub record IsSilent (own : OwnTurn) : Type 0 where
+  pub taken : own.taken.items ≡ []
+  pub frames : own.frames.items ≡ []
+  pub lines : own.lines.items ≡ []
+
+-- turns that tell the same
+pub record AreAlike (one other : OwnTurn) : Type 0 where
+  pub taken : map told one.taken.items ≡ map told other.taken.items
+  pub keys : one.keys ≡ other.keys
+  pub frames : map frame_of one.frames.items ≡ map frame_of other.frames.items
+  pub lines : map line_as one.lines.items ≡ map line_as other.lines.items
+
+-- the last of the turns that were kept tells the same as a turn
+pub record IsAgain (kept : List OwnTurn) (own : OwnTurn) : Type 0 where
+  pub last : OwnTurn
+  pub some : 0 < length kept
+  pub is_last : IsLast kept last
+  pub alike : AreAlike last own
+
+-- a turn was kept, or one that tells the same
+pub record KeepsTurn (own : OwnTurn) (old new : List OwnTurn) : Type 0 where
+  pub like : OwnTurn
+  pub kept : new ≡ old ++ like ∷ []
+  pub alike : AreAlike like own
 
 -- what is kept of them and of the place with a number, at the end
 pub record IsKeptWhole (id : ℕ) (p : PlaceState) (made : List OwnTurn) (kept : Kept) : Type 0 where

@@ -5,7 +5,7 @@ ghost use Rattle.x10_workers.specs.Reports.{AddsTurn, AreLinesBy};
 ghost use Rattle.x10_place.specs.StandsFor.{line_as};
 
 use std::alloc::{AllocError, Global};
-use x10_hall::Turn;
+use x10_hall::{Repeats, Turn};
 use x10_place::Line;
 use x10_world::push_lines;
 
@@ -88,13 +88,13 @@ fn push_turn(alloc: Global, turn: &Turn, lists: &mut Vec<Vec<Line>>) -> Result<(
 pub(crate) fn lines_by_place(
     alloc: Global,
     places: u16,
-    log: &[Turn],
+    log: &Repeats<Turn>,
 ) -> Result<Vec<Vec<Line>>, AllocError>
-    ensures { IfOk result (λ lists. AreLinesBy places log.now (lines_in lists.items)) }
+    ensures { IfOk result (λ lists. AreLinesBy places log.now.items (lines_in lists.items)) }
 {
     let mut lists = empty_lists(alloc, places)?;
     for at in 0..log.len() {
-        push_turn(alloc, &log[at], &mut lists)?;
+        push_turn(alloc, log.at(at), &mut lists)?;
     }
     Ok(lists)
 }

@@ -1,5 +1,5 @@
 //! What is reported of a run with threads.
-use x10_hall::Turn;
+use x10_hall::{Repeats, Turn};
 use x10_place::Line;
 
 /// A run: what each place printed, and the turns of all places in an order in which they may have been made one by one.
@@ -8,5 +8,5 @@ pub struct RunReport {
     /// The lines of each place.
     pub outputs: Vec<Vec<Line>>,
     /// The turns.
-    pub log: Vec<Turn>,
+    pub log: Repeats<Turn>,
 }

@@ -20,7 +20,7 @@ use crate::working::kept_of;
 use std::alloc::Global;
 use std::sync::Wait;
 use std::thread::Threads;
-use x10_hall::{Desk, End, Mail, Port, Turn};
+use x10_hall::{Desk, End, Mail, Port, Repeats, Turn};
 use x10_model::limits::MOST_PLACES;
 use x10_verify::Verified;
 
@@ -114,7 +114,7 @@ fn trails_from<'a>(
 }
 
 /// The report of a run that has ended, if its log is found in the trails of its places.
-fn finished(alloc: Global, trails: &[Trail], log: Vec<Turn>) -> Result<RunReport, WorkFault>
+fn finished(alloc: Global, trails: &[Trail], log: Repeats<Turn>) -> Result<RunReport, WorkFault>
     ensures ok { (c : Certified) → AreTrails c trails.now
         → IfOk result (λ r. IsPlayed c (length trails.now) r.log.items (lines_in r.outputs.items)) }
     ensures places { IsErrOf result fault.Places → ⊥ }
@@ -155,7 +155,13 @@ fn all_trails<'a, R: Threads + Wait + Sync, G: Gate + Sync>(
 }
 
 /// The fault of a run that failed, with a report of the turns that were posted.
-fn fault_of(alloc: Global, places: u16, turns: u64, failure: Failure, log: Vec<Turn>) -> WorkFault
+fn fault_of(
+    alloc: Global,
+    places: u16,
+    turns: u64,
+    failure: Failure,
+    log: Repeats<Turn>,
+) -> WorkFault
     ensures places { result ≢ fault.Places }
     ensures told { IsTold places turns result }
 {

@@ -4,7 +4,7 @@ ghost use Rattle.x10_verify.specs.Certified.{IsCertified};
 ghost use Rattle.x10_workers.specs.Trails.{IsTrail, trail_of};
 
 use std::marker::Model;
-use x10_hall::{Keys, Posted, Taken};
+use x10_hall::{Keys, Posted, Repeats, Taken};
 use x10_place::Line;
 use x10_verify::Verified;
 
@@ -27,7 +27,7 @@ pub(crate) struct Kept {
     /// The number of the place.
     pub(crate) id: u16,
     /// Its turns, first to last.
-    pub(crate) turns: Vec<OwnTurn>,
+    pub(crate) turns: Repeats<OwnTurn>,
     /// All lines that it printed.
     pub(crate) lines: Vec<Line>,
     /// Whether the root finish may end, as this place knows it; only place 0 does.
@@ -89,8 +89,8 @@ impl<'a> Trail<'a> {
     }
 
     /// The turns of the place, first to last.
-    pub fn turns(&self) -> &[OwnTurn]
-        ensures { result.now ≡ self.now.turns }
+    pub fn turns(&self) -> &Repeats<OwnTurn>
+        ensures { result.now.items ≡ self.now.turns }
     {
         &self.kept.turns
     }

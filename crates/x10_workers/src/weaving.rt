@@ -16,7 +16,7 @@ use crate::fault::AuditFault;
 use crate::lines::same_lines;
 use crate::trail::{OwnTurn, Trail};
 use std::alloc::{AllocError, Global};
-use x10_hall::{Posted, Taken, Turn};
+use x10_hall::{Posted, Repeats, Taken, Turn};
 use x10_kinds::Stop;
 use x10_place::Line;
 use x10_world::copied_lines;
@@ -164,7 +164,7 @@ impl<'l> Loom<'l> {
         if cursor >= turns.len() {
             return None;
         }
-        Some((cursor, &turns[cursor]))
+        Some((cursor, turns.at(cursor)))
     }
 
     /// Whether a turn is the next one of its place's trail, and took what was in flight to this place. If so, it is counted.
@@ -190,13 +190,13 @@ impl<'l> Loom<'l> {
     }
 
     /// Goes through a log, up to the first turn that differs.
-    fn weave_all(&mut self, trails: &[Trail], log: &'l [Turn]) -> Result<(), AuditFault>
-        ensures ok { IfOk result (λ _. WeavesAll trails.now (woven self.old) log.now
+    fn weave_all(&mut self, trails: &[Trail], log: &'l Repeats<Turn>) -> Result<(), AuditFault>
+        ensures ok { IfOk result (λ _. WeavesAll trails.now (woven self.old) log.now.items
             (woven self.new)) }
-        ensures err { IfErr result (IsNotWoven trails.now (woven self.old) log.now) }
+        ensures err { IfErr result (IsNotWoven trails.now (woven self.old) log.now.items) }
     {
         for at in 0..log.len() {
-            match self.weave_turn(trails, &log[at]) {
+            match self.weave_turn(trails, log.at(at)) {
                 Ok(true) => {}
                 Ok(false) => return Err(AuditFault::Differs(at)),
                 Err(_) => return Err(AuditFault::Stop(Stop::Memory)),
@@ -255,13 +255,18 @@ fn assure(trails: &[Trail])
 /// trail with a turn that isn't in the log, by the number of turns that are; then trails after which some activity may be left.
 /// An Ok says that all turns of the log are in the trails and all turns of the trails in the log, whoever made them. No step is
 /// made. Linear in the turns, with the bytes of their frames and lines.
-pub fn weave(alloc: Global, log: &[Turn], trails: &[Trail]) -> Result<Vec<Vec<Line>>, AuditFault>
+pub fn weave(
+    alloc: Global,
+    log: &Repeats<Turn>,
+    trails: &[Trail],
+) -> Result<Vec<Vec<Line>>, AuditFault>
     ensures ok { (c : Certified) → AreTrails c trails.now
-        → IfOk result (λ outputs. IsPlayed c (length trails.now) log.now (lines_in outputs.items)) }
-    ensures whole { IfOk result (λ _. IsWovenWhole trails.now log.now) }
+        → IfOk result (λ outputs. IsPlayed c (length trails.now) log.now.items
+        (lines_in outputs.items)) }
+    ensures whole { IfOk result (λ _. IsWovenWhole trails.now log.now.items) }
     ensures lines { IfOk result (λ outputs. lines_in outputs.items
         ≡ map (λ t. map line_as t.lines) trails.now) }
-    ensures err { IfErr result (ExplainsWeave trails.now log.now) }
+    ensures err { IfErr result (ExplainsWeave trails.now log.now.items) }
 {
     assure(trails);
     let Ok(mut loom) = Loom::new(alloc, trails.len()) else {

@@ -9,5 +9,5 @@ use Rattle.x10_log.proofs.writing.push_turns.Given as goal
 
 abbrev pub invariant-loop-at : goal.invariant-loop-at
 invariant-loop-at l = ArePushed (λ ts. flat_map ended_line (map turn_value ts))
-    (string_bytes l.initial.text ++ flat_map ended_line (map turn_value l.turns)) (string_bytes l.text) l.turns l.at
-    × AreFit (λ t. FitsTurn (turn_value t)) l.turns l.at
+    (string_bytes l.initial.text ++ flat_map ended_line (map turn_value l.turns.items)) (string_bytes l.text) l.turns.items l.at
+    × AreFit (λ t. FitsTurn (turn_value t)) l.turns.items l.at

@@ -10,7 +10,5 @@ returns-clause-next c = record {
       (omega (arith, c.if-place-trails.false)) c.index-trails-place.is;
   cursor_is = slice_get_read c.args.self.now.cursors.items _ c.args.place c.index-cursor.result.now refl
       (omega (arith, c.if-place-len.false, c.len.ensures)) c.index-cursor.ensures;
-  own_is = ap (λ ts. slice_get ts c.index-cursor.result.now) (sym c.turns-turns.ensures)
-      ∙ slice_get_read c.turns-turns.result.now _ c.index-cursor.result.now c.index-turns-cursor.result refl
-      (omega (arith, c.if-cursor-turns.false)) c.index-turns-cursor.is;
+  own_is = ap (λ ts. slice_get ts c.index-cursor.result.now) (sym c.turns-turns.ensures) ∙ c.at.ensures;
 }
