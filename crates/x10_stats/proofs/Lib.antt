@@ -1,0 +1,5 @@
+pub mod FramesCounted
+pub mod EventsCounted
+pub mod HeapLines
+pub mod FrameTypes
+pub mod FourLines

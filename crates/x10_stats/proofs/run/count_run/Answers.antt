@@ -1,0 +1,91 @@
+use Rattle.std.proofs.Common.{[], ◌∷◌, ◌++◌, refl, arith}
+use Rattle.x10_world.specs.declared.rounds.Unfinished.TheVariants as halt
+use Rattle.x10_world.proofs.RunCounts.{err_if, runs_self, runs_on}
+use Rattle.x10_stats.specs.Stats.Counted.{begins}
+use Rattle.x10_stats.proofs.EventsCounted.{counts_more, one_longer, stop_told}
+use Rattle.x10_stats.proofs.run.count_run.Goals as goal
+
+pub returns-in_err-going-clause-runs : goal.returns-in_err-going-clause-runs
+returns-in_err-going-clause-runs c = runs_self c.args.world.now
+
+pub returns-in_err-scheduler-clause-runs : goal.returns-in_err-scheduler-clause-runs
+returns-in_err-scheduler-clause-runs c = runs_self c.args.world.now
+
+pub returns-in_err-scheduler-clause-cut : goal.returns-in_err-scheduler-clause-cut
+returns-in_err-scheduler-clause-cut c = λ on. err_if c.from_residual-in_err-scheduler.result halt.Memory _
+    c.from_residual-in_err-scheduler.ensures.1 (record { events = []; few = omega arith; counts = begins; goes = on })
+
+pub loop-made-init : goal.loop-made-init
+loop-made-init c = record {
+  runs = runs_self c.args.world.now;
+  events = [];
+  count = refl;
+  counts = begins;
+  goes = c.in_ok-going.ensures.ok;
+}
+
+pub returns-in_err-next-clause-cut : goal.returns-in_err-next-clause-cut
+returns-in_err-next-clause-cut c = λ on. err_if c.from_residual-in_err-next.result halt.Memory _ c.from_residual-in_err-next.ensures.1
+    (record {
+      events = c.loop-made.invariant.events;
+      few = (let count = c.loop-made.invariant.count in omega (arith, count, c.loop-made-test.true));
+      counts = c.loop-made.invariant.counts;
+      goes = c.loop-made.invariant.goes;
+    })
+
+pub returns-in_err-count_event-clause-runs : goal.returns-in_err-count_event-clause-runs
+returns-in_err-count_event-clause-runs c = runs_on c.args.world.now c.loop-made.world c.count_event.new.world c.loop-made.invariant.runs
+    c.count_event.ensures.runs
+
+pub returns-in_err-count_event-clause-cut : goal.returns-in_err-count_event-clause-cut
+returns-in_err-count_event-clause-cut c = λ on.
+    let count = c.loop-made.invariant.count in
+    err_if c.from_residual-in_err-count_event.result (halt.Stop c.in_err-count_event.field-0.0) _ c.from_residual-in_err-count_event.ensures.1
+    (stop_told c.args.stats.now c.args.world.now c.args.limit c.loop-made.stats c.count_event.new.stats c.loop-made.world c.count_event.new.world
+    c.unwrap_or-event.result c.in_err-count_event.field-0.0 (record {
+      events = c.loop-made.invariant.events;
+      few = omega (arith, count, c.loop-made-test.true);
+      counts = c.loop-made.invariant.counts;
+      goes = c.loop-made.invariant.goes;
+    }) c.in_err-count_event.ensures.still c.in_err-count_event.ensures.stops)
+
+pub returns-then-closed-clause-runs : goal.returns-then-closed-clause-runs
+returns-then-closed-clause-runs c = runs_on c.args.world.now c.loop-made.world c.count_event.new.world c.loop-made.invariant.runs
+    c.count_event.ensures.runs
+
+pub returns-then-closed-clause-counted : goal.returns-then-closed-clause-counted
+returns-then-closed-clause-counted c = λ on.
+    let longer = one_longer c.loop-made.invariant.events c.unwrap_or-event.result c.loop-made.made c.loop-made.invariant.count in record {
+      events = c.loop-made.invariant.events ++ c.unwrap_or-event.result ∷ [];
+      few = omega (arith, longer, c.loop-made-test.true);
+      counts = counts_more c.args.stats.now c.args.world.now c.loop-made.world c.count_event.new.world c.loop-made.invariant.events
+          c.loop-made.stats c.count_event.new.stats c.unwrap_or-event.result c.loop-made.invariant.counts c.in_ok-count_event.ensures.done
+          c.in_ok-count_event.ensures.made;
+      goes = c.in_ok-count_event.ensures.goes;
+    }
+
+pub returns-then-closed-clause-ended : goal.returns-then-closed-clause-ended
+returns-then-closed-clause-ended c = record { over = λ w stand. c.closed.ensures.ended w stand c.if-closed.true }
+
+pub loop-made-preserved : goal.loop-made-preserved
+loop-made-preserved c = record {
+  runs = runs_on c.args.world.now c.loop-made.world c.count_event.new.world c.loop-made.invariant.runs c.count_event.ensures.runs;
+  events = c.loop-made.invariant.events ++ c.unwrap_or-event.result ∷ [];
+  count = one_longer c.loop-made.invariant.events c.unwrap_or-event.result c.loop-made.made c.loop-made.invariant.count;
+  counts = counts_more c.args.stats.now c.args.world.now c.loop-made.world c.count_event.new.world c.loop-made.invariant.events
+      c.loop-made.stats c.count_event.new.stats c.unwrap_or-event.result c.loop-made.invariant.counts c.in_ok-count_event.ensures.done
+      c.in_ok-count_event.ensures.made;
+  goes = c.in_ok-count_event.ensures.goes;
+}
+
+pub returns-clause-cut : goal.returns-clause-cut
+returns-clause-cut c = λ on.
+    let count = c.loop-made.invariant.count in (
+      record {
+        events = c.loop-made.invariant.events;
+        few = omega (arith, count, c.loop-made-test.false, c.loop-made.auto.made-end);
+        counts = c.loop-made.invariant.counts;
+        goes = c.loop-made.invariant.goes;
+      },
+      omega (arith, count, c.loop-made-test.false, c.loop-made.auto.made-end),
+    )

@@ -1,0 +1,60 @@
+-- The lines that tell what was in a run. Their numbers stand one below another.
+use Rattle.std.specs.Prelude.{ℕ, ◌+◌, nat_lt, List, [], ◌∷◌, ◌++◌, Option, Some, None, length, codes, decimal, if◌then◌else◌}
+use Rattle.x10_heap.specs.Heaps.{HeapState}
+use Rattle.x10_place.specs.StandsFor.{PlaceState}
+use Rattle.x10_stats.specs.declared.stats.Stats.{Stats}
+use Rattle.x10_stats.specs.declared.stats.Volume.{Volume}
+
+-- a name, with the spaces that stand behind it, and a number
+abbrev pub line : List ℕ → ℕ → List ℕ
+line name n = name ++ (decimal n ++ 10 ∷ [])
+
+abbrev pub event_lines : Stats → List ℕ
+event_lines s = line (codes "steps:                    ") s.steps
+    ++ (line (codes "idle events:              ") s.idle
+    ++ (line (codes "deliveries:               ") s.deliveries
+    ++ line (codes "most stays at one time:   ") s.stays))
+
+-- frames that begin something where they go
+abbrev pub begin_lines : (spawns shifts : Volume) → List ℕ
+begin_lines spawns shifts = line (codes "Spawn frames:             ") spawns.frames
+    ++ (line (codes "Spawn bytes:              ") spawns.bytes
+    ++ (line (codes "Shift frames:             ") shifts.frames
+    ++ line (codes "Shift bytes:              ") shifts.bytes))
+
+-- and those that tell of an end
+abbrev pub end_lines : (backs reports : Volume) → List ℕ
+end_lines backs reports = line (codes "Back frames:              ") backs.frames
+    ++ (line (codes "Back bytes:               ") backs.bytes
+    ++ (line (codes "Report frames:            ") reports.frames
+    ++ line (codes "Report bytes:             ") reports.bytes))
+
+-- a space, where the number of a place has one digit
+abbrev pub pad : ℕ → List ℕ
+pad place = if nat_lt place 10 then codes " " else []
+
+-- a line of a place
+abbrev pub place_line : ℕ → List ℕ → ℕ → List ℕ
+place_line place name n = codes "place "
+    ++ (decimal place ++ (name ++ (pad place ++ (decimal n ++ 10 ∷ []))))
+
+-- what the heap of a place has
+abbrev pub heap_lines : ℕ → HeapState → List ℕ
+heap_lines place h = place_line place (codes ", objects:        ") (length h.objects)
+    ++ (place_line place (codes ", rails:          ") (length h.rails)
+    ++ (place_line place (codes ", texts:          ") (length h.texts)
+    ++ place_line place (codes ", exports:        ") (length h.exports)))
+
+-- that of a place, if it is there
+abbrev pub any_heap_lines : ℕ → Option PlaceState → List ℕ
+any_heap_lines place None = []
+any_heap_lines place (Some p) = heap_lines place p.heap
+
+-- the heaps of places, from a number on
+abbrev pub all_heap_lines : ℕ → List PlaceState → List ℕ
+all_heap_lines place [] = []
+all_heap_lines place (p ∷ rest) = heap_lines place p.heap ++ all_heap_lines (place + 1) rest
+
+abbrev pub stats_lines : Stats → List PlaceState → List ℕ
+stats_lines s places = event_lines s
+    ++ (begin_lines s.spawns s.shifts ++ (end_lines s.backs s.reports ++ all_heap_lines 0 places))

@@ -1,0 +1,12 @@
+//! Laws of what is counted. Each function does nothing: its contract is a law, and the check proves it.
+ghost use Rattle.x10_stats.specs.Laws.{EachIsCountedOnce, FramesAreCountedByType};
+
+/// Each event is counted once: as a step, as idle, or as a delivery.
+pub fn each_is_counted_once()
+    ensures { EachIsCountedOnce }
+{}
+
+/// A frame is counted by its type, with the bytes that spell it.
+pub fn frames_are_counted_by_type()
+    ensures { FramesAreCountedByType }
+{}

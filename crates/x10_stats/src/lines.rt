@@ -1,0 +1,111 @@
+//! The lines that tell what was in a run.
+ghost use Rattle.std.specs.Prelude.{◌≡◌, ◌++◌, IfOk, OnOk, slice_get};
+ghost use Rattle.std.specs.String.{string_bytes};
+ghost use Rattle.x10_stats.specs.Lines.{all_heap_lines, any_heap_lines, begin_lines, end_lines, event_lines, heap_lines, line, pad, place_line, stats_lines};
+
+use crate::stats::{Stats, Volume};
+use std::alloc::{AllocError, Global};
+use std::fmt::Write;
+use x10_heap::Heap;
+use x10_world::World;
+
+/// What was counted in a run, and what the heap of each place has in a world, a number on each line behind its name. Linear in
+/// the places.
+pub fn stats_text(alloc: Global, stats: &Stats, world: &World) -> Result<String, AllocError>
+    ensures { IfOk result (λ text. string_bytes text ≡ stats_lines stats.now world.now.places) }
+{
+    let mut text = String::new(alloc);
+    push_events(&mut text, stats)?;
+    push_begins(&mut text, stats.spawns, stats.shifts)?;
+    push_ends(&mut text, stats.backs, stats.reports)?;
+    push_heaps(&mut text, world)?;
+    Ok(text)
+}
+
+/// How many events there were of each sort, and stays at one time.
+fn push_events(text: &mut String, stats: &Stats) -> Result<(), AllocError>
+    ensures { OnOk result (string_bytes text.new ≡ string_bytes text.old ++ event_lines stats.now) }
+{
+    push_line(text, "steps:                    ", stats.steps)?;
+    push_line(text, "idle events:              ", stats.idle)?;
+    push_line(text, "deliveries:               ", stats.deliveries)?;
+    push_line(text, "most stays at one time:   ", stats.stays)
+}
+
+/// How many frames began something where they went, and their bytes.
+fn push_begins(text: &mut String, spawns: Volume, shifts: Volume) -> Result<(), AllocError>
+    ensures { OnOk result (string_bytes text.new
+        ≡ string_bytes text.old ++ begin_lines spawns shifts) }
+{
+    push_line(text, "Spawn frames:             ", spawns.frames)?;
+    push_line(text, "Spawn bytes:              ", spawns.bytes)?;
+    push_line(text, "Shift frames:             ", shifts.frames)?;
+    push_line(text, "Shift bytes:              ", shifts.bytes)
+}
+
+/// How many frames told of an end, and their bytes.
+fn push_ends(text: &mut String, backs: Volume, reports: Volume) -> Result<(), AllocError>
+    ensures { OnOk result (string_bytes text.new
+        ≡ string_bytes text.old ++ end_lines backs reports) }
+{
+    push_line(text, "Back frames:              ", backs.frames)?;
+    push_line(text, "Back bytes:               ", backs.bytes)?;
+    push_line(text, "Report frames:            ", reports.frames)?;
+    push_line(text, "Report bytes:             ", reports.bytes)
+}
+
+/// A name and a number.
+fn push_line(text: &mut String, name: &str, number: u64) -> Result<(), AllocError>
+    ensures { OnOk result (string_bytes text.new ≡ string_bytes text.old ++ line name.now number) }
+{
+    writeln!(text, "{name}{number}")
+}
+
+/// What the heaps of all places have.
+fn push_heaps(text: &mut String, world: &World) -> Result<(), AllocError>
+    ensures { OnOk result (string_bytes text.new
+        ≡ string_bytes text.old ++ all_heap_lines 0 world.now.places) }
+{
+    for place in 0..world.count() {
+        push_heap_at(text, world, place)?;
+    }
+    Ok(())
+}
+
+/// What the heap of a place has, if there is one with the number.
+fn push_heap_at(text: &mut String, world: &World, place: u16) -> Result<(), AllocError>
+    ensures { OnOk result (string_bytes text.new
+        ≡ string_bytes text.old ++ any_heap_lines place (slice_get world.now.places place)) }
+{
+    match world.heap(place) {
+        Some(heap) => push_heap(text, place, heap),
+        None => Ok(()),
+    }
+}
+
+/// What the heap of a place has.
+fn push_heap(text: &mut String, place: u16, heap: &Heap) -> Result<(), AllocError>
+    ensures { OnOk result (string_bytes text.new
+        ≡ string_bytes text.old ++ heap_lines place heap.now) }
+{
+    push_place(text, place, ", objects:        ", heap.objects())?;
+    push_place(text, place, ", rails:          ", heap.rails())?;
+    push_place(text, place, ", texts:          ", heap.texts())?;
+    push_place(text, place, ", exports:        ", heap.exports())
+}
+
+/// A line of a place.
+fn push_place(text: &mut String, place: u16, name: &str, number: usize) -> Result<(), AllocError>
+    ensures { OnOk result (string_bytes text.new
+        ≡ string_bytes text.old ++ place_line place name.now number) }
+{
+    let pad = pad_of(place);
+    writeln!(text, "place {place}{name}{pad}{number}")
+}
+
+/// A space, where the number of a place has one digit.
+fn pad_of(place: u16) -> &'static str
+    ensures { result.now ≡ pad place }
+{
+    if place < 10 { " " } else { "" }
+}

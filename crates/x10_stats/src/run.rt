@@ -1,0 +1,72 @@
+//! Whole runs whose events are counted.
+ghost use Rattle.std.specs.Prelude.{◌≡◌, ◌≢◌, true, IfOk, IfErr, OnOk, Err};
+ghost use Rattle.x10_kinds.specs.declared.stop.Stop.TheVariants as stop;
+ghost use Rattle.x10_model.specs.Worlds as machine;
+ghost use Rattle.x10_world.specs.declared.done.Done.{Done};
+ghost use Rattle.x10_world.specs.declared.rounds.Unfinished.TheVariants as halt;
+ghost use Rattle.x10_world.specs.Happenings.{HasDone};
+ghost use Rattle.x10_world.specs.Queries.{IsClosed};
+ghost use Rattle.x10_world.specs.Rounds.{NoneIsLeft, RunsTo};
+ghost use Rattle.x10_world.specs.Runs.{StopsAt};
+ghost use Rattle.x10_world.specs.StandsForWorld.{StandsForWorld, MakesEvent};
+ghost use Rattle.x10_stats.specs.Stats.{HasCounted, IsCut, counted};
+
+use crate::stats::Stats;
+use std::alloc::Global;
+use x10_kinds::Stop;
+use x10_model::Event;
+use x10_schedule::{Schedule, Scheduler};
+use x10_world::{Unfinished, World};
+
+/// An event that is idle where nothing can happen.
+const IDLE: Event = Event::Step(0, 0);
+
+/// Runs a world by a schedule until the run has ended, with at most `limit` events, as `run_by` of `x10_schedule` does, and
+/// counts each of them. The answer is Limit exactly where `limit` events were made and the last one didn't end the run. Where
+/// nothing can happen and the run has not ended, idle events make the rest. A world that has stopped answers so, and stays as
+/// it is. Several times slower than `run_by`, since it makes each event by itself; counting takes no memory.
+pub fn count_run(
+    alloc: Global,
+    world: &mut World,
+    schedule: Schedule,
+    limit: u64,
+    stats: &mut Stats,
+) -> Result<(), Unfinished>
+    ensures runs { RunsTo world.old world.new }
+    ensures counted { world.old.stopped ≢ true → IfOk result
+        (λ _. HasCounted stats.old world.old limit stats.new world.new) }
+    ensures ended { IfOk result (λ _. NoneIsLeft world.new) }
+    ensures closed { IfOk result (λ _. IsClosed world.new.places) }
+    ensures cut { world.old.stopped ≢ true → IfErr result
+        (IsCut stats.old world.old limit stats.new world.new) }
+    ensures stopped { world.old.stopped ≡ true → (result ≡ Err (halt.Stop stop.Stopped))
+        × (world.new ≡ world.old) × (stats.new ≡ stats.old) }
+{
+    world.going()?;
+    let mut scheduler = Scheduler::new(alloc, world, schedule)?;
+    for made in 0..limit {
+        let event = scheduler.next(world)?.unwrap_or(IDLE);
+        count_event(world, event, stats)?;
+        if world.closed() {
+            return Ok(());
+        }
+    }
+    Err(Unfinished::Limit)
+}
+
+/// Makes an event, and counts what it did.
+fn count_event(world: &mut World, event: Event, stats: &mut Stats) -> Result<(), Stop>
+    requires { world.old.stopped ≢ true }
+    ensures done { OnOk result ((did : Done) × HasDone world.old event did world.new
+        × (stats.new ≡ counted stats.old world.new did)) }
+    ensures made { IfOk result (λ _. (w : machine.World) → StandsForWorld world.old w
+        → MakesEvent world.old w event world.new) }
+    ensures goes { IfOk result (λ _. world.new.stopped ≢ true) }
+    ensures stops { IfErr result (λ why. StopsAt world.old event why world.new) }
+    ensures still { IfErr result (λ _. stats.new ≡ stats.old) }
+    ensures runs { RunsTo world.old world.new }
+{
+    let done = world.event(event)?;
+    *stats = stats.with(world, &done);
+    Ok(())
+}
