@@ -122,6 +122,7 @@ fn task(verb: Verb, places: Option<u16>, limit: u64) -> Task<'static>
         seeds: 1,
         threads: false,
         json: false,
+        stats: false,
         explain: false,
         color: Color::Never,
     }

@@ -76,6 +76,8 @@ pub struct Task<'a> {
     pub threads: bool,
     /// Whether what is printed is JSON, for other programs. Only for `list`, `check`, `run` and `audit`.
     pub json: bool,
+    /// Whether it is told what was in a run, besides what it prints. Only for `run` without threads.
+    pub stats: bool,
     /// Whether more is said about a fault than its line.
     pub explain: bool,
     /// Whether that has colors.

@@ -28,6 +28,7 @@ fn words(rt: HostRuntime) -> Result<(), Fail> {
         seeds: 100,
         threads: false,
         json: false,
+        stats: false,
         explain: false,
         color: Color::Auto,
     };

@@ -76,6 +76,7 @@ pub record IsTask (t : Task) : Type 0 where
   pub schedule : t.schedule ≢ order.Rounds → (is_run t.verb ≡ true) × (t.threads ≡ false)
   pub seed : is_some t.seed ≡ true → t.schedule ≡ order.Random
   pub json : t.json ≡ true → has_json t.verb ≡ true
+  pub stats : t.stats ≡ true → (t.verb ≡ verb.Run) × (t.threads ≡ false)
   pub log : is_some t.log ≡ true → may_have_log t.verb t.threads ≡ true
   pub audit : t.verb ≡ verb.Audit → is_some t.log ≡ true
   pub logged : is_some t.log ≡ true → t.verb ≢ verb.Run
@@ -158,5 +159,6 @@ pub record IsReadFrom (explain : Bool) (m : ArgMatches) (t : Task) : Type 0 wher
   pub seeds_is : t.seeds ≡ unwrap_or asked_seeds 100
   pub threads_is : IsFlagIn (one_text found (codes "threads")) t.threads
   pub json_is : IsFlagIn (one_text found (codes "json")) t.json
+  pub stats_is : IsFlagIn (one_text found (codes "stats")) t.stats
   pub explain_is : t.explain ≡ explained_by (first_value found (codes "explain")) explain
   pub color_is : t.color ≡ color_named (first_value found (codes "color"))

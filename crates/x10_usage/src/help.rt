@@ -64,6 +64,7 @@ Exit status:
 pub const RUN: &str = "Example:
   x10p run examples/seven.x10 --places 4
   x10p run examples/seven.x10 --places 4 --seed 1
+  x10p run examples/seven.x10 --places 4 --stats
   x10p run examples/seven.x10 --places 4 --threads
   x10p run examples/seven.x10 --threads --log seven.log
 

@@ -159,6 +159,7 @@ fn task_in<'a>(matches: &ArgMatches<'a>, explain: bool) -> Option<Task<'a>>
         seeds: matches.get_one("seeds").unwrap_or(SEEDS),
         threads: matches.get_flag("threads"),
         json: matches.get_flag("json"),
+        stats: matches.get_flag("stats"),
         explain: is_explained(matches.get_str("explain"), explain),
         color: color_of(matches.get_str("color")),
     })
@@ -232,6 +233,7 @@ fn is_task(task: &Task) -> bool
         && threads_are_for_run(task)
         && is_schedule(task)
         && json_is_for_few(task)
+        && stats_are_for_run(task)
         && has_log_as_asked(task)
 }
 
@@ -309,6 +311,13 @@ fn json_is_for_few(task: &Task) -> bool
             task.verb,
             Verb::List | Verb::Check | Verb::Run | Verb::Audit
         )
+}
+
+fn stats_are_for_run(task: &Task) -> bool
+    ensures { IsTrue result → task.now.stats ≡ true → (task.now.verb ≡ Verb.Run)
+        × (task.now.threads ≡ false) }
+{
+    !task.stats || (matches!(task.verb, Verb::Run) && !task.threads)
 }
 
 /// An audit reads a log, a trace or a picture may be of one, and a run with threads may write one.

@@ -150,7 +150,8 @@ fn run<'a>(alloc: Global) -> Result<Command<'a>, AllocError> {
     run_words(alloc, "run", about, help::RUN)?
         .arg(threads(alloc)?)?
         .arg(log(alloc)?)?
-        .arg(json(alloc))
+        .arg(json(alloc))?
+        .arg(stats(alloc)?)
 }
 
 fn runs<'a>(alloc: Global) -> Result<Command<'a>, AllocError> {
@@ -249,6 +250,14 @@ fn json<'a>(alloc: Global) -> Arg<'a> {
         .long("json")
         .help("Print JSON, for other programs")
         .action(ArgAction::SetTrue)
+}
+
+fn stats<'a>(alloc: Global) -> Result<Arg<'a>, AllocError> {
+    Arg::new(alloc, "stats")
+        .long("stats")
+        .help("Tell what was in the run, in lines on standard error; not with --threads")
+        .action(ArgAction::SetTrue)
+        .conflicts_with("threads")
 }
 
 fn threads<'a>(alloc: Global) -> Result<Arg<'a>, AllocError> {

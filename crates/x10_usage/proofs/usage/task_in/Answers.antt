@@ -37,6 +37,7 @@ returns c = record {
   seeds_is = c.unwrap_or-2.ensures;
   threads_is = record { none = c.get_flag-2.ensures.none; yes = c.get_flag-2.ensures.value; no = c.get_flag-2.ensures.other };
   json_is = record { none = c.get_flag-3.ensures.none; yes = c.get_flag-3.ensures.value; no = c.get_flag-3.ensures.other };
+  stats_is = record { none = c.get_flag-4.ensures.none; yes = c.get_flag-4.ensures.value; no = c.get_flag-4.ensures.other };
   explain_is = c.is_explained.ensures ∙ ap (λ o. explained_by o c.args.explain) c.get_str-5.ensures;
   color_is = c.color_of.ensures ∙ ap (λ o. color_named o) c.get_str-6.ensures;
 }
