@@ -7,3 +7,4 @@ pub mod Found
 pub mod LogLemmas
 pub mod LogEventLemmas
 pub mod ShownLemmas
+pub mod CountLemmas

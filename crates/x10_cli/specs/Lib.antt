@@ -6,3 +6,4 @@ pub mod Telling
 pub mod Schedules
 pub mod Logs
 pub mod Shown
+pub mod Counts

@@ -326,6 +326,7 @@ pub(crate) fn opened<'a>(
         → IfErr result (IsDue asked bytes) }
     ensures refused { (bytes : List ℕ) → IsImageOf bytes verified.now
         → IfErr result (λ e. status_of e ≡ 1 → CanBeDone verb.Run asked bytes → ⊥) }
+    ensures kind { IfErr result (λ e. (e ≡ fault.Places) ⊎ (e ≡ fault.Memory)) }
 {
     let places = places_of(asked, verified);
     let world = World::open(alloc, verified, places)?;

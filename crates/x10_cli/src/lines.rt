@@ -28,6 +28,7 @@ pub(crate) fn print_outputs<O: Write>(
     ensures err { IfErr result (λ e. (e ≡ fault.File)
         ⊎ Keeps (O.contents out.old) (O.contents out.new)) }
     ensures status { IfErr result (λ e. status_of e ≢ 1) }
+    ensures kind { IfErr result (λ e. (e ≡ fault.File) ⊎ (e ≡ fault.Memory)) }
 {
     if !json {
         return write_outputs(alloc, world, json, out);
