@@ -1,6 +1,7 @@
 //! The program `x10p`: it reads its words and the file that they name, and does what they ask for.
 #![tactic(auto)]
 
+mod counts;
 mod input;
 mod logs;
 mod making;
@@ -76,6 +77,7 @@ fn perform<R: Threads + Wait + Sync>(
     }
     match task.output {
         Some(output) => write(rt, threads, task, &bytes, source, output),
+        None if task.stats => counts::run(rt, task, &bytes, source),
         None if shows_report(rt, task) => show(rt, threads, task, &bytes),
         None => print(rt, threads, task, &bytes, source),
     }
