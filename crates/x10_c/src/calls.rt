@@ -13,6 +13,18 @@ use crate::numbers::{FaultNumbers, fault};
 use crate::work::{assembled, bounded, checked, line_of, listed, ran, verified};
 use std::alloc::Global;
 
+/// Does a command, and gives the caller what came of it and what it wrote.
+macro_rules! answer {
+    ($command:ident($alloc:ident, $($with:ident),*), $buffer:ident, $needed:ident, $told:ident) => {{
+        if is_null(&*$needed) || is_null(&*$told) {
+            return NULL;
+        }
+        let mut text = Vec::new($alloc);
+        let done = $command($alloc, $($with,)* &mut text);
+        give(done, &text, $buffer, $needed, $told)
+    }};
+}
+
 /// Verifies an image. 0: it is the image of a module that the verifier accepts; 1: it isn't, and the fault is the one that is due;
 /// 2: memory was refused.
 #[unsafe(no_mangle)]
@@ -78,12 +90,7 @@ pub extern "C" fn burjeeg_list(
     requires told { IsMutAddress told }
     ensures { Answers verb.List None image.now result told.new needed.new buffer.old buffer.new }
 {
-    if is_null(&*needed) || is_null(&*told) {
-        return NULL;
-    }
-    let mut text = Vec::new(alloc);
-    let done = listed(alloc, image, &mut text);
-    give(done, &text, buffer, needed, told)
+    answer!(listed(alloc, image), buffer, needed, told)
 }
 
 /// Writes the image of a text.
@@ -99,12 +106,7 @@ pub extern "C" fn burjeeg_assemble(
     requires told { IsMutAddress told }
     ensures { Answers verb.Asm None text.now result told.new needed.new buffer.old buffer.new }
 {
-    if is_null(&*needed) || is_null(&*told) {
-        return NULL;
-    }
-    let mut image = Vec::new(alloc);
-    let done = assembled(alloc, text, &mut image);
-    give(done, &image, buffer, needed, told)
+    answer!(assembled(alloc, text), buffer, needed, told)
 }
 
 /// Writes the report about a text or an image: the bound of each function, or what is wrong, explained.
@@ -120,12 +122,7 @@ pub extern "C" fn burjeeg_check(
     requires told { IsMutAddress told }
     ensures { Answers verb.Check None bytes.now result told.new needed.new buffer.old buffer.new }
 {
-    if is_null(&*needed) || is_null(&*told) {
-        return NULL;
-    }
-    let mut text = Vec::new(alloc);
-    let done = checked(alloc, bytes, &mut text);
-    give(done, &text, buffer, needed, told)
+    answer!(checked(alloc, bytes), buffer, needed, told)
 }
 
 /// Verifies an image, runs it at so many places, 0 for its least number, and writes the lines that they printed. It makes at most
@@ -145,12 +142,7 @@ pub extern "C" fn burjeeg_run(
     ensures { Answers verb.Run (asked_of places) image.now result told.new needed.new buffer.old
         buffer.new }
 {
-    if is_null(&*needed) || is_null(&*told) {
-        return NULL;
-    }
-    let mut text = Vec::new(alloc);
-    let done = ran(alloc, image, places, limit, &mut text);
-    give(done, &text, buffer, needed, told)
+    answer!(ran(alloc, image, places, limit), buffer, needed, told)
 }
 
 /// Writes the line by which the program tells a fault. 1: no fault has these numbers; 2: memory was refused.

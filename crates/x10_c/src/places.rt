@@ -13,7 +13,7 @@ use crate::answer::NULL;
 use crate::handles::{CLOSED, NOTHING, of_opening, tell_receive, tell_step};
 use crate::null::is_null;
 use crate::numbers::FaultNumbers;
-use crate::showing::{line_in, sent_in};
+use crate::showing::{line_in, sent_in, show};
 use std::alloc::Global;
 use x10_handles::{Handle, close, closed, next_key, open_place, put, receive, step, take};
 
@@ -122,12 +122,7 @@ pub extern "C" fn burjeeg_place_sent(
     if is_null(&*place) || is_null(&*to) || is_null(&*needed) {
         return NULL;
     }
-    let Some(inside) = take(alloc, place) else {
-        return CLOSED;
-    };
-    let status = sent_in(&inside, number, to, buffer, needed);
-    put(place, inside);
-    status
+    show!(alloc, place, inside => sent_in(&inside, number, to, buffer, needed))
 }
 
 /// Writes a line that the place printed, by its number from 0: a number in decimal, or a text. 0: it is in the buffer; 2: memory
@@ -149,12 +144,7 @@ pub extern "C" fn burjeeg_place_line(
     if is_null(&*place) || is_null(&*needed) {
         return NULL;
     }
-    let Some(inside) = take(alloc, place) else {
-        return CLOSED;
-    };
-    let status = line_in(alloc, &inside, number, buffer, needed);
-    put(place, inside);
-    status
+    show!(alloc, place, inside => line_in(alloc, &inside, number, buffer, needed))
 }
 
 /// Tells the least key in use from a number on. 0: it is written; 9: there is none; 7: there is no place behind the handle.

@@ -13,6 +13,20 @@ use std::io::{self, Write};
 use x10_handles::{Inside, Station};
 use x10_place::Line;
 
+/// Shows something of what is behind a handle, which stays there. Where nothing is, the function that asks for it returns CLOSED.
+macro_rules! show {
+    ($alloc:ident, $handle:ident, $inside:ident => $shown:expr) => {{
+        let Some($inside) = take($alloc, $handle) else {
+            return CLOSED;
+        };
+        let status = $shown;
+        put($handle, $inside);
+        status
+    }};
+}
+
+pub(crate) use show;
+
 /// Copies one of the frames that a place's last step put out.
 fn frame_to(
     station: &Station,

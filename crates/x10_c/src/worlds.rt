@@ -13,6 +13,7 @@ use crate::answer::NULL;
 use crate::handles::{CLOSED, NOTHING, of_opening, tell_event};
 use crate::null::is_null;
 use crate::numbers::FaultNumbers;
+use crate::showing::show;
 use crate::world_views::{flight_in, line_of_world_in};
 use std::alloc::Global;
 use x10_handles::{
@@ -188,12 +189,7 @@ pub extern "C" fn burjeeg_world_frame(
     if is_null(&*world) || is_null(&*to) || is_null(&*needed) {
         return NULL;
     }
-    let Some(inside) = take(alloc, world) else {
-        return CLOSED;
-    };
-    let status = flight_in(&inside, number, to, buffer, needed);
-    put(world, inside);
-    status
+    show!(alloc, world, inside => flight_in(&inside, number, to, buffer, needed))
 }
 
 /// Writes a line that a place printed, by its number from 0. 0: it is in the buffer; 2: memory was refused; 6: there is no room;
@@ -216,12 +212,7 @@ pub extern "C" fn burjeeg_world_line(
     if is_null(&*world) || is_null(&*needed) {
         return NULL;
     }
-    let Some(inside) = take(alloc, world) else {
-        return CLOSED;
-    };
-    let status = line_of_world_in(alloc, &inside, place, number, buffer, needed);
-    put(world, inside);
-    status
+    show!(alloc, world, inside => line_of_world_in(alloc, &inside, place, number, buffer, needed))
 }
 
 /// Whether the run has ended, as place 0 knows it: then no activity lives. 0: it has; 9: not yet; 7: there is no world behind the
