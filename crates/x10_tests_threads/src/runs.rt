@@ -112,19 +112,17 @@ fn comes_to<R: Threads + Wait + Sync>(
     verified: &Verified,
     places: u16,
     wanted: &[&[i64]],
-) -> bool {
+) -> Result<bool, Fail> {
     let Ok(report) = run(rt, alloc, verified, places, 1_000) else {
-        return false;
+        return Ok(false);
     };
     if !printed(&report.outputs, wanted) {
-        return false;
+        return Ok(false);
     }
-    let Ok(log) = listed(alloc, &report.log) else {
-        return false;
-    };
+    let log = listed(alloc, &report.log)?;
     match audited(alloc, verified, places, &log) {
-        Some(Ok(outputs)) => printed(&outputs, wanted),
-        _ => false,
+        Some(Ok(outputs)) => Ok(printed(&outputs, wanted)),
+        _ => Ok(false),
     }
 }
 
@@ -139,7 +137,7 @@ fn thrice<R: Threads + Wait + Sync>(
     let bytes = assembled(alloc, text)?;
     let verified = program(alloc, &bytes)?;
     for _ in 0..3u8 {
-        if !comes_to(rt, alloc, &verified, places, wanted) {
+        if !comes_to(rt, alloc, &verified, places, wanted)? {
             return Ok(false);
         }
     }
