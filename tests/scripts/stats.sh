@@ -45,7 +45,8 @@ def differs(path, words):
 
 status = 0
 for folder in ("activities", "atomic", "objects", "places", "travels"):
-    for path in sorted((tests / folder).glob("*.asm")):
+    # but those whose pieces tests/run writes out
+    for path in sorted(it for it in (tests / folder).glob("*.asm") if "{{" not in it.read_text(encoding="utf-8")):
         for words in SCHEDULES:
             for limit in (MOST,) if words else (MOST, 9):
                 if why := differs(str(path), [*words, "--limit", str(limit)]):

@@ -32,7 +32,9 @@ for command in "" asm list check verify bounds frame run audit trace draw explai
     grep -q "Exit status:" .help && grep -q "  4  " .help || fail "the help of x10p $command has no statuses"
     grep "^  x10p " .help >.examples || fail "the help of x10p $command has no example"
     while read -r _ words; do
-        does 0 "$(x10p $words 2>/dev/null)" "" x10p $words
+        # what was in a run is told on standard error
+        [[ " $words " == *" --stats "* ]] && said=.. || said=""
+        does 0 "$(x10p $words 2>/dev/null)" "$said" x10p $words
     done <.examples
 done
 # the help of `help` is the program's
