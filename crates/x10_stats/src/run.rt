@@ -24,7 +24,8 @@ const IDLE: Event = Event::Step(0, 0);
 /// Runs a world by a schedule until the run has ended, with at most `limit` events, as `run_by` of `x10_schedule` does, and
 /// counts each of them. The answer is Limit exactly where `limit` events were made and the last one didn't end the run. Where
 /// nothing can happen and the run has not ended, idle events make the rest. A world that has stopped answers so, and stays as
-/// it is. Several times slower than `run_by`, since it makes each event by itself; counting takes no memory.
+/// it is. It makes each event by itself: where one activity works alone, it takes some 25 times as long as `run_by`. Counting
+/// takes no memory.
 pub fn count_run(
     alloc: Global,
     world: &mut World,

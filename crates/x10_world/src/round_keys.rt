@@ -26,7 +26,7 @@ impl RoundKeys {
 
     /// Notes that an activity with a key began. Logarithmic in the known keys, of which it may be one: that of an activity that ended.
     #[inline(always)]
-    pub fn begin(&mut self, key: usize) -> Result<(), AllocError> {
+    pub(crate) fn begin(&mut self, key: usize) -> Result<(), AllocError> {
         if self.known.binary_search(&key).is_err() {
             self.fresh.push(key)?;
         }
@@ -35,7 +35,7 @@ impl RoundKeys {
 
     /// The one key that there may be; none where there may be several, or none.
     #[inline(always)]
-    pub fn only(&self) -> Option<usize> {
+    pub(crate) fn only(&self) -> Option<usize> {
         match self.known.as_slice() {
             [key] if self.fresh.is_empty() => Some(*key),
             _ => None,
