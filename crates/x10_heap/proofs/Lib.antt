@@ -1,4 +1,4 @@
 pub mod Fields
 pub mod GrownHeaps
 pub mod Laid
-pub mod Texts
+pub mod LaidTexts

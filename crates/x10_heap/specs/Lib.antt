@@ -1,4 +1,5 @@
 pub mod Heaps
 pub mod Laid
+pub mod LaidTexts
 pub mod References
 pub mod Words

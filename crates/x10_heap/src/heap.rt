@@ -11,7 +11,7 @@ ghost use Rattle.x10_heap.specs.Heaps.{ObjectState, empty, shortened, with_objec
 use crate::export::Export;
 use crate::objects::Objects;
 use crate::rail::Rail;
-use crate::text::Text;
+use crate::texts::Texts;
 use std::alloc::{AllocError, Global};
 use std::marker::Model;
 use x10_kinds::{Limit, Stop};
@@ -26,7 +26,7 @@ pub struct Heap {
     alloc: Global,
     objects: Objects,
     rails: Vec<Rail>,
-    texts: Vec<Text>,
+    texts: Texts,
     exports: Vec<Export>,
 }
 
@@ -35,9 +35,9 @@ impl Model for Heap {
 
     ghost Value = { HeapState };
 
-    ghost view = { λ h. record { objects = h.objects; rails = h.rails.items; texts = h.texts.items; exports = h.exports.items } };
+    ghost view = { λ h. record { objects = h.objects; rails = h.rails.items; texts = h.texts; exports = h.exports.items } };
 
-    ghost invariant = { λ h. IsWithinLimits h.objects h.rails.items h.texts.items h.exports.items };
+    ghost invariant = { λ h. IsWithinLimits h.objects h.rails.items h.texts h.exports.items };
 }
 
 /// The number of what is made next, where there are `count` already; refused where there may be no more.
@@ -66,7 +66,7 @@ impl Heap {
             alloc,
             objects: Objects::new(alloc),
             rails: Vec::new(alloc),
-            texts: Vec::new(alloc),
+            texts: Texts::new(alloc),
             exports: Vec::new(alloc),
         }
     }
@@ -265,9 +265,6 @@ impl Heap {
             × Refuses (length self.old.texts) limits.Texts why) }
     {
         let number = next_number(self.texts.len(), Limit::Texts)?;
-        let Ok(text) = Text::new(self.alloc, text) else {
-            return Err(Stop::Memory);
-        };
         let Ok(()) = self.texts.push(text) else {
             return Err(Stop::Memory);
         };
@@ -280,7 +277,7 @@ impl Heap {
         ensures value { slice_get self.now.texts text ≡ Some result.now }
         ensures fits { FitsText result.now }
     {
-        self.texts[text as usize].as_str()
+        self.texts.get(text as usize)
     }
 
     /// A new text of two joined, the first before the second; none where it would be longer than 65,535 bytes, and then
@@ -299,15 +296,12 @@ impl Heap {
         ensures err { IfErr result (λ why. (self.new ≡ self.old)
             × Refuses (length self.old.texts) limits.Texts why) }
     {
-        let (first, second) = (self.text(first), self.text(second));
-        if first.len() + second.len() > usize::from(MOST_BYTES) {
+        let together = self.text(first).len() + self.text(second).len();
+        if together > usize::from(MOST_BYTES) {
             return Ok(None);
         }
         let number = next_number(self.texts.len(), Limit::Texts)?;
-        let Ok(text) = Text::joined(self.alloc, first, second) else {
-            return Err(Stop::Memory);
-        };
-        let Ok(()) = self.texts.push(text) else {
+        let Ok(()) = self.texts.join(first as usize, second as usize) else {
             return Err(Stop::Memory);
         };
         Ok(Some(number))

@@ -2,8 +2,8 @@
 
 ghost use Rattle.std.specs.Prelude.{◌≡◌, ◌<◌, ◌≤◌, ◌+◌, ◌-◌, [], ◌∷◌, ◌++◌, OnOk, OnErr, IsOk, Some, length, take, drop, slice_get, slice_set};
 ghost use Rattle.x10_heap.specs.Heaps.{ObjectState};
-ghost use Rattle.x10_heap.specs.Laid.{start_of};
 
+use crate::ends::start_in;
 use std::alloc::{AllocError, Global};
 use std::marker::Model;
 
@@ -27,18 +27,6 @@ impl Model for Objects {
     ghost view = { λ o. objects_from 0 o.classes.items o.ends.items o.words.items };
 
     ghost invariant = { λ o. AreLaid 0 o.classes.items o.ends.items (length o.words.items) };
-}
-
-/// Where an object's fields start: where those of the one before it end.
-#[inline(always)]
-fn start_in(ends: &[usize], object: usize) -> usize
-    requires { object ≤ length ends.now }
-    ensures { result ≡ start_of 0 object ends.now }
-{
-    if object == 0 {
-        return 0;
-    }
-    ends[object - 1]
 }
 
 /// The words from one place to another.
