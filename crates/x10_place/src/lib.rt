@@ -27,6 +27,7 @@ mod stay;
 mod step;
 mod store;
 mod sweep;
+mod views;
 
 pub use call_frame::CallFrame;
 pub use line::Line;

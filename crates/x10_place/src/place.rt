@@ -39,7 +39,7 @@ pub enum Stepped {
 /// A place: the stays of activities by key, which of them is inside an atomic region, and what they share.
 #[derive(Drop)]
 pub struct Place<'a> {
-    ground: Ground<'a>,
+    pub(crate) ground: Ground<'a>,
     /// The key of the stay that is inside an atomic region: a step of another key is idle after one comparison. Only `step`
     /// and `run` change it: what comes in, begins or ends is outside, since no instruction that does such things stands in a
     /// region.

@@ -107,14 +107,6 @@ impl Stay {
         Outcome::Goes
     }
 
-    /// The call frame of the function that it executes.
-    #[inline(always)]
-    pub(crate) fn frame(&self) -> &CallFrame
-        ensures { result.now ≡ self.now.top }
-    {
-        &self.top
-    }
-
     /// The instruction at which the stay stands.
     #[inline(always)]
     pub(crate) fn instr(&self, verified: &Verified) -> Instr

@@ -1,5 +1,5 @@
 //! What a place keeps for all its stays.
-ghost use Rattle.std.specs.Prelude.{◌≡◌, ◌≤◌, ◌<◌, ◌^◌, ◌++◌, ◌∷◌, [], ◌⊎◌, ◌↔◌, ◌+◌, true, false, None, Err, IfErr, IfOk, IfNone, IfSome, IsTrue, OnErr, OnOk, Some, length};
+ghost use Rattle.std.specs.Prelude.{◌≡◌, ◌≤◌, ◌<◌, ◌^◌, ◌++◌, ◌∷◌, [], ◌⊎◌, ◌↔◌, ◌+◌, true, false, None, Err, IfErr, IfOk, IfNone, IfSome, IsTrue, MatchOption, OnErr, OnOk, Some, length, slice_index, ℕ};
 ghost use Rattle.x10_heap.specs.Heaps.{IsFull};
 ghost use Rattle.x10_finish.specs.Counts.{IsLargest};
 ghost use Rattle.x10_finish.specs.Ledgers.{gives_report, AreDue};
@@ -8,7 +8,7 @@ ghost use Rattle.x10_kinds.specs.declared.stop.Stop.TheVariants as stop;
 ghost use Rattle.x10_model.specs.Maps.{with_entry};
 ghost use Rattle.x10_model.specs.Totals.{zeros, nothing, begins_one, ends_one, sends_to};
 ghost use Rattle.x10_place.specs.Opening.{IsNewStore};
-ghost use Rattle.x10_place.specs.Stays.{finish_at, totals_in, books_in, changed_at, Recounts, HasBook, IsDoneHere};
+ghost use Rattle.x10_place.specs.Stays.{book_at, finish_at, totals_in, books_in, changed_at, Recounts, HasBook, IsDoneHere};
 ghost use Rattle.x10_place.specs.Receiving.{report_of};
 ghost use Rattle.x10_place.specs.Arrivals.{Merges, IsOpenHere, Comes, IsKeptOut};
 
@@ -19,7 +19,7 @@ use crate::stay::Locality;
 use std::alloc::{AllocError, Global};
 use std::marker::Model;
 use x10_copy::Marks;
-use x10_finish::Tally;
+use x10_finish::{Book, Tally};
 use x10_heap::Heap;
 use x10_kinds::{Limit, Stop};
 use x10_model::Finish;
@@ -232,6 +232,24 @@ impl Store {
         let finish = self.finish(number);
         self.books.close(number);
         self.tally.forget(finish);
+    }
+
+    /// What was counted of a finish: how many activities under it live here, were sent to each place, and came from each.
+    pub(crate) fn counts(&self, finish: Finish) -> (u32, &[u32], &[u32])
+        ensures live { result.0 ≡ (totals_in self.now finish).live }
+        ensures sent { (p : ℕ) → slice_index result.1.now p ≡ (totals_in self.now finish).sent p }
+        ensures received { (p : ℕ) → slice_index result.2.now p
+            ≡ (totals_in self.now finish).received p }
+    {
+        self.tally.totals(finish)
+    }
+
+    /// The book of the finish with a number, if it is open here.
+    pub(crate) fn book(&self, number: u32) -> Option<&Book>
+        ensures { MatchOption result (book_at self.now.books number ≡ None)
+            (λ book. book_at self.now.books number ≡ Some book.now) }
+    {
+        self.books.get(number)
     }
 
     /// How many activities under a finish live here.

@@ -27,7 +27,7 @@ impl<'a> World<'a> {
 
     /// The place with a number; none where there is no such place. Constant time.
     #[inline(always)]
-    pub(crate) fn place(&self, place: u16) -> Option<&Place<'a>>
+    pub fn place(&self, place: u16) -> Option<&Place<'a>>
         ensures { MatchOption result (HasNoPlace self.now.places place)
             (λ p. slice_get self.now.places place ≡ Some p.now) }
     {
