@@ -1,0 +1,9 @@
+pub mod Elements
+pub mod Flawless
+pub mod Listed
+pub mod Pieces
+pub mod Registers
+pub mod Reversed
+pub mod Stayed
+pub mod Totals
+pub mod ValueLaws
