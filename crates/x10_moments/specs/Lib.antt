@@ -1,0 +1,4 @@
+pub mod Changes
+pub mod Moments
+pub mod Pages
+pub mod Recorders
