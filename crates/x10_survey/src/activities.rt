@@ -1,0 +1,140 @@
+//! The lines of all activities.
+use crate::finishes::push_finish;
+use std::alloc::{AllocError, Global};
+use std::fmt::Write;
+use x10_code::{Op, name};
+use x10_model::Finish;
+use x10_place::{Place, Stay};
+use x10_verify::Verified;
+use x10_world::World;
+
+/// How many activities are named at most.
+const MOST: usize = 20;
+
+/// How many activities live, and how many of them can move.
+#[derive(Clone, Copy)]
+struct Counts {
+    alive: usize,
+    able: usize,
+}
+
+/// Who lives in a world: for each activity, at most 20 of them, where it stands and what it waits for; and whether any can move.
+/// Takes time quadratic in the places for each that waits at a finish, and linear in the keys that were ever in use.
+pub fn survey(alloc: Global, verified: &Verified, world: &World) -> Result<String, AllocError> {
+    let mut text = String::new(alloc);
+    let mut counts = Counts { alive: 0, able: 0 };
+    for id in 0..world.count() {
+        if let Some(place) = world.place(id) {
+            push_place(alloc, &mut text, verified, world, id, place, &mut counts)?;
+        }
+    }
+    if counts.alive > MOST {
+        let more = counts.alive - MOST;
+        writeln!(text, "  and {more} more")?;
+    }
+    push_outlook(&mut text, world, counts)?;
+    Ok(text)
+}
+
+/// The activities of a place.
+fn push_place(
+    alloc: Global,
+    text: &mut String,
+    verified: &Verified,
+    world: &World,
+    id: u16,
+    place: &Place,
+    counts: &mut Counts,
+) -> Result<(), AllocError> {
+    let keys = place.keys(alloc)?;
+    for key in &keys {
+        if counts.alive < MOST {
+            push_activity(text, verified, world, id, place, *key)?;
+        }
+        counts.alive = counts.alive.saturating_add(1);
+        if !place.is_idle(*key) {
+            counts.able = counts.able.saturating_add(1);
+        }
+    }
+    Ok(())
+}
+
+/// An activity: where it stands, and what it waits for.
+fn push_activity(
+    text: &mut String,
+    verified: &Verified,
+    world: &World,
+    id: u16,
+    place: &Place,
+    key: usize,
+) -> Result<(), AllocError> {
+    let (Some(stay), Some((function, pc, op))) = (place.stay(key), place.at(key)) else {
+        return Ok(());
+    };
+    text.push_str("  ")?;
+    push_name(text, verified, id, key, stay)?;
+    let op_name = name(op);
+    write!(text, ": function {function}, instruction {pc} ({op_name})")?;
+    push_state(text, world, id, place, key, stay, op)?;
+    text.push_str("\n")
+}
+
+/// The name of an activity: `main`, or the function that it began with.
+fn push_name(
+    text: &mut String,
+    verified: &Verified,
+    id: u16,
+    key: usize,
+    stay: &Stay,
+) -> Result<(), AllocError> {
+    let first = match stay.caller(0) {
+        Some(frame) => frame.function(),
+        None => stay.frame().function(),
+    };
+    if id == 0 && key == 0 && first == verified.image().entry() {
+        return text.push_str("main at place 0");
+    }
+    write!(text, "f{first} at place {id}, key {key}")
+}
+
+/// What an activity waits for, if it does.
+fn push_state(
+    text: &mut String,
+    world: &World,
+    id: u16,
+    place: &Place,
+    key: usize,
+    stay: &Stay,
+    op: Op,
+) -> Result<(), AllocError> {
+    if stay.is_away() {
+        return text.push_str(", away until a result comes back");
+    }
+    if !place.is_idle(key) {
+        return Ok(());
+    }
+    let Some(number) = stay.finishes().last() else {
+        return text.push_str(", kept out by an atomic region");
+    };
+    if op != Op::Fine {
+        return text.push_str(", kept out by an atomic region");
+    }
+    let finish = Finish {
+        home: id,
+        number: *number,
+    };
+    text.push_str(", waits for ")?;
+    push_finish(text, world, finish)
+}
+
+/// Whether anything can happen.
+fn push_outlook(text: &mut String, world: &World, counts: Counts) -> Result<(), AllocError> {
+    let Counts { alive, able } = counts;
+    if world.possible_event().is_none() {
+        return writeln!(
+            text,
+            "Activities that can move: none of {alive}, and no frame is in flight."
+        );
+    }
+    writeln!(text, "Activities that can move: {able} of {alive}.")
+}
