@@ -48,14 +48,24 @@ FIELDS = ("name", "folder", "rlib")
 # are none. 13f: strings.
 WORDS = {"REFUSED": True, "AT_LIMIT": True, "BAD": False, "UNSURE": False, "MISSED": False}
 
-# Texts of the prover's messages. In a kit that says one of the first four otherwise, the edits of a common check are tried
-# alone: this takes longer and comes to the same.
+# Texts of the prover's messages. In a kit that says one of the first three otherwise, the edits of a common check are tried
+# alone; in one that has another form of proofs or says otherwise what stands, all that edited functions call is checked too.
+# Both take longer and come to the same.
 # a goal that isn't proved: its file and line
 GOAL = re.compile(r"(?:note: )?(?:\./)?(src/\S+?):(\d+):\d+: it is not proved that")
 # a function that isn't proved: its name
 UNPROVED = re.compile(r"fn (\S+): (?:not proved|no proof)")
 # a check of some functions that came to its end
-ENDED = re.compile(r"^only=\d+ proved=\d+", re.M)
+ENDED = re.compile(r"^only=\d+ (?:proved|holes)=\d+", re.M)
+# a function that is proved as far as there is no hole: its name
+STANDS = re.compile(r"fn (\S+): (?:proved|no holes|depends on a hole in)")
+# a proof that is left open, and the flag with which a check goes on past it
+HOLE = """use Rattle.{crate}.proofs.{path}.Statement.{{statement}}
+
+pub {name}_spec : {{M : Type 1}} → statement M
+{name}_spec = ?
+"""
+HOLES = ["--allow-holes"]
 # an error, and how the file begins in which a proof has one
 ERROR, PROOFS = ": error: ", "./proofs/"
 # the name of a goal that isn't proved, in such a line or in such an error; what it is called begins so where it is a clause of an
@@ -86,9 +96,10 @@ class Kit:
                 raise Unknown(f"{self.command}: a crate has no {field} that is a string or a path; {what_is_known()}")
         return crates
 
-    def check_words(self, crate, only, kept):
-        """The words of a check of some functions of a crate, over what a folder keeps."""
-        return [self.rt.rtlib.RATTLE, "check", *crate.words([*FLAGS, *only]), "--incremental", kept]
+    def check_words(self, crate, only, kept, has_holes):
+        """The words of a check of some functions of a crate, over what a folder keeps; whether proofs are left open."""
+        words = crate.words([*FLAGS, *(HOLES if has_holes else []), *only])
+        return [self.rt.rtlib.RATTLE, "check", *words, "--incremental", kept]
 
     def try_alone(self, crate, edit):
         """Whether the edit in a file is refused, and what `rt` says of it."""
