@@ -66,8 +66,10 @@ pub {name}_spec : {{M : Type 1}} → statement M
 {name}_spec = ?
 """
 HOLES = ["--allow-holes"]
-# an error, and how the file begins in which a proof has one
-ERROR, PROOFS = ": error: ", "./proofs/"
+# what is said of such a proof where there can be none, as of a function that calls itself: the proof's file
+RESERVED = re.compile(r"^\./(proofs/\S+)/Proof\.antt: error\[reserved-name\]", re.M)
+# an error in a proof, behind its file and where it is there
+ERROR = ": error: "
 # the name of a goal that isn't proved, in such a line or in such an error; what it is called begins so where it is a clause of an
 # `ensures`
 NAME, ENSURED = re.compile(r"\(`([^`\s]+)`\)|: error: `([^`\s]+)`: "), "returns-clause-"

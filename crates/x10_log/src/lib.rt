@@ -10,8 +10,6 @@ mod log;
 mod pieces;
 mod quoted;
 mod reading;
-#[cfg(test)]
-mod tests;
 mod turn_line;
 mod writing;
 

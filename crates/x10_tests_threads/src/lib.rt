@@ -1,4 +1,4 @@
-//! The tests of the hall, and of runs with a thread for each place.
+//! The tests of the hall, of runs with a thread for each place, and of the texts of their logs.
 #![tactic(auto)]
 
 #[cfg(test)]
@@ -15,6 +15,8 @@ mod meeting;
 mod ports;
 #[cfg(test)]
 mod runs;
+#[cfg(test)]
+mod small_logs;
 #[cfg(test)]
 mod turns;
 #[cfg(test)]

@@ -1,10 +1,10 @@
 //! Small logs: read and written again, changed in each of their fields, and at the limits of a turn.
-use crate::{Log, LogCause, read_log, write_log};
 use std::alloc::Global;
 use std::fmt::Write;
 use std::process::Abort;
 use std::test::*;
 use x10_hall::Repeats;
+use x10_log::{Log, LogCause, read_log, write_log};
 
 /// The first three lines of a log.
 const HEAD: &str = "x10 log 1
