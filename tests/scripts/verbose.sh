@@ -1,0 +1,42 @@
+# What `trace --verbose` prints is the trace with notes behind the lines of each event: they begin with two spaces, and without them
+# it is the trace, whatever the schedule, at a limit, and of a log.
+top="$(cd "$(dirname "$0")/../.." && pwd)"
+source "$(dirname "$0")/common"
+
+# each event has notes behind its lines: the first line that isn't so
+without_notes() {
+    awk '/^  [^ ]/ { noted = 1; next }
+        /^P / { if (noted) { print; exit }; next }
+        /^[SD-] / { if (NR > 1 && !noted) { print; exit }; noted = 0; next }
+        { print; exit }
+        END { if (NR && !noted) print "the last event" }' "$1"
+}
+
+# compares IMAGE WORD ..: the trace of an image and the one with notes
+compares() {
+    local status
+    x10p trace "$@" >plain 2>plain.err
+    status=$?
+    x10p trace --verbose "$@" >noted 2>noted.err
+    [ "$?" -eq "$status" ] || fail "trace --verbose $*: status $?, and not $status"
+    same plain.err noted.err
+    grep -v '^ ' noted >lines
+    cmp -s plain lines || fail "trace --verbose $* has other lines than the trace: $(diff plain lines | head -n 3)"
+    [ -z "$(without_notes noted)" ] || fail "trace --verbose $*: no notes at: $(without_notes noted)"
+}
+
+for example in round_trip ring fan_out nested fib; do
+    x10p asm "$top/examples/$example.asm" "$example.x10" || fail "$example: status $?"
+    compares "$example.x10" --limit 20000
+    compares "$example.x10" --schedule random --seed 7 --limit 20000
+    compares "$example.x10" --schedule newest --limit 7
+    x10p run "$example.x10" --threads --log "$example.log" --limit 2000 >.out 2>.err
+    [ "$?" -ne 0 ] || compares "$example.x10" --log "$example.log"
+done
+
+# what is refused is refused as without it
+prints 7 >seven.asm
+x10p asm seven.asm seven.x10
+does 1 "" "x10p: image: Magic" x10p trace --verbose seven.asm
+does 1 "" "x10p: places" x10p trace --verbose "ring.x10" --places 1
+exit $wrong
