@@ -21,8 +21,12 @@ pub enum Verb {
     Audit,
     /// Verify it, run it, and print what happens, event by event.
     Trace,
+    /// The same, with notes for people behind the lines of each event.
+    TraceVerbose,
     /// Verify it, run it, and draw what happens.
     Draw,
+    /// Verify it, run it, and write a page that shows what happens, step by step.
+    DrawPage,
     /// Print what a frame says, of a file or in hexadecimal in place of a file's name.
     Frame,
     /// Print what is known of a cause of faults. Its name stands in place of a file's.

@@ -1,5 +1,6 @@
 -- Which tasks there are.
-use Rattle.std.specs.Prelude.{◌≡◌, ◌≢◌, ◌≤◌, ℕ, Bool, true, false, List, Option, Some, None, Err, Ok, IfSome, is_some, option_map, unwrap_or, if◌then◌else◌, codes}
+use Rattle.std.specs.List.{ends_with}
+use Rattle.std.specs.Prelude.{◌≡◌, ◌≢◌, ◌≤◌, ℕ, ◌==◌, Bool, true, false, List, Option, Some, None, Err, Ok, IfSome, is_some, option_map, unwrap_or, if◌then◌else◌, codes}
 use Rattle.std.specs.Str.{bytes_eq}
 use Rattle.std.specs.Str.Parse.{ParsesUnsigned}
 use Rattle.std.specs.declared.num.ParseIntError.{ParseIntError}
@@ -24,6 +25,7 @@ IsOneTo most n = (1 ≤ n) × (n ≤ most)
 abbrev pub has_output : Verb → Bool
 has_output verb.Asm = true
 has_output verb.Draw = true
+has_output verb.DrawPage = true
 has_output _ = false
 
 -- the commands that run a module
@@ -31,7 +33,9 @@ abbrev pub is_run : Verb → Bool
 is_run verb.Run = true
 is_run verb.Runs = true
 is_run verb.Trace = true
+is_run verb.TraceVerbose = true
 is_run verb.Draw = true
+is_run verb.DrawPage = true
 is_run _ = false
 
 -- the commands that may have a number of places
@@ -39,7 +43,9 @@ abbrev pub has_places : Verb → Bool
 has_places verb.Run = true
 has_places verb.Runs = true
 has_places verb.Trace = true
+has_places verb.TraceVerbose = true
 has_places verb.Draw = true
+has_places verb.DrawPage = true
 has_places verb.Frame = true
 has_places _ = false
 
@@ -56,7 +62,9 @@ abbrev pub may_have_log : Verb → Bool → Bool
 may_have_log verb.Run threads = threads
 may_have_log verb.Audit threads = true
 may_have_log verb.Trace threads = true
+may_have_log verb.TraceVerbose threads = true
 may_have_log verb.Draw threads = true
+may_have_log verb.DrawPage threads = true
 may_have_log _ threads = false
 
 -- A task has what its command takes: a file to write, a log, a number of places, threads, a schedule, a number of seeds; the
@@ -84,9 +92,14 @@ pub record IsTask (t : Task) : Type 0 where
 
 -- ---- how a task is read
 
--- the command of a name; `list` has two
-abbrev pub verb_named : List ℕ → Bool → Verb
-verb_named name is_verbose =
+-- whether the file to write is a page: by the end of its name, ".html"
+abbrev pub is_page : Option (List ℕ) → Bool
+is_page None = false
+is_page (Some name) = ends_with (λ x y. x == y) name (codes ".html")
+
+-- the command of a name; `list`, `trace` and `draw` have two
+abbrev pub verb_named : List ℕ → (is_verbose is_page : Bool) → Verb
+verb_named name is_verbose is_page =
     if bytes_eq name (codes "asm") then verb.Asm
     else (if bytes_eq name (codes "list") then (if is_verbose then verb.ListVerbose else verb.List)
     else (if bytes_eq name (codes "check") then verb.Check
@@ -94,8 +107,9 @@ verb_named name is_verbose =
     else (if bytes_eq name (codes "bounds") then verb.Bounds
     else (if bytes_eq name (codes "runs") then verb.Runs
     else (if bytes_eq name (codes "audit") then verb.Audit
-    else (if bytes_eq name (codes "trace") then verb.Trace
-    else (if bytes_eq name (codes "draw") then verb.Draw
+    else (if bytes_eq name (codes "trace")
+    then (if is_verbose then verb.TraceVerbose else verb.Trace)
+    else (if bytes_eq name (codes "draw") then (if is_page then verb.DrawPage else verb.Draw)
     else (if bytes_eq name (codes "frame") then verb.Frame
     else (if bytes_eq name (codes "explain") then verb.Explain
     else verb.Run))))))))))
@@ -144,6 +158,7 @@ pub record IsReadFrom (explain : Bool) (m : ArgMatches) (t : Task) : Type 0 wher
   pub rows_are : option_map (λ p. p.1) (subcommand_rows_of m) ≡ Some (rows_of found)
   pub verbose_is : IsFlagIn (one_text found (codes "verbose")) is_verbose
   pub verb_is : t.verb ≡ verb_named name is_verbose
+      (is_page (first_value found (codes "OUTPUT")))
   pub input_is : first_value found (codes "INPUT") ≡ Some t.input.now
   pub output_is : option_map (λ s. s.now) t.output ≡ first_value found (codes "OUTPUT")
   pub log_is : option_map (λ s. s.now) t.log ≡ first_value found (codes "LOG")

@@ -40,6 +40,9 @@ const EVENTS: u64 = 1_000_000;
 /// How many runs there are, where the words don't say so.
 const SEEDS: u64 = 100;
 
+/// How the name of a page ends.
+const PAGE: &str = ".html";
+
 /// Reads the words of a command line, of which the program's name is the first. A task has what its command takes, and its
 /// numbers are in their ranges. Where the words don't say whether more is said about a fault than its line, `explain` does.
 pub fn parse<'a>(alloc: Global, words: &'a [String], explain: bool) -> Result<Task<'a>, Usage>
@@ -147,10 +150,11 @@ fn task_in<'a>(matches: &ArgMatches<'a>, explain: bool) -> Option<Task<'a>>
 {
     let (name, matches) = matches.subcommand()?;
     let seed = matches.get_one("seed");
+    let output = matches.get_str("OUTPUT");
     Some(Task {
-        verb: verb_of(name, matches.get_flag("verbose")),
+        verb: verb_of(name, matches.get_flag("verbose"), is_page(output)),
         input: matches.get_str("INPUT")?,
-        output: matches.get_str("OUTPUT"),
+        output,
         log: matches.get_str("LOG"),
         places: matches.get_one("places"),
         limit: matches.get_one("limit").unwrap_or(EVENTS),
@@ -165,8 +169,18 @@ fn task_in<'a>(matches: &ArgMatches<'a>, explain: bool) -> Option<Task<'a>>
     })
 }
 
-fn verb_of(name: &str, is_verbose: bool) -> Verb
-    ensures { result ≡ verb_named name.now is_verbose }
+/// Whether the file to write is a page, by the end of its name.
+fn is_page(output: Option<&str>) -> bool
+    ensures { result ≡ tasks.is_page (option_map (λ s. s.now) output.entry) }
+{
+    match output {
+        Some(name) => name.ends_with(PAGE),
+        None => false,
+    }
+}
+
+fn verb_of(name: &str, is_verbose: bool, is_page: bool) -> Verb
+    ensures { result ≡ verb_named name.now is_verbose is_page }
 {
     match name {
         "asm" => Verb::Asm,
@@ -177,7 +191,9 @@ fn verb_of(name: &str, is_verbose: bool) -> Verb
         "bounds" => Verb::Bounds,
         "runs" => Verb::Runs,
         "audit" => Verb::Audit,
+        "trace" if is_verbose => Verb::TraceVerbose,
         "trace" => Verb::Trace,
+        "draw" if is_page => Verb::DrawPage,
         "draw" => Verb::Draw,
         "frame" => Verb::Frame,
         "explain" => Verb::Explain,
@@ -241,7 +257,7 @@ fn writes_as_asked(task: &Task) -> bool
     ensures { IsTrue result → is_some task.now.output ≡ has_output task.now.verb }
 {
     match task.verb {
-        Verb::Asm | Verb::Draw => task.output.is_some(),
+        Verb::Asm | Verb::Draw | Verb::DrawPage => task.output.is_some(),
         _ => task.output.is_none(),
     }
 }
@@ -274,7 +290,10 @@ fn is_seed_count(task: &Task) -> bool
 fn is_run(verb: Verb) -> bool
     ensures { result ≡ tasks.is_run verb }
 {
-    matches!(verb, Verb::Run | Verb::Runs | Verb::Trace | Verb::Draw)
+    matches!(
+        verb,
+        Verb::Run | Verb::Runs | Verb::Trace | Verb::TraceVerbose | Verb::Draw | Verb::DrawPage
+    )
 }
 
 /// A limit of events is for what runs, and so is a number of places, which a frame has too, and always.
@@ -285,7 +304,8 @@ fn has_numbers_as_asked(task: &Task) -> bool
     ensures frame { IsTrue result → task.now.verb ≡ Verb.Frame → is_some task.now.places ≡ true }
 {
     match task.verb {
-        Verb::Run | Verb::Runs | Verb::Trace | Verb::Draw => true,
+        Verb::Run | Verb::Runs => true,
+        Verb::Trace | Verb::TraceVerbose | Verb::Draw | Verb::DrawPage => true,
         Verb::Frame => task.places.is_some() && task.limit == EVENTS,
         _ => has_no_numbers(task),
     }
@@ -335,7 +355,7 @@ fn has_log_as_asked(task: &Task) -> bool
     match task.verb {
         Verb::Audit => task.log.is_some(),
         Verb::Run => task.log.is_none() || task.threads,
-        Verb::Trace | Verb::Draw => true,
+        Verb::Trace | Verb::TraceVerbose | Verb::Draw | Verb::DrawPage => true,
         _ => task.log.is_none(),
     }
 }

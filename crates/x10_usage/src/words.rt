@@ -75,7 +75,10 @@ fn list<'a>(alloc: Global) -> Result<Command<'a>, AllocError> {
         .about("Print a module as assembler text, which assembles to the same image")
         .after_help(help::LIST)
         .arg(image_name(alloc))?
-        .arg(verbose(alloc))?
+        .arg(verbose(
+            alloc,
+            "With what the verifier knows at each instruction, in comments",
+        ))?
         .arg(json(alloc).conflicts_with("verbose")?)?
         .arg(explain(alloc))?
         .arg(color(alloc))
@@ -187,14 +190,21 @@ fn audit<'a>(alloc: Global) -> Result<Command<'a>, AllocError> {
 
 fn trace<'a>(alloc: Global) -> Result<Command<'a>, AllocError> {
     let about = "Verify a module, run it, and print what happens, event by event";
-    run_words(alloc, "trace", about, help::TRACE)?.arg(log_to_read(alloc)?)
+    run_words(alloc, "trace", about, help::TRACE)?
+        .arg(log_to_read(alloc)?)?
+        .arg(verbose(alloc, "With notes on each event in words, behind its lines"))
 }
 
 fn draw<'a>(alloc: Global) -> Result<Command<'a>, AllocError> {
-    let about = "Verify a module, run it, and draw what happens as an SVG document";
+    let about =
+        "Verify a module, run it, and draw what happens as an SVG document, or as a page in HTML";
     run_words(alloc, "draw", about, help::DRAW)?
         .arg(log_to_read(alloc)?)?
-        .arg(output(alloc, "SVG", "The file to write, the picture of the run"))
+        .arg(output(
+            alloc,
+            "SVG",
+            "The file to write, the picture of the run; named .html a page that shows it step by step",
+        ))
 }
 
 fn output<'a>(alloc: Global, name: &'a str, help: &'a str) -> Arg<'a> {
@@ -238,10 +248,10 @@ fn color<'a>(alloc: Global) -> Arg<'a> {
         .value_parser(["auto", "always", "never"].as_slice())
 }
 
-fn verbose<'a>(alloc: Global) -> Arg<'a> {
+fn verbose<'a>(alloc: Global, help: &'a str) -> Arg<'a> {
     Arg::new(alloc, "verbose")
         .long("verbose")
-        .help("With what the verifier knows at each instruction, in comments")
+        .help(help)
         .action(ArgAction::SetTrue)
 }
 

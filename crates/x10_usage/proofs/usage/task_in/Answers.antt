@@ -2,7 +2,7 @@ use Rattle.std.proofs.Common.{sym, ap, ◌∙◌}
 use Rattle.std.specs.Prelude.{codes}
 use Rattle.std.specs.Str.Parse.{ParsesUnsigned, ExplainsUnsignedError, HasUnsignedDigitsIfOk}
 use Rattle.clap.specs.Matches.{found_of, first_value, one_text}
-use Rattle.x10_usage.specs.Tasks.{color_named, explained_by, schedule_named}
+use Rattle.x10_usage.specs.Tasks.{color_named, explained_by, is_page, schedule_named, verb_named}
 use Rattle.x10_usage.proofs.TaskNumbers.{number_read}
 use Rattle.x10_usage.proofs.usage.task_in.Goals as goal
 
@@ -14,10 +14,11 @@ returns c = record {
   name_is = sym c.in_ok-name.ensures.name;
   rows_are = sym c.in_ok-name.ensures.rows;
   verbose_is = record { none = c.get_flag.ensures.none; yes = c.get_flag.ensures.value; no = c.get_flag.ensures.other };
-  verb_is = c.verb_of.ensures;
+  verb_is = c.verb_of.ensures ∙ ap (λ p. verb_named c.in_ok-name.name.now c.get_flag.result p)
+      (c.is_page.ensures ∙ ap (λ o. is_page o) c.get_str-output.ensures);
   input_is = sym c.in_ok-get_str.ensures;
-  output_is = c.get_str-2.ensures;
-  log_is = c.get_str-3.ensures;
+  output_is = c.get_str-output.ensures;
+  log_is = c.get_str-2.ensures;
   places_is = number_read 16 (λ bs r. ParsesUnsigned 16 10 bs r × ExplainsUnsignedError 10 bs r × HasUnsignedDigitsIfOk bs r)
       (one_text (found_of c.in_ok-name.matches.now) (codes "places")) c.get_one.result (λ bs r g. g.0) c.get_one.ensures.none c.get_one.ensures.value;
   asked = c.get_one-2.result;
@@ -25,7 +26,7 @@ returns c = record {
       (one_text (found_of c.in_ok-name.matches.now) (codes "limit")) c.get_one-2.result
       (λ bs r g. g.0) c.get_one-2.ensures.none c.get_one-2.ensures.value;
   limit_is = c.unwrap_or.ensures;
-  schedule_is = c.schedule_of.ensures ∙ ap (λ o. schedule_named o c.is_some.result) c.get_str-4.ensures
+  schedule_is = c.schedule_of.ensures ∙ ap (λ o. schedule_named o c.is_some.result) c.get_str-3.ensures
       ∙ ap (λ b. schedule_named (first_value (found_of c.in_ok-name.matches.now) (codes "schedule")) b) c.is_some.ensures;
   seed_is = number_read 64 (λ bs r. ParsesUnsigned 64 10 bs r × ExplainsUnsignedError 10 bs r × HasUnsignedDigitsIfOk bs r)
       (one_text (found_of c.in_ok-name.matches.now) (codes "seed")) c.get_one-seed.result
@@ -38,6 +39,6 @@ returns c = record {
   threads_is = record { none = c.get_flag-2.ensures.none; yes = c.get_flag-2.ensures.value; no = c.get_flag-2.ensures.other };
   json_is = record { none = c.get_flag-3.ensures.none; yes = c.get_flag-3.ensures.value; no = c.get_flag-3.ensures.other };
   stats_is = record { none = c.get_flag-4.ensures.none; yes = c.get_flag-4.ensures.value; no = c.get_flag-4.ensures.other };
-  explain_is = c.is_explained.ensures ∙ ap (λ o. explained_by o c.args.explain) c.get_str-5.ensures;
-  color_is = c.color_of.ensures ∙ ap (λ o. color_named o) c.get_str-6.ensures;
+  explain_is = c.is_explained.ensures ∙ ap (λ o. explained_by o c.args.explain) c.get_str-4.ensures;
+  color_is = c.color_of.ensures ∙ ap (λ o. color_named o) c.get_str-5.ensures;
 }
