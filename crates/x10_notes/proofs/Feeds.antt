@@ -1,6 +1,7 @@
 -- Lines of a text have no line feed within, and one more of them makes notes of notes.
 use Rattle.std.proofs.Common.{◌≡◌, ◌≢◌, ℕ, Bool, true, false, List, [], ◌∷◌, ◌++◌, ◌&&◌, ◌==◌, if◌then◌else◌, refl, sym, ap, subst, ◌∙◌, append_assoc, append-nil}
 use Rattle.std.specs.List.{AllByRecursion, flat_map}
+use Rattle.std.specs.Prelude.{codes}
 use Rattle.std.proofs.lemmas.Bool.{eqb-false}
 use Rattle.x10_asm.specs.Lines.{lines, grown, begins}
 use Rattle.x10_notes.specs.Notes.{AreNotes, HasNoFeed, note}
@@ -38,3 +39,15 @@ one_more old new line a h e = record {
   whole = snoc_whole a.lines line a.whole h;
   text_is = e ∙ ap (λ (t : List ℕ). t ++ note line) a.text_is ∙ sym (snoc_text a.lines line);
 }
+
+-- ---- one line alone
+
+pub one_note : (old new line : List ℕ) → old ≡ [] → HasNoFeed line → new ≡ old ++ note line → AreNotes new
+one_note old new line none h e = record {
+  lines = line ∷ [];
+  whole = (h, tt);
+  text_is = e ∙ ap (λ (t : List ℕ). t ++ note line) none ∙ sym (append-nil (note line));
+}
+
+pub nothing_whole : HasNoFeed (codes "nothing")
+nothing_whole = (λ e. cc, (λ e. cc, (λ e. cc, (λ e. cc, (λ e. cc, (λ e. cc, (λ e. cc, tt)))))))

@@ -1,10 +1,10 @@
 //! The notes of an event.
-ghost use Rattle.std.specs.Prelude.{IfOk};
+ghost use Rattle.std.specs.Prelude.{◌≢◌, [], IfOk};
 ghost use Rattle.std.specs.String.{string_bytes};
 ghost use Rattle.x10_notes.specs.Notes.{AreNotes};
 
 use crate::known::Known;
-use crate::lines::indented;
+use crate::lines::some_notes;
 use crate::shot::{Shot, nothing};
 use std::alloc::{AllocError, Global};
 use x10_model::Event;
@@ -44,9 +44,10 @@ impl<'a> Notes<'a> {
     /// What an event did, in the world right after it, if `look` was called right before it: what an activity did and with what
     /// values, what it changed, what began, ended or went on, and the frames; or why it found nothing to do. Linear in the words.
     pub fn notes(&self, world: &World, event: Event, done: &Done) -> Result<String, AllocError>
-        ensures { IfOk result (λ text. AreNotes (string_bytes text)) }
+        ensures notes { IfOk result (λ text. AreNotes (string_bytes text)) }
+        ensures some { IfOk result (λ text. string_bytes text ≢ []) }
     {
         let words = self.known.event_words(world, event, &self.before, done)?;
-        indented(self.known.alloc, words.as_str())
+        some_notes(self.known.alloc, words.as_str())
     }
 }
