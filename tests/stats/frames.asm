@@ -55,6 +55,9 @@
 ; $ x10p run frames.x10 --stats --limit 1 --explain
 ; status 2: limit
 ; > --limit permits 1 event, and after that the root finish was open. Main takes 8 steps at most; the steps of all other activities count too, and deliveries and idle events.
+; > Who lives then:
+; >   main at place 0: function 2, instruction 1 (PLACEK)
+; > Activities that can move: 1 of 1.
 ; > steps:                    1
 ; > idle events:              0
 ; > deliveries:               0

@@ -1,5 +1,5 @@
 -- What is printed line after line.
-use Rattle.std.proofs.Common.{◌≡◌, ℕ, zero, suc, ◌+◌, ◌<◌, List, [], ◌∷◌, ◌++◌, Bool, length, get_or, map, Option, Some, None, sym, ap, subst, ◌∙◌, arith, append_assoc}
+use Rattle.std.proofs.Common.{◌≡◌, ℕ, zero, suc, ◌+◌, ◌<◌, List, [], ◌∷◌, ◌++◌, Bool, length, get_or, map, Option, Some, None, sym, ap, subst, ◌∙◌, arith, append_assoc, true}
 use Rattle.std.specs.Prelude.{slice_get, take, Vec}
 use Rattle.std.specs.Global.{Global}
 use Rattle.std.proofs.lemmas.List.{append-nil}
@@ -15,15 +15,14 @@ use Rattle.x10_place.specs.StandsFor.{PlaceState, line_as}
 use Rattle.x10_world.specs.Endings.{lines_at, lines_in}
 use Rattle.x10_world.specs.Opening.{IsOpenedWorld}
 use Rattle.x10_world.specs.Rounds.{NoneIsLeft, RunsTo}
-use Rattle.x10_world.specs.declared.done.Done.{Done}
-use Rattle.x10_world.specs.Happenings.{HasDone}
-use Rattle.x10_world.specs.StandsForWorld.{WorldState, setting_of_world, StandsForWorld, MakesEvent}
-use Rattle.x10_trace.specs.Trace.{trace_lines, begins, goes_on}
+use Rattle.x10_world.specs.StandsForWorld.{WorldState, setting_of_world, StandsForWorld}
 use Rattle.x10_world.proofs.EndingLemmas.{map_length, lines_are}
 use Rattle.x10_task.specs.declared.task.Verb.{Verb}
 use Rattle.x10_task.specs.declared.task.Verb.TheVariants as verb
-use Rattle.x10_cli.specs.Answers.{HasBegun, HasRun, Prints, Traces}
+use Rattle.x10_cli.specs.Answers.{HasBegun, HasRun, Prints}
+use Rattle.x10_cli.specs.Events.{HasShown}
 use Rattle.x10_cli.specs.Lines.{line_in, place_lines, all_lines, bound_line, bound_lines}
+use Rattle.x10_cli.proofs.UndoneLemmas.{shows_kept}
 
 -- one item more of a list
 lines_more : (json : Bool) (place n : ℕ) (lines : List Line) (line : Line) → slice_get lines n ≡ Some line
@@ -160,23 +159,18 @@ has_begun c count x y opened to = record {
     setting = ap (λ m. record { program = m; places = length x.places }) opened.program
         ∙ ap (λ n. record { program = c.program; places = n }) opened.places.count_is
 
--- ---- a trace
+-- ---- what was printed stays where nothing more is written
 
--- before the first event
-pub traces_none : (x : WorldState) (a : Option (List ℕ)) → Traces x [] x a a
-traces_none x a = ([], begins x, Appends-nil a)
+all_shown : {v : Verb} {c : Certified} {places : ℕ} {a b d : Option (List ℕ)} → HasShown v c places a b → Keeps b d → HasShown v c places a d
+all_shown {v} {c} {places} {a} {b} {d} h k = record {
+  first = h.first;
+  last = h.last;
+  opened = h.opened;
+  events = h.events;
+  shows = shows_kept v true h.first h.last h.events a b d h.shows k;
+  ended = h.ended;
+}
 
--- the lines of an event more
-pub traces_more : (x y z : WorldState) (events : List Event) (a b c : Option (List ℕ)) (event : Event) → Traces x events y a b
-    → ((did : Done) × HasDone y event did z × Appends b c (trace_lines z event did)) → ((w : World) → StandsForWorld y w → MakesEvent y w event z)
-    → Traces x (events ++ event ∷ []) z a c
-traces_more x y z events a b c event before one makes = (
-  before.0 ++ trace_lines z event one.0,
-  goes_on x y z events before.0 event one.0 before.1 one.1 makes,
-  Appends-trans a b c before.0 (trace_lines z event one.0) before.2 one.2,
-)
-
--- what was printed stays where nothing more is written
 pub prints_kept : (v : Verb) (json : Bool) (asked : Option ℕ) (bytes : List ℕ) (a b c : Option (List ℕ)) → Prints v json asked bytes a b → Keeps b c
     → Prints v json asked bytes a c
 prints_kept verb.Asm json asked bytes a b c p k = (p.0, p.1, Appends-kept a b c _ p.2 k)
@@ -191,6 +185,8 @@ prints_kept verb.Audit json asked bytes a b c p k = absurd p
 prints_kept verb.Frame json asked bytes a b c p k = (p.0, p.1, Appends-kept a b c _ p.2 k)
 prints_kept verb.Explain json asked bytes a b c p k = (p.0, Appends-kept a b c _ p.1 k)
 prints_kept verb.Draw json asked bytes a b c p k = (p.0, p.1, p.2, p.3, Appends-kept a b c _ p.4 k)
+prints_kept verb.TraceVerbose json asked bytes a b c p k = (p.0, p.1, all_shown p.2 k)
+prints_kept verb.DrawPage json asked bytes a b c p k = (p.0, p.1, all_shown p.2 k)
 prints_kept verb.Trace json asked bytes a b c p k =
     let h = p.2 in (
       p.0,

@@ -2,9 +2,7 @@
 use Rattle.std.proofs.Common.{◌≡◌, ℕ, Bool, false, List, Option, Result, Ok, Err, refl, sym, ap, ◌∙◌, inl, inr, arith}
 use Rattle.std.specs.Prelude.{◌≢◌, ◌⊎◌, IfOk, IfErr, OnOk}
 use Rattle.std.specs.Io.KnownBytes.{Appends, Keeps}
-use Rattle.x10_model.specs.declared.event.Event.{Event}
 use Rattle.x10_verify.specs.Certified.{Certified}
-use Rattle.x10_draw.specs.Pages.{IsPage}
 use Rattle.x10_world.specs.Endings.{IsImageOf, lines_at}
 use Rattle.x10_world.specs.Opening.{IsOpenedWorld}
 use Rattle.x10_world.specs.Rounds.{NoneIsLeft, RunsTo}
@@ -13,7 +11,7 @@ use Rattle.x10_task.specs.declared.task.Verb.TheVariants as verb
 use Rattle.x10_cli.specs.Lines.{all_lines}
 use Rattle.x10_cli.specs.declared.fault.Fault.{Fault}
 use Rattle.x10_cli.specs.declared.fault.Fault.TheVariants as fault
-use Rattle.x10_cli.specs.Answers.{IsDue, Prints, LeavesStopped, Traces, TracesSome, places_for, status_of}
+use Rattle.x10_cli.specs.Answers.{IsDue, Prints, LeavesStopped, places_for, status_of}
 use Rattle.x10_cli.proofs.LinesPrinted.{has_run, has_begun}
 
 -- ---- faults of another status than 1
@@ -72,46 +70,3 @@ pub run_left : {T : Type 0} (json : Bool) (r : Result T Fault) (bytes : List ℕ
     → IfErr r (λ e. status_of e ≡ 2 → LeavesStopped verb.Run json false asked bytes a b)
 run_left json (Ok t) bytes v asked x y a b is opened to p = tt
 run_left json (Err e) bytes v asked x y a b is opened to p = run_begun json e bytes v asked x y a b is opened to p
-
-pub trace_printed : {T : Type 0} (r : Result T Fault) (bytes : List ℕ) (v : Certified) (asked : Option ℕ) (x y : WorldState) (a b : Option (List ℕ))
-    → IsImageOf bytes v → IsOpenedWorld v (places_for asked v) x → RunsTo x y → OnOk r (NoneIsLeft y)
-    → OnOk r ((events : List Event) × Traces x events y a b) → OnOk r (Prints verb.Trace false asked bytes a b)
-trace_printed (Ok t) bytes v asked x y a b is opened to ended p =
-    (v, is, record { first = x; last = y; opened = opened; events = p.0; traces = p.1; runs = to; ended = ended })
-trace_printed (Err e) bytes v asked x y a b is opened to ended p = tt
-
-trace_begun : (e : Fault) (bytes : List ℕ) (v : Certified) (asked : Option ℕ) (x : WorldState) (a b : Option (List ℕ)) → IsImageOf bytes v
-    → IsOpenedWorld v (places_for asked v) x → (e ≡ fault.File) ⊎ TracesSome x a b
-    → status_of e ≡ 2 → LeavesStopped verb.Trace false false asked bytes a b
-trace_begun e bytes v asked x a b is opened (inl f) s = absurd (no_file e f s)
-trace_begun e bytes v asked x a b is opened (inr t) s =
-    inr (v, is, record { first = x; last = t.1; opened = opened; events = t.0; traces = t.3; runs = t.2 })
-
-pub trace_left : {T : Type 0} (r : Result T Fault) (bytes : List ℕ) (v : Certified) (asked : Option ℕ) (x : WorldState) (a b : Option (List ℕ))
-    → IsImageOf bytes v → IsOpenedWorld v (places_for asked v) x
-    → IfErr r (λ e. (e ≡ fault.File) ⊎ TracesSome x a b) → IfErr r (λ e. status_of e ≡ 2 → LeavesStopped verb.Trace false false asked bytes a b)
-trace_left (Ok t) bytes v asked x a b is opened p = tt
-trace_left (Err e) bytes v asked x a b is opened p = trace_begun e bytes v asked x a b is opened p
-
-pub picture_printed : {T : Type 0} (r : Result T Fault) (bytes : List ℕ) (v : Certified) (asked : Option ℕ) (x y : WorldState) (a b : Option (List ℕ))
-    → IsImageOf bytes v → IsOpenedWorld v (places_for asked v) x → RunsTo x y → OnOk r (NoneIsLeft y)
-    → OnOk r ((picture : List ℕ) × IsPage picture × Appends a b picture) → OnOk r (Prints verb.Draw false asked bytes a b)
-picture_printed (Ok t) bytes v asked x y a b is opened to ended p =
-    (v, p.0, is, record { first = x; last = y; opened = opened; runs = to; ended = ended; page = p.1 }, p.2)
-picture_printed (Err e) bytes v asked x y a b is opened to ended p = tt
-
-picture_begun : (e : Fault) (bytes : List ℕ) (v : Certified) (asked : Option ℕ) (x y : WorldState) (a b : Option (List ℕ)) → IsImageOf bytes v
-    → IsOpenedWorld v (places_for asked v) x → RunsTo x y
-    → (e ≡ fault.File) ⊎ Keeps a b ⊎ ((picture : List ℕ) × IsPage picture × Appends a b picture) → status_of e ≡ 2
-    → LeavesStopped verb.Draw false false asked bytes a b
-picture_begun e bytes v asked x y a b is opened to (inl f) s = absurd (no_file e f s)
-picture_begun e bytes v asked x y a b is opened to (inr (inl k)) s = inl k
-picture_begun e bytes v asked x y a b is opened to (inr (inr p)) s =
-    inr (v, p.0, is, record { first = x; last = y; opened = opened; runs = to; page = p.1 }, p.2)
-
-pub picture_left : {T : Type 0} (r : Result T Fault) (bytes : List ℕ) (v : Certified) (asked : Option ℕ) (x y : WorldState) (a b : Option (List ℕ))
-    → IsImageOf bytes v → IsOpenedWorld v (places_for asked v) x → RunsTo x y
-    → IfErr r (λ e. (e ≡ fault.File) ⊎ Keeps a b ⊎ ((picture : List ℕ) × IsPage picture × Appends a b picture))
-    → IfErr r (λ e. status_of e ≡ 2 → LeavesStopped verb.Draw false false asked bytes a b)
-picture_left (Ok t) bytes v asked x y a b is opened to p = tt
-picture_left (Err e) bytes v asked x y a b is opened to p = picture_begun e bytes v asked x y a b is opened to p

@@ -1,5 +1,5 @@
 -- What the commands say that show the log of a run with threads.
-use Rattle.std.proofs.Common.{◌≡◌, ℕ, List, [], ◌∷◌, ◌++◌, Option, Result, Ok, Err, refl, sym, ap, subst, ◌∙◌, inl, inr, append_assoc}
+use Rattle.std.proofs.Common.{◌≡◌, ℕ, List, [], ◌∷◌, ◌++◌, Option, Result, Ok, Err, refl, sym, ap, subst, ◌∙◌, inl, inr, append_assoc, true, false}
 use Rattle.std.specs.Prelude.{◌⊎◌, IfErr, OnOk}
 use Rattle.std.specs.Io.KnownBytes.{Keeps}
 use Rattle.std.proofs.KnownBytes.{Appends-kept, Keeps-trans}
@@ -7,21 +7,22 @@ use Rattle.std.proofs.lemmas.List.{append-nil}
 use Rattle.x10_kinds.specs.declared.stop.Stop.{Stop}
 use Rattle.x10_kinds.specs.declared.stop.Stop.TheVariants as stop
 use Rattle.x10_model.specs.declared.event.Event.{Event}
-use Rattle.x10_model.specs.Worlds.{World, Ideal, Happens, done, WithinBounds}
 use Rattle.x10_verify.specs.Certified.{Certified}
 use Rattle.x10_hall.specs.declared.turn.Turn.{Turn}
 use Rattle.x10_world.specs.Opening.{IsOpenedWorld}
-use Rattle.x10_world.specs.StandsForWorld.{WorldState, KeepsSetting, MakesEvent, StandsForWorld, setting_of_world}
-use Rattle.x10_world.proofs.RunLemmas.{keeps_more, keeps_self, run_more, setting_kept, within}
+use Rattle.x10_world.specs.StandsForWorld.{WorldState}
 use Rattle.x10_workers.specs.Plays.{events_in}
 use Rattle.x10_task.specs.declared.task.Verb.{Verb}
 use Rattle.x10_task.specs.declared.task.Verb.TheVariants as verb
 use Rattle.x10_cli.specs.declared.fault.Fault.{Fault}
 use Rattle.x10_cli.specs.declared.fault.Fault.TheVariants as fault
-use Rattle.x10_cli.specs.Answers.{Traces, of_stop, status_of}
-use Rattle.x10_cli.specs.Shown.{AppendsPicture, RunsBy, RunsFirst, HoldsOfLog, ShowsAll, ShowsFirst, HasShownLog, HasShownSomeOfLog, IsLogOfRun, IsShownDue, IsStoppedAgain, IsStoppedAt, IsStoppedIn, TracesFirst}
+use Rattle.x10_cli.specs.Answers.{of_stop, status_of}
+use Rattle.x10_cli.specs.Events.{Manner, RunsBy}
+use Rattle.x10_cli.specs.Showing.{Tells}
+use Rattle.x10_cli.specs.Shown.{HoldsOfLog, ShowsAll, ShowsFirst, ShowsSome, HasShownLog, HasShownSomeOfLog, IsLogOfRun, IsShownDue, IsStoppedAgain, IsStoppedAt, IsStoppedIn}
 use Rattle.x10_cli.specs.Logs.{IsAuditDue}
 use Rattle.x10_cli.proofs.RunLemmas.{no_file}
+use Rattle.x10_cli.proofs.UndoneLemmas.{shows_kept}
 
 -- ---- faults that are due
 
@@ -79,69 +80,17 @@ stops_traced x y made left rest all event e is split runs (inl h) = inl h
 stops_traced x y made left rest all event e is split runs (inr (inl h)) = inr (inl h)
 stops_traced x y made left rest all event e is split runs (inr (inr h)) = inr (inr (stops_in x y made left rest all event e is split runs h))
 
-pub stops_drawn : (x y : WorldState) (made left rest all : List Event) (event : Event) (e : Fault) → left ≡ event ∷ rest → made ++ left ≡ all
-    → RunsBy x made y → (e ≡ fault.Memory) ⊎ IsStoppedAt y event e → (e ≡ fault.Memory) ⊎ IsStoppedIn x all e
-stops_drawn x y made left rest all event e is split runs (inl h) = inl h
-stops_drawn x y made left rest all event e is split runs (inr h) = inr (stops_in x y made left rest all event e is split runs h)
-
 -- and none is left
 pub split_end : (made left all : List Event) → left ≡ [] → made ++ left ≡ all → made ≡ all
 split_end made left all is split = sym (append-nil made) ∙ ap (λ es. made ++ es) (sym is) ∙ split
 
--- ---- the lines of a log's events
+-- ---- what is told of a log's events
 
-pub traces_all : (x y : WorldState) (made left all : List Event) (a b : Option (List ℕ)) → left ≡ [] → made ++ left ≡ all → Traces x made y a b
-    → Traces x all y a b
-traces_all x y made left all a b is split traced = subst (λ es. Traces x es y a b) (split_end made left all is split) traced
-
-pub first_kept : (e : Fault) (x y : WorldState) (made rest all : List Event) (a b c : Option (List ℕ)) → made ++ rest ≡ all → Traces x made y a b
-    → (e ≡ fault.File) ⊎ Keeps b c → (e ≡ fault.File) ⊎ TracesFirst x all a c
-first_kept e x y made rest all a b c split traced (inl f) = inl f
-first_kept e x y made rest all a b c split traced (inr k) = inr (record {
-  made = made;
-  rest = rest;
-  all = split;
-  last = y;
-  traces = (traced.0, traced.1, Appends-kept a b c traced.0 traced.2 k);
-})
-
--- ---- the picture of a log's events
-
-pub by_none : (x : WorldState) → RunsBy x [] x
-by_none x = record { kept = keeps_self x; runs = λ w stand. record { last = w; run = done w (within x w stand); stands = stand } }
-
-pub by_more : (x y z : WorldState) (events : List Event) (event : Event) → RunsBy x events y → KeepsSetting y z
-    → ((w : World) → StandsForWorld y w → MakesEvent y w event z) → RunsBy x (events ++ event ∷ []) z
-by_more x y z events event before kept makes = record {
-  kept = keeps_more x y z before.kept kept;
-  runs = λ w stand.
-      (let r = before.runs w stand in
-      let m = makes r.last r.stands in
-      let own : Happens Ideal (setting_of_world x) r.last event m.0 =
-      subst (λ s. Happens Ideal s r.last event m.0) (setting_kept x y before.kept) m.1 in
-      let bounded : WithinBounds x.bounds m.0 = subst (λ bs. WithinBounds bs m.0) (kept.bounds ∙ before.kept.bounds) (within z m.0 m.3) in
-      record {
-        last = m.0;
-        run = run_more Ideal (setting_of_world x) (WithinBounds x.bounds) w r.last m.0 events event r.run own bounded;
-        stands = m.3;
-      });
-}
-
-pub by_all : (x y : WorldState) (made left all : List Event) → left ≡ [] → made ++ left ≡ all → RunsBy x made y → RunsBy x all y
-by_all x y made left all is split runs = subst (λ es. RunsBy x es y) (split_end made left all is split) runs
+pub told_all : (m : Manner) (x y : WorldState) (made left all : List Event) (a b : Option (List ℕ)) → left ≡ [] → made ++ left ≡ all
+    → Tells m x made y a b → Tells m x all y a b
+told_all m x y made left all a b is split t = subst (λ es. Tells m x es y a b) (split_end made left all is split) t
 
 -- ---- what a command shows
-
--- the lines, where it isn't the picture
-all_lines : (v : Verb) (x y : WorldState) (events : List Event) (a b : Option (List ℕ)) → (v ≡ verb.Draw → ⊥) → Traces x events y a b
-    → ShowsAll v x events a b
-all_lines verb.Draw x y events a b lines h = absurd (lines refl)
-all_lines _ x y events a b lines h = (y, h)
-
-first_lines : (v : Verb) (x : WorldState) (events : List Event) (a b : Option (List ℕ)) → (v ≡ verb.Draw → ⊥) → TracesFirst x events a b
-    → ShowsFirst v x events a b
-first_lines verb.Draw x events a b lines h = absurd (lines refl)
-first_lines _ x events a b lines h = h
 
 module _ {T : Type 0} (r : Result T Fault) (bytes text : List ℕ) (c : Certified) (places : ℕ) (turns : List Turn) (x : WorldState)
     (a b : Option (List ℕ)) (of_run : IsLogOfRun bytes text c places turns) (opened : IsOpenedWorld c places x) where
@@ -149,50 +98,25 @@ module _ {T : Type 0} (r : Result T Fault) (bytes text : List ℕ) (c : Certifie
   of_log : (P : WorldState → List Event → Type 0) → P x (events_in turns) → HoldsOfLog bytes text P
   of_log P h = record { c = c; places = places; turns = turns; of_run = of_run; first = x; opened = opened; holds = h }
 
-  pub lines_shown : (v : Verb) (y : WorldState) → (v ≡ verb.Draw → ⊥) → OnOk r (Traces x (events_in turns) y a b)
-      → OnOk r (HasShownLog v bytes text a b)
-  lines_shown v y lines p = done r p
+  pub log_shown : (v : Verb) → OnOk r (ShowsAll v x (events_in turns) a b) → OnOk r (HasShownLog v bytes text a b)
+  log_shown v p = done r p
     where
-      done : (q : Result T Fault) → OnOk q (Traces x (events_in turns) y a b) → OnOk q (HasShownLog v bytes text a b)
-      done (Ok t) p = of_log (λ z events. ShowsAll v z events a b) (all_lines v x y (events_in turns) a b lines p)
+      done : (q : Result T Fault) → OnOk q (ShowsAll v x (events_in turns) a b) → OnOk q (HasShownLog v bytes text a b)
+      done (Ok t) p = of_log (λ z events. ShowsAll v z events a b) p
       done (Err e) p = tt
 
-  pub first_lines_shown : (v : Verb) → (v ≡ verb.Draw → ⊥) → IfErr r (λ e. (e ≡ fault.File) ⊎ TracesFirst x (events_in turns) a b)
+  pub log_shown_some : (v : Verb) → IfErr r (λ e. (e ≡ fault.File) ⊎ Keeps a b ⊎ ShowsFirst v x (events_in turns) a b)
       → IfErr r (λ e. status_of e ≡ 2 → Keeps a b ⊎ HasShownSomeOfLog v bytes text a b)
-  first_lines_shown v lines p = done r p
+  log_shown_some v p = done r p
     where
-      left : (e : Fault) → (e ≡ fault.File) ⊎ TracesFirst x (events_in turns) a b → status_of e ≡ 2 → Keeps a b ⊎ HasShownSomeOfLog v bytes text a b
-      left e (inl f) s = absurd (no_file e f s)
-      left e (inr t) s = inr (of_log (λ z events. ShowsFirst v z events a b) (first_lines v x (events_in turns) a b lines t))
-
-      done : (q : Result T Fault) → IfErr q (λ e. (e ≡ fault.File) ⊎ TracesFirst x (events_in turns) a b)
-          → IfErr q (λ e. status_of e ≡ 2 → Keeps a b ⊎ HasShownSomeOfLog v bytes text a b)
-      done (Ok t) p = tt
-      done (Err e) p = left e p
-
-  pub picture_shown : (v : Verb) (y : WorldState) → v ≡ verb.Draw → OnOk r (RunsBy x (events_in turns) y) → OnOk r (AppendsPicture a b)
-      → OnOk r (HasShownLog v bytes text a b)
-  picture_shown v y drawn runs p = subst (λ u. OnOk r (HasShownLog u bytes text a b)) (sym drawn) (done r runs p)
-    where
-      done : (q : Result T Fault) → OnOk q (RunsBy x (events_in turns) y) → OnOk q (AppendsPicture a b)
-          → OnOk q (HasShownLog verb.Draw bytes text a b)
-      done (Ok t) runs p = of_log (λ z events. ShowsAll verb.Draw z events a b) (y, runs, p)
-      done (Err e) runs p = tt
-
-  pub first_picture_shown : (v : Verb) → v ≡ verb.Draw
-      → IfErr r (λ e. (e ≡ fault.File) ⊎ Keeps a b ⊎ (RunsFirst x (events_in turns) × AppendsPicture a b))
-      → IfErr r (λ e. status_of e ≡ 2 → Keeps a b ⊎ HasShownSomeOfLog v bytes text a b)
-  first_picture_shown v drawn p =
-      subst (λ u. IfErr r (λ e. status_of e ≡ 2 → Keeps a b ⊎ HasShownSomeOfLog u bytes text a b)) (sym drawn) (done r p)
-    where
-      left : (e : Fault) → (e ≡ fault.File) ⊎ Keeps a b ⊎ (RunsFirst x (events_in turns) × AppendsPicture a b) → status_of e ≡ 2
-          → Keeps a b ⊎ HasShownSomeOfLog verb.Draw bytes text a b
+      left : (e : Fault) → (e ≡ fault.File) ⊎ Keeps a b ⊎ ShowsFirst v x (events_in turns) a b → status_of e ≡ 2
+          → Keeps a b ⊎ HasShownSomeOfLog v bytes text a b
       left e (inl f) s = absurd (no_file e f s)
       left e (inr (inl k)) s = inl k
-      left e (inr (inr p)) s = inr (of_log (λ z events. ShowsFirst verb.Draw z events a b) p)
+      left e (inr (inr p)) s = inr (of_log (λ z events. ShowsFirst v z events a b) p)
 
-      done : (q : Result T Fault) → IfErr q (λ e. (e ≡ fault.File) ⊎ Keeps a b ⊎ (RunsFirst x (events_in turns) × AppendsPicture a b))
-          → IfErr q (λ e. status_of e ≡ 2 → Keeps a b ⊎ HasShownSomeOfLog verb.Draw bytes text a b)
+      done : (q : Result T Fault) → IfErr q (λ e. (e ≡ fault.File) ⊎ Keeps a b ⊎ ShowsFirst v x (events_in turns) a b)
+          → IfErr q (λ e. status_of e ≡ 2 → Keeps a b ⊎ HasShownSomeOfLog v bytes text a b)
       done (Ok t) p = tt
       done (Err e) p = left e p
 
@@ -200,11 +124,25 @@ module _ {T : Type 0} (r : Result T Fault) (bytes text : List ℕ) (c : Certifie
 
 all_kept : (v : Verb) (x : WorldState) (events : List Event) (a b c : Option (List ℕ)) → Keeps b c → ShowsAll v x events a b → ShowsAll v x events a c
 all_kept verb.Draw x events a b c k h = (h.0, h.1, (h.2.0, h.2.1, Appends-kept a b c h.2.0 h.2.2 k))
+all_kept verb.TraceVerbose x events a b c k h = (h.0, shows_kept verb.TraceVerbose true x h.0 events a b c h.1 k)
+all_kept verb.DrawPage x events a b c k h = (h.0, shows_kept verb.DrawPage true x h.0 events a b c h.1 k)
 all_kept _ x events a b c k h = (h.0, (h.1.0, h.1.1, Appends-kept a b c h.1.0 h.1.2 k))
+
+some_kept : (v : Verb) (x : WorldState) (events : List Event) (a b c : Option (List ℕ)) → Keeps b c → ShowsSome v x events a b
+    → ShowsSome v x events a c
+some_kept v x events a b c k h = record {
+  made = h.made;
+  rest = h.rest;
+  all = h.all;
+  last = h.last;
+  shows = shows_kept v false x h.last h.made a b c h.shows k;
+}
 
 first_shown_kept : (v : Verb) (x : WorldState) (events : List Event) (a b c : Option (List ℕ)) → Keeps b c → ShowsFirst v x events a b
     → ShowsFirst v x events a c
 first_shown_kept verb.Draw x events a b c k h = (h.0, (h.1.0, h.1.1, Appends-kept a b c h.1.0 h.1.2 k))
+first_shown_kept verb.TraceVerbose x events a b c k h = some_kept verb.TraceVerbose x events a b c k h
+first_shown_kept verb.DrawPage x events a b c k h = some_kept verb.DrawPage x events a b c k h
 first_shown_kept _ x events a b c k h = record {
   made = h.made;
   rest = h.rest;

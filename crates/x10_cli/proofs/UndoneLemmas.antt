@@ -7,9 +7,10 @@ use Rattle.x10_cli.specs.declared.fault.Fault.{Fault}
 use Rattle.x10_cli.specs.declared.fault.Fault.TheVariants as fault
 use Rattle.x10_task.specs.declared.task.Verb.{Verb}
 use Rattle.x10_task.specs.declared.task.Verb.TheVariants as verb
-use Rattle.x10_cli.specs.Answers.{LeavesRefused, LeavesRun, LeavesStopped, Traces, TracesSome, status_of}
+use Rattle.x10_cli.specs.Answers.{LeavesRefused, LeavesRun, LeavesStopped, status_of}
+use Rattle.x10_cli.specs.Events.{HasShownSome, Shows}
 use Rattle.x10_model.specs.declared.event.Event.{Event}
-use Rattle.x10_world.specs.Rounds.{RunsTo}
+use Rattle.x10_verify.specs.Certified.{Certified}
 use Rattle.x10_world.specs.StandsForWorld.{WorldState}
 
 pub kept_self : (a : Option (List ℕ)) → Keeps a a
@@ -43,6 +44,17 @@ none_appended (Some x) (Some y) p = p ∙ append-nil x
 
 -- ---- what is left stays where nothing more is written
 
+pub shows_kept : (v : Verb) (ended : Bool) (x y : WorldState) (events : List Event) (a b c : Option (List ℕ)) → Shows v ended x events y a b
+    → Keeps b c → Shows v ended x events y a c
+shows_kept v ended x y events a b c s k = record {
+  manner = s.manner;
+  is_manner = s.is_manner;
+  runs = s.runs;
+  text = s.text;
+  shown = s.shown;
+  printed = Appends-kept a b c s.text s.printed k;
+}
+
 pub refused_kept : (v : Verb) (a b c : Option (List ℕ)) → LeavesRefused v a b → Keeps b c → LeavesRefused v a c
 refused_kept verb.Check a b c p k = (p.0, Appends-kept a b c p.0 p.1 k)
 refused_kept verb.Asm a b c p k = Keeps-trans a b c p k
@@ -54,9 +66,20 @@ refused_kept verb.Run a b c p k = Keeps-trans a b c p k
 refused_kept verb.Runs a b c p k = Keeps-trans a b c p k
 refused_kept verb.Audit a b c p k = Keeps-trans a b c p k
 refused_kept verb.Trace a b c p k = Keeps-trans a b c p k
+refused_kept verb.TraceVerbose a b c p k = Keeps-trans a b c p k
 refused_kept verb.Draw a b c p k = Keeps-trans a b c p k
+refused_kept verb.DrawPage a b c p k = Keeps-trans a b c p k
 refused_kept verb.Frame a b c p k = Keeps-trans a b c p k
 refused_kept verb.Explain a b c p k = Keeps-trans a b c p k
+
+some_shown : {v : Verb} {c : Certified} {places : ℕ} {a b d : Option (List ℕ)} → HasShownSome v c places a b → Keeps b d → HasShownSome v c places a d
+some_shown {v} {c} {places} {a} {b} {d} h k = record {
+  first = h.first;
+  last = h.last;
+  opened = h.opened;
+  events = h.events;
+  shows = shows_kept v false h.first h.last h.events a b d h.shows k;
+}
 
 run_kept : (json : Bool) (threads : Bool) (asked : Option ℕ) (bytes : List ℕ) (a b c : Option (List ℕ)) → LeavesRun json threads asked bytes a b
     → Keeps b c → LeavesRun json threads asked bytes a c
@@ -82,6 +105,10 @@ stopped_kept verb.Trace json threads asked bytes a b c (inr p) k = inr (
 )
 stopped_kept verb.Draw json threads asked bytes a b c (inl p) k = inl (Keeps-trans a b c p k)
 stopped_kept verb.Draw json threads asked bytes a b c (inr p) k = inr (p.0, p.1, p.2, p.3, Appends-kept a b c p.1 p.4 k)
+stopped_kept verb.TraceVerbose json threads asked bytes a b c (inl p) k = inl (Keeps-trans a b c p k)
+stopped_kept verb.TraceVerbose json threads asked bytes a b c (inr p) k = inr (p.0, p.1, some_shown p.2 k)
+stopped_kept verb.DrawPage json threads asked bytes a b c (inl p) k = inl (Keeps-trans a b c p k)
+stopped_kept verb.DrawPage json threads asked bytes a b c (inr p) k = inr (p.0, p.1, some_shown p.2 k)
 stopped_kept verb.Runs json threads asked bytes a b c p k = Keeps-trans a b c p k
 stopped_kept verb.Audit json threads asked bytes a b c p k = Keeps-trans a b c p k
 stopped_kept verb.Asm json threads asked bytes a b c p k = Keeps-trans a b c p k
@@ -126,13 +153,6 @@ run_stopped (Ok x) v w json threads told asked bytes a b is same k = tt
 run_stopped (Err e) v w json threads told asked bytes a b is same k =
     λ s. subst (λ (x : Verb). LeavesStopped x json threads asked bytes a b) (sym is)
     (subst (λ (t : Bool). LeavesStopped w json t asked bytes a b) (sym same) (k s))
-
--- ---- a trace
-
-pub some_kept : (e : Fault) (x y : WorldState) (events : List Event) (a b c : Option (List ℕ)) → RunsTo x y → Traces x events y a b
-    → (e ≡ fault.File) ⊎ Keeps b c → (e ≡ fault.File) ⊎ TracesSome x a c
-some_kept e x y events a b c to traced (inl f) = inl f
-some_kept e x y events a b c to traced (inr k) = inr (events, y, to, (traced.0, traced.1, Appends-kept a b c traced.0 traced.2 k))
 
 -- ---- statuses
 

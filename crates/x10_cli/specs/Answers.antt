@@ -26,16 +26,13 @@ use Rattle.x10_workers.specs.Reports.{AreLinesBy}
 use Rattle.x10_workers.specs.declared.halt.WorkFault.{WorkFault}
 use Rattle.x10_workers.specs.declared.halt.WorkFault.TheVariants as work
 use Rattle.x10_world.specs.Endings.{IsImageOf, AreLinesOf, lines_in}
-use Rattle.x10_world.specs.Opening.{IsForbidden, IsOpenedWorld}
-use Rattle.x10_world.specs.Rounds.{NoneIsLeft, RunsTo}
-use Rattle.x10_world.specs.StandsForWorld.{WorldState}
-use Rattle.x10_trace.specs.Trace.{Traced}
-use Rattle.x10_draw.specs.Pages.{IsPage}
+use Rattle.x10_world.specs.Opening.{IsForbidden}
 use Rattle.x10_world.specs.declared.rounds.Unfinished.{Unfinished}
 use Rattle.x10_world.specs.declared.rounds.Unfinished.TheVariants as halt
 use Rattle.x10_findings.specs.Findings.{FindingsState}
 use Rattle.x10_frame.specs.declared.fault.FrameFault.{FrameFault}
 use Rattle.x10_frame.specs.declared.fault.FrameFault.TheVariants as frame
+use Rattle.x10_cli.specs.Events.{HasDrawn, HasDrawnSome, HasShown, HasShownSome, HasTraced, HasTracedSome}
 use Rattle.x10_cli.specs.Lines.{bound_lines, all_lines}
 use Rattle.x10_cli.specs.Runs.{FoundIn, findings_text}
 use Rattle.x10_cli.specs.Frames.{IsFrame, TellsFrame, IsFrameFault}
@@ -110,7 +107,11 @@ CanBeDone verb.Runs places bytes = (c : Certified) × IsImageOf bytes c
     × (IsForbidden c (places_for places c) → ⊥)
 CanBeDone verb.Trace places bytes = (c : Certified) × IsImageOf bytes c
     × (IsForbidden c (places_for places c) → ⊥)
+CanBeDone verb.TraceVerbose places bytes = (c : Certified) × IsImageOf bytes c
+    × (IsForbidden c (places_for places c) → ⊥)
 CanBeDone verb.Draw places bytes = (c : Certified) × IsImageOf bytes c
+    × (IsForbidden c (places_for places c) → ⊥)
+CanBeDone verb.DrawPage places bytes = (c : Certified) × IsImageOf bytes c
     × (IsForbidden c (places_for places c) → ⊥)
 CanBeDone verb.Audit places bytes = ⊥
 CanBeDone verb.Frame places bytes = IsFrame places bytes
@@ -133,30 +134,6 @@ pub record HasRun (c : Certified) (places : ℕ) (outputs : List (List machine.L
   pub count : length outputs ≡ places
   pub lines : AreLinesOf outputs last
 
--- the lines of events that led from one state of a world to another were appended
-abbrev pub Traces : WorldState → List Event → WorldState → Option (List ℕ) → Option (List ℕ)
-    → Type 0
-Traces x events y old new = (text : List ℕ) × Traced x events text y × Appends old new text
-
--- the lines of all events of a run of the module, from its beginning to a world in which no activity lives
-pub record HasTraced (c : Certified) (places : ℕ) (old new : Option (List ℕ)) : Type 0 where
-  pub first : WorldState
-  pub last : WorldState
-  pub opened : IsOpenedWorld c places first
-  pub events : List Event
-  pub traces : Traces first events last old new
-  pub runs : RunsTo first last
-  pub ended : NoneIsLeft last
-
--- the picture of a run of the module, from its beginning to a world in which no activity lives
-pub record HasDrawn (c : Certified) (places : ℕ) (picture : List ℕ) : Type 0 where
-  pub first : WorldState
-  pub last : WorldState
-  pub opened : IsOpenedWorld c places first
-  pub runs : RunsTo first last
-  pub ended : NoneIsLeft last
-  pub page : IsPage picture
-
 -- what so many runs of the module printed was appended
 abbrev pub PrintsRuns : Option ℕ → ℕ → ℕ → List ℕ → Option (List ℕ) → Option (List ℕ) → Type 0
 PrintsRuns asked limit runs bytes old new =
@@ -169,8 +146,8 @@ IsListing false m text = text ≡ listing m
 IsListing true m text = Unit {0}
 
 -- what is appended to what is known to be written: the image of the text's module, the listing of the image's or what JSON has of it, perhaps
--- with comments between, which is read as the module again, the verdict, the bounds of its functions, the lines of a run that has ended, or those of its events, or its picture, at as many
--- places as were asked for; what a frame says; or what is known of a cause
+-- with comments between, which is read as the module again, the verdict, the bounds of its functions, the lines of a run that has ended, or those of its events, also with notes, or its
+-- picture or page, at as many places as were asked for; what a frame says; or what is known of a cause
 abbrev pub Prints : Verb → Bool → Option ℕ → List ℕ → Option (List ℕ) → Option (List ℕ) → Type 0
 Prints verb.Asm json asked bytes old new = (m : Module) × (module_of bytes ≡ Ok m)
     × Appends old new (spelling m)
@@ -189,9 +166,13 @@ Prints verb.Runs json asked bytes old new = (limit runs : ℕ)
     × PrintsRuns asked limit runs bytes old new
 Prints verb.Trace json asked bytes old new = (c : Certified) × IsImageOf bytes c
     × HasTraced c (places_for asked c) old new
+Prints verb.TraceVerbose json asked bytes old new = (c : Certified) × IsImageOf bytes c
+    × HasShown verb.TraceVerbose c (places_for asked c) old new
 Prints verb.Draw json asked bytes old new = (c : Certified) × (picture : List ℕ) × IsImageOf bytes c
     × HasDrawn c (places_for asked c) picture
     × Appends old new picture
+Prints verb.DrawPage json asked bytes old new = (c : Certified) × IsImageOf bytes c
+    × HasShown verb.DrawPage c (places_for asked c) old new
 Prints verb.Audit json asked bytes old new = ⊥
 Prints verb.Frame json asked bytes old new = (text : List ℕ) × TellsFrame asked bytes text
     × Appends old new text
@@ -212,28 +193,6 @@ pub record HasBegun (c : Certified) (places : ℕ) (outputs : List (List machine
       (opening (record { program = c.program; places = places }) key) events last
   pub count : length outputs ≡ places
   pub lines : AreLinesOf outputs last
-
--- the lines of the first events of a run of the module, from its beginning
-pub record HasTracedSome (c : Certified) (places : ℕ) (old new : Option (List ℕ)) : Type 0 where
-  pub first : WorldState
-  pub last : WorldState
-  pub opened : IsOpenedWorld c places first
-  pub events : List Event
-  pub traces : Traces first events last old new
-  pub runs : RunsTo first last
-
--- the lines of the first events that led on from a state of a world were appended
-abbrev pub TracesSome : WorldState → Option (List ℕ) → Option (List ℕ) → Type 0
-TracesSome x old new = (events : List Event) × (y : WorldState) × RunsTo x y
-    × Traces x events y old new
-
--- the picture of a run of the module, as far as it went
-pub record HasDrawnSome (c : Certified) (places : ℕ) (picture : List ℕ) : Type 0 where
-  pub first : WorldState
-  pub last : WorldState
-  pub opened : IsOpenedWorld c places first
-  pub runs : RunsTo first last
-  pub page : IsPage picture
 
 -- what a refused command appends: for a check its report, for the others nothing
 abbrev pub LeavesRefused : Verb → Option (List ℕ) → Option (List ℕ) → Type 0
@@ -256,9 +215,15 @@ LeavesStopped verb.Run json threads asked bytes old new = Keeps old new
     ⊎ LeavesRun json threads asked bytes old new
 LeavesStopped verb.Trace json threads asked bytes old new = Keeps old new
     ⊎ ((c : Certified) × IsImageOf bytes c × HasTracedSome c (places_for asked c) old new)
+LeavesStopped verb.TraceVerbose json threads asked bytes old new = Keeps old new
+    ⊎ ((c : Certified) × IsImageOf bytes c
+    × HasShownSome verb.TraceVerbose c (places_for asked c) old new)
 LeavesStopped verb.Draw json threads asked bytes old new = Keeps old new
     ⊎ ((c : Certified) × (picture : List ℕ) × IsImageOf bytes c
     × HasDrawnSome c (places_for asked c) picture × Appends old new picture)
+LeavesStopped verb.DrawPage json threads asked bytes old new = Keeps old new
+    ⊎ ((c : Certified) × IsImageOf bytes c
+    × HasShownSome verb.DrawPage c (places_for asked c) old new)
 LeavesStopped verb.Check json threads asked bytes old new = (text : List ℕ) × Appends old new text
 LeavesStopped _ json threads asked bytes old new = Keeps old new
 
@@ -296,7 +261,9 @@ IsVerifying verb.Verify = Unit {0}
 IsVerifying verb.Run = Unit {0}
 IsVerifying verb.Runs = Unit {0}
 IsVerifying verb.Trace = Unit {0}
+IsVerifying verb.TraceVerbose = Unit {0}
 IsVerifying verb.Draw = Unit {0}
+IsVerifying verb.DrawPage = Unit {0}
 IsVerifying _ = ⊥
 
 -- the exit status of a fault

@@ -1,9 +1,11 @@
 pub mod Lines
 pub mod Runs
 pub mod Frames
+pub mod Events
 pub mod Answers
 pub mod Telling
 pub mod Schedules
 pub mod Logs
 pub mod Shown
+pub mod Showing
 pub mod Counts

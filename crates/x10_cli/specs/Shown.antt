@@ -1,25 +1,24 @@
 -- What is shown of the log of a run with threads: the lines of its events, and its picture.
-use Rattle.std.specs.Prelude.{◌≡◌, ◌⊎◌, ℕ, ◌+◌, List, [], ◌∷◌, ◌++◌, Option, drop, map, slice_get, None, Some, Bool}
+use Rattle.std.specs.Prelude.{◌≡◌, ◌⊎◌, ℕ, ◌+◌, List, [], ◌∷◌, ◌++◌, Option, drop, map, slice_get, None, Some, Bool, true, false}
 use Rattle.std.specs.Io.KnownBytes.{Appends}
 use Rattle.x10_kinds.specs.declared.stop.Stop.{Stop}
 use Rattle.x10_model.specs.declared.event.Event.{Event}
 use Rattle.x10_model.specs.declared.event.Event.TheVariants.{Step, Deliver}
 use Rattle.x10_model.specs.Places as machine
-use Rattle.x10_model.specs.Worlds.{World}
 use Rattle.x10_verify.specs.Certified.{Certified}
 use Rattle.x10_draw.specs.Pages.{IsPage}
 use Rattle.x10_hall.specs.declared.turn.Turn.{Turn}
 use Rattle.x10_world.specs.Endings.{IsImageOf}
 use Rattle.x10_world.specs.Opening.{IsOpenedWorld}
-use Rattle.x10_world.specs.Runs.{Reaches}
-use Rattle.x10_world.specs.StandsForWorld.{WorldState, KeepsSetting, StandsForWorld}
+use Rattle.x10_world.specs.StandsForWorld.{WorldState}
 use Rattle.x10_workers.specs.Audits.{IsRefusedAt}
 use Rattle.x10_workers.specs.Plays.{IsPlayed, events_in}
 use Rattle.x10_task.specs.declared.task.Verb.{Verb}
 use Rattle.x10_task.specs.declared.task.Verb.TheVariants as verb
 use Rattle.x10_cli.specs.declared.fault.Fault.{Fault}
 use Rattle.x10_cli.specs.declared.fault.Fault.TheVariants as fault
-use Rattle.x10_cli.specs.Answers.{Traces, of_stop, status_of}
+use Rattle.x10_cli.specs.Answers.{of_stop, status_of}
+use Rattle.x10_cli.specs.Events.{RunsBy, Shows, Traces}
 use Rattle.x10_cli.specs.Logs.{IsAuditDue, IsLogText}
 use Rattle.x10_cli.specs.Telling.{SaysFault}
 
@@ -66,12 +65,6 @@ pub record TracesFirst (x : WorldState) (events : List Event)
   pub last : WorldState
   pub traces : Traces x made last old new
 
--- these events lead on from one state of a world to another, and are a run from each world of the machine that the first one
--- stands for: none goes wrong, and no activity takes more steps than its bound
-pub record RunsBy (x : WorldState) (events : List Event) (y : WorldState) : Type 0 where
-  pub kept : KeepsSetting x y
-  pub runs : (w : World) → StandsForWorld x w → Reaches x w events y
-
 -- the first of these events do
 pub record RunsFirst (x : WorldState) (events : List Event) : Type 0 where
   pub made : List Event
@@ -80,19 +73,34 @@ pub record RunsFirst (x : WorldState) (events : List Event) : Type 0 where
   pub last : WorldState
   pub runs : RunsBy x made last
 
+-- what a command shows of the first of these events was appended
+pub record ShowsSome (v : Verb) (x : WorldState) (events : List Event)
+    (old new : Option (List ℕ)) : Type 0 where
+  pub made : List Event
+  pub rest : List Event
+  pub all : made ++ rest ≡ events
+  pub last : WorldState
+  pub shows : Shows v false x made last old new
+
 -- a picture was appended
 abbrev pub AppendsPicture : Option (List ℕ) → Option (List ℕ) → Type 0
 AppendsPicture old new = (picture : List ℕ) × IsPage picture × Appends old new picture
 
--- What a command shows of these events, from a state of a world on: for `draw` they led it on, and the picture of that was
--- appended; else the lines of each were.
+-- What a command shows of these events, from a state of a world on: for a picture they led it on, and the picture of that was
+-- appended; for lines with notes, and for a page that says that the run has ended, these were; else the lines of each were.
 abbrev pub ShowsAll : Verb → WorldState → List Event → (old new : Option (List ℕ)) → Type 0
 ShowsAll verb.Draw x events old new = (y : WorldState) × RunsBy x events y × AppendsPicture old new
+ShowsAll verb.TraceVerbose x events old new = (y : WorldState)
+    × Shows verb.TraceVerbose true x events y old new
+ShowsAll verb.DrawPage x events old new = (y : WorldState)
+    × Shows verb.DrawPage true x events y old new
 ShowsAll _ x events old new = (y : WorldState) × Traces x events y old new
 
--- the same of the first of these events
+-- the same of the first of these events, and a page says that the run has stopped
 abbrev pub ShowsFirst : Verb → WorldState → List Event → (old new : Option (List ℕ)) → Type 0
 ShowsFirst verb.Draw x events old new = RunsFirst x events × AppendsPicture old new
+ShowsFirst verb.TraceVerbose x events old new = ShowsSome verb.TraceVerbose x events old new
+ShowsFirst verb.DrawPage x events old new = ShowsSome verb.DrawPage x events old new
 ShowsFirst _ x events old new = TracesFirst x events old new
 
 -- the same of all events of a log, or of its first ones

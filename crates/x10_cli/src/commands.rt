@@ -18,11 +18,10 @@ use crate::explain::explanation;
 use crate::fault::Fault;
 use crate::frame::print_frame;
 use crate::lines::print_outputs;
-use crate::picture::print_picture;
 use crate::runs::print_runs;
 use crate::schedule::schedule_of;
+use crate::shown::print_shown;
 use crate::threads::print_threaded;
-use crate::trace::print_trace;
 use std::alloc::{AllocError, Global};
 use std::io::Write;
 use std::sync::Wait;
@@ -37,7 +36,7 @@ use x10_verify::{Verified, verify};
 use x10_world::World;
 
 /// Does what a task asks for with the bytes of its file, and answers the exit status: 0 done, 1 refused, 2 stopped, 4 where a
-/// write failed or a text isn't UTF-8. What is printed goes to `out`: for `asm` the image, and for `draw` the picture. At
+/// write failed or a text isn't UTF-8. What is printed goes to `out`: for `asm` the image, and for `draw` the picture or the page. At
 /// status 1 only a check has printed something, its report. A fault is one line on `err`, `x10p: ` and its text, and after it,
 /// where the task says so, lines that explain it; at status 1 it is the fault that is due. At status 2 a run has printed what
 /// it had printed until then, or nothing, and the other commands nothing; for a run with threads these are the lines of the
@@ -155,8 +154,10 @@ fn perform<R: Threads + Wait + Sync, O: Write>(
         Verb::Run => print_run(alloc, task, bytes, out),
         Verb::Runs => print_runs(alloc, task, bytes, out),
         Verb::Audit => Err(Fault::File),
-        Verb::Trace => print_trace(alloc, task, bytes, out),
-        Verb::Draw => print_picture(alloc, task, bytes, out),
+        Verb::Trace => print_shown(alloc, task, bytes, out),
+        Verb::TraceVerbose => print_shown(alloc, task, bytes, out),
+        Verb::Draw => print_shown(alloc, task, bytes, out),
+        Verb::DrawPage => print_shown(alloc, task, bytes, out),
         Verb::Frame => print_frame(alloc, task.places, bytes, out),
         Verb::Explain => print_section(bytes, out),
     }

@@ -1,11 +1,12 @@
 //! What is said about a fault besides its line, for people.
 
 use crate::explain_frame::of_frame;
+use crate::explain_limit::{of_events, of_turns};
 use crate::explain_log::{log_of, of_log, of_open_log, of_other_image, of_turn};
 use crate::fault::Fault;
 use std::alloc::{AllocError, Global};
 use x10_asm::AsmFault;
-use x10_bounds::{BoundFault, bounds};
+use x10_bounds::BoundFault;
 use x10_explain::{explain_asm_in, explain_image, explain_verify, explain_verify_in};
 use x10_image::ImageView;
 use x10_kinds::Limit;
@@ -150,35 +151,6 @@ fn counted(limit: Limit) -> (&'static str, u64) {
     }
 }
 
-fn of_events(alloc: Global, task: &Task, bytes: &[u8]) -> Result<String, AllocError> {
-    let limit = task.limit;
-    let events = counted_word(limit, "event", "events");
-    match bound_of_main(alloc, bytes) {
-        Some(bound) => {
-            let steps = counted_word(bound, "step", "steps");
-            format!(in alloc;
-                "--limit permits {limit} {events}, and after that the root finish was open. Main takes {bound} {steps} at most; the steps of all other activities count too, and deliveries and idle events.\n"
-            )
-        }
-        None => format!(in alloc;
-            "--limit permits {limit} {events}, and after that the root finish was open.\n"
-        ),
-    }
-}
-
-/// The word for one, or the one for several.
-fn counted_word<'a>(count: u64, one: &'a str, many: &'a str) -> &'a str {
-    if count == 1 { one } else { many }
-}
-
-fn of_turns(alloc: Global, task: &Task) -> Result<String, AllocError> {
-    let limit = task.limit;
-    let turns = counted_word(limit, "turn", "turns");
-    format!(in alloc;
-        "--limit permits {limit} {turns} of workers, and a worker had one more. In a turn a worker takes in 16 frames and makes 64 steps at most.\n"
-    )
-}
-
 fn of_refusal(alloc: Global, place: u16) -> Result<String, AllocError> {
     format!(in alloc;
         "Place {place} refused a frame that was posted to it. In a run with one thread no place refuses any, so the mistake is in x10p and not in the module.\n"
@@ -198,13 +170,6 @@ fn of_thread(alloc: Global, task: &Task, bytes: &[u8]) -> Result<String, AllocEr
         ),
         None => Ok(String::new(alloc)),
     }
-}
-
-fn bound_of_main(alloc: Global, bytes: &[u8]) -> Option<u64> {
-    let image = ImageView::read(alloc, bytes).ok()?;
-    let bounds = bounds(alloc, &image).ok()?;
-    let bound = bounds.get(usize::from(image.entry()))?;
-    Some(*bound)
 }
 
 /// Where a text isn't UTF-8. Otherwise the fault is the writer's, and its owner knows more about it.

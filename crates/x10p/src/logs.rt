@@ -53,7 +53,7 @@ pub fn print(
         return Err(Trouble::Memory);
     };
     let mut told = Told::new(alloc)?;
-    let status = if task.verb == Verb::Trace {
+    let status = if matches!(task.verb, Verb::Trace | Verb::TraceVerbose) {
         show_logged(alloc, task, bytes, source, &log, &mut out, &mut told)
     } else {
         audit_logged(alloc, task, bytes, source, &log, &mut out, &mut told)
@@ -61,7 +61,7 @@ pub fn print(
     Ok(speak(rt, task, out.get_ref().failure(), told.bytes(), status))
 }
 
-/// Makes the turns of a log again, and writes the picture of what happened once that is whole, if there is one. A log that would
+/// Makes the turns of a log again, and writes the picture or page of what happened once that is whole, if there is one. A log that would
 /// be written over is left as it is.
 pub fn draw(
     rt: &HostRuntime,

@@ -42,9 +42,9 @@ pub fn write_made(
     }
 }
 
-/// Whether a file is written at a status: an image only where the work is done; a picture also where the run stopped.
+/// Whether a file is written at a status: an image only where the work is done; a picture or page also where the run stopped.
 fn is_written(verb: Verb, status: u8) -> bool
     ensures { verb ≡ Verb.Asm → IsTrue result → status ≡ 0 }
 {
-    status == 0 || verb == Verb::Draw
+    status == 0 || matches!(verb, Verb::Draw | Verb::DrawPage)
 }

@@ -21,16 +21,6 @@ returns-in-Verify-clause-due w = λ c. c.print_verdict.ensures.due c.args.task.n
 pub returns-in-Bounds-clause-due : goal.returns-in-Bounds-clause-due
 returns-in-Bounds-clause-due w = λ c. c.print_bounds.ensures.due c.args.task.now.places
 
-pub returns-in-Trace-clause-left_stopped : goal.returns-in-Trace-clause-left_stopped
-returns-in-Trace-clause-left_stopped w = λ c. run_stopped c.print_trace.result c.args.task.now.verb verb.Trace c.args.task.now.json
-    c.args.task.now.threads c.args.task.now.threads c.args.task.now.places c.args.bytes.now (w.O.Write.contents c.args.out.now)
-    (w.O.Write.contents c.print_trace.new.out) c.in-Trace.is refl c.print_trace.ensures.stopped
-
-pub returns-in-Draw-clause-left_stopped : goal.returns-in-Draw-clause-left_stopped
-returns-in-Draw-clause-left_stopped w = λ c. run_stopped c.print_picture.result c.args.task.now.verb verb.Draw c.args.task.now.json
-    c.args.task.now.threads c.args.task.now.threads c.args.task.now.places c.args.bytes.now (w.O.Write.contents c.args.out.now)
-    (w.O.Write.contents c.print_picture.new.out) c.in-Draw.is refl c.print_picture.ensures.stopped
-
 pub returns-in-Run-clause-left_stopped : goal.returns-in-Run-clause-left_stopped
 returns-in-Run-clause-left_stopped w = λ c. run_stopped c.print_threaded.result c.args.task.now.verb verb.Run c.args.task.now.json
     c.args.task.now.threads true c.args.task.now.places c.args.bytes.now (w.O.Write.contents c.args.out.now)
