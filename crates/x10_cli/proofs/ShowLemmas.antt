@@ -1,5 +1,5 @@
 -- What is shown of a run's events.
-use Rattle.std.proofs.Common.{◌≡◌, ℕ, Bool, true, false, List, [], ◌∷◌, ◌++◌, Option, Result, Ok, Err, refl, sym, ap, subst, ◌∙◌, inl, inr, arith, length}
+use Rattle.std.proofs.Common.{◌≡◌, ℕ, Bool, true, false, List, [], ◌∷◌, ◌++◌, Option, Result, Ok, Err, refl, sym, ap, subst, ◌∙◌, inl, inr}
 use Rattle.std.specs.Prelude.{◌≢◌, ◌⊎◌, IfOk, IfErr, OnOk}
 use Rattle.std.specs.Io.KnownBytes.{Appends, Keeps}
 use Rattle.std.proofs.KnownBytes.{Appends-kept, Appends-nil, Appends-trans, Keeps-trans}
@@ -12,11 +12,10 @@ use Rattle.x10_verify.specs.Flows.{FlowFacts}
 use Rattle.x10_world.specs.declared.done.Done.{Done}
 use Rattle.x10_world.specs.Endings.{IsImageOf}
 use Rattle.x10_world.specs.Happenings.{HasDone}
-use Rattle.x10_world.specs.Opening.{IsForbidden, IsOpenedWorld}
+use Rattle.x10_world.specs.Opening.{IsOpenedWorld}
 use Rattle.x10_world.specs.Rounds.{NoneIsLeft, RunsTo}
 use Rattle.x10_world.specs.StandsForWorld.{WorldState, KeepsSetting, MakesEvent, StandsForWorld, setting_of_world}
 use Rattle.x10_world.proofs.RunLemmas.{keeps_more, keeps_self, run_more, setting_kept, within}
-use Rattle.x10_draw.specs.Pages.{IsPage}
 use Rattle.x10_moments.specs.Moments.{AreShown, Shown, next_moment}
 use Rattle.x10_trace.specs.Trace as trace
 use Rattle.x10_trace.specs.Trace.{Traced, trace_lines}
@@ -25,9 +24,9 @@ use Rattle.x10_task.specs.declared.task.Verb.TheVariants as verb
 use Rattle.x10_cli.specs.declared.fault.Fault.{Fault}
 use Rattle.x10_cli.specs.declared.fault.Fault.TheVariants as fault
 use Rattle.x10_cli.specs.Answers.{CanBeDone, LeavesStopped, Prints, places_for, status_of}
-use Rattle.x10_cli.specs.Events.{AreTold, begins, goes_on, ByLines, ByMoments, ByNotes, ByPicture, IsEnd, IsFront, IsMannerOf, IsNextMoment, IsShowing, IsTold, Manner, RunsBy, Shows, Traces}
+use Rattle.x10_cli.specs.Events.{AreTold, begins, goes_on, ByLines, ByPicture, IsEnd, IsFront, IsMannerOf, IsNextMoment, IsShowing, IsTold, Manner, RunsBy, Shows, Traces}
 use Rattle.x10_cli.specs.Showing.{AppendsEnd, AppendsFront, Tells, TellsEvent, TellsFirst}
-use Rattle.x10_cli.specs.Shown.{AppendsPicture, RunsFirst, ShowsAll, ShowsFirst, ShowsSome, TracesFirst}
+use Rattle.x10_cli.specs.Shown.{AppendsPicture, ShowsAll, ShowsFirst}
 use Rattle.x10_cli.proofs.RunLemmas.{no_file}
 use Rattle.x10_cli.proofs.UndoneLemmas.{none_appended}
 

@@ -1,6 +1,6 @@
 use Rattle.x10_cli.proofs.UndoneLemmas.{run_stopped}
 use Rattle.x10_task.specs.declared.task.Verb.TheVariants as verb
-use Rattle.std.proofs.Common.{refl, true, false}
+use Rattle.std.proofs.Common.{true, false}
 use Rattle.x10_cli.proofs.commands.perform.Goals as goal
 
 pub returns-in-Asm-clause-due : goal.returns-in-Asm-clause-due

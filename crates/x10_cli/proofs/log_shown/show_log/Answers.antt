@@ -1,5 +1,4 @@
 use Rattle.std.proofs.Common.{arith, inl, inr, refl}
-use Rattle.std.proofs.lemmas.Result.{err_from_is_err_and}
 use Rattle.std.specs.Prelude.{◌≡◌, ◌≢◌, ◌⊎◌}
 use Rattle.x10_workers.specs.Plays.{events_in}
 use Rattle.x10_cli.specs.declared.fault.Fault.TheVariants as fault
