@@ -70,7 +70,7 @@ _x10p_has() {
         arguments=('files asm x10' 'files log')
         ;;
     trace)
-        options=(--places --limit --schedule --seed --explain --color --log -h --help)
+        options=(--places --limit --schedule --seed --explain --color --log --verbose -h --help)
         values=([--places]='nothing' [--limit]='nothing' [--schedule]='words rounds random oldest newest' [--seed]='nothing' [--explain]='words yes no' [--color]='words auto always never' [--log]='files log')
         optional=(--explain)
         arguments=('files asm x10')
@@ -79,7 +79,7 @@ _x10p_has() {
         options=(--places --limit --schedule --seed --explain --color --log -h --help)
         values=([--places]='nothing' [--limit]='nothing' [--schedule]='words rounds random oldest newest' [--seed]='nothing' [--explain]='words yes no' [--color]='words auto always never' [--log]='files log')
         optional=(--explain)
-        arguments=('files asm x10' 'files svg')
+        arguments=('files asm x10' 'files svg html')
         ;;
     help)
         arguments=('words asm list check verify bounds frame explain run runs audit trace draw help')

@@ -13,10 +13,11 @@ done
 
 # shows STATUS EXAMPLE WORD ..: draws a run as a page, which has to show what the trace tells
 shows() {
-    local status=$1 example=$2
+    local status=$1 example=$2 found
     shift 2
     x10p draw "$example.x10" "$example.html" "$@" >.out 2>.err
-    [ "$?" -eq "$status" ] || fail "draw $example.html $*: status $?, and not $status: $(head -c 300 .err)"
+    found=$?
+    [ "$found" -eq "$status" ] || fail "draw $example.html $*: status $found, and not $status: $(head -c 300 .err)"
     "$top/tests/scripts/page_shown" ${browser[@]+"${browser[@]}"} "$example.x10" "$example.html" "$@" || wrong=1
 }
 
@@ -25,9 +26,9 @@ for example in round_trip nested ring fan_out; do
 done
 shows 0 round_trip
 shows 0 nested --schedule random --seed 3
-shows 2 ring --places 64 --limit 150
+shows 2 fan_out --places 64 --limit 150
 browser=()
-shows 0 fan_out
+shows 0 ring
 x10p run nested.x10 --threads --log nested.log >.out || fail "no log"
 shows 0 nested --log nested.log
 
@@ -39,7 +40,8 @@ shows 0 marks
 
 # what is refused writes nothing, and what can't be written is told
 does 1 "" "x10p: places" x10p draw ring.x10 new.html --places 1
-does 1 "" "x10p: image: Magic" x10p draw marks.asm new.html
+prints 7 >seven.txt
+does 1 "" "x10p: image: Magic" x10p draw seven.txt new.html
 does 4 "" "x10p: file" x10p draw ring.x10 nowhere/new.html
 [ ! -e new.html ] || fail "a refused module has a page"
 exit $wrong

@@ -5,7 +5,7 @@ source "$(dirname "$0")/common"
 
 # each event has notes behind its lines: the first line that isn't so
 without_notes() {
-    awk '/^  [^ ]/ { noted = 1; next }
+    awk '/^  / { noted = 1; next }
         /^P / { if (noted) { print; exit }; next }
         /^[SD-] / { if (NR > 1 && !noted) { print; exit }; noted = 0; next }
         { print; exit }
@@ -14,11 +14,12 @@ without_notes() {
 
 # compares IMAGE WORD ..: the trace of an image and the one with notes
 compares() {
-    local status
+    local status found
     x10p trace "$@" >plain 2>plain.err
     status=$?
     x10p trace --verbose "$@" >noted 2>noted.err
-    [ "$?" -eq "$status" ] || fail "trace --verbose $*: status $?, and not $status"
+    found=$?
+    [ "$found" -eq "$status" ] || fail "trace --verbose $*: status $found, and not $status"
     same plain.err noted.err
     grep -v '^ ' noted >lines
     cmp -s plain lines || fail "trace --verbose $* has other lines than the trace: $(diff plain lines | head -n 3)"
@@ -35,8 +36,7 @@ for example in round_trip ring fan_out nested fib; do
 done
 
 # what is refused is refused as without it
-prints 7 >seven.asm
-x10p asm seven.asm seven.x10
-does 1 "" "x10p: image: Magic" x10p trace --verbose seven.asm
-does 1 "" "x10p: places" x10p trace --verbose "ring.x10" --places 1
+prints 7 >seven.txt
+does 1 "" "x10p: image: Magic" x10p trace --verbose seven.txt
+does 1 "" "x10p: places" x10p trace --verbose ring.x10 --places 1
 exit $wrong
